@@ -1,0 +1,79 @@
+-- What a change is.
+use Rattle.std.specs.Prelude.{◌≡◌, ◌≢◌, ℕ, ◌<◌, ◌≤◌, ◌^◌, List, [], ◌∷◌}
+use Rattle.ds_names.specs.Name.{IsName}
+use Rattle.ds_names.specs.Endpoint.{IsEndpoint}
+use Rattle.ds_names.specs.declared.kind.Kind.{Kind}
+use Rattle.ds_names.specs.declared.kind.Kind.TheVariants.{Label, U32, Str, Mem}
+use Rattle.ds_names.specs.declared.key.Key.{Key}
+use Rattle.ds_names.specs.declared.version.Version.{Version}
+use Rattle.ds_entry.specs.declared.body.Value.{Value}
+use Rattle.ds_entry.specs.declared.body.Value.TheVariants as values
+use Rattle.ds_entry.specs.declared.body.Body.{Body}
+use Rattle.ds_entry.specs.declared.body.Body.TheVariants.{Put, Gone}
+
+-- the four parts of a change
+pub record ChangeRecord : Type 0 where
+  pub key : Key
+  pub owner : List ℕ
+  pub version : Version
+  pub body : Body
+
+-- the record of these parts
+abbrev pub change_of : Key → List ℕ → Version → Body → ChangeRecord
+change_of key owner version body = record { key = key; owner = owner; version = version; body = body }
+
+-- `rs`, the label of the reincarnation server
+abbrev pub rs_name : List ℕ
+rs_name = 114 ∷ 115 ∷ []
+
+-- the kind of key that a value stands under
+abbrev pub kind_of : Value → Kind
+kind_of (values.Label e) = Label
+
+-- a put has a value of the key's kind
+abbrev pub IsOfKind : Kind → Body → Type 0
+IsOfKind kind (Put value) = kind_of value ≡ kind
+IsOfKind kind Gone = Unit {0}
+
+-- the value is one that its reader accepts
+abbrev pub IsValue : Value → Type 0
+IsValue (values.Label e) = IsEndpoint e
+
+-- a put has such a value
+abbrev pub IsBody : Body → Type 0
+IsBody (Put value) = IsValue value
+IsBody Gone = Unit {0}
+
+-- a label is put with number 0, under its endpoint's generation, and is gone with number 1
+abbrev pub IsLabelBody : Version → Body → Type 0
+IsLabelBody version (Put (values.Label e)) = (version.seq ≡ 0) × (version.epoch ≡ e.generation)
+IsLabelBody version Gone = version.seq ≡ 1
+
+-- RS alone publishes labels, never its own, and each from generation 1 on
+pub record IsLabelChange (c : ChangeRecord) : Type 0 where
+  pub owner : c.owner ≡ rs_name
+  pub name : c.key.name ≢ rs_name
+  pub epoch : 0 < c.version.epoch
+  pub body : IsLabelBody c.version c.body
+
+-- a put leaves the last sequence number to the tombstones of sweeps
+abbrev pub IsBelowSweeps : Version → Body → Type 0
+IsBelowSweeps version (Put value) = version.seq < 4294967295
+IsBelowSweeps version Gone = Unit {0}
+
+-- the change keeps the rule of its key's kind
+abbrev pub KeepsRule : Kind → ChangeRecord → Type 0
+KeepsRule Label c = IsLabelChange c
+KeepsRule U32 c = IsBelowSweeps c.version c.body
+KeepsRule Str c = IsBelowSweeps c.version c.body
+KeepsRule Mem c = IsBelowSweeps c.version c.body
+
+-- each part is in its range, and they fit together
+pub record IsChange (c : ChangeRecord) : Type 0 where
+  pub name : IsName c.key.name
+  pub owner : IsName c.owner
+  pub epoch : c.version.epoch ≤ 2097151
+  pub seq : c.version.seq < 2 ^ 32
+  pub body : IsBody c.body
+  pub kind : IsOfKind c.key.kind c.body
+  pub rule : KeepsRule c.key.kind c

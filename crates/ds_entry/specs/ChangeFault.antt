@@ -1,0 +1,12 @@
+-- Why parts make no change: the first cause that holds.
+use Rattle.std.specs.Prelude.{◌≡◌, ◌≢◌}
+use Rattle.ds_names.specs.declared.kind.Kind.TheVariants.{Label}
+use Rattle.ds_entry.specs.declared.change.EntryFault.{EntryFault}
+use Rattle.ds_entry.specs.declared.change.EntryFault.TheVariants.{BadKind, BadLabel, BadVersion}
+use Rattle.ds_entry.specs.Change.{ChangeRecord, IsOfKind, IsLabelChange, IsBelowSweeps}
+
+-- the fault is the first that the parts have
+abbrev pub IsFaultOf : EntryFault → ChangeRecord → Type 0
+IsFaultOf BadKind c = ¬ IsOfKind c.key.kind c.body
+IsFaultOf BadLabel c = IsOfKind c.key.kind c.body × (c.key.kind ≡ Label) × (¬ IsLabelChange c)
+IsFaultOf BadVersion c = IsOfKind c.key.kind c.body × (c.key.kind ≢ Label) × (¬ IsBelowSweeps c.version c.body)

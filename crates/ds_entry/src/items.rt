@@ -1,0 +1,70 @@
+//! Lists of changes.
+
+ghost use Rattle.std.specs.Prelude.{◌≡◌, ◌++◌, ◌∷◌, [], List, length, slice_get, OnOk, IfErr, OnErr, IfOk};
+ghost use Rattle.std.specs.Option.{option_copied};
+
+use crate::change::Change;
+use ds_names::NoRoom;
+use std::alloc::{AllocFailed, Global};
+use std::marker::Model;
+
+/// Changes in order, as replies and messages carry them. How it keeps them is its own affair.
+#[derive(Debug, Drop)]
+pub struct Items {
+    changes: Vec<Change>,
+}
+
+impl Model for Items {
+    ghost use Rattle.std.specs.Prelude.{List};
+    ghost use Rattle.ds_entry.specs.Change.{ChangeRecord};
+
+    ghost Value = { List ChangeRecord };
+
+    ghost view = { λ a. a.changes.items };
+}
+
+impl Items {
+    /// A list of no changes. It takes no memory.
+    pub fn new(alloc: Global) -> Items
+        ensures { result ≡ [] }
+    {
+        Items {
+            changes: Vec::new(alloc),
+        }
+    }
+
+    /// Adds a change at the end. Where there is no room, the list is unchanged and the error gives the
+    /// change back.
+    pub fn push(&mut self, change: Change) -> Result<(), AllocFailed<Change>>
+        ensures ok { OnOk result (self.new ≡ self.old ++ change ∷ []) }
+        ensures err { OnErr result (self.new ≡ self.old) }
+        ensures back { IfErr result (λ back. back.value ≡ change) }
+    {
+        self.changes.push(change)
+    }
+
+    /// How many changes it has.
+    pub fn len(&self) -> usize
+        ensures { result ≡ length self.now }
+    {
+        self.changes.len()
+    }
+
+    /// The change at an index from 0, `None` behind the last one.
+    pub fn get(&self, index: usize) -> Option<&Change>
+        ensures { option_copied result ≡ slice_get self.now index }
+    {
+        self.changes.get(index)
+    }
+
+    /// The same changes again, in the same order.
+    pub fn copy(&self, alloc: Global) -> Result<Items, NoRoom>
+        ensures { IfOk result (λ items. items ≡ self.now) }
+    {
+        let mut changes = Vec::new(alloc);
+        for change in &self.changes {
+            changes.push(change.copy(alloc)?)?;
+        }
+        Ok(Items { changes })
+    }
+}

@@ -1,0 +1,14 @@
+//! Changes and lists of them: what replicas of the data store give one another.
+//!
+//! An entry of MINIX 3's data store has an owner, the label of the process that published it, and only the
+//! reincarnation server (RS) publishes labels (Herder and others, DSN 2007). That each change has a version,
+//! and that a delete leaves a tombstone, is of this project.
+#![tactic(auto)]
+
+mod body;
+mod change;
+mod items;
+
+pub use body::{Body, Value};
+pub use change::{Change, EntryFault};
+pub use items::Items;

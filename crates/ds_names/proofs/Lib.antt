@@ -1,0 +1,3 @@
+pub mod NameBlockLemmas
+pub mod DecimalLemmas
+pub mod OrderLemmas

@@ -1,0 +1,15 @@
+-- The order of keys: by name bytes, then by kind.
+use Rattle.std.specs.Prelude.{ℕ, List}
+use Rattle.std.specs.declared.cmp.Ordering.{Ordering}
+use Rattle.std.specs.Ordering.{nat_cmp, ordering_then}
+use Rattle.std.specs.Cmp.Lexicographic.{slice_cmp}
+use Rattle.ds_names.specs.Kind.{kind_place}
+use Rattle.ds_names.specs.declared.key.Key.{Key}
+
+-- byte by byte, and a name before each longer one that it begins
+abbrev pub name_cmp : List ℕ → List ℕ → Ordering
+name_cmp = slice_cmp nat_cmp
+
+-- by name, then by kind
+abbrev pub key_cmp : Key → Key → Ordering
+key_cmp a b = ordering_then (name_cmp a.name b.name) (nat_cmp (kind_place a.kind) (kind_place b.kind))

@@ -1,0 +1,68 @@
+//! Decimal numbers and single bytes at the front of a text.
+
+ghost use Rattle.std.specs.Prelude.{◌≡◌, ℕ, ◌<◌, ◌≤◌, ◌^◌, List, length, ◌≢◌, ◌∷◌, IfSome, IfNone, IsTrue};
+ghost use Rattle.std.specs.List.{prefix_len, list_all};
+ghost use Rattle.std.specs.Option.{SomeIff};
+ghost use Rattle.std.specs.Char.{is_ascii_digit};
+ghost use Rattle.std.specs.Fmt.{decimal};
+ghost use Rattle.std.specs.Str.Parse.{digits_value};
+ghost use Rattle.ds_names.specs.Run.{Begins};
+
+// How many digits stand at the front.
+fn run_len(bytes: &[u8]) -> usize
+    ensures { result ≡ prefix_len is_ascii_digit bytes.now }
+{
+    bytes.iter().take_while(|b| b.is_ascii_digit()).count()
+}
+
+// The number that the digits write, unless it is 2^64 or more.
+fn number_of(digits: &[u8]) -> Option<u64>
+    requires { IsTrue (list_all is_ascii_digit digits.now) }
+    ensures { SomeIff result (digits_value 10 digits.now < 2 ^ 64) (digits_value 10 digits.now) }
+{
+    let mut number: u64 = 0;
+    for b in digits {
+        number = number.checked_mul(10)?.checked_add(u64::from(*b - b'0'))?;
+    }
+    Some(number)
+}
+
+// The number below 2^64 at the front, written without leading zeros, and what comes behind its digits.
+fn any_decimal(bytes: &[u8]) -> Option<(u64, &[u8])>
+    ensures found { IfSome result (λ r. Begins is_ascii_digit bytes.now (decimal r.0) r.1.now) }
+    ensures limit { IfSome result (λ r. r.0 < 2 ^ 64) }
+    ensures none { IfNone result ((n : ℕ) (rest : List ℕ) → n < 2 ^ 64 → ¬ Begins is_ascii_digit bytes.now (decimal n) rest) }
+{
+    let (digits, rest) = bytes.split_at(run_len(bytes));
+    if digits.is_empty() || (digits[0] == b'0' && digits.len() > 1) {
+        return None;
+    }
+    let number = number_of(digits)?;
+    Some((number, rest))
+}
+
+/// Reads the decimal number at the front, and gives it with what comes behind its digits.
+///
+/// A number is the longest run of digits at the front, written without leading zeros. `None` where there
+/// is no such number of at most `most`.
+pub fn read_decimal(bytes: &[u8], most: u64) -> Option<(u64, &[u8])>
+    ensures found { IfSome result (λ r. Begins is_ascii_digit bytes.now (decimal r.0) r.1.now) }
+    ensures limit { IfSome result (λ r. r.0 ≤ most) }
+    ensures none { IfNone result ((n : ℕ) (rest : List ℕ) → n ≤ most → ¬ Begins is_ascii_digit bytes.now (decimal n) rest) }
+{
+    let (number, rest) = any_decimal(bytes)?;
+    if number > most {
+        return None;
+    }
+    Some((number, rest))
+}
+
+/// Reads one given byte at the front, and gives what comes behind it. `None` where another byte or none
+/// stands there.
+pub fn read_byte(bytes: &[u8], byte: u8) -> Option<&[u8]>
+    ensures found { IfSome result (λ rest. bytes.now ≡ byte ∷ rest.now) }
+    ensures none { IfNone result ((rest : List ℕ) → bytes.now ≢ byte ∷ rest) }
+{
+    let (first, rest) = bytes.split_first()?;
+    if *first == byte { Some(rest) } else { None }
+}

@@ -1,0 +1,158 @@
+//! Generations and endpoints.
+
+ghost use Rattle.std.specs.Prelude.{◌≡◌, ℕ, ◌<◌, ◌≤◌, List, ◌≢◌, OnErr, IfSome, IfNone, IfOk, string_bytes};
+ghost use Rattle.std.specs.Option.{SomeIff};
+ghost use Rattle.std.specs.Char.{is_ascii_digit};
+ghost use Rattle.ds_names.specs.Endpoint.{EndpointRecord, IsEndpoint, endpoint_text, endpoint_of};
+ghost use Rattle.ds_names.specs.Run.{Begins};
+
+use crate::decimal::{read_byte, read_decimal};
+use crate::room::NoRoom;
+use std::alloc::Global;
+use std::marker::Model;
+use thiserror::Error;
+
+/// How many processes a slot had before this one, 0 to 2097151.
+///
+/// MINIX 3 puts the generation of a slot into its endpoint, so that the endpoint of a dead process is
+/// never taken for the one of its successor. The range is of this project.
+#[derive(Clone, Copy, Debug, PartialEq, Eq, PartialOrd, Ord)]
+pub struct Generation {
+    number: u32,
+}
+
+impl Model for Generation {
+    ghost use Rattle.std.specs.Prelude.{ℕ, ◌≤◌};
+
+    ghost Value = { ℕ };
+
+    ghost view = { λ g. g.number };
+
+    ghost invariant = { λ g. g.number ≤ 2097151 };
+
+    ghost inverse = { λ n. record { number = n } };
+}
+
+impl Generation {
+    /// The generation of a number, 0 to 2097151. `None` above.
+    pub fn of(number: u32) -> Option<Generation>
+        ensures { SomeIff result (number ≤ 2097151) number }
+    {
+        if number <= 2097151 {
+            Some(Generation { number })
+        } else {
+            None
+        }
+    }
+
+    /// Its number, 0 to 2097151.
+    pub fn number(self) -> u32
+        ensures value { result ≡ self }
+        ensures limit { result ≤ 2097151 }
+    {
+        self.number
+    }
+}
+
+/// Why bytes are no endpoint: they aren't the text of one.
+#[derive(Clone, Copy, Debug, PartialEq, Eq, Error)]
+#[error("an endpoint is written as generation/slot")]
+pub struct BadEndpoint;
+
+/// A process: its slot and the slot's generation, as MINIX 3's endpoints are.
+#[derive(Clone, Copy, Debug, PartialEq, Eq)]
+pub struct Endpoint {
+    generation: Generation,
+    slot: u16,
+}
+
+impl Model for Endpoint {
+    ghost use Rattle.std.specs.Prelude.{ℕ, ◌≤◌};
+    ghost use Rattle.ds_names.specs.Endpoint.{EndpointRecord, IsEndpoint, endpoint_of};
+
+    ghost Value = { EndpointRecord };
+
+    ghost view = { λ e. endpoint_of e.generation e.slot };
+
+    ghost invariant = { λ e. IsEndpoint (endpoint_of e.generation e.slot) };
+
+    ghost inverse = { λ a. record { generation = a.generation; slot = a.slot } };
+}
+
+impl Endpoint {
+    /// The endpoint of a generation and a slot, 0 to 1023. `None` for a greater slot.
+    pub fn of(generation: Generation, slot: u16) -> Option<Endpoint>
+        ensures { SomeIff result (slot ≤ 1023) (endpoint_of generation slot) }
+    {
+        let _number = generation.number();
+        if slot <= 1023 {
+            Some(Endpoint { generation, slot })
+        } else {
+            None
+        }
+    }
+
+    /// The endpoint of RS, the reincarnation server: `0/2`.
+    pub fn rs() -> Endpoint
+        ensures { result ≡ endpoint_of 0 2 }
+    {
+        Endpoint {
+            generation: Generation { number: 0 },
+            slot: 2,
+        }
+    }
+
+    /// Its generation.
+    pub fn generation(self) -> Generation
+        ensures value { result ≡ self.generation }
+        ensures valid { IsEndpoint self }
+    {
+        self.generation
+    }
+
+    /// Its slot, 0 to 1023.
+    pub fn slot(self) -> u16
+        ensures value { result ≡ self.slot }
+        ensures valid { IsEndpoint self }
+    {
+        self.slot
+    }
+
+    /// Reads the text `generation/slot` of an endpoint. BadEndpoint unless the bytes are just that.
+    pub fn read(bytes: &[u8]) -> Result<Endpoint, BadEndpoint>
+        ensures found { IfOk result (λ e. IsEndpoint e × (bytes.now ≡ endpoint_text e)) }
+        ensures none { OnErr result ((e : EndpointRecord) → IsEndpoint e → bytes.now ≢ endpoint_text e) }
+    {
+        let Some((generation, slot, rest)) = read_endpoint(bytes) else {
+            return Err(BadEndpoint);
+        };
+        if !rest.is_empty() {
+            return Err(BadEndpoint);
+        }
+        let generation = Generation { number: generation };
+        Ok(Endpoint { generation, slot })
+    }
+
+    /// Its text, `generation/slot` in decimals without leading zeros, which `Endpoint::read` reads back.
+    pub fn print(self, alloc: Global) -> Result<String, NoRoom>
+        ensures { IfOk result (λ text. string_bytes text ≡ endpoint_text self) }
+    {
+        let generation = self.generation.number;
+        let slot = self.slot;
+        Ok(format!(in alloc; "{generation}/{slot}")?)
+    }
+}
+
+/// Reads the text of an endpoint at the front, and gives its generation, its slot and what comes behind it.
+///
+/// `None` where no text of an endpoint stands there, its slot the longest run of digits.
+pub fn read_endpoint(bytes: &[u8]) -> Option<(u32, u16, &[u8])>
+    ensures found { IfSome result (λ r. Begins is_ascii_digit bytes.now (endpoint_text (endpoint_of r.0 r.1)) r.2.now) }
+    ensures valid { IfSome result (λ r. IsEndpoint (endpoint_of r.0 r.1)) }
+    ensures none { IfNone result ((e : EndpointRecord) (rest : List ℕ) → IsEndpoint e → ¬ Begins is_ascii_digit bytes.now (endpoint_text e) rest) }
+{
+    let (generation, rest) = read_decimal(bytes, 2097151)?;
+    let rest = read_byte(rest, b'/')?;
+    let (slot, rest) = read_decimal(rest, 1023)?;
+    Some((generation as u32, slot as u16, rest))
+}

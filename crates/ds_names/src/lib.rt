@@ -1,0 +1,22 @@
+//! Names, kinds, keys, endpoints and versions: the words that every other crate speaks in.
+//!
+//! An entry of MINIX 3's data store (DS) stands under a name and a type, here a [`Kind`]; a process is
+//! named by an [`Endpoint`], a slot with a generation (Tanenbaum and Woodhull, third edition; Herder and
+//! others, DSN 2007). Versions, and the ranges of all numbers, are of this project.
+#![tactic(auto)]
+
+mod decimal;
+mod endpoint;
+mod key;
+mod kind;
+mod name;
+mod room;
+mod version;
+
+pub use decimal::{read_byte, read_decimal};
+pub use endpoint::{BadEndpoint, Endpoint, Generation, read_endpoint};
+pub use key::{Key, keys_are_ordered};
+pub use kind::{Kind, Kinds};
+pub use name::{Name, NameFault, is_name_byte};
+pub use room::NoRoom;
+pub use version::{Version, versions_are_ordered};

@@ -1,0 +1,132 @@
+//! Names of entries and owners.
+
+ghost use Rattle.std.specs.Prelude.{◌≡◌, ℕ, ◌<◌, ◌≤◌, ◌↔◌, length, IsTrue};
+ghost use Rattle.std.specs.Bool.{◌==◌};
+ghost use Rattle.std.proofs.Common.{rules};
+ghost use Rattle.std.proofs.lemmas.Cmp.{nat_list_cmp_total, nat_list_eq_equiv};
+ghost use Rattle.std.specs.Result.{OkIff};
+ghost use Rattle.std.specs.Cmp.{partial_order_from_own_ties, partial_equiv_from_equiv};
+ghost use Rattle.std.specs.Cmp.Rules.{comparing};
+ghost use Rattle.std.specs.Cmp.Lexicographic.{pointwise, slice_cmp};
+ghost use Rattle.std.specs.Ordering.{nat_cmp, as_partial_cmp};
+ghost use Rattle.ds_names.specs.Name.{is_name_byte, IsName};
+
+use std::cmp::Ordering;
+use std::marker::Model;
+use thiserror::Error;
+
+/// Why bytes are no name.
+#[derive(Clone, Copy, Debug, PartialEq, Eq, Error)]
+pub enum NameFault {
+    /// They aren't 1 to 64 bytes, each an ASCII letter or digit, `.`, `_` or `-`.
+    #[error("a name has 1 to 64 letters, digits, dots, underscores and dashes")]
+    BadName,
+}
+
+/// The name of an entry or of its owner: 1 to 64 bytes, each an ASCII letter or digit, `.`, `_` or `-`.
+///
+/// MINIX 3's DS keeps entries under such names, and RS calls each service by its label; the alphabet and
+/// the length are of this project. A name is held in place and takes no memory.
+#[derive(Clone, Copy, Debug)]
+pub struct Name {
+    block: [u8; 64],
+    len: u8,
+}
+
+impl Model for Name {
+    ghost use Rattle.std.specs.Prelude.{ℕ, List};
+
+    ghost Value = { List ℕ };
+
+    ghost use Rattle.ds_names.specs.NameBlock.{name_of, KeepsName, block_of, block_of-name_of};
+
+    ghost view = { name_of };
+
+    ghost invariant = { KeepsName };
+
+    ghost inverse = { block_of };
+
+    ghost inverse_ok = { λ a h. block_of-name_of a h };
+}
+
+/// Whether a name may hold the byte.
+#[tactic(auto, unfolding(crate::specs::Name::is_name_byte))]
+pub fn is_name_byte(b: u8) -> bool
+    ensures { result ≡ is_name_byte b }
+{
+    b.is_ascii_digit()
+        || b.is_ascii_uppercase()
+        || b.is_ascii_lowercase()
+        || b == b'.'
+        || b == b'_'
+        || b == b'-'
+}
+
+impl Name {
+    /// Reads the name that the bytes are. BadName unless they are one.
+    pub fn read(bytes: &[u8]) -> Result<Name, NameFault>
+        ensures { OkIff result (IsName bytes.now) bytes.now }
+    {
+        let len = bytes.len();
+        if len == 0 || len > 64 {
+            return Err(NameFault::BadName);
+        }
+        let mut block = [0; 64];
+        for (i, b) in bytes.iter().enumerate() {
+            if !is_name_byte(*b) {
+                return Err(NameFault::BadName);
+            }
+            block[i] = *b;
+        }
+        Ok(Name {
+            block,
+            len: len as u8,
+        })
+    }
+
+    /// The bytes of the name, 1 to 64 of them.
+    pub fn bytes(&self) -> &[u8]
+        ensures value { result.now ≡ self.now }
+        ensures name { IsName self.now }
+    {
+        &self.block[..usize::from(self.len)]
+    }
+}
+
+impl PartialEq for Name {
+    ghost eq = { pointwise ◌==◌ };
+
+    ghost laws = { partial_equiv_from_equiv nat_list_eq_equiv };
+
+    fn eq(&self, other: &Name) -> bool {
+        self.bytes() == other.bytes()
+    }
+}
+
+impl Eq for Name {
+    ghost laws = { nat_list_eq_equiv };
+}
+
+impl Ord for Name {
+    ghost cmp = { slice_cmp nat_cmp };
+
+    ghost total = { nat_list_cmp_total };
+
+    ghost matches_partial_cmp = { Prim.search (comparing, rules) };
+
+    ghost matches_eq = { Prim.search (comparing, rules) };
+
+    fn cmp(&self, other: &Name) -> Ordering {
+        self.bytes().cmp(other.bytes())
+    }
+}
+
+impl PartialOrd for Name {
+    ghost partial_cmp = { as_partial_cmp (slice_cmp nat_cmp) };
+
+    ghost laws = { partial_order_from_own_ties (Prim.search (comparing, rules)) (Prim.search (comparing, rules)) };
+
+    fn partial_cmp(&self, other: &Name) -> Option<Ordering> {
+        Some(self.cmp(other))
+    }
+}
