@@ -44,6 +44,15 @@ abbrev pub IsBody : Body → Type 0
 IsBody (Put value) = IsValue value
 IsBody Gone = Unit {0}
 
+-- the value is held in place, so that a copy of it takes no memory
+abbrev pub IsInPlace : Value → Type 0
+IsInPlace (values.Label e) = Unit {0}
+
+-- a put has such a value
+abbrev pub IsBodyInPlace : Body → Type 0
+IsBodyInPlace (Put value) = IsInPlace value
+IsBodyInPlace Gone = Unit {0}
+
 -- a label is put with number 0, under its endpoint's generation, and is gone with number 1
 abbrev pub IsLabelBody : Version → Body → Type 0
 IsLabelBody version (Put (values.Label e)) = (version.seq ≡ 0) × (version.epoch ≡ e.generation)

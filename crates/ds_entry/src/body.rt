@@ -1,7 +1,7 @@
 //! What a change says of its key.
 
-ghost use Rattle.std.specs.Prelude.{◌≡◌, IfOk};
-ghost use Rattle.ds_entry.specs.Change.{kind_of};
+ghost use Rattle.std.specs.Prelude.{◌≡◌, IfOk, IsOk};
+ghost use Rattle.ds_entry.specs.Change.{kind_of, IsInPlace, IsBodyInPlace};
 
 use ds_names::{Endpoint, Kind, NoRoom};
 use std::alloc::Global;
@@ -29,9 +29,10 @@ impl Value {
         }
     }
 
-    /// The same value again.
+    /// The same value again. The copy of a label takes no memory.
     pub fn copy(&self, _alloc: Global) -> Result<Value, NoRoom>
-        ensures { IfOk result (λ value. value ≡ self.now) }
+        ensures same { IfOk result (λ value. value ≡ self.now) }
+        ensures in_place { IsInPlace self.now → IsOk result }
     {
         match self {
             Value::Label(endpoint) => Ok(Value::Label(*endpoint)),
@@ -40,9 +41,10 @@ impl Value {
 }
 
 impl Body {
-    /// The same body again.
+    /// The same body again. The copy of a tombstone, or of a put of a label, takes no memory.
     pub fn copy(&self, alloc: Global) -> Result<Body, NoRoom>
-        ensures { IfOk result (λ body. body ≡ self.now) }
+        ensures same { IfOk result (λ body. body ≡ self.now) }
+        ensures in_place { IsBodyInPlace self.now → IsOk result }
     {
         match self {
             Body::Put(value) => Ok(Body::Put(value.copy(alloc)?)),

@@ -1,8 +1,8 @@
 //! Changes.
 
-ghost use Rattle.std.specs.Prelude.{◌≡◌, ◌<◌, ◌≤◌, ◌^◌, ◌↔◌, IsTrue, IfOk, IfErr, MatchOption};
+ghost use Rattle.std.specs.Prelude.{◌≡◌, ◌<◌, ◌≤◌, ◌^◌, ◌↔◌, IsTrue, IsOk, IfOk, IfErr, MatchOption};
 ghost use Rattle.ds_names.specs.Name.{IsName};
-ghost use Rattle.ds_entry.specs.Change.{ChangeRecord, change_of, IsChange, IsLabelChange, IsLabelBody, IsBelowSweeps, IsBody};
+ghost use Rattle.ds_entry.specs.Change.{ChangeRecord, change_of, IsChange, IsLabelChange, IsLabelBody, IsBelowSweeps, IsBody, IsBodyInPlace};
 ghost use Rattle.ds_entry.specs.ChangeFault.{IsFaultOf};
 
 use crate::body::{Body, Value};
@@ -65,9 +65,10 @@ impl Change {
         }
     }
 
-    /// The same change again.
+    /// The same change again. The copy takes memory only for the value of a put.
     pub fn copy(&self, alloc: Global) -> Result<Change, NoRoom>
         ensures same { IfOk result (λ change. change ≡ self.now) }
+        ensures in_place { IsBodyInPlace self.now.body → IsOk result }
         ensures change { IsChange self.now }
     {
         Ok(Change {

@@ -9,6 +9,9 @@ mod body;
 mod change;
 mod items;
 
+#[cfg(test)]
+mod tests;
+
 pub use body::{Body, Value};
 pub use change::{Change, EntryFault};
 pub use items::Items;

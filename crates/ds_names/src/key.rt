@@ -32,5 +32,4 @@ impl Key {
 pub fn keys_are_ordered()
     ensures total { IsTotalOrder key_cmp }
     ensures exact { (a b : Key) → key_cmp a b ≡ Equal → a ≡ b }
-{
-}
+{}

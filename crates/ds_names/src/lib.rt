@@ -11,6 +11,8 @@ mod key;
 mod kind;
 mod name;
 mod room;
+#[cfg(test)]
+mod tests;
 mod version;
 
 pub use decimal::{read_byte, read_decimal};

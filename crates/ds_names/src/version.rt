@@ -31,5 +31,4 @@ impl Version {
 pub fn versions_are_ordered()
     ensures total { IsTotalOrder version_cmp }
     ensures exact { (v w : Version) → version_cmp v w ≡ Equal → v ≡ w }
-{
-}
+{}
