@@ -1,0 +1,334 @@
+"""Behaviours of the program that no file of input and output can show: each function is one, and asserts what it says.
+
+A run that doesn't end in time fails its behaviour.
+"""
+import os
+import random
+import select
+import subprocess
+import tempfile
+import time
+
+import harness
+import model
+
+PUT = b"offer eth0 label rs 3.0 = 3/17"
+TOMBSTONE = b"offer eth0 label rs 3.1 -"
+MEMORY = 64 << 10  # KiB of address space, where a behaviour limits it
+# A line of each command that isn't there yet.
+NOT_YET = b"""\
+publish 0/2 new eth0 label 3.0 = 3/17
+delete 0/2 eth0 label 3.1
+sweep 0/2 eth0 3
+retrieve eth0 label
+nameof 3/17
+subscribe 0 ".*" 15 first new
+check 0 1
+map ".*" 15
+entries 0
+ring 2
+since * 1 0 8
+snapshot *
+side a
+deliver 0 b *
+clear 0
+restart a 3
+page * - 1
+settings service = []
+service up disk 0
+death 1/16 1 5
+beat 1/16 5
+tick 6
+assign file 3 block disk
+follow 0
+submit file 9 3 0
+reply file 1/16 9
+"""
+
+
+def fault(behaviour, program):
+    """Runs one behaviour, and says what is wrong with it, or answers None."""
+    try:
+        behaviour(program)
+    except (AssertionError, subprocess.TimeoutExpired, OSError) as wrong:
+        return f"{type(wrong).__name__}: {str(wrong)[:400]}"
+    return None
+
+
+def expect(ran, output, status, error=b""):
+    """Asserts the whole answer of a run."""
+    wrong = harness.difference(ran.output, output)
+    assert not wrong, f"output: {wrong}"
+    assert ran.status == status, f"status {ran.status}, wanted {status}; standard error: {ran.error[-200:]!r}"
+    assert ran.error == error, f"standard error is {ran.error[:200]!r}, wanted {error!r}"
+
+
+def begin(program, words=(), limit=None, **streams):
+    """Starts the program, over pipes where no other stream is given, with `limit` KiB of address space."""
+    how = {"stdin": subprocess.PIPE, "stdout": subprocess.PIPE, "stderr": subprocess.PIPE, "bufsize": 0, **streams}
+    limited = ["sh", "-c", 'ulimit -v "$0" && exec "$@"', str(limit)] if limit else []
+    return subprocess.Popen([*limited, program, *words], **how)
+
+
+def end(started, given=None):
+    """Gives the started program the rest of its input, and waits for its answer."""
+    try:
+        output, error = started.communicate(given, timeout=harness.SECONDS)
+    finally:
+        started.kill()
+    return harness.Ran(output, started.returncode, error)
+
+
+def next_line(started):
+    """Reads one line that the program writes, which must come within ten seconds."""
+    line, late = b"", time.monotonic() + 10
+    while not line.endswith(b"\n"):
+        ready, _, _ = select.select([started.stdout], [], [], max(0, late - time.monotonic()))
+        assert ready, f"no answer after ten seconds; so far {line!r}"
+        read = os.read(started.stdout.fileno(), 1)
+        assert read, f"the output ended after {line!r}"
+        line += read
+    return line
+
+
+def answers(started, *lines):
+    """Asserts that just these lines come next, each in time."""
+    got = [next_line(started) for _ in lines]
+    assert got == [*lines], f"answered {got!r}, wanted {lines!r}"
+
+
+# ---- answers come at once ----
+
+
+def answers_each_line_before_the_next(program):
+    """Over a pipe, each answer comes before the next line is written."""
+    steps = [
+        (PUT, b"taken\n"),
+        (PUT, b"known\n"),
+        (b"show", b"eth0 label rs 3.0 = 3/17\n", b"shown 1\n"),
+        (TOMBSTONE, b"taken\n"),
+        (b"show", b"shown 0\n"),
+        (b"all", b"eth0 label rs 3.1 -\n", b"shown 1\n"),
+    ]
+    started = begin(program)
+    try:
+        for line, *wanted in steps:
+            started.stdin.write(line + b"\n")
+            answers(started, *wanted)
+    finally:
+        rest = end(started)
+    expect(rest, b"", 0)
+
+
+def waits_for_a_whole_line(program):
+    """A line that comes in pieces is answered once it is whole, and a bad one without waiting for another."""
+    started = begin(program)
+    try:
+        started.stdin.write(PUT + b"\n" + PUT[:9])
+        answers(started, b"taken\n")
+        assert not select.select([started.stdout], [], [], 0.2)[0], "half a line was answered"
+        started.stdin.write(PUT[9:] + b"\nshow")
+        answers(started, b"known\n")
+        started.stdin.write(b"x\n")
+        answers(started, b"badline 3 0\n")
+    finally:
+        rest = end(started)
+    expect(rest, b"", 1)
+
+
+def judges_usage_before_input(program):
+    """A usage fault ends the program while its input is still open and empty."""
+    started = begin(program, ["settle"])
+    try:
+        status = started.wait(timeout=10)
+    finally:
+        started.kill()
+        started.communicate()
+    assert status == 2, f"status {status}"
+
+
+# ---- memory doesn't grow with the input ----
+
+
+def a_gigabyte_without_a_newline(program):
+    """A line of a gigabyte is a bad line at once, in little memory, with nearly all of it unread."""
+    with tempfile.TemporaryFile(buffering=0) as script:
+        script.write(PUT + b"\n")
+        script.truncate(1 << 30)
+        script.seek(0)
+        expect(end(begin(program, limit=MEMORY, stdin=script)), b"taken\nbadline 2 4096\n", 1)
+        assert script.tell() < 16 << 20, f"{script.tell()} bytes were read"
+
+
+def a_line_without_end(program):
+    """A line that never ends is a bad line all the same."""
+    with open("/dev/zero", "rb") as endless:
+        expect(end(begin(program, limit=MEMORY, stdin=endless)), b"badline 1 4096\n", 1)
+
+
+def a_million_lines(program):
+    """A million offers in little memory: a thousand names, each with a thousand generations."""
+    with tempfile.TemporaryFile() as script:
+        for generation in range(1, 1001):
+            lines = (b"offer driver-%d label rs %d.0 = %d/%d\n" % (at, generation, generation, at) for at in range(1000))
+            script.write(b"".join(lines))
+        script.seek(0)
+        expect(end(begin(program, limit=MEMORY, stdin=script)), b"taken\n" * 1000000, 0)
+
+
+def a_long_show(program):
+    """Many lists in a row, far longer together than the memory that is there."""
+    script = b"".join(b"offer driver-%04d label rs 1.0 = 1/16\n" % at for at in range(1000)) + b"show\n" * 2500
+    with tempfile.TemporaryFile() as given:
+        given.write(script)
+        given.seek(0)
+        started = begin(program, limit=MEMORY, stdin=given)
+        expect(end(started), *model.replay(script))
+
+
+# ---- reading and writing that fails ----
+
+
+def a_reader_that_fails(program):
+    """A folder in place of the input, and one that was opened for writing alone."""
+    folder = os.open(os.path.dirname(__file__), os.O_RDONLY)
+    for stream in (folder, os.open(os.devnull, os.O_WRONLY)):
+        expect(end(begin(program, stdin=stream)), b"", 3, b"readfault\n")
+        os.close(stream)
+
+
+def a_reader_that_is_closed(program):
+    """No standard input at all."""
+    words = ["sh", "-c", 'exec "$0" <&-', program]
+    expect(harness.run(words, b""), b"", 3, b"readfault\n")
+
+
+def a_writer_that_is_full(program):
+    """Output that takes no bytes; a bad line can't be told there either."""
+    for script in (PUT + b"\n", b"show\n", b"bad\n", b"show"):
+        with open("/dev/full", "wb") as full:
+            expect(end(begin(program, stdout=full), script), None, 3, b"writefault\n")
+
+
+def a_writer_that_is_gone(program):
+    """A pipe whose reader has gone: a fault by name, and no signal."""
+    for script in (PUT + b"\n", PUT + b"\nbad\n", b"show\n" * 100000):
+        reading, writing = os.pipe()
+        os.close(reading)
+        started = begin(program, stdout=writing)
+        os.close(writing)
+        expect(end(started, script), None, 3, b"writefault\n")
+
+
+def a_writer_that_goes(program):
+    """A reader that goes after the first answer, while the input is still open."""
+    started = begin(program)
+    started.stdin.write(PUT + b"\n")
+    answers(started, b"taken\n")
+    started.stdout.close()
+    started.stdout = None
+    started.stdin.write(PUT + b"\n")
+    expect(end(started), None, 3, b"writefault\n")
+
+
+def a_writer_that_is_closed(program):
+    """No standard output at all: a fault as soon as there is something to write."""
+    words = ["sh", "-c", 'exec "$0" >&-', program]
+    expect(harness.run(words, PUT + b"\n"), b"", 3, b"writefault\n")
+    expect(harness.run(words, b""), b"", 0)
+
+
+# ---- words of the command line ----
+
+
+def tells_how_it_is_used(program):
+    """`--help` names the subcommand, the lines and an answer, `--version` a version; both leave the input alone."""
+    for word, wanted in (("--help", (b"dsctl", b"replay", b"offer", b"show", b"taken")), ("--version", (b"dsctl ", b"."))):
+        ran = harness.run([program, word], b"bad\n")
+        assert (ran.status, ran.error) == (0, b""), f"{word}: status {ran.status}, standard error {ran.error[:200]!r}"
+        missing = [it for it in wanted if it not in ran.output]
+        assert not missing, f"{word} doesn't name {missing}: {ran.output[:300]!r}"
+
+
+# ---- against the second opinion ----
+
+
+def agrees(program, script):
+    """Asserts that a script's answer is the model's."""
+    try:
+        expect(harness.run([program], script), *model.replay(script))
+    except AssertionError as wrong:
+        raise AssertionError(f"{script[-120:]!r}: {wrong}") from None
+
+
+def every_front_of_a_line(program):
+    """Each proper front of a good line, with and without a newline."""
+    lines = [PUT, TOMBSTONE, b"show", b"all"]
+    fronts = [line[:at] + newline for line in lines for at in range(len(line)) for newline in (b"", b"\n")]
+    harness.at_once(lambda it: agrees(program, it), fronts)
+
+
+def every_byte_changed(program):
+    """Each byte of a good line replaced by each other byte."""
+    lines = [PUT, TOMBSTONE, b"show", b"all"]
+    spoilt = [line[:at] + bytes([byte]) + line[at + 1 :] for line in lines for at in range(len(line)) for byte in range(256)]
+    harness.at_once(lambda it: agrees(program, it + b"\n"), sorted({*spoilt} - {*lines}))
+
+
+def every_byte_dropped_or_doubled(program):
+    """Each byte of a good line left out, and each written twice."""
+    lines = [PUT, TOMBSTONE, b"show", b"all"]
+    spoilt = [line[:at] + line[at : at + 1] * times + line[at + 1 :] for line in lines for at in range(len(line)) for times in (0, 2)]
+    harness.at_once(lambda it: agrees(program, it + b"\n"), spoilt)
+
+
+def words_that_are_not_there_yet(program):
+    """A command that isn't known yet is a bad line at its first byte, also behind a good line."""
+    for line in NOT_YET.splitlines():
+        expect(harness.run([program], PUT + b"\n" + line + b"\n"), b"taken\nbadline 2 0\n", 1)
+
+
+def scripts_by_chance(program):
+    """Seeded scripts of many lines over few names, so that all answers come, with a bad line in some."""
+    chance = random.Random(1)
+    names = [b"a", b"A", b"a-", b"a.b", b"_", b"eth0", b"eth", b"9", b"x" * 64]
+    scripts = []
+    for _ in range(40):
+        script = [b"offer %s label rs %s" % (chance.choice(names), body_by_chance(chance)) for _ in range(300)]
+        for _ in range(12):
+            script.insert(chance.randrange(300), chance.choice([b"show", b"all"]))
+        if chance.random() < 0.3:
+            script[chance.randrange(300)] = b"offer eth0 label rs 1.2 -"
+        scripts.append(b"\n".join(script))
+    harness.at_once(lambda it: agrees(program, it), scripts)
+
+
+def body_by_chance(chance):
+    """The version and the body of a label change."""
+    generation = chance.randrange(1, 9)
+    if chance.random() < 0.3:
+        return b"%d.1 -" % generation
+    return b"%d.0 = %d/%d" % (generation, generation, chance.randrange(16, 19))
+
+
+ALL = [
+    answers_each_line_before_the_next,
+    waits_for_a_whole_line,
+    judges_usage_before_input,
+    a_gigabyte_without_a_newline,
+    a_line_without_end,
+    a_million_lines,
+    a_long_show,
+    a_reader_that_fails,
+    a_reader_that_is_closed,
+    a_writer_that_is_full,
+    a_writer_that_is_gone,
+    a_writer_that_goes,
+    a_writer_that_is_closed,
+    tells_how_it_is_used,
+    every_front_of_a_line,
+    every_byte_changed,
+    every_byte_dropped_or_doubled,
+    words_that_are_not_there_yet,
+    scripts_by_chance,
+]

@@ -1,0 +1,140 @@
+"""What the test scripts share: the cases, and one run of the program on a case."""
+import multiprocessing
+import os
+import pathlib
+import subprocess
+import sys
+from concurrent.futures import ProcessPoolExecutor
+from dataclasses import dataclass
+from typing import List, Optional
+
+TESTS = pathlib.Path(__file__).resolve().parent
+EXAMPLES = TESTS.parent / "examples"
+SECONDS = 30  # the longest that one run may take
+
+
+@dataclass
+class Case:
+    """One run of the program: what it is given, and what it must answer."""
+
+    name: str
+    args: List[str]
+    input: pathlib.Path
+    output: bytes
+    status: int = 0
+    error: Optional[bytes] = None  # None: any text where the status is above 1, no text otherwise
+
+
+@dataclass
+class Ran:
+    """What one run of the program answered; a status below 0 is the signal that ended it."""
+
+    output: bytes
+    status: Optional[int]  # None: the program hadn't ended in time
+    error: bytes
+
+
+def read_case(folder):
+    """Reads the case that the files of a folder describe."""
+
+    def part(name, otherwise=None):
+        path = folder / name
+        return path.read_bytes() if path.exists() else otherwise
+
+    return Case(
+        name=str(folder.relative_to(TESTS / "cases")),
+        args=[os.fsdecode(word) for word in part("args", b"").split(b"\n")[:-1]],
+        input=folder / "input",
+        output=part("output"),
+        status=int(part("status", b"0")),
+        error=part("error"),
+    )
+
+
+def all_cases():
+    """Reads every case of tests/cases, and every script of examples/ as a case of its own."""
+    folders = sorted(path.parent for path in (TESTS / "cases").rglob("output"))
+    scripts = sorted(EXAMPLES.glob("*.ds"))
+    told = [Case(f"examples/{it.name}", [], it, it.with_suffix(".out").read_bytes()) for it in scripts]
+    return [read_case(folder) for folder in folders] + told
+
+
+def run(words, given, environment=None):
+    """Runs a command on the bytes, or the file, that it is given."""
+    how = {"input": given} if isinstance(given, bytes) else {"stdin": given}
+    try:
+        ran = subprocess.run(words, capture_output=True, timeout=SECONDS, env=environment, **how)
+    except subprocess.TimeoutExpired as late:
+        return Ran(late.stdout or b"", None, late.stderr or b"")
+    return Ran(ran.stdout, ran.returncode, ran.stderr)
+
+
+def run_case(program, case, environment=None):
+    """Runs the program on a case."""
+    with case.input.open("rb") as given:
+        return run([program, *case.args], given, environment)
+
+
+def difference(got, wanted):
+    """Names the first line in which two outputs differ, or answers None where they are equal."""
+    if got == wanted:
+        return None
+    lines, wanted_lines = got.split(b"\n"), wanted.split(b"\n")
+    pairs = enumerate(zip(lines, wanted_lines))
+    at = next((at for at, (one, other) in pairs if one != other), min(len(lines), len(wanted_lines)))
+    shown = [repr(it[at][:120])[1:] if at < len(it) else "nothing" for it in (lines, wanted_lines)]
+    return f"line {at + 1} is {shown[0]}, wanted {shown[1]}"
+
+
+def fault(case, ran):
+    """Says what is wrong with the answer to a case, or answers None."""
+    if ran.status is None:
+        return f"the program hadn't ended after {SECONDS} seconds"
+    wrong = difference(ran.output, case.output)
+    if wrong:
+        return f"output: {wrong} (status {ran.status})"
+    if ran.status != case.status:
+        return f"status {ran.status}, wanted {case.status}; standard error: {ran.error[-200:]!r}"
+    if case.error is not None:
+        wrong = difference(ran.error, case.error)
+        return wrong and f"standard error: {wrong}"
+    if bool(ran.error) != (case.status > 1):
+        return f"standard error is {ran.error[:200]!r} at status {ran.status}"
+    return None
+
+
+_work = None  # the function and the items of `at_once`, which its processes get by being forked
+
+
+def _done(at):
+    function, items = _work
+    return function(items[at])
+
+
+def at_once(function, items):
+    """Calls the function on each item, in as many processes as there are processors, and gives the results in order."""
+    global _work
+    items = list(items)
+    _work = function, items
+    with ProcessPoolExecutor(os.cpu_count(), multiprocessing.get_context("fork")) as pool:
+        try:
+            return list(pool.map(_done, range(len(items)), chunksize=1 + len(items) // 256))
+        except Exception:
+            pool.shutdown(cancel_futures=True)
+            raise
+
+
+def report(faults):
+    """Prints each fault by its name, then the count, and gives the exit status. `faults` has pairs (name, fault or None)."""
+    bad = [(name, it) for name, it in faults if it]
+    for name, it in bad:
+        print(f"FAILED {name}: {it}")
+    print(f"{len(faults) - len(bad)} passed, {len(bad)} failed", flush=True)
+    return 1 if bad else 0
+
+
+def program_given():
+    """Gives the absolute path of the program that the command line names."""
+    if len(sys.argv) != 2 or not os.access(sys.argv[1], os.X_OK):
+        sys.exit(f"usage: {sys.argv[0]} PROGRAM")
+    return os.path.abspath(sys.argv[1])
