@@ -1,2 +1,4 @@
 pub mod Change
 pub mod ChangeFault
+pub mod Covers
+pub mod SingleNumbered

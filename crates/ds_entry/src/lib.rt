@@ -8,7 +8,6 @@
 mod body;
 mod change;
 mod items;
-
 #[cfg(test)]
 mod tests;
 

@@ -5,7 +5,12 @@ use ds_names::{Endpoint, Generation, Key, Kind, Name, Version};
 use std::test::Fail;
 
 // The put of the label `eth0` by `owner`, for the endpoint of slot 17.
-fn label(owner: &[u8], epoch: u32, generation: u32, seq: u32) -> Result<Result<Change, EntryFault>, Fail> {
+fn label(
+    owner: &[u8],
+    epoch: u32,
+    generation: u32,
+    seq: u32,
+) -> Result<Result<Change, EntryFault>, Fail> {
     let key = Key {
         name: Name::read(b"eth0")?,
         kind: Kind::Label,
@@ -23,9 +28,17 @@ fn label(owner: &[u8], epoch: u32, generation: u32, seq: u32) -> Result<Result<C
 #[test]
 fn labels_are_made_by_their_rule(rt: HostRuntime) -> Result<(), Fail> {
     assert!(rt; label(b"rs", 3, 3, 0)?.is_ok());
-    let rows: [(&[u8], u32, u32, u32); 4] = [(b"tty", 3, 3, 0), (b"rs", 0, 0, 0), (b"rs", 3, 3, 1), (b"rs", 3, 4, 0)];
+    let rows: [(&[u8], u32, u32, u32); 4] = [
+        (b"tty", 3, 3, 0),
+        (b"rs", 0, 0, 0),
+        (b"rs", 3, 3, 1),
+        (b"rs", 3, 4, 0),
+    ];
     for (owner, epoch, generation, seq) in rows {
-        assert_eq!(rt; label(owner, epoch, generation, seq)?.err(), Some(EntryFault::BadLabel));
+        assert_eq!(rt;
+            label(owner, epoch, generation, seq)?.err(),
+            Some(EntryFault::BadLabel)
+        );
     }
     Ok(())
 }

@@ -1,0 +1,10 @@
+pub mod PartLemmas
+pub mod StepLemmas
+pub mod AnswerLemmas
+pub mod LabelLemmas
+pub mod BodyLemmas
+pub mod ChangeLemmas
+pub mod LineLemmas
+pub mod ApartLemmas
+pub mod PlaceLemmas
+pub mod NewlineLemmas

@@ -1,0 +1,87 @@
+-- A line ends with its one newline.
+use Rattle.std.proofs.Common.{◌≡◌, ◌≢◌, ℕ, ◌^◌, ◌<◌, Bool, true, false, List, [], ◌∷◌, ◌++◌, refl, sym, ap, subst, ◌∙◌, append_assoc, arith}
+use Rattle.std.specs.List.{All, list_all}
+use Rattle.std.specs.Char.{is_ascii_digit, is_ascii_alphanumeric}
+use Rattle.std.specs.Fmt.{decimal}
+use Rattle.std.proofs.lemmas.Bool.{false≢true}
+use Rattle.std.proofs.lemmas.Fmt.{digits_decimal}
+use Rattle.std.proofs.lemmas.List.Elements.{All-nil, All-cons, All-append}
+use Rattle.std.proofs.lemmas.List.Sums.{AllPass-from_list_all}
+use Rattle.ds_names.specs.Name.{is_name_byte}
+use Rattle.ds_names.specs.Endpoint.{EndpointRecord, IsEndpoint, endpoint_text}
+use Rattle.ds_names.proofs.DecimalLemmas.{own}
+use Rattle.ds_entry.specs.declared.body.Value.TheVariants as values
+use Rattle.ds_entry.specs.declared.body.Body.{Body}
+use Rattle.ds_entry.specs.declared.body.Body.TheVariants.{Put, Gone}
+use Rattle.ds_entry.specs.Change.{ChangeRecord, IsBody}
+use Rattle.ds_line.specs.Part.{Name, Word, Number, Endpoint, Part, part, byte, texts}
+use Rattle.ds_line.specs.Spelling.{space, newline, label_word, body_parts, HasLine, spelling}
+use Rattle.ds_line.specs.LastNewline.{EndsLine}
+use Rattle.ds_line.specs.Reading.{IsLabel, label_parts}
+use Rattle.ds_line.proofs.LabelLemmas.{label_of_line}
+use Rattle.ds_line.proofs.ChangeLemmas.{parts_of_label}
+
+-- no byte is a newline
+abbrev Unbroken : List ℕ → Type 0
+Unbroken bytes = All (λ (b : ℕ). b ≢ 10) bytes
+
+unbroken_run : (run : ℕ → Bool) → run 10 ≡ false → (bytes : List ℕ) → list_all run bytes ≡ true → Unbroken bytes
+unbroken_run run not_one bytes all k d lt = λ same. false≢true (sym not_one ∙ ap run (sym same) ∙ AllPass-from_list_all run bytes all k d lt)
+
+unbroken_name : (n : List ℕ) → list_all is_name_byte n ≡ true → Unbroken n
+unfolding is_name_byte
+unbroken_name n all = unbroken_run is_name_byte refl n all
+
+unbroken_decimal : (n : ℕ) → n < 2 ^ 64 → Unbroken (decimal n)
+unbroken_decimal n lt = unbroken_run is_ascii_digit refl (decimal n) (digits_decimal own n lt)
+
+unbroken_endpoint : (a : EndpointRecord) → IsEndpoint a → Unbroken (endpoint_text a)
+unbroken_endpoint a is =
+    All-append (λ (b : ℕ). b ≢ 10) (decimal a.generation) (47 ∷ decimal a.slot) (unbroken_decimal a.generation (omega (arith, is.generation)))
+    (All-cons (λ (b : ℕ). b ≢ 10) 47 (decimal a.slot) (λ same. omega (arith, same)) (unbroken_decimal a.slot (omega (arith, is.slot))))
+
+-- ---- part by part
+
+ends_behind : (p : Part) (parts : List Part) → Unbroken p.text → EndsLine (texts parts) → EndsLine (texts (p ∷ parts))
+ends_behind p parts unbroken e =
+    record {
+      front = p.text ++ e.front;
+      parts = ap (λ (x : List ℕ). p.text ++ x) e.parts ∙ sym (append_assoc p.text e.front (10 ∷ []));
+      none = All-append (λ (b : ℕ). b ≢ 10) p.text e.front unbroken e.none;
+    }
+
+ends_behind_byte : (b : ℕ) (parts : List Part) → b ≢ 10 → EndsLine (texts parts) → EndsLine (texts (byte b ∷ parts))
+ends_behind_byte b parts other e = ends_behind (byte b) parts (All-cons (λ (x : ℕ). x ≢ 10) b [] other (All-nil (λ (x : ℕ). x ≢ 10))) e
+
+ends_behind_space : (parts : List Part) → EndsLine (texts parts) → EndsLine (texts (space ∷ parts))
+ends_behind_space parts e = ends_behind_byte 32 parts (λ same. omega (arith, same)) e
+
+newline_ends : EndsLine (texts (newline ∷ []))
+newline_ends = record { front = []; parts = refl; none = All-nil (λ (x : ℕ). x ≢ 10) }
+
+body_ends : (b : Body) → IsBody b → EndsLine (texts (body_parts b))
+body_ends (Put (values.Label a)) is =
+    ends_behind_byte 61 (space ∷ part Endpoint (endpoint_text a) ∷ newline ∷ []) (λ same. omega (arith, same))
+    (ends_behind_space (part Endpoint (endpoint_text a) ∷ newline ∷ [])
+    (ends_behind (part Endpoint (endpoint_text a)) (newline ∷ []) (unbroken_endpoint a is) newline_ends))
+body_ends Gone is = ends_behind_byte 45 (newline ∷ []) (λ same. omega (arith, same)) newline_ends
+
+label_ends : (c : ChangeRecord) → IsLabel c → EndsLine (texts (label_parts c))
+label_ends c m =
+    let from_seq : List Part = part Number (decimal c.version.seq) ∷ space ∷ body_parts c.body in
+    let from_epoch : List Part = part Number (decimal c.version.epoch) ∷ byte 46 ∷ from_seq in
+    let from_owner : List Part = part Name c.owner ∷ space ∷ from_epoch in
+    let from_kind : List Part = part Word label_word ∷ space ∷ from_owner in
+    ends_behind (part Name c.key.name) (space ∷ from_kind) (unbroken_name c.key.name m.change.name.allowed)
+    (ends_behind_space from_kind
+    (ends_behind (part Word label_word) (space ∷ from_owner) (unbroken_run is_ascii_alphanumeric refl label_word refl)
+    (ends_behind_space from_owner
+    (ends_behind (part Name c.owner) (space ∷ from_epoch) (unbroken_name c.owner m.change.owner.allowed)
+    (ends_behind_space from_epoch
+    (ends_behind (part Number (decimal c.version.epoch)) (byte 46 ∷ from_seq) (unbroken_decimal c.version.epoch (omega (arith, m.change.epoch)))
+    (ends_behind_byte 46 from_seq (λ same. omega (arith, same))
+    (ends_behind (part Number (decimal c.version.seq)) (space ∷ body_parts c.body) (unbroken_decimal c.version.seq (omega (arith, m.change.seq)))
+    (ends_behind_space (body_parts c.body) (body_ends c.body m.change.body))))))))))
+
+pub line_ends : (c : ChangeRecord) → HasLine c → EndsLine (spelling c)
+line_ends c line = subst (λ (parts : List Part). EndsLine (texts parts)) (sym (parts_of_label c line.kind)) (label_ends c (label_of_line c line))

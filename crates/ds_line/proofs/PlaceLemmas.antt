@@ -1,0 +1,92 @@
+-- A fault has one place.
+use Rattle.std.proofs.Common.{◌≡◌, ℕ, zero, suc, ◌<◌, ◌≤◌, inl, inr, List, [], ◌∷◌, length, refl, sym, ap, subst, ◌∙◌, arith}
+use Rattle.std.proofs.lemmas.Bool.{cases_lt}
+use Rattle.ds_names.specs.Run.{Begins}
+use Rattle.ds_names.specs.declared.kind.Kind.{Kind}
+use Rattle.ds_names.specs.declared.kind.Kind.TheVariants.{Label, U32, Str, Mem}
+use Rattle.ds_entry.specs.Change.{ChangeRecord, IsChange}
+use Rattle.ds_line.specs.Part.{Class, run_of, Part}
+use Rattle.ds_line.specs.Spelling.{parts_of_kind, change_parts}
+use Rattle.ds_line.specs.FaultPlace.{Stand, StopsAt, IsFaultPlace}
+use Rattle.ds_line.proofs.PartLemmas.{IsText, part_one}
+use Rattle.ds_line.proofs.ApartLemmas.{AllTexts, Alike, bodies_alike, body_texts}
+
+-- the classes are the same as long as the texts are, and both have more parts
+abbrev pub Agree : List Part → List Part → Type 0
+Agree [] qs = Unit {0}
+Agree (p ∷ ps) [] = Unit {0}
+Agree (p ∷ ps) (q ∷ qs) = (p.class ≡ q.class) × (p.text ≡ q.text → Agree ps qs)
+
+alike_agree : (ps qs : List Part) → Alike ps qs → Agree ps qs
+alike_agree [] qs alike = tt
+alike_agree (p ∷ ps) [] alike = tt
+alike_agree (p ∷ ps) (q ∷ qs) alike = (alike.0, λ same. alike_agree ps qs (alike.1 same))
+
+-- as many parts that stand at one front leave one rest
+same_rest : (count : ℕ) (ps qs : List Part) (bytes r s : List ℕ) → AllTexts ps → AllTexts qs → Agree ps qs → Stand count ps bytes r → Stand count qs bytes s → r ≡ s
+same_rest zero ps qs bytes r s texts_p texts_q agree stand_p stand_q = sym stand_p ∙ stand_q
+same_rest (suc count) [] qs bytes r s texts_p texts_q agree stand_p stand_q = absurd stand_p
+same_rest (suc count) (p ∷ ps) [] bytes r s texts_p texts_q agree stand_p stand_q = absurd stand_q
+same_rest (suc count) (p ∷ ps) (q ∷ qs) bytes r s texts_p texts_q agree stand_p stand_q =
+    let one = part_one q.class bytes p.text q.text stand_p.0 stand_q.0 (subst (λ (c : Class). IsText c p.text) agree.0 texts_p.0) texts_q.0 (subst (λ (c : Class). Begins (run_of c) bytes p.text stand_p.0) agree.0 stand_p.1) stand_q.1 in
+    same_rest count ps qs stand_q.0 r s texts_p.1 texts_q.1 (agree.1 one.0) (subst (λ (x : List ℕ). Stand count ps x r) one.1 stand_p.2) stand_q.2
+
+-- fewer parts stand there too
+fewer : (j k : ℕ) (parts : List Part) (bytes rest : List ℕ) → j ≤ k → Stand k parts bytes rest → (after : List ℕ) × Stand j parts bytes after
+fewer zero k parts bytes rest le h = (bytes, refl)
+fewer (suc j) zero parts bytes rest le h = absurd (omega arith)
+fewer (suc j) (suc k) [] bytes rest le h = absurd h
+fewer (suc j) (suc k) (p ∷ parts) bytes rest le h = let f = fewer j k parts h.0 rest (omega arith) h.2 in (f.0, (h.0, h.1, f.1))
+
+no_more : {T : Type 0} (IsMember : T → Type 0) (parts : T → List Part) (bytes r s : List ℕ) (a : StopsAt IsMember parts bytes r) (b : StopsAt IsMember parts bytes s) → a.count < b.count → ⊥
+no_more IsMember parts bytes r s a b lt =
+    let f = fewer (suc a.count) b.count (parts b.read.member) bytes s (omega arith) b.read.front in
+    a.most f.0 (record { member = b.read.member; is = b.read.is; front = f.1 })
+
+-- what can be read ends at one place, where members agree
+same_stop : {T : Type 0} (IsMember : T → Type 0) (parts : T → List Part) → ((m : T) → IsMember m → AllTexts (parts m)) → ((m n : T) → Agree (parts m) (parts n))
+    → (bytes r s : List ℕ) (a : StopsAt IsMember parts bytes r) (b : StopsAt IsMember parts bytes s) → r ≡ s
+same_stop IsMember parts all agree bytes r s a b =
+    elim (cases_lt a.count b.count) [
+      | inl lt ↦ absurd (no_more IsMember parts bytes r s a b lt)
+      | inr le ↦ (elim (cases_lt b.count a.count) [
+        | inl gt ↦ absurd (no_more IsMember parts bytes s r b a gt)
+        | inr ge ↦
+            (let one : a.count ≡ b.count = omega arith in
+            same_rest b.count (parts a.read.member) (parts b.read.member) bytes r s (all a.read.member a.read.is) (all b.read.member b.read.is) (agree a.read.member b.read.member)
+            (subst (λ (k : ℕ). Stand k (parts a.read.member) bytes r) one a.read.front) b.read.front)
+      ])
+    ]
+
+-- a fault has one place, where members agree
+pub one_place : {T : Type 0} (IsMember : T → Type 0) (parts : T → List Part) → ((m : T) → IsMember m → AllTexts (parts m)) → ((m n : T) → Agree (parts m) (parts n))
+    → (bytes : List ℕ) (p q : ℕ) → IsFaultPlace IsMember parts bytes p → IsFaultPlace IsMember parts bytes q → p ≡ q
+one_place IsMember parts all agree bytes p q a b =
+    let same : a.rest ≡ b.rest = same_stop IsMember parts all agree bytes a.rest b.rest a.stops b.stops in
+    omega (arith, a.begins, b.begins, ap length same)
+
+-- ---- changes agree
+
+kinds_agree : (j k : Kind) (c d : ChangeRecord) → Agree (parts_of_kind j c) (parts_of_kind k d)
+kinds_agree Label Label c d = (refl, λ _. (refl, λ _. (refl, λ _. (refl, λ _. (refl, λ _. (refl, λ _. (refl, λ _. (refl, λ _. alike_agree _ _ (bodies_alike c.body d.body)))))))))
+kinds_agree Label U32 c d = tt
+kinds_agree Label Str c d = tt
+kinds_agree Label Mem c d = tt
+kinds_agree U32 k c d = tt
+kinds_agree Str k c d = tt
+kinds_agree Mem k c d = tt
+
+changes_agree : (c d : ChangeRecord) → Agree (change_parts c) (change_parts d)
+changes_agree c d = (refl, λ _. (refl, λ _. kinds_agree c.key.kind d.key.kind c d))
+
+kind_texts : (k : Kind) (c : ChangeRecord) → IsChange c → AllTexts (parts_of_kind k c)
+kind_texts Label c m = (refl, (refl, (m.owner.allowed, (refl, ((c.version.epoch, omega (arith, m.epoch), refl), (refl, ((c.version.seq, omega (arith, m.seq), refl), (refl, body_texts c.body m.body))))))))
+kind_texts U32 c m = tt
+kind_texts Str c m = tt
+kind_texts Mem c m = tt
+
+change_texts : (c : ChangeRecord) → IsChange c → AllTexts (change_parts c)
+change_texts c m = (m.name.allowed, (refl, kind_texts c.key.kind c m))
+
+pub one_change_place : (bytes : List ℕ) (p q : ℕ) → IsFaultPlace IsChange change_parts bytes p → IsFaultPlace IsChange change_parts bytes q → p ≡ q
+one_change_place = one_place IsChange change_parts change_texts changes_agree

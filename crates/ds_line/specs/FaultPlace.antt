@@ -1,0 +1,47 @@
+-- Where what can be read of a text ends, for whatever is written part by part: a change, or a command.
+use Rattle.std.specs.Prelude.{◌≡◌, ◌≢◌, ℕ, zero, suc, ◌+◌, List, [], ◌∷◌, ◌++◌, length}
+use Rattle.ds_names.specs.Run.{Begins}
+use Rattle.ds_entry.specs.Change.{ChangeRecord, IsChange}
+use Rattle.ds_line.specs.Part.{Part, run_of}
+use Rattle.ds_line.specs.Spelling.{change_parts, HasLine, spelling}
+use Rattle.ds_line.specs.declared.fault.LineFault.{LineFault}
+use Rattle.ds_line.specs.declared.fault.LineFault.TheVariants.{BadLine, NoRoom}
+
+-- The first `count` of the parts stand at the front of the bytes, one behind the other, and none is followed by a
+-- byte that would make it longer. The rest comes behind them.
+abbrev pub Stand : ℕ → List Part → List ℕ → List ℕ → Type 0
+Stand zero parts bytes rest = bytes ≡ rest
+Stand (suc count) [] bytes rest = ⊥
+Stand (suc count) (p ∷ parts) bytes rest = (after : List ℕ) × Begins (run_of p.class) bytes p.text after × Stand count parts after rest
+
+-- some member has so many first parts that stand at the front of the bytes
+pub record CanRead {T : Type 0} (IsMember : T → Type 0) (parts : T → List Part) (count : ℕ) (bytes rest : List ℕ) : Type 0 where
+  pub member : T
+  pub is : IsMember member
+  pub front : Stand count (parts member) bytes rest
+
+-- the most parts that can be read end where the rest begins
+pub record StopsAt {T : Type 0} (IsMember : T → Type 0) (parts : T → List Part) (bytes rest : List ℕ) : Type 0 where
+  pub count : ℕ
+  pub read : CanRead IsMember parts count bytes rest
+  pub most : (after : List ℕ) → ¬ CanRead IsMember parts (suc count) bytes after
+
+-- the first part that can't be read begins at the place
+pub record IsFaultPlace {T : Type 0} (IsMember : T → Type 0) (parts : T → List Part) (bytes : List ℕ) (place : ℕ) : Type 0 where
+  pub rest : List ℕ
+  pub stops : StopsAt IsMember parts bytes rest
+  pub begins : place + length rest ≡ length bytes
+
+-- no change's line stands at the front
+abbrev pub HasNoLine : List ℕ → Type 0
+HasNoLine bytes = (c : ChangeRecord) (rest : List ℕ) → HasLine c → bytes ≢ spelling c ++ rest
+
+-- no change's line stands at the front, and the first part of a change that can't be read begins at the place
+pub record IsLineFault (bytes : List ℕ) (place : ℕ) : Type 0 where
+  pub none : HasNoLine bytes
+  pub first : IsFaultPlace IsChange change_parts bytes place
+
+-- what a fault says of the bytes
+abbrev pub IsFaultIn : LineFault → List ℕ → Type 0
+IsFaultIn (BadLine place) bytes = IsLineFault bytes place
+IsFaultIn NoRoom bytes = Unit {0}

@@ -1,0 +1,5 @@
+pub mod Part
+pub mod Spelling
+pub mod FaultPlace
+pub mod LastNewline
+pub mod Reading

@@ -1,0 +1,38 @@
+-- What a line is made of: parts, each a text of some class.
+use Rattle.std.specs.Prelude.{ℕ, Bool, false, List, [], ◌∷◌}
+use Rattle.std.specs.List.{flat_map}
+use Rattle.std.specs.Char.{is_ascii_digit, is_ascii_alphanumeric}
+use Rattle.ds_names.specs.Name.{is_name_byte}
+
+-- the sort of text that a part is: one byte, a name, a word, a decimal number, or an endpoint
+pub data Class : Type 0 where
+  Byte : Class
+  Name : Class
+  Word : Class
+  Number : Class
+  Endpoint : Class
+
+-- Whether a byte right behind a part of the class would make it longer.
+abbrev pub run_of : Class → ℕ → Bool
+run_of Byte b = false
+run_of Name b = is_name_byte b
+run_of Word b = is_ascii_alphanumeric b
+run_of Number b = is_ascii_digit b
+run_of Endpoint b = is_ascii_digit b
+
+-- a text, and the class that says where it ends
+pub record Part : Type 0 where
+  pub class : Class
+  pub text : List ℕ
+
+-- the part of this class and text
+abbrev pub part : Class → List ℕ → Part
+part class text = record { class = class; text = text }
+
+-- the part that is one byte
+abbrev pub byte : ℕ → Part
+byte b = part Byte (b ∷ [])
+
+-- the texts of the parts, one behind the other
+abbrev pub texts : List Part → List ℕ
+texts parts = flat_map (λ (p : Part). p.text) parts

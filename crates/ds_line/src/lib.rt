@@ -1,0 +1,16 @@
+//! Change lines: the one spelling of each change, read and written.
+//!
+//! A line is `NAME KIND OWNER EPOCH.SEQ = VALUE`, or `-` for a tombstone, and ends with a newline. Bytes that
+//! begin with no line fault where the first part of one that can't be read begins. The format is of this project.
+#![tactic(auto)]
+
+mod fault;
+mod laws;
+mod parts;
+mod reading;
+mod writing;
+
+pub use fault::LineFault;
+pub use laws::{changes_have_one_line, faults_have_one_place, lines_are_apart, newlines_end_lines};
+pub use reading::read_change;
+pub use writing::{append_change, write_change};

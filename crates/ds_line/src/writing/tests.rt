@@ -1,0 +1,50 @@
+use super::*;
+use ds_entry::{Body, Change, Value};
+use ds_names::{Endpoint, Generation, Key, Kind, Name, Version};
+use std::test::Fail;
+
+fn change_of(name: &[u8], epoch: u32, slot: Option<u16>) -> Result<Change, Fail> {
+    let key = Key {
+        name: Name::read(name)?,
+        kind: Kind::Label,
+    };
+    let epoch = Generation::of(epoch).ok_or("a generation")?;
+    let (seq, body) = match slot {
+        Some(slot) => (
+            0,
+            Body::Put(Value::Label(Endpoint::of(epoch, slot).ok_or("an endpoint")?)),
+        ),
+        None => (1, Body::Gone),
+    };
+    Ok(Change::make(key, Name::read(b"rs")?, Version { epoch, seq }, body)?)
+}
+
+#[test]
+fn lines_are_written(rt: HostRuntime) -> Result<(), Fail> {
+    let alloc = rt.alloc();
+    let put = change_of(b"eth0", 2097151, Some(1023))?;
+    let gone = change_of(b"x.y_z-1", 7, None)?;
+    assert!(rt; put.key().kind == Kind::Label && gone.key().kind == Kind::Label);
+    let line = write_change(alloc, &put)?;
+    assert_eq!(rt;
+        line.as_slice(),
+        b"eth0 label rs 2097151.0 = 2097151/1023\n".as_slice()
+    );
+    let line = write_change(alloc, &gone)?;
+    assert_eq!(rt; line.as_slice(), b"x.y_z-1 label rs 7.1 -\n".as_slice());
+    Ok(())
+}
+
+#[test]
+fn lines_are_appended(rt: HostRuntime) -> Result<(), Fail> {
+    let gone = change_of(b"eth0", 7, None)?;
+    assert!(rt; gone.key().kind == Kind::Label);
+    let mut buffer = Vec::from_slice(rt.alloc(), b"shown\n")?;
+    append_change(&mut buffer, &gone)?;
+    append_change(&mut buffer, &gone)?;
+    assert_eq!(rt;
+        buffer.as_slice(),
+        b"shown\neth0 label rs 7.1 -\neth0 label rs 7.1 -\n".as_slice()
+    );
+    Ok(())
+}
