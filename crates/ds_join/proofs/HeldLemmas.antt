@@ -1,0 +1,125 @@
+-- What is held, in the order of the keys.
+use Rattle.std.proofs.Common.{◌≡◌, List, [], ◌∷◌, map, Bool, true, false, cond, ◌&&◌, Some, refl, sym, ap, ◌∙◌, subst, inl, inr, Contains}
+use Rattle.std.proofs.lemmas.Option.{same_Some}
+use Rattle.std.specs.declared.cmp.Ordering.{Ordering}
+use Rattle.std.specs.declared.cmp.Ordering.TheVariants.{Less, Equal, Greater}
+use Rattle.std.specs.Ordering.{is_eq, is_lt, eq_by_cmp}
+use Rattle.std.specs.List.{AllByRecursion}
+use Rattle.std.specs.List.Sorted.{IsStrictlySortedBy}
+use Rattle.std.specs.Cmp.{tied_itself, alike_right, Equal-is}
+use Rattle.std.specs.FinMap.{find, is_sorted, entries, entries_sorted, get-entries}
+use Rattle.std.specs.FinMap.Entries.{below_all}
+use lib.Dec.{T}
+use Rattle.ds_names.specs.declared.key.Key.{Key}
+use Rattle.ds_names.specs.Key.{key_cmp}
+use Rattle.ds_names.proofs.OrderLemmas.{keys_total}
+use Rattle.ds_entry.specs.Change.{ChangeRecord}
+use Rattle.ds_entry.specs.Covers.{change_cmp}
+use Rattle.ds_entry.proofs.Members.{In, In-from_Contains, Contains-from_In}
+use Rattle.ds_join.specs.Held.{Holding, held_changes, held_for, IsOwn}
+
+abbrev Entry : Type 0
+Entry = Key × ChangeRecord
+
+abbrev values_of : List Entry → List ChangeRecord
+values_of es = map (λ (e : Entry). e.1) es
+
+both : (a b : Bool) → T (a && b) → T a × T b
+both true b p = (tt, p)
+both false b p = absurd p
+
+less_from : (r : Ordering) → T (is_lt r) → r ≡ Less
+less_from Less l = refl
+less_from Equal l = absurd l
+less_from Greater l = absurd l
+
+not_both : (r : Ordering) → is_eq r ≡ true → T (is_lt r) → ⊥
+not_both Less e l = absurd (cc)
+not_both Equal e l = l
+not_both Greater e l = l
+
+-- a key that ties with one above another doesn't tie with that other
+unlike : (x q y : Key) → eq_by_cmp key_cmp q y ≡ true → T (is_lt (key_cmp x y)) → eq_by_cmp key_cmp q x ≡ false
+unlike x q y tied less =
+    elim (key_cmp q x) as (λ r. key_cmp q x ≡ r → is_eq r ≡ false) [
+      | Less ↦ λ _. refl
+      | Equal ↦ λ e. absurd (not_both (key_cmp q y) tied (subst (λ r. T (is_lt r)) (sym (keys_total.congr q x y e)) less))
+      | Greater ↦ λ _. refl
+    ] refl
+
+In-from_find : (q : Key) (v : ChangeRecord) (es : List Entry) → find key_cmp q es ≡ Some v → In v (values_of es)
+In-from_find q v [] h = absurd (cc)
+In-from_find q v (e ∷ es) h =
+    elim (eq_by_cmp key_cmp q e.0) as (λ b. cond b (Some e.1) (find key_cmp q es) ≡ Some v → In v (e.1 ∷ values_of es)) [
+      | true ↦ λ s. inl (sym (same_Some e.1 v s))
+      | false ↦ λ s. inr (In-from_find q v es s)
+    ] h
+
+-- a key that stands in a list isn't one below all of the list
+apart : (x q : Key) (v : ChangeRecord) (es : List Entry) → T (below_all key_cmp x es) → find key_cmp q es ≡ Some v → eq_by_cmp key_cmp q x ≡ false
+apart x q v [] below h = absurd (cc)
+apart x q v (e ∷ es) below h =
+    elim (eq_by_cmp key_cmp q e.0) as (λ b. eq_by_cmp key_cmp q e.0 ≡ b → cond b (Some e.1) (find key_cmp q es) ≡ Some v → eq_by_cmp key_cmp q x ≡ false) [
+      | true ↦ λ tied s. unlike x q e.0 tied (both _ _ below).0
+      | false ↦ λ _ s. apart x q v es (both _ _ below).1 s
+    ] refl h
+
+find_first : (e : Entry) (es : List Entry) → find key_cmp e.0 (e ∷ es) ≡ Some e.1
+find_first e es = ap (λ r. cond (is_eq r) (Some e.1) (find key_cmp e.0 es)) (tied_itself keys_total e.0)
+
+-- each value of a list in order is found at some key
+find_from_In : (v : ChangeRecord) (es : List Entry) → T (is_sorted key_cmp es) → In v (values_of es) → (k : Key) × (find key_cmp k es ≡ Some v)
+find_from_In v [] s h = absurd h
+find_from_In v (e ∷ es) s (inl here) = (e.0, find_first e es ∙ ap (λ x. Some x) (sym here))
+find_from_In v (e ∷ es) s (inr there) =
+    let later = find_from_In v es (both _ _ s).1 there in
+    (later.0, ap (λ b. cond b (Some e.1) (find key_cmp later.0 es)) (apart e.0 later.0 v es (both _ _ s).0 later.1) ∙ later.1)
+
+-- what is below all of a list is below each key that is found there
+below_found : (x q : Key) (v : ChangeRecord) (es : List Entry) → T (below_all key_cmp x es) → find key_cmp q es ≡ Some v → key_cmp x q ≡ Less
+below_found x q v [] below h = absurd (cc)
+below_found x q v (e ∷ es) below h =
+    elim (eq_by_cmp key_cmp q e.0) as (λ b. eq_by_cmp key_cmp q e.0 ≡ b → cond b (Some e.1) (find key_cmp q es) ≡ Some v → key_cmp x q ≡ Less) [
+      | true ↦ λ tied s. alike_right keys_total q e.0 x ((Equal-is (key_cmp q e.0)).0 tied) ∙ less_from (key_cmp x e.0) (both _ _ below).0
+      | false ↦ λ _ s. below_found x q v es (both _ _ below).1 s
+    ] refl h
+
+-- what holds of each element holds all along the list
+pub along : {X : Type 0} (P : X → Type 0) (xs : List X) → ((x : X) → In x xs → P x) → AllByRecursion P xs
+along P [] f = tt
+along P (x ∷ xs) f = (f x (inl refl), along P xs (λ y h. f y (inr h)))
+
+pub from_along : {X : Type 0} (P : X → Type 0) (xs : List X) (x : X) → AllByRecursion P xs → In x xs → P x
+from_along P [] x a h = absurd h
+from_along P (y ∷ ys) x a (inl e) = subst P (sym e) a.0
+from_along P (y ∷ ys) x a (inr h) = from_along P ys x a.1 h
+
+sorted_values : (es : List Entry) → T (is_sorted key_cmp es) → ((q : Key) (c : ChangeRecord) → find key_cmp q es ≡ Some c → c.key ≡ q) → IsStrictlySortedBy change_cmp (values_of es)
+unfolding IsStrictlySortedBy
+sorted_values [] s own = tt
+sorted_values (e ∷ es) s own =
+    let below = (both _ _ s).0 in
+    let own_rest : (q : Key) (c : ChangeRecord) → find key_cmp q es ≡ Some c → c.key ≡ q = λ q c h. own q c (ap (λ b. cond b (Some e.1) (find key_cmp q es)) (apart e.0 q c es below h) ∙ h) in (
+      along (λ (y : ChangeRecord). change_cmp e.1 y ≡ Less) (values_of es) (λ d h.
+          (let found = find_from_In d es (both _ _ s).1 h in
+          ap (λ k. key_cmp k d.key) (own e.0 e.1 (find_first e es)) ∙ ap (key_cmp e.0) (own_rest found.0 d found.1) ∙ below_found e.0 found.0 d es below found.1)),
+      sorted_values es (both _ _ s).1 own_rest,
+    )
+
+pub held_in_order : (h : Holding) → IsOwn h → IsStrictlySortedBy change_cmp (held_changes h)
+held_in_order h own = sorted_values (entries h.changes) (entries_sorted h.changes) (λ q c k. own q c (get-entries h.changes q ∙ k))
+
+-- what is held for a key is held
+pub Contains-held : (h : Holding) (key : Key) (c : ChangeRecord) → held_for h key ≡ Some c → Contains (held_changes h) c
+Contains-held h key c e = Contains-from_In c (held_changes h) (In-from_find key c (entries h.changes) (sym (get-entries h.changes key) ∙ e))
+
+-- what is held is held for its key
+pub held_at_key : (h : Holding) (c : ChangeRecord) → IsOwn h → Contains (held_changes h) c → held_for h c.key ≡ Some c
+held_at_key h c own k =
+    let found = find_from_In c (entries h.changes) (entries_sorted h.changes) (In-from_Contains c (held_changes h) k) in
+    let at : held_for h found.0 ≡ Some c = get-entries h.changes found.0 ∙ found.1 in
+    ap (λ (key : Key). held_for h key) (own found.0 c at) ∙ at
+
+-- of one key one change is held
+pub held_once : (h : Holding) → IsOwn h → (c d : ChangeRecord) → Contains (held_changes h) c → Contains (held_changes h) d → c.key ≡ d.key → c ≡ d
+held_once h own c d k l e = same_Some c d (sym (held_at_key h c own k) ∙ ap (λ (key : Key). held_for h key) e ∙ held_at_key h d own l)

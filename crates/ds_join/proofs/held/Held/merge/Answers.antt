@@ -1,0 +1,15 @@
+use Rattle.std.proofs.Common.{◌++◌, ◌∷◌, [], subst}
+use Rattle.std.specs.Result.{OnOk}
+use Rattle.ds_join.specs.Held.{Holding, held_changes}
+use Rattle.ds_join.specs.Top.{IsTop}
+use Rattle.ds_join.specs.Kept.{holding_of}
+use Rattle.ds_join.proofs.PlaceLemmas.{own_list}
+use Rattle.ds_join.proofs.MergeLemmas.{merge_joins}
+use Rattle.ds_join.proofs.held.Held.merge.Goals as goal
+
+pub returns-clause-joined : goal.returns-clause-joined
+returns-clause-joined c =
+    let old = holding_of c.self.inside.changes.items in
+    let new = holding_of c.merge_into.new.changes.items in
+    subst (λ (h : Holding). OnOk c.merge_into.result (IsTop (held_changes new) (held_changes h ++ c.args.change ∷ []))) c.self.view_is
+    (merge_joins old new c.args.change c.merge_into.result (own_list c.self.inside.changes.items) c.merge_into.ensures.answer c.merge_into.ensures.after)

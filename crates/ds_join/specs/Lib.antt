@@ -1,0 +1,7 @@
+pub mod Held
+pub mod Reading
+pub mod Top
+pub mod Join
+pub mod Merge
+pub mod Stop
+pub mod Kept

@@ -1,0 +1,133 @@
+//! Holders of changes.
+
+ghost use Rattle.std.specs.Prelude.{◌≡◌, ◌≤◌, ◌++◌, ◌∷◌, [], All, IfOk, IfErr, IfSome, OnOk, option_and_then};
+ghost use Rattle.std.specs.Option.{option_copied};
+ghost use Rattle.std.specs.List.{find};
+ghost use Rattle.ds_entry.specs.Change.{IsChange, IsValue};
+ghost use Rattle.ds_entry.specs.SingleNumbered.{IsSingleNumbered};
+ghost use Rattle.ds_join.specs.Held.{held_changes, held_for, held_count, nothing_held, IsOwn};
+ghost use Rattle.ds_join.specs.Reading.{value_of, comes_after};
+ghost use Rattle.ds_join.specs.Top.{IsTop};
+ghost use Rattle.ds_join.specs.Join.{IsJoin};
+ghost use Rattle.ds_join.specs.Merge.{MergeAnswer, after_merge};
+ghost use Rattle.ds_join.specs.Stop.{IsStopped};
+
+use crate::list::{change_at, join_into, merge_into};
+use crate::merge::{JoinFault, Merge, Stop};
+use crate::order::{copy_all, first_of};
+use ds_entry::{Body, Change, Items, Value};
+use ds_names::{Key, NoRoom};
+use std::alloc::Global;
+use std::marker::Model;
+
+#[cfg(test)]
+mod tests;
+
+/// For each key the change with the greatest version that came, tombstones too; at most 1024 keys.
+#[derive(Debug, Drop)]
+pub struct Held {
+    changes: Vec<Change>,
+}
+
+impl Model for Held {
+    ghost use Rattle.std.specs.FinMap as map;
+    ghost use Rattle.std.specs.Coded.{code_by};
+    ghost use Rattle.ds_names.specs.Key.{key_cmp};
+    ghost use Rattle.ds_names.specs.contracts.key.Key.{the_row as key_row};
+    ghost use Rattle.ds_entry.specs.Change.{ChangeRecord};
+    ghost use Rattle.ds_entry.specs.contracts.change.Change.{the_row as change_row};
+    ghost use Rattle.ds_join.specs.Held.{Holding};
+
+    ghost Value = { Holding };
+
+    ghost coded = { code_by (map.FinMap key_cmp ChangeRecord) (map.code key_row.coded change_row.coded) (λ h. h.changes) (λ m. record { changes = m }) (λ h i. h) };
+
+    ghost use Rattle.ds_join.specs.Kept.{holding_of, IsKept};
+
+    ghost view = { λ h. holding_of h.changes.items };
+
+    ghost invariant = { λ h. IsKept h.changes.items };
+}
+
+impl Held {
+    /// A holder of no change. It takes no memory.
+    pub fn new(alloc: Global) -> Held
+        ensures { result ≡ nothing_held }
+    {
+        Held {
+            changes: Vec::new(alloc),
+        }
+    }
+
+    /// How many keys are held, those of tombstones too: at most 1024.
+    pub fn len(&self) -> usize
+        ensures count { result ≡ held_count self.now }
+        ensures few { result ≤ 1024 }
+        ensures own { IsOwn self.now }
+        ensures changes { All IsChange (held_changes self.now) }
+    {
+        self.changes.len()
+    }
+
+    /// The change that is held for a key.
+    pub fn get(&self, key: &Key) -> Option<&Change>
+        ensures value { option_copied result ≡ held_for self.now key.now }
+        ensures own { IsOwn self.now }
+        ensures change { IfSome (option_copied result) IsChange }
+    {
+        change_at(&self.changes, key)
+    }
+
+    /// The value that stands under a key. A tombstone leaves none.
+    pub fn live(&self, key: &Key) -> Option<&Value>
+        ensures value { option_copied result ≡ option_and_then value_of (held_for self.now key.now) }
+        ensures valid { IfSome (option_copied result) IsValue }
+    {
+        match self.get(key)?.body() {
+            Body::Put(value) => Some(value),
+            Body::Gone => None,
+        }
+    }
+
+    /// The change of the least key, of those after another one where one is given.
+    pub fn first_after(&self, after: Option<&Key>) -> Option<&Change>
+        ensures value { option_copied result ≡ find (comes_after (option_copied after.entry)) (held_changes self.now) }
+        ensures change { IfSome (option_copied result) IsChange }
+    {
+        first_of(&self.changes, after)
+    }
+
+    /// All that is held, in the order of the keys.
+    pub fn all(&self, alloc: Global) -> Result<Items, NoRoom>
+        ensures value { IfOk result (λ items. items ≡ held_changes self.now) }
+        ensures changes { All IsChange (held_changes self.now) }
+    {
+        copy_all(alloc, &self.changes)
+    }
+
+    /// Takes a change over, unless what is held for its key covers it. What isn't refused leaves the join
+    /// of what was held and the change.
+    ///
+    /// A change of a held key takes its place and no memory. The causes of a refusal are judged in the
+    /// order of [`JoinFault`]'s variants, and a refusal changes nothing.
+    pub fn merge(&mut self, change: Change) -> Result<Merge, JoinFault>
+        ensures answer { MergeAnswer self.old change result }
+        ensures after { self.new ≡ after_merge self.old change result }
+        ensures joined { OnOk result (IsTop (held_changes self.new) (held_changes self.old ++ change ∷ [])) }
+        ensures change { IsChange change }
+    {
+        merge_into(&mut self.changes, change)
+    }
+
+    /// Merges all that another one holds, in the order of the keys, and stops at the first change that is
+    /// refused. It copies only changes that are taken, so it takes memory for those alone.
+    ///
+    /// Stale and known changes count as done. `Ok` leaves the join of both.
+    pub fn join(&mut self, alloc: Global, other: &Held) -> Result<(), Stop>
+        ensures joined { OnOk result (IsJoin (held_changes self.new) (held_changes self.old) (held_changes other.now)) }
+        ensures single { OnOk result (IsSingleNumbered (held_changes self.old ++ held_changes other.now)) }
+        ensures stopped { IfErr result (IsStopped self.old (held_changes other.now) self.new) }
+    {
+        join_into(alloc, &mut self.changes, &other.changes)
+    }
+}

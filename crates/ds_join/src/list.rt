@@ -1,0 +1,166 @@
+//! Changes of different keys in a list, in the order in which their keys came.
+
+ghost use Rattle.std.specs.Prelude.{◌≡◌, ◌<◌, ◌≤◌, ◌++◌, ◌∷◌, [], List, length, Some, None, IfErr, IfSome, OnOk, OnErr, take, vec_len, slice_index_or, slice_set};
+ghost use Rattle.std.specs.Option.{option_copied};
+ghost use Rattle.std.specs.List.{position_from};
+ghost use Rattle.std.specs.Ordering.{eq_by_cmp};
+ghost use Rattle.ds_names.specs.Key.{key_cmp};
+ghost use Rattle.ds_entry.specs.Change.{ChangeRecord, IsChange};
+ghost use Rattle.ds_entry.specs.SingleNumbered.{IsSingleNumbered};
+ghost use Rattle.ds_join.specs.Held.{held_changes, held_for};
+ghost use Rattle.ds_join.specs.Join.{IsJoin};
+ghost use Rattle.ds_join.specs.Merge.{AnswersHeld, AnswersNew, MergeAnswer, after_merge};
+ghost use Rattle.ds_join.specs.Stop.{IsStopped, IsRefused};
+ghost use Rattle.ds_join.specs.Kept.{holding_of, IsKept, changes_after};
+
+use crate::merge::{JoinFault, Merge, Stop};
+use crate::order::first_of;
+use ds_entry::Change;
+use ds_names::{Key, NoRoom};
+use std::alloc::Global;
+use std::cmp::Ordering;
+
+// The most keys that are held, those of tombstones too.
+const MOST_KEYS: usize = 1024;
+
+// Whether two keys are one. Names of other lengths differ without a look at their bytes.
+fn is_same_key(a: &Key, b: &Key) -> bool
+    ensures { result ≡ eq_by_cmp key_cmp a.now b.now }
+{
+    a == b
+}
+
+// Where the change of a key stands.
+fn place_of(changes: &[Change], key: &Key) -> Option<usize>
+    ensures { result ≡ position_from (λ (c : ChangeRecord). eq_by_cmp key_cmp key.now c.key) 0 changes.now }
+{
+    changes
+        .iter()
+        .position(|change| is_same_key(key, change.key()))
+}
+
+// The change of a key.
+pub(crate) fn change_at<'a>(changes: &'a [Change], key: &Key) -> Option<&'a Change>
+    requires { IsKept changes.now }
+    ensures value { option_copied result ≡ held_for (holding_of changes.now) key.now }
+    ensures change { IfSome (option_copied result) IsChange }
+{
+    match place_of(changes, key) {
+        Some(i) => Some(&changes[i]),
+        None => None,
+    }
+}
+
+// What the change of a held key is answered.
+fn judge(held: &Change, change: &Change) -> Result<Merge, JoinFault>
+    requires { held.now.key ≡ change.now.key }
+    ensures { AnswersHeld held.now change.now result }
+{
+    if held.owner() != change.owner() {
+        return Err(JoinFault::NotOwner);
+    }
+    let version = change.version();
+    match held.version().compare(&version) {
+        Ordering::Less => Ok(Merge::Taken),
+        Ordering::Greater => Ok(Merge::Stale),
+        Ordering::Equal if held.body() == change.body() => Ok(Merge::Known),
+        Ordering::Equal => Err(JoinFault::Clash { version }),
+    }
+}
+
+// Merges the change of a held key, which takes the place of the one that it covers.
+fn replace(changes: &mut Vec<Change>, i: usize, change: Change) -> Result<Merge, JoinFault>
+    requires within { i < vec_len changes.old }
+    requires same_key { (d : ChangeRecord) → (slice_index_or changes.old.items i d).key ≡ change.key }
+    ensures answer { AnswersHeld (slice_index_or changes.old.items i change) change result }
+    ensures items { changes.new.items ≡ changes_after changes.old.items (slice_set changes.old.items i change) result }
+{
+    let answer = judge(&changes[i], &change)?;
+    if answer == Merge::Taken {
+        changes[i] = change;
+    }
+    Ok(answer)
+}
+
+// Merges the change of a key that isn't held.
+fn add(changes: &mut Vec<Change>, change: Change) -> Result<Merge, JoinFault>
+    requires { vec_len changes.old ≤ 1024 }
+    ensures answer { AnswersNew (length changes.old.items) result }
+    ensures items { changes.new.items ≡ changes_after changes.old.items (changes.old.items ++ change ∷ []) result }
+{
+    if changes.len() >= MOST_KEYS {
+        return Err(JoinFault::Full);
+    }
+    match changes.push(change) {
+        Ok(()) => Ok(Merge::Taken),
+        Err(_) => Err(JoinFault::NoRoom),
+    }
+}
+
+// Merges a change.
+pub(crate) fn merge_into(changes: &mut Vec<Change>, change: Change) -> Result<Merge, JoinFault>
+    requires { IsKept changes.old.items }
+    ensures answer { MergeAnswer (holding_of changes.old.items) change result }
+    ensures after { holding_of changes.new.items ≡ after_merge (holding_of changes.old.items) change result }
+    ensures kept { IsKept changes.new.items }
+    ensures change { IsChange change }
+{
+    match place_of(changes, change.key()) {
+        Some(i) => replace(changes, i, change),
+        None => add(changes, change),
+    }
+}
+
+// What the merge of a change will be answered, where there is memory for it.
+fn outlook(changes: &[Change], change: &Change) -> Result<Merge, JoinFault>
+    requires { IsKept changes.now }
+    ensures { MergeAnswer (holding_of changes.now) change.now result }
+{
+    match change_at(changes, change.key()) {
+        Some(held) => judge(held, change),
+        None if changes.len() >= MOST_KEYS => Err(JoinFault::Full),
+        None => Ok(Merge::Taken),
+    }
+}
+
+// Merges a change that another holder keeps: it is copied only where it will be taken.
+fn merge_copy(alloc: Global, changes: &mut Vec<Change>, change: &Change) -> Result<Merge, JoinFault>
+    requires { IsKept changes.old.items }
+    ensures answer { OnOk result (MergeAnswer (holding_of changes.old.items) change.now result) }
+    ensures refused { IfErr result (IsRefused (holding_of changes.old.items) change.now) }
+    ensures after { holding_of changes.new.items ≡ after_merge (holding_of changes.old.items) change.now result }
+    ensures kept { IsKept changes.new.items }
+{
+    match outlook(changes, change)? {
+        Merge::Taken => match change.copy(alloc) {
+            Ok(copy) => merge_into(changes, copy),
+            Err(NoRoom) => Err(JoinFault::NoRoom),
+        },
+        other => Ok(other),
+    }
+}
+
+// Merges what another holder keeps, in the order of the keys.
+pub(crate) fn join_into(
+    alloc: Global,
+    changes: &mut Vec<Change>,
+    other: &[Change],
+) -> Result<(), Stop>
+    requires kept { IsKept changes.old.items }
+    requires other { IsKept other.now }
+    ensures joined { OnOk result (IsJoin (held_changes (holding_of changes.new.items)) (held_changes (holding_of changes.old.items)) (held_changes (holding_of other.now))) }
+    ensures single { OnOk result (IsSingleNumbered (held_changes (holding_of changes.old.items) ++ held_changes (holding_of other.now))) }
+    ensures stopped { IfErr result (IsStopped (holding_of changes.old.items) (held_changes (holding_of other.now)) (holding_of changes.new.items)) }
+    ensures kept { IsKept changes.new.items }
+{
+    let mut done = 0;
+    let mut last: Option<Key> = None;
+    while let Some(change) = first_of(other, last.as_ref()) {
+        match merge_copy(alloc, changes, change) {
+            Ok(_) => done += 1,
+            Err(fault) => return Err(Stop { done, fault }),
+        }
+        last = Some(*change.key());
+    }
+    Ok(())
+}
