@@ -1,0 +1,7 @@
+pub mod NewlineLemmas
+pub mod PickLemmas
+pub mod CommandLemmas
+pub mod ResultLemmas
+pub mod HeldLemmas
+pub mod RunLemmas
+pub mod EndLemmas

@@ -1,0 +1,5 @@
+pub mod Lines
+pub mod Transfer
+pub mod Command
+pub mod Answer
+pub mod Replay

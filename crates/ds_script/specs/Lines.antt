@@ -1,0 +1,29 @@
+-- The lines of an input.
+use Rattle.std.specs.Prelude.{◌≡◌, ◌≢◌, ℕ, List, [], ◌∷◌, ◌++◌}
+use Rattle.std.specs.List.{All, flat_map}
+
+-- no newline is in it
+abbrev pub IsUnbroken : List ℕ → Type 0
+IsUnbroken line = All (λ (b : ℕ). b ≢ 10) line
+
+-- a line with its newline
+abbrev pub ended : List ℕ → List ℕ
+ended line = line ++ 10 ∷ []
+
+-- lines one behind the other, each with its newline
+abbrev pub joined : List (List ℕ) → List ℕ
+joined lines = flat_map ended lines
+
+-- What stands behind the last newline is a line too, unless nothing stands there.
+abbrev pub unended : List ℕ → List (List ℕ)
+unended [] = []
+unended (b ∷ bs) = (b ∷ bs) ∷ []
+
+-- the input has these lines, and the newline of the last one may be missing
+pub record HasLines (input : List ℕ) (lines : List (List ℕ)) : Type 0 where
+  pub front : List (List ℕ)
+  pub last : List ℕ
+  pub text : input ≡ joined front ++ last
+  pub unbroken : All IsUnbroken front
+  pub unbroken_last : IsUnbroken last
+  pub all : lines ≡ front ++ unended last

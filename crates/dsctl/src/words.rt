@@ -1,0 +1,112 @@
+//! The words of the command line.
+
+use clap::error::ErrorKind;
+use clap::{ArgMatches, Command, Error};
+use std::alloc::{AllocError, Global};
+use std::io;
+use std::rt::Runtime;
+
+/// What the words ask for, or how they were answered.
+#[derive(Clone, Copy, Debug, PartialEq, Eq)]
+pub enum Words {
+    /// To answer a script.
+    Replay,
+    /// Help or the version was asked for, and stands on standard output.
+    Shown,
+    /// They are none of the program's, as standard error says.
+    Usage,
+    /// There was no memory to read them.
+    NoRoom,
+    /// Help or the version could not be written.
+    WriteFault,
+}
+
+const ABOUT: &str = "Replays a script against a data store in the manner of MINIX 3's DS, and prints each answer";
+
+const LONG_ABOUT: &str = "\
+Replays a script against a data store in the manner of MINIX 3's DS, and prints each answer.
+
+The script is read from standard input, one command a line, and each answer is printed before the next
+line is waited for. The store keeps, for each name and kind, the change with the greatest version: a
+late or repeated message never brings a dead driver's endpoint back.
+
+Lines of a script:
+  offer CHANGE   merge one change into what is held; the answer is `taken`, `known` or `stale`
+  show           print the entries that stand, in order of their keys, then `shown N`
+  all            the same with tombstones
+
+A change is a line `NAME label rs EPOCH.0 = GENERATION/SLOT`, which puts the label NAME for the endpoint
+of that generation and slot, or `NAME label rs EPOCH.1 -`, which says that this generation is gone. The
+epoch is the endpoint's generation. A change that can't be merged is answered by `refused` and a word.";
+
+const AFTER_HELP: &str = "\
+Example session (lines behind `>` are typed, the others are printed):
+  > offer eth0 label rs 3.0 = 3/17
+  taken
+  > offer eth0 label rs 2.0 = 2/9
+  stale
+  > show
+  eth0 label rs 3.0 = 3/17
+  shown 1
+
+Exit status:
+  0  the whole script was answered
+  1  a line can't be read: `badline LINE PLACE` is printed, lines counted from 1 and bytes from 0
+  2  the words of the command line are wrong
+  3  memory, reading or writing failed: standard error has `noroom`, `readfault` or `writefault`";
+
+/// Reads the words that the program was started with. Answers a wrong word, or a wish for help, itself.
+pub fn read<R: Runtime + AllocGlobal>(rt: &R) -> Words {
+    let given = match std::env::args(rt) {
+        Ok(given) => given,
+        Err(error) if error.kind() == io::ErrorKind::OutOfMemory => return Words::NoRoom,
+        Err(_) => {
+            let _ = eprintln!(rt; "error: a word of the command line isn't UTF-8");
+            return Words::Usage;
+        }
+    };
+    let mut words: Vec<String> = Vec::new(rt.alloc());
+    for word in given {
+        // Not `collect`, which goes on where a growth was refused and asks for less.
+        if words.push(word).is_err() {
+            return Words::NoRoom;
+        }
+    }
+    match parse(rt.alloc(), &words) {
+        Ok(()) => Words::Replay,
+        Err(error) => answer(rt, &error),
+    }
+}
+
+// Whether the words are the program's. The one subcommand is also what none means.
+fn parse<'a>(alloc: Global, words: &'a [String]) -> Result<(), Error> {
+    let program: Command<'a> = command(alloc)?;
+    let _matches: ArgMatches<'a> = program.try_get_matches_from(words)?;
+    Ok(())
+}
+
+// The command line of the program.
+fn command<'a>(alloc: Global) -> Result<Command<'a>, AllocError> {
+    let replay = Command::new(alloc, "replay").about("Answer a script; no subcommand means this one");
+    let program = Command::new(alloc, "dsctl")
+        .version("0.1.0")
+        .about(ABOUT)
+        .long_about(LONG_ABOUT)
+        .after_help(AFTER_HELP)
+        .disable_help_subcommand(true)
+        .subcommand(replay)?;
+    Ok(program)
+}
+
+// Prints what `clap` has to say: a usage fault on standard error, help or the version on standard output.
+fn answer(rt: &impl Runtime, error: &Error) -> Words {
+    if matches!(error.kind(), ErrorKind::OutOfMemory) {
+        return Words::NoRoom;
+    }
+    let printed = error.print(rt);
+    match (error.use_stderr(), printed) {
+        (true, _) => Words::Usage,
+        (false, Ok(())) => Words::Shown,
+        (false, Err(_)) => Words::WriteFault,
+    }
+}
