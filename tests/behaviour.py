@@ -178,7 +178,8 @@ def a_million_lines(program):
 
 def a_long_show(program):
     """Many lists in a row, far longer together than the memory that is there."""
-    script = b"".join(b"offer driver-%04d label rs 1.0 = 1/16\n" % at for at in range(1000)) + b"show\n" * 2500
+    names = [b"driver-%04d".ljust(64, b"-") % at for at in range(1000)]
+    script = b"".join(b"offer %s label rs 1.0 = 1/16\n" % name for name in names) + b"show\n" * 850
     with tempfile.TemporaryFile() as given:
         given.write(script)
         given.seek(0)
