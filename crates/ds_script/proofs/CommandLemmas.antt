@@ -1,5 +1,5 @@
 -- What stands at the front of a line that is a command's, or isn't.
-use Rattle.std.proofs.Common.{◌≡◌, ◌≢◌, ℕ, zero, suc, ◌+◌, ◌-◌, ◌<◌, ◌≤◌, true, List, [], ◌∷◌, ◌++◌, length, take, drop, refl, sym, ap, subst, ◌∙◌, arith, append_assoc, append-nil, length-append, take-append-drop}
+use Rattle.std.proofs.Common.{◌≡◌, ◌≢◌, ℕ, suc, ◌+◌, ◌-◌, true, List, [], ◌∷◌, ◌++◌, length, take, drop, refl, sym, ap, subst, ◌∙◌, arith, append_assoc, append-nil, length-append, take-append-drop}
 use Rattle.std.specs.List.{All, list_all}
 use Rattle.std.specs.Char.{is_ascii_alphanumeric}
 use Rattle.std.proofs.lemmas.List.Elements.{All-head, All-tail}
@@ -7,10 +7,10 @@ use Rattle.ds_names.specs.declared.kind.Kind.TheVariants.{U32}
 use Rattle.ds_names.specs.Run.{Begins}
 use Rattle.ds_entry.specs.declared.body.Body.TheVariants.{Gone}
 use Rattle.ds_entry.specs.Change.{ChangeRecord, change_of, IsChange, rs_name}
-use Rattle.ds_line.specs.Part.{Part, part, texts, Word, Byte, run_of}
+use Rattle.ds_line.specs.Part.{texts, Word}
 use Rattle.ds_line.specs.Spelling.{change_parts, spelling, HasLine}
 use Rattle.ds_line.specs.LastNewline.{EndsLine}
-use Rattle.ds_line.specs.FaultPlace.{Stand, CanRead, StopsAt, IsFaultPlace, IsLineFault}
+use Rattle.ds_line.specs.FaultPlace.{Stand, IsLineFault}
 use Rattle.ds_line.proofs.LabelLemmas.{rs_is_name}
 use Rattle.ds_line.proofs.NewlineLemmas.{line_ends}
 use Rattle.ds_line.proofs.PartLemmas.{part_one, byte_begins}

@@ -1,9 +1,8 @@
 -- How a replay ends.
-use Rattle.std.proofs.Common.{◌≡◌, ◌≢◌, ℕ, zero, suc, ◌+◌, ◌<◌, ◌≤◌, List, [], ◌∷◌, ◌++◌, length, map, Option, Some, None, Result, Ok, Err, IfOk, IfErr, refl, sym, ap, subst, ◌∙◌, ◌⊎◌, inl, inr, arith, append_assoc, append-nil, length-append}
-use Rattle.std.specs.List.{All, Contains}
-use Rattle.std.specs.FinMap.{empty, len, entries, len-entries, len-empty}
+use Rattle.std.proofs.Common.{◌≡◌, ◌≢◌, ℕ, ◌+◌, List, [], ◌∷◌, ◌++◌, length, Option, Some, Result, Ok, Err, IfOk, IfErr, refl, sym, ap, subst, ◌∙◌, ◌⊎◌, inl, inr, arith, append_assoc, append-nil, length-append}
+use Rattle.std.specs.FinMap.{empty, entries, len-entries, len-empty}
 use Rattle.std.specs.Io.KnownBytes.{Appends, Consumes, IsAtEnd}
-use Rattle.std.proofs.KnownBytes.{Appends-nil, Appends-trans, Consumes-nil}
+use Rattle.std.proofs.KnownBytes.{Appends-nil, Appends-trans}
 use Rattle.std.proofs.lemmas.List.{length-map}
 use Rattle.std.proofs.lemmas.List.Elements.{All-nil}
 use Rattle.ds_names.specs.Key.{key_cmp}
@@ -11,12 +10,10 @@ use Rattle.ds_entry.specs.Change.{ChangeRecord}
 use Rattle.ds_join.specs.Held.{Holding, nothing_held, held_changes}
 use Rattle.ds_script.specs.declared.fault.ReplayFault.{ReplayFault}
 use Rattle.ds_script.specs.declared.fault.ReplayFault.TheVariants.{BadLine, ReadFault, WriteFault, NoRoom}
-use Rattle.ds_script.specs.declared.turn.Stop.{Stop}
 use Rattle.ds_script.specs.declared.turn.Stop.TheVariants as stops
-use Rattle.ds_script.specs.Lines.{IsUnbroken, ended, joined, unended, HasLines}
-use Rattle.ds_script.specs.Command.{IsBadLine}
-use Rattle.ds_script.specs.Answer.{AnswersLine, AnswersLines, AllHaveLines}
-use Rattle.ds_script.specs.Replay.{Answers, AnswersText, Goes, Leaves, Replays, Stopped, Unwritten, StopsWith, BeginsBadLine, Written, Reported, Finishes}
+use Rattle.ds_script.specs.Lines.{IsUnbroken, joined, unended, HasLines}
+use Rattle.ds_script.specs.Answer.{AnswersLine, AllHaveLines}
+use Rattle.ds_script.specs.Replay.{Answers, Goes, Leaves, Replays, Stopped, Unwritten, StopsWith, Written, Reported, Finishes}
 use Rattle.ds_script.proofs.RunLemmas.{answers_sent, answers_then}
 
 pub nothing : (bs : List ℕ) → length bs ≡ 0 → bs ≡ []

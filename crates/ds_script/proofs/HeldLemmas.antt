@@ -1,6 +1,5 @@
 -- What is held has lines, since what is offered has one.
-use Rattle.std.proofs.Common.{◌≡◌, ◌++◌, ◌∷◌, [], List, Result, Ok, Err, OnOk, ◌⊎◌, inl, inr, sym, subst}
-use Rattle.std.specs.List.{Contains}
+use Rattle.std.proofs.Common.{◌≡◌, ◌++◌, ◌∷◌, [], Result, Ok, Err, OnOk, inl, inr, sym, subst}
 use Rattle.std.proofs.lemmas.List.Elements.{Contains-push_cases}
 use Rattle.ds_entry.specs.Change.{ChangeRecord}
 use Rattle.ds_line.specs.Spelling.{HasLine}

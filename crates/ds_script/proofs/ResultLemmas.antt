@@ -1,5 +1,5 @@
 -- What holds of a call that went well, or that failed.
-use Rattle.std.proofs.Common.{◌≡◌, Bool, true, false, not, sym, ap, ◌∙◌, Option, Some, None, Result, Ok, Err, OnOk, OnErr, refl}
+use Rattle.std.proofs.Common.{◌≡◌, Bool, true, not, sym, ap, ◌∙◌, Option, Some, None, Result, Ok, Err, OnOk, OnErr, refl}
 use Rattle.std.specs.Option.{is_some}
 use Rattle.std.proofs.lemmas.Bool.{false≢true}
 

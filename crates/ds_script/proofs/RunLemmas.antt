@@ -1,13 +1,12 @@
 -- Lines that are read and answered, one after the other.
-use Rattle.std.proofs.Common.{◌≡◌, ◌≢◌, ℕ, zero, suc, ◌+◌, ◌-◌, ◌<◌, ◌≤◌, List, [], ◌∷◌, ◌++◌, length, take, drop, Option, Some, None, refl, sym, ap, subst, ◌∙◌, ◌⊎◌, inl, inr, arith, append_assoc, append-nil, length-append}
-use Rattle.std.specs.List.{All, flat_map}
-use Rattle.std.specs.Io.KnownBytes.{Appends, Consumes, IsAtEnd}
+use Rattle.std.proofs.Common.{◌≡◌, ℕ, ◌+◌, ◌-◌, ◌<◌, ◌≤◌, List, [], ◌∷◌, ◌++◌, length, drop, Option, Some, None, refl, sym, ap, subst, ◌∙◌, inl, inr, arith, append_assoc, append-nil, length-append}
+use Rattle.std.specs.Io.KnownBytes.{Appends, Consumes}
 use Rattle.std.proofs.KnownBytes.{Appends-nil, Appends-trans, Consumes-nil, Consumes-trans}
 use Rattle.std.proofs.lemmas.List.{drop_at}
-use Rattle.std.proofs.lemmas.List.Elements.{All-nil, All-cons, All-append, All-push}
+use Rattle.std.proofs.lemmas.List.Elements.{All-nil, All-append, All-push}
 use Rattle.std.proofs.lemmas.List.Concat.{flat_map-append}
-use Rattle.ds_join.specs.Held.{Holding, nothing_held}
-use Rattle.ds_script.specs.Lines.{IsUnbroken, ended, joined, unended}
+use Rattle.ds_join.specs.Held.{Holding}
+use Rattle.ds_script.specs.Lines.{IsUnbroken, ended, joined}
 use Rattle.ds_script.specs.Answer.{AnswersLine, AnswersLines}
 use Rattle.ds_line.specs.LastNewline.{EndsLine}
 use Rattle.ds_script.specs.declared.turn.Answered.{Answered}

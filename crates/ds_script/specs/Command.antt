@@ -1,5 +1,5 @@
 -- The lines of commands, part by part.
-use Rattle.std.specs.Prelude.{◌≡◌, ◌≢◌, ℕ, ◌<◌, ◌≤◌, ◌⊎◌, List, [], ◌∷◌, ◌++◌, length, Result, Ok, Err}
+use Rattle.std.specs.Prelude.{◌≡◌, ◌≢◌, ℕ, ◌<◌, ◌≤◌, ◌⊎◌, List, [], ◌∷◌, length, Result, Ok, Err}
 use Rattle.ds_entry.specs.Change.{IsChange}
 use Rattle.ds_line.specs.Part.{Part, part, texts, Word}
 use Rattle.ds_line.specs.Spelling.{space, newline, change_parts, HasLine}

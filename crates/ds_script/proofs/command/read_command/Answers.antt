@@ -1,11 +1,10 @@
-use Rattle.std.proofs.Common.{◌≡◌, ◌≢◌, sym, ap, subst, take, drop, ◌∙◌, refl, true}
+use Rattle.std.proofs.Common.{◌≡◌, ◌≢◌, sym, ap, take, drop, ◌∙◌, true}
 use Rattle.std.specs.List.{list_all}
 use Rattle.std.specs.Char.{is_ascii_alphanumeric}
 use Rattle.std.proofs.lemmas.List.Sums.{prefix_len-le-length}
 use Rattle.std.proofs.lemmas.Slice.Eq.{slice_eq-Decides}
 use Rattle.std.proofs.lemmas.Bool.Decides.{Decides-eqb}
 use Rattle.std.proofs.lemmas.Bool.{false≢true}
-use Rattle.ds_names.specs.Run.{Begins}
 use Rattle.ds_names.proofs.DecimalLemmas.{run_parts}
 use Rattle.ds_line.proofs.PartLemmas.{run_begins}
 use Rattle.ds_script.specs.Command.{offer_word, show_word, all_word}

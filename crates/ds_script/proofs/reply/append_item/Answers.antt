@@ -1,4 +1,4 @@
-use Rattle.std.proofs.Common.{sym, ◌∙◌}
+use Rattle.std.proofs.Common.{sym}
 use Rattle.ds_script.proofs.PickLemmas.{got_contained, got_none}
 use Rattle.ds_script.proofs.reply.append_item.Goals as goal
 

@@ -1,4 +1,4 @@
-use Rattle.std.proofs.Common.{◌≡◌, ◌++◌, List, ℕ, Result, OnErr, ◌+◌, ◌≤◌, sym, ap, ◌∙◌, arith}
+use Rattle.std.proofs.Common.{◌∙◌, arith}
 use Rattle.ds_script.proofs.PickLemmas.{lines_more, count_more}
 use Rattle.ds_script.proofs.ResultLemmas.{on_err}
 use Rattle.ds_script.proofs.reply.append_lines.Goals as goal

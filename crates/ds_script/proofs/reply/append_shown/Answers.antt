@@ -1,4 +1,4 @@
-use Rattle.std.proofs.Common.{◌≡◌, sym, subst, Contains, List}
+use Rattle.std.proofs.Common.{subst, Contains, List}
 use Rattle.ds_entry.specs.Change.{ChangeRecord}
 use Rattle.ds_script.proofs.reply.append_shown.Goals as goal
 

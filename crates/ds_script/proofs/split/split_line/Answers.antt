@@ -1,4 +1,4 @@
-use Rattle.std.proofs.Common.{◌≡◌, ◌++◌, ◌+◌, ◌≤◌, length, take, drop, Fits, w64, sym, ap, ◌∙◌, arith, take-append-drop, subst}
+use Rattle.std.proofs.Common.{◌+◌, sym, ◌∙◌, arith, take-append-drop, subst}
 use Rattle.ds_line.specs.LastNewline.{EndsLine}
 use Rattle.ds_script.proofs.NewlineLemmas.{BreaksAt, breaks_at, ends_line, unbroken}
 use Rattle.ds_script.proofs.split.split_line.Goals as goal

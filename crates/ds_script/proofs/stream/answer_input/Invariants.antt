@@ -1,4 +1,4 @@
-use Rattle.std.proofs.Common.{◌≡◌, ◌≤◌, ◌*◌, ◌+◌, [], length, vec_len}
+use Rattle.std.proofs.Common.{◌≤◌, ◌*◌, [], vec_len}
 use Rattle.ds_script.specs.Lines.{IsUnbroken}
 use Rattle.ds_script.specs.Answer.{AllHaveLines}
 use Rattle.ds_script.specs.Replay.{Goes}

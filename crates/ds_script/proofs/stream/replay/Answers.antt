@@ -1,7 +1,7 @@
-use Rattle.std.proofs.Common.{◌≡◌, ◌≢◌, ◌+◌, [], List, ℕ, Option, Some, refl, sym, ap, ◌∙◌, subst}
+use Rattle.std.proofs.Common.{◌+◌, [], ℕ, Some, refl, sym, ap, ◌∙◌, subst}
 use Rattle.std.proofs.KnownBytes.{Appends-nil, Consumes-nil}
 use Rattle.std.proofs.lemmas.List.Elements.{All-nil}
-use Rattle.ds_join.specs.Held.{Holding, nothing_held}
+use Rattle.ds_join.specs.Held.{nothing_held}
 use Rattle.ds_script.specs.declared.fault.ReplayFault.TheVariants.{BadLine, ReadFault, NoRoom}
 use Rattle.ds_script.specs.declared.turn.Stop.{Stop}
 use Rattle.ds_script.specs.Lines.{IsUnbroken}

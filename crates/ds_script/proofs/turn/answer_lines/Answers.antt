@@ -1,4 +1,4 @@
-use Rattle.std.proofs.Common.{◌≡◌, ◌++◌, ◌∷◌, [], ◌-◌, List, ℕ, length, drop, refl, sym, ap, ◌∙◌, subst, arith, length-append}
+use Rattle.std.proofs.Common.{◌∷◌, [], ◌-◌, List, ℕ, length, drop, refl, sym, ap, ◌∙◌, subst, arith, length-append}
 use Rattle.ds_script.specs.Lines.{IsUnbroken}
 use Rattle.ds_script.specs.Replay.{AnswersText}
 use Rattle.ds_script.proofs.RunLemmas.{text_more, text_sent, text_rest, line_leaves}

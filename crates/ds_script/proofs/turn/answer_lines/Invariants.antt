@@ -1,4 +1,4 @@
-use Rattle.std.proofs.Common.{◌≡◌, ◌≤◌, ◌+◌, length}
+use Rattle.std.proofs.Common.{◌≤◌, ◌+◌, length}
 use Rattle.ds_script.specs.Answer.{AllHaveLines}
 use Rattle.ds_script.specs.Replay.{AnswersText}
 use Rattle.ds_script.proofs.turn.answer_lines.Given as goal

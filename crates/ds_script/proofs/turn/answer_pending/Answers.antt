@@ -1,4 +1,4 @@
-use Rattle.std.proofs.Common.{◌≡◌, ◌<◌, List, ℕ, Option, None, length, drop, refl, sym, ap, ◌∙◌, subst, arith}
+use Rattle.std.proofs.Common.{◌≡◌, ◌<◌, List, ℕ, Option, None, length, drop, sym, ap, ◌∙◌, subst, arith}
 use Rattle.ds_script.specs.declared.turn.Stop.{Stop}
 use Rattle.ds_script.specs.Replay.{AnswersText, Leaves}
 use Rattle.ds_script.proofs.ResultLemmas.{none_of}

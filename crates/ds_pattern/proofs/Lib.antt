@@ -1,0 +1,2 @@
+pub mod PrintableLemmas
+pub mod RegexLemmas

@@ -1,0 +1,33 @@
+-- What a pattern is, and why a text is none.
+use Rattle.std.specs.Prelude.{Bool, ℕ, ◌<◌, ◌≤◌, ◌&&◌, IsTrue, IsFalse, List, length, ⊤}
+use Rattle.regex.specs.declared.error.Error as regex
+use Rattle.regex.specs.declared.error.Error.TheVariants.{Syntax}
+use Rattle.ds_pattern.specs.declared.pattern.PatternFault.{PatternFault}
+use Rattle.ds_pattern.specs.declared.pattern.PatternFault.TheVariants.{TooLong, BadPattern, NoRoom}
+use Rattle.ds_pattern.specs.Under.{anchored, is_printable, is_regex}
+
+-- printable ASCII that `regex` reads, both by itself and within `^(?:` and `)$`
+unfoldable pub is_pattern : List ℕ → Bool
+is_pattern p = is_printable p && is_regex p && is_regex (anchored p)
+
+-- at most 128 bytes of it
+pub record IsPattern (p : List ℕ) : Type 0 where
+  pub limit : length p ≤ 128
+  pub accepted : IsTrue (is_pattern p)
+
+-- The fault is the first that the text has. Want of room says nothing of how `regex` reads the text.
+abbrev pub IsPatternFault : PatternFault → List ℕ → Type 0
+IsPatternFault TooLong p = 128 < length p
+IsPatternFault BadPattern p = (length p ≤ 128) × IsFalse (is_pattern p)
+IsPatternFault NoRoom p = (length p ≤ 128) × IsTrue (is_printable p)
+
+-- the same, of what `regex` reads in a text
+abbrev pub IsSyntaxFault : PatternFault → List ℕ → Type 0
+IsSyntaxFault TooLong text = ⊥
+IsSyntaxFault BadPattern text = IsFalse (is_regex text)
+IsSyntaxFault NoRoom text = ⊤
+
+-- an error of syntax is a fault of the pattern, and each other one is want of room
+abbrev pub fault_of : regex.Error → PatternFault
+fault_of (Syntax e) = BadPattern
+fault_of _ = NoRoom

@@ -1,0 +1,54 @@
+//! Queries whose pattern was read.
+
+ghost use Rattle.std.specs.Prelude.{◌≡◌, Ok, false, IsFalse, IfOk, IfErr};
+ghost use Rattle.ds_names.specs.Kind.{names_kind};
+ghost use Rattle.ds_pattern.specs.Under.{is_under};
+ghost use Rattle.ds_pattern.specs.Patterns.{IsPattern, IsPatternFault};
+
+use crate::pattern::{Pattern, PatternFault};
+use crate::query::Query;
+use ds_names::{Key, Kinds, NoRoom};
+use std::alloc::Global;
+use std::marker::Model;
+
+/// A query that was taken up: it tells which keys are under it.
+#[derive(Debug, Drop)]
+pub struct Filter {
+    pattern: Pattern,
+    kinds: Kinds,
+}
+
+impl Model for Filter {
+    ghost use Rattle.ds_pattern.specs.declared.query.Query.{Query};
+    ghost use Rattle.ds_pattern.specs.Under.{query_of};
+
+    ghost Value = { Query };
+
+    ghost view = { λ f. query_of f.pattern f.kinds };
+}
+
+impl Filter {
+    /// Takes up a query. It is refused as its pattern is.
+    pub fn read(alloc: Global, query: &Query) -> Result<Filter, PatternFault>
+        ensures read { IfOk result (λ filter. filter ≡ query.now) }
+        ensures pattern { IfOk result (λ filter. IsPattern filter.text) }
+        ensures refused { IfErr result (λ fault. IsPatternFault fault query.now.text) }
+    {
+        Ok(Filter {
+            pattern: Pattern::read(alloc, &query.text)?,
+            kinds: query.kinds,
+        })
+    }
+
+    /// Whether a key is under the query: it is of a kind that the query names, and the pattern matches its
+    /// name whole. For a key of another kind no pattern is built.
+    pub fn admits(&self, alloc: Global, key: &Key) -> Result<bool, NoRoom>
+        ensures under { IfOk result (λ yes. yes ≡ is_under self.now key.now) }
+        ensures other_kind { IsFalse (names_kind self.now.kinds key.now.kind) → result ≡ Ok false }
+    {
+        if !self.kinds.has(key.kind) {
+            return Ok(false);
+        }
+        self.pattern.matches(alloc, &key.name)
+    }
+}

@@ -1,0 +1,17 @@
+//! Patterns over the names of entries, and queries made of them.
+//!
+//! A subscription of MINIX 3's data store (DS) names the entries that it is about by a regular expression over
+//! their names (the DS interface of MINIX 3; Herder and others, DSN 2007). That a pattern matches the whole
+//! name, that it has the syntax of the crate `regex`, that a query also names kinds, and the limits, are of
+//! this project.
+#![tactic(auto)]
+
+mod filter;
+mod pattern;
+mod query;
+#[cfg(test)]
+mod tests;
+
+pub use filter::Filter;
+pub use pattern::{Pattern, PatternFault};
+pub use query::{PatternText, Query};

@@ -1,0 +1,85 @@
+//! Queries: what a subscriber asks for, before its pattern is read.
+
+ghost use Rattle.std.specs.Prelude.{◌≡◌, ℕ, IfOk};
+ghost use Rattle.std.specs.Bool.{◌==◌};
+ghost use Rattle.std.proofs.lemmas.Cmp.{nat_list_eq_equiv};
+ghost use Rattle.std.specs.Cmp.{partial_equiv_from_equiv};
+ghost use Rattle.std.specs.Cmp.Lexicographic.{pointwise};
+
+use ds_names::{Kinds, NoRoom};
+use std::alloc::Global;
+use std::marker::Model;
+
+/// Bytes that are offered as a pattern: any bytes, and any number of them.
+#[derive(Debug, Drop)]
+pub struct PatternText {
+    bytes: Vec<u8>,
+}
+
+impl Model for PatternText {
+    ghost use Rattle.std.specs.Prelude.{ℕ, List};
+
+    ghost Value = { List ℕ };
+
+    ghost view = { λ t. t.bytes.items };
+}
+
+impl PatternText {
+    /// A copy of the bytes.
+    pub fn of(alloc: Global, bytes: &[u8]) -> Result<PatternText, NoRoom>
+        ensures { IfOk result (λ text. text ≡ bytes.now) }
+    {
+        Ok(PatternText {
+            bytes: bytes.to_vec(alloc)?,
+        })
+    }
+
+    /// Its bytes.
+    pub fn bytes(&self) -> &[u8]
+        ensures { result.now ≡ self.now }
+    {
+        &self.bytes
+    }
+
+    /// The same bytes again.
+    pub fn copy(&self, alloc: Global) -> Result<PatternText, NoRoom>
+        ensures { IfOk result (λ text. text ≡ self.now) }
+    {
+        PatternText::of(alloc, &self.bytes)
+    }
+}
+
+impl PartialEq for PatternText {
+    ghost eq = { pointwise ◌==◌ };
+
+    ghost laws = { partial_equiv_from_equiv nat_list_eq_equiv };
+
+    fn eq(&self, other: &PatternText) -> bool {
+        self.bytes() == other.bytes()
+    }
+}
+
+impl Eq for PatternText {
+    ghost laws = { nat_list_eq_equiv };
+}
+
+/// What a subscriber asks for: the entries whose names a pattern matches whole, of some kinds.
+///
+/// Whether the text is a pattern is judged where the query is taken up.
+#[derive(Debug, PartialEq, Eq, Drop)]
+pub struct Query {
+    pub text: PatternText,
+    pub kinds: Kinds,
+}
+
+impl Query {
+    /// The same query again.
+    pub fn copy(&self, alloc: Global) -> Result<Query, NoRoom>
+        ensures { IfOk result (λ query. query ≡ self.now) }
+    {
+        Ok(Query {
+            text: self.text.copy(alloc)?,
+            kinds: self.kinds,
+        })
+    }
+}
