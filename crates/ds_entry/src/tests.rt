@@ -46,6 +46,9 @@ fn labels_are_made_by_their_rule(rt: HostRuntime) -> Result<(), Fail> {
 #[test]
 fn copies_are_the_same(rt: HostRuntime) -> Result<(), Fail> {
     let change = label(b"rs", 3, 3, 0)??;
+    assert!(rt; change.body().copy(rt.alloc())? == *change.body());
+    assert!(rt; Body::Gone.copy(rt.alloc())? == Body::Gone);
+    assert!(rt; Value::Label(Endpoint::rs()).copy(rt.alloc())? == Value::Label(Endpoint::rs()));
     let copy = change.copy(rt.alloc())?;
     assert!(rt; copy == change);
     let mut items = Items::new(rt.alloc());
