@@ -21,7 +21,8 @@ pub enum Words {
     WriteFault,
 }
 
-const ABOUT: &str = "Replays a script against a data store in the manner of MINIX 3's DS, and prints each answer";
+const ABOUT: &str =
+    "Replays a script against a data store in the manner of MINIX 3's DS, and prints each answer";
 
 const LONG_ABOUT: &str = "\
 Replays a script against a data store in the manner of MINIX 3's DS, and prints each answer.
@@ -56,7 +57,7 @@ Exit status:
   3  memory, reading or writing failed: standard error has `noroom`, `readfault` or `writefault`";
 
 /// Reads the words that the program was started with. Answers a wrong word, or a wish for help, itself.
-pub fn read<R: Runtime + AllocGlobal>(rt: &R) -> Words {
+pub(crate) fn read<R: Runtime + AllocGlobal>(rt: &R) -> Words {
     let given = match std::env::args(rt) {
         Ok(given) => given,
         Err(error) if error.kind() == io::ErrorKind::OutOfMemory => return Words::NoRoom,
@@ -87,7 +88,9 @@ fn parse<'a>(alloc: Global, words: &'a [String]) -> Result<(), Error> {
 
 // The command line of the program.
 fn command<'a>(alloc: Global) -> Result<Command<'a>, AllocError> {
-    let replay = Command::new(alloc, "replay").about("Answer a script; no subcommand means this one");
+    let replay = Command::new(alloc, "replay").about(
+        "Answer a script; no subcommand means this one",
+    );
     let program = Command::new(alloc, "dsctl")
         .version("0.1.0")
         .about(ABOUT)
