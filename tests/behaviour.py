@@ -14,6 +14,17 @@ import model
 
 PUT = b"offer eth0 label rs 3.0 = 3/17"
 TOMBSTONE = b"offer eth0 label rs 3.1 -"
+# A good line of each kind, a tombstone that only sweeps make, and the commands that take no change.
+GOOD = [
+    PUT,
+    TOMBSTONE,
+    b"offer mtu u32 eth0 3.9 = 1500",
+    b'offer id str eth0 3.0 = "a\\"b\\\\ ~"',
+    b"offer mac mem eth0 3.1 = 00ff",
+    b"offer mtu u32 eth0 3.4294967295 -",
+    b"show",
+    b"all",
+]
 MEMORY = 64 << 10  # KiB of address space, where a behaviour limits it
 # A line of each command that isn't there yet.
 NOT_YET = b"""\
@@ -179,11 +190,11 @@ def a_million_lines(program):
 def a_long_show(program):
     """Many lists in a row, far longer together than the memory that is there."""
     names = [b"driver-%04d".ljust(64, b"-") % at for at in range(1000)]
-    script = b"".join(b"offer %s label rs 1.0 = 1/16\n" % name for name in names) + b"show\n" * 850
+    script = b"".join(b"offer %s label rs 1.0 = 1/16\n" % name for name in names) + b"show\n" * 400
     with tempfile.TemporaryFile() as given:
         given.write(script)
         given.seek(0)
-        started = begin(program, limit=MEMORY, stdin=given)
+        started = begin(program, limit=MEMORY // 2, stdin=given)
         expect(end(started), *model.replay(script))
 
 
@@ -264,22 +275,19 @@ def agrees(program, script):
 
 def every_front_of_a_line(program):
     """Each proper front of a good line, with and without a newline."""
-    lines = [PUT, TOMBSTONE, b"show", b"all"]
-    fronts = [line[:at] + newline for line in lines for at in range(len(line)) for newline in (b"", b"\n")]
+    fronts = [line[:at] + newline for line in GOOD for at in range(len(line)) for newline in (b"", b"\n")]
     harness.at_once(lambda it: agrees(program, it), fronts)
 
 
 def every_byte_changed(program):
     """Each byte of a good line replaced by each other byte."""
-    lines = [PUT, TOMBSTONE, b"show", b"all"]
-    spoilt = [line[:at] + bytes([byte]) + line[at + 1 :] for line in lines for at in range(len(line)) for byte in range(256)]
-    harness.at_once(lambda it: agrees(program, it + b"\n"), sorted({*spoilt} - {*lines}))
+    spoilt = [line[:at] + bytes([byte]) + line[at + 1 :] for line in GOOD for at in range(len(line)) for byte in range(256)]
+    harness.at_once(lambda it: agrees(program, it + b"\n"), sorted({*spoilt} - {*GOOD}))
 
 
 def every_byte_dropped_or_doubled(program):
     """Each byte of a good line left out, and each written twice."""
-    lines = [PUT, TOMBSTONE, b"show", b"all"]
-    spoilt = [line[:at] + line[at : at + 1] * times + line[at + 1 :] for line in lines for at in range(len(line)) for times in (0, 2)]
+    spoilt = [line[:at] + line[at : at + 1] * times + line[at + 1 :] for line in GOOD for at in range(len(line)) for times in (0, 2)]
     harness.at_once(lambda it: agrees(program, it + b"\n"), spoilt)
 
 
@@ -295,13 +303,24 @@ def scripts_by_chance(program):
     names = [b"a", b"A", b"a-", b"a.b", b"_", b"eth0", b"eth", b"9", b"x" * 64]
     scripts = []
     for _ in range(40):
-        script = [b"offer %s label rs %s" % (chance.choice(names), body_by_chance(chance)) for _ in range(300)]
+        script = [b"offer %s %s" % (chance.choice(names), change_by_chance(chance)) for _ in range(300)]
         for _ in range(12):
             script.insert(chance.randrange(300), chance.choice([b"show", b"all"]))
         if chance.random() < 0.3:
             script[chance.randrange(300)] = b"offer eth0 label rs 1.2 -"
         scripts.append(b"\n".join(script))
     harness.at_once(lambda it: agrees(program, it), scripts)
+
+
+def change_by_chance(chance):
+    """A change but for its name: of a label, or of another kind with one of two owners."""
+    if chance.random() < 0.5:
+        return b"label rs " + body_by_chance(chance)
+    kind = chance.choice([b"u32", b"str", b"mem"])
+    values = {b"u32": [b"0", b"1500"], b"str": [b'""', b'"a\\"b"'], b"mem": [b"", b"00ff"]}[kind]
+    body = b"-" if chance.random() < 0.3 else b"= " + chance.choice(values)
+    owner = chance.choice([b"eth0", b"eth0", b"eth0", b"tty"])
+    return b"%s %s %d.%d %s" % (kind, owner, chance.randrange(3), chance.randrange(3), body)
 
 
 def body_by_chance(chance):

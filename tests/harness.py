@@ -10,7 +10,7 @@ from typing import List, Optional
 
 TESTS = pathlib.Path(__file__).resolve().parent
 EXAMPLES = TESTS.parent / "examples"
-SECONDS = 30  # the longest that one run may take
+SECONDS = 120  # the longest that one run may take, on a busy machine too
 
 
 @dataclass

@@ -1,6 +1,6 @@
 """A second opinion on `dsctl replay`, written from the rules of the script format and not from the program.
 
-It knows the lines `offer`, `show` and `all`, and changes of labels. A line is read in parts from left to right; a bad
+It knows the lines `offer`, `show` and `all`, and changes of every kind. A line is read in parts from left to right; a bad
 line is named by the byte where its first part begins that can't be read.
 """
 import re
@@ -9,10 +9,16 @@ LONGEST = 4096  # bytes of a line, its newline not counted
 MOST_KEYS = 1024
 MOST_GENERATION = 2097151
 MOST_SLOT = 1023
+MOST_NUMBER = 4294967295  # of a sequence number and of a u32
+MOST_TEXT = 256  # bytes of a str
+MOST_BLOB = 1024  # bytes of a mem
+KINDS = [b"label", b"u32", b"str", b"mem"]  # in the order of keys
 NAME = re.compile(rb"[A-Za-z0-9._-]*")
 WORD = re.compile(rb"[A-Za-z0-9]*")
 DIGITS = re.compile(rb"[0-9]*")
 ENDPOINT = re.compile(rb"([0-9]+)/([0-9]+)|")
+HEX = re.compile(rb"[0-9a-f]*")
+QUOTED = re.compile(rb'"(?:[ !#-\[\]-~]|\\["\\])*"|')
 BYTE = re.compile(rb".?", re.DOTALL)
 
 
@@ -59,24 +65,42 @@ def is_endpoint(text, generation):
     return found is not None and found[1] == generation and is_number(found[2], MOST_SLOT)
 
 
+def is_quoted(text):
+    """A text in quotes, of at most 256 bytes without its backslashes."""
+    return text != b"" and len(re.sub(rb"\\(.)", rb"\1", text[1:-1])) <= MOST_TEXT
+
+
+def is_hex(text):
+    """The hex of at most 1024 bytes."""
+    return len(text) % 2 == 0 and len(text) <= 2 * MOST_BLOB
+
+
 def read_change(reader):
-    """Reads a label change: its name, its version, and its value, which is None for a tombstone."""
+    """Reads a change: its key, its owner, its version, and its value as it is spelled, which is None for a tombstone."""
     name = reader.part(NAME, lambda it: 1 <= len(it) <= 64).group()
     reader.byte(b" ")
-    reader.part(WORD, lambda it: it == b"label" and name != b"rs")
+    kind = reader.part(WORD, lambda it: it in KINDS and (it, name) != (b"label", b"rs")).group()
+    is_label = kind == b"label"
     reader.byte(b" ")
-    reader.part(NAME, lambda it: it == b"rs")
+    owner = reader.part(NAME, lambda it: it == b"rs" if is_label else 1 <= len(it) <= 64).group()
     reader.byte(b" ")
-    epoch = reader.part(DIGITS, lambda it: is_number(it, MOST_GENERATION) and it != b"0").group()
+    epoch = reader.part(DIGITS, lambda it: is_number(it, MOST_GENERATION) and not (is_label and it == b"0")).group()
     reader.byte(b".")
-    seq = reader.part(DIGITS, lambda it: it in (b"0", b"1")).group()
+    seq = reader.part(DIGITS, lambda it: is_number(it, 1 if is_label else MOST_NUMBER)).group()
     reader.byte(b" ")
-    reader.byte(b"=" if seq == b"0" else b"-")
+    marks = {b"0": b"=", b"1": b"-"}[seq] if is_label else b"-" if int(seq) == MOST_NUMBER else b"=-"
+    mark = reader.part(BYTE, lambda it: it != b"" and it in marks).group()
     value = None
-    if seq == b"0":
+    if mark == b"=":
         reader.byte(b" ")
-        value = reader.part(ENDPOINT, lambda it: is_endpoint(it, epoch)).group()
-    return name, (int(epoch), int(seq)), value
+        run, is_good = {
+            b"label": (ENDPOINT, lambda it: is_endpoint(it, epoch)),
+            b"u32": (DIGITS, lambda it: is_number(it, MOST_NUMBER)),
+            b"str": (QUOTED, is_quoted),
+            b"mem": (HEX, is_hex),
+        }[kind]
+        value = reader.part(run, is_good).group()
+    return (name, KINDS.index(kind)), owner, (int(epoch), int(seq)), value
 
 
 def read_line(line):
@@ -93,27 +117,29 @@ def read_line(line):
     return word, change
 
 
-def offer(held, name, version, value):
-    """Merges one change into what is held, a dictionary from names to (version, value)."""
-    if name not in held:
+def offer(held, key, owner, version, value):
+    """Merges one change into what is held, a dictionary from keys to (owner, version, value)."""
+    if key not in held:
         if len(held) == MOST_KEYS:
             return b"refused full"
-    elif version < held[name][0]:
+    elif owner != held[key][0]:
+        return b"refused notowner"
+    elif version < held[key][1]:
         return b"stale"
-    elif version == held[name][0]:
-        return b"known" if value == held[name][1] else b"refused clash %d.%d" % version
-    held[name] = (version, value)
+    elif version == held[key][1]:
+        return b"known" if value == held[key][2] else b"refused clash %d.%d" % version
+    held[key] = (owner, version, value)
     return b"taken"
 
 
 def listed(held, with_tombstones):
-    """The lines of `show` or of `all`: what is held in order of the names' bytes, then the count."""
+    """The lines of `show` or of `all`: what is held in order of the names' bytes and then the kinds, then the count."""
     shown = []
-    for name in sorted(held):
-        (epoch, seq), value = held[name]
+    for name, kind in sorted(held):
+        owner, (epoch, seq), value = held[name, kind]
         if value is not None or with_tombstones:
             body = b"-" if value is None else b"= " + value
-            shown.append(b"%s label rs %d.%d %s" % (name, epoch, seq, body))
+            shown.append(b"%s %s %s %d.%d %s" % (name, KINDS[kind], owner, epoch, seq, body))
     return shown + [b"shown %d" % len(shown)]
 
 

@@ -6,6 +6,7 @@ use Rattle.ds_names.specs.declared.kind.Kind.{Kind}
 use Rattle.ds_names.specs.declared.kind.Kind.TheVariants.{Label, U32, Str, Mem}
 use Rattle.ds_names.specs.declared.key.Key.{Key}
 use Rattle.ds_names.specs.declared.version.Version.{Version}
+use Rattle.ds_entry.specs.Value.{IsText, IsBlob}
 use Rattle.ds_entry.specs.declared.body.Value.{Value}
 use Rattle.ds_entry.specs.declared.body.Value.TheVariants as values
 use Rattle.ds_entry.specs.declared.body.Body.{Body}
@@ -29,6 +30,9 @@ rs_name = 114 ∷ 115 ∷ []
 -- the kind of key that a value stands under
 abbrev pub kind_of : Value → Kind
 kind_of (values.Label e) = Label
+kind_of (values.U32 n) = U32
+kind_of (values.Str t) = Str
+kind_of (values.Mem b) = Mem
 
 -- a put has a value of the key's kind
 abbrev pub IsOfKind : Kind → Body → Type 0
@@ -38,6 +42,9 @@ IsOfKind kind Gone = Unit {0}
 -- the value is one that its reader accepts
 abbrev pub IsValue : Value → Type 0
 IsValue (values.Label e) = IsEndpoint e
+IsValue (values.U32 n) = n < 2 ^ 32
+IsValue (values.Str t) = IsText t
+IsValue (values.Mem b) = IsBlob b
 
 -- a put has such a value
 abbrev pub IsBody : Body → Type 0
@@ -47,6 +54,9 @@ IsBody Gone = Unit {0}
 -- the value is held in place, so that a copy of it takes no memory
 abbrev pub IsInPlace : Value → Type 0
 IsInPlace (values.Label e) = Unit {0}
+IsInPlace (values.U32 n) = Unit {0}
+IsInPlace (values.Str t) = ⊥
+IsInPlace (values.Mem b) = ⊥
 
 -- a put has such a value
 abbrev pub IsBodyInPlace : Body → Type 0
@@ -56,6 +66,9 @@ IsBodyInPlace Gone = Unit {0}
 -- a label is put with number 0, under its endpoint's generation, and is gone with number 1
 abbrev pub IsLabelBody : Version → Body → Type 0
 IsLabelBody version (Put (values.Label e)) = (version.seq ≡ 0) × (version.epoch ≡ e.generation)
+IsLabelBody version (Put (values.U32 n)) = ⊥
+IsLabelBody version (Put (values.Str t)) = ⊥
+IsLabelBody version (Put (values.Mem b)) = ⊥
 IsLabelBody version Gone = version.seq ≡ 1
 
 -- RS alone publishes labels, never its own, and each from generation 1 on

@@ -1,3 +1,5 @@
+pub mod Value
+pub mod ValueFault
 pub mod Change
 pub mod ChangeFault
 pub mod Covers

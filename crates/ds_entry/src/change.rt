@@ -2,7 +2,7 @@
 
 ghost use Rattle.std.specs.Prelude.{◌≡◌, ◌<◌, ◌≤◌, ◌^◌, ◌↔◌, IsTrue, IsOk, IfOk, IfErr, MatchOption};
 ghost use Rattle.ds_names.specs.Name.{IsName};
-ghost use Rattle.ds_entry.specs.Change.{ChangeRecord, change_of, IsChange, IsLabelChange, IsLabelBody, IsBelowSweeps, IsBody, IsBodyInPlace};
+ghost use Rattle.ds_entry.specs.Change.{ChangeRecord, change_of, IsChange, IsLabelChange, IsLabelBody, IsBelowSweeps, IsOfKind, IsBody, IsBodyInPlace};
 ghost use Rattle.ds_entry.specs.ChangeFault.{IsFaultOf};
 
 use crate::body::{Body, Value};
@@ -118,9 +118,7 @@ fn fault_of(key: &Key, owner: &Name, version: &Version, body: &Body) -> Option<E
 {
     let is_label = is_label_change(key, owner, version, body);
     let is_below = is_below_sweeps(version, body);
-    if let Body::Put(value) = body
-        && value.kind() != key.kind
-    {
+    if !is_of_kind(body, key.kind) {
         return Some(EntryFault::BadKind);
     }
     match key.kind {
@@ -131,6 +129,17 @@ fn fault_of(key: &Key, owner: &Name, version: &Version, body: &Body) -> Option<E
     }
 }
 
+// Whether a put has a value of the kind.
+fn is_of_kind(body: &Body, kind: Kind) -> bool
+    ensures kind { IsTrue result ↔ IsOfKind kind body.now }
+    ensures valid { IsBody body.now }
+{
+    match body {
+        Body::Put(value) => value.kind() == kind,
+        Body::Gone => true,
+    }
+}
+
 // Whether the parts keep the rule of labels.
 fn is_label_change(key: &Key, owner: &Name, version: &Version, body: &Body) -> bool
     ensures rule { IsTrue result ↔ IsLabelChange (change_of key.now owner.now version.now body.now) }
@@ -138,7 +147,6 @@ fn is_label_change(key: &Key, owner: &Name, version: &Version, body: &Body) -> b
     ensures owner { IsName owner.now }
     ensures epoch { version.now.epoch ≤ 2097151 }
     ensures seq { version.now.seq < 2 ^ 32 }
-    ensures body { IsBody body.now }
 {
     let rs = b"rs".as_slice();
     let name = key.name.bytes();
@@ -152,14 +160,12 @@ fn is_label_change(key: &Key, owner: &Name, version: &Version, body: &Body) -> b
 fn is_label_body(version: &Version, body: &Body) -> bool
     ensures rule { IsTrue result ↔ IsLabelBody version.now body.now }
     ensures seq { version.now.seq < 2 ^ 32 }
-    ensures body { IsBody body.now }
 {
+    let seq = version.seq;
     match body {
-        Body::Put(Value::Label(endpoint)) => {
-            let generation = endpoint.generation();
-            version.seq == 0 && version.epoch == generation
-        }
-        Body::Gone => version.seq == 1,
+        Body::Put(Value::Label(endpoint)) => seq == 0 && version.epoch == endpoint.generation(),
+        Body::Put(Value::U32(_) | Value::Str(_) | Value::Mem(_)) => false,
+        Body::Gone => seq == 1,
     }
 }
 

@@ -5,12 +5,16 @@
 //! and that a delete leaves a tombstone, is of this project.
 #![tactic(auto)]
 
+mod blob;
 mod body;
 mod change;
 mod items;
 #[cfg(test)]
 mod tests;
+mod text;
 
+pub use blob::{Blob, BlobFault};
 pub use body::{Body, Value};
 pub use change::{Change, EntryFault};
 pub use items::Items;
+pub use text::{Text, TextFault};

@@ -1,6 +1,6 @@
 //! With ample memory every copy is made and every change is kept.
 
-use crate::{Body, Change, EntryFault, Items, Value};
+use crate::{Blob, BlobFault, Body, Change, EntryFault, Items, Text, TextFault, Value};
 use ds_names::{Endpoint, Generation, Key, Kind, Name, Version};
 use std::test::Fail;
 
@@ -46,9 +46,6 @@ fn labels_are_made_by_their_rule(rt: HostRuntime) -> Result<(), Fail> {
 #[test]
 fn copies_are_the_same(rt: HostRuntime) -> Result<(), Fail> {
     let change = label(b"rs", 3, 3, 0)??;
-    assert!(rt; change.body().copy(rt.alloc())? == *change.body());
-    assert!(rt; Body::Gone.copy(rt.alloc())? == Body::Gone);
-    assert!(rt; Value::Label(Endpoint::rs()).copy(rt.alloc())? == Value::Label(Endpoint::rs()));
     let copy = change.copy(rt.alloc())?;
     assert!(rt; copy == change);
     let mut items = Items::new(rt.alloc());
@@ -57,5 +54,58 @@ fn copies_are_the_same(rt: HostRuntime) -> Result<(), Fail> {
     assert_eq!(rt; again.len(), 1);
     assert!(rt; again.get(0) == Some(&change));
     assert!(rt; again.get(1).is_none());
+    Ok(())
+}
+
+#[test]
+fn texts_have_at_most_256_printable_bytes(rt: HostRuntime) -> Result<(), Fail> {
+    let longest = [b'~'; 256];
+    let text = Text::read(rt.alloc(), &longest)?;
+    assert!(rt; text.bytes() == longest.as_slice());
+    assert!(rt; text.copy(rt.alloc())? == text);
+    assert_eq!(rt; Text::read(rt.alloc(), b"")?.bytes().len(), 0);
+    assert_eq!(rt;
+        Text::read(rt.alloc(), &[0x7f; 257]).err(),
+        Some(TextFault::TooLong)
+    );
+    for byte in [0x00, 0x0a, 0x1f, 0x7f, 0x80, 0xff] {
+        assert_eq!(rt;
+            Text::read(rt.alloc(), &[byte]).err(),
+            Some(TextFault::BadText),
+            "{byte}"
+        );
+    }
+    Ok(())
+}
+
+#[test]
+fn blobs_have_at_most_1024_bytes(rt: HostRuntime) -> Result<(), Fail> {
+    let longest = [0xff; 1024];
+    let blob = Blob::read(rt.alloc(), &longest)?;
+    assert!(rt; blob.bytes() == longest.as_slice());
+    assert!(rt; blob.copy(rt.alloc())? == blob);
+    assert_eq!(rt;
+        Blob::read(rt.alloc(), &[0; 1025]).err(),
+        Some(BlobFault::TooLong)
+    );
+    Ok(())
+}
+
+#[test]
+fn puts_leave_the_last_number_to_sweeps(rt: HostRuntime) -> Result<(), Fail> {
+    let made = |kind: Kind, seq: u32, body: Body| -> Result<Result<Change, EntryFault>, Fail> {
+        let key = Key {
+            name: Name::read(b"mtu")?,
+            kind,
+        };
+        let epoch = Generation::of(3).ok_or("no epoch")?;
+        Ok(Change::make(key, Name::read(b"eth0")?, Version { epoch, seq }, body))
+    };
+    assert!(rt; made(Kind::U32, u32::MAX - 1, Body::Put(Value::U32(1500)))?.is_ok());
+    assert!(rt; made(Kind::U32, u32::MAX, Body::Gone)?.is_ok());
+    let last = made(Kind::U32, u32::MAX, Body::Put(Value::U32(1500)))?;
+    assert_eq!(rt; last.err(), Some(EntryFault::BadVersion));
+    let other = made(Kind::Str, u32::MAX, Body::Put(Value::U32(1500)))?;
+    assert_eq!(rt; other.err(), Some(EntryFault::BadKind));
     Ok(())
 }

@@ -87,6 +87,11 @@ module _ (old : Holding) (c : ChangeRecord) (own : IsOwn old) where
 pub merge_joins : (old after : Holding) (c : ChangeRecord) (r : Result Merge JoinFault) → IsOwn old → MergeAnswer old c r → after ≡ after_merge old c r → OnOk r (IsTop (held_changes after) (held_changes old ++ c ∷ []))
 merge_joins old after c r own a e = subst (λ (h : Holding). OnOk r (IsTop (held_changes h) (held_changes old ++ c ∷ []))) (sym e) (by_held old c own (held_for old c.key) (held_count old) r refl a)
 
+-- the same, where only the answer of what isn't refused is known
+pub merge_joins_if_ok : (old after : Holding) (c : ChangeRecord) (r : Result Merge JoinFault) → IsOwn old → OnOk r (MergeAnswer old c r) → after ≡ after_merge old c r → OnOk r (IsTop (held_changes after) (held_changes old ++ c ∷ []))
+merge_joins_if_ok old after c (Ok r) own a e = merge_joins old after c (Ok r) own a e
+merge_joins_if_ok old after c (Err fault) own a e = tt
+
 module _ (xs : List ChangeRecord) (kept : IsKept xs) (c : ChangeRecord) (valid : IsChange c) where
   -- a change of a held key
   module _ (i : ℕ) (at : position_from (λ (x : ChangeRecord). eq_by_cmp key_cmp c.key x.key) 0 xs ≡ Some i) where

@@ -10,9 +10,9 @@ ghost use Rattle.ds_join.specs.Reading.{value_of, comes_after};
 ghost use Rattle.ds_join.specs.Top.{IsTop};
 ghost use Rattle.ds_join.specs.Join.{IsJoin};
 ghost use Rattle.ds_join.specs.Merge.{MergeAnswer, after_merge};
-ghost use Rattle.ds_join.specs.Stop.{IsStopped};
+ghost use Rattle.ds_join.specs.Stop.{IsRefused, IsStopped};
 
-use crate::list::{change_at, join_into, merge_into};
+use crate::list::{change_at, join_into, merge_copy, merge_into};
 use crate::merge::{JoinFault, Merge, Stop};
 use crate::order::{copy_all, first_of};
 use ds_entry::{Body, Change, Items, Value};
@@ -57,6 +57,14 @@ impl Held {
         Held {
             changes: Vec::new(alloc),
         }
+    }
+
+    /// Holds nothing again, tombstones neither. It takes no memory.
+    pub fn clear(&mut self)
+        ensures value { self.new ≡ nothing_held }
+        ensures own { IsOwn self.new }
+    {
+        self.changes.clear();
     }
 
     /// How many keys are held, those of tombstones too: at most 1024.
@@ -117,6 +125,18 @@ impl Held {
         ensures change { IsChange change }
     {
         merge_into(&mut self.changes, change)
+    }
+
+    /// Merges a change that someone else keeps, as `merge` does. It is copied only where it will be taken, so
+    /// that a change which is known, stale or refused takes no memory.
+    pub fn merge_copy(&mut self, alloc: Global, change: &Change) -> Result<Merge, JoinFault>
+        ensures answer { OnOk result (MergeAnswer self.old change.now result) }
+        ensures refused { IfErr result (IsRefused self.old change.now) }
+        ensures after { self.new ≡ after_merge self.old change.now result }
+        ensures joined { OnOk result (IsTop (held_changes self.new) (held_changes self.old ++ change.now ∷ [])) }
+        ensures own { IsOwn self.new }
+    {
+        merge_copy(alloc, &mut self.changes, change)
     }
 
     /// Merges all that another one holds, in the order of the keys, and stops at the first change that is

@@ -123,8 +123,12 @@ fn outlook(changes: &[Change], change: &Change) -> Result<Merge, JoinFault>
     }
 }
 
-// Merges a change that another holder keeps: it is copied only where it will be taken.
-fn merge_copy(alloc: Global, changes: &mut Vec<Change>, change: &Change) -> Result<Merge, JoinFault>
+// Merges a change that someone else keeps: it is copied only where it will be taken.
+pub(crate) fn merge_copy(
+    alloc: Global,
+    changes: &mut Vec<Change>,
+    change: &Change,
+) -> Result<Merge, JoinFault>
     requires { IsKept changes.old.items }
     ensures answer { OnOk result (MergeAnswer (holding_of changes.old.items) change.now result) }
     ensures refused { IfErr result (IsRefused (holding_of changes.old.items) change.now) }

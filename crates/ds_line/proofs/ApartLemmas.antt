@@ -1,22 +1,27 @@
 -- Lines stand apart: two changes with one line are one, and no line begins another.
-use Rattle.std.proofs.Common.{◌≡◌, ◌≢◌, ℕ, List, [], ◌∷◌, ◌++◌, length, get_or, drop, refl, sym, ap, subst, ◌∙◌, arith}
+use Rattle.std.proofs.Common.{◌≡◌, ◌≢◌, ℕ, List, [], ◌∷◌, ◌++◌, length, get_or, drop, refl, sym, ap, subst, ◌^◌, ◌<◌, ◌∙◌, arith}
 use Rattle.std.proofs.lemmas.Fmt.{decimal_injective}
 use Rattle.std.proofs.lemmas.List.{append-nil}
-use Rattle.ds_names.specs.Endpoint.{EndpointRecord, endpoint_text}
+use Rattle.ds_names.specs.Endpoint.{EndpointRecord, IsEndpoint, endpoint_text}
+use Rattle.ds_names.specs.Kind.{kind_place}
 use Rattle.ds_names.specs.Run.{Begins}
 use Rattle.ds_names.specs.declared.kind.Kind.{Kind}
+use Rattle.ds_names.specs.declared.key.Key.{Key}
+use Rattle.ds_names.specs.declared.version.Version.{Version}
 use Rattle.ds_names.proofs.DecimalLemmas.{endpoint_one}
+use Rattle.ds_entry.specs.declared.body.Value.{Value}
 use Rattle.ds_entry.specs.declared.body.Value.TheVariants as values
 use Rattle.ds_entry.specs.declared.body.Body.{Body}
 use Rattle.ds_entry.specs.declared.body.Body.TheVariants.{Put, Gone}
-use Rattle.ds_entry.specs.Change.{ChangeRecord, change_of, IsBody}
+use Rattle.ds_entry.specs.Change.{ChangeRecord, change_of, kind_of, IsOfKind, IsValue, IsBody, IsChange}
 use Rattle.ds_line.specs.Part.{Class, Endpoint, run_of, Part, part}
-use Rattle.ds_line.specs.Spelling.{body_parts, HasLine, spelling}
+use Rattle.ds_line.specs.Spelling.{quoted, value_part, body_parts, change_parts, HasLine, spelling}
 use Rattle.ds_line.specs.FaultPlace.{Stand}
-use Rattle.ds_line.specs.Reading.{IsLabel, label_parts}
 use Rattle.ds_line.proofs.PartLemmas.{IsText, part_one}
-use Rattle.ds_line.proofs.LabelLemmas.{label_of_line}
-use Rattle.ds_line.proofs.BodyLemmas.{text_at}
+use Rattle.ds_line.proofs.QuoteLemmas.{quoted_one}
+use Rattle.ds_line.proofs.DigitLemmas.{hex_one}
+use Rattle.ds_line.proofs.OpeningLemmas.{text_at, word_is_word, word_one, key_is, version_is}
+use Rattle.ds_line.proofs.BodyLemmas.{class_one, value_text}
 use Rattle.ds_line.proofs.LineLemmas.{line_stands}
 
 -- each text is one of its part's class
@@ -45,55 +50,111 @@ same_parts (p ∷ ps) (q ∷ qs) bytes r s texts_p texts_q alike stand_p stand_q
 other_byte : (x y : ℕ) → x ≢ y → (x ∷ []) ≡ (y ∷ []) → ⊥
 other_byte x y h e = h (ap (λ (l : List ℕ). get_or l 0 0) e)
 
-pub bodies_alike : (a b : Body) → Alike (body_parts a) (body_parts b)
-bodies_alike (Put (values.Label x)) (Put (values.Label y)) = (refl, λ _. (refl, λ _. (refl, λ _. (refl, λ _. tt))))
-bodies_alike (Put (values.Label x)) Gone = (refl, λ e. absurd (other_byte 61 45 (λ h. omega arith) e))
-bodies_alike Gone (Put (values.Label y)) = (refl, λ e. absurd (other_byte 45 61 (λ h. omega arith) e))
-bodies_alike Gone Gone = (refl, λ _. (refl, λ _. tt))
+puts_alike : (v w : Value) → kind_of v ≡ kind_of w → Alike (body_parts (Put v)) (body_parts (Put w))
+puts_alike v w kind = (refl, λ _. (refl, λ _. (class_one v w kind, λ _. (refl, λ _. tt))))
 
-pub labels_alike : (c d : ChangeRecord) → Alike (label_parts c) (label_parts d)
-labels_alike c d = (refl, λ _. (refl, λ _. (refl, λ _. (refl, λ _. (refl, λ _. (refl, λ _. (refl, λ _. (refl, λ _. (refl, λ _. (refl, λ _. bodies_alike c.body d.body))))))))))
+-- the bodies of two changes of one kind
+bodies_alike : (k : Kind) (a b : Body) → IsOfKind k a → IsOfKind k b → Alike (body_parts a) (body_parts b)
+bodies_alike k (Put v) (Put w) is_a is_b = puts_alike v w (is_a ∙ sym is_b)
+bodies_alike k (Put v) Gone is_a is_b = (refl, λ e. absurd (other_byte 61 45 (λ h. omega arith) e))
+bodies_alike k Gone (Put w) is_a is_b = (refl, λ e. absurd (other_byte 45 61 (λ h. omega arith) e))
+bodies_alike k Gone Gone is_a is_b = (refl, λ _. (refl, λ _. tt))
 
-pub body_texts : (b : Body) → IsBody b → AllTexts (body_parts b)
-body_texts (Put (values.Label a)) is = (refl, (refl, ((a, is, refl), (refl, tt))))
+pub changes_alike : (c d : ChangeRecord) → IsChange c → IsChange d → Alike (change_parts c) (change_parts d)
+changes_alike c d is_c is_d = (
+  refl,
+  λ _. (
+    refl,
+    λ _. (
+      refl,
+      λ word. (
+        refl,
+        λ _. (
+          refl,
+          λ _. (
+            refl,
+            λ _. (
+              refl,
+              λ _. (
+                refl,
+                λ _. (
+                  refl,
+                  λ _. (
+                    refl,
+                    λ _.
+                        bodies_alike d.key.kind c.body d.body (subst (λ (k : Kind). IsOfKind k c.body) (word_one c.key.kind d.key.kind word) is_c.kind) is_d.kind,
+                  ),
+                ),
+              ),
+            ),
+          ),
+        ),
+      ),
+    ),
+  ),
+)
+
+body_texts : (b : Body) → IsBody b → AllTexts (body_parts b)
+body_texts (Put v) is = (refl, (refl, (value_text v is, (refl, tt))))
 body_texts Gone is = (refl, (refl, tt))
 
-label_texts : (c : ChangeRecord) → IsLabel c → AllTexts (label_parts c)
-label_texts c m =
-    (m.change.name.allowed, (refl, (refl, (refl, (m.change.owner.allowed, (refl, ((c.version.epoch, omega (arith, m.change.epoch), refl), (refl, ((c.version.seq, omega (arith, m.change.seq), refl), (refl, body_texts c.body m.change.body))))))))))
+pub change_texts : (c : ChangeRecord) → IsChange c → AllTexts (change_parts c)
+change_texts c is =
+    (is.name.allowed, (refl, (word_is_word c.key.kind, (refl, (is.owner.allowed, (refl, ((c.version.epoch, omega (arith, is.epoch), refl), (refl, ((c.version.seq, omega (arith, is.seq), refl), (refl, body_texts c.body is.body))))))))))
 
-body_one : (x y : Body) → IsBody x → IsBody y → body_parts x ≡ body_parts y → x ≡ y
-body_one (Put (values.Label a)) (Put (values.Label b)) is_x is_y eq =
-    let text : endpoint_text a ≡ endpoint_text b = ap (text_at 2) eq in
+-- ---- the parts give the change
+
+endpoints_one : (a b : EndpointRecord) → IsEndpoint a → IsEndpoint b → endpoint_text a ≡ endpoint_text b → a ≡ b
+endpoints_one a b is_a is_b text =
     let begins_a : Begins (run_of Endpoint) (endpoint_text a) (endpoint_text a) [] = record { parts = sym (append-nil (endpoint_text a)); ends = tt } in
     let begins_b : Begins (run_of Endpoint) (endpoint_text a) (endpoint_text b) [] = record { parts = text ∙ sym (append-nil (endpoint_text b)); ends = tt } in
-    ap (λ (z : EndpointRecord). Put (values.Label z)) (endpoint_one (endpoint_text a) a b [] [] is_x is_y begins_a begins_b).0
-body_one (Put (values.Label a)) Gone is_x is_y eq = absurd (other_byte 61 45 (λ h. omega arith) (ap (text_at 0) eq))
-body_one Gone (Put (values.Label b)) is_x is_y eq = absurd (other_byte 45 61 (λ h. omega arith) (ap (text_at 0) eq))
-body_one Gone Gone is_x is_y eq = refl
+    (endpoint_one (endpoint_text a) a b [] [] is_a is_b begins_a begins_b).0
 
--- the parts of a label's line give its change
-label_one : (c d : ChangeRecord) → IsLabel c → IsLabel d → label_parts c ≡ label_parts d → c ≡ d
-label_one c d is_c is_d eq =
-    let name : c.key.name ≡ d.key.name = ap (text_at 0) eq in
-    let kind : c.key.kind ≡ d.key.kind = is_c.kind ∙ sym is_d.kind in
+texts_one : (a b : List ℕ) → quoted a ≡ quoted b → a ≡ b
+texts_one a b text = (quoted_one a b [] [] (ap (λ (x : List ℕ). x ++ []) text)).0
+
+value_one : (v w : Value) → IsValue v → IsValue w → kind_of v ≡ kind_of w → (value_part v).text ≡ (value_part w).text → v ≡ w
+value_one (values.Label a) (values.Label b) is_v is_w kind text = ap values.Label (endpoints_one a b is_v is_w text)
+value_one (values.U32 a) (values.U32 b) is_v is_w kind text = ap values.U32 (decimal_injective a b (omega (arith, is_v)) (omega (arith, is_w)) text)
+value_one (values.Str a) (values.Str b) is_v is_w kind text = ap values.Str (texts_one a b text)
+value_one (values.Mem a) (values.Mem b) is_v is_w kind text = ap values.Mem (hex_one a b is_v.each is_w.each text)
+value_one (values.Label a) (values.U32 b) is_v is_w kind text = absurd (omega (arith, ap kind_place kind))
+value_one (values.Label a) (values.Str b) is_v is_w kind text = absurd (omega (arith, ap kind_place kind))
+value_one (values.Label a) (values.Mem b) is_v is_w kind text = absurd (omega (arith, ap kind_place kind))
+value_one (values.U32 a) (values.Label b) is_v is_w kind text = absurd (omega (arith, ap kind_place kind))
+value_one (values.U32 a) (values.Str b) is_v is_w kind text = absurd (omega (arith, ap kind_place kind))
+value_one (values.U32 a) (values.Mem b) is_v is_w kind text = absurd (omega (arith, ap kind_place kind))
+value_one (values.Str a) (values.Label b) is_v is_w kind text = absurd (omega (arith, ap kind_place kind))
+value_one (values.Str a) (values.U32 b) is_v is_w kind text = absurd (omega (arith, ap kind_place kind))
+value_one (values.Str a) (values.Mem b) is_v is_w kind text = absurd (omega (arith, ap kind_place kind))
+value_one (values.Mem a) (values.Label b) is_v is_w kind text = absurd (omega (arith, ap kind_place kind))
+value_one (values.Mem a) (values.U32 b) is_v is_w kind text = absurd (omega (arith, ap kind_place kind))
+value_one (values.Mem a) (values.Str b) is_v is_w kind text = absurd (omega (arith, ap kind_place kind))
+
+body_one : (k : Kind) (a b : Body) → IsBody a → IsBody b → IsOfKind k a → IsOfKind k b → body_parts a ≡ body_parts b → a ≡ b
+body_one k (Put v) (Put w) is_a is_b kind_a kind_b eq = ap Put (value_one v w is_a is_b (kind_a ∙ sym kind_b) (ap (text_at 2) eq))
+body_one k (Put v) Gone is_a is_b kind_a kind_b eq = absurd (other_byte 61 45 (λ h. omega arith) (ap (text_at 0) eq))
+body_one k Gone (Put w) is_a is_b kind_a kind_b eq = absurd (other_byte 45 61 (λ h. omega arith) (ap (text_at 0) eq))
+body_one k Gone Gone is_a is_b kind_a kind_b eq = refl
+
+change_one : (c d : ChangeRecord) → IsChange c → IsChange d → change_parts c ≡ change_parts d → c ≡ d
+change_one c d is_c is_d eq =
+    let kind : c.key.kind ≡ d.key.kind = word_one c.key.kind d.key.kind (ap (text_at 2) eq) in
+    let key : c.key ≡ d.key = key_is c.key d.key (ap (text_at 0) eq) kind in
     let owner : c.owner ≡ d.owner = ap (text_at 4) eq in
-    let epoch : c.version.epoch ≡ d.version.epoch = decimal_injective _ _ (omega (arith, is_c.change.epoch)) (omega (arith, is_d.change.epoch)) (ap (text_at 6) eq) in
-    let seq : c.version.seq ≡ d.version.seq = decimal_injective _ _ (omega (arith, is_c.change.seq)) (omega (arith, is_d.change.seq)) (ap (text_at 8) eq) in
-    let body : c.body ≡ d.body = body_one c.body d.body is_c.change.body is_d.change.body (ap (drop 10) eq) in
-    ap (λ (n : List ℕ). change_of (record { name = n; kind = c.key.kind }) c.owner c.version c.body) name
-    ∙ ap (λ (k : Kind). change_of (record { name = d.key.name; kind = k }) c.owner c.version c.body) kind
+    let epoch : c.version.epoch ≡ d.version.epoch = decimal_injective _ _ (omega (arith, is_c.epoch)) (omega (arith, is_d.epoch)) (ap (text_at 6) eq) in
+    let seq : c.version.seq ≡ d.version.seq = decimal_injective _ _ (omega (arith, is_c.seq)) (omega (arith, is_d.seq)) (ap (text_at 8) eq) in
+    let version : c.version ≡ d.version = version_is c.version d.version epoch seq in
+    let body : c.body ≡ d.body = body_one d.key.kind c.body d.body is_c.body is_d.body (subst (λ (k : Kind). IsOfKind k c.body) kind is_c.kind) is_d.kind (ap (drop 10) eq) in
+    ap (λ (k : Key). change_of k c.owner c.version c.body) key
     ∙ ap (λ (o : List ℕ). change_of d.key o c.version c.body) owner
-    ∙ ap (λ (e : ℕ). change_of d.key d.owner (record { epoch = e; seq = c.version.seq }) c.body) epoch
-    ∙ ap (λ (q : ℕ). change_of d.key d.owner (record { epoch = d.version.epoch; seq = q }) c.body) seq
+    ∙ ap (λ (v : Version). change_of d.key d.owner v c.body) version
     ∙ ap (λ (b : Body). change_of d.key d.owner d.version b) body
 
 pub apart : (c d : ChangeRecord) (r s : List ℕ) → HasLine c → HasLine d → spelling c ++ r ≡ spelling d ++ s → (c ≡ d) × (r ≡ s)
-apart c d r s line_c line_d eq =
-    let is_c = label_of_line c line_c in
-    let is_d = label_of_line d line_d in
-    let same = same_parts (label_parts c) (label_parts d) (spelling c ++ r) r s (label_texts c is_c) (label_texts d is_d) (labels_alike c d) (line_stands c (spelling c ++ r) r line_c refl) (line_stands d (spelling c ++ r) s line_d eq) in
-    (label_one c d is_c is_d same.0, same.1)
+apart c d r s is_c is_d eq =
+    let same = same_parts (change_parts c) (change_parts d) (spelling c ++ r) r s (change_texts c is_c) (change_texts d is_d) (changes_alike c d is_c is_d) (line_stands c (spelling c ++ r) r refl) (line_stands d (spelling c ++ r) s eq) in
+    (change_one c d is_c is_d same.0, same.1)
 
 pub one_change : (c d : ChangeRecord) → HasLine c → HasLine d → spelling c ≡ spelling d → c ≡ d
-one_change c d line_c line_d eq = (apart c d [] [] line_c line_d (ap (λ (x : List ℕ). x ++ []) eq)).0
+one_change c d is_c is_d eq = (apart c d [] [] is_c is_d (ap (λ (x : List ℕ). x ++ []) eq)).0

@@ -1,169 +1,246 @@
--- The parts of a label's line from its mark on: each is missing where it has to stand, or is read there.
-use Rattle.std.proofs.Common.{◌≡◌, ◌≢◌, ℕ, zero, suc, ◌<◌, ◌≤◌, List, [], ◌∷◌, ◌++◌, length, drop, refl, sym, ap, subst, ◌∙◌, append_assoc, arith}
+-- The parts of a change from its mark on: each is missing where it has to stand, or is read there.
+use Rattle.std.proofs.Common.{◌≡◌, ◌≢◌, ℕ, ◌^◌, ◌<◌, ◌≤◌, List, [], ◌∷◌, ◌++◌, length, get_or, drop, Result, Ok, Err, refl, sym, ap, subst, ◌∙◌, arith}
 use Rattle.std.specs.Char.{is_ascii_digit}
-use Rattle.std.proofs.lemmas.Fmt.{decimal_injective}
-use Rattle.ds_names.specs.Name.{IsName}
+use Rattle.std.specs.Fmt.{decimal}
+use Rattle.hex.specs.Hex.{encode_lower}
 use Rattle.ds_names.specs.Endpoint.{EndpointRecord, IsEndpoint, endpoint_text}
 use Rattle.ds_names.specs.Run.{Begins}
+use Rattle.ds_names.specs.Kind.{kind_place}
+use Rattle.ds_names.specs.declared.kind.Kind.{Kind}
+use Rattle.ds_names.specs.declared.kind.Kind.TheVariants.{Label, U32, Str, Mem}
+use Rattle.ds_names.specs.declared.key.Key.{Key}
 use Rattle.ds_names.specs.declared.version.Version.{Version}
-use Rattle.ds_names.specs.declared.kind.Kind.TheVariants.{Label}
+use Rattle.ds_entry.specs.Value.{IsText as IsPrintable, IsBlob}
+use Rattle.ds_entry.specs.declared.body.Value.{Value}
 use Rattle.ds_entry.specs.declared.body.Value.TheVariants as values
 use Rattle.ds_entry.specs.declared.body.Body.{Body}
 use Rattle.ds_entry.specs.declared.body.Body.TheVariants.{Put, Gone}
-use Rattle.ds_entry.specs.Change.{ChangeRecord, change_of, IsLabelChange, IsLabelBody, IsBody, rs_name}
-use Rattle.ds_line.specs.Part.{Byte, Endpoint, run_of, Part, part, byte}
-use Rattle.ds_line.specs.Spelling.{space, newline, body_parts, HasLine}
+use Rattle.ds_entry.specs.Change.{ChangeRecord, change_of, kind_of, IsValue, IsChange, IsLabelChange, KeepsRule, IsBodyInPlace}
+use Rattle.ds_line.specs.Part.{Class, Byte, Number, Endpoint, Quoted, Hex, run_of, Part, part, byte}
+use Rattle.ds_line.specs.Spelling.{space, newline, quoted, value_part, body_parts, change_parts}
 use Rattle.ds_line.specs.FaultPlace.{Stand}
-use Rattle.ds_line.specs.Reading.{IsLabel, label_parts, up_to_mark, Completes}
+use Rattle.ds_line.specs.Reading.{HasBody, HasValue, up_to_mark, up_to_value, Completes, Reads}
+use Rattle.ds_line.specs.declared.stop.Stop.{Stop}
+use Rattle.ds_line.specs.declared.stop.Stop.TheVariants.{BadPart, NoRoom}
 use Rattle.ds_line.proofs.PartLemmas.{IsText, byte_begins}
-use Rattle.ds_line.proofs.StepLemmas.{Opens, stops_here, stops_behind_part}
-use Rattle.ds_line.proofs.LabelLemmas.{LabelStops, label_of_line, rs_is_name, put_of, put_is, gone_of, gone_is, one_left}
+use Rattle.ds_line.proofs.DigitLemmas.{hex_run}
+use Rattle.ds_line.proofs.ReadLemmas.{Begun, Comes, missing, read_on}
+use Rattle.ds_line.proofs.LabelLemmas.{label_rule, put_epoch, other_put}
+use Rattle.ds_line.proofs.OpeningLemmas.{version_known}
 
--- the parts of a put from its mark on, by its endpoint
-abbrev pub put_rest : EndpointRecord → List Part
-put_rest a = byte 61 ∷ space ∷ part Endpoint (endpoint_text a) ∷ newline ∷ []
+-- the first byte of the first part
+abbrev pub mark_of : List Part → ℕ
+mark_of parts = get_or (get_or parts 0 (byte 0)).text 0 0
 
--- those of a tombstone
-abbrev pub gone_rest : List Part
-gone_rest = byte 45 ∷ newline ∷ []
+-- ---- the mark
 
--- the text of the part at an index
-abbrev pub text_at : ℕ → List Part → List ℕ
-text_at i [] = []
-text_at zero (p ∷ parts) = p.text
-text_at (suc i) (p ∷ parts) = text_at i parts
+body_begun : (b : Body) → Begun Byte (body_parts b)
+body_begun (Put v) = (refl, refl)
+body_begun Gone = (refl, refl)
 
-put_shape : (v : Version) (b : Body) (more : List Part) → IsBody b → IsLabelBody v b → v.seq ≡ 0 → more ≡ body_parts b → (a : EndpointRecord) × IsEndpoint a × (a.generation ≡ v.epoch) × (more ≡ put_rest a)
-put_shape v (Put (values.Label a)) more is rule none q = (a, is, sym rule.1, q)
-put_shape v Gone more is rule none q = absurd (omega (arith, rule, none))
+mark_comes : (key : Key) (owner : List ℕ) (version : Version) → Comes (up_to_mark key owner version) Byte
+mark_comes key owner version c more is eq = subst (Begun Byte) (ap (drop 10) eq) (body_begun c.body)
 
-gone_shape : (v : Version) (b : Body) (more : List Part) → IsLabelBody v b → v.seq ≡ 1 → more ≡ body_parts b → more ≡ gone_rest
-gone_shape v (Put (values.Label a)) more rule one q = absurd (omega (arith, rule.0, one))
-gone_shape v Gone more rule one q = q
+no_mark : (key : Key) (owner : List ℕ) (version : Version) (b : Body) (bytes after : List ℕ) → IsChange (change_of key owner version b) → Stand 1 (body_parts b) bytes after
+    → (HasValue key owner version → (rest : List ℕ) → bytes ≢ 61 ∷ rest) → (IsChange (change_of key owner version Gone) → (rest : List ℕ) → bytes ≢ 45 ∷ rest) → ⊥
+no_mark key owner version (Put v) bytes after is h put gone = put (v, is) h.0 h.1.parts
+no_mark key owner version Gone bytes after is h put gone = gone is h.0 h.1.parts
 
--- where the parts up to the mark say that it is a put, the others are a put's
-put_after : (n : List ℕ) (e : ℕ) (c : ChangeRecord) (more : List Part) → e ≤ 2097151 → IsLabel c → label_parts c ≡ up_to_mark n e 0 ++ more → (a : EndpointRecord) × IsEndpoint a × (a.generation ≡ e) × (more ≡ put_rest a)
-put_after n e c more most m eq =
-    let epoch : c.version.epoch ≡ e = decimal_injective c.version.epoch e (omega (arith, m.change.epoch)) (omega arith) (ap (text_at 6) eq) in
-    let seq : c.version.seq ≡ 0 = decimal_injective c.version.seq 0 (omega (arith, m.change.seq)) (omega arith) (ap (text_at 8) eq) in
-    let s = put_shape c.version c.body more m.change.body m.rule.body seq (sym (ap (drop 10) eq)) in
-    (s.0, s.1, s.2 ∙ epoch, s.3)
+pub mark_missing : (key : Key) (owner : List ℕ) (version : Version) (bytes : List ℕ) (stop : Stop) → HasBody key owner version → stop ≡ BadPart (length bytes)
+    → (HasValue key owner version → (rest : List ℕ) → bytes ≢ 61 ∷ rest) → (IsChange (change_of key owner version Gone) → (rest : List ℕ) → bytes ≢ 45 ∷ rest) → Reads (up_to_mark key owner version) bytes (Err stop)
+mark_missing key owner version bytes stop has at put gone =
+    missing (up_to_mark key owner version) Byte bytes stop (change_of key owner version has.0) (body_parts has.0) has.1 refl (mark_comes key owner version) at
+    (λ c more after is eq h.
+    let k = version_known key owner version c more has.1.epoch has.1.seq is eq in
+    no_mark key owner version c.body bytes after k.0 (subst (λ (x : List Part). Stand 1 x bytes after) (sym k.1) h) put gone)
 
--- where they say that it is a tombstone, the others are a tombstone's
-gone_after : (n : List ℕ) (e : ℕ) (c : ChangeRecord) (more : List Part) → IsLabel c → label_parts c ≡ up_to_mark n e 1 ++ more → more ≡ gone_rest
-gone_after n e c more m eq =
-    let seq : c.version.seq ≡ 1 = decimal_injective c.version.seq 1 (omega (arith, m.change.seq)) (omega arith) (ap (text_at 8) eq) in
-    gone_shape c.version c.body more m.rule.body seq (sym (ap (drop 10) eq))
-
--- ---- puts
-
--- the parts that are left are those of some endpoint of the generation
-abbrev Shape : List Part → ℕ → (EndpointRecord → List Part) → Type 0
-Shape known e left = (c : ChangeRecord) (more : List Part) → IsLabel c → label_parts c ≡ known ++ more → (a : EndpointRecord) × IsEndpoint a × (a.generation ≡ e) × (more ≡ left a)
-
-put_part_missing : (known : List Part) (e : ℕ) (left : EndpointRecord → List Part) (bytes : List ℕ) (w : ChangeRecord) (further : List Part) → IsLabel w → label_parts w ≡ known ++ further → Shape known e left
-    → ((a : EndpointRecord) → 0 < length (left a)) → ((a : EndpointRecord) (after : List ℕ) → IsEndpoint a → a.generation ≡ e → ¬ Stand 1 (left a) bytes after) → LabelStops known bytes bytes
-put_part_missing known e left bytes w further is split shape some none =
-    stops_here IsLabel HasLine label_parts known bytes w further is split label_of_line
-    (λ c more after m eq h. let s = shape c more m eq in none s.0 after s.1 s.2 (subst (λ (y : List Part). Stand 1 y bytes after) s.3 h))
-    (λ c more line eq. let s = shape c more (label_of_line c line) eq in subst (λ (y : List Part). 0 < length y) (sym s.3) (some s.0))
-
-put_part_read : (known : List Part) (e : ℕ) (left : EndpointRecord → List Part) (p : Part) (bytes r at : List ℕ) → IsText p.class p.text → Shape known e left → ((a : EndpointRecord) → 0 < length (left a))
-    → ((a : EndpointRecord) → IsEndpoint a → Opens p.class (left a)) → Begins (run_of p.class) bytes p.text r → LabelStops (known ++ p ∷ []) r at → LabelStops known bytes at
-put_part_read known e left p bytes r at text shape some opens begins s =
-    stops_behind_part IsLabel HasLine label_parts known p bytes r at text label_of_line
-    (λ c more m eq. let f = shape c more m eq in subst (Opens p.class) (sym f.3) (opens f.0 f.1))
-    (λ c more line eq. let f = shape c more (label_of_line c line) eq in subst (λ (y : List Part). 0 < length y) (sym f.3) (some f.0)) begins s
-
-abbrev pub behind_put_mark : List ℕ → ℕ → List Part
-behind_put_mark n e = up_to_mark n e 0 ++ byte 61 ∷ []
-
-abbrev pub up_to_value : List ℕ → ℕ → List Part
-up_to_value n e = up_to_mark n e 0 ++ byte 61 ∷ space ∷ []
-
-abbrev pub behind_value : List ℕ → ℕ → EndpointRecord → List Part
-behind_value n e a = up_to_mark n e 0 ++ byte 61 ∷ space ∷ part Endpoint (endpoint_text a) ∷ []
-
-at_mark : (n : List ℕ) (e : ℕ) → e ≤ 2097151 → Shape (up_to_mark n e 0) e put_rest
-at_mark n e most c more m eq = put_after n e c more most m eq
-
-at_space : (n : List ℕ) (e : ℕ) → e ≤ 2097151 → Shape (behind_put_mark n e) e (λ a. space ∷ part Endpoint (endpoint_text a) ∷ newline ∷ [])
-at_space n e most c more m eq = let s = put_after n e c (byte 61 ∷ more) most m eq in (s.0, s.1, s.2, ap (drop 1) s.3)
-
-at_value : (n : List ℕ) (e : ℕ) → e ≤ 2097151 → Shape (up_to_value n e) e (λ a. part Endpoint (endpoint_text a) ∷ newline ∷ [])
-at_value n e most c more m eq = let s = put_after n e c (byte 61 ∷ space ∷ more) most m eq in (s.0, s.1, s.2, ap (drop 2) s.3)
-
-at_end : (n : List ℕ) (e : ℕ) (b : EndpointRecord) → e ≤ 2097151 → Shape (behind_value n e b) e (λ a. newline ∷ [])
-at_end n e b most c more m eq = let s = put_after n e c (byte 61 ∷ space ∷ part Endpoint (endpoint_text b) ∷ more) most m eq in (s.0, s.1, s.2, ap (drop 3) s.3)
-
--- a put of a label with this endpoint
-abbrev put_with : List ℕ → ℕ → EndpointRecord → ChangeRecord
-put_with n e a = change_of (record { name = n; kind = Label }) rs_name (record { epoch = e; seq = 0 }) (Put (values.Label a))
-
-put_with_is : (n : List ℕ) (e : ℕ) (a : EndpointRecord) → IsName n → n ≢ rs_name → 0 < e → e ≤ 2097151 → IsEndpoint a → a.generation ≡ e → IsLabel (put_with n e a)
-put_with_is n e a name not_rs some most is gen =
-    let rule : IsLabelChange (put_with n e a) = record { owner = refl; name = not_rs; epoch = some; body = (refl, sym gen) } in
-    record { change = record { name = name; owner = rs_is_name; epoch = most; seq = omega arith; body = is; kind = refl; rule = rule }; kind = refl; rule = rule }
-
-pub put_mark_missing : (n : List ℕ) (e : ℕ) (bytes : List ℕ) → IsName n → n ≢ rs_name → 0 < e → e ≤ 2097151 → ((rest : List ℕ) → bytes ≢ 61 ∷ rest) → LabelStops (up_to_mark n e 0) bytes bytes
-put_mark_missing n e bytes name not_rs some most none =
-    put_part_missing (up_to_mark n e 0) e put_rest bytes (put_of n e) (drop 10 (label_parts (put_of n e))) (put_is n e name not_rs some most) refl (at_mark n e most) (λ a. one_left _) (λ a after is gen h. none h.0 h.1.parts)
-
-pub put_mark_read : (n : List ℕ) (e : ℕ) (bytes r at : List ℕ) → e ≤ 2097151 → bytes ≡ 61 ∷ r → LabelStops (behind_put_mark n e) r at → LabelStops (up_to_mark n e 0) bytes at
-put_mark_read n e bytes r at most is s = put_part_read (up_to_mark n e 0) e put_rest (byte 61) bytes r at refl (at_mark n e most) (λ a. one_left _) (λ a ok. (refl, refl)) (byte_begins 61 bytes r is) s
-
-pub put_space_missing : (n : List ℕ) (e : ℕ) (bytes : List ℕ) → IsName n → n ≢ rs_name → 0 < e → e ≤ 2097151 → ((rest : List ℕ) → bytes ≢ 32 ∷ rest) → LabelStops (behind_put_mark n e) bytes bytes
-put_space_missing n e bytes name not_rs some most none =
-    put_part_missing (behind_put_mark n e) e (λ a. space ∷ part Endpoint (endpoint_text a) ∷ newline ∷ []) bytes (put_of n e) (drop 11 (label_parts (put_of n e))) (put_is n e name not_rs some most) refl (at_space n e most) (λ a. one_left _) (λ a after is gen h. none h.0 h.1.parts)
-
-pub put_space_read : (n : List ℕ) (e : ℕ) (bytes r at : List ℕ) → e ≤ 2097151 → bytes ≡ 32 ∷ r → LabelStops (up_to_value n e) r at → LabelStops (behind_put_mark n e) bytes at
-put_space_read n e bytes r at most is s =
-    put_part_read (behind_put_mark n e) e (λ a. space ∷ part Endpoint (endpoint_text a) ∷ newline ∷ []) space bytes r at refl (at_space n e most) (λ a. one_left _) (λ a ok. (refl, refl)) (byte_begins 32 bytes r is) s
-
-pub value_missing : (n : List ℕ) (e : ℕ) (bytes : List ℕ) → IsName n → n ≢ rs_name → 0 < e → e ≤ 2097151 → ((a : EndpointRecord) (rest : List ℕ) → IsEndpoint a → a.generation ≡ e → ¬ Begins is_ascii_digit bytes (endpoint_text a) rest) → LabelStops (up_to_value n e) bytes bytes
-value_missing n e bytes name not_rs some most none =
-    put_part_missing (up_to_value n e) e (λ a. part Endpoint (endpoint_text a) ∷ newline ∷ []) bytes (put_of n e) (drop 12 (label_parts (put_of n e))) (put_is n e name not_rs some most) refl (at_value n e most) (λ a. one_left _) (λ a after is gen h. none a h.0 is gen h.1)
-
-pub value_read : (n : List ℕ) (e : ℕ) (a : EndpointRecord) (bytes r at : List ℕ) → e ≤ 2097151 → IsEndpoint a → Begins is_ascii_digit bytes (endpoint_text a) r → LabelStops (behind_value n e a) r at → LabelStops (up_to_value n e) bytes at
-value_read n e a bytes r at most is begins s =
-    put_part_read (up_to_value n e) e (λ x. part Endpoint (endpoint_text x) ∷ newline ∷ []) (part Endpoint (endpoint_text a)) bytes r at (a, is, refl) (at_value n e most) (λ x. one_left _) (λ x ok. (refl, (x, ok, refl))) begins s
-
-pub put_end_missing : (n : List ℕ) (e : ℕ) (a : EndpointRecord) (bytes : List ℕ) → IsName n → n ≢ rs_name → 0 < e → e ≤ 2097151 → IsEndpoint a → a.generation ≡ e → ((rest : List ℕ) → bytes ≢ 10 ∷ rest) → LabelStops (behind_value n e a) bytes bytes
-put_end_missing n e a bytes name not_rs some most is gen none =
-    put_part_missing (behind_value n e a) e (λ x. newline ∷ []) bytes (put_with n e a) (drop 13 (label_parts (put_with n e a))) (put_with_is n e a name not_rs some most is gen) refl (at_end n e a most) (λ x. one_left _) (λ x after ok same h. none h.0 h.1.parts)
-
-pub put_completes : (n o : List ℕ) (e : ℕ) (a : EndpointRecord) (bytes r1 r2 r3 rest : List ℕ) (c : ChangeRecord) → IsName n → n ≢ rs_name → 0 < e → e ≤ 2097151 → IsEndpoint a → a.generation ≡ e → o ≡ rs_name
-    → c ≡ change_of (record { name = n; kind = Label }) o (record { epoch = e; seq = 0 }) (Put (values.Label a))
-    → bytes ≡ 61 ∷ r1 → r1 ≡ 32 ∷ r2 → r2 ≡ endpoint_text a ++ r3 → r3 ≡ 10 ∷ rest → Completes (up_to_mark n e 0) c bytes rest
-put_completes n o e a bytes r1 r2 r3 rest c name not_rs some most is gen owner made b1 b2 b3 b4 =
-    let same : c ≡ put_with n e a = made ∙ ap (λ (x : List ℕ). change_of (record { name = n; kind = Label }) x (record { epoch = e; seq = 0 }) (Put (values.Label a))) owner in
-    let text : bytes ≡ 61 ∷ 32 ∷ ((endpoint_text a ++ 10 ∷ []) ++ rest) = b1 ∙ ap (λ (x : List ℕ). 61 ∷ x) (b2 ∙ ap (λ (x : List ℕ). 32 ∷ x) (b3 ∙ ap (λ (x : List ℕ). endpoint_text a ++ x) b4 ∙ sym (append_assoc (endpoint_text a) (10 ∷ []) rest))) in
-    let whole : Completes (up_to_mark n e 0) (put_with n e a) bytes rest = record { label = put_with_is n e a name not_rs some most is gen; further = put_rest a; split = refl; text = text } in
-    subst (λ (x : ChangeRecord). Completes (up_to_mark n e 0) x bytes rest) (sym same) whole
+pub mark_then : (key : Key) (owner : List ℕ) (version : Version) (mark : ℕ) (bytes r : List ℕ) (result : Result (ChangeRecord × ℕ) Stop) → bytes ≡ mark ∷ r → Reads (up_to_mark key owner version ++ byte mark ∷ []) r result → Reads (up_to_mark key owner version) bytes result
+mark_then key owner version mark bytes r result is k = read_on (up_to_mark key owner version) (byte mark) bytes r result refl (mark_comes key owner version) (byte_begins mark bytes r is) k
 
 -- ---- tombstones
 
-pub gone_mark_missing : (n : List ℕ) (e : ℕ) (bytes : List ℕ) → IsName n → n ≢ rs_name → 0 < e → e ≤ 2097151 → ((rest : List ℕ) → bytes ≢ 45 ∷ rest) → LabelStops (up_to_mark n e 1) bytes bytes
-gone_mark_missing n e bytes name not_rs some most none =
-    stops_here IsLabel HasLine label_parts (up_to_mark n e 1) bytes (gone_of n e) gone_rest (gone_is n e name not_rs some most) refl label_of_line
-    (λ c more after m eq h. let first = subst (λ (y : List Part). Stand 1 y bytes after) (gone_after n e c more m eq) h in none first.0 first.1.parts)
-    (λ c more line eq. subst (λ (y : List Part). 0 < length y) (sym (gone_after n e c more (label_of_line c line) eq)) (one_left _))
+gone_after : (b : Body) (more : List Part) → body_parts b ≡ byte 45 ∷ more → newline ∷ [] ≡ more
+gone_after (Put v) more e = absurd (omega (arith, ap mark_of e))
+gone_after Gone more e = ap (drop 1) e
 
-pub gone_mark_read : (n : List ℕ) (e : ℕ) (bytes r at : List ℕ) → bytes ≡ 45 ∷ r → LabelStops (up_to_mark n e 1 ++ byte 45 ∷ []) r at → LabelStops (up_to_mark n e 1) bytes at
-gone_mark_read n e bytes r at is s =
-    stops_behind_part IsLabel HasLine label_parts (up_to_mark n e 1) (byte 45) bytes r at refl label_of_line
-    (λ c more m eq. subst (Opens Byte) (sym (gone_after n e c more m eq)) (refl, refl))
-    (λ c more line eq. subst (λ (y : List Part). 0 < length y) (sym (gone_after n e c more (label_of_line c line) eq)) (one_left _)) (byte_begins 45 bytes r is) s
+gone_end_comes : (key : Key) (owner : List ℕ) (version : Version) → Comes (up_to_mark key owner version ++ byte 45 ∷ []) Byte
+gone_end_comes key owner version c more is eq = subst (Begun Byte) (gone_after c.body more (ap (drop 10) eq)) (refl, refl)
 
-pub gone_end_missing : (n : List ℕ) (e : ℕ) (bytes : List ℕ) → IsName n → n ≢ rs_name → 0 < e → e ≤ 2097151 → ((rest : List ℕ) → bytes ≢ 10 ∷ rest) → LabelStops (up_to_mark n e 1 ++ byte 45 ∷ []) bytes bytes
-gone_end_missing n e bytes name not_rs some most none =
-    stops_here IsLabel HasLine label_parts (up_to_mark n e 1 ++ byte 45 ∷ []) bytes (gone_of n e) (newline ∷ []) (gone_is n e name not_rs some most) refl label_of_line
-    (λ c more after m eq h. let first = subst (λ (y : List Part). Stand 1 y bytes after) (ap (drop 1) (gone_after n e c (byte 45 ∷ more) m eq)) h in none first.0 first.1.parts)
-    (λ c more line eq. subst (λ (y : List Part). 0 < length y) (sym (ap (drop 1) (gone_after n e c (byte 45 ∷ more) (label_of_line c line) eq))) (one_left _))
+pub gone_end_missing : (key : Key) (owner : List ℕ) (version : Version) (bytes : List ℕ) (stop : Stop) → IsChange (change_of key owner version Gone) → stop ≡ BadPart (length bytes) → ((rest : List ℕ) → bytes ≢ 10 ∷ rest) → Reads (up_to_mark key owner version ++ byte 45 ∷ []) bytes (Err stop)
+gone_end_missing key owner version bytes stop is_gone at none =
+    missing (up_to_mark key owner version ++ byte 45 ∷ []) Byte bytes stop (change_of key owner version Gone) (newline ∷ []) is_gone refl (gone_end_comes key owner version) at
+    (λ c more after is eq h. let first = subst (λ (x : List Part). Stand 1 x bytes after) (sym (gone_after c.body more (ap (drop 10) eq))) h in none first.0 first.1.parts)
 
-pub gone_completes : (n o : List ℕ) (e : ℕ) (bytes r1 rest : List ℕ) (c : ChangeRecord) → IsName n → n ≢ rs_name → 0 < e → e ≤ 2097151 → o ≡ rs_name
-    → c ≡ change_of (record { name = n; kind = Label }) o (record { epoch = e; seq = 1 }) Gone → bytes ≡ 45 ∷ r1 → r1 ≡ 10 ∷ rest → Completes (up_to_mark n e 1) c bytes rest
-gone_completes n o e bytes r1 rest c name not_rs some most owner made b1 b2 =
-    let same : c ≡ gone_of n e = made ∙ ap (λ (x : List ℕ). change_of (record { name = n; kind = Label }) x (record { epoch = e; seq = 1 }) Gone) owner in
-    let whole : Completes (up_to_mark n e 1) (gone_of n e) bytes rest = record { label = gone_is n e name not_rs some most; further = gone_rest; split = refl; text = b1 ∙ ap (λ (x : List ℕ). 45 ∷ x) b2 } in
-    subst (λ (x : ChangeRecord). Completes (up_to_mark n e 1) x bytes rest) (sym same) whole
+pub gone_whole : (key : Key) (owner : List ℕ) (version : Version) (bytes rest : List ℕ) → IsChange (change_of key owner version Gone) → bytes ≡ 10 ∷ rest → Reads (up_to_mark key owner version ++ byte 45 ∷ []) bytes (Ok (change_of key owner version Gone, length rest))
+gone_whole key owner version bytes rest is_gone is = (rest, record { change = is_gone; further = newline ∷ []; split = refl; text = is }, refl)
+
+-- ---- puts
+
+put_after : (b : Body) (more : List Part) → body_parts b ≡ byte 61 ∷ more → (v : Value) × (b ≡ Put v) × (space ∷ value_part v ∷ newline ∷ [] ≡ more)
+put_after (Put v) more e = (v, refl, ap (drop 1) e)
+put_after Gone more e = absurd (omega (arith, ap mark_of e))
+
+value_space_comes : (key : Key) (owner : List ℕ) (version : Version) → Comes (up_to_mark key owner version ++ byte 61 ∷ []) Byte
+value_space_comes key owner version c more is eq = subst (Begun Byte) (put_after c.body more (ap (drop 10) eq)).2 (refl, refl)
+
+pub value_space_missing : (key : Key) (owner : List ℕ) (version : Version) (bytes : List ℕ) (stop : Stop) → HasValue key owner version → stop ≡ BadPart (length bytes) → ((rest : List ℕ) → bytes ≢ 32 ∷ rest) → Reads (up_to_mark key owner version ++ byte 61 ∷ []) bytes (Err stop)
+value_space_missing key owner version bytes stop has at none =
+    missing (up_to_mark key owner version ++ byte 61 ∷ []) Byte bytes stop (change_of key owner version (Put has.0)) (space ∷ value_part has.0 ∷ newline ∷ []) has.1 refl (value_space_comes key owner version) at
+    (λ c more after is eq h. let first = subst (λ (x : List Part). Stand 1 x bytes after) (sym (put_after c.body more (ap (drop 10) eq)).2) h in none first.0 first.1.parts)
+
+pub value_space_then : (key : Key) (owner : List ℕ) (version : Version) (bytes r : List ℕ) (result : Result (ChangeRecord × ℕ) Stop) → bytes ≡ 32 ∷ r → Reads (up_to_value key owner version) r result → Reads (up_to_mark key owner version ++ byte 61 ∷ []) bytes result
+value_space_then key owner version bytes r result is k = read_on (up_to_mark key owner version ++ byte 61 ∷ []) space bytes r result refl (value_space_comes key owner version) (byte_begins 32 bytes r is) k
+
+-- ---- values
+
+-- the class of a value's part is its kind's
+abbrev class_of : Kind → Class
+class_of Label = Endpoint
+class_of U32 = Number
+class_of Str = Quoted
+class_of Mem = Hex
+
+class_is : (v : Value) → (value_part v).class ≡ class_of (kind_of v)
+class_is (values.Label e) = refl
+class_is (values.U32 n) = refl
+class_is (values.Str t) = refl
+class_is (values.Mem b) = refl
+
+pub class_one : (v w : Value) → kind_of v ≡ kind_of w → (value_part v).class ≡ (value_part w).class
+class_one v w kind = class_is v ∙ ap class_of kind ∙ sym (class_is w)
+
+-- the text of a value's part is one of its class
+pub value_text : (v : Value) → IsValue v → IsText (value_part v).class (value_part v).text
+value_text (values.Label e) is = (e, is, refl)
+value_text (values.U32 n) is = (n, omega (arith, is), refl)
+value_text (values.Str t) is = (t, refl)
+value_text (values.Mem b) is = hex_run b is.each
+
+-- what the parts up to the value tell
+pub put_known : (key : Key) (owner : List ℕ) (version : Version) (c : ChangeRecord) (more : List Part) → version.epoch ≤ 2097151 → version.seq < 2 ^ 32 → IsChange c → change_parts c ≡ up_to_value key owner version ++ more
+    → (v : Value) × IsChange (change_of key owner version (Put v)) × (value_part v ∷ newline ∷ [] ≡ more)
+put_known key owner version c more most fits is eq =
+    let k = version_known key owner version c (byte 61 ∷ space ∷ more) most fits is eq in
+    let p = put_after c.body (space ∷ more) k.1 in
+    (p.0, subst (λ (b : Body). IsChange (change_of key owner version b)) p.1 k.0, ap (drop 1) p.2)
+
+value_comes : (key : Key) (owner : List ℕ) (version : Version) (v : Value) → IsChange (change_of key owner version (Put v)) → Comes (up_to_value key owner version) (value_part v).class
+value_comes key owner version v is_put c more is eq =
+    let k = put_known key owner version c more is_put.epoch is_put.seq is eq in
+    subst (Begun (value_part v).class) k.2 (class_one k.0 v (k.1.kind ∙ sym is_put.kind), value_text k.0 k.1.body)
+
+-- no value of a put stands here
+abbrev pub NoValue : Key → List ℕ → Version → List ℕ → Type 0
+NoValue key owner version bytes = (v : Value) (after : List ℕ) → IsChange (change_of key owner version (Put v)) → ¬ Begins (run_of (value_part v).class) bytes (value_part v).text after
+
+value_missing : (key : Key) (owner : List ℕ) (version : Version) (bytes : List ℕ) (stop : Stop) → HasValue key owner version → stop ≡ BadPart (length bytes) → NoValue key owner version bytes → Reads (up_to_value key owner version) bytes (Err stop)
+value_missing key owner version bytes stop has at none =
+    missing (up_to_value key owner version) (value_part has.0).class bytes stop (change_of key owner version (Put has.0)) (value_part has.0 ∷ newline ∷ []) has.1 refl (value_comes key owner version has.0 has.1) at
+    (λ c more after is eq h.
+    let k = put_known key owner version c more has.1.epoch has.1.seq is eq in
+    let first = subst (λ (x : List Part). Stand 1 x bytes after) (sym k.2) h in
+    none k.0 first.0 k.1 first.1)
+
+no_endpoint : (key : Key) (owner : List ℕ) (version : Version) (bytes : List ℕ) → key.kind ≡ Label → ((e : EndpointRecord) (rest : List ℕ) → IsEndpoint e → e.generation ≡ version.epoch → ¬ Begins is_ascii_digit bytes (endpoint_text e) rest) → NoValue key owner version bytes
+no_endpoint key owner version bytes kind none (values.Label e) after is h = none e after is.body (sym (label_rule (change_of key owner version (Put (values.Label e))) is kind).body.1) h
+no_endpoint key owner version bytes kind none (values.U32 n) after is h = omega (arith, ap kind_place (is.kind ∙ kind))
+no_endpoint key owner version bytes kind none (values.Str t) after is h = omega (arith, ap kind_place (is.kind ∙ kind))
+no_endpoint key owner version bytes kind none (values.Mem b) after is h = omega (arith, ap kind_place (is.kind ∙ kind))
+
+pub endpoint_missing : (key : Key) (owner : List ℕ) (version : Version) (bytes : List ℕ) (stop : Stop) → key.kind ≡ Label → HasValue key owner version → stop ≡ BadPart (length bytes)
+    → ((e : EndpointRecord) (rest : List ℕ) → IsEndpoint e → e.generation ≡ version.epoch → ¬ Begins is_ascii_digit bytes (endpoint_text e) rest) → Reads (up_to_value key owner version) bytes (Err stop)
+endpoint_missing key owner version bytes stop kind has at none = value_missing key owner version bytes stop has at (no_endpoint key owner version bytes kind none)
+
+no_number : (key : Key) (owner : List ℕ) (version : Version) (bytes : List ℕ) → key.kind ≡ U32 → ((n : ℕ) (rest : List ℕ) → n ≤ 4294967295 → ¬ Begins is_ascii_digit bytes (decimal n) rest) → NoValue key owner version bytes
+no_number key owner version bytes kind none (values.Label e) after is h = omega (arith, ap kind_place (is.kind ∙ kind))
+no_number key owner version bytes kind none (values.U32 n) after is h = none n after (omega (arith, is.body)) h
+no_number key owner version bytes kind none (values.Str t) after is h = omega (arith, ap kind_place (is.kind ∙ kind))
+no_number key owner version bytes kind none (values.Mem b) after is h = omega (arith, ap kind_place (is.kind ∙ kind))
+
+pub number_missing : (key : Key) (owner : List ℕ) (version : Version) (bytes : List ℕ) (stop : Stop) → key.kind ≡ U32 → HasValue key owner version → stop ≡ BadPart (length bytes)
+    → ((n : ℕ) (rest : List ℕ) → n ≤ 4294967295 → ¬ Begins is_ascii_digit bytes (decimal n) rest) → Reads (up_to_value key owner version) bytes (Err stop)
+number_missing key owner version bytes stop kind has at none = value_missing key owner version bytes stop has at (no_number key owner version bytes kind none)
+
+no_text : (key : Key) (owner : List ℕ) (version : Version) (bytes : List ℕ) → key.kind ≡ Str → ((text rest : List ℕ) → IsPrintable text → ¬ Begins (run_of Quoted) bytes (quoted text) rest) → NoValue key owner version bytes
+no_text key owner version bytes kind none (values.Label e) after is h = omega (arith, ap kind_place (is.kind ∙ kind))
+no_text key owner version bytes kind none (values.U32 n) after is h = omega (arith, ap kind_place (is.kind ∙ kind))
+no_text key owner version bytes kind none (values.Str t) after is h = none t after is.body h
+no_text key owner version bytes kind none (values.Mem b) after is h = omega (arith, ap kind_place (is.kind ∙ kind))
+
+pub text_missing : (key : Key) (owner : List ℕ) (version : Version) (bytes : List ℕ) (stop : Stop) → key.kind ≡ Str → HasValue key owner version → stop ≡ BadPart (length bytes)
+    → ((text rest : List ℕ) → IsPrintable text → ¬ Begins (run_of Quoted) bytes (quoted text) rest) → Reads (up_to_value key owner version) bytes (Err stop)
+text_missing key owner version bytes stop kind has at none = value_missing key owner version bytes stop has at (no_text key owner version bytes kind none)
+
+no_blob : (key : Key) (owner : List ℕ) (version : Version) (bytes : List ℕ) → key.kind ≡ Mem → ((blob rest : List ℕ) → IsBlob blob → ¬ Begins (run_of Hex) bytes (encode_lower blob) rest) → NoValue key owner version bytes
+no_blob key owner version bytes kind none (values.Label e) after is h = omega (arith, ap kind_place (is.kind ∙ kind))
+no_blob key owner version bytes kind none (values.U32 n) after is h = omega (arith, ap kind_place (is.kind ∙ kind))
+no_blob key owner version bytes kind none (values.Str t) after is h = omega (arith, ap kind_place (is.kind ∙ kind))
+no_blob key owner version bytes kind none (values.Mem b) after is h = none b after is.body h
+
+pub blob_missing : (key : Key) (owner : List ℕ) (version : Version) (bytes : List ℕ) (stop : Stop) → key.kind ≡ Mem → HasValue key owner version → stop ≡ BadPart (length bytes)
+    → ((blob rest : List ℕ) → IsBlob blob → ¬ Begins (run_of Hex) bytes (encode_lower blob) rest) → Reads (up_to_value key owner version) bytes (Err stop)
+blob_missing key owner version bytes stop kind has at none = value_missing key owner version bytes stop has at (no_blob key owner version bytes kind none)
+
+-- a label's put of this endpoint
+pub endpoint_put : (key : Key) (owner : List ℕ) (version : Version) (e : EndpointRecord) → key.kind ≡ Label → HasValue key owner version → IsEndpoint e → e.generation ≡ version.epoch → IsChange (change_of key owner version (Put (values.Label e)))
+endpoint_put key owner version e kind has is gen =
+    let old = label_rule (change_of key owner version (Put has.0)) has.1 kind in
+    let seq = put_epoch version has.0 old.body in
+    let rule : IsLabelChange (change_of key owner version (Put (values.Label e))) = record { owner = old.owner; name = old.name; epoch = old.epoch; body = (seq, sym gen) } in
+    record {
+      name = has.1.name;
+      owner = has.1.owner;
+      epoch = has.1.epoch;
+      seq = has.1.seq;
+      body = is;
+      kind = sym kind;
+      rule = subst (λ (k : Kind). KeepsRule k (change_of key owner version (Put (values.Label e)))) (sym kind) rule;
+    }
+
+-- a put of this number, text or blob
+pub number_put : (key : Key) (owner : List ℕ) (version : Version) (n : ℕ) → key.kind ≡ U32 → HasValue key owner version → n < 2 ^ 32 → IsChange (change_of key owner version (Put (values.U32 n)))
+number_put key owner version n kind has is = other_put key owner version (values.U32 n) (λ label. omega (arith, ap kind_place (sym kind ∙ label))) has is (sym kind)
+
+pub text_put : (key : Key) (owner : List ℕ) (version : Version) (text : List ℕ) → key.kind ≡ Str → HasValue key owner version → IsPrintable text → IsChange (change_of key owner version (Put (values.Str text)))
+text_put key owner version text kind has is = other_put key owner version (values.Str text) (λ label. omega (arith, ap kind_place (sym kind ∙ label))) has is (sym kind)
+
+pub blob_put : (key : Key) (owner : List ℕ) (version : Version) (blob : List ℕ) → key.kind ≡ Mem → HasValue key owner version → IsBlob blob → IsChange (change_of key owner version (Put (values.Mem blob)))
+blob_put key owner version blob kind has is = other_put key owner version (values.Mem blob) (λ label. omega (arith, ap kind_place (sym kind ∙ label))) has is (sym kind)
+
+-- ---- the end of a put's line
+
+abbrev pub behind_value : Key → List ℕ → Version → Value → List Part
+behind_value key owner version v = up_to_value key owner version ++ value_part v ∷ []
+
+end_comes : (key : Key) (owner : List ℕ) (version : Version) (v : Value) → IsChange (change_of key owner version (Put v)) → Comes (behind_value key owner version v) Byte
+end_comes key owner version v is_put c more is eq =
+    let k = put_known key owner version c (value_part v ∷ more) is_put.epoch is_put.seq is eq in
+    subst (Begun Byte) (ap (drop 1) k.2) (refl, refl)
+
+-- the value is read, and behind it the newline is missing
+pub put_end_missing : (key : Key) (owner : List ℕ) (version : Version) (v : Value) (bytes r : List ℕ) (stop : Stop) → IsChange (change_of key owner version (Put v)) → Begins (run_of (value_part v).class) bytes (value_part v).text r → stop ≡ BadPart (length r)
+    → ((rest : List ℕ) → r ≢ 10 ∷ rest) → Reads (up_to_value key owner version) bytes (Err stop)
+put_end_missing key owner version v bytes r stop is_put begins at none =
+    read_on (up_to_value key owner version) (value_part v) bytes r (Err stop) (value_text v is_put.body) (value_comes key owner version v is_put) begins
+    (missing (behind_value key owner version v) Byte r stop (change_of key owner version (Put v)) (newline ∷ []) is_put refl (end_comes key owner version v is_put) at
+    (λ c more after is eq h.
+    let k = put_known key owner version c (value_part v ∷ more) is_put.epoch is_put.seq is eq in
+    let first = subst (λ (x : List Part). Stand 1 x r after) (sym (ap (drop 1) k.2)) h in
+    none first.0 first.1.parts))
+
+put_completes : (key : Key) (owner : List ℕ) (version : Version) (v : Value) (r rest : List ℕ) → IsChange (change_of key owner version (Put v)) → r ≡ 10 ∷ rest → Completes (behind_value key owner version v) (change_of key owner version (Put v)) r rest
+put_completes key owner version v r rest is_put end = record { change = is_put; further = newline ∷ []; split = refl; text = end }
+
+-- the value is read, and the line ends behind it
+pub put_whole : (key : Key) (owner : List ℕ) (version : Version) (v : Value) (bytes r rest : List ℕ) → IsChange (change_of key owner version (Put v)) → Begins (run_of (value_part v).class) bytes (value_part v).text r → r ≡ 10 ∷ rest
+    → Reads (up_to_value key owner version) bytes (Ok (change_of key owner version (Put v), length rest))
+put_whole key owner version v bytes r rest is_put begins end =
+    read_on (up_to_value key owner version) (value_part v) bytes r (Ok (change_of key owner version (Put v), length rest)) (value_text v is_put.body) (value_comes key owner version v is_put) begins
+    (rest, put_completes key owner version v r rest is_put end, refl)
+
+-- so it is too where there is no room for the value
+pub put_no_room : (key : Key) (owner : List ℕ) (version : Version) (v : Value) (bytes r rest : List ℕ) → IsChange (change_of key owner version (Put v)) → ¬ IsBodyInPlace (Put v) → Begins (run_of (value_part v).class) bytes (value_part v).text r → r ≡ 10 ∷ rest
+    → Reads (up_to_value key owner version) bytes (Err NoRoom)
+put_no_room key owner version v bytes r rest is_put large begins end =
+    read_on (up_to_value key owner version) (value_part v) bytes r (Err NoRoom) (value_text v is_put.body) (value_comes key owner version v is_put) begins
+    (record { put = change_of key owner version (Put v); rest = rest; completes = put_completes key owner version v r rest is_put end; value = large })

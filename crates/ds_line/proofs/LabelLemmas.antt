@@ -1,197 +1,215 @@
--- The parts of a label's line, up to its mark: each is missing where it has to stand, or is read there.
-use Rattle.std.proofs.Common.{◌≡◌, ◌≢◌, ℕ, zero, suc, ◌<◌, ◌≤◌, List, [], ◌∷◌, ◌++◌, length, drop, refl, sym, ap, subst, arith}
-use Rattle.std.specs.Char.{is_ascii_digit, is_ascii_alphanumeric}
-use Rattle.std.specs.Fmt.{decimal}
+-- What labels and the other kinds ask of a change's parts: which parts some change has.
+use Rattle.std.proofs.Common.{◌≡◌, ◌≢◌, ℕ, ◌^◌, ◌<◌, ◌≤◌, ◌⊎◌, inl, inr, List, [], ◌∷◌, refl, sym, ap, subst, ◌∙◌, arith}
+use Rattle.std.proofs.lemmas.Bool.{cases_eq}
 use Rattle.ds_names.specs.Name.{is_name_byte, IsName}
-use Rattle.ds_names.specs.Run.{Begins}
-use Rattle.ds_names.specs.declared.version.Version.{Version}
 use Rattle.ds_names.specs.declared.kind.Kind.{Kind}
-use Rattle.ds_names.specs.declared.kind.Kind.TheVariants.{Label}
-use Rattle.ds_names.proofs.DecimalLemmas.{decimal_one}
+use Rattle.ds_names.specs.declared.kind.Kind.TheVariants.{Label, U32, Str, Mem}
+use Rattle.ds_names.specs.declared.key.Key.{Key}
+use Rattle.ds_names.specs.declared.version.Version.{Version}
+use Rattle.ds_entry.specs.declared.body.Value.{Value}
 use Rattle.ds_entry.specs.declared.body.Value.TheVariants as values
 use Rattle.ds_entry.specs.declared.body.Body.{Body}
 use Rattle.ds_entry.specs.declared.body.Body.TheVariants.{Put, Gone}
-use Rattle.ds_entry.specs.Change.{ChangeRecord, change_of, IsLabelChange, IsLabelBody, KeepsRule, rs_name}
-use Rattle.ds_line.specs.Part.{Name, Word, Number, run_of, Part, part, byte}
-use Rattle.ds_line.specs.Spelling.{space, label_word, HasLine}
-use Rattle.ds_line.specs.FaultPlace.{Stand}
-use Rattle.ds_line.specs.Reading.{IsLabel, label_parts, up_to_kind, up_to_epoch, up_to_mark, StopsBehind, Completes}
-use Rattle.ds_line.proofs.PartLemmas.{IsText, part_one, byte_begins}
-use Rattle.ds_line.proofs.StepLemmas.{Opens, stops_here, stops_behind_part, completes_behind_part}
-
--- behind the known parts of a label's line, what can be read ends where the rest begins
-abbrev pub LabelStops : List Part → List ℕ → List ℕ → Type 0
-LabelStops known bytes rest = StopsBehind IsLabel HasLine label_parts known bytes rest
-
--- ---- labels
-
-pub label_of_line : (c : ChangeRecord) → HasLine c → IsLabel c
-label_of_line c line = record { change = line.change; kind = line.kind; rule = subst (λ (k : Kind). KeepsRule k c) line.kind line.change.rule }
+use Rattle.ds_entry.specs.Change.{ChangeRecord, change_of, kind_of, IsOfKind, IsValue, IsChange, IsLabelChange, IsLabelBody, IsBelowSweeps, KeepsRule, rs_name}
+use Rattle.ds_line.specs.Reading.{HasOwner, HasVersion, HasSeq, HasBody, HasValue}
 
 pub rs_is_name : IsName rs_name
 unfolding is_name_byte
 rs_is_name = record { some = omega arith; limit = omega arith; allowed = refl }
 
--- a put of a label: slot 0, under this generation
-abbrev pub put_of : List ℕ → ℕ → ChangeRecord
-put_of n e = change_of (record { name = n; kind = Label }) rs_name (record { epoch = e; seq = 0 }) (Put (values.Label (record { generation = e; slot = 0 })))
+-- the version of these numbers
+abbrev pub version_of : ℕ → ℕ → Version
+version_of epoch seq = record { epoch = epoch; seq = seq }
 
--- its tombstone
-abbrev pub gone_of : List ℕ → ℕ → ChangeRecord
-gone_of n e = change_of (record { name = n; kind = Label }) rs_name (record { epoch = e; seq = 1 }) Gone
+-- a label's put at slot 0, under this generation
+abbrev pub put_of : ℕ → Body
+put_of epoch = Put (values.Label (record { generation = epoch; slot = 0 }))
 
-pub put_is : (n : List ℕ) (e : ℕ) → IsName n → n ≢ rs_name → 0 < e → e ≤ 2097151 → IsLabel (put_of n e)
-put_is n e name not_rs some most =
-    let rule : IsLabelChange (put_of n e) = record { owner = refl; name = not_rs; epoch = some; body = (refl, refl) } in
-    record { change = record { name = name; owner = rs_is_name; epoch = most; seq = omega arith; body = record { generation = most; slot = omega arith }; kind = refl; rule = rule }; kind = refl; rule = rule }
+-- a label's change keeps the rule of labels
+pub label_rule : (c : ChangeRecord) → IsChange c → c.key.kind ≡ Label → IsLabelChange c
+label_rule c is kind = subst (λ (k : Kind). KeepsRule k c) kind is.rule
 
-pub gone_is : (n : List ℕ) (e : ℕ) → IsName n → n ≢ rs_name → 0 < e → e ≤ 2097151 → IsLabel (gone_of n e)
-gone_is n e name not_rs some most =
-    let rule : IsLabelChange (gone_of n e) = record { owner = refl; name = not_rs; epoch = some; body = refl } in
-    record { change = record { name = name; owner = rs_is_name; epoch = most; seq = omega arith; body = tt; kind = tt; rule = rule }; kind = refl; rule = rule }
+-- a tombstone at any version keeps the rule of the other kinds
+gone_keeps : (k : Kind) (c : ChangeRecord) → k ≢ Label → c.body ≡ Gone → KeepsRule k c
+gone_keeps Label c other gone = absurd (other refl)
+gone_keeps U32 c other gone = subst (λ (b : Body). IsBelowSweeps c.version b) (sym gone) tt
+gone_keeps Str c other gone = subst (λ (b : Body). IsBelowSweeps c.version b) (sym gone) tt
+gone_keeps Mem c other gone = subst (λ (b : Body). IsBelowSweeps c.version b) (sym gone) tt
 
-first_is : (n : List ℕ) → IsName n → n ≢ rs_name → IsLabel (put_of n 1)
-first_is n name not_rs = put_is n 1 name not_rs (omega arith) (omega arith)
+-- ---- changes there are
 
-pub one_left : (n : ℕ) → 0 < suc n
-one_left n = omega arith
+pub label_put : (key : Key) (owner : List ℕ) (version : Version) → key.kind ≡ Label → IsName key.name → key.name ≢ rs_name → owner ≡ rs_name → 0 < version.epoch → version.epoch ≤ 2097151 → version.seq ≡ 0
+    → IsChange (change_of key owner version (put_of version.epoch))
+label_put key owner version kind name not_rs is_rs some most none =
+    let rule : IsLabelChange (change_of key owner version (put_of version.epoch)) = record { owner = is_rs; name = not_rs; epoch = some; body = (none, refl) } in
+    record {
+      name = name;
+      owner = subst IsName (sym is_rs) rs_is_name;
+      epoch = most;
+      seq = omega (arith, none);
+      body = record { generation = most; slot = omega arith };
+      kind = sym kind;
+      rule = subst (λ (k : Kind). KeepsRule k (change_of key owner version (put_of version.epoch))) (sym kind) rule;
+    }
 
--- ---- one part, at an index
+pub label_gone : (key : Key) (owner : List ℕ) (version : Version) → key.kind ≡ Label → IsName key.name → key.name ≢ rs_name → owner ≡ rs_name → 0 < version.epoch → version.epoch ≤ 2097151 → version.seq ≡ 1
+    → IsChange (change_of key owner version Gone)
+label_gone key owner version kind name not_rs is_rs some most one =
+    let rule : IsLabelChange (change_of key owner version Gone) = record { owner = is_rs; name = not_rs; epoch = some; body = one } in
+    record {
+      name = name;
+      owner = subst IsName (sym is_rs) rs_is_name;
+      epoch = most;
+      seq = omega (arith, one);
+      body = tt;
+      kind = tt;
+      rule = subst (λ (k : Kind). KeepsRule k (change_of key owner version Gone)) (sym kind) rule;
+    }
 
--- the k-th part of a label's line is missing
-label_missing : (k : ℕ) (known : List Part) (bytes : List ℕ) (w : ChangeRecord) (further : List Part) → IsLabel w → label_parts w ≡ known ++ further
-    → ((c : ChangeRecord) (more : List Part) → label_parts c ≡ known ++ more → more ≡ drop k (label_parts c)) → ((c : ChangeRecord) → 0 < length (drop k (label_parts c)))
-    → ((c : ChangeRecord) (after : List ℕ) → IsLabel c → ¬ Stand 1 (drop k (label_parts c)) bytes after) → LabelStops known bytes bytes
-label_missing k known bytes w further is split next some none =
-    stops_here IsLabel HasLine label_parts known bytes w further is split label_of_line
-    (λ c more after m eq h. none c after m (subst (λ (x : List Part). Stand 1 x bytes after) (next c more eq) h))
-    (λ c more line eq. subst (λ (x : List Part). 0 < length x) (sym (next c more eq)) (some c))
+pub other_gone : (key : Key) (owner : List ℕ) (version : Version) → key.kind ≢ Label → IsName key.name → IsName owner → version.epoch ≤ 2097151 → version.seq < 2 ^ 32 → IsChange (change_of key owner version Gone)
+other_gone key owner version other name owned most fits =
+    record { name = name; owner = owned; epoch = most; seq = fits; body = tt; kind = tt; rule = gone_keeps key.kind (change_of key owner version Gone) other refl }
 
--- the k-th part of a label's line is there
-label_read : (k : ℕ) (known : List Part) (p : Part) (bytes r at : List ℕ) → IsText p.class p.text → ((c : ChangeRecord) (more : List Part) → label_parts c ≡ known ++ more → more ≡ drop k (label_parts c))
-    → ((c : ChangeRecord) → 0 < length (drop k (label_parts c))) → ((c : ChangeRecord) → IsLabel c → Opens p.class (drop k (label_parts c)))
-    → Begins (run_of p.class) bytes p.text r → LabelStops (known ++ p ∷ []) r at → LabelStops known bytes at
-label_read k known p bytes r at text next some opens begins s =
-    stops_behind_part IsLabel HasLine label_parts known p bytes r at text label_of_line (λ c more m eq. subst (Opens p.class) (sym (next c more eq)) (opens c m))
-    (λ c more line eq. subst (λ (x : List Part). 0 < length x) (sym (next c more eq)) (some c)) begins s
+-- some value of each kind
+abbrev some_value : Kind → Value
+some_value Label = values.Label (record { generation = 0; slot = 0 })
+some_value U32 = values.U32 0
+some_value Str = values.Str []
+some_value Mem = values.Mem []
 
--- ---- from the kind to the epoch
+some_kind : (k : Kind) → kind_of (some_value k) ≡ k
+some_kind Label = refl
+some_kind U32 = refl
+some_kind Str = refl
+some_kind Mem = refl
 
-abbrev pub behind_kind : List ℕ → List Part
-behind_kind n = part Name n ∷ space ∷ part Word label_word ∷ []
+some_is : (k : Kind) → IsValue (some_value k)
+some_is Label = record { generation = omega arith; slot = omega arith }
+some_is U32 = omega arith
+some_is Str = record { limit = omega arith; printable = refl }
+some_is Mem = record { limit = omega arith; each = λ i. omega arith }
 
-abbrev pub up_to_owner : List ℕ → List Part
-up_to_owner n = part Name n ∷ space ∷ part Word label_word ∷ space ∷ []
+put_keeps : (k : Kind) (key : Key) (owner : List ℕ) (version : Version) (value : Value) → k ≢ Label → version.seq < 4294967295 → KeepsRule k (change_of key owner version (Put value))
+put_keeps Label key owner version value other fits = absurd (other refl)
+put_keeps U32 key owner version value other fits = fits
+put_keeps Str key owner version value other fits = fits
+put_keeps Mem key owner version value other fits = fits
 
-abbrev pub behind_owner : List ℕ → List Part
-behind_owner n = part Name n ∷ space ∷ part Word label_word ∷ space ∷ part Name rs_name ∷ []
+-- a put keeps the last number free
+put_below : (k : Kind) (key : Key) (owner : List ℕ) (version : Version) (value : Value) → k ≢ Label → KeepsRule k (change_of key owner version (Put value)) → version.seq < 4294967295
+put_below Label key owner version value other rule = absurd (other refl)
+put_below U32 key owner version value other rule = rule
+put_below Str key owner version value other rule = rule
+put_below Mem key owner version value other rule = rule
 
-pub kind_missing : (n bytes : List ℕ) → IsName n → n ≢ rs_name → ((rest : List ℕ) → ¬ Begins is_ascii_alphanumeric bytes label_word rest) → LabelStops (up_to_kind n) bytes bytes
-kind_missing n bytes name not_rs none =
-    label_missing 2 (up_to_kind n) bytes (put_of n 1) (drop 2 (label_parts (put_of n 1))) (first_is n name not_rs) refl (λ c more eq. sym (ap (drop 2) eq)) (λ c. one_left _) (λ c after m h. none h.0 h.1)
+-- a put of another value of the kind, at a version that some put has
+pub other_put : (key : Key) (owner : List ℕ) (version : Version) (value : Value) → key.kind ≢ Label → HasValue key owner version → IsValue value → kind_of value ≡ key.kind → IsChange (change_of key owner version (Put value))
+other_put key owner version value other has is kind =
+    record {
+      name = has.1.name;
+      owner = has.1.owner;
+      epoch = has.1.epoch;
+      seq = has.1.seq;
+      body = is;
+      kind = kind;
+      rule = put_keeps key.kind key owner version value other (put_below key.kind key owner version has.0 other has.1.rule);
+    }
 
-pub kind_read : (n bytes r at : List ℕ) → Begins is_ascii_alphanumeric bytes label_word r → LabelStops (behind_kind n) r at → LabelStops (up_to_kind n) bytes at
-kind_read n bytes r at begins s =
-    label_read 2 (up_to_kind n) (part Word label_word) bytes r at refl (λ c more eq. sym (ap (drop 2) eq)) (λ c. one_left _) (λ c m. (refl, refl)) begins s
+pub put_epoch : (v : Version) (value : Value) → IsLabelBody v (Put value) → (v.seq ≡ 0)
+put_epoch v (values.Label e) rule = rule.0
+put_epoch v (values.U32 n) rule = absurd rule
+put_epoch v (values.Str t) rule = absurd rule
+put_epoch v (values.Mem b) rule = absurd rule
 
-pub kind_space_missing : (n bytes : List ℕ) → IsName n → n ≢ rs_name → ((rest : List ℕ) → bytes ≢ 32 ∷ rest) → LabelStops (behind_kind n) bytes bytes
-kind_space_missing n bytes name not_rs none =
-    label_missing 3 (behind_kind n) bytes (put_of n 1) (drop 3 (label_parts (put_of n 1))) (first_is n name not_rs) refl (λ c more eq. sym (ap (drop 3) eq)) (λ c. one_left _) (λ c after m h. none h.0 h.1.parts)
+label_at_most : (v : Version) (b : Body) → IsLabelBody v b → v.seq ≤ 1
+label_at_most v (Put value) rule = omega (arith, put_epoch v value rule)
+label_at_most v Gone rule = omega (arith, rule)
 
-pub kind_space_read : (n bytes r at : List ℕ) → bytes ≡ 32 ∷ r → LabelStops (up_to_owner n) r at → LabelStops (behind_kind n) bytes at
-kind_space_read n bytes r at is s =
-    label_read 3 (behind_kind n) space bytes r at refl (λ c more eq. sym (ap (drop 3) eq)) (λ c. one_left _) (λ c m. (refl, refl)) (byte_begins 32 bytes r is) s
+-- ---- what the parts so far leave
 
-pub owner_missing : (n bytes : List ℕ) → IsName n → n ≢ rs_name → ((rest : List ℕ) → ¬ Begins is_name_byte bytes rs_name rest) → LabelStops (up_to_owner n) bytes bytes
-owner_missing n bytes name not_rs none =
-    label_missing 4 (up_to_owner n) bytes (put_of n 1) (drop 4 (label_parts (put_of n 1))) (first_is n name not_rs) refl (λ c more eq. sym (ap (drop 4) eq)) (λ c. one_left _)
-    (λ c after m h. none h.0 (subst (λ (o : List ℕ). Begins is_name_byte bytes o h.0) m.rule.owner h.1))
+pub owner_of_label : (key : Key) → key.kind ≡ Label → IsName key.name → key.name ≢ rs_name → HasOwner key
+owner_of_label key kind name not_rs = (rs_name, (version_of 1 0, (put_of 1, label_put key rs_name (version_of 1 0) kind name not_rs refl (omega arith) (omega arith) refl)))
 
-pub owner_read : (n bytes r at : List ℕ) → Begins is_name_byte bytes rs_name r → LabelStops (behind_owner n) r at → LabelStops (up_to_owner n) bytes at
-owner_read n bytes r at begins s =
-    label_read 4 (up_to_owner n) (part Name rs_name) bytes r at rs_is_name.allowed (λ c more eq. sym (ap (drop 4) eq)) (λ c. one_left _) (λ c m. (refl, m.change.owner.allowed)) begins s
+pub owner_of_other : (key : Key) → key.kind ≢ Label → IsName key.name → HasOwner key
+owner_of_other key other name = (rs_name, (version_of 0 0, (Gone, other_gone key rs_name (version_of 0 0) other name rs_is_name (omega arith) (omega arith))))
 
--- where another name stands, `rs` doesn't
-pub other_name_there : (bytes o r : List ℕ) → IsName o → Begins is_name_byte bytes o r → o ≢ rs_name → (rest : List ℕ) → ¬ Begins is_name_byte bytes rs_name rest
-other_name_there bytes o r name begins other rest h = other (part_one Name bytes o rs_name r rest name.allowed rs_is_name.allowed begins h).0
+pub label_not_rs : (key : Key) → key.kind ≡ Label → HasOwner key → key.name ≢ rs_name
+label_not_rs key kind has = (label_rule (change_of key has.0 has.1.0 has.1.1.0) has.1.1.1 kind).name
 
-pub owner_space_missing : (n bytes : List ℕ) → IsName n → n ≢ rs_name → ((rest : List ℕ) → bytes ≢ 32 ∷ rest) → LabelStops (behind_owner n) bytes bytes
-owner_space_missing n bytes name not_rs none =
-    label_missing 5 (behind_owner n) bytes (put_of n 1) (drop 5 (label_parts (put_of n 1))) (first_is n name not_rs) refl (λ c more eq. sym (ap (drop 5) eq)) (λ c. one_left _) (λ c after m h. none h.0 h.1.parts)
+pub version_of_label : (key : Key) (owner : List ℕ) → key.kind ≡ Label → HasOwner key → owner ≡ rs_name → HasVersion key owner
+version_of_label key owner kind has is_rs =
+    let rule = label_rule (change_of key has.0 has.1.0 has.1.1.0) has.1.1.1 kind in
+    subst (HasVersion key) (rule.owner ∙ sym is_rs) has.1
 
-pub owner_space_read : (n bytes r at : List ℕ) → bytes ≡ 32 ∷ r → LabelStops (up_to_epoch n) r at → LabelStops (behind_owner n) bytes at
-owner_space_read n bytes r at is s =
-    label_read 5 (behind_owner n) space bytes r at refl (λ c more eq. sym (ap (drop 5) eq)) (λ c. one_left _) (λ c m. (refl, refl)) (byte_begins 32 bytes r is) s
+pub version_of_other : (key : Key) (owner : List ℕ) → key.kind ≢ Label → HasOwner key → IsName owner → HasVersion key owner
+version_of_other key owner other has name = (version_of 0 0, (Gone, other_gone key owner (version_of 0 0) other has.1.1.1.name name (omega arith) (omega arith)))
 
-pub kind_and_owner_complete : (n bytes r1 r2 r3 r4 rest : List ℕ) (c : ChangeRecord) → Begins is_ascii_alphanumeric bytes label_word r1 → r1 ≡ 32 ∷ r2 → Begins is_name_byte r2 rs_name r3 → r3 ≡ 32 ∷ r4
-    → Completes (up_to_epoch n) c r4 rest → Completes (up_to_kind n) c bytes rest
-kind_and_owner_complete n bytes r1 r2 r3 r4 rest c b1 b2 b3 b4 k =
-    completes_behind_part (up_to_kind n) (part Word label_word) c bytes r1 rest b1.parts
-    (completes_behind_part (behind_kind n) space c r1 r2 rest b2
-    (completes_behind_part (up_to_owner n) (part Name rs_name) c r2 r3 rest b3.parts
-    (completes_behind_part (behind_owner n) space c r3 r4 rest b4 k)))
+pub label_owner_rs : (key : Key) (owner : List ℕ) → key.kind ≡ Label → HasVersion key owner → owner ≡ rs_name
+label_owner_rs key owner kind has = (label_rule (change_of key owner has.0 has.1.0) has.1.1 kind).owner
 
--- ---- from the epoch to the mark
+pub seq_of_label : (key : Key) (owner : List ℕ) (epoch : ℕ) → key.kind ≡ Label → HasVersion key owner → 0 < epoch → epoch ≤ 2097151 → HasSeq key owner epoch
+seq_of_label key owner epoch kind has some most =
+    let rule = label_rule (change_of key owner has.0 has.1.0) has.1.1 kind in
+    (0, (put_of epoch, label_put key owner (version_of epoch 0) kind has.1.1.name rule.name rule.owner some most refl))
 
-abbrev pub behind_epoch : List ℕ → ℕ → List Part
-behind_epoch n e = up_to_epoch n ++ part Number (decimal e) ∷ []
+pub seq_of_other : (key : Key) (owner : List ℕ) (epoch : ℕ) → key.kind ≢ Label → HasVersion key owner → epoch ≤ 2097151 → HasSeq key owner epoch
+seq_of_other key owner epoch other has most = (0, (Gone, other_gone key owner (version_of epoch 0) other has.1.1.name has.1.1.owner most (omega arith)))
 
-abbrev pub up_to_seq : List ℕ → ℕ → List Part
-up_to_seq n e = up_to_epoch n ++ part Number (decimal e) ∷ byte 46 ∷ []
+pub label_epoch : (key : Key) (owner : List ℕ) (epoch : ℕ) → key.kind ≡ Label → HasSeq key owner epoch → 0 < epoch
+label_epoch key owner epoch kind has = (label_rule (change_of key owner (version_of epoch has.0) has.1.0) has.1.1 kind).epoch
 
-abbrev pub behind_seq : List ℕ → ℕ → ℕ → List Part
-behind_seq n e s = up_to_epoch n ++ part Number (decimal e) ∷ byte 46 ∷ part Number (decimal s) ∷ []
+pub body_of_put : (key : Key) (owner : List ℕ) (version : Version) → key.kind ≡ Label → HasSeq key owner version.epoch → version.seq ≡ 0 → HasValue key owner version
+body_of_put key owner version kind has none =
+    let rule = label_rule (change_of key owner (version_of version.epoch has.0) has.1.0) has.1.1 kind in
+    (values.Label (record { generation = version.epoch; slot = 0 }), label_put key owner version kind has.1.1.name rule.name rule.owner rule.epoch has.1.1.epoch none)
 
--- a label's sequence number is 0 or 1
-label_seq : (v : Version) (b : Body) → IsLabelBody v b → v.seq ≤ 1
-label_seq v (Put (values.Label a)) h = omega (arith, h.0)
-label_seq v Gone h = omega (arith, h)
+pub body_of_gone : (key : Key) (owner : List ℕ) (version : Version) → key.kind ≡ Label → HasSeq key owner version.epoch → version.seq ≡ 1 → IsChange (change_of key owner version Gone)
+body_of_gone key owner version kind has one =
+    let rule = label_rule (change_of key owner (version_of version.epoch has.0) has.1.0) has.1.1 kind in
+    label_gone key owner version kind has.1.1.name rule.name rule.owner rule.epoch has.1.1.epoch one
 
--- where the number 0 stands, no greater one does
-pub zero_there : (bytes r : List ℕ) → Begins is_ascii_digit bytes (decimal 0) r → (m : ℕ) (rest : List ℕ) → 0 < m → m ≤ 2097151 → ¬ Begins is_ascii_digit bytes (decimal m) rest
-zero_there bytes r begins m rest some most h = omega (arith, (decimal_one bytes 0 m r rest (omega arith) (omega arith) begins h).0)
+seq_cases : (version : Version) → version.seq ≤ 1 → (version.seq ≡ 0) ⊎ (version.seq ≡ 1)
+seq_cases version le =
+    elim (cases_eq version.seq 0) [
+      | inl none ↦ inl none
+      | inr some ↦ inr (omega (arith, some))
+    ]
 
-pub epoch_missing : (n bytes : List ℕ) → IsName n → n ≢ rs_name → ((m : ℕ) (rest : List ℕ) → 0 < m → m ≤ 2097151 → ¬ Begins is_ascii_digit bytes (decimal m) rest) → LabelStops (up_to_epoch n) bytes bytes
-epoch_missing n bytes name not_rs none =
-    label_missing 6 (up_to_epoch n) bytes (put_of n 1) (drop 6 (label_parts (put_of n 1))) (first_is n name not_rs) refl (λ c more eq. sym (ap (drop 6) eq)) (λ c. one_left _)
-    (λ c after m h. none c.version.epoch h.0 m.rule.epoch m.change.epoch h.1)
+pub body_of_label : (key : Key) (owner : List ℕ) (version : Version) → key.kind ≡ Label → HasSeq key owner version.epoch → version.seq ≤ 1 → HasBody key owner version
+body_of_label key owner version kind has le =
+    elim (seq_cases version le) [
+      | inl none ↦ (let put = body_of_put key owner version kind has none in (Put put.0, put.1))
+      | inr one ↦ (Gone, body_of_gone key owner version kind has one)
+    ]
 
-pub epoch_read : (n : List ℕ) (e : ℕ) (bytes r at : List ℕ) → e ≤ 2097151 → Begins is_ascii_digit bytes (decimal e) r → LabelStops (behind_epoch n e) r at → LabelStops (up_to_epoch n) bytes at
-epoch_read n e bytes r at most begins s =
-    label_read 6 (up_to_epoch n) (part Number (decimal e)) bytes r at (e, omega arith, refl) (λ c more eq. sym (ap (drop 6) eq)) (λ c. one_left _) (λ c m. (refl, (c.version.epoch, omega (arith, m.change.epoch), refl))) begins s
+pub body_of_other : (key : Key) (owner : List ℕ) (version : Version) → key.kind ≢ Label → HasSeq key owner version.epoch → version.seq < 2 ^ 32 → IsChange (change_of key owner version Gone)
+body_of_other key owner version other has fits = other_gone key owner version other has.1.1.name has.1.1.owner has.1.1.epoch fits
 
-pub dot_missing : (n : List ℕ) (e : ℕ) (bytes : List ℕ) → IsName n → n ≢ rs_name → 0 < e → e ≤ 2097151 → ((rest : List ℕ) → bytes ≢ 46 ∷ rest) → LabelStops (behind_epoch n e) bytes bytes
-dot_missing n e bytes name not_rs some most none =
-    label_missing 7 (behind_epoch n e) bytes (put_of n e) (drop 7 (label_parts (put_of n e))) (put_is n e name not_rs some most) refl (λ c more eq. sym (ap (drop 7) eq)) (λ c. one_left _) (λ c after m h. none h.0 h.1.parts)
+pub label_seq : (key : Key) (owner : List ℕ) (version : Version) → key.kind ≡ Label → HasBody key owner version → version.seq ≤ 1
+label_seq key owner version kind has = label_at_most version has.0 (label_rule (change_of key owner version has.0) has.1 kind).body
 
-pub dot_read : (n : List ℕ) (e : ℕ) (bytes r at : List ℕ) → bytes ≡ 46 ∷ r → LabelStops (up_to_seq n e) r at → LabelStops (behind_epoch n e) bytes at
-dot_read n e bytes r at is s =
-    label_read 7 (behind_epoch n e) (byte 46) bytes r at refl (λ c more eq. sym (ap (drop 7) eq)) (λ c. one_left _) (λ c m. (refl, refl)) (byte_begins 46 bytes r is) s
+pub seq_of_body : (key : Key) (owner : List ℕ) (version : Version) → HasBody key owner version → HasSeq key owner version.epoch
+seq_of_body key owner version has = (version.seq, has)
 
-pub seq_missing : (n : List ℕ) (e : ℕ) (bytes : List ℕ) → IsName n → n ≢ rs_name → 0 < e → e ≤ 2097151 → ((q : ℕ) (rest : List ℕ) → q ≤ 1 → ¬ Begins is_ascii_digit bytes (decimal q) rest) → LabelStops (up_to_seq n e) bytes bytes
-seq_missing n e bytes name not_rs some most none =
-    label_missing 8 (up_to_seq n e) bytes (put_of n e) (drop 8 (label_parts (put_of n e))) (put_is n e name not_rs some most) refl (λ c more eq. sym (ap (drop 8) eq)) (λ c. one_left _)
-    (λ c after m h. none c.version.seq h.0 (label_seq c.version c.body m.rule.body) h.1)
+pub label_put_seq : (key : Key) (owner : List ℕ) (version : Version) → key.kind ≡ Label → HasValue key owner version → version.seq ≡ 0
+label_put_seq key owner version kind has = put_epoch version has.0 (label_rule (change_of key owner version (Put has.0)) has.1 kind).body
 
-pub seq_read : (n : List ℕ) (e q : ℕ) (bytes r at : List ℕ) → q ≤ 1 → Begins is_ascii_digit bytes (decimal q) r → LabelStops (behind_seq n e q) r at → LabelStops (up_to_seq n e) bytes at
-seq_read n e q bytes r at le begins s =
-    label_read 8 (up_to_seq n e) (part Number (decimal q)) bytes r at (q, omega arith, refl) (λ c more eq. sym (ap (drop 8) eq)) (λ c. one_left _) (λ c m. (refl, (c.version.seq, omega (arith, m.change.seq), refl))) begins s
+pub value_of_other : (key : Key) (owner : List ℕ) (version : Version) → key.kind ≢ Label → HasBody key owner version → version.seq < 4294967295 → HasValue key owner version
+value_of_other key owner version other has fits = (
+  some_value key.kind,
+  record {
+    name = has.1.name;
+    owner = has.1.owner;
+    epoch = has.1.epoch;
+    seq = has.1.seq;
+    body = some_is key.kind;
+    kind = some_kind key.kind;
+    rule = put_keeps key.kind key owner version (some_value key.kind) other fits;
+  },
+)
 
-pub seq_space_missing : (n : List ℕ) (e q : ℕ) (bytes : List ℕ) → IsName n → n ≢ rs_name → 0 < e → e ≤ 2097151 → q ≤ 1 → ((rest : List ℕ) → bytes ≢ 32 ∷ rest) → LabelStops (behind_seq n e q) bytes bytes
-seq_space_missing n e zero bytes name not_rs some most le none =
-    label_missing 9 (behind_seq n e 0) bytes (put_of n e) (drop 9 (label_parts (put_of n e))) (put_is n e name not_rs some most) refl (λ c more eq. sym (ap (drop 9) eq)) (λ c. one_left _) (λ c after m h. none h.0 h.1.parts)
-seq_space_missing n e (suc zero) bytes name not_rs some most le none =
-    label_missing 9 (behind_seq n e 1) bytes (gone_of n e) (drop 9 (label_parts (gone_of n e))) (gone_is n e name not_rs some most) refl (λ c more eq. sym (ap (drop 9) eq)) (λ c. one_left _) (λ c after m h. none h.0 h.1.parts)
-seq_space_missing n e (suc (suc q)) bytes name not_rs some most le none = absurd (omega arith)
+pub other_put_seq : (key : Key) (owner : List ℕ) (version : Version) → key.kind ≢ Label → HasValue key owner version → version.seq < 4294967295
+other_put_seq key owner version other has = put_below key.kind key owner version has.0 other has.1.rule
 
-pub seq_space_read : (n : List ℕ) (e q : ℕ) (bytes r at : List ℕ) → bytes ≡ 32 ∷ r → LabelStops (up_to_mark n e q) r at → LabelStops (behind_seq n e q) bytes at
-seq_space_read n e q bytes r at is s =
-    label_read 9 (behind_seq n e q) space bytes r at refl (λ c more eq. sym (ap (drop 9) eq)) (λ c. one_left _) (λ c m. (refl, refl)) (byte_begins 32 bytes r is) s
-
-pub version_completes : (n : List ℕ) (e q : ℕ) (bytes r1 r2 r3 r4 rest : List ℕ) (c : ChangeRecord) → Begins is_ascii_digit bytes (decimal e) r1 → r1 ≡ 46 ∷ r2 → Begins is_ascii_digit r2 (decimal q) r3 → r3 ≡ 32 ∷ r4
-    → Completes (up_to_mark n e q) c r4 rest → Completes (up_to_epoch n) c bytes rest
-version_completes n e q bytes r1 r2 r3 r4 rest c b1 b2 b3 b4 k =
-    completes_behind_part (up_to_epoch n) (part Number (decimal e)) c bytes r1 rest b1.parts
-    (completes_behind_part (behind_epoch n e) (byte 46) c r1 r2 rest b2
-    (completes_behind_part (up_to_seq n e) (part Number (decimal q)) c r2 r3 rest b3.parts
-    (completes_behind_part (behind_seq n e q) space c r3 r4 rest b4 k)))
+pub label_gone_seq : (key : Key) (owner : List ℕ) (version : Version) → key.kind ≡ Label → IsChange (change_of key owner version Gone) → version.seq ≡ 1
+label_gone_seq key owner version kind is = (label_rule (change_of key owner version Gone) is kind).body

@@ -1,9 +1,13 @@
+pub mod QuoteLemmas
+pub mod DigitLemmas
 pub mod PartLemmas
 pub mod StepLemmas
+pub mod TextLemmas
 pub mod AnswerLemmas
 pub mod LabelLemmas
+pub mod ReadLemmas
+pub mod OpeningLemmas
 pub mod BodyLemmas
-pub mod ChangeLemmas
 pub mod LineLemmas
 pub mod ApartLemmas
 pub mod PlaceLemmas

@@ -3,18 +3,19 @@ use Rattle.std.proofs.Common.{◌≡◌, ℕ, zero, suc, ◌≤◌, List, [], �
 use Rattle.std.specs.Fmt.{decimal}
 use Rattle.std.proofs.lemmas.List.{length-append}
 use Rattle.ds_names.specs.Name.{is_name_byte}
-use Rattle.ds_names.specs.Endpoint.{endpoint_text}
 use Rattle.ds_names.specs.Run.{Ends}
+use Rattle.ds_names.specs.declared.kind.Kind.{Kind}
+use Rattle.ds_names.specs.declared.kind.Kind.TheVariants.{Label, U32, Str, Mem}
+use Rattle.ds_entry.specs.declared.body.Value.{Value}
 use Rattle.ds_entry.specs.declared.body.Value.TheVariants as values
 use Rattle.ds_entry.specs.declared.body.Body.{Body}
 use Rattle.ds_entry.specs.declared.body.Body.TheVariants.{Put, Gone}
-use Rattle.ds_entry.specs.Change.{ChangeRecord}
-use Rattle.ds_line.specs.Part.{Name, Word, Number, Endpoint, run_of, Part, part, byte, texts}
-use Rattle.ds_line.specs.Spelling.{space, newline, label_word, body_parts, HasLine, spelling}
-use Rattle.ds_line.specs.FaultPlace.{Stand, HasNoLine}
-use Rattle.ds_line.specs.Reading.{label_parts, Completes}
+use Rattle.ds_entry.specs.Change.{ChangeRecord, IsChange}
+use Rattle.ds_line.specs.Part.{Name, Word, Number, run_of, Part, part, byte, texts}
+use Rattle.ds_line.specs.Spelling.{space, newline, kind_word, value_part, body_parts, change_parts, HasLine, spelling}
+use Rattle.ds_line.specs.FaultPlace.{Stand, HasNoLine, TakesRoom}
+use Rattle.ds_line.specs.Reading.{ChangeStops, Completes, CompletesInRoom}
 use Rattle.ds_line.proofs.PartLemmas.{byte_ends}
-use Rattle.ds_line.proofs.ChangeLemmas.{ChangeStops, parts_of_label}
 
 stand_length : (count : ℕ) (parts : List Part) (bytes rest : List ℕ) → Stand count parts bytes rest → length rest ≤ length bytes
 stand_length zero parts bytes rest h = omega (arith, ap length h)
@@ -48,11 +49,18 @@ name_ends bytes = refl
 name_stands : (n : List ℕ) (parts : List Part) (rest : List ℕ) → AllStand (space ∷ parts) rest → AllStand (part Name n ∷ space ∷ parts) rest
 name_stands n parts rest h = part_stands (part Name n) (space ∷ parts) rest (name_ends (spelled parts rest)) h
 
+-- a value's part ends before a newline
+value_ends : (v : Value) (bytes : List ℕ) → Ends (run_of (value_part v).class) (10 ∷ bytes)
+value_ends (values.Label e) bytes = refl
+value_ends (values.U32 n) bytes = refl
+value_ends (values.Str t) bytes = refl
+value_ends (values.Mem b) bytes = refl
+
 body_stands : (b : Body) (rest : List ℕ) → AllStand (body_parts b) rest
-body_stands (Put (values.Label a)) rest =
-    byte_stands 61 (space ∷ part Endpoint (endpoint_text a) ∷ newline ∷ []) rest
-    (byte_stands 32 (part Endpoint (endpoint_text a) ∷ newline ∷ []) rest
-    (part_stands (part Endpoint (endpoint_text a)) (newline ∷ []) rest refl
+body_stands (Put v) rest =
+    byte_stands 61 (space ∷ value_part v ∷ newline ∷ []) rest
+    (byte_stands 32 (value_part v ∷ newline ∷ []) rest
+    (part_stands (value_part v) (newline ∷ []) rest (value_ends v rest)
     (byte_stands 10 [] rest refl)))
 body_stands Gone rest = byte_stands 45 (newline ∷ []) rest (byte_stands 10 [] rest refl)
 
@@ -68,11 +76,11 @@ from_epoch c = part Number (decimal c.version.epoch) ∷ from_dot c
 abbrev from_owner : ChangeRecord → List Part
 from_owner c = part Name c.owner ∷ space ∷ from_epoch c
 
-label_stands : (c : ChangeRecord) (rest : List ℕ) → AllStand (label_parts c) rest
-label_stands c rest =
-    name_stands c.key.name (part Word label_word ∷ space ∷ from_owner c) rest
-    (byte_stands 32 (part Word label_word ∷ space ∷ from_owner c) rest
-    (part_stands (part Word label_word) (space ∷ from_owner c) rest refl
+change_stands : (c : ChangeRecord) (rest : List ℕ) → AllStand (change_parts c) rest
+change_stands c rest =
+    name_stands c.key.name (part Word (kind_word c.key.kind) ∷ space ∷ from_owner c) rest
+    (byte_stands 32 (part Word (kind_word c.key.kind) ∷ space ∷ from_owner c) rest
+    (part_stands (part Word (kind_word c.key.kind)) (space ∷ from_owner c) rest refl
     (byte_stands 32 (from_owner c) rest
     (name_stands c.owner (from_epoch c) rest
     (byte_stands 32 (from_epoch c) rest
@@ -82,17 +90,18 @@ label_stands c rest =
     (byte_stands 32 (body_parts c.body) rest (body_stands c.body rest))))))))))
 
 -- a line at the front stands there part by part
-pub line_stands : (c : ChangeRecord) (bytes rest : List ℕ) → HasLine c → bytes ≡ spelling c ++ rest → Stand (length (label_parts c)) (label_parts c) bytes rest
-line_stands c bytes rest line eq =
-    let same : spelling c ++ rest ≡ spelled (label_parts c) rest = ap (λ (parts : List Part). spelled parts rest) (parts_of_label c line.kind) in
-    subst (λ (x : List ℕ). Stand (length (label_parts c)) (label_parts c) x rest) (sym (eq ∙ same)) (label_stands c rest)
+pub line_stands : (c : ChangeRecord) (bytes rest : List ℕ) → bytes ≡ spelling c ++ rest → Stand (length (change_parts c)) (change_parts c) bytes rest
+line_stands c bytes rest eq = subst (λ (x : List ℕ). Stand (length (change_parts c)) (change_parts c) x rest) (sym eq) (change_stands c rest)
 
 pub no_line : (bytes rest : List ℕ) → ChangeStops [] bytes rest → HasNoLine bytes
-no_line bytes rest s = λ c after line eq. s.none c (label_parts c) after line (parts_of_label c line.kind) (line_stands c bytes after line eq)
+no_line bytes rest s = λ c after line eq. s.none c (change_parts c) after line refl (line_stands c bytes after eq)
 
 -- the change that is read has its line at the front
 pub line_is : (c : ChangeRecord) (bytes rest : List ℕ) → Completes [] c bytes rest → HasLine c × (bytes ≡ spelling c ++ rest)
-line_is c bytes rest k =
-    let same : k.further ≡ label_parts c = sym k.split in
-    let parts = same ∙ sym (parts_of_label c k.label.kind) in
-    (record { change = k.label.change; kind = k.label.kind }, k.text ∙ ap (λ (ps : List Part). spelled ps rest) parts)
+line_is c bytes rest k = (k.change, k.text ∙ ap (λ (ps : List Part). spelled ps rest) (sym k.split))
+
+-- so has the one that there was no room for
+pub no_room : (bytes : List ℕ) → CompletesInRoom [] bytes → TakesRoom bytes
+no_room bytes k =
+    let line = line_is k.put bytes k.rest k.completes in
+    record { change = k.put; rest = k.rest; line = line.0; value = k.value; front = line.1 }

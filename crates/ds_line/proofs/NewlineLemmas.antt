@@ -1,25 +1,29 @@
 -- A line ends with its one newline.
-use Rattle.std.proofs.Common.{◌≡◌, ◌≢◌, ℕ, ◌^◌, ◌<◌, Bool, true, false, List, [], ◌∷◌, ◌++◌, refl, sym, ap, subst, ◌∙◌, append_assoc, arith}
+use Rattle.std.proofs.Common.{◌≡◌, ◌≢◌, ℕ, ◌^◌, ◌<◌, Bool, true, false, ◌⊎◌, inl, inr, List, [], ◌∷◌, ◌++◌, refl, sym, ap, subst, ◌∙◌, append_assoc, arith}
 use Rattle.std.specs.List.{All, list_all}
 use Rattle.std.specs.Char.{is_ascii_digit, is_ascii_alphanumeric}
 use Rattle.std.specs.Fmt.{decimal}
-use Rattle.std.proofs.lemmas.Bool.{false≢true}
+use Rattle.std.proofs.lemmas.Bool.{false≢true, and_parts}
+use Rattle.hex.specs.Hex.{encode_lower}
 use Rattle.std.proofs.lemmas.Fmt.{digits_decimal}
 use Rattle.std.proofs.lemmas.List.Elements.{All-nil, All-cons, All-append}
 use Rattle.std.proofs.lemmas.List.Sums.{AllPass-from_list_all}
 use Rattle.ds_names.specs.Name.{is_name_byte}
 use Rattle.ds_names.specs.Endpoint.{EndpointRecord, IsEndpoint, endpoint_text}
+use Rattle.ds_names.specs.declared.kind.Kind.{Kind}
 use Rattle.ds_names.proofs.DecimalLemmas.{own}
+use Rattle.ds_entry.specs.Value.{is_text_byte}
+use Rattle.ds_entry.specs.declared.body.Value.{Value}
 use Rattle.ds_entry.specs.declared.body.Value.TheVariants as values
 use Rattle.ds_entry.specs.declared.body.Body.{Body}
 use Rattle.ds_entry.specs.declared.body.Body.TheVariants.{Put, Gone}
-use Rattle.ds_entry.specs.Change.{ChangeRecord, IsBody}
-use Rattle.ds_line.specs.Part.{Name, Word, Number, Endpoint, Part, part, byte, texts}
-use Rattle.ds_line.specs.Spelling.{space, newline, label_word, body_parts, HasLine, spelling}
+use Rattle.ds_entry.specs.Change.{ChangeRecord, IsValue, IsBody, IsChange}
+use Rattle.ds_line.specs.Part.{Name, Word, Number, Part, part, byte, texts, is_hex_byte}
+use Rattle.ds_line.specs.Spelling.{space, newline, kind_word, escaped_byte, escaped, quoted, value_part, body_parts, change_parts, HasLine, spelling}
 use Rattle.ds_line.specs.LastNewline.{EndsLine}
-use Rattle.ds_line.specs.Reading.{IsLabel, label_parts}
-use Rattle.ds_line.proofs.LabelLemmas.{label_of_line}
-use Rattle.ds_line.proofs.ChangeLemmas.{parts_of_label}
+use Rattle.ds_line.proofs.QuoteLemmas.{shape}
+use Rattle.ds_line.proofs.DigitLemmas.{hex_run}
+use Rattle.ds_line.proofs.OpeningLemmas.{word_is_word}
 
 -- no byte is a newline
 abbrev Unbroken : List ℕ → Type 0
@@ -39,6 +43,35 @@ unbroken_endpoint : (a : EndpointRecord) → IsEndpoint a → Unbroken (endpoint
 unbroken_endpoint a is =
     All-append (λ (b : ℕ). b ≢ 10) (decimal a.generation) (47 ∷ decimal a.slot) (unbroken_decimal a.generation (omega (arith, is.generation)))
     (All-cons (λ (b : ℕ). b ≢ 10) 47 (decimal a.slot) (λ same. omega (arith, same)) (unbroken_decimal a.slot (omega (arith, is.slot))))
+
+unbroken_one : (b : ℕ) (rest : List ℕ) → b ≢ 10 → Unbroken rest → Unbroken (b ∷ rest)
+unbroken_one b rest other more = All-cons (λ (x : ℕ). x ≢ 10) b rest other more
+
+unbroken_byte : (b : ℕ) → is_text_byte b ≡ true → Unbroken (escaped_byte b)
+unbroken_byte b printable =
+    let other : b ≢ 10 = λ same. (let t : is_text_byte b ≡ false = rw same refl in false≢true (sym t ∙ printable)) in
+    let alone : Unbroken (b ∷ []) = unbroken_one b [] other (All-nil (λ (x : ℕ). x ≢ 10)) in
+    elim (shape b) [
+      | inl x ↦ subst Unbroken (sym x.0) (unbroken_one 92 (b ∷ []) (λ same. omega (arith, same)) alone)
+      | inr x ↦ subst Unbroken (sym x.0) alone
+    ]
+
+unbroken_escaped : (text : List ℕ) → list_all is_text_byte text ≡ true → Unbroken (escaped text)
+unbroken_escaped [] all = All-nil (λ (x : ℕ). x ≢ 10)
+unbroken_escaped (b ∷ text) all =
+    let parts = and_parts (is_text_byte b) (list_all is_text_byte text) all in
+    All-append (λ (x : ℕ). x ≢ 10) (escaped_byte b) (escaped text) (unbroken_byte b parts.0) (unbroken_escaped text parts.1)
+
+unbroken_quoted : (text : List ℕ) → list_all is_text_byte text ≡ true → Unbroken (quoted text)
+unbroken_quoted text all =
+    let quote : Unbroken (34 ∷ []) = unbroken_one 34 [] (λ same. omega (arith, same)) (All-nil (λ (x : ℕ). x ≢ 10)) in
+    unbroken_one 34 (escaped text ++ 34 ∷ []) (λ same. omega (arith, same)) (All-append (λ (x : ℕ). x ≢ 10) (escaped text) (34 ∷ []) (unbroken_escaped text all) quote)
+
+unbroken_value : (v : Value) → IsValue v → Unbroken (value_part v).text
+unbroken_value (values.Label e) is = unbroken_endpoint e is
+unbroken_value (values.U32 n) is = unbroken_decimal n (omega (arith, is))
+unbroken_value (values.Str t) is = unbroken_quoted t is.printable
+unbroken_value (values.Mem b) is = unbroken_run is_hex_byte refl (encode_lower b) (hex_run b is.each)
 
 -- ---- part by part
 
@@ -60,28 +93,25 @@ newline_ends : EndsLine (texts (newline ∷ []))
 newline_ends = record { front = []; parts = refl; none = All-nil (λ (x : ℕ). x ≢ 10) }
 
 body_ends : (b : Body) → IsBody b → EndsLine (texts (body_parts b))
-body_ends (Put (values.Label a)) is =
-    ends_behind_byte 61 (space ∷ part Endpoint (endpoint_text a) ∷ newline ∷ []) (λ same. omega (arith, same))
-    (ends_behind_space (part Endpoint (endpoint_text a) ∷ newline ∷ [])
-    (ends_behind (part Endpoint (endpoint_text a)) (newline ∷ []) (unbroken_endpoint a is) newline_ends))
+body_ends (Put v) is =
+    ends_behind_byte 61 (space ∷ value_part v ∷ newline ∷ []) (λ same. omega (arith, same))
+    (ends_behind_space (value_part v ∷ newline ∷ [])
+    (ends_behind (value_part v) (newline ∷ []) (unbroken_value v is) newline_ends))
 body_ends Gone is = ends_behind_byte 45 (newline ∷ []) (λ same. omega (arith, same)) newline_ends
 
-label_ends : (c : ChangeRecord) → IsLabel c → EndsLine (texts (label_parts c))
-label_ends c m =
+pub line_ends : (c : ChangeRecord) → HasLine c → EndsLine (spelling c)
+line_ends c is =
     let from_seq : List Part = part Number (decimal c.version.seq) ∷ space ∷ body_parts c.body in
     let from_epoch : List Part = part Number (decimal c.version.epoch) ∷ byte 46 ∷ from_seq in
     let from_owner : List Part = part Name c.owner ∷ space ∷ from_epoch in
-    let from_kind : List Part = part Word label_word ∷ space ∷ from_owner in
-    ends_behind (part Name c.key.name) (space ∷ from_kind) (unbroken_name c.key.name m.change.name.allowed)
+    let from_kind : List Part = part Word (kind_word c.key.kind) ∷ space ∷ from_owner in
+    ends_behind (part Name c.key.name) (space ∷ from_kind) (unbroken_name c.key.name is.name.allowed)
     (ends_behind_space from_kind
-    (ends_behind (part Word label_word) (space ∷ from_owner) (unbroken_run is_ascii_alphanumeric refl label_word refl)
+    (ends_behind (part Word (kind_word c.key.kind)) (space ∷ from_owner) (unbroken_run is_ascii_alphanumeric refl (kind_word c.key.kind) (word_is_word c.key.kind))
     (ends_behind_space from_owner
-    (ends_behind (part Name c.owner) (space ∷ from_epoch) (unbroken_name c.owner m.change.owner.allowed)
+    (ends_behind (part Name c.owner) (space ∷ from_epoch) (unbroken_name c.owner is.owner.allowed)
     (ends_behind_space from_epoch
-    (ends_behind (part Number (decimal c.version.epoch)) (byte 46 ∷ from_seq) (unbroken_decimal c.version.epoch (omega (arith, m.change.epoch)))
+    (ends_behind (part Number (decimal c.version.epoch)) (byte 46 ∷ from_seq) (unbroken_decimal c.version.epoch (omega (arith, is.epoch)))
     (ends_behind_byte 46 from_seq (λ same. omega (arith, same))
-    (ends_behind (part Number (decimal c.version.seq)) (space ∷ body_parts c.body) (unbroken_decimal c.version.seq (omega (arith, m.change.seq)))
-    (ends_behind_space (body_parts c.body) (body_ends c.body m.change.body))))))))))
-
-pub line_ends : (c : ChangeRecord) → HasLine c → EndsLine (spelling c)
-line_ends c line = subst (λ (parts : List Part). EndsLine (texts parts)) (sym (parts_of_label c line.kind)) (label_ends c (label_of_line c line))
+    (ends_behind (part Number (decimal c.version.seq)) (space ∷ body_parts c.body) (unbroken_decimal c.version.seq (omega (arith, is.seq)))
+    (ends_behind_space (body_parts c.body) (body_ends c.body is.body))))))))))

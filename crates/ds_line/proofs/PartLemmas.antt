@@ -8,7 +8,9 @@ use Rattle.ds_names.specs.Name.{is_name_byte}
 use Rattle.ds_names.specs.Endpoint.{EndpointRecord, IsEndpoint, endpoint_text}
 use Rattle.ds_names.specs.Run.{Ends, Begins}
 use Rattle.ds_names.proofs.DecimalLemmas.{run_is, run_parts, decimal_one, endpoint_one}
-use Rattle.ds_line.specs.Part.{Class, Byte, Name, Word, Number, Endpoint, run_of}
+use Rattle.ds_line.specs.Part.{Class, Byte, Name, Word, Number, Endpoint, Quoted, Hex, run_of, is_hex_byte}
+use Rattle.ds_line.specs.Spelling.{quoted}
+use Rattle.ds_line.proofs.QuoteLemmas.{quoted_one}
 
 -- the texts that a part of a class may have
 abbrev pub IsText : Class → List ℕ → Type 0
@@ -17,6 +19,8 @@ IsText Name t = list_all is_name_byte t ≡ true
 IsText Word t = list_all is_ascii_alphanumeric t ≡ true
 IsText Number t = (n : ℕ) × (n < 2 ^ 64) × (t ≡ decimal n)
 IsText Endpoint t = (e : EndpointRecord) × IsEndpoint e × (t ≡ endpoint_text e)
+IsText Quoted t = (text : List ℕ) × (t ≡ quoted text)
+IsText Hex t = list_all is_hex_byte t ≡ true
 
 same_front : (t u r s : List ℕ) → length t ≡ length u → t ++ r ≡ u ++ s → (t ≡ u) × (r ≡ s)
 same_front t u r s len same =
@@ -40,6 +44,10 @@ part_one Number bytes t u r s is_t is_u begins_t begins_u =
 part_one Endpoint bytes t u r s is_t is_u begins_t begins_u =
     let one = endpoint_one bytes is_t.0 is_u.0 r s is_t.1 is_u.1 (subst (λ (x : List ℕ). Begins is_ascii_digit bytes x r) is_t.2 begins_t) (subst (λ (x : List ℕ). Begins is_ascii_digit bytes x s) is_u.2 begins_u) in
     (is_t.2 ∙ ap endpoint_text one.0 ∙ sym is_u.2, one.1)
+part_one Quoted bytes t u r s is_t is_u begins_t begins_u =
+    let one = quoted_one is_t.0 is_u.0 r s (ap (λ (x : List ℕ). x ++ r) (sym is_t.1) ∙ sym begins_t.parts ∙ begins_u.parts ∙ ap (λ (x : List ℕ). x ++ s) is_u.1) in
+    (is_t.1 ∙ ap quoted one.0 ∙ sym is_u.1, one.1)
+part_one Hex bytes t u r s is_t is_u begins_t begins_u = run_one is_hex_byte bytes t u r s is_t is_u begins_t begins_u
 
 -- a text of such bytes at the front, whose run ends there, is the run that is counted
 pub run_front : (run : ℕ → Bool) (bytes t r : List ℕ) → list_all run t ≡ true → Begins run bytes t r → take (prefix_len run bytes) bytes ≡ t

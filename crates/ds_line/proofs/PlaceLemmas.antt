@@ -2,14 +2,12 @@
 use Rattle.std.proofs.Common.{◌≡◌, ℕ, zero, suc, ◌<◌, ◌≤◌, inl, inr, List, [], ◌∷◌, length, refl, sym, ap, subst, ◌∙◌, arith}
 use Rattle.std.proofs.lemmas.Bool.{cases_lt}
 use Rattle.ds_names.specs.Run.{Begins}
-use Rattle.ds_names.specs.declared.kind.Kind.{Kind}
-use Rattle.ds_names.specs.declared.kind.Kind.TheVariants.{Label, U32, Str, Mem}
-use Rattle.ds_entry.specs.Change.{ChangeRecord, IsChange}
+use Rattle.ds_entry.specs.Change.{IsChange}
 use Rattle.ds_line.specs.Part.{Class, run_of, Part}
-use Rattle.ds_line.specs.Spelling.{parts_of_kind, change_parts}
+use Rattle.ds_line.specs.Spelling.{change_parts}
 use Rattle.ds_line.specs.FaultPlace.{Stand, StopsAt, IsFaultPlace}
 use Rattle.ds_line.proofs.PartLemmas.{IsText, part_one}
-use Rattle.ds_line.proofs.ApartLemmas.{AllTexts, Alike, bodies_alike, body_texts}
+use Rattle.ds_line.proofs.ApartLemmas.{AllTexts, Alike, changes_alike, change_texts}
 
 -- the classes are the same as long as the texts are, and both have more parts
 abbrev pub Agree : List Part → List Part → Type 0
@@ -44,7 +42,7 @@ no_more IsMember parts bytes r s a b lt =
     a.most f.0 (record { member = b.read.member; is = b.read.is; front = f.1 })
 
 -- what can be read ends at one place, where members agree
-same_stop : {T : Type 0} (IsMember : T → Type 0) (parts : T → List Part) → ((m : T) → IsMember m → AllTexts (parts m)) → ((m n : T) → Agree (parts m) (parts n))
+same_stop : {T : Type 0} (IsMember : T → Type 0) (parts : T → List Part) → ((m : T) → IsMember m → AllTexts (parts m)) → ((m n : T) → IsMember m → IsMember n → Agree (parts m) (parts n))
     → (bytes r s : List ℕ) (a : StopsAt IsMember parts bytes r) (b : StopsAt IsMember parts bytes s) → r ≡ s
 same_stop IsMember parts all agree bytes r s a b =
     elim (cases_lt a.count b.count) [
@@ -53,40 +51,17 @@ same_stop IsMember parts all agree bytes r s a b =
         | inl gt ↦ absurd (no_more IsMember parts bytes s r b a gt)
         | inr ge ↦
             (let one : a.count ≡ b.count = omega arith in
-            same_rest b.count (parts a.read.member) (parts b.read.member) bytes r s (all a.read.member a.read.is) (all b.read.member b.read.is) (agree a.read.member b.read.member)
+            same_rest b.count (parts a.read.member) (parts b.read.member) bytes r s (all a.read.member a.read.is) (all b.read.member b.read.is) (agree a.read.member b.read.member a.read.is b.read.is)
             (subst (λ (k : ℕ). Stand k (parts a.read.member) bytes r) one a.read.front) b.read.front)
       ])
     ]
 
 -- a fault has one place, where members agree
-pub one_place : {T : Type 0} (IsMember : T → Type 0) (parts : T → List Part) → ((m : T) → IsMember m → AllTexts (parts m)) → ((m n : T) → Agree (parts m) (parts n))
+pub one_place : {T : Type 0} (IsMember : T → Type 0) (parts : T → List Part) → ((m : T) → IsMember m → AllTexts (parts m)) → ((m n : T) → IsMember m → IsMember n → Agree (parts m) (parts n))
     → (bytes : List ℕ) (p q : ℕ) → IsFaultPlace IsMember parts bytes p → IsFaultPlace IsMember parts bytes q → p ≡ q
 one_place IsMember parts all agree bytes p q a b =
     let same : a.rest ≡ b.rest = same_stop IsMember parts all agree bytes a.rest b.rest a.stops b.stops in
     omega (arith, a.begins, b.begins, ap length same)
 
--- ---- changes agree
-
-kinds_agree : (j k : Kind) (c d : ChangeRecord) → Agree (parts_of_kind j c) (parts_of_kind k d)
-kinds_agree Label Label c d = (refl, λ _. (refl, λ _. (refl, λ _. (refl, λ _. (refl, λ _. (refl, λ _. (refl, λ _. (refl, λ _. alike_agree _ _ (bodies_alike c.body d.body)))))))))
-kinds_agree Label U32 c d = tt
-kinds_agree Label Str c d = tt
-kinds_agree Label Mem c d = tt
-kinds_agree U32 k c d = tt
-kinds_agree Str k c d = tt
-kinds_agree Mem k c d = tt
-
-changes_agree : (c d : ChangeRecord) → Agree (change_parts c) (change_parts d)
-changes_agree c d = (refl, λ _. (refl, λ _. kinds_agree c.key.kind d.key.kind c d))
-
-kind_texts : (k : Kind) (c : ChangeRecord) → IsChange c → AllTexts (parts_of_kind k c)
-kind_texts Label c m = (refl, (refl, (m.owner.allowed, (refl, ((c.version.epoch, omega (arith, m.epoch), refl), (refl, ((c.version.seq, omega (arith, m.seq), refl), (refl, body_texts c.body m.body))))))))
-kind_texts U32 c m = tt
-kind_texts Str c m = tt
-kind_texts Mem c m = tt
-
-change_texts : (c : ChangeRecord) → IsChange c → AllTexts (change_parts c)
-change_texts c m = (m.name.allowed, (refl, kind_texts c.key.kind c m))
-
 pub one_change_place : (bytes : List ℕ) (p q : ℕ) → IsFaultPlace IsChange change_parts bytes p → IsFaultPlace IsChange change_parts bytes q → p ≡ q
-one_change_place = one_place IsChange change_parts change_texts changes_agree
+one_change_place = one_place IsChange change_parts change_texts (λ c d is_c is_d. alike_agree (change_parts c) (change_parts d) (changes_alike c d is_c is_d))

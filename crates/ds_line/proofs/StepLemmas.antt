@@ -78,7 +78,7 @@ stops_at IsMember IsWhole parts bytes at s =
 pub completes_behind_part : (known : List Part) (p : Part) (c : ChangeRecord) (bytes r rest : List ℕ) → bytes ≡ p.text ++ r → Completes (known ++ p ∷ []) c r rest → Completes known c bytes rest
 completes_behind_part known p c bytes r rest is k =
     record {
-      label = k.label;
+      change = k.change;
       further = p ∷ k.further;
       split = k.split ∙ append_assoc known (p ∷ []) k.further;
       text = is ∙ ap (λ (x : List ℕ). p.text ++ x) k.text ∙ sym (append_assoc p.text (texts k.further) rest);

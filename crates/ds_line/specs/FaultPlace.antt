@@ -1,7 +1,7 @@
 -- Where what can be read of a text ends, for whatever is written part by part: a change, or a command.
 use Rattle.std.specs.Prelude.{◌≡◌, ◌≢◌, ℕ, zero, suc, ◌+◌, List, [], ◌∷◌, ◌++◌, length}
 use Rattle.ds_names.specs.Run.{Begins}
-use Rattle.ds_entry.specs.Change.{ChangeRecord, IsChange}
+use Rattle.ds_entry.specs.Change.{ChangeRecord, IsChange, IsBodyInPlace}
 use Rattle.ds_line.specs.Part.{Part, run_of}
 use Rattle.ds_line.specs.Spelling.{change_parts, HasLine, spelling}
 use Rattle.ds_line.specs.declared.fault.LineFault.{LineFault}
@@ -41,7 +41,15 @@ pub record IsLineFault (bytes : List ℕ) (place : ℕ) : Type 0 where
   pub none : HasNoLine bytes
   pub first : IsFaultPlace IsChange change_parts bytes place
 
+-- the whole line of a put of a text or a blob stands at the front, and its value takes memory
+pub record TakesRoom (bytes : List ℕ) : Type 0 where
+  pub change : ChangeRecord
+  pub rest : List ℕ
+  pub line : HasLine change
+  pub value : ¬ IsBodyInPlace change.body
+  pub front : bytes ≡ spelling change ++ rest
+
 -- what a fault says of the bytes
 abbrev pub IsFaultIn : LineFault → List ℕ → Type 0
 IsFaultIn (BadLine place) bytes = IsLineFault bytes place
-IsFaultIn NoRoom bytes = Unit {0}
+IsFaultIn NoRoom bytes = TakesRoom bytes

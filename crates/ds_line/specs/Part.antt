@@ -1,16 +1,23 @@
 -- What a line is made of: parts, each a text of some class.
-use Rattle.std.specs.Prelude.{ℕ, Bool, false, List, [], ◌∷◌}
+use Rattle.std.specs.Prelude.{ℕ, Bool, false, ◌&&◌, ◌||◌, nat_le, List, [], ◌∷◌}
 use Rattle.std.specs.List.{flat_map}
 use Rattle.std.specs.Char.{is_ascii_digit, is_ascii_alphanumeric}
 use Rattle.ds_names.specs.Name.{is_name_byte}
 
--- the sort of text that a part is: one byte, a name, a word, a decimal number, or an endpoint
+-- the sort of text that a part is: one byte, a name, a word, a decimal number, an endpoint, a text in quotes, or
+-- bytes in hex
 pub data Class : Type 0 where
   Byte : Class
   Name : Class
   Word : Class
   Number : Class
   Endpoint : Class
+  Quoted : Class
+  Hex : Class
+
+-- the byte is a digit or a letter from `a` to `f`
+abbrev pub is_hex_byte : ℕ → Bool
+is_hex_byte b = (nat_le 48 b && nat_le b 57) || (nat_le 97 b && nat_le b 102)
 
 -- Whether a byte right behind a part of the class would make it longer.
 abbrev pub run_of : Class → ℕ → Bool
@@ -19,6 +26,8 @@ run_of Name b = is_name_byte b
 run_of Word b = is_ascii_alphanumeric b
 run_of Number b = is_ascii_digit b
 run_of Endpoint b = is_ascii_digit b
+run_of Quoted b = false
+run_of Hex b = is_hex_byte b
 
 -- a text, and the class that says where it ends
 pub record Part : Type 0 where

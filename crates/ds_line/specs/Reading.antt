@@ -1,35 +1,54 @@
 -- What the readers of a change's parts say, one after the other.
-use Rattle.std.specs.Prelude.{◌≡◌, ℕ, suc, List, [], ◌∷◌, ◌++◌, length}
+use Rattle.std.specs.Prelude.{◌≡◌, ℕ, suc, List, [], ◌∷◌, ◌++◌, length, Result, Ok, Err}
 use Rattle.std.specs.Fmt.{decimal}
-use Rattle.ds_names.specs.declared.kind.Kind.TheVariants.{Label}
-use Rattle.ds_entry.specs.Change.{ChangeRecord, IsChange, IsLabelChange, rs_name}
+use Rattle.ds_names.specs.declared.key.Key.{Key}
+use Rattle.ds_names.specs.declared.version.Version.{Version}
+use Rattle.ds_entry.specs.declared.body.Value.{Value}
+use Rattle.ds_entry.specs.declared.body.Body.{Body}
+use Rattle.ds_entry.specs.declared.body.Body.TheVariants.{Put}
+use Rattle.ds_entry.specs.Change.{ChangeRecord, change_of, IsChange, IsBodyInPlace}
 use Rattle.ds_line.specs.Part.{Part, part, byte, Name, Word, Number, texts}
-use Rattle.ds_line.specs.Spelling.{space, label_word, parts_of_kind}
+use Rattle.ds_line.specs.Spelling.{space, kind_word, change_parts, HasLine}
 use Rattle.ds_line.specs.FaultPlace.{Stand}
+use Rattle.ds_line.specs.declared.stop.Stop.{Stop}
+use Rattle.ds_line.specs.declared.stop.Stop.TheVariants.{BadPart, NoRoom}
 
--- a change of a label
-pub record IsLabel (c : ChangeRecord) : Type 0 where
-  pub change : IsChange c
-  pub kind : c.key.kind ≡ Label
-  pub rule : IsLabelChange c
+-- the parts of a change up to the word of its kind
+abbrev pub up_to_kind : Key → List Part
+up_to_kind key = part Name key.name ∷ space ∷ part Word (kind_word key.kind) ∷ []
 
--- its parts
-abbrev pub label_parts : ChangeRecord → List Part
-label_parts c = part Name c.key.name ∷ space ∷ parts_of_kind Label c
+-- the parts before its epoch
+abbrev pub up_to_epoch : Key → List ℕ → List Part
+up_to_epoch key owner = up_to_kind key ++ space ∷ part Name owner ∷ space ∷ []
 
--- the parts of a label's line before its kind
-abbrev pub up_to_kind : List ℕ → List Part
-up_to_kind name = part Name name ∷ space ∷ []
+-- the parts before its mark
+abbrev pub up_to_mark : Key → List ℕ → Version → List Part
+up_to_mark key owner version =
+    up_to_epoch key owner ++ part Number (decimal version.epoch) ∷ byte 46 ∷ part Number (decimal version.seq) ∷ space ∷ []
 
--- those before its epoch
-abbrev pub up_to_epoch : List ℕ → List Part
-up_to_epoch name = part Name name ∷ space ∷ part Word label_word ∷ space ∷ part Name rs_name ∷ space ∷ []
+-- the parts of a put before its value
+abbrev pub up_to_value : Key → List ℕ → Version → List Part
+up_to_value key owner version = up_to_mark key owner version ++ byte 61 ∷ space ∷ []
 
--- those before its mark
-abbrev pub up_to_mark : List ℕ → ℕ → ℕ → List Part
-up_to_mark name epoch seq =
-    part Name name ∷ space ∷ part Word label_word ∷ space ∷ part Name rs_name ∷ space
-    ∷ part Number (decimal epoch) ∷ byte 46 ∷ part Number (decimal seq) ∷ space ∷ []
+-- some change has the key, the owner and the version
+abbrev pub HasBody : Key → List ℕ → Version → Type 0
+HasBody key owner version = (body : Body) × IsChange (change_of key owner version body)
+
+-- some put has them
+abbrev pub HasValue : Key → List ℕ → Version → Type 0
+HasValue key owner version = (value : Value) × IsChange (change_of key owner version (Put value))
+
+-- some change has the key, the owner and the epoch
+abbrev pub HasSeq : Key → List ℕ → ℕ → Type 0
+HasSeq key owner epoch = (seq : ℕ) × HasBody key owner (record { epoch = epoch; seq = seq })
+
+-- some change has the key and the owner
+abbrev pub HasVersion : Key → List ℕ → Type 0
+HasVersion key owner = (version : Version) × HasBody key owner version
+
+-- some change has the key
+abbrev pub HasOwner : Key → Type 0
+HasOwner key = (owner : List ℕ) × HasVersion key owner
 
 -- Of the members whose first parts are the known ones, the most further parts that can be read end where the rest
 -- begins, and none that is whole has all its parts there.
@@ -43,9 +62,27 @@ pub record StopsBehind {T : Type 0} (IsMember IsWhole : T → Type 0) (parts : T
   pub most : (m : T) (more : List Part) (after : List ℕ) → IsMember m → parts m ≡ known ++ more → ¬ Stand (suc count) more bytes after
   pub none : (m : T) (more : List Part) (after : List ℕ) → IsWhole m → parts m ≡ known ++ more → ¬ Stand (length more) more bytes after
 
--- the further parts of the label's change stand at the front, and the rest behind them
+-- the same of changes
+abbrev pub ChangeStops : List Part → List ℕ → List ℕ → Type 0
+ChangeStops known bytes rest = StopsBehind IsChange HasLine change_parts known bytes rest
+
+-- the further parts of the change stand at the front, and the rest behind them
 pub record Completes (known : List Part) (c : ChangeRecord) (bytes rest : List ℕ) : Type 0 where
-  pub label : IsLabel c
+  pub change : IsChange c
   pub further : List Part
-  pub split : label_parts c ≡ known ++ further
+  pub split : change_parts c ≡ known ++ further
   pub text : bytes ≡ texts further ++ rest
+
+-- the further parts of a put whose value takes memory stand at the front
+pub record CompletesInRoom (known : List Part) (bytes : List ℕ) : Type 0 where
+  pub put : ChangeRecord
+  pub rest : List ℕ
+  pub completes : Completes known put bytes rest
+  pub value : ¬ IsBodyInPlace put.body
+
+-- What a reader gives behind the known parts: the change, and how many bytes are left behind its line; how many are
+-- left from the first part on that can't be read; or that there is no room for the value.
+abbrev pub Reads : List Part → List ℕ → Result (ChangeRecord × ℕ) Stop → Type 0
+Reads known bytes (Ok r) = (rest : List ℕ) × Completes known r.0 bytes rest × (length rest ≡ r.1)
+Reads known bytes (Err (BadPart left)) = (rest : List ℕ) × ChangeStops known bytes rest × (length rest ≡ left)
+Reads known bytes (Err NoRoom) = CompletesInRoom known bytes

@@ -1,6 +1,8 @@
 -- The parts of a change's line, and the line that they make.
-use Rattle.std.specs.Prelude.{◌≡◌, ℕ, List, [], ◌∷◌}
+use Rattle.std.specs.Prelude.{ℕ, ◌==◌, ◌||◌, if◌then◌else◌, List, [], ◌∷◌, ◌++◌}
+use Rattle.std.specs.List.{flat_map}
 use Rattle.std.specs.Fmt.{decimal}
+use Rattle.hex.specs.Hex.{encode_lower}
 use Rattle.ds_names.specs.Endpoint.{endpoint_text}
 use Rattle.ds_names.specs.declared.kind.Kind.{Kind}
 use Rattle.ds_names.specs.declared.kind.Kind.TheVariants.{Label, U32, Str, Mem}
@@ -9,7 +11,7 @@ use Rattle.ds_entry.specs.declared.body.Value.TheVariants as values
 use Rattle.ds_entry.specs.declared.body.Body.{Body}
 use Rattle.ds_entry.specs.declared.body.Body.TheVariants.{Put, Gone}
 use Rattle.ds_entry.specs.Change.{ChangeRecord, IsChange}
-use Rattle.ds_line.specs.Part.{Part, part, byte, Name, Word, Number, Endpoint, texts}
+use Rattle.ds_line.specs.Part.{Part, part, byte, Name, Word, Number, Endpoint, Quoted, Hex, texts}
 
 -- the space between two parts
 abbrev pub space : Part
@@ -19,40 +21,50 @@ space = byte 32
 abbrev pub newline : Part
 newline = byte 10
 
--- `label`
-abbrev pub label_word : List ℕ
-label_word = 108 ∷ 97 ∷ 98 ∷ 101 ∷ 108 ∷ []
+-- the word of a kind: `label`, `u32`, `str` or `mem`
+abbrev pub kind_word : Kind → List ℕ
+kind_word Label = 108 ∷ 97 ∷ 98 ∷ 101 ∷ 108 ∷ []
+kind_word U32 = 117 ∷ 51 ∷ 50 ∷ []
+kind_word Str = 115 ∷ 116 ∷ 114 ∷ []
+kind_word Mem = 109 ∷ 101 ∷ 109 ∷ []
 
--- a label's value is its endpoint
+-- a quote and a backslash have a backslash before them, and every other byte stands for itself
+abbrev pub escaped_byte : ℕ → List ℕ
+escaped_byte b = if b == 34 || b == 92 then 92 ∷ b ∷ [] else b ∷ []
+
+-- each byte of the text so
+abbrev pub escaped : List ℕ → List ℕ
+escaped text = flat_map escaped_byte text
+
+-- the text between two quotes
+abbrev pub quoted : List ℕ → List ℕ
+quoted text = 34 ∷ (escaped text ++ 34 ∷ [])
+
+-- a label's value is its endpoint, a number is written in decimal, a text in quotes, and a blob in lower-case hex
 abbrev pub value_part : Value → Part
 value_part (values.Label endpoint) = part Endpoint (endpoint_text endpoint)
+value_part (values.U32 number) = part Number (decimal number)
+value_part (values.Str text) = part Quoted (quoted text)
+value_part (values.Mem blob) = part Hex (encode_lower blob)
 
 -- a put: `=`, a space, the value, the newline. A tombstone: `-`, the newline
 abbrev pub body_parts : Body → List Part
 body_parts (Put value) = byte 61 ∷ space ∷ value_part value ∷ newline ∷ []
 body_parts Gone = byte 45 ∷ newline ∷ []
 
--- A label's change, behind the name and its space: the word `label`, the owner, the epoch, a dot, the sequence
--- number, and the body. Of a change of another kind no more than the name and its space can be read yet.
-abbrev pub parts_of_kind : Kind → ChangeRecord → List Part
-parts_of_kind Label c =
-    part Word label_word ∷ space
+-- the name, the word of the kind, the owner, the epoch, a dot, the sequence number, and the body
+abbrev pub change_parts : ChangeRecord → List Part
+change_parts c =
+    part Name c.key.name ∷ space
+    ∷ part Word (kind_word c.key.kind) ∷ space
     ∷ part Name c.owner ∷ space
     ∷ part Number (decimal c.version.epoch) ∷ byte 46 ∷ part Number (decimal c.version.seq) ∷ space
     ∷ body_parts c.body
-parts_of_kind U32 c = []
-parts_of_kind Str c = []
-parts_of_kind Mem c = []
-
--- the name, a space, and what the kind brings
-abbrev pub change_parts : ChangeRecord → List Part
-change_parts c = part Name c.key.name ∷ space ∷ parts_of_kind c.key.kind c
 
 -- the change's one line, its newline included
 abbrev pub spelling : ChangeRecord → List ℕ
 spelling c = texts (change_parts c)
 
--- a change that has a line: so far each change of a label
-pub record HasLine (c : ChangeRecord) : Type 0 where
-  pub change : IsChange c
-  pub kind : c.key.kind ≡ Label
+-- a change that has a line: each has one
+abbrev pub HasLine : ChangeRecord → Type 0
+HasLine c = IsChange c

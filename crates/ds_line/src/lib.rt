@@ -8,6 +8,9 @@ mod fault;
 mod laws;
 mod parts;
 mod reading;
+mod rules;
+mod stop;
+mod values;
 mod writing;
 
 pub use fault::LineFault;

@@ -1,12 +1,14 @@
 //! Parts at the front of bytes.
 
-ghost use Rattle.std.specs.Prelude.{◌≡◌, ◌≤◌, List, ℕ, IfSome, IfNone, IsTrue, length, drop};
+ghost use Rattle.std.specs.Prelude.{◌≡◌, ◌≢◌, ◌≤◌, List, ℕ, IfSome, IfNone, IsTrue, length, drop};
 ghost use Rattle.std.specs.List.{prefix_len, list_all};
 ghost use Rattle.std.specs.Char.{is_ascii_alphanumeric};
 ghost use Rattle.ds_names.specs.Name.{is_name_byte, IsName};
 ghost use Rattle.ds_names.specs.Run.{Begins};
+ghost use Rattle.ds_names.specs.declared.kind.Kind.{Kind};
+ghost use Rattle.ds_line.specs.Spelling.{kind_word};
 
-use ds_names::{Name, is_name_byte};
+use ds_names::{Kind, Name, is_name_byte};
 
 // How many name bytes stand at the front.
 fn name_len(bytes: &[u8]) -> usize
@@ -46,13 +48,45 @@ fn word_len(bytes: &[u8]) -> usize
         .count()
 }
 
-/// Reads one given word at the front, and gives what comes behind it. `None` where the longest run of letters
-/// and digits is another.
-pub fn word_at<'a>(bytes: &'a [u8], word: &[u8]) -> Option<&'a [u8]>
-    requires { IsTrue (list_all is_ascii_alphanumeric word.now) }
-    ensures found { IfSome result (λ rest. Begins is_ascii_alphanumeric bytes.now word.now rest.now) }
-    ensures none { IfNone result ((rest : List ℕ) → ¬ Begins is_ascii_alphanumeric bytes.now word.now rest) }
+/// The word of a kind.
+pub fn word_of(kind: &Kind) -> &[u8]
+    ensures { result.now ≡ kind_word kind.now }
 {
-    let (front, rest) = bytes.split_at(word_len(bytes));
-    if front == word { Some(rest) } else { None }
+    match kind {
+        Kind::Label => b"label",
+        Kind::U32 => b"u32",
+        Kind::Str => b"str",
+        Kind::Mem => b"mem",
+    }
+}
+
+// The kind of a word.
+fn kind_of(word: &[u8]) -> Option<Kind>
+    ensures found { IfSome result (λ kind. word.now ≡ kind_word kind) }
+    ensures none { IfNone result ((kind : Kind) → word.now ≢ kind_word kind) }
+{
+    if word == word_of(&Kind::Label) {
+        Some(Kind::Label)
+    } else if word == word_of(&Kind::U32) {
+        Some(Kind::U32)
+    } else if word == word_of(&Kind::Str) {
+        Some(Kind::Str)
+    } else if word == word_of(&Kind::Mem) {
+        Some(Kind::Mem)
+    } else {
+        None
+    }
+}
+
+/// Reads the word of a kind at the front, and gives the kind with what comes behind the word. `None` where the
+/// longest run of letters and digits is another.
+pub fn kind_at(bytes: &[u8]) -> Option<(Kind, &[u8])>
+    ensures found { IfSome result (λ r. Begins is_ascii_alphanumeric bytes.now (kind_word r.0) r.1.now) }
+    ensures none { IfNone result ((kind : Kind) (rest : List ℕ) → ¬ Begins is_ascii_alphanumeric bytes.now (kind_word kind) rest) }
+{
+    let (word, rest) = bytes.split_at(word_len(bytes));
+    let Some(kind) = kind_of(word) else {
+        return None;
+    };
+    Some((kind, rest))
 }

@@ -1,15 +1,22 @@
 //! Reading the line of a change.
 
-ghost use Rattle.std.specs.Prelude.{◌≡◌, ◌≢◌, ℕ, ◌<◌, ◌≤◌, List, [], length, take, IfOk, IfErr};
-ghost use Rattle.ds_names.specs.Name.{IsName};
-ghost use Rattle.ds_entry.specs.Change.{IsChange, rs_name};
-ghost use Rattle.ds_line.specs.Spelling.{HasLine, change_parts, spelling};
+ghost use Rattle.std.specs.Prelude.{◌≡◌, ℕ, List, [], ◌∷◌, ◌++◌, length, take, Ok, IfOk, IfErr};
+ghost use Rattle.std.specs.Fmt.{decimal};
+ghost use Rattle.ds_names.specs.declared.kind.Kind.TheVariants.{Label, U32, Str, Mem};
+ghost use Rattle.ds_entry.specs.Change.{change_of, IsChange};
+ghost use Rattle.ds_entry.specs.declared.body.Body.TheVariants.{Gone};
+ghost use Rattle.ds_line.specs.declared.stop.Stop.TheVariants.{BadPart};
+ghost use Rattle.ds_line.specs.Part.{byte};
+ghost use Rattle.ds_line.specs.Spelling.{HasLine, spelling};
 ghost use Rattle.ds_line.specs.FaultPlace.{IsFaultIn};
-ghost use Rattle.ds_line.specs.Reading.{IsLabel, label_parts, up_to_kind, up_to_epoch, up_to_mark, StopsBehind, Completes};
+ghost use Rattle.ds_line.specs.Reading.{HasOwner, HasVersion, HasBody, HasValue, up_to_kind, up_to_epoch, up_to_mark, up_to_value, Reads};
 
 use crate::fault::LineFault;
-use crate::parts::{behind_name, name_at, word_at};
-use ds_entry::{Body, Change, Value};
+use crate::parts::{behind_name, kind_at, name_at};
+use crate::rules::{has_body, has_owner, has_seq, has_tombstone, has_value, has_version};
+use crate::stop::Stop;
+use crate::values::{hex_at, quoted_at};
+use ds_entry::{Blob, Body, Change, Text, Value};
 use ds_names::{
     Endpoint, Generation, Key, Kind, Name, Version, read_byte, read_decimal, read_endpoint,
 };
@@ -22,181 +29,276 @@ mod tests;
 /// newline included.
 ///
 /// Where no change's line stands at the front it gives BadLine, with the place where the first part that can't
-/// be read begins. A label takes no memory to read, so NoRoom comes for none.
-pub fn read_change(_alloc: Global, bytes: &[u8]) -> Result<(Change, usize), LineFault>
+/// be read begins. NoRoom comes only where the whole line of a put of a text or a blob stands there: all other
+/// lines take no memory to read.
+pub fn read_change(alloc: Global, bytes: &[u8]) -> Result<(Change, usize), LineFault>
     ensures line { IfOk result (λ r. HasLine r.0) }
     ensures found { IfOk result (λ r. take r.1 bytes.now ≡ spelling r.0) }
     ensures length { IfOk result (λ r. r.1 ≡ length (spelling r.0)) }
     ensures fault { IfErr result (λ fault. IsFaultIn fault bytes.now) }
-    ensures room { result ≢ Err LineFault.NoRoom }
 {
-    match change_at(bytes) {
-        Ok((change, rest)) => {
-            let length = bytes.len() - rest.len();
+    match change_at(alloc, bytes) {
+        Ok((change, left)) => {
+            let length = bytes.len() - left;
             Ok((change, length))
         }
-        Err(rest) => {
-            let place = bytes.len() - rest.len();
+        Err(Stop::BadPart { left }) => {
+            let place = bytes.len() - left;
             Err(LineFault::BadLine { place })
         }
+        Err(Stop::NoRoom) => Err(LineFault::NoRoom),
     }
 }
 
-// Each reader below gives the change and what comes behind its line, or what begins with the first part that
-// can't be read.
+// Each reader below gives the change and how many bytes are left behind its line, or how many are left from the
+// first part on that can't be read.
+
+// The next part, which can't be read, begins with the bytes.
+fn stop_at(bytes: &[u8]) -> Stop
+    ensures { result ≡ BadPart (length bytes.now) }
+{
+    Stop::BadPart { left: bytes.len() }
+}
 
 // Reads a change from its name on.
-fn change_at(bytes: &[u8]) -> Result<(Change, &[u8]), &[u8]>
-    ensures found { IfOk result (λ r. Completes [] r.0 bytes.now r.1.now) }
-    ensures fault { IfErr result (λ rest. StopsBehind IsChange HasLine change_parts [] bytes.now rest.now) }
+fn change_at(alloc: Global, bytes: &[u8]) -> Result<(Change, usize), Stop>
+    ensures { Reads [] bytes.now result }
 {
     let Some(name) = name_at(bytes) else {
-        return Err(bytes);
+        return Err(stop_at(bytes));
     };
     let rest = behind_name(bytes, &name);
-    let Some(rest) = read_byte(rest, b' ') else {
-        return Err(rest);
+    let Some(at) = read_byte(rest, b' ') else {
+        return Err(stop_at(rest));
     };
-    if name.bytes() == b"rs".as_slice() {
-        return Err(rest);
+    let Some((kind, rest)) = kind_at(at) else {
+        return Err(stop_at(at));
+    };
+    let key = Key { name, kind };
+    if !has_owner(&key) {
+        return Err(stop_at(at));
     }
-    label_at(name, rest)
+    owner_at(alloc, key, rest)
 }
 
-// Reads a label's change from its kind on.
-fn label_at(name: Name, bytes: &[u8]) -> Result<(Change, &[u8]), &[u8]>
-    requires name { IsName name }
-    requires not_rs { name ≢ rs_name }
-    ensures found { IfOk result (λ r. Completes (up_to_kind name) r.0 bytes.now r.1.now) }
-    ensures fault { IfErr result (λ rest. StopsBehind IsLabel HasLine label_parts (up_to_kind name) bytes.now rest.now) }
+// Reads a change from the space behind its kind on.
+fn owner_at(alloc: Global, key: Key, bytes: &[u8]) -> Result<(Change, usize), Stop>
+    requires { HasOwner key }
+    ensures { Reads (up_to_kind key) bytes.now result }
 {
-    let Some(rest) = word_at(bytes, b"label") else {
-        return Err(bytes);
-    };
-    let Some(at) = read_byte(rest, b' ') else {
-        return Err(rest);
+    let Some(at) = read_byte(bytes, b' ') else {
+        return Err(stop_at(bytes));
     };
     let Some(owner) = name_at(at) else {
-        return Err(at);
+        return Err(stop_at(at));
     };
-    if owner.bytes() != b"rs".as_slice() {
-        return Err(at);
+    if !has_version(&key, &owner) {
+        return Err(stop_at(at));
     }
     let rest = behind_name(at, &owner);
     let Some(rest) = read_byte(rest, b' ') else {
-        return Err(rest);
+        return Err(stop_at(rest));
     };
-    version_at(name, owner, rest)
+    version_at(alloc, key, owner, rest)
 }
 
-// Reads a label's change from its epoch on.
-fn version_at(name: Name, owner: Name, bytes: &[u8]) -> Result<(Change, &[u8]), &[u8]>
-    requires name { IsName name }
-    requires not_rs { name ≢ rs_name }
-    requires owner { owner ≡ rs_name }
-    ensures found { IfOk result (λ r. Completes (up_to_epoch name) r.0 bytes.now r.1.now) }
-    ensures fault { IfErr result (λ rest. StopsBehind IsLabel HasLine label_parts (up_to_epoch name) bytes.now rest.now) }
+// Reads a change from its epoch on.
+fn version_at(alloc: Global, key: Key, owner: Name, bytes: &[u8]) -> Result<(Change, usize), Stop>
+    requires { HasVersion key owner }
+    ensures { Reads (up_to_epoch key owner) bytes.now result }
 {
     let Some((number, rest)) = read_decimal(bytes, 2097151) else {
-        return Err(bytes);
+        return Err(stop_at(bytes));
     };
-    if number == 0 {
-        return Err(bytes);
-    }
     let Some(epoch) = Generation::of(number as u32) else {
-        return Err(bytes);
+        return Err(stop_at(bytes));
     };
-    let Some(rest) = read_byte(rest, b'.') else {
-        return Err(rest);
+    if !has_seq(&key, &owner, epoch) {
+        return Err(stop_at(bytes));
+    }
+    let Some(at) = read_byte(rest, b'.') else {
+        return Err(stop_at(rest));
     };
-    let Some((seq, rest)) = read_decimal(rest, 1) else {
-        return Err(rest);
+    let Some((seq, rest)) = read_decimal(at, 4294967295) else {
+        return Err(stop_at(at));
     };
+    let version = Version {
+        epoch,
+        seq: seq as u32,
+    };
+    if !has_body(&key, &owner, &version) {
+        return Err(stop_at(at));
+    }
     let Some(rest) = read_byte(rest, b' ') else {
-        return Err(rest);
+        return Err(stop_at(rest));
     };
-    if seq == 0 {
-        put_at(name, owner, epoch, rest)
-    } else {
-        gone_at(name, owner, epoch, rest)
+    body_at(alloc, key, owner, version, rest)
+}
+
+// Reads a change from its mark on.
+fn body_at(
+    alloc: Global,
+    key: Key,
+    owner: Name,
+    version: Version,
+    bytes: &[u8],
+) -> Result<(Change, usize), Stop>
+    requires { HasBody key owner version }
+    ensures { Reads (up_to_mark key owner version) bytes.now result }
+{
+    if has_value(&key, &owner, &version) {
+        if let Some(rest) = read_byte(bytes, b'=') {
+            return put_at(alloc, key, owner, version, rest);
+        }
+    }
+    if has_tombstone(&key, &owner, &version) {
+        if let Some(rest) = read_byte(bytes, b'-') {
+            return gone_at(key, owner, version, rest);
+        }
+    }
+    Err(stop_at(bytes))
+}
+
+// Reads a tombstone from its newline on.
+fn gone_at(key: Key, owner: Name, version: Version, bytes: &[u8]) -> Result<(Change, usize), Stop>
+    requires { IsChange (change_of key owner version Gone) }
+    ensures { Reads (up_to_mark key owner version ++ byte 45 ∷ []) bytes.now result }
+{
+    let Some(rest) = read_byte(bytes, b'\n') else {
+        return Err(stop_at(bytes));
+    };
+    whole(key, owner, version, Body::Gone, rest)
+}
+
+// Reads a put from the space before its value on.
+fn put_at(
+    alloc: Global,
+    key: Key,
+    owner: Name,
+    version: Version,
+    bytes: &[u8],
+) -> Result<(Change, usize), Stop>
+    requires { HasValue key owner version }
+    ensures { Reads (up_to_mark key owner version ++ byte 61 ∷ []) bytes.now result }
+{
+    let Some(rest) = read_byte(bytes, b' ') else {
+        return Err(stop_at(bytes));
+    };
+    match key.kind {
+        Kind::Label => label_at(key, owner, version, rest),
+        Kind::U32 => number_at(key, owner, version, rest),
+        Kind::Str => text_at(alloc, key, owner, version, rest),
+        Kind::Mem => blob_at(alloc, key, owner, version, rest),
     }
 }
 
-// Reads a label's put from its mark on.
-fn put_at(
-    name: Name,
-    owner: Name,
-    epoch: Generation,
-    bytes: &[u8],
-) -> Result<(Change, &[u8]), &[u8]>
-    requires name { IsName name }
-    requires not_rs { name ≢ rs_name }
-    requires owner { owner ≡ rs_name }
-    requires some { 0 < epoch }
-    requires most { epoch ≤ 2097151 }
-    ensures found { IfOk result (λ r. Completes (up_to_mark name epoch 0) r.0 bytes.now r.1.now) }
-    ensures fault { IfErr result (λ rest. StopsBehind IsLabel HasLine label_parts (up_to_mark name epoch 0) bytes.now rest.now) }
+// Reads a label's put from its endpoint on.
+fn label_at(key: Key, owner: Name, version: Version, bytes: &[u8]) -> Result<(Change, usize), Stop>
+    requires kind { key.kind ≡ Label }
+    requires value { HasValue key owner version }
+    ensures { Reads (up_to_value key owner version) bytes.now result }
 {
-    let Some(rest) = read_byte(bytes, b'=') else {
-        return Err(bytes);
+    let Some((generation, slot, rest)) = read_endpoint(bytes) else {
+        return Err(stop_at(bytes));
     };
-    let Some(at) = read_byte(rest, b' ') else {
-        return Err(rest);
-    };
-    let Some((generation, slot, rest)) = read_endpoint(at) else {
-        return Err(at);
-    };
-    if generation != epoch.number() {
-        return Err(at);
+    if generation != version.epoch.number() {
+        return Err(stop_at(bytes));
     }
-    let Some(endpoint) = Endpoint::of(epoch, slot) else {
-        return Err(at);
+    let Some(endpoint) = Endpoint::of(version.epoch, slot) else {
+        return Err(stop_at(bytes));
     };
     let Some(rest) = read_byte(rest, b'\n') else {
-        return Err(rest);
+        return Err(stop_at(rest));
     };
-    let key = Key {
-        name,
-        kind: Kind::Label,
+    whole(key, owner, version, Body::Put(Value::Label(endpoint)), rest)
+}
+
+// Reads a number's put from its value on.
+fn number_at(key: Key, owner: Name, version: Version, bytes: &[u8]) -> Result<(Change, usize), Stop>
+    requires kind { key.kind ≡ U32 }
+    requires value { HasValue key owner version }
+    ensures { Reads (up_to_value key owner version) bytes.now result }
+{
+    let Some((number, rest)) = read_decimal(bytes, 4294967295) else {
+        return Err(stop_at(bytes));
     };
-    match Change::make(
+    let Some(rest) = read_byte(rest, b'\n') else {
+        return Err(stop_at(rest));
+    };
+    whole(
         key,
         owner,
-        Version { epoch, seq: 0 },
-        Body::Put(Value::Label(endpoint)),
-    ) {
-        Ok(change) => Ok((change, rest)),
-        Err(_) => Err(rest),
+        version,
+        Body::Put(Value::U32(number as u32)),
+        rest,
+    )
+}
+
+// Reads a text's put from its opening quote on.
+fn text_at(
+    alloc: Global,
+    key: Key,
+    owner: Name,
+    version: Version,
+    bytes: &[u8],
+) -> Result<(Change, usize), Stop>
+    requires kind { key.kind ≡ Str }
+    requires value { HasValue key owner version }
+    ensures { Reads (up_to_value key owner version) bytes.now result }
+{
+    let mut block = [0u8; 256];
+    let Some((len, rest)) = quoted_at(bytes, &mut block) else {
+        return Err(stop_at(bytes));
+    };
+    let Some(rest) = read_byte(rest, b'\n') else {
+        return Err(stop_at(rest));
+    };
+    match Text::read(alloc, &block[..len]) {
+        Ok(text) => whole(key, owner, version, Body::Put(Value::Str(text)), rest),
+        Err(_) => Err(Stop::NoRoom),
     }
 }
 
-// Reads a label's tombstone from its mark on.
-fn gone_at(
-    name: Name,
+// Reads a blob's put from its hex on.
+fn blob_at(
+    alloc: Global,
+    key: Key,
     owner: Name,
-    epoch: Generation,
+    version: Version,
     bytes: &[u8],
-) -> Result<(Change, &[u8]), &[u8]>
-    requires name { IsName name }
-    requires not_rs { name ≢ rs_name }
-    requires owner { owner ≡ rs_name }
-    requires some { 0 < epoch }
-    requires most { epoch ≤ 2097151 }
-    ensures found { IfOk result (λ r. Completes (up_to_mark name epoch 1) r.0 bytes.now r.1.now) }
-    ensures fault { IfErr result (λ rest. StopsBehind IsLabel HasLine label_parts (up_to_mark name epoch 1) bytes.now rest.now) }
+) -> Result<(Change, usize), Stop>
+    requires kind { key.kind ≡ Mem }
+    requires value { HasValue key owner version }
+    ensures { Reads (up_to_value key owner version) bytes.now result }
 {
-    let Some(rest) = read_byte(bytes, b'-') else {
-        return Err(bytes);
+    let Some((digits, rest)) = hex_at(bytes) else {
+        return Err(stop_at(bytes));
     };
     let Some(rest) = read_byte(rest, b'\n') else {
-        return Err(rest);
+        return Err(stop_at(rest));
     };
-    let key = Key {
-        name,
-        kind: Kind::Label,
+    let Ok(decoded) = hex::decode(alloc, digits) else {
+        return Err(Stop::NoRoom);
     };
-    match Change::make(key, owner, Version { epoch, seq: 1 }, Body::Gone) {
-        Ok(change) => Ok((change, rest)),
-        Err(_) => Err(rest),
+    match Blob::of(decoded) {
+        Some(blob) => whole(key, owner, version, Body::Put(Value::Mem(blob)), rest),
+        None => Err(Stop::NoRoom),
+    }
+}
+
+// Gives the change that was read, and how many bytes are left behind its line.
+fn whole(
+    key: Key,
+    owner: Name,
+    version: Version,
+    body: Body,
+    rest: &[u8],
+) -> Result<(Change, usize), Stop>
+    requires { IsChange (change_of key owner version body) }
+    ensures { result ≡ Ok (change_of key owner version body, length rest.now) }
+{
+    match Change::make(key, owner, version, body) {
+        Ok(change) => Ok((change, rest.len())),
+        Err(_) => Err(stop_at(rest)),
     }
 }

@@ -1,10 +1,12 @@
 //! Writing the line of a change.
 
-ghost use Rattle.std.specs.Prelude.{◌≡◌, ◌++◌, List, ℕ, OnOk, OnErr, IfOk};
+ghost use Rattle.std.specs.Prelude.{◌≡◌, ◌≤◌, ◌++◌, List, ℕ, [], ◌∷◌, length, drop, OnOk, OnErr, IfOk};
 ghost use Rattle.std.specs.List.{flat_map};
-ghost use Rattle.ds_names.specs.declared.kind.Kind.TheVariants.{Label};
-ghost use Rattle.ds_line.specs.Spelling.{spelling};
+ghost use Rattle.hex.specs.Hex.{encode_lower};
+ghost use Rattle.ds_line.specs.Part.{texts};
+ghost use Rattle.ds_line.specs.Spelling.{body_parts, escaped, escaped_byte, quoted, spelling};
 
+use crate::parts::word_of;
 use ds_entry::{Body, Change, Value};
 use ds_names::NoRoom;
 use itoa::Buffer;
@@ -13,9 +15,8 @@ use std::alloc::Global;
 #[cfg(test)]
 mod tests;
 
-/// Writes the line of a label's change, its newline included.
+/// Writes the line of a change, its newline included.
 pub fn write_change(alloc: Global, change: &Change) -> Result<Vec<u8>, NoRoom>
-    requires { change.now.key.kind ≡ Label }
     ensures { IfOk result (λ line. line.items ≡ spelling change.now) }
 {
     let mut line = Vec::new(alloc);
@@ -23,21 +24,39 @@ pub fn write_change(alloc: Global, change: &Change) -> Result<Vec<u8>, NoRoom>
     Ok(line)
 }
 
-/// Writes the line of a label's change, its newline included, behind what a buffer has. Where there is no room
+/// Writes the line of a change, its newline included, behind what a buffer has. Where there is no room
 /// for all of it, the buffer is as it was.
 pub fn append_change(buffer: &mut Vec<u8>, change: &Change) -> Result<(), NoRoom>
-    requires { change.now.key.kind ≡ Label }
     ensures written { OnOk result (buffer.new.items ≡ buffer.old.items ++ spelling change.now) }
     ensures unchanged { OnErr result (buffer.new.items ≡ buffer.old.items) }
 {
-    let name = change.key().name.bytes();
-    let owner = change.owner().bytes();
-    let version = change.version();
     let mut epoch_digits = Buffer::new();
-    let epoch = epoch_digits.format(version.epoch.number()).as_bytes();
+    let epoch = epoch_digits
+        .format(change.version().epoch.number())
+        .as_bytes();
     let mut seq_digits = Buffer::new();
-    let seq = seq_digits.format(version.seq).as_bytes();
-    match change.body() {
+    let seq = seq_digits.format(change.version().seq).as_bytes();
+    let name = change.key().name.bytes();
+    let kind = word_of(&change.key().kind);
+    let owner = change.owner().bytes();
+    let start = buffer.len();
+    append_all(
+        buffer,
+        &[name, b" ", kind, b" ", owner, b" ", epoch, b".", seq, b" "],
+    )?;
+    let written = append_body(buffer, change.body());
+    if written.is_err() {
+        buffer.truncate(start);
+    }
+    written
+}
+
+// Appends the mark, the value and the newline, or nothing.
+fn append_body(buffer: &mut Vec<u8>, body: &Body) -> Result<(), NoRoom>
+    ensures written { OnOk result (buffer.new.items ≡ buffer.old.items ++ texts (body_parts body.now)) }
+    ensures unchanged { OnErr result (buffer.new.items ≡ buffer.old.items) }
+{
+    match body {
         Body::Put(Value::Label(endpoint)) => {
             let mut generation_digits = Buffer::new();
             let generation = generation_digits
@@ -45,18 +64,15 @@ pub fn append_change(buffer: &mut Vec<u8>, change: &Change) -> Result<(), NoRoom
                 .as_bytes();
             let mut slot_digits = Buffer::new();
             let slot = slot_digits.format(endpoint.slot()).as_bytes();
-            append_all(
-                buffer,
-                &[
-                    name, b" label ", owner, b" ", epoch, b".", seq, b" = ", generation, b"/",
-                    slot, b"\n",
-                ],
-            )
+            append_all(buffer, &[b"= ", generation, b"/", slot, b"\n"])
         }
-        Body::Gone => append_all(
-            buffer,
-            &[name, b" label ", owner, b" ", epoch, b".", seq, b" -\n"],
-        ),
+        Body::Put(Value::U32(number)) => {
+            let mut digits = Buffer::new();
+            append_all(buffer, &[b"= ", digits.format(*number).as_bytes(), b"\n"])
+        }
+        Body::Put(Value::Str(text)) => append_text(buffer, text.bytes()),
+        Body::Put(Value::Mem(blob)) => append_blob(buffer, blob.bytes()),
+        Body::Gone => append_all(buffer, &[b"-\n"]),
     }
 }
 
@@ -73,4 +89,71 @@ fn append_all(buffer: &mut Vec<u8>, texts: &[&[u8]]) -> Result<(), NoRoom>
         }
     }
     Ok(())
+}
+
+// Appends the put of a text from its mark on, or nothing.
+fn append_text(buffer: &mut Vec<u8>, text: &[u8]) -> Result<(), NoRoom>
+    ensures written { OnOk result (buffer.new.items ≡ buffer.old.items ++ 61 ∷ 32 ∷ (quoted text.now ++ 10 ∷ [])) }
+    ensures unchanged { OnErr result (buffer.new.items ≡ buffer.old.items) }
+{
+    let start = buffer.len();
+    append_all(buffer, &[b"= \""])?;
+    let written = append_closed(buffer, text);
+    if written.is_err() {
+        buffer.truncate(start);
+    }
+    written
+}
+
+// Appends the bytes of the text as they stand in quotes, the closing quote and the newline, or nothing.
+fn append_closed(buffer: &mut Vec<u8>, text: &[u8]) -> Result<(), NoRoom>
+    ensures written { OnOk result (buffer.new.items ≡ buffer.old.items ++ (escaped text.now ++ 34 ∷ 10 ∷ [])) }
+    ensures unchanged { OnErr result (buffer.new.items ≡ buffer.old.items) }
+{
+    let start = buffer.len();
+    append_escaped(buffer, text)?;
+    let written = append_all(buffer, &[b"\"\n"]);
+    if written.is_err() {
+        buffer.truncate(start);
+    }
+    written
+}
+
+// Appends the bytes of the text as they stand in quotes, or nothing.
+fn append_escaped(buffer: &mut Vec<u8>, text: &[u8]) -> Result<(), NoRoom>
+    ensures written { OnOk result (buffer.new.items ≡ buffer.old.items ++ escaped text.now) }
+    ensures unchanged { OnErr result (buffer.new.items ≡ buffer.old.items) }
+{
+    let start = buffer.len();
+    for byte in text {
+        let with_backslash = [b'\\', *byte];
+        let spelled = &with_backslash[spelled_from(*byte)..];
+        if buffer.extend_from_slice(spelled).is_err() {
+            buffer.truncate(start);
+            return Err(NoRoom);
+        }
+    }
+    Ok(())
+}
+
+// Where a byte as it stands in quotes begins, in a backslash and the byte.
+fn spelled_from(byte: u8) -> usize
+    ensures fits { result ≤ 1 }
+    ensures spelled { drop result (92 ∷ byte ∷ []) ≡ escaped_byte byte }
+{
+    if byte == b'"' || byte == b'\\' { 0 } else { 1 }
+}
+
+// Appends the put of a blob from its mark on, or nothing.
+fn append_blob(buffer: &mut Vec<u8>, blob: &[u8]) -> Result<(), NoRoom>
+    requires { length blob.now ≤ 1024 }
+    ensures written { OnOk result (buffer.new.items ≡ buffer.old.items ++ 61 ∷ 32 ∷ (encode_lower blob.now ++ 10 ∷ [])) }
+    ensures unchanged { OnErr result (buffer.new.items ≡ buffer.old.items) }
+{
+    let mut block = [0u8; 2048];
+    let digits = &mut block[..2 * blob.len()];
+    match hex::encode_to_slice(blob, digits) {
+        Ok(()) => append_all(buffer, &[b"= ", digits, b"\n"]),
+        Err(_) => Err(NoRoom),
+    }
 }

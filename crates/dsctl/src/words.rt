@@ -36,9 +36,15 @@ Lines of a script:
   show           print the entries that stand, in order of their keys, then `shown N`
   all            the same with tombstones
 
-A change is a line `NAME label rs EPOCH.0 = GENERATION/SLOT`, which puts the label NAME for the endpoint
-of that generation and slot, or `NAME label rs EPOCH.1 -`, which says that this generation is gone. The
-epoch is the endpoint's generation. A change that can't be merged is answered by `refused` and a word.";
+A change is a line `NAME KIND OWNER EPOCH.SEQ = VALUE`, which puts a value, or `NAME KIND OWNER EPOCH.SEQ -`,
+which says that the entry is gone. Of two changes of one name and kind the one with the greater version
+EPOCH.SEQ stands. The kinds and their values:
+  label  GENERATION/SLOT, the endpoint of a driver; the owner is rs, the epoch its generation,
+         the sequence number 0 for a put and 1 for a tombstone
+  u32    a number up to 4294967295
+  str    \"text\" of up to 256 printable characters; \\\" and \\\\ stand for a quote and a backslash
+  mem    up to 1024 bytes in lower-case hex
+A change that can't be merged is answered by `refused` and a word.";
 
 const AFTER_HELP: &str = "\
 Example session (lines behind `>` are typed, the others are printed):

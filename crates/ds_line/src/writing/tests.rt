@@ -1,5 +1,5 @@
 use super::*;
-use ds_entry::{Body, Change, Value};
+use ds_entry::{Blob, Body, Change, Text, Value};
 use ds_names::{Endpoint, Generation, Key, Kind, Name, Version};
 use std::test::Fail;
 
@@ -24,7 +24,6 @@ fn lines_are_written(rt: HostRuntime) -> Result<(), Fail> {
     let alloc = rt.alloc();
     let put = change_of(b"eth0", 2097151, Some(1023))?;
     let gone = change_of(b"x.y_z-1", 7, None)?;
-    assert!(rt; put.key().kind == Kind::Label && gone.key().kind == Kind::Label);
     let line = write_change(alloc, &put)?;
     assert_eq!(rt;
         line.as_slice(),
@@ -38,7 +37,6 @@ fn lines_are_written(rt: HostRuntime) -> Result<(), Fail> {
 #[test]
 fn lines_are_appended(rt: HostRuntime) -> Result<(), Fail> {
     let gone = change_of(b"eth0", 7, None)?;
-    assert!(rt; gone.key().kind == Kind::Label);
     let mut buffer = Vec::from_slice(rt.alloc(), b"shown\n")?;
     append_change(&mut buffer, &gone)?;
     append_change(&mut buffer, &gone)?;
@@ -46,5 +44,51 @@ fn lines_are_appended(rt: HostRuntime) -> Result<(), Fail> {
         buffer.as_slice(),
         b"shown\neth0 label rs 7.1 -\neth0 label rs 7.1 -\n".as_slice()
     );
+    Ok(())
+}
+
+#[test]
+fn values_are_written(rt: HostRuntime) -> Result<(), Fail> {
+    let alloc = rt.alloc();
+    let rows: [(Kind, Value, &[u8]); 5] = [
+        (
+            Kind::U32,
+            Value::U32(4294967295),
+            b"x u32 eth0 3.4294967294 = 4294967295\n",
+        ),
+        (
+            Kind::Str,
+            Value::Str(Text::read(alloc, b"a\"b\\ ~")?),
+            b"x str eth0 3.4294967294 = \"a\\\"b\\\\ ~\"\n",
+        ),
+        (
+            Kind::Str,
+            Value::Str(Text::read(alloc, b"")?),
+            b"x str eth0 3.4294967294 = \"\"\n",
+        ),
+        (
+            Kind::Mem,
+            Value::Mem(Blob::read(alloc, &[0, 0x0f, 0xf0, 0xab])?),
+            b"x mem eth0 3.4294967294 = 000ff0ab\n",
+        ),
+        (
+            Kind::Mem,
+            Value::Mem(Blob::read(alloc, b"")?),
+            b"x mem eth0 3.4294967294 = \n",
+        ),
+    ];
+    for (kind, value, wanted) in rows {
+        let key = Key {
+            name: Name::read(b"x")?,
+            kind,
+        };
+        let epoch = Generation::of(3).ok_or("a generation")?;
+        let version = Version {
+            epoch,
+            seq: 4294967294,
+        };
+        let change = Change::make(key, Name::read(b"eth0")?, version, Body::Put(value))?;
+        assert_eq!(rt; write_change(alloc, &change)?.as_slice(), wanted);
+    }
     Ok(())
 }

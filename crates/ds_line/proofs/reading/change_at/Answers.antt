@@ -1,42 +1,36 @@
-use Rattle.std.proofs.Common.{◌≡◌, ◌∙◌, [], sym, subst}
+use Rattle.std.proofs.Common.{Err, sym, subst}
 use Rattle.std.proofs.lemmas.List.Prefix.{front_fits}
 use Rattle.ds_names.specs.Name.{is_name_byte}
 use Rattle.ds_names.specs.Run.{Begins}
-use Rattle.ds_entry.specs.Change.{IsChange, rs_name}
-use Rattle.ds_line.specs.Spelling.{HasLine, change_parts}
-use Rattle.ds_line.specs.Reading.{IsLabel, label_parts, up_to_kind, StopsBehind, Completes}
-use Rattle.ds_line.proofs.AnswerLemmas.{same_name, err_then, ok_then}
-use Rattle.ds_line.proofs.ChangeLemmas.{name_missing, name_read, name_space_missing, name_space_read, rs_named, labels_alone, change_completes}
+use Rattle.ds_line.proofs.AnswerLemmas.{is_false}
+use Rattle.ds_line.proofs.OpeningLemmas.{name_missing, name_then, name_space_missing, name_space_then, kind_missing, kind_refused, key_read}
 use Rattle.ds_line.proofs.reading.change_at.Goals as goal
 
-pub returns-in_default-clause-fault : goal.returns-in_default-clause-fault
-returns-in_default-clause-fault c = name_missing c.args.bytes.now c.in_default.ensures.none
+pub returns-in_default : goal.returns-in_default
+returns-in_default c = name_missing c.args.bytes.now c.stop_at.result c.stop_at.ensures c.in_default.ensures.none
 
 pub behind_name-rest-requires : goal.behind_name-rest-requires
 behind_name-rest-requires c = front_fits c.args.bytes.now c.in-Some.name _ c.in-Some.ensures.found.parts
 
-pub returns-in_default-read_byte-clause-fault : goal.returns-in_default-read_byte-clause-fault
-returns-in_default-read_byte-clause-fault c =
+pub returns-in_default-read_byte : goal.returns-in_default-read_byte
+returns-in_default-read_byte c =
     let there : Begins is_name_byte c.args.bytes.now c.in-Some.name c.behind_name-rest.result.now = subst (λ r. Begins is_name_byte c.args.bytes.now c.in-Some.name r) (sym c.behind_name-rest.ensures) c.in-Some.ensures.found in
-    name_read c.in-Some.name c.args.bytes.now c.behind_name-rest.result.now c.behind_name-rest.result.now c.in-Some.ensures.name there (name_space_missing c.in-Some.name c.behind_name-rest.result.now c.in-Some.ensures.name c.in_default-read_byte.ensures.none)
+    name_then c.in-Some.name c.args.bytes.now c.behind_name-rest.result.now (Err c.stop_at-in_default-read_byte.result) c.in-Some.ensures.name there
+    (name_space_missing c.in-Some.name c.behind_name-rest.result.now c.stop_at-in_default-read_byte.result c.in-Some.ensures.name c.stop_at-in_default-read_byte.ensures c.in_default-read_byte.ensures.none)
 
-pub returns-then-eq-clause-fault : goal.returns-then-eq-clause-fault
-returns-then-eq-clause-fault c =
+pub returns-in_default-kind_at : goal.returns-in_default-kind_at
+returns-in_default-kind_at c =
     let there : Begins is_name_byte c.args.bytes.now c.in-Some.name c.behind_name-rest.result.now = subst (λ r. Begins is_name_byte c.args.bytes.now c.in-Some.name r) (sym c.behind_name-rest.ensures) c.in-Some.ensures.found in
-    let is : c.in-Some.name ≡ rs_name = sym c.bytes.ensures.value ∙ (same_name c.bytes.result.now c.as_slice.result.now c.eq.result c.eq.ensures c.as_slice.ensures).0 c.if-eq.true in
-    name_read c.in-Some.name c.args.bytes.now c.behind_name-rest.result.now c.in-Some-read_byte.rest.now c.in-Some.ensures.name there (name_space_read c.in-Some.name c.behind_name-rest.result.now c.in-Some-read_byte.rest.now c.in-Some-read_byte.rest.now c.in-Some-read_byte.ensures.found (rs_named c.in-Some.name c.in-Some-read_byte.rest.now is))
+    name_space_then c.in-Some.name c.args.bytes.now c.behind_name-rest.result.now c.in-Some-read_byte.at.now (Err c.stop_at-in_default-kind_at.result) c.in-Some.ensures.name there c.in-Some-read_byte.ensures.found
+    (kind_missing c.in-Some.name c.in-Some-read_byte.at.now c.stop_at-in_default-kind_at.result c.in-Some.ensures.name c.stop_at-in_default-kind_at.ensures c.in_default-kind_at.ensures.none)
 
-pub label_at-requires-clause-not_rs : goal.label_at-requires-clause-not_rs
-label_at-requires-clause-not_rs c = λ same. (same_name c.bytes.result.now c.as_slice.result.now c.eq.result c.eq.ensures c.as_slice.ensures).1 c.if-eq.false (c.bytes.ensures.value ∙ same)
-
-pub returns-clause-found : goal.returns-clause-found
-returns-clause-found c =
+pub returns-then-not-has_owner : goal.returns-then-not-has_owner
+returns-then-not-has_owner c =
     let there : Begins is_name_byte c.args.bytes.now c.in-Some.name c.behind_name-rest.result.now = subst (λ r. Begins is_name_byte c.args.bytes.now c.in-Some.name r) (sym c.behind_name-rest.ensures) c.in-Some.ensures.found in
-    ok_then (λ r. Completes (up_to_kind c.in-Some.name) r.0 c.in-Some-read_byte.rest.now r.1.now) (λ r. Completes [] r.0 c.args.bytes.now r.1.now) c.label_at.result
-    (λ r k. change_completes c.in-Some.name c.args.bytes.now c.behind_name-rest.result.now c.in-Some-read_byte.rest.now r.1.now r.0 there c.in-Some-read_byte.ensures.found k) c.label_at.ensures.found
+    name_space_then c.in-Some.name c.args.bytes.now c.behind_name-rest.result.now c.in-Some-read_byte.at.now (Err c.stop_at-then-not-has_owner.result) c.in-Some.ensures.name there c.in-Some-read_byte.ensures.found
+    (kind_refused (record { name = c.in-Some.name; kind = c.in-Some-kind_at.kind }) c.in-Some-read_byte.at.now c.in-Some-kind_at.rest.now c.stop_at-then-not-has_owner.result c.in-Some.ensures.name c.stop_at-then-not-has_owner.ensures c.in-Some-kind_at.ensures.found (λ has. is_false c.has_owner.result c.if-not-has_owner.true (c.has_owner.ensures.1 has)))
 
-pub returns-clause-fault : goal.returns-clause-fault
-returns-clause-fault c =
+pub returns : goal.returns
+returns c =
     let there : Begins is_name_byte c.args.bytes.now c.in-Some.name c.behind_name-rest.result.now = subst (λ r. Begins is_name_byte c.args.bytes.now c.in-Some.name r) (sym c.behind_name-rest.ensures) c.in-Some.ensures.found in
-    err_then (λ at. StopsBehind IsLabel HasLine label_parts (up_to_kind c.in-Some.name) c.in-Some-read_byte.rest.now at.now) (λ at. StopsBehind IsChange HasLine change_parts [] c.args.bytes.now at.now) c.label_at.result
-    (λ at s. name_read c.in-Some.name c.args.bytes.now c.behind_name-rest.result.now at.now c.in-Some.ensures.name there (name_space_read c.in-Some.name c.behind_name-rest.result.now c.in-Some-read_byte.rest.now at.now c.in-Some-read_byte.ensures.found (labels_alone c.in-Some.name c.in-Some-read_byte.rest.now at.now s))) c.label_at.ensures.fault
+    key_read (record { name = c.in-Some.name; kind = c.in-Some-kind_at.kind }) c.args.bytes.now c.behind_name-rest.result.now c.in-Some-read_byte.at.now c.in-Some-kind_at.rest.now c.owner_at.result c.in-Some.ensures.name there c.in-Some-read_byte.ensures.found c.in-Some-kind_at.ensures.found c.owner_at.ensures

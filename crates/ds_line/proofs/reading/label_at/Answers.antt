@@ -1,62 +1,41 @@
-use Rattle.std.proofs.Common.{◌≡◌, ◌∙◌, sym, subst}
-use Rattle.std.proofs.lemmas.List.Prefix.{front_fits}
-use Rattle.ds_names.specs.Name.{is_name_byte}
+use Rattle.std.proofs.Common.{◌≡◌, ◌∙◌, sym, ap, subst, arith}
+use Rattle.std.specs.Char.{is_ascii_digit}
+use Rattle.ds_names.specs.Endpoint.{EndpointRecord, IsEndpoint, endpoint_of, endpoint_text}
 use Rattle.ds_names.specs.Run.{Begins}
-use Rattle.ds_entry.specs.Change.{rs_name}
-use Rattle.ds_line.specs.Reading.{up_to_kind, up_to_epoch, Completes}
-use Rattle.ds_line.proofs.AnswerLemmas.{other_name, err_then, ok_then}
-use Rattle.ds_line.proofs.LabelLemmas.{LabelStops, rs_is_name, other_name_there, kind_missing, kind_read, kind_space_missing, kind_space_read, owner_missing, owner_read, owner_space_missing, owner_space_read, kind_and_owner_complete}
+use Rattle.ds_names.proofs.DecimalLemmas.{endpoint_one}
+use Rattle.ds_entry.specs.declared.body.Value.TheVariants as values
+use Rattle.ds_line.proofs.ReadLemmas.{reads_same}
+use Rattle.ds_line.proofs.BodyLemmas.{endpoint_missing, endpoint_put, put_end_missing, put_whole}
 use Rattle.ds_line.proofs.reading.label_at.Goals as goal
 
-pub returns-in_default-clause-fault : goal.returns-in_default-clause-fault
-returns-in_default-clause-fault c = kind_missing c.args.name c.args.bytes.now c.requires.name c.requires.not_rs c.in_default.ensures.none
+pub returns-in_default : goal.returns-in_default
+returns-in_default c = endpoint_missing c.args.key c.args.owner c.args.version c.args.bytes.now c.stop_at.result c.requires.kind c.requires.value c.stop_at.ensures (λ e rest is gen h. c.in_default.ensures.none e rest is h)
 
-pub returns-in_default-read_byte-clause-fault : goal.returns-in_default-read_byte-clause-fault
-returns-in_default-read_byte-clause-fault c =
-    kind_read c.args.name c.args.bytes.now c.in-Some.rest.now c.in-Some.rest.now c.in-Some.ensures.found
-    (kind_space_missing c.args.name c.in-Some.rest.now c.requires.name c.requires.not_rs c.in_default-read_byte.ensures.none)
+pub returns-then-generation-number : goal.returns-then-generation-number
+returns-then-generation-number c =
+    endpoint_missing c.args.key c.args.owner c.args.version c.args.bytes.now c.stop_at-then-generation-number.result c.requires.kind c.requires.value c.stop_at-then-generation-number.ensures (λ e rest is gen h.
+    let one = endpoint_one c.args.bytes.now (endpoint_of c.in-Some.generation c.in-Some.slot) e c.in-Some.rest.now rest c.in-Some.ensures.valid is c.in-Some.ensures.found h in
+    let same : c.in-Some.generation ≡ c.args.version.epoch = ap (λ (x : EndpointRecord). x.generation) one.0 ∙ gen in
+    omega (arith, same, c.if-generation-number.true, c.number.ensures.value))
 
-pub returns-in_default-name_at-clause-fault : goal.returns-in_default-name_at-clause-fault
-returns-in_default-name_at-clause-fault c =
-    kind_read c.args.name c.args.bytes.now c.in-Some.rest.now c.in-Some-read_byte.at.now c.in-Some.ensures.found
-    (kind_space_read c.args.name c.in-Some.rest.now c.in-Some-read_byte.at.now c.in-Some-read_byte.at.now c.in-Some-read_byte.ensures.found
-    (owner_missing c.args.name c.in-Some-read_byte.at.now c.requires.name c.requires.not_rs (λ rest h. c.in_default-name_at.ensures.none rs_name rest rs_is_name h)))
+pub returns-in_default-read_byte : goal.returns-in_default-read_byte
+returns-in_default-read_byte c =
+    let same : c.in-Some.generation ≡ c.args.version.epoch = omega (arith, c.if-generation-number.false, c.number.ensures.value) in
+    put_end_missing c.args.key c.args.owner c.args.version (values.Label (endpoint_of c.in-Some.generation c.in-Some.slot)) c.args.bytes.now c.in-Some.rest.now c.stop_at-in_default-read_byte.result
+    (endpoint_put c.args.key c.args.owner c.args.version (endpoint_of c.in-Some.generation c.in-Some.slot) c.requires.kind c.requires.value c.in-Some.ensures.valid same)
+    c.in-Some.ensures.found c.stop_at-in_default-read_byte.ensures c.in_default-read_byte.ensures.none
 
-pub returns-then-ne-clause-fault : goal.returns-then-ne-clause-fault
-returns-then-ne-clause-fault c =
-    let other = (other_name c.bytes.result.now c.as_slice.result.now c.ne.result c.ne.ensures c.as_slice.ensures).0 c.if-ne.true in
-    kind_read c.args.name c.args.bytes.now c.in-Some.rest.now c.in-Some-read_byte.at.now c.in-Some.ensures.found
-    (kind_space_read c.args.name c.in-Some.rest.now c.in-Some-read_byte.at.now c.in-Some-read_byte.at.now c.in-Some-read_byte.ensures.found
-    (owner_missing c.args.name c.in-Some-read_byte.at.now c.requires.name c.requires.not_rs (other_name_there c.in-Some-read_byte.at.now c.in-Some-name_at.owner _ c.in-Some-name_at.ensures.name c.in-Some-name_at.ensures.found (λ same. other (c.bytes.ensures.value ∙ same)))))
+pub whole-requires : goal.whole-requires
+whole-requires c =
+    let is : IsEndpoint c.in-Some-of.endpoint = subst IsEndpoint (sym c.in-Some-of.ensures.1) (record { generation = c.requires.value.1.epoch; slot = c.in-Some-of.ensures.0 }) in
+    endpoint_put c.args.key c.args.owner c.args.version c.in-Some-of.endpoint c.requires.kind c.requires.value is (ap (λ (x : EndpointRecord). x.generation) c.in-Some-of.ensures.1)
 
-pub behind_name-rest-requires : goal.behind_name-rest-requires
-behind_name-rest-requires c = front_fits c.in-Some-read_byte.at.now c.in-Some-name_at.owner _ c.in-Some-name_at.ensures.found.parts
-
-pub returns-in_default-read_byte-2-clause-fault : goal.returns-in_default-read_byte-2-clause-fault
-returns-in_default-read_byte-2-clause-fault c =
-    let is_rs : c.in-Some-name_at.owner ≡ rs_name = sym c.bytes.ensures.value ∙ (other_name c.bytes.result.now c.as_slice.result.now c.ne.result c.ne.ensures c.as_slice.ensures).1 c.if-ne.false in
-    let there : Begins is_name_byte c.in-Some-read_byte.at.now rs_name c.behind_name-rest.result.now = subst (λ o. Begins is_name_byte c.in-Some-read_byte.at.now o c.behind_name-rest.result.now) is_rs (subst (λ r. Begins is_name_byte c.in-Some-read_byte.at.now c.in-Some-name_at.owner r) (sym c.behind_name-rest.ensures) c.in-Some-name_at.ensures.found) in
-    kind_read c.args.name c.args.bytes.now c.in-Some.rest.now c.behind_name-rest.result.now c.in-Some.ensures.found
-    (kind_space_read c.args.name c.in-Some.rest.now c.in-Some-read_byte.at.now c.behind_name-rest.result.now c.in-Some-read_byte.ensures.found
-    (owner_read c.args.name c.in-Some-read_byte.at.now c.behind_name-rest.result.now c.behind_name-rest.result.now there
-    (owner_space_missing c.args.name c.behind_name-rest.result.now c.requires.name c.requires.not_rs c.in_default-read_byte-2.ensures.none)))
-
-pub version_at-requires-clause-owner : goal.version_at-requires-clause-owner
-version_at-requires-clause-owner c = sym c.bytes.ensures.value ∙ (other_name c.bytes.result.now c.as_slice.result.now c.ne.result c.ne.ensures c.as_slice.ensures).1 c.if-ne.false
-
-pub returns-clause-found : goal.returns-clause-found
-returns-clause-found c =
-    let is_rs : c.in-Some-name_at.owner ≡ rs_name = sym c.bytes.ensures.value ∙ (other_name c.bytes.result.now c.as_slice.result.now c.ne.result c.ne.ensures c.as_slice.ensures).1 c.if-ne.false in
-    let there : Begins is_name_byte c.in-Some-read_byte.at.now rs_name c.behind_name-rest.result.now = subst (λ o. Begins is_name_byte c.in-Some-read_byte.at.now o c.behind_name-rest.result.now) is_rs (subst (λ r. Begins is_name_byte c.in-Some-read_byte.at.now c.in-Some-name_at.owner r) (sym c.behind_name-rest.ensures) c.in-Some-name_at.ensures.found) in
-    ok_then (λ r. Completes (up_to_epoch c.args.name) r.0 c.in-Some-read_byte-2.rest.now r.1.now) (λ r. Completes (up_to_kind c.args.name) r.0 c.args.bytes.now r.1.now) c.version_at.result
-    (λ r k. kind_and_owner_complete c.args.name c.args.bytes.now c.in-Some.rest.now c.in-Some-read_byte.at.now c.behind_name-rest.result.now c.in-Some-read_byte-2.rest.now r.1.now r.0 c.in-Some.ensures.found c.in-Some-read_byte.ensures.found there c.in-Some-read_byte-2.ensures.found k) c.version_at.ensures.found
-
-pub returns-clause-fault : goal.returns-clause-fault
-returns-clause-fault c =
-    let is_rs : c.in-Some-name_at.owner ≡ rs_name = sym c.bytes.ensures.value ∙ (other_name c.bytes.result.now c.as_slice.result.now c.ne.result c.ne.ensures c.as_slice.ensures).1 c.if-ne.false in
-    let there : Begins is_name_byte c.in-Some-read_byte.at.now rs_name c.behind_name-rest.result.now = subst (λ o. Begins is_name_byte c.in-Some-read_byte.at.now o c.behind_name-rest.result.now) is_rs (subst (λ r. Begins is_name_byte c.in-Some-read_byte.at.now c.in-Some-name_at.owner r) (sym c.behind_name-rest.ensures) c.in-Some-name_at.ensures.found) in
-    err_then (λ at. LabelStops (up_to_epoch c.args.name) c.in-Some-read_byte-2.rest.now at.now) (λ at. LabelStops (up_to_kind c.args.name) c.args.bytes.now at.now) c.version_at.result
-    (λ at s. kind_read c.args.name c.args.bytes.now c.in-Some.rest.now at.now c.in-Some.ensures.found
-    (kind_space_read c.args.name c.in-Some.rest.now c.in-Some-read_byte.at.now at.now c.in-Some-read_byte.ensures.found
-    (owner_read c.args.name c.in-Some-read_byte.at.now c.behind_name-rest.result.now at.now there
-    (owner_space_read c.args.name c.behind_name-rest.result.now c.in-Some-read_byte-2.rest.now at.now c.in-Some-read_byte-2.ensures.found s)))) c.version_at.ensures.fault
+pub returns : goal.returns
+returns c =
+    let same : c.in-Some.generation ≡ c.args.version.epoch = omega (arith, c.if-generation-number.false, c.number.ensures.value) in
+    let of_numbers : endpoint_of c.in-Some.generation c.in-Some.slot ≡ c.in-Some-of.endpoint = ap (λ n. endpoint_of n c.in-Some.slot) same ∙ sym c.in-Some-of.ensures.1 in
+    let is : IsEndpoint c.in-Some-of.endpoint = subst IsEndpoint of_numbers c.in-Some.ensures.valid in
+    let begins = subst (λ (e : EndpointRecord). Begins is_ascii_digit c.args.bytes.now (endpoint_text e) c.in-Some.rest.now) of_numbers c.in-Some.ensures.found in
+    reads_same _ c.args.bytes.now c.whole.result _ c.whole.ensures
+    (put_whole c.args.key c.args.owner c.args.version (values.Label c.in-Some-of.endpoint) c.args.bytes.now c.in-Some.rest.now c.in-Some-read_byte.rest.now
+    (endpoint_put c.args.key c.args.owner c.args.version c.in-Some-of.endpoint c.requires.kind c.requires.value is (ap (λ (x : EndpointRecord). x.generation) c.in-Some-of.ensures.1)) begins c.in-Some-read_byte.ensures.found)

@@ -1,0 +1,103 @@
+//! Blobs: the values of entries of the kind mem.
+
+ghost use Rattle.std.specs.Prelude.{◌≡◌, ◌≤◌, ℕ, length, IfOk, IfErr, IfSome};
+ghost use Rattle.std.specs.Option.{SomeIff};
+ghost use Rattle.std.specs.Bool.{◌==◌};
+ghost use Rattle.std.proofs.lemmas.Cmp.{nat_list_eq_equiv};
+ghost use Rattle.std.specs.Cmp.{partial_equiv_from_equiv};
+ghost use Rattle.std.specs.Cmp.Lexicographic.{pointwise};
+ghost use Rattle.ds_entry.specs.Value.{IsBlob};
+ghost use Rattle.ds_entry.specs.ValueFault.{IsBlobFault};
+
+use ds_names::NoRoom;
+use std::alloc::Global;
+use std::marker::Model;
+use thiserror::Error;
+
+/// Why bytes make no blob, in the order in which the causes are judged.
+#[derive(Clone, Copy, Debug, PartialEq, Eq, Error)]
+pub enum BlobFault {
+    /// There are more than 1024 bytes.
+    #[error("a blob has at most 1024 bytes")]
+    TooLong,
+    /// Memory is wanting.
+    #[error("out of memory")]
+    NoRoom,
+}
+
+/// Memory of MINIX 3's data store: 0 to 1024 bytes of any value (the limit is of this project).
+#[derive(Debug, Drop)]
+pub struct Blob {
+    bytes: Vec<u8>,
+}
+
+impl Model for Blob {
+    ghost use Rattle.std.specs.Prelude.{ℕ, List};
+    ghost use Rattle.ds_entry.specs.Value.{IsBlob};
+
+    ghost Value = { List ℕ };
+
+    ghost view = { λ t. t.bytes.items };
+
+    ghost invariant = { λ t. IsBlob t.bytes.items };
+}
+
+impl Blob {
+    /// Keeps a copy of the bytes.
+    pub fn read(alloc: Global, bytes: &[u8]) -> Result<Blob, BlobFault>
+        ensures found { IfOk result (λ blob. blob ≡ bytes.now) }
+        ensures valid { IfOk result IsBlob }
+        ensures refused { IfErr result (λ fault. IsBlobFault fault bytes.now) }
+    {
+        if bytes.len() > 1024 {
+            return Err(BlobFault::TooLong);
+        }
+        match bytes.to_vec(alloc) {
+            Ok(bytes) => Ok(Blob { bytes }),
+            Err(_) => Err(BlobFault::NoRoom),
+        }
+    }
+
+    /// The blob of bytes that are kept already, which takes no memory. `None` above 1024 of them.
+    pub fn of(bytes: Vec<u8>) -> Option<Blob>
+        ensures found { SomeIff result (length bytes.items ≤ 1024) bytes.items }
+        ensures valid { IfSome result IsBlob }
+    {
+        if bytes.len() <= 1024 {
+            Some(Blob { bytes })
+        } else {
+            None
+        }
+    }
+
+    /// Its bytes, 0 to 1024 of them.
+    pub fn bytes(&self) -> &[u8]
+        ensures value { result.now ≡ self.now }
+        ensures valid { IsBlob self.now }
+    {
+        &self.bytes
+    }
+
+    /// The same blob again.
+    pub fn copy(&self, alloc: Global) -> Result<Blob, NoRoom>
+        ensures { IfOk result (λ blob. blob ≡ self.now) }
+    {
+        Ok(Blob {
+            bytes: self.bytes.as_slice().to_vec(alloc)?,
+        })
+    }
+}
+
+impl PartialEq for Blob {
+    ghost eq = { pointwise ◌==◌ };
+
+    ghost laws = { partial_equiv_from_equiv nat_list_eq_equiv };
+
+    fn eq(&self, other: &Blob) -> bool {
+        self.bytes() == other.bytes()
+    }
+}
+
+impl Eq for Blob {
+    ghost laws = { nat_list_eq_equiv };
+}

@@ -1,0 +1,88 @@
+//! The values of texts and blobs, as they stand in a line.
+
+ghost use Rattle.std.specs.Prelude.{◌≡◌, ◌≢◌, ◌∷◌, ◌++◌, ◌≤◌, ◌*◌, List, ℕ, Ok, IfSome, IfNone, IsTrue, length, take};
+ghost use Rattle.std.specs.List.{prefix_len};
+ghost use Rattle.hex.specs.Hex.{decode_of, encode_lower};
+ghost use Rattle.ds_names.specs.Run.{Begins};
+ghost use Rattle.ds_entry.specs.Value.{is_text_byte, IsText, IsBlob};
+ghost use Rattle.ds_line.specs.Part.{Quoted, Hex, run_of, is_hex_byte};
+ghost use Rattle.ds_line.specs.Spelling.{escaped_byte, quoted};
+
+use ds_names::read_byte;
+
+// Reads one byte of a text as it stands in quotes: `\"` is a quote and `\\` a backslash, and each other printable
+// byte stands for itself.
+fn text_byte_at(bytes: &[u8]) -> Option<(u8, &[u8])>
+    ensures found { IfSome result (λ r. bytes.now ≡ escaped_byte r.0 ++ r.1.now) }
+    ensures valid { IfSome result (λ r. IsTrue (is_text_byte r.0)) }
+    ensures none { IfNone result ((b : ℕ) (rest : List ℕ) → IsTrue (is_text_byte b) → bytes.now ≢ escaped_byte b ++ rest) }
+{
+    let (first, rest) = bytes.split_first()?;
+    if *first == b'\\' {
+        let (second, rest) = rest.split_first()?;
+        if *second == b'"' || *second == b'\\' {
+            Some((*second, rest))
+        } else {
+            None
+        }
+    } else if *first != b'"' && 0x20 <= *first && *first <= 0x7e {
+        Some((*first, rest))
+    } else {
+        None
+    }
+}
+
+/// Reads the text in quotes at the front, writes its bytes to the front of a block, and gives how many they are
+/// and what comes behind the closing quote. `None` where no text of at most 256 bytes is spelled out there.
+pub fn quoted_at<'a>(bytes: &'a [u8], block: &mut [u8; 256]) -> Option<(usize, &'a [u8])>
+    ensures found { IfSome result (λ r. Begins (run_of Quoted) bytes.now (quoted (take r.0 block.new)) r.1.now) }
+    ensures fits { IfSome result (λ r. r.0 ≤ 256) }
+    ensures valid { IfSome result (λ r. IsText (take r.0 block.new)) }
+    ensures none { IfNone result ((text rest : List ℕ) → IsText text → ¬ Begins (run_of Quoted) bytes.now (quoted text) rest) }
+{
+    let Some(text) = read_byte(bytes, b'"') else {
+        return None;
+    };
+    let mut rest = text;
+    for len in 0..256usize {
+        if let Some(behind) = read_byte(rest, b'"') {
+            return Some((len, behind));
+        }
+        let Some((byte, behind)) = text_byte_at(rest) else {
+            return None;
+        };
+        block[len] = byte;
+        rest = behind;
+    }
+    let Some(rest) = read_byte(rest, b'"') else {
+        return None;
+    };
+    Some((256, rest))
+}
+
+// How many digits and letters from `a` to `f` stand at the front.
+fn hex_len(bytes: &[u8]) -> usize
+    ensures { result ≡ prefix_len is_hex_byte bytes.now }
+{
+    bytes
+        .iter()
+        .take_while(|b| matches!(**b, b'0'..=b'9' | b'a'..=b'f'))
+        .count()
+}
+
+/// Reads the hex of a blob at the front, which is the longest run of digits and letters from `a` to `f`, and gives
+/// it with what comes behind it. `None` where that run is the hex of no blob: it is odd, or above 2048 digits.
+pub fn hex_at(bytes: &[u8]) -> Option<(&[u8], &[u8])>
+    ensures found { IfSome result (λ r. Begins (run_of Hex) bytes.now r.0.now r.1.now) }
+    ensures valid { IfSome result (λ r. (blob : List ℕ) × IsBlob blob × (r.0.now ≡ encode_lower blob) × (decode_of r.0.now ≡ Ok blob)) }
+    ensures none { IfNone result ((blob rest : List ℕ) → IsBlob blob → ¬ Begins (run_of Hex) bytes.now (encode_lower blob) rest) }
+{
+    let (digits, rest) = bytes.split_at(hex_len(bytes));
+    if digits.len() % 2 == 1 {
+        return None;
+    }
+    if digits.len() > 2048 {
+        return None;
+    }
+    Some((digits, rest))
+}

@@ -1,0 +1,2 @@
+pub mod TakeLemmas
+pub mod EntryLemmas

@@ -1,0 +1,3 @@
+pub mod Map
+pub mod Count
+pub mod Take

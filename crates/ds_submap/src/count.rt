@@ -1,0 +1,43 @@
+//! How items that came are counted.
+
+ghost use Rattle.std.specs.Prelude.{◌≡◌};
+ghost use Rattle.ds_submap.specs.Count.{none_counted, counted, HasRoom};
+
+use ds_join::Merge;
+
+/// What became of the items that a map took.
+#[derive(Clone, Copy, Debug, PartialEq, Eq)]
+pub struct Count {
+    /// How many items came, those too that aren't under the query.
+    pub done: usize,
+    /// How many of those under the query took effect: nothing was held for the key, or a smaller version.
+    pub taken: usize,
+    /// For how many of those under the query a greater version was held.
+    pub stale: usize,
+}
+
+impl Count {
+    // Of no items.
+    pub(crate) fn zero() -> Count
+        ensures { result ≡ none_counted }
+    {
+        Count {
+            done: 0,
+            taken: 0,
+            stale: 0,
+        }
+    }
+
+    // Counts one more item, by the answer to its merge where it was merged.
+    pub(crate) fn add(&mut self, answer: Option<Merge>)
+        requires { HasRoom self.old }
+        ensures { self.new ≡ counted self.old answer }
+    {
+        self.done += 1;
+        match answer {
+            Some(Merge::Taken) => self.taken += 1,
+            Some(Merge::Stale) => self.stale += 1,
+            Some(Merge::Known) | None => {}
+        }
+    }
+}
