@@ -27,14 +27,16 @@ pub struct SubMap {
 }
 
 impl Model for SubMap {
-    ghost use Rattle.ds_join.specs.Held.{IsOwn};
-    ghost use Rattle.ds_submap.specs.Map.{SubMapRecord, map_of};
-    ghost use Rattle.std.specs.Coded.{codes};
+    ghost use Rattle.std.specs.Coded.{code_by, coded×};
+    ghost use Rattle.ds_join.specs.Held.{Holding, IsOwn};
     ghost use Rattle.ds_join.specs.contracts.held.Held.{the_row as held_row};
+    ghost use Rattle.ds_pattern.specs.declared.query.Query.{Query};
+    ghost use Rattle.ds_pattern.specs.contracts.query.Query.{the_row as query_row};
+    ghost use Rattle.ds_submap.specs.Map.{SubMapRecord, map_of};
 
     ghost Value = { SubMapRecord };
 
-    ghost coded = { Prim.hlevel (codes, held_row.coded) };
+    ghost coded = { code_by (Query × Holding) (coded× query_row.coded held_row.coded) (λ m. (m.query, m.held)) (λ p. map_of p.0 p.1) (λ m i. m) };
 
     ghost view = { λ m. map_of m.filter m.held };
 
