@@ -14,7 +14,7 @@ import model
 
 PUT = b"offer eth0 label rs 3.0 = 3/17"
 TOMBSTONE = b"offer eth0 label rs 3.1 -"
-# A good line of each kind, a tombstone that only sweeps make, and the commands that take no change.
+# A good line of each kind, a tombstone that only sweeps make, and a line of each other command.
 GOOD = [
     PUT,
     TOMBSTONE,
@@ -24,15 +24,18 @@ GOOD = [
     b"offer mtu u32 eth0 3.4294967295 -",
     b"show",
     b"all",
+    b"publish 0/2 new eth0 label 3.0 = 3/17",
+    b"publish 0/2 over boot u32 0.10 = 7",
+    b'publish 0/2 new id str 0.0 = "a\\"b\\\\ ~"',
+    b"publish 0/2 new mac mem 0.0 = 00ff",
+    b"delete 0/2 boot u32 0.11",
+    b"sweep 0/2 eth0 3",
+    b"retrieve boot u32",
+    b"nameof 0/2",
 ]
 MEMORY = 64 << 10  # KiB of address space, where a behaviour limits it
 # A line of each command that isn't there yet.
 NOT_YET = b"""\
-publish 0/2 new eth0 label 3.0 = 3/17
-delete 0/2 eth0 label 3.1
-sweep 0/2 eth0 3
-retrieve eth0 label
-nameof 3/17
 subscribe 0 ".*" 15 first new
 check 0 1
 map ".*" 15
@@ -255,7 +258,7 @@ def a_writer_that_is_closed(program):
 
 def tells_how_it_is_used(program):
     """`--help` names the subcommand, the lines and an answer, `--version` a version; both leave the input alone."""
-    for word, wanted in (("--help", (b"dsctl", b"replay", b"offer", b"show", b"taken")), ("--version", (b"dsctl ", b"."))):
+    for word, wanted in (("--help", (b"dsctl", b"replay", b"offer", b"publish", b"show", b"taken")), ("--version", (b"dsctl ", b"."))):
         ran = harness.run([program, word], b"bad\n")
         assert (ran.status, ran.error) == (0, b""), f"{word}: status {ran.status}, standard error {ran.error[:200]!r}"
         missing = [it for it in wanted if it not in ran.output]
@@ -300,10 +303,9 @@ def words_that_are_not_there_yet(program):
 def scripts_by_chance(program):
     """Seeded scripts of many lines over few names, so that all answers come, with a bad line in some."""
     chance = random.Random(1)
-    names = [b"a", b"A", b"a-", b"a.b", b"_", b"eth0", b"eth", b"9", b"x" * 64]
     scripts = []
     for _ in range(40):
-        script = [b"offer %s %s" % (chance.choice(names), change_by_chance(chance)) for _ in range(300)]
+        script = [b"offer %s %s" % (name_by_chance(chance), change_by_chance(chance)) for _ in range(300)]
         for _ in range(12):
             script.insert(chance.randrange(300), chance.choice([b"show", b"all"]))
         if chance.random() < 0.3:
@@ -312,13 +314,24 @@ def scripts_by_chance(program):
     harness.at_once(lambda it: agrees(program, it), scripts)
 
 
+def callers_by_chance(program):
+    """Seeded scripts in which RS and some drivers publish, delete, sweep and ask."""
+    chance = random.Random(2)
+    scripts = [b"\n".join(command_by_chance(chance) for _ in range(400)) for _ in range(60)]
+    harness.at_once(lambda it: agrees(program, it), scripts)
+
+
+def name_by_chance(chance):
+    """One of a few names."""
+    return chance.choice([b"a", b"A", b"a-", b"a.b", b"_", b"eth0", b"eth", b"9", b"x" * 64])
+
+
 def change_by_chance(chance):
     """A change but for its name: of a label, or of another kind with one of two owners."""
     if chance.random() < 0.5:
         return b"label rs " + body_by_chance(chance)
-    kind = chance.choice([b"u32", b"str", b"mem"])
-    values = {b"u32": [b"0", b"1500"], b"str": [b'""', b'"a\\"b"'], b"mem": [b"", b"00ff"]}[kind]
-    body = b"-" if chance.random() < 0.3 else b"= " + chance.choice(values)
+    kind, value = value_by_chance(chance)
+    body = b"-" if chance.random() < 0.3 else b"= " + value
     owner = chance.choice([b"eth0", b"eth0", b"eth0", b"tty"])
     return b"%s %s %d.%d %s" % (kind, owner, chance.randrange(3), chance.randrange(3), body)
 
@@ -329,6 +342,37 @@ def body_by_chance(chance):
     if chance.random() < 0.3:
         return b"%d.1 -" % generation
     return b"%d.0 = %d/%d" % (generation, generation, chance.randrange(16, 19))
+
+
+def value_by_chance(chance):
+    """The word of a kind other than label, and one of two values."""
+    return chance.choice([(b"u32", b"0"), (b"u32", b"1500"), (b"str", b'""'), (b"str", b'"a\\"b"'), (b"mem", b""), (b"mem", b"00ff")])
+
+
+def command_by_chance(chance):
+    """A line of a script over three drivers, of few generations and slots each."""
+    driver = chance.choice([b"eth0", b"tty", b"disk"])
+    generation, slot, seq = chance.randrange(1, 4), chance.choice([16, 16, 16, 17]), chance.randrange(6)
+    caller = b"%d/%d" % chance.choice([(0, 2), (generation, slot), (generation, slot), (generation, slot)])
+    epoch = chance.choice([int(caller.split(b"/")[0])] * 9 + [generation])
+    entry = chance.choice([b"mtu", b"mac", b"id"])
+    kind, value = value_by_chance(chance)
+    mode = chance.choice([b"new", b"over", b"over"])
+    label = b"label %d.%d = %d/%d" % (generation, chance.random() < 0.1, generation + (chance.random() < 0.1), slot)
+    return chance.choice(
+        [
+            *[b"publish 0/2 %s %s %s" % (mode, driver, label)] * 2,
+            b"publish %s %s %s %s" % (caller, mode, driver, label),
+            b"delete 0/2 %s label %d.1" % (driver, generation),
+            b"sweep %s %s %d" % (chance.choice([b"0/2", b"0/2", caller]), driver, generation),
+            b"nameof " + caller,
+            b"retrieve %s %s" % chance.choice([(entry, kind), (driver, b"label")]),
+            b"offer %s %s %s %d.%d = %s" % (entry, kind, driver, generation, seq, value),
+            *[b"publish %s %s %s %s %d.%d = %s" % (caller, mode, entry, kind, epoch, seq, value)] * 5,
+            *[b"delete %s %s %s %d.%d" % (caller, entry, kind, epoch, seq)] * 3,
+            *[b"all"] * (chance.random() < 0.1),
+        ]
+    )
 
 
 ALL = [
@@ -351,4 +395,5 @@ ALL = [
     every_byte_dropped_or_doubled,
     words_that_are_not_there_yet,
     scripts_by_chance,
+    callers_by_chance,
 ]

@@ -16,7 +16,7 @@ use Rattle.ds_entry.specs.Covers.{change_cmp}
 use Rattle.ds_entry.proofs.Members.{In-from_Contains, Contains-nil, Contains-head, Contains-tail, Contains-cons}
 use Rattle.ds_join.specs.Held.{held_changes}
 use Rattle.ds_join.specs.Reading.{is_after, comes_after}
-use Rattle.ds_join.specs.Kept.{holding_of, AreApart, IsFirstAfter, is_before}
+use Rattle.ds_join.specs.Kept.{holding_of, AreApart, IsFirst, is_before}
 use Rattle.ds_join.proofs.PlaceLemmas.{own_list}
 use Rattle.ds_join.proofs.HeldLemmas.{held_in_order, from_along}
 use Rattle.ds_join.proofs.KeptLemmas.{in_order_too, in_list_too}
@@ -63,14 +63,14 @@ find_least p (x ∷ xs) c sorted h pass least =
       ]
     ] refl
 
-pub first_found : (xs : List ChangeRecord) → AreApart xs → (low : Option Key) (r : Option ChangeRecord) → IsFirstAfter xs low r → r ≡ find (comes_after low) (held_changes (holding_of xs))
-first_found xs a low None h = sym (find_none (comes_after low) (held_changes (holding_of xs)) (λ d i. h d (in_list_too xs d i)))
-first_found xs a low (Some c) h =
-    sym (find_least (comes_after low) (held_changes (holding_of xs)) c (held_in_order (holding_of xs) (own_list xs)) (in_order_too xs c a h.0) h.1 (λ d i e. h.2 d (in_list_too xs d i) e))
+pub first_found : (xs : List ChangeRecord) → AreApart xs → (test : ChangeRecord → Bool) (r : Option ChangeRecord) → IsFirst xs test r → r ≡ find test (held_changes (holding_of xs))
+first_found xs a test None h = sym (find_none test (held_changes (holding_of xs)) (λ d i. h d (in_list_too xs d i)))
+first_found xs a test (Some c) h =
+    sym (find_least test (held_changes (holding_of xs)) c (held_in_order (holding_of xs) (own_list xs)) (in_order_too xs c a h.0) h.1 (λ d i e. h.2 d (in_list_too xs d i) e))
 
 -- ---- a scan of a list
-pub first_nothing : (low : Option Key) → IsFirstAfter [] low None
-first_nothing low = λ d h. absurd (Contains-nil d h)
+pub first_nothing : (test : ChangeRecord → Bool) → IsFirst [] test None
+first_nothing test = λ d h. absurd (Contains-nil d h)
 
 not_after : (r s : Ordering) → r ≡ ordering_reverse s → is_lt s ≡ false → is_gt r ≡ false
 not_after r Less e h = absurd (cc)
@@ -82,38 +82,40 @@ less_not_after Less h = refl
 less_not_after Equal h = refl
 less_not_after Greater h = absurd (cc)
 
-pub first_taken : (xs : List ChangeRecord) (c : ChangeRecord) (low : Option Key) (best : Option ChangeRecord) → IsFirstAfter xs low best → is_after low c.key ≡ true → is_before c.key best ≡ true → IsFirstAfter (xs ++ c ∷ []) low (Some c)
-first_taken xs c low None h after before = (
+pub first_taken : (xs : List ChangeRecord) (c : ChangeRecord) (test : ChangeRecord → Bool) (best : Option ChangeRecord) → IsFirst xs test best → test c ≡ true → is_before c.key best ≡ true → IsFirst (xs ++ c ∷ []) test (Some c)
+first_taken xs c test None h passes before = (
   Contains-push xs c,
-  after,
+  passes,
   λ d i e. elim (Contains-push_cases xs c d i) [
-    | inl old ↦ opposed (comes_after low d) e (h d old)
+    | inl old ↦ opposed (test d) e (h d old)
     | inr new ↦ subst (λ (y : ChangeRecord). is_gt (key_cmp c.key y.key) ≡ false) new (not_after_itself c.key)
   ],
 )
-first_taken xs c low (Some x) h after before = (
+first_taken xs c test (Some x) h passes before = (
   Contains-push xs c,
-  after,
+  passes,
   λ d i e. elim (Contains-push_cases xs c d i) [
     | inl old ↦ upto keys_total c.key x.key d.key (less_not_after (key_cmp c.key x.key) before) (h.2 d old e)
     | inr new ↦ subst (λ (y : ChangeRecord). is_gt (key_cmp c.key y.key) ≡ false) new (not_after_itself c.key)
   ],
 )
 
-pub first_left_low : (xs : List ChangeRecord) (c : ChangeRecord) (low : Option Key) (best : Option ChangeRecord) → IsFirstAfter xs low best → is_after low c.key ≡ false → IsFirstAfter (xs ++ c ∷ []) low best
-first_left_low xs c low None h f = λ d i. elim (Contains-push_cases xs c d i) [ inl old ↦ h d old | inr new ↦ subst (λ (y : ChangeRecord). is_after low y.key ≡ false) new f ]
-first_left_low xs c low (Some x) h f = (
+-- a change that doesn't pass the test
+pub first_left_out : (xs : List ChangeRecord) (c : ChangeRecord) (test : ChangeRecord → Bool) (best : Option ChangeRecord) → IsFirst xs test best → test c ≡ false → IsFirst (xs ++ c ∷ []) test best
+first_left_out xs c test None h f = λ d i. elim (Contains-push_cases xs c d i) [ inl old ↦ h d old | inr new ↦ subst (λ (y : ChangeRecord). test y ≡ false) new f ]
+first_left_out xs c test (Some x) h f = (
   Contains-append_left xs (c ∷ []) x h.0,
   h.1,
   λ d i e. elim (Contains-push_cases xs c d i) [
     | inl old ↦ h.2 d old e
-    | inr new ↦ opposed (comes_after low d) e (subst (λ (y : ChangeRecord). is_after low y.key ≡ false) new f)
+    | inr new ↦ opposed (test d) e (subst (λ (y : ChangeRecord). test y ≡ false) new f)
   ],
 )
 
-pub first_left_high : (xs : List ChangeRecord) (c : ChangeRecord) (low : Option Key) (best : Option ChangeRecord) → IsFirstAfter xs low best → is_before c.key best ≡ false → IsFirstAfter (xs ++ c ∷ []) low best
-first_left_high xs c low None h f = absurd (cc)
-first_left_high xs c low (Some x) h f = (
+-- a change whose key isn't less than that of the first
+pub first_left_high : (xs : List ChangeRecord) (c : ChangeRecord) (test : ChangeRecord → Bool) (best : Option ChangeRecord) → IsFirst xs test best → is_before c.key best ≡ false → IsFirst (xs ++ c ∷ []) test best
+first_left_high xs c test None h f = absurd (cc)
+first_left_high xs c test (Some x) h f = (
   Contains-append_left xs (c ∷ []) x h.0,
   h.1,
   λ d i e. elim (Contains-push_cases xs c d i) [

@@ -9,7 +9,6 @@ use Rattle.ds_join.specs.declared.merge.Merge.{Merge}
 use Rattle.ds_join.specs.declared.merge.Merge.TheVariants.{Taken, Known, Stale}
 use Rattle.ds_join.specs.declared.merge.JoinFault.{JoinFault}
 use Rattle.ds_join.specs.Held.{Holding, held_for}
-use Rattle.ds_join.specs.Reading.{comes_after}
 
 -- the changes, each at its key
 abbrev pub holding_of : List ChangeRecord → Holding
@@ -26,10 +25,10 @@ pub record IsKept (changes : List ChangeRecord) : Type 0 where
   pub few : length changes ≤ 1024
   pub valid : All IsChange changes
 
--- the change of the least key after another one, or None where no key comes after it
-abbrev pub IsFirstAfter : List ChangeRecord → Option Key → Option ChangeRecord → Type 0
-IsFirstAfter changes low None = (d : ChangeRecord) → Contains changes d → comes_after low d ≡ false
-IsFirstAfter changes low (Some c) = Contains changes c × (comes_after low c ≡ true) × ((d : ChangeRecord) → Contains changes d → comes_after low d ≡ true → is_gt (key_cmp c.key d.key) ≡ false)
+-- the change of the least key of those that pass the test, or None where none passes
+abbrev pub IsFirst : List ChangeRecord → (ChangeRecord → Bool) → Option ChangeRecord → Type 0
+IsFirst changes test None = (d : ChangeRecord) → Contains changes d → test d ≡ false
+IsFirst changes test (Some c) = Contains changes c × (test c ≡ true) × ((d : ChangeRecord) → Contains changes d → test d ≡ true → is_gt (key_cmp c.key d.key) ≡ false)
 
 -- the key is less than that of the change, or there is no change
 abbrev pub is_before : Key → Option ChangeRecord → Bool

@@ -1,5 +1,6 @@
 pub mod Held
 pub mod Reading
+pub mod Label
 pub mod Top
 pub mod Join
 pub mod Merge

@@ -1,22 +1,24 @@
 //! Holders of changes.
 
 ghost use Rattle.std.specs.Prelude.{◌≡◌, ◌≤◌, ◌++◌, ◌∷◌, [], All, IfOk, IfErr, IfSome, OnOk, option_and_then};
-ghost use Rattle.std.specs.Option.{option_copied};
+ghost use Rattle.std.specs.Option.{option_copied, option_map};
 ghost use Rattle.std.specs.List.{find};
-ghost use Rattle.ds_entry.specs.Change.{IsChange, IsValue};
+ghost use Rattle.ds_entry.specs.Change.{ChangeRecord, IsChange, IsValue};
 ghost use Rattle.ds_entry.specs.SingleNumbered.{IsSingleNumbered};
 ghost use Rattle.ds_join.specs.Held.{held_changes, held_for, held_count, nothing_held, IsOwn};
 ghost use Rattle.ds_join.specs.Reading.{value_of, comes_after};
+ghost use Rattle.ds_join.specs.Label.{names_endpoint};
 ghost use Rattle.ds_join.specs.Top.{IsTop};
 ghost use Rattle.ds_join.specs.Join.{IsJoin};
 ghost use Rattle.ds_join.specs.Merge.{MergeAnswer, after_merge};
 ghost use Rattle.ds_join.specs.Stop.{IsRefused, IsStopped};
 
+use crate::label::label_of;
 use crate::list::{change_at, join_into, merge_copy, merge_into};
 use crate::merge::{JoinFault, Merge, Stop};
 use crate::order::{copy_all, first_of};
 use ds_entry::{Body, Change, Items, Value};
-use ds_names::{Key, NoRoom};
+use ds_names::{Endpoint, Key, Name, NoRoom};
 use std::alloc::Global;
 use std::marker::Model;
 
@@ -103,6 +105,17 @@ impl Held {
         ensures change { IfSome (option_copied result) IsChange }
     {
         first_of(&self.changes, after)
+    }
+
+    /// The least name whose live label holds an endpoint. `None` where no live label does. It takes no memory.
+    ///
+    /// MINIX 3's DS names an endpoint by whichever label it finds first; that it is the least one is of this
+    /// project.
+    pub fn label_at(&self, endpoint: Endpoint) -> Option<&Name>
+        ensures { option_copied result ≡ option_map (λ (c : ChangeRecord). c.key.name) (find (names_endpoint endpoint) (held_changes self.now)) }
+    {
+        let change = label_of(&self.changes, endpoint)?;
+        Some(&change.key().name)
     }
 
     /// All that is held, in the order of the keys.

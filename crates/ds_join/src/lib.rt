@@ -6,6 +6,7 @@
 #![tactic(auto)]
 
 mod held;
+mod label;
 mod laws;
 mod list;
 mod merge;

@@ -4,8 +4,8 @@ ghost use Rattle.std.specs.Prelude.{◌≡◌, IfOk, IfSome};
 ghost use Rattle.std.specs.Option.{option_copied};
 ghost use Rattle.ds_entry.specs.Change.{IsChange};
 ghost use Rattle.ds_join.specs.Held.{held_changes};
-ghost use Rattle.ds_join.specs.Reading.{is_after};
-ghost use Rattle.ds_join.specs.Kept.{holding_of, IsKept, IsFirstAfter, is_before};
+ghost use Rattle.ds_join.specs.Reading.{is_after, comes_after};
+ghost use Rattle.ds_join.specs.Kept.{holding_of, IsKept, IsFirst, is_before};
 
 use ds_entry::{Change, Items};
 use ds_names::{Key, NoRoom};
@@ -23,7 +23,7 @@ fn key_is_after(low: Option<&Key>, key: &Key) -> bool
 }
 
 // Whether a key is less than that of a change, where there is one.
-fn key_is_before(key: &Key, high: Option<&Change>) -> bool
+pub(crate) fn key_is_before(key: &Key, high: Option<&Change>) -> bool
     ensures { result ≡ is_before key.now (option_copied high.entry) }
 {
     match high {
@@ -34,7 +34,7 @@ fn key_is_before(key: &Key, high: Option<&Change>) -> bool
 
 // The change of the least key, of those after another one where one is given.
 pub(crate) fn first_of<'a>(changes: &'a [Change], after: Option<&Key>) -> Option<&'a Change>
-    ensures least { IsFirstAfter changes.now (option_copied after.entry) (option_copied result) }
+    ensures least { IsFirst changes.now (comes_after (option_copied after.entry)) (option_copied result) }
     ensures change { IfSome (option_copied result) IsChange }
 {
     let mut best: Option<&Change> = None;

@@ -37,7 +37,7 @@ Alike (p ∷ ps) [] = ⊥
 Alike (p ∷ ps) (q ∷ qs) = (p.class ≡ q.class) × (p.text ≡ q.text → Alike ps qs)
 
 -- parts that all stand at one front are the same
-same_parts : (ps qs : List Part) (bytes r s : List ℕ) → AllTexts ps → AllTexts qs → Alike ps qs → Stand (length ps) ps bytes r → Stand (length qs) qs bytes s → (ps ≡ qs) × (r ≡ s)
+pub same_parts : (ps qs : List Part) (bytes r s : List ℕ) → AllTexts ps → AllTexts qs → Alike ps qs → Stand (length ps) ps bytes r → Stand (length qs) qs bytes s → (ps ≡ qs) × (r ≡ s)
 same_parts [] [] bytes r s texts_p texts_q alike stand_p stand_q = (refl, sym stand_p ∙ stand_q)
 same_parts [] (q ∷ qs) bytes r s texts_p texts_q alike stand_p stand_q = absurd alike
 same_parts (p ∷ ps) [] bytes r s texts_p texts_q alike stand_p stand_q = absurd alike
@@ -104,7 +104,7 @@ change_texts c is =
 
 -- ---- the parts give the change
 
-endpoints_one : (a b : EndpointRecord) → IsEndpoint a → IsEndpoint b → endpoint_text a ≡ endpoint_text b → a ≡ b
+pub endpoints_one : (a b : EndpointRecord) → IsEndpoint a → IsEndpoint b → endpoint_text a ≡ endpoint_text b → a ≡ b
 endpoints_one a b is_a is_b text =
     let begins_a : Begins (run_of Endpoint) (endpoint_text a) (endpoint_text a) [] = record { parts = sym (append-nil (endpoint_text a)); ends = tt } in
     let begins_b : Begins (run_of Endpoint) (endpoint_text a) (endpoint_text b) [] = record { parts = text ∙ sym (append-nil (endpoint_text b)); ends = tt } in
@@ -113,7 +113,7 @@ endpoints_one a b is_a is_b text =
 texts_one : (a b : List ℕ) → quoted a ≡ quoted b → a ≡ b
 texts_one a b text = (quoted_one a b [] [] (ap (λ (x : List ℕ). x ++ []) text)).0
 
-value_one : (v w : Value) → IsValue v → IsValue w → kind_of v ≡ kind_of w → (value_part v).text ≡ (value_part w).text → v ≡ w
+pub value_one : (v w : Value) → IsValue v → IsValue w → kind_of v ≡ kind_of w → (value_part v).text ≡ (value_part w).text → v ≡ w
 value_one (values.Label a) (values.Label b) is_v is_w kind text = ap values.Label (endpoints_one a b is_v is_w text)
 value_one (values.U32 a) (values.U32 b) is_v is_w kind text = ap values.U32 (decimal_injective a b (omega (arith, is_v)) (omega (arith, is_w)) text)
 value_one (values.Str a) (values.Str b) is_v is_w kind text = ap values.Str (texts_one a b text)

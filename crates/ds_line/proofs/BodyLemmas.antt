@@ -151,36 +151,6 @@ pub endpoint_missing : (key : Key) (owner : List ℕ) (version : Version) (bytes
     → ((e : EndpointRecord) (rest : List ℕ) → IsEndpoint e → e.generation ≡ version.epoch → ¬ Begins is_ascii_digit bytes (endpoint_text e) rest) → Reads (up_to_value key owner version) bytes (Err stop)
 endpoint_missing key owner version bytes stop kind has at none = value_missing key owner version bytes stop has at (no_endpoint key owner version bytes kind none)
 
-no_number : (key : Key) (owner : List ℕ) (version : Version) (bytes : List ℕ) → key.kind ≡ U32 → ((n : ℕ) (rest : List ℕ) → n ≤ 4294967295 → ¬ Begins is_ascii_digit bytes (decimal n) rest) → NoValue key owner version bytes
-no_number key owner version bytes kind none (values.Label e) after is h = omega (arith, ap kind_place (is.kind ∙ kind))
-no_number key owner version bytes kind none (values.U32 n) after is h = none n after (omega (arith, is.body)) h
-no_number key owner version bytes kind none (values.Str t) after is h = omega (arith, ap kind_place (is.kind ∙ kind))
-no_number key owner version bytes kind none (values.Mem b) after is h = omega (arith, ap kind_place (is.kind ∙ kind))
-
-pub number_missing : (key : Key) (owner : List ℕ) (version : Version) (bytes : List ℕ) (stop : Stop) → key.kind ≡ U32 → HasValue key owner version → stop ≡ BadPart (length bytes)
-    → ((n : ℕ) (rest : List ℕ) → n ≤ 4294967295 → ¬ Begins is_ascii_digit bytes (decimal n) rest) → Reads (up_to_value key owner version) bytes (Err stop)
-number_missing key owner version bytes stop kind has at none = value_missing key owner version bytes stop has at (no_number key owner version bytes kind none)
-
-no_text : (key : Key) (owner : List ℕ) (version : Version) (bytes : List ℕ) → key.kind ≡ Str → ((text rest : List ℕ) → IsPrintable text → ¬ Begins (run_of Quoted) bytes (quoted text) rest) → NoValue key owner version bytes
-no_text key owner version bytes kind none (values.Label e) after is h = omega (arith, ap kind_place (is.kind ∙ kind))
-no_text key owner version bytes kind none (values.U32 n) after is h = omega (arith, ap kind_place (is.kind ∙ kind))
-no_text key owner version bytes kind none (values.Str t) after is h = none t after is.body h
-no_text key owner version bytes kind none (values.Mem b) after is h = omega (arith, ap kind_place (is.kind ∙ kind))
-
-pub text_missing : (key : Key) (owner : List ℕ) (version : Version) (bytes : List ℕ) (stop : Stop) → key.kind ≡ Str → HasValue key owner version → stop ≡ BadPart (length bytes)
-    → ((text rest : List ℕ) → IsPrintable text → ¬ Begins (run_of Quoted) bytes (quoted text) rest) → Reads (up_to_value key owner version) bytes (Err stop)
-text_missing key owner version bytes stop kind has at none = value_missing key owner version bytes stop has at (no_text key owner version bytes kind none)
-
-no_blob : (key : Key) (owner : List ℕ) (version : Version) (bytes : List ℕ) → key.kind ≡ Mem → ((blob rest : List ℕ) → IsBlob blob → ¬ Begins (run_of Hex) bytes (encode_lower blob) rest) → NoValue key owner version bytes
-no_blob key owner version bytes kind none (values.Label e) after is h = omega (arith, ap kind_place (is.kind ∙ kind))
-no_blob key owner version bytes kind none (values.U32 n) after is h = omega (arith, ap kind_place (is.kind ∙ kind))
-no_blob key owner version bytes kind none (values.Str t) after is h = omega (arith, ap kind_place (is.kind ∙ kind))
-no_blob key owner version bytes kind none (values.Mem b) after is h = none b after is.body h
-
-pub blob_missing : (key : Key) (owner : List ℕ) (version : Version) (bytes : List ℕ) (stop : Stop) → key.kind ≡ Mem → HasValue key owner version → stop ≡ BadPart (length bytes)
-    → ((blob rest : List ℕ) → IsBlob blob → ¬ Begins (run_of Hex) bytes (encode_lower blob) rest) → Reads (up_to_value key owner version) bytes (Err stop)
-blob_missing key owner version bytes stop kind has at none = value_missing key owner version bytes stop has at (no_blob key owner version bytes kind none)
-
 -- a label's put of this endpoint
 pub endpoint_put : (key : Key) (owner : List ℕ) (version : Version) (e : EndpointRecord) → key.kind ≡ Label → HasValue key owner version → IsEndpoint e → e.generation ≡ version.epoch → IsChange (change_of key owner version (Put (values.Label e)))
 endpoint_put key owner version e kind has is gen =
@@ -196,16 +166,6 @@ endpoint_put key owner version e kind has is gen =
       kind = sym kind;
       rule = subst (λ (k : Kind). KeepsRule k (change_of key owner version (Put (values.Label e)))) (sym kind) rule;
     }
-
--- a put of this number, text or blob
-pub number_put : (key : Key) (owner : List ℕ) (version : Version) (n : ℕ) → key.kind ≡ U32 → HasValue key owner version → n < 2 ^ 32 → IsChange (change_of key owner version (Put (values.U32 n)))
-number_put key owner version n kind has is = other_put key owner version (values.U32 n) (λ label. omega (arith, ap kind_place (sym kind ∙ label))) has is (sym kind)
-
-pub text_put : (key : Key) (owner : List ℕ) (version : Version) (text : List ℕ) → key.kind ≡ Str → HasValue key owner version → IsPrintable text → IsChange (change_of key owner version (Put (values.Str text)))
-text_put key owner version text kind has is = other_put key owner version (values.Str text) (λ label. omega (arith, ap kind_place (sym kind ∙ label))) has is (sym kind)
-
-pub blob_put : (key : Key) (owner : List ℕ) (version : Version) (blob : List ℕ) → key.kind ≡ Mem → HasValue key owner version → IsBlob blob → IsChange (change_of key owner version (Put (values.Mem blob)))
-blob_put key owner version blob kind has is = other_put key owner version (values.Mem blob) (λ label. omega (arith, ap kind_place (sym kind ∙ label))) has is (sym kind)
 
 -- ---- the end of a put's line
 
@@ -237,10 +197,3 @@ pub put_whole : (key : Key) (owner : List ℕ) (version : Version) (v : Value) (
 put_whole key owner version v bytes r rest is_put begins end =
     read_on (up_to_value key owner version) (value_part v) bytes r (Ok (change_of key owner version (Put v), length rest)) (value_text v is_put.body) (value_comes key owner version v is_put) begins
     (rest, put_completes key owner version v r rest is_put end, refl)
-
--- so it is too where there is no room for the value
-pub put_no_room : (key : Key) (owner : List ℕ) (version : Version) (v : Value) (bytes r rest : List ℕ) → IsChange (change_of key owner version (Put v)) → ¬ IsBodyInPlace (Put v) → Begins (run_of (value_part v).class) bytes (value_part v).text r → r ≡ 10 ∷ rest
-    → Reads (up_to_value key owner version) bytes (Err NoRoom)
-put_no_room key owner version v bytes r rest is_put large begins end =
-    read_on (up_to_value key owner version) (value_part v) bytes r (Err NoRoom) (value_text v is_put.body) (value_comes key owner version v is_put) begins
-    (record { put = change_of key owner version (Put v); rest = rest; completes = put_completes key owner version v r rest is_put end; value = large })

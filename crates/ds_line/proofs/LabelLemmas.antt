@@ -71,19 +71,19 @@ other_gone key owner version other name owned most fits =
     record { name = name; owner = owned; epoch = most; seq = fits; body = tt; kind = tt; rule = gone_keeps key.kind (change_of key owner version Gone) other refl }
 
 -- some value of each kind
-abbrev some_value : Kind → Value
+abbrev pub some_value : Kind → Value
 some_value Label = values.Label (record { generation = 0; slot = 0 })
 some_value U32 = values.U32 0
 some_value Str = values.Str []
 some_value Mem = values.Mem []
 
-some_kind : (k : Kind) → kind_of (some_value k) ≡ k
+pub some_kind : (k : Kind) → kind_of (some_value k) ≡ k
 some_kind Label = refl
 some_kind U32 = refl
 some_kind Str = refl
 some_kind Mem = refl
 
-some_is : (k : Kind) → IsValue (some_value k)
+pub some_is : (k : Kind) → IsValue (some_value k)
 some_is Label = record { generation = omega arith; slot = omega arith }
 some_is U32 = omega arith
 some_is Str = record { limit = omega arith; printable = refl }

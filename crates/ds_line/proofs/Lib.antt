@@ -12,3 +12,6 @@ pub mod LineLemmas
 pub mod ApartLemmas
 pub mod PlaceLemmas
 pub mod NewlineLemmas
+pub mod PieceLemmas
+pub mod LastValueLemmas
+pub mod OtherLemmas

@@ -17,7 +17,7 @@ use Rattle.ds_line.specs.FaultPlace.{Stand, HasNoLine, TakesRoom}
 use Rattle.ds_line.specs.Reading.{ChangeStops, Completes, CompletesInRoom}
 use Rattle.ds_line.proofs.PartLemmas.{byte_ends}
 
-stand_length : (count : ℕ) (parts : List Part) (bytes rest : List ℕ) → Stand count parts bytes rest → length rest ≤ length bytes
+pub stand_length : (count : ℕ) (parts : List Part) (bytes rest : List ℕ) → Stand count parts bytes rest → length rest ≤ length bytes
 stand_length zero parts bytes rest h = omega (arith, ap length h)
 stand_length (suc count) [] bytes rest h = absurd h
 stand_length (suc count) (p ∷ parts) bytes rest h = omega (arith, stand_length count parts h.0 rest h.2, ap length h.1.parts, length-append p.text h.0)
@@ -29,24 +29,24 @@ rest_fits bytes rest s = stand_length s.count s.further bytes rest s.front
 -- ---- what is spelled out stands there
 
 -- the parts are spelled out, and the rest comes behind them
-abbrev spelled : List Part → List ℕ → List ℕ
+abbrev pub spelled : List Part → List ℕ → List ℕ
 spelled parts rest = texts parts ++ rest
 
 -- all of the parts stand where they are spelled out
-abbrev AllStand : List Part → List ℕ → Type 0
+abbrev pub AllStand : List Part → List ℕ → Type 0
 AllStand parts rest = Stand (length parts) parts (spelled parts rest) rest
 
-part_stands : (p : Part) (parts : List Part) (rest : List ℕ) → Ends (run_of p.class) (spelled parts rest) → AllStand parts rest → AllStand (p ∷ parts) rest
+pub part_stands : (p : Part) (parts : List Part) (rest : List ℕ) → Ends (run_of p.class) (spelled parts rest) → AllStand parts rest → AllStand (p ∷ parts) rest
 part_stands p parts rest ends h = (spelled parts rest, record { parts = append_assoc p.text (texts parts) rest; ends = ends }, h)
 
-byte_stands : (b : ℕ) (parts : List Part) (rest : List ℕ) → AllStand parts rest → AllStand (byte b ∷ parts) rest
+pub byte_stands : (b : ℕ) (parts : List Part) (rest : List ℕ) → AllStand parts rest → AllStand (byte b ∷ parts) rest
 byte_stands b parts rest h = part_stands (byte b) parts rest (byte_ends (spelled parts rest)) h
 
 name_ends : (bytes : List ℕ) → Ends (run_of Name) (32 ∷ bytes)
 unfolding is_name_byte
 name_ends bytes = refl
 
-name_stands : (n : List ℕ) (parts : List Part) (rest : List ℕ) → AllStand (space ∷ parts) rest → AllStand (part Name n ∷ space ∷ parts) rest
+pub name_stands : (n : List ℕ) (parts : List Part) (rest : List ℕ) → AllStand (space ∷ parts) rest → AllStand (part Name n ∷ space ∷ parts) rest
 name_stands n parts rest h = part_stands (part Name n) (space ∷ parts) rest (name_ends (spelled parts rest)) h
 
 -- a value's part ends before a newline
@@ -56,7 +56,7 @@ value_ends (values.U32 n) bytes = refl
 value_ends (values.Str t) bytes = refl
 value_ends (values.Mem b) bytes = refl
 
-body_stands : (b : Body) (rest : List ℕ) → AllStand (body_parts b) rest
+pub body_stands : (b : Body) (rest : List ℕ) → AllStand (body_parts b) rest
 body_stands (Put v) rest =
     byte_stands 61 (space ∷ value_part v ∷ newline ∷ []) rest
     (byte_stands 32 (value_part v ∷ newline ∷ []) rest
@@ -76,7 +76,7 @@ from_epoch c = part Number (decimal c.version.epoch) ∷ from_dot c
 abbrev from_owner : ChangeRecord → List Part
 from_owner c = part Name c.owner ∷ space ∷ from_epoch c
 
-change_stands : (c : ChangeRecord) (rest : List ℕ) → AllStand (change_parts c) rest
+pub change_stands : (c : ChangeRecord) (rest : List ℕ) → AllStand (change_parts c) rest
 change_stands c rest =
     name_stands c.key.name (part Word (kind_word c.key.kind) ∷ space ∷ from_owner c) rest
     (byte_stands 32 (part Word (kind_word c.key.kind) ∷ space ∷ from_owner c) rest

@@ -3,3 +3,4 @@ pub mod Spelling
 pub mod FaultPlace
 pub mod LastNewline
 pub mod Reading
+pub mod Piece

@@ -5,6 +5,7 @@
 #![tactic(auto)]
 
 mod fault;
+mod last_value;
 mod laws;
 mod parts;
 mod reading;
@@ -14,6 +15,9 @@ mod values;
 mod writing;
 
 pub use fault::LineFault;
+pub use last_value::last_value_at;
 pub use laws::{changes_have_one_line, faults_have_one_place, lines_are_apart, newlines_end_lines};
+pub use parts::{behind_name, endpoint_at, kind_at, name_at, word_at};
 pub use reading::read_change;
-pub use writing::{append_change, write_change};
+pub use stop::{Stop, stop_at};
+pub use writing::{append_all, append_change, append_value, write_change};

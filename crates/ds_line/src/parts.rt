@@ -2,13 +2,14 @@
 
 ghost use Rattle.std.specs.Prelude.{◌≡◌, ◌≢◌, ◌≤◌, List, ℕ, IfSome, IfNone, IsTrue, length, drop};
 ghost use Rattle.std.specs.List.{prefix_len, list_all};
-ghost use Rattle.std.specs.Char.{is_ascii_alphanumeric};
+ghost use Rattle.std.specs.Char.{is_ascii_alphanumeric, is_ascii_digit};
+ghost use Rattle.ds_names.specs.Endpoint.{EndpointRecord, IsEndpoint, endpoint_text};
 ghost use Rattle.ds_names.specs.Name.{is_name_byte, IsName};
 ghost use Rattle.ds_names.specs.Run.{Begins};
 ghost use Rattle.ds_names.specs.declared.kind.Kind.{Kind};
 ghost use Rattle.ds_line.specs.Spelling.{kind_word};
 
-use ds_names::{Kind, Name, is_name_byte};
+use ds_names::{Endpoint, Generation, Kind, Name, is_name_byte, read_endpoint};
 
 // How many name bytes stand at the front.
 fn name_len(bytes: &[u8]) -> usize
@@ -17,7 +18,8 @@ fn name_len(bytes: &[u8]) -> usize
     bytes.iter().take_while(|b| is_name_byte(**b)).count()
 }
 
-/// Reads the name at the front, which is the longest run of name bytes. `None` where that run is no name.
+/// Reads the name at the front, which is the longest run of name bytes. `None` where that run is no name. It is for
+/// whoever reads lines of its own, as the readers below.
 pub fn name_at(bytes: &[u8]) -> Option<Name>
     ensures found { IfSome result (λ name. Begins is_name_byte bytes.now name (drop (length name) bytes.now)) }
     ensures name { IfSome result IsName }
@@ -46,6 +48,15 @@ fn word_len(bytes: &[u8]) -> usize
         .iter()
         .take_while(|b| b.is_ascii_alphanumeric())
         .count()
+}
+
+/// The word at the front, which is the longest run of letters and digits, and what comes behind it. No byte of it may
+/// stand there.
+pub fn word_at(bytes: &[u8]) -> (&[u8], &[u8])
+    ensures found { Begins is_ascii_alphanumeric bytes.now result.0.now result.1.now }
+    ensures valid { IsTrue (list_all is_ascii_alphanumeric result.0.now) }
+{
+    bytes.split_at(word_len(bytes))
 }
 
 /// The word of a kind.
@@ -84,9 +95,21 @@ pub fn kind_at(bytes: &[u8]) -> Option<(Kind, &[u8])>
     ensures found { IfSome result (λ r. Begins is_ascii_alphanumeric bytes.now (kind_word r.0) r.1.now) }
     ensures none { IfNone result ((kind : Kind) (rest : List ℕ) → ¬ Begins is_ascii_alphanumeric bytes.now (kind_word kind) rest) }
 {
-    let (word, rest) = bytes.split_at(word_len(bytes));
+    let (word, rest) = word_at(bytes);
     let Some(kind) = kind_of(word) else {
         return None;
     };
     Some((kind, rest))
+}
+
+/// Reads the text of an endpoint at the front, and gives the endpoint with what comes behind its text. `None` where
+/// no endpoint's text stands there.
+pub fn endpoint_at(bytes: &[u8]) -> Option<(Endpoint, &[u8])>
+    ensures found { IfSome result (λ r. Begins is_ascii_digit bytes.now (endpoint_text r.0) r.1.now) }
+    ensures valid { IfSome result (λ r. IsEndpoint r.0) }
+    ensures none { IfNone result ((e : EndpointRecord) (rest : List ℕ) → IsEndpoint e → ¬ Begins is_ascii_digit bytes.now (endpoint_text e) rest) }
+{
+    let (generation, slot, rest) = read_endpoint(bytes)?;
+    let endpoint = Endpoint::of(Generation::of(generation)?, slot)?;
+    Some((endpoint, rest))
 }

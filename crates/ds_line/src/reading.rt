@@ -1,25 +1,22 @@
 //! Reading the line of a change.
 
-ghost use Rattle.std.specs.Prelude.{◌≡◌, ℕ, List, [], ◌∷◌, ◌++◌, length, take, Ok, IfOk, IfErr};
+ghost use Rattle.std.specs.Prelude.{◌≡◌, ◌≢◌, ℕ, List, [], ◌∷◌, ◌++◌, length, take, Ok, IfOk, IfErr};
 ghost use Rattle.std.specs.Fmt.{decimal};
-ghost use Rattle.ds_names.specs.declared.kind.Kind.TheVariants.{Label, U32, Str, Mem};
+ghost use Rattle.ds_names.specs.declared.kind.Kind.TheVariants.{Label};
 ghost use Rattle.ds_entry.specs.Change.{change_of, IsChange};
 ghost use Rattle.ds_entry.specs.declared.body.Body.TheVariants.{Gone};
-ghost use Rattle.ds_line.specs.declared.stop.Stop.TheVariants.{BadPart};
 ghost use Rattle.ds_line.specs.Part.{byte};
 ghost use Rattle.ds_line.specs.Spelling.{HasLine, spelling};
 ghost use Rattle.ds_line.specs.FaultPlace.{IsFaultIn};
 ghost use Rattle.ds_line.specs.Reading.{HasOwner, HasVersion, HasBody, HasValue, up_to_kind, up_to_epoch, up_to_mark, up_to_value, Reads};
 
 use crate::fault::LineFault;
+use crate::last_value::last_value_at;
 use crate::parts::{behind_name, kind_at, name_at};
-use crate::rules::{has_body, has_owner, has_seq, has_tombstone, has_value, has_version};
-use crate::stop::Stop;
-use crate::values::{hex_at, quoted_at};
-use ds_entry::{Blob, Body, Change, Text, Value};
-use ds_names::{
-    Endpoint, Generation, Key, Kind, Name, Version, read_byte, read_decimal, read_endpoint,
-};
+use crate::rules::{has_body, has_owner, has_seq, has_tombstone, has_value, has_version, is_label};
+use crate::stop::{Stop, stop_at};
+use ds_entry::{Body, Change, Value};
+use ds_names::{Endpoint, Generation, Key, Name, Version, read_byte, read_decimal, read_endpoint};
 use std::alloc::Global;
 
 #[cfg(test)]
@@ -52,13 +49,6 @@ pub fn read_change(alloc: Global, bytes: &[u8]) -> Result<(Change, usize), LineF
 
 // Each reader below gives the change and how many bytes are left behind its line, or how many are left from the
 // first part on that can't be read.
-
-// The next part, which can't be read, begins with the bytes.
-fn stop_at(bytes: &[u8]) -> Stop
-    ensures { result ≡ BadPart (length bytes.now) }
-{
-    Stop::BadPart { left: bytes.len() }
-}
 
 // Reads a change from its name on.
 fn change_at(alloc: Global, bytes: &[u8]) -> Result<(Change, usize), Stop>
@@ -184,11 +174,10 @@ fn put_at(
     let Some(rest) = read_byte(bytes, b' ') else {
         return Err(stop_at(bytes));
     };
-    match key.kind {
-        Kind::Label => label_at(key, owner, version, rest),
-        Kind::U32 => number_at(key, owner, version, rest),
-        Kind::Str => text_at(alloc, key, owner, version, rest),
-        Kind::Mem => blob_at(alloc, key, owner, version, rest),
+    if is_label(key.kind) {
+        label_at(key, owner, version, rest)
+    } else {
+        other_at(alloc, key, owner, version, rest)
     }
 }
 
@@ -213,76 +202,21 @@ fn label_at(key: Key, owner: Name, version: Version, bytes: &[u8]) -> Result<(Ch
     whole(key, owner, version, Body::Put(Value::Label(endpoint)), rest)
 }
 
-// Reads a number's put from its value on.
-fn number_at(key: Key, owner: Name, version: Version, bytes: &[u8]) -> Result<(Change, usize), Stop>
-    requires kind { key.kind ≡ U32 }
-    requires value { HasValue key owner version }
-    ensures { Reads (up_to_value key owner version) bytes.now result }
-{
-    let Some((number, rest)) = read_decimal(bytes, 4294967295) else {
-        return Err(stop_at(bytes));
-    };
-    let Some(rest) = read_byte(rest, b'\n') else {
-        return Err(stop_at(rest));
-    };
-    whole(
-        key,
-        owner,
-        version,
-        Body::Put(Value::U32(number as u32)),
-        rest,
-    )
-}
-
-// Reads a text's put from its opening quote on.
-fn text_at(
+// Reads a put of another kind from its value on.
+fn other_at(
     alloc: Global,
     key: Key,
     owner: Name,
     version: Version,
     bytes: &[u8],
 ) -> Result<(Change, usize), Stop>
-    requires kind { key.kind ≡ Str }
+    requires kind { key.kind ≢ Label }
     requires value { HasValue key owner version }
     ensures { Reads (up_to_value key owner version) bytes.now result }
 {
-    let mut block = [0u8; 256];
-    let Some((len, rest)) = quoted_at(bytes, &mut block) else {
-        return Err(stop_at(bytes));
-    };
-    let Some(rest) = read_byte(rest, b'\n') else {
-        return Err(stop_at(rest));
-    };
-    match Text::read(alloc, &block[..len]) {
-        Ok(text) => whole(key, owner, version, Body::Put(Value::Str(text)), rest),
-        Err(_) => Err(Stop::NoRoom),
-    }
-}
-
-// Reads a blob's put from its hex on.
-fn blob_at(
-    alloc: Global,
-    key: Key,
-    owner: Name,
-    version: Version,
-    bytes: &[u8],
-) -> Result<(Change, usize), Stop>
-    requires kind { key.kind ≡ Mem }
-    requires value { HasValue key owner version }
-    ensures { Reads (up_to_value key owner version) bytes.now result }
-{
-    let Some((digits, rest)) = hex_at(bytes) else {
-        return Err(stop_at(bytes));
-    };
-    let Some(rest) = read_byte(rest, b'\n') else {
-        return Err(stop_at(rest));
-    };
-    let Ok(decoded) = hex::decode(alloc, digits) else {
-        return Err(Stop::NoRoom);
-    };
-    match Blob::of(decoded) {
-        Some(blob) => whole(key, owner, version, Body::Put(Value::Mem(blob)), rest),
-        None => Err(Stop::NoRoom),
+    match last_value_at(alloc, key.kind, bytes) {
+        Ok((value, rest)) => whole(key, owner, version, Body::Put(value), rest),
+        Err(stop) => Err(stop),
     }
 }
 

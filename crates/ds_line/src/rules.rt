@@ -11,8 +11,8 @@ ghost use Rattle.ds_line.specs.Reading.{HasOwner, HasVersion, HasSeq, HasBody, H
 
 use ds_names::{Generation, Key, Kind, Name, Version};
 
-// Whether the kind is a label's.
-fn is_label(kind: Kind) -> bool
+/// Whether the kind is a label's.
+pub fn is_label(kind: Kind) -> bool
     ensures { IsTrue result ↔ (kind ≡ Label) }
 {
     match kind {

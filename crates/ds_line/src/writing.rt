@@ -1,10 +1,10 @@
-//! Writing the line of a change.
+//! Writing the line of a change, and the value alone.
 
 ghost use Rattle.std.specs.Prelude.{◌≡◌, ◌≤◌, ◌++◌, List, ℕ, [], ◌∷◌, length, drop, OnOk, OnErr, IfOk};
 ghost use Rattle.std.specs.List.{flat_map};
 ghost use Rattle.hex.specs.Hex.{encode_lower};
 ghost use Rattle.ds_line.specs.Part.{texts};
-ghost use Rattle.ds_line.specs.Spelling.{body_parts, escaped, escaped_byte, quoted, spelling};
+ghost use Rattle.ds_line.specs.Spelling.{body_parts, escaped, escaped_byte, quoted, spelling, value_part};
 
 use crate::parts::word_of;
 use ds_entry::{Body, Change, Value};
@@ -57,27 +57,43 @@ fn append_body(buffer: &mut Vec<u8>, body: &Body) -> Result<(), NoRoom>
     ensures unchanged { OnErr result (buffer.new.items ≡ buffer.old.items) }
 {
     match body {
-        Body::Put(Value::Label(endpoint)) => {
+        Body::Put(value) => append_value(buffer, b"= ", value, b"\n"),
+        Body::Gone => append_all(buffer, &[b"-\n"]),
+    }
+}
+
+/// Appends a value, as the lines of changes spell it, between two texts. Where there is no room for all of
+/// it, the buffer is as it was.
+pub fn append_value(
+    buffer: &mut Vec<u8>,
+    before: &[u8],
+    value: &Value,
+    after: &[u8],
+) -> Result<(), NoRoom>
+    ensures written { OnOk result (buffer.new.items ≡ buffer.old.items ++ (before.now ++ ((value_part value.now).text ++ after.now))) }
+    ensures unchanged { OnErr result (buffer.new.items ≡ buffer.old.items) }
+{
+    match value {
+        Value::Label(endpoint) => {
             let mut generation_digits = Buffer::new();
             let generation = generation_digits
                 .format(endpoint.generation().number())
                 .as_bytes();
             let mut slot_digits = Buffer::new();
             let slot = slot_digits.format(endpoint.slot()).as_bytes();
-            append_all(buffer, &[b"= ", generation, b"/", slot, b"\n"])
+            append_all(buffer, &[before, generation, b"/", slot, after])
         }
-        Body::Put(Value::U32(number)) => {
+        Value::U32(number) => {
             let mut digits = Buffer::new();
-            append_all(buffer, &[b"= ", digits.format(*number).as_bytes(), b"\n"])
+            append_all(buffer, &[before, digits.format(*number).as_bytes(), after])
         }
-        Body::Put(Value::Str(text)) => append_text(buffer, text.bytes()),
-        Body::Put(Value::Mem(blob)) => append_blob(buffer, blob.bytes()),
-        Body::Gone => append_all(buffer, &[b"-\n"]),
+        Value::Str(text) => append_text(buffer, before, text.bytes(), after),
+        Value::Mem(blob) => append_blob(buffer, before, blob.bytes(), after),
     }
 }
 
-// Appends each of the texts, or none of them.
-fn append_all(buffer: &mut Vec<u8>, texts: &[&[u8]]) -> Result<(), NoRoom>
+/// Appends each of the texts. Where there is no room for all of them, the buffer is as it was.
+pub fn append_all(buffer: &mut Vec<u8>, texts: &[&[u8]]) -> Result<(), NoRoom>
     ensures written { OnOk result (buffer.new.items ≡ buffer.old.items ++ flat_map (λ text. text.now) texts.now) }
     ensures unchanged { OnErr result (buffer.new.items ≡ buffer.old.items) }
 {
@@ -91,28 +107,28 @@ fn append_all(buffer: &mut Vec<u8>, texts: &[&[u8]]) -> Result<(), NoRoom>
     Ok(())
 }
 
-// Appends the put of a text from its mark on, or nothing.
-fn append_text(buffer: &mut Vec<u8>, text: &[u8]) -> Result<(), NoRoom>
-    ensures written { OnOk result (buffer.new.items ≡ buffer.old.items ++ 61 ∷ 32 ∷ (quoted text.now ++ 10 ∷ [])) }
+// Appends a text in quotes between two others, or nothing.
+fn append_text(buffer: &mut Vec<u8>, before: &[u8], text: &[u8], after: &[u8]) -> Result<(), NoRoom>
+    ensures written { OnOk result (buffer.new.items ≡ buffer.old.items ++ (before.now ++ (quoted text.now ++ after.now))) }
     ensures unchanged { OnErr result (buffer.new.items ≡ buffer.old.items) }
 {
     let start = buffer.len();
-    append_all(buffer, &[b"= \""])?;
-    let written = append_closed(buffer, text);
+    append_all(buffer, &[before, b"\""])?;
+    let written = append_closed(buffer, text, after);
     if written.is_err() {
         buffer.truncate(start);
     }
     written
 }
 
-// Appends the bytes of the text as they stand in quotes, the closing quote and the newline, or nothing.
-fn append_closed(buffer: &mut Vec<u8>, text: &[u8]) -> Result<(), NoRoom>
-    ensures written { OnOk result (buffer.new.items ≡ buffer.old.items ++ (escaped text.now ++ 34 ∷ 10 ∷ [])) }
+// Appends the bytes of the text as they stand in quotes, the closing quote and another text, or nothing.
+fn append_closed(buffer: &mut Vec<u8>, text: &[u8], after: &[u8]) -> Result<(), NoRoom>
+    ensures written { OnOk result (buffer.new.items ≡ buffer.old.items ++ (escaped text.now ++ 34 ∷ after.now)) }
     ensures unchanged { OnErr result (buffer.new.items ≡ buffer.old.items) }
 {
     let start = buffer.len();
     append_escaped(buffer, text)?;
-    let written = append_all(buffer, &[b"\"\n"]);
+    let written = append_all(buffer, &[b"\"", after]);
     if written.is_err() {
         buffer.truncate(start);
     }
@@ -144,16 +160,16 @@ fn spelled_from(byte: u8) -> usize
     if byte == b'"' || byte == b'\\' { 0 } else { 1 }
 }
 
-// Appends the put of a blob from its mark on, or nothing.
-fn append_blob(buffer: &mut Vec<u8>, blob: &[u8]) -> Result<(), NoRoom>
+// Appends a blob in hex between two texts, or nothing.
+fn append_blob(buffer: &mut Vec<u8>, before: &[u8], blob: &[u8], after: &[u8]) -> Result<(), NoRoom>
     requires { length blob.now ≤ 1024 }
-    ensures written { OnOk result (buffer.new.items ≡ buffer.old.items ++ 61 ∷ 32 ∷ (encode_lower blob.now ++ 10 ∷ [])) }
+    ensures written { OnOk result (buffer.new.items ≡ buffer.old.items ++ (before.now ++ (encode_lower blob.now ++ after.now))) }
     ensures unchanged { OnErr result (buffer.new.items ≡ buffer.old.items) }
 {
     let mut block = [0u8; 2048];
     let digits = &mut block[..2 * blob.len()];
     match hex::encode_to_slice(blob, digits) {
-        Ok(()) => append_all(buffer, &[b"= ", digits, b"\n"]),
+        Ok(()) => append_all(buffer, &[before, digits, after]),
         Err(_) => Err(NoRoom),
     }
 }

@@ -1,6 +1,6 @@
 -- How a name is kept: at the front of a block of 64 bytes, with zeros behind it.
 use Rattle.std.specs.Prelude.{◌≡◌, ℕ, ◌-◌, ◌≤◌, List, ◌++◌, length, take, drop, replicate}
-use Rattle.std.proofs.Common.{refl, sym, ap, ◌∙◌, arith}
+use Rattle.std.proofs.Common.{sym, ap, ◌∙◌, arith}
 use Rattle.std.proofs.lemmas.List.{length-take-le, take-append-drop}
 use Rattle.ds_names.specs.declared.name.Name.TheInside.{Inside}
 use Rattle.ds_names.specs.Name.{IsName}

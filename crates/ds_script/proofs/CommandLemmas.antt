@@ -1,22 +1,31 @@
--- What stands at the front of a line that is a command's, or isn't.
-use Rattle.std.proofs.Common.{◌≡◌, ◌≢◌, ℕ, suc, ◌+◌, ◌-◌, true, List, [], ◌∷◌, ◌++◌, length, take, drop, refl, sym, ap, subst, ◌∙◌, arith, append_assoc, append-nil, length-append, take-append-drop}
+-- A command's line: its word, and what the command takes behind it.
+use Rattle.std.proofs.Common.{◌≡◌, ◌≢◌, ℕ, suc, ◌+◌, ◌-◌, ◌≤◌, true, List, [], ◌∷◌, ◌++◌, length, refl, sym, ap, subst, ◌∙◌, arith, append_assoc, append-nil, length-append}
 use Rattle.std.specs.List.{All, list_all}
 use Rattle.std.specs.Char.{is_ascii_alphanumeric}
+use Rattle.std.specs.Fmt.{decimal}
 use Rattle.std.proofs.lemmas.List.Elements.{All-head, All-tail}
-use Rattle.ds_names.specs.declared.kind.Kind.TheVariants.{U32}
+use Rattle.std.proofs.lemmas.List.Concat.{flat_map-append}
+use Rattle.ds_names.specs.Endpoint.{endpoint_text}
 use Rattle.ds_names.specs.Run.{Begins}
-use Rattle.ds_entry.specs.declared.body.Body.TheVariants.{Gone}
-use Rattle.ds_entry.specs.Change.{ChangeRecord, change_of, IsChange, rs_name}
-use Rattle.ds_line.specs.Part.{texts, Word}
-use Rattle.ds_line.specs.Spelling.{change_parts, spelling, HasLine}
+use Rattle.ds_names.specs.declared.key.Key.{Key}
+use Rattle.ds_names.specs.declared.version.Version.{Version}
+use Rattle.ds_entry.specs.declared.body.Body.TheVariants.{Put}
+use Rattle.ds_line.specs.Part.{Part, part, byte, texts, Word, Name, Number, Endpoint}
+use Rattle.ds_line.specs.Spelling.{space, newline, kind_word, value_part, body_parts, change_parts}
 use Rattle.ds_line.specs.LastNewline.{EndsLine}
-use Rattle.ds_line.specs.FaultPlace.{Stand, IsLineFault}
-use Rattle.ds_line.proofs.LabelLemmas.{rs_is_name}
+use Rattle.ds_line.specs.FaultPlace.{Stand}
+use Rattle.ds_line.specs.Piece.{Found, Breaks, StopsIn}
+use Rattle.ds_line.specs.declared.stop.Stop.TheVariants.{BadPart}
+use Rattle.ds_line.proofs.PartLemmas.{part_one}
+use Rattle.ds_line.proofs.LineLemmas.{AllStand, stand_length, part_stands, byte_stands, name_stands, body_stands, change_stands}
 use Rattle.ds_line.proofs.NewlineLemmas.{line_ends}
-use Rattle.ds_line.proofs.PartLemmas.{part_one, byte_begins}
+use Rattle.ds_line.proofs.PieceLemmas.{stand_texts}
 use Rattle.ds_script.specs.declared.command.ScriptCommand.{ScriptCommand}
-use Rattle.ds_script.specs.declared.command.ScriptCommand.TheVariants.{Offer, Show, All as Everything}
-use Rattle.ds_script.specs.Command.{offer_word, show_word, all_word, word_of, behind_word, command_parts, IsCommand, IsWritten, EndsCommand, IsCommandFault}
+use Rattle.ds_script.specs.declared.command.ScriptCommand.TheVariants.{Offer, Show, All as Everything, Publish, Delete, Sweep, Retrieve, NameOf}
+use Rattle.ds_script.specs.declared.word.Word.TheVariants as words
+use Rattle.ds_script.specs.declared.word.Word.{Word as CommandWord}
+use Rattle.ds_script.specs.Command.{word_of, behind_word, command_parts, IsCommand, IsCommandFault, mode_word, key_parts, version_parts}
+use Rattle.ds_script.specs.Pieces.{taken_by, text_of}
 
 -- ---- words
 
@@ -24,23 +33,169 @@ word_is : (command : ScriptCommand) → list_all is_ascii_alphanumeric (word_of 
 word_is (Offer c) = refl
 word_is Show = refl
 word_is Everything = refl
+word_is (Publish caller key version value overwrite) = refl
+word_is (Delete caller key version) = refl
+word_is (Sweep caller owner generation) = refl
+word_is (Retrieve key) = refl
+word_is (NameOf endpoint) = refl
+
+-- each command begins with one of the words
+word_there : (command : ScriptCommand) → (word : CommandWord) × (word_of command ≡ text_of word)
+word_there (Offer c) = (words.Offer, refl)
+word_there Show = (words.Show, refl)
+word_there Everything = (words.All, refl)
+word_there (Publish caller key version value overwrite) = (words.Publish, refl)
+word_there (Delete caller key version) = (words.Delete, refl)
+word_there (Sweep caller owner generation) = (words.Sweep, refl)
+word_there (Retrieve key) = (words.Retrieve, refl)
+word_there (NameOf endpoint) = (words.NameOf, refl)
+
+text_is : (word : CommandWord) → list_all is_ascii_alphanumeric (text_of word) ≡ true
+text_is words.Offer = refl
+text_is words.Show = refl
+text_is words.All = refl
+text_is words.Publish = refl
+text_is words.Delete = refl
+text_is words.Sweep = refl
+text_is words.Retrieve = refl
+text_is words.NameOf = refl
 
 -- two words at one front are one
 one_word : (command : ScriptCommand) (line word r s : List ℕ) → list_all is_ascii_alphanumeric word ≡ true → Begins is_ascii_alphanumeric line (word_of command) r → Begins is_ascii_alphanumeric line word s → (word_of command ≡ word) × (r ≡ s)
 one_word command line word r s is first second = part_one Word line (word_of command) word r s (word_is command) is first second
 
-word_stands : (command : ScriptCommand) (line after : List ℕ) (count : ℕ) → Stand (suc count) (command_parts command) line after → (rest : List ℕ) × Begins is_ascii_alphanumeric line (word_of command) rest × Stand count (behind_word command) rest after
-word_stands (Offer c) line after count h = h
-word_stands Show line after count h = h
-word_stands Everything line after count h = h
+-- ---- what is spelled out stands there
 
+delete_stands : (key : Key) (version : Version) → AllStand (key_parts key ++ space ∷ (version_parts version ++ newline ∷ [])) []
+delete_stands key version =
+    let from_seq : List Part = part Number (decimal version.seq) ∷ newline ∷ [] in
+    let from_epoch : List Part = part Number (decimal version.epoch) ∷ byte 46 ∷ from_seq in
+    let from_kind : List Part = part Word (kind_word key.kind) ∷ space ∷ from_epoch in
+    name_stands key.name from_kind []
+    (byte_stands 32 from_kind []
+    (part_stands (part Word (kind_word key.kind)) (space ∷ from_epoch) [] refl
+    (byte_stands 32 from_epoch []
+    (part_stands (part Number (decimal version.epoch)) (byte 46 ∷ from_seq) [] refl
+    (byte_stands 46 from_seq []
+    (part_stands (part Number (decimal version.seq)) (newline ∷ []) [] refl
+    (byte_stands 10 [] [] refl)))))))
+
+command_stands : (command : ScriptCommand) → AllStand (behind_word command) []
+command_stands (Offer c) = byte_stands 32 (change_parts c) [] (change_stands c [])
+command_stands Show = byte_stands 10 [] [] refl
+command_stands Everything = byte_stands 10 [] [] refl
+command_stands (Publish caller key version value overwrite) =
+    let from_mark : List Part = body_parts (Put value) in
+    let from_seq : List Part = part Number (decimal version.seq) ∷ space ∷ from_mark in
+    let from_epoch : List Part = part Number (decimal version.epoch) ∷ byte 46 ∷ from_seq in
+    let from_kind : List Part = part Word (kind_word key.kind) ∷ space ∷ from_epoch in
+    let from_name : List Part = part Name key.name ∷ space ∷ from_kind in
+    let from_mode : List Part = part Word (mode_word overwrite) ∷ space ∷ from_name in
+    byte_stands 32 (part Endpoint (endpoint_text caller) ∷ space ∷ from_mode) []
+    (part_stands (part Endpoint (endpoint_text caller)) (space ∷ from_mode) [] refl
+    (byte_stands 32 from_mode []
+    (part_stands (part Word (mode_word overwrite)) (space ∷ from_name) [] refl
+    (byte_stands 32 from_name []
+    (name_stands key.name from_kind []
+    (byte_stands 32 from_kind []
+    (part_stands (part Word (kind_word key.kind)) (space ∷ from_epoch) [] refl
+    (byte_stands 32 from_epoch []
+    (part_stands (part Number (decimal version.epoch)) (byte 46 ∷ from_seq) [] refl
+    (byte_stands 46 from_seq []
+    (part_stands (part Number (decimal version.seq)) (space ∷ from_mark) [] refl
+    (byte_stands 32 from_mark [] (body_stands (Put value) [])))))))))))))
+command_stands (Delete caller key version) =
+    let from_name : List Part = key_parts key ++ space ∷ (version_parts version ++ newline ∷ []) in
+    byte_stands 32 (part Endpoint (endpoint_text caller) ∷ space ∷ from_name) []
+    (part_stands (part Endpoint (endpoint_text caller)) (space ∷ from_name) [] refl
+    (byte_stands 32 from_name [] (delete_stands key version)))
+command_stands (Sweep caller owner generation) =
+    let from_generation : List Part = part Number (decimal generation) ∷ newline ∷ [] in
+    let from_owner : List Part = part Name owner ∷ space ∷ from_generation in
+    byte_stands 32 (part Endpoint (endpoint_text caller) ∷ space ∷ from_owner) []
+    (part_stands (part Endpoint (endpoint_text caller)) (space ∷ from_owner) [] refl
+    (byte_stands 32 from_owner []
+    (name_stands owner from_generation []
+    (byte_stands 32 from_generation []
+    (part_stands (part Number (decimal generation)) (newline ∷ []) [] refl
+    (byte_stands 10 [] [] refl))))))
+command_stands (Retrieve key) =
+    let from_kind : List Part = part Word (kind_word key.kind) ∷ newline ∷ [] in
+    byte_stands 32 (part Name key.name ∷ space ∷ from_kind) []
+    (name_stands key.name from_kind []
+    (byte_stands 32 from_kind []
+    (part_stands (part Word (kind_word key.kind)) (newline ∷ []) [] refl
+    (byte_stands 10 [] [] refl))))
+command_stands (NameOf endpoint) =
+    byte_stands 32 (part Endpoint (endpoint_text endpoint) ∷ newline ∷ []) []
+    (part_stands (part Endpoint (endpoint_text endpoint)) (newline ∷ []) [] refl
+    (byte_stands 10 [] [] refl))
+
+-- the line's word stands at its front
 word_begins : (command : ScriptCommand) (line : List ℕ) → line ≡ texts (command_parts command) → Begins is_ascii_alphanumeric line (word_of command) (texts (behind_word command))
 word_begins (Offer c) line is = record { parts = is; ends = refl }
 word_begins Show line is = record { parts = is; ends = refl }
 word_begins Everything line is = record { parts = is; ends = refl }
+word_begins (Publish caller key version value overwrite) line is = record { parts = is; ends = refl }
+word_begins (Delete caller key version) line is = record { parts = is; ends = refl }
+word_begins (Sweep caller owner generation) line is = record { parts = is; ends = refl }
+word_begins (Retrieve key) line is = record { parts = is; ends = refl }
+word_begins (NameOf endpoint) line is = record { parts = is; ends = refl }
 
--- ---- the first newline is the last byte
+-- ---- the line can't be read
 
+-- no command has the word
+pub unknown_word : (line word rest : List ℕ) → list_all is_ascii_alphanumeric word ≡ true → Begins is_ascii_alphanumeric line word rest → ((w : CommandWord) → word ≢ text_of w) → IsCommandFault line 0
+unknown_word line word rest is begins other =
+    record {
+      none = λ command can text.
+          let one = one_word command line word (texts (behind_word command)) rest is (word_begins command line text) begins in
+          let there = word_there command in
+          other there.0 (sym one.0 ∙ there.1);
+      first = record {
+        rest = line;
+        stops = record {
+          count = 0;
+          read = record { member = Show; is = tt; front = refl };
+          most = λ after r.
+              let one = one_word r.member line word r.front.0 rest is r.front.1 begins in
+              let there = word_there r.member in
+              other there.0 (sym one.0 ∙ there.1);
+        };
+        begins = omega arith;
+      };
+    }
+
+-- what can be read ends behind the word
+line_breaks : (line word rest at : List ℕ) → list_all is_ascii_alphanumeric word ≡ true → Begins is_ascii_alphanumeric line word rest → Breaks (taken_by word) rest at → IsCommandFault line (length line - length at)
+line_breaks line word rest at is begins s =
+    record {
+      none = λ command can text.
+          let one = one_word command line word (texts (behind_word command)) rest is (word_begins command line text) begins in
+          let stands : Stand (length (behind_word command)) (behind_word command) (texts (behind_word command)) [] = subst (λ (t : List ℕ). Stand (length (behind_word command)) (behind_word command) t []) (append-nil (texts (behind_word command))) (command_stands command) in
+          s.none command [] (can, one.0) (subst (λ (t : List ℕ). Stand (length (behind_word command)) (behind_word command) t []) one.1 stands);
+      first = record {
+        rest = at;
+        stops = record {
+          count = suc s.count;
+          read = record { member = s.thing; is = s.can.0; front = (rest, subst (λ (w : List ℕ). Begins is_ascii_alphanumeric line w rest) (sym s.can.1) begins, s.front) };
+          most = λ after r.
+              let one = one_word r.member line word r.front.0 rest is r.front.1 begins in
+              s.most r.member after (r.is, one.0) (subst (λ (t : List ℕ). Stand (suc s.count) (behind_word r.member) t after) one.1 r.front.2);
+        };
+        begins = omega (arith, ap length begins.parts, length-append word rest, stand_length s.count (behind_word s.thing) rest at s.front);
+      };
+    }
+
+pub left_fits : (line word rest at : List ℕ) → Begins is_ascii_alphanumeric line word rest → Breaks (taken_by word) rest at → length at ≤ length line
+left_fits line word rest at begins s = omega (arith, ap length begins.parts, length-append word rest, stand_length s.count (behind_word s.thing) rest at s.front)
+
+pub stops_place : (line rest : List ℕ) (w : CommandWord) (left : ℕ) → Begins is_ascii_alphanumeric line (text_of w) rest → StopsIn (taken_by (text_of w)) (BadPart left) rest → IsCommandFault line (length line - left)
+stops_place line rest w left begins s = subst (λ (n : ℕ). IsCommandFault line (length line - n)) s.2 (line_breaks line (text_of w) rest s.0 (text_is w) begins s.1)
+
+-- ---- the line is read
+
+-- the first newline is the last byte
 one_newline : (before behind front : List ℕ) → All (λ (b : ℕ). b ≢ 10) front → front ++ 10 ∷ [] ≡ before ++ 10 ∷ behind → behind ≡ []
 one_newline [] behind [] none same = cc
 one_newline [] behind (f ∷ front) none same = let first : f ≡ 10 = cc in absurd (All-head (λ (b : ℕ). b ≢ 10) f front none first)
@@ -49,151 +204,27 @@ one_newline (a ∷ before) behind (f ∷ front) none same =
     let rest : front ++ 10 ∷ [] ≡ before ++ 10 ∷ behind = cc in
     one_newline before behind front (All-tail (λ (b : ℕ). b ≢ 10) f front none) rest
 
-nothing_behind : (line before behind : List ℕ) → EndsLine line → line ≡ before ++ 10 ∷ behind → behind ≡ []
-nothing_behind line before behind ends is = one_newline before behind ends.front ends.none (sym ends.parts ∙ is)
+-- the parts end with a newline
+last_newline : (parts : List Part) → (front : List ℕ) × (texts (parts ++ newline ∷ []) ≡ front ++ 10 ∷ [])
+last_newline parts = (texts parts, flat_map-append (λ (p : Part). p.text) parts (newline ∷ []))
 
--- ---- no command has the word
+newline_last : (command : ScriptCommand) → IsCommand command → (front : List ℕ) × (texts (behind_word command) ≡ front ++ 10 ∷ [])
+newline_last (Offer c) is = let e = line_ends c is in (32 ∷ e.front, ap (λ (t : List ℕ). 32 ∷ t) e.parts)
+newline_last Show is = ([], refl)
+newline_last Everything is = ([], refl)
+newline_last (Publish caller key version value overwrite) is =
+    last_newline (space ∷ part Endpoint (endpoint_text caller) ∷ space ∷ part Word (mode_word overwrite) ∷ space ∷ (key_parts key ++ space ∷ (version_parts version ++ space ∷ byte 61 ∷ space ∷ value_part value ∷ [])))
+newline_last (Delete caller key version) is = last_newline (space ∷ part Endpoint (endpoint_text caller) ∷ space ∷ (key_parts key ++ space ∷ version_parts version))
+newline_last (Sweep caller owner generation) is = last_newline (space ∷ part Endpoint (endpoint_text caller) ∷ space ∷ part Name owner ∷ space ∷ part Number (decimal generation) ∷ [])
+newline_last (Retrieve key) is = last_newline (space ∷ key_parts key)
+newline_last (NameOf endpoint) is = last_newline (space ∷ part Endpoint (endpoint_text endpoint) ∷ [])
 
-pub unknown_word : (line word rest : List ℕ) → list_all is_ascii_alphanumeric word ≡ true → Begins is_ascii_alphanumeric line word rest → word ≢ offer_word → word ≢ show_word → word ≢ all_word → IsCommandFault line 0
-unknown_word line word rest is begins not_offer not_show not_all =
-    let other : (command : ScriptCommand) → word_of command ≢ word = λ command. elim command as (λ m. word_of m ≢ word) [ Offer c ↦ λ e. not_offer (sym e) | Show ↦ λ e. not_show (sym e) | Everything ↦ λ e. not_all (sym e) ] in
-    record {
-      none = λ command written text. other command (one_word command line word (texts (behind_word command)) rest is (word_begins command line text) begins).0;
-      first = record {
-        rest = line;
-        stops = record {
-          count = 0;
-          read = record { member = Show; is = tt; front = refl };
-          most = λ after r. let s = word_stands r.member line after 0 r.front in other r.member (one_word r.member line word s.0 rest is s.1 begins).0;
-        };
-        begins = omega arith;
-      };
-    }
-
--- ---- a command that takes nothing
-
-plain_is : (command : ScriptCommand) → EndsCommand command → IsCommand command
-plain_is (Offer c) h = absurd h
-plain_is Show h = tt
-plain_is Everything h = tt
-
-plain_stands : (command : ScriptCommand) (line rest : List ℕ) → Begins is_ascii_alphanumeric line (word_of command) rest → Stand 1 (command_parts command) line rest
-plain_stands (Offer c) line rest h = (rest, h, refl)
-plain_stands Show line rest h = (rest, h, refl)
-plain_stands Everything line rest h = (rest, h, refl)
-
-same_plain : (a b : ScriptCommand) → EndsCommand b → word_of a ≡ word_of b → a ≡ b
-same_plain a (Offer c) h e = absurd h
-same_plain (Offer c) Show h e = absurd (cc)
-same_plain (Offer c) Everything h e = absurd (cc)
-same_plain Show Show h e = refl
-same_plain Show Everything h e = absurd (cc)
-same_plain Everything Show h e = absurd (cc)
-same_plain Everything Everything h e = refl
-
-plain_behind : (command : ScriptCommand) → EndsCommand command → texts (behind_word command) ≡ 10 ∷ []
-plain_behind (Offer c) h = absurd h
-plain_behind Show h = refl
-plain_behind Everything h = refl
-
-plain_next : (command : ScriptCommand) (rest after : List ℕ) → EndsCommand command → Stand 1 (behind_word command) rest after → rest ≡ 10 ∷ after
-plain_next (Offer c) rest after h s = absurd h
-plain_next Show rest after h s = s.1.parts ∙ ap (λ x. 10 ∷ x) s.2
-plain_next Everything rest after h s = s.1.parts ∙ ap (λ x. 10 ∷ x) s.2
-
-pub no_newline : (command : ScriptCommand) (line rest : List ℕ) → EndsLine line → Begins is_ascii_alphanumeric line (word_of command) rest → EndsCommand command → rest ≢ 10 ∷ [] → IsCommandFault line (length line - length rest)
-no_newline command line rest ends begins plain other =
-    record {
-      none = λ m written text.
-          let one = one_word m line (word_of command) (texts (behind_word m)) rest (word_is command) (word_begins m line text) begins in
-          other (sym one.1 ∙ ap (λ x. texts (behind_word x)) (same_plain m command plain one.0) ∙ plain_behind command plain);
-      first = record {
-        rest = rest;
-        stops = record {
-          count = 1;
-          read = record { member = command; is = plain_is command plain; front = plain_stands command line rest begins };
-          most = λ after r.
-              let s = word_stands r.member line after 1 r.front in
-              let one = one_word r.member line (word_of command) s.0 rest (word_is command) s.1 begins in
-              let next : rest ≡ 10 ∷ after = plain_next command rest after plain (subst (λ (m : ScriptCommand). Stand 1 (behind_word m) rest after) (same_plain r.member command plain one.0) (subst (λ (x : List ℕ). Stand 1 (behind_word r.member) x after) one.1 s.2)) in
-              let none : after ≡ [] = nothing_behind line (word_of command) after ends (begins.parts ∙ ap (λ x. word_of command ++ x) next) in
-              other (next ∙ ap (λ x. 10 ∷ x) none);
-        };
-        begins = omega (arith, ap length begins.parts, length-append (word_of command) rest);
-      };
-    }
-
--- ---- an offer
-
--- some change
-abbrev example : ChangeRecord
-example = change_of (record { name = rs_name; kind = U32 }) rs_name (record { epoch = 0; seq = 0 }) Gone
-
-example_is : IsChange example
-example_is = record { name = rs_is_name; owner = rs_is_name; epoch = omega arith; seq = omega arith; body = tt; kind = tt; rule = tt }
-
-offered : (m : ScriptCommand) → word_of m ≡ offer_word → (c : ChangeRecord) × (m ≡ Offer c)
-offered (Offer c) e = (c, refl)
-offered Show e = absurd (cc)
-offered Everything e = absurd (cc)
-
--- a space has to follow the word
-pub no_space : (line rest : List ℕ) → Begins is_ascii_alphanumeric line offer_word rest → ((text : List ℕ) → rest ≢ 32 ∷ text) → IsCommandFault line (length line - length rest)
-no_space line rest begins none =
-    record {
-      none = λ m written text.
-          let one = one_word m line offer_word (texts (behind_word m)) rest refl (word_begins m line text) begins in
-          let o = offered m one.0 in
-          none (spelling o.0) (sym one.1 ∙ ap (λ x. texts (behind_word x)) o.1);
-      first = record {
-        rest = rest;
-        stops = record {
-          count = 1;
-          read = record { member = Offer example; is = example_is; front = (rest, begins, refl) };
-          most = λ after r.
-              let s = word_stands r.member line after 1 r.front in
-              let one = one_word r.member line offer_word s.0 rest refl s.1 begins in
-              let o = offered r.member one.0 in
-              let t = subst (λ (m : ScriptCommand). Stand 1 (behind_word m) s.0 after) o.1 s.2 in
-              none t.0 (sym one.1 ∙ t.1.parts);
-        };
-        begins = omega (arith, ap length begins.parts, length-append offer_word rest);
-      };
-    }
-
--- the change can't be read
-pub no_change : (line rest text : List ℕ) (place : ℕ) → Begins is_ascii_alphanumeric line offer_word rest → rest ≡ 32 ∷ text → IsLineFault text place → IsCommandFault line (length line - length text + place)
-no_change line rest text place begins space fault =
-    record {
-      none = λ m written is.
-          let one = one_word m line offer_word (texts (behind_word m)) rest refl (word_begins m line is) begins in
-          let o = offered m one.0 in
-          let same : 32 ∷ text ≡ 32 ∷ spelling o.0 = sym space ∙ sym one.1 ∙ ap (λ x. texts (behind_word x)) o.1 in
-          let alone : text ≡ spelling o.0 = cc in
-          fault.none o.0 [] (subst IsWritten o.1 written) (alone ∙ sym (append-nil (spelling o.0)));
-      first = record {
-        rest = fault.first.rest;
-        stops = record {
-          count = suc (suc fault.first.stops.count);
-          read = record { member = Offer fault.first.stops.read.member; is = fault.first.stops.read.is; front = (rest, begins, (text, byte_begins 32 rest text space, fault.first.stops.read.front)) };
-          most = λ after r.
-              let s = word_stands r.member line after (suc (suc fault.first.stops.count)) r.front in
-              let one = one_word r.member line offer_word s.0 rest refl s.1 begins in
-              let o = offered r.member one.0 in
-              let t = subst (λ (m : ScriptCommand). Stand (suc (suc fault.first.stops.count)) (behind_word m) s.0 after) o.1 s.2 in
-              let same : 32 ∷ text ≡ 32 ∷ t.0 = sym space ∙ sym one.1 ∙ t.1.parts in
-              let alone : t.0 ≡ text = cc in
-              fault.first.stops.most after (record { member = o.0; is = subst IsCommand o.1 r.is; front = subst (λ (x : List ℕ). Stand (suc fault.first.stops.count) (change_parts o.0) x after) alone t.2 });
-        };
-        begins = omega (arith, fault.first.begins, ap length begins.parts, length-append offer_word rest, ap length space);
-      };
-    }
-
--- the change is all that follows
-pub whole_offer : (line rest text : List ℕ) (c : ChangeRecord) (n : ℕ) → EndsLine line → Begins is_ascii_alphanumeric line offer_word rest → rest ≡ 32 ∷ text → HasLine c → take n text ≡ spelling c → line ≡ texts (command_parts (Offer c))
-whole_offer line rest text c n ends begins space written is =
-    let e : EndsLine (spelling c) = line_ends c written in
-    let all : text ≡ (e.front ++ 10 ∷ []) ++ drop n text = sym (take-append-drop n text) ∙ ap (λ x. x ++ drop n text) (is ∙ e.parts) in
-    let spread : line ≡ (offer_word ++ 32 ∷ e.front) ++ 10 ∷ drop n text = begins.parts ∙ ap (λ x. offer_word ++ x) (space ∙ ap (λ x. 32 ∷ x) (all ∙ append_assoc e.front (10 ∷ []) (drop n text))) in
-    let none : drop n text ≡ [] = nothing_behind line (offer_word ++ 32 ∷ e.front) (drop n text) ends spread in
-    begins.parts ∙ ap (λ x. offer_word ++ x) (space ∙ ap (λ x. 32 ∷ x) (sym (take-append-drop n text) ∙ ap (λ x. take n text ++ x) none ∙ append-nil (take n text) ∙ is))
+-- the command is all of the line
+pub whole_line : (line word rest after : List ℕ) (command : ScriptCommand) → EndsLine line → Begins is_ascii_alphanumeric line word rest → Found (taken_by word) command rest after → IsCommand command × (line ≡ texts (command_parts command))
+whole_line line word rest after command ends begins found =
+    let is = stand_texts (behind_word command) rest after found.front in
+    let last = newline_last command found.can.0 in
+    let spread : line ≡ (word ++ last.0) ++ 10 ∷ after =
+    begins.parts ∙ ap (λ (t : List ℕ). word ++ t) (is ∙ ap (λ (t : List ℕ). t ++ after) last.1 ∙ append_assoc last.0 (10 ∷ []) after) ∙ sym (append_assoc word last.0 (10 ∷ after)) in
+    let none : after ≡ [] = one_newline (word ++ last.0) after ends.front ends.none (sym ends.parts ∙ spread) in
+    (found.can.0, begins.parts ∙ ap (λ (t : List ℕ). word ++ t) (is ∙ ap (λ (t : List ℕ). texts (behind_word command) ++ t) none ∙ append-nil (texts (behind_word command))) ∙ ap (λ (w : List ℕ). w ++ texts (behind_word command)) (sym found.can.1))

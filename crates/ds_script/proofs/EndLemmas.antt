@@ -1,20 +1,16 @@
 -- How a replay ends.
 use Rattle.std.proofs.Common.{◌≡◌, ◌≢◌, ℕ, ◌+◌, List, [], ◌∷◌, ◌++◌, length, Option, Some, Result, Ok, Err, IfOk, IfErr, refl, sym, ap, subst, ◌∙◌, ◌⊎◌, inl, inr, arith, append_assoc, append-nil, length-append}
-use Rattle.std.specs.FinMap.{empty, entries, len-entries, len-empty}
 use Rattle.std.specs.Io.KnownBytes.{Appends, Consumes, IsAtEnd}
 use Rattle.std.proofs.KnownBytes.{Appends-nil, Appends-trans}
-use Rattle.std.proofs.lemmas.List.{length-map}
 use Rattle.std.proofs.lemmas.List.Elements.{All-nil}
-use Rattle.ds_names.specs.Key.{key_cmp}
-use Rattle.ds_entry.specs.Change.{ChangeRecord}
-use Rattle.ds_join.specs.Held.{Holding, nothing_held, held_changes}
+use Rattle.ds_script.specs.Session.{SessionContent, StandsFor, Leads, at_start}
 use Rattle.ds_script.specs.declared.fault.ReplayFault.{ReplayFault}
 use Rattle.ds_script.specs.declared.fault.ReplayFault.TheVariants.{BadLine, ReadFault, WriteFault, NoRoom}
 use Rattle.ds_script.specs.declared.turn.Stop.TheVariants as stops
 use Rattle.ds_script.specs.Lines.{IsUnbroken, joined, unended, HasLines}
-use Rattle.ds_script.specs.Answer.{AnswersLine, AllHaveLines}
+use Rattle.ds_script.specs.Answer.{AnswersLine, AnswersLines}
 use Rattle.ds_script.specs.Replay.{Answers, Goes, Leaves, Replays, Stopped, Unwritten, StopsWith, Written, Reported, Finishes}
-use Rattle.ds_script.proofs.RunLemmas.{answers_sent, answers_then}
+use Rattle.ds_script.proofs.RunLemmas.{answers_sent, answers_then, leads_by}
 
 pub nothing : (bs : List ℕ) → length bs ≡ 0 → bs ≡ []
 nothing [] e = refl
@@ -24,23 +20,17 @@ pub something : (bs : List ℕ) → length bs ≢ 0 → unended bs ≡ bs ∷ []
 something [] some = absurd (some refl)
 something (b ∷ bs) some = refl
 
--- nothing that is held has no line
-pub none_held : AllHaveLines nothing_held
-none_held c h =
-    let none : length (held_changes nothing_held) ≡ 0 = length-map (entries (nothing_held.changes)) (λ e. e.1) ∙ sym (len-entries (nothing_held.changes)) ∙ len-empty key_cmp ChangeRecord in
-    absurd (omega (arith, h.1, none))
-
 -- ---- the last line
 
-written_all : (had has : Option (List ℕ)) (old new : Holding) (before output out rest : List ℕ) → output ≡ before ++ out → AnswersLine old rest out new → Appends had has output → Answers had has old before (rest ∷ []) new []
+written_all : (had has : Option (List ℕ)) (old new : SessionContent) (before output out rest : List ℕ) → output ≡ before ++ out → Leads (λ s t. AnswersLine s rest out t) old new → Appends had has output → Answers had has old before (rest ∷ []) new []
 written_all had has old new before output out rest grown line written =
-    record { output = out; sent = output; answers = (new, out, [], line, (refl, refl), sym (append-nil out)); split = sym grown ∙ sym (append-nil output); written = written }
+    record { output = out; sent = output; answers = leads_by old new (λ s t. AnswersLine s rest out t) (λ s t. AnswersLines s (rest ∷ []) out t) line (λ s t a. (t, out, [], a, (refl, refl), sym (append-nil out))); split = sym grown ∙ sym (append-nil output); written = written }
 
-written_part : (had has : Option (List ℕ)) (old new : Holding) (before output out rest sent left : List ℕ) → output ≡ before ++ out → AnswersLine old rest out new → output ≡ sent ++ left → Appends had has sent → Answers had has old before (rest ∷ []) new left
+written_part : (had has : Option (List ℕ)) (old new : SessionContent) (before output out rest sent left : List ℕ) → output ≡ before ++ out → Leads (λ s t. AnswersLine s rest out t) old new → output ≡ sent ++ left → Appends had has sent → Answers had has old before (rest ∷ []) new left
 written_part had has old new before output out rest sent left grown line split written =
-    record { output = out; sent = sent; answers = (new, out, [], line, (refl, refl), sym (append-nil out)); split = sym grown ∙ split; written = written }
+    record { output = out; sent = sent; answers = leads_by old new (λ s t. AnswersLine s rest out t) (λ s t. AnswersLines s (rest ∷ []) out t) line (λ s t a. (t, out, [], a, (refl, refl), sym (append-nil out))); split = sym grown ∙ split; written = written }
 
-pub finish_none : (r : Result ℕ ReplayFault) (n : ℕ) (had has : Option (List ℕ)) (old : Holding) (before text rest : List ℕ) → Written r n had has text → text ≡ before → rest ≡ [] → Finishes r n had has old before rest
+pub finish_none : (r : Result ℕ ReplayFault) (n : ℕ) (had has : Option (List ℕ)) (old : SessionContent) (before text rest : List ℕ) → Written r n had has text → text ≡ before → rest ≡ [] → Finishes r n had has old before rest
 finish_none (Ok count) n had has old before text rest w same none = (
   old,
   subst (λ (x : List ℕ). Answers had has old before (unended x) old []) (sym none) (answers_sent had has old before text [] (sym same ∙ sym (append-nil text)) w.1),
@@ -49,7 +39,7 @@ finish_none (Ok count) n had has old before text rest w same none = (
 finish_none (Err fault) n had has old before text rest w same none =
     subst (λ (f : ReplayFault). Finishes (Err f) n had has old before rest) (sym w.0) ([], old, w.2, answers_sent had has old before w.1 w.2 (sym same ∙ w.3) w.4, inl refl)
 
-pub finish_line : (r : Result ℕ ReplayFault) (n : ℕ) (had has : Option (List ℕ)) (old new : Holding) (before text output out rest : List ℕ) → Written r (n + 1) had has text → text ≡ output → output ≡ before ++ out → AnswersLine old rest out new → unended rest ≡ rest ∷ [] → Finishes r n had has old before rest
+pub finish_line : (r : Result ℕ ReplayFault) (n : ℕ) (had has : Option (List ℕ)) (old new : SessionContent) (before text output out rest : List ℕ) → Written r (n + 1) had has text → text ≡ output → output ≡ before ++ out → Leads (λ s t. AnswersLine s rest out t) old new → unended rest ≡ rest ∷ [] → Finishes r n had has old before rest
 finish_line (Ok count) n had has old new before text output out rest w same grown line one = (
   new,
   subst (λ (x : List (List ℕ)). Answers had has old before x new []) (sym one) (written_all had has old new before text out rest (same ∙ grown) line w.1),
@@ -58,7 +48,7 @@ finish_line (Ok count) n had has old new before text output out rest w same grow
 finish_line (Err fault) n had has old new before text output out rest w same grown line one =
     subst (λ (f : ReplayFault). Finishes (Err f) n had has old before rest) (sym w.0) (rest ∷ [], new, w.2, written_part had has old new before text out rest w.1 w.2 (same ∙ grown) line w.3 w.4, inr (sym one))
 
-pub finish_fault : (r : Result ℕ ReplayFault) (fault : ReplayFault) (n : ℕ) (had has : Option (List ℕ)) (old : Holding) (before text rest : List ℕ) → Reported r fault had has text → text ≡ before → (Answers had has old before [] old [] → Finishes (Err fault) n had has old before rest) → Finishes r n had has old before rest
+pub finish_fault : (r : Result ℕ ReplayFault) (fault : ReplayFault) (n : ℕ) (had has : Option (List ℕ)) (old : SessionContent) (before text rest : List ℕ) → Reported r fault had has text → text ≡ before → (Answers had has old before [] old [] → Finishes (Err fault) n had has old before rest) → Finishes r n had has old before rest
 finish_fault (Ok count) fault n had has old before text rest h same good = absurd h
 finish_fault (Err given) fault n had has old before text rest h same good =
     elim h [
@@ -69,49 +59,53 @@ finish_fault (Err given) fault n had has old before text rest h same good =
 -- ---- the whole
 
 -- what was read and answered from the start
-pub record Begun (from to had has : Option (List ℕ)) (n : ℕ) (new : Holding) (after rest : List ℕ) : Type 0 where
-  pub goes : Goes from to had has nothing_held [] [] n new after rest
+pub record Begun (from to had has : Option (List ℕ)) (n : ℕ) (new : SessionContent) (after rest : List ℕ) : Type 0 where
+  pub first : SessionContent
+  pub stands : StandsFor first at_start
+  pub goes : Goes from to had has first [] [] n new after rest
 
-pub begun : (from to had has : Option (List ℕ)) (old new : Holding) (before after rest : List ℕ) (n : ℕ) → old ≡ nothing_held → before ≡ [] → Goes from to had has old before [] n new after rest → Begun from to had has n new after rest
-begun from to had has old new before after rest n none empty g =
-    record { goes = subst (λ (b : List ℕ). Goes from to had has nothing_held b [] n new after rest) empty (subst (λ (h : Holding). Goes from to had has h before [] n new after rest) none g) }
+pub begun : (from to had has : Option (List ℕ)) (old new : SessionContent) (before after rest : List ℕ) (n : ℕ) → StandsFor old at_start → before ≡ [] → Goes from to had has old before [] n new after rest → Begun from to had has n new after rest
+begun from to had has old new before after rest n stands empty g =
+    record { first = old; stands = stands; goes = subst (λ (b : List ℕ). Goes from to had has old b [] n new after rest) empty g }
 
-stopped_at : (from to had mid has : Option (List ℕ)) (n : ℕ) (new : Holding) (after rest : List ℕ) (b : Begun from to had mid n new after rest) → Appends mid has after → Stopped from to had has b.goes.answers.lines rest
+stopped_at : (from to had mid has : Option (List ℕ)) (n : ℕ) (new : SessionContent) (after rest : List ℕ) (b : Begun from to had mid n new after rest) → Appends mid has after → Stopped from to had has b.goes.answers.lines rest
 stopped_at from to had mid has n new after rest b sent =
     let a = b.goes.answers.answers in
+    let ran = a.answers at_start b.stands in
     record {
-      held = new;
+      state = ran.0;
       output = a.output;
       read = subst (Consumes from to) b.goes.answers.split b.goes.read;
       unbroken = b.goes.answers.unbroken;
-      answers = a.answers;
+      answers = ran.1;
       written = subst (Appends had has) (sym a.split) (Appends-trans had mid has a.sent after a.written sent);
     }
 
-unwritten_at : (from to had mid has : Option (List ℕ)) (n : ℕ) (new : Holding) (after rest sent left : List ℕ) (b : Begun from to had mid n new after rest) → after ≡ sent ++ left → Appends mid has sent → Unwritten from to had has
+unwritten_at : (from to had mid has : Option (List ℕ)) (n : ℕ) (new : SessionContent) (after rest sent left : List ℕ) (b : Begun from to had mid n new after rest) → after ≡ sent ++ left → Appends mid has sent → Unwritten from to had has
 unwritten_at from to had mid has n new after rest sent left b split written =
     let a = b.goes.answers.answers in
     let lines : List (List ℕ) = b.goes.answers.lines in
+    let ran = a.answers at_start b.stands in
     record {
       input = joined lines;
       rest = rest;
       lines = lines;
-      held = new;
+      state = ran.0;
       output = a.output;
       sent = a.sent ++ sent;
       left = left;
       read = subst (Consumes from to) b.goes.answers.split b.goes.read;
       lines_are = record { front = lines; last = []; text = sym (append-nil (joined lines)); unbroken = b.goes.answers.unbroken; unbroken_last = All-nil (λ (x : ℕ). x ≢ 10); all = sym (append-nil lines) };
-      answers = a.answers;
+      answers = ran.1;
       split = a.split ∙ ap (λ t. a.sent ++ t) split ∙ sym (append_assoc a.sent sent left);
       written = Appends-trans had mid has a.sent sent a.written written;
     }
 
-pub unwritten_now : (from to had has : Option (List ℕ)) (n : ℕ) (new : Holding) (after rest : List ℕ) → Begun from to had has n new after rest → Unwritten from to had has
+pub unwritten_now : (from to had has : Option (List ℕ)) (n : ℕ) (new : SessionContent) (after rest : List ℕ) → Begun from to had has n new after rest → Unwritten from to had has
 unwritten_now from to had has n new after rest b = unwritten_at from to had has has n new after rest [] after b refl (Appends-nil has)
 
 -- the answers that wait are written, and the fault is given
-pub reported : (r : Result ℕ ReplayFault) (fault : ReplayFault) (from to had mid has : Option (List ℕ)) (n : ℕ) (new : Holding) (after rest text : List ℕ) → Begun from to had mid n new after rest → text ≡ after → Reported r fault mid has text
+pub reported : (r : Result ℕ ReplayFault) (fault : ReplayFault) (from to had mid has : Option (List ℕ)) (n : ℕ) (new : SessionContent) (after rest text : List ℕ) → Begun from to had mid n new after rest → text ≡ after → Reported r fault mid has text
     → ((lines : List (List ℕ)) → length lines ≡ n → Stopped from to had has lines rest → StopsWith fault from to had has) → IfErr r (λ f. StopsWith f from to had has)
 reported (Ok count) fault from to had mid has n new after rest text b same h good = absurd h
 reported (Err given) fault from to had mid has n new after rest text b same h good =
@@ -121,50 +115,55 @@ reported (Err given) fault from to had mid has n new after rest text b same h go
     ]
 
 -- all lines of the input, the last of which may have no newline
-all_lines : (from to had has : Option (List ℕ)) (n : ℕ) (new : Holding) (after last : List ℕ) (b : Begun from to had has n new after last) → IsUnbroken last → HasLines b.goes.bytes (b.goes.answers.lines ++ unended last)
+all_lines : (from to had has : Option (List ℕ)) (n : ℕ) (new : SessionContent) (after last : List ℕ) (b : Begun from to had has n new after last) → IsUnbroken last → HasLines b.goes.bytes (b.goes.answers.lines ++ unended last)
 all_lines from to had has n new after last b unbroken = record { front = b.goes.answers.lines; last = last; text = b.goes.answers.split; unbroken = b.goes.answers.unbroken; unbroken_last = unbroken; all = refl }
 
-pub finished_well : (r : Result ℕ ReplayFault) (from to had mid has : Option (List ℕ)) (n : ℕ) (new : Holding) (after last : List ℕ) → Begun from to had mid n new after last → IsUnbroken last → IsAtEnd to → Finishes r n mid has new after last
+pub finished_well : (r : Result ℕ ReplayFault) (from to had mid has : Option (List ℕ)) (n : ℕ) (new : SessionContent) (after last : List ℕ) → Begun from to had mid n new after last → IsUnbroken last → IsAtEnd to → Finishes r n mid has new after last
     → IfOk r (λ count. (lines : List (List ℕ)) × Replays from to had has lines × (length lines ≡ count))
 finished_well (Err fault) from to had mid has n new after last b unbroken end f = tt
 finished_well (Ok count) from to had mid has n new after last b unbroken end f =
     let lines : List (List ℕ) = b.goes.answers.lines in
-    let a : Answers had has nothing_held [] (lines ++ unended last) f.0 [] = answers_then had mid has nothing_held new f.0 [] after [] lines (unended last) b.goes.answers.answers f.1 in (
+    let a : Answers had has b.first [] (lines ++ unended last) f.0 [] = answers_then had mid has b.first new f.0 [] after [] lines (unended last) b.goes.answers.answers f.1 in
+    let ran = a.answers at_start b.stands in (
       lines ++ unended last,
       record {
         input = b.goes.bytes;
         output = a.output;
-        held = f.0;
+        state = ran.0;
         read = b.goes.read;
         end = end;
         split = all_lines from to had mid n new after last b unbroken;
-        answers = a.answers;
+        answers = ran.1;
         written = subst (Appends had has) (sym (a.split ∙ append-nil a.sent)) a.written;
       },
       length-append lines (unended last) ∙ omega (arith, b.goes.answers.counted, f.2),
     )
 
 -- what waited was written, and no line was answered
-sent_whole : (mid has : Option (List ℕ)) (new : Holding) (after : List ℕ) → Answers mid has new after [] new [] → Appends mid has after
-sent_whole mid has new after a = subst (Appends mid has) (sym (append-nil a.sent) ∙ sym a.split ∙ ap (λ t. after ++ t) a.answers.0 ∙ append-nil after) a.written
+sent_whole : (from to had mid has : Option (List ℕ)) (n : ℕ) (new : SessionContent) (after rest : List ℕ) → Begun from to had mid n new after rest → Answers mid has new after [] new [] → Appends mid has after
+sent_whole from to had mid has n new after rest b a =
+    let ran = b.goes.answers.answers.answers at_start b.stands in
+    let none = (a.answers ran.0 ran.2).1.0 in
+    subst (Appends mid has) (sym (append-nil a.sent) ∙ sym a.split ∙ ap (λ t. after ++ t) none ∙ append-nil after) a.written
 
 -- the last answers weren't written
-unwritten_last : (from to had mid has : Option (List ℕ)) (n : ℕ) (new held : Holding) (after last left : List ℕ) (done : List (List ℕ)) (b : Begun from to had mid n new after last) → IsUnbroken last → Answers mid has new after done held left → (done ≡ []) ⊎ (done ≡ unended last) → Unwritten from to had has
+unwritten_last : (from to had mid has : Option (List ℕ)) (n : ℕ) (new held : SessionContent) (after last left : List ℕ) (done : List (List ℕ)) (b : Begun from to had mid n new after last) → IsUnbroken last → Answers mid has new after done held left → (done ≡ []) ⊎ (done ≡ unended last) → Unwritten from to had has
 unwritten_last from to had mid has n new held after last left done b unbroken f whole =
     let lines : List (List ℕ) = b.goes.answers.lines in
-    let a : Answers had has nothing_held [] (lines ++ done) held left = answers_then had mid has nothing_held new held [] after left lines done b.goes.answers.answers f in
+    let a : Answers had has b.first [] (lines ++ done) held left = answers_then had mid has b.first new held [] after left lines done b.goes.answers.answers f in
+    let ran = a.answers at_start b.stands in
     elim whole [
       | inl none ↦ record {
         input = joined lines;
         rest = last;
         lines = lines ++ done;
-        held = held;
+        state = ran.0;
         output = a.output;
         sent = a.sent;
         left = left;
         read = subst (Consumes from to) b.goes.answers.split b.goes.read;
         lines_are = record { front = lines; last = []; text = sym (append-nil (joined lines)); unbroken = b.goes.answers.unbroken; unbroken_last = All-nil (λ (x : ℕ). x ≢ 10); all = ap (λ (d : List (List ℕ)). lines ++ d) none };
-        answers = a.answers;
+        answers = ran.1;
         split = a.split;
         written = a.written;
       }
@@ -172,38 +171,38 @@ unwritten_last from to had mid has n new held after last left done b unbroken f 
         input = b.goes.bytes;
         rest = [];
         lines = lines ++ done;
-        held = held;
+        state = ran.0;
         output = a.output;
         sent = a.sent;
         left = left;
         read = subst (Consumes from to) (sym (append-nil b.goes.bytes)) b.goes.read;
         lines_are = subst (λ (d : List (List ℕ)). HasLines b.goes.bytes (lines ++ d)) (sym one) (all_lines from to had mid n new after last b unbroken);
-        answers = a.answers;
+        answers = ran.1;
         split = a.split;
         written = a.written;
       }
     ]
 
-finished_badly : (fault : ReplayFault) (from to had mid has : Option (List ℕ)) (n : ℕ) (new : Holding) (after last : List ℕ) → Begun from to had mid n new after last → IsUnbroken last → IsAtEnd to → Finishes (Err fault) n mid has new after last → StopsWith fault from to had has
+finished_badly : (fault : ReplayFault) (from to had mid has : Option (List ℕ)) (n : ℕ) (new : SessionContent) (after last : List ℕ) → Begun from to had mid n new after last → IsUnbroken last → IsAtEnd to → Finishes (Err fault) n mid has new after last → StopsWith fault from to had has
 finished_badly (BadLine number place) from to had mid has n new after last b unbroken end f = (
   b.goes.answers.lines,
   last,
-  stopped_at from to had mid has n new after last b (sent_whole mid has new after f.0),
+  stopped_at from to had mid has n new after last b (sent_whole from to had mid has n new after last b f.0),
   record { line = last; more = []; split = sym (append-nil last); unbroken = unbroken; bad = f.1; ends = inr (inl (refl, end)) },
   f.2 ∙ ap (λ (k : ℕ). k + 1) (sym b.goes.answers.counted),
 )
 finished_badly ReadFault from to had mid has n new after last b unbroken end f = absurd f
 finished_badly WriteFault from to had mid has n new after last b unbroken end f = unwritten_last from to had mid has n new f.1 after last f.2 f.0 b unbroken f.3 f.4
-finished_badly NoRoom from to had mid has n new after last b unbroken end f = (b.goes.answers.lines, last, stopped_at from to had mid has n new after last b (sent_whole mid has new after f))
+finished_badly NoRoom from to had mid has n new after last b unbroken end f = (b.goes.answers.lines, last, stopped_at from to had mid has n new after last b (sent_whole from to had mid has n new after last b f))
 
-pub finished_ill : (r : Result ℕ ReplayFault) (from to had mid has : Option (List ℕ)) (n : ℕ) (new : Holding) (after last : List ℕ) → Begun from to had mid n new after last → IsUnbroken last → IsAtEnd to → Finishes r n mid has new after last
+pub finished_ill : (r : Result ℕ ReplayFault) (from to had mid has : Option (List ℕ)) (n : ℕ) (new : SessionContent) (after last : List ℕ) → Begun from to had mid n new after last → IsUnbroken last → IsAtEnd to → Finishes r n mid has new after last
     → IfErr r (λ f. StopsWith f from to had has)
 finished_ill (Ok count) from to had mid has n new after last b unbroken end f = tt
 finished_ill (Err fault) from to had mid has n new after last b unbroken end f = finished_badly fault from to had mid has n new after last b unbroken end f
 
-pub begun_end : (from to had mid : Option (List ℕ)) (n : ℕ) (new held : Holding) (after rest output pending : List ℕ) → Begun from to had mid n new after rest → Leaves (Some stops.AtEnd) to held output pending new after rest → Begun from to had mid n held output pending × IsUnbroken pending × IsAtEnd to
+pub begun_end : (from to had mid : Option (List ℕ)) (n : ℕ) (new held : SessionContent) (after rest output pending : List ℕ) → Begun from to had mid n new after rest → Leaves (Some stops.AtEnd) to held output pending new after rest → Begun from to had mid n held output pending × IsUnbroken pending × IsAtEnd to
 begun_end from to had mid n new held after rest output pending b l = (
-  subst (λ (p : List ℕ). Begun from to had mid n held output p) l.2 (subst (λ (o : List ℕ). Begun from to had mid n held o rest) l.1 (subst (λ (h : Holding). Begun from to had mid n h after rest) l.0 b)),
+  subst (λ (p : List ℕ). Begun from to had mid n held output p) l.2 (subst (λ (o : List ℕ). Begun from to had mid n held o rest) l.1 (subst (λ (h : SessionContent). Begun from to had mid n h after rest) l.0 b)),
   subst IsUnbroken l.2 l.3,
   l.4,
 )

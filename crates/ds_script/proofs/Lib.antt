@@ -1,7 +1,10 @@
 pub mod NewlineLemmas
 pub mod PickLemmas
+pub mod PieceLemmas
+pub mod LineLemmas
+pub mod OfferLemmas
 pub mod CommandLemmas
 pub mod ResultLemmas
-pub mod HeldLemmas
 pub mod RunLemmas
+pub mod SessionLemmas
 pub mod EndLemmas

@@ -3,7 +3,6 @@
 use Rattle.std.specs.Prelude.{◌≡◌, ℕ, ◌<◌, ◌+◌, ◌⊎◌, List, [], ◌∷◌, ◌++◌, length, Option, Some, None, Result, Ok, Err}
 use Rattle.std.specs.List.{All}
 use Rattle.std.specs.Io.KnownBytes.{Appends, Consumes, IsAtEnd}
-use Rattle.ds_join.specs.Held.{Holding, nothing_held}
 use Rattle.ds_line.specs.declared.fault.LineFault.{LineFault}
 use Rattle.ds_line.specs.declared.fault.LineFault.TheVariants as lines
 use Rattle.ds_script.specs.declared.fault.ReplayFault.{ReplayFault}
@@ -11,6 +10,7 @@ use Rattle.ds_script.specs.declared.fault.ReplayFault.TheVariants.{BadLine, Read
 use Rattle.ds_script.specs.declared.turn.Answered.{Answered}
 use Rattle.ds_script.specs.declared.turn.Stop.{Stop}
 use Rattle.ds_script.specs.declared.turn.Stop.TheVariants as stops
+use Rattle.ds_script.specs.Session.{ScriptState, at_start, SessionContent, Leads}
 use Rattle.ds_script.specs.Lines.{IsUnbroken, ended, joined, unended, HasLines}
 use Rattle.ds_script.specs.Command.{IsBadLine}
 use Rattle.ds_script.specs.Answer.{AnswersLines}
@@ -19,20 +19,20 @@ use Rattle.ds_script.specs.Answer.{AnswersLines}
 pub record Replays (from to had has : Option (List ℕ)) (lines : List (List ℕ)) : Type 0 where
   pub input : List ℕ
   pub output : List ℕ
-  pub held : Holding
+  pub state : ScriptState
   pub read : Consumes from to input
   pub end : IsAtEnd to
   pub split : HasLines input lines
-  pub answers : AnswersLines nothing_held lines output held
+  pub answers : AnswersLines at_start lines output state
   pub written : Appends had has output
 
 -- The lines were read and answered, and behind them the rest was read.
 pub record Stopped (from to had has : Option (List ℕ)) (lines : List (List ℕ)) (rest : List ℕ) : Type 0 where
-  pub held : Holding
+  pub state : ScriptState
   pub output : List ℕ
   pub read : Consumes from to (joined lines ++ rest)
   pub unbroken : All IsUnbroken lines
-  pub answers : AnswersLines nothing_held lines output held
+  pub answers : AnswersLines at_start lines output state
   pub written : Appends had has output
 
 -- The answers to all lines of the input were made, but the last of them, `left`, weren't written.
@@ -40,13 +40,13 @@ pub record Unwritten (from to had has : Option (List ℕ)) : Type 0 where
   pub input : List ℕ
   pub rest : List ℕ
   pub lines : List (List ℕ)
-  pub held : Holding
+  pub state : ScriptState
   pub output : List ℕ
   pub sent : List ℕ
   pub left : List ℕ
   pub read : Consumes from to (input ++ rest)
   pub lines_are : HasLines input lines
-  pub answers : AnswersLines nothing_held lines output held
+  pub answers : AnswersLines at_start lines output state
   pub split : output ≡ sent ++ left
   pub written : Appends had has sent
 
@@ -70,15 +70,15 @@ StopsWith NoRoom from to had has = (lines : List (List ℕ)) × (rest : List ℕ
 -- ---- within a replay
 
 -- The lines were answered: some of the answers were written, behind those that waited before, and `after` waits.
-pub record Answers (had has : Option (List ℕ)) (old : Holding) (before : List ℕ) (lines : List (List ℕ)) (new : Holding) (after : List ℕ) : Type 0 where
+pub record Answers (had has : Option (List ℕ)) (old : SessionContent) (before : List ℕ) (lines : List (List ℕ)) (new : SessionContent) (after : List ℕ) : Type 0 where
   pub output : List ℕ
   pub sent : List ℕ
-  pub answers : AnswersLines old lines output new
+  pub answers : Leads (λ s t. AnswersLines s lines output t) old new
   pub split : before ++ output ≡ sent ++ after
   pub written : Appends had has sent
 
 -- So many lines of a text were answered. Behind them the rest stands.
-pub record AnswersText (had has : Option (List ℕ)) (old : Holding) (before text : List ℕ) (count : ℕ) (new : Holding) (after rest : List ℕ) : Type 0 where
+pub record AnswersText (had has : Option (List ℕ)) (old : SessionContent) (before text : List ℕ) (count : ℕ) (new : SessionContent) (after rest : List ℕ) : Type 0 where
   pub lines : List (List ℕ)
   pub split : text ≡ joined lines ++ rest
   pub unbroken : All IsUnbroken lines
@@ -86,7 +86,7 @@ pub record AnswersText (had has : Option (List ℕ)) (old : Holding) (before tex
   pub answers : Answers had has old before lines new after
 
 -- More was read behind what was pending, and so many lines of it were answered. Behind them the rest stands.
-pub record Goes (from to had has : Option (List ℕ)) (old : Holding) (before pending : List ℕ) (count : ℕ) (new : Holding) (after rest : List ℕ) : Type 0 where
+pub record Goes (from to had has : Option (List ℕ)) (old : SessionContent) (before pending : List ℕ) (count : ℕ) (new : SessionContent) (after rest : List ℕ) : Type 0 where
   pub bytes : List ℕ
   pub read : Consumes from to bytes
   pub answers : AnswersText had has old before (pending ++ bytes) count new after rest
@@ -105,20 +105,20 @@ LineStops stops.ReadFault line output after = ⊥
 LineStops stops.WriteFault line output after = Unit {0}
 LineStops stops.NoRoom line output after = after ≡ output
 
--- What is so when no more is read, or all lines so far are answered: by `held`, the buffer `output` of answers and
--- the bytes `pending`, where `new` was held after the last answered line, `after` wasn't written, and `rest` wasn't
+-- What is so when no more is read, or all lines so far are answered: by `session`, the buffer `output` of answers and
+-- the bytes `pending`, where `new` stood after the last answered line, `after` wasn't written, and `rest` wasn't
 -- answered.
-abbrev pub Leaves : Option Stop → Option (List ℕ) → (held : Holding) → (output pending : List ℕ) → (new : Holding) → (after rest : List ℕ) → Type 0
-Leaves None to held output pending new after rest = (new ≡ held) × (after ≡ output) × (rest ≡ pending) × IsUnbroken rest
-Leaves (Some stops.AtEnd) to held output pending new after rest = (new ≡ held) × (after ≡ output) × (rest ≡ pending) × IsUnbroken rest × IsAtEnd to
-Leaves (Some (stops.BadLine place)) to held output pending new after rest = (after ≡ output) × BeginsBadLine to rest place
-Leaves (Some stops.ReadFault) to held output pending new after rest = (after ≡ output) × IsUnbroken rest
-Leaves (Some stops.WriteFault) to held output pending new after rest = Unit {0}
-Leaves (Some stops.NoRoom) to held output pending new after rest = after ≡ output
+abbrev pub Leaves : Option Stop → Option (List ℕ) → (session : SessionContent) → (output pending : List ℕ) → (new : SessionContent) → (after rest : List ℕ) → Type 0
+Leaves None to session output pending new after rest = (new ≡ session) × (after ≡ output) × (rest ≡ pending) × IsUnbroken rest
+Leaves (Some stops.AtEnd) to session output pending new after rest = (new ≡ session) × (after ≡ output) × (rest ≡ pending) × IsUnbroken rest × IsAtEnd to
+Leaves (Some (stops.BadLine place)) to session output pending new after rest = (after ≡ output) × BeginsBadLine to rest place
+Leaves (Some stops.ReadFault) to session output pending new after rest = (after ≡ output) × IsUnbroken rest
+Leaves (Some stops.WriteFault) to session output pending new after rest = Unit {0}
+Leaves (Some stops.NoRoom) to session output pending new after rest = after ≡ output
 
 -- what one turn does
-abbrev pub Turns : Answered → (from to had has : Option (List ℕ)) → Holding → (before pending : List ℕ) → Holding → (output waiting : List ℕ) → Type 0
-Turns answered from to had has old before pending held output waiting = (new : Holding) × (after rest : List ℕ) × Goes from to had has old before pending answered.lines new after rest × Leaves answered.stop to held output waiting new after rest
+abbrev pub Turns : Answered → (from to had has : Option (List ℕ)) → SessionContent → (before pending : List ℕ) → SessionContent → (output waiting : List ℕ) → Type 0
+Turns answered from to had has old before pending session output waiting = (new : SessionContent) × (after rest : List ℕ) × Goes from to had has old before pending answered.lines new after rest × Leaves answered.stop to session output waiting new after rest
 
 -- the text was written
 abbrev pub Written : Result ℕ ReplayFault → ℕ → Option (List ℕ) → Option (List ℕ) → List ℕ → Type 0
@@ -131,9 +131,9 @@ Reported (Ok count) fault had has text = ⊥
 Reported (Err given) fault had has text = ((given ≡ fault) × Appends had has text) ⊎ ((given ≡ WriteFault) × (sent left : List ℕ) × (text ≡ sent ++ left) × Appends had has sent)
 
 -- What becomes of the last line, `rest`, whose newline is missing.
-abbrev pub Finishes : Result ℕ ReplayFault → ℕ → Option (List ℕ) → Option (List ℕ) → Holding → List ℕ → List ℕ → Type 0
-Finishes (Ok count) lines had has old before rest = (new : Holding) × Answers had has old before (unended rest) new [] × (count ≡ lines + length (unended rest))
+abbrev pub Finishes : Result ℕ ReplayFault → ℕ → Option (List ℕ) → Option (List ℕ) → SessionContent → List ℕ → List ℕ → Type 0
+Finishes (Ok count) lines had has old before rest = (new : SessionContent) × Answers had has old before (unended rest) new [] × (count ≡ lines + length (unended rest))
 Finishes (Err (BadLine number place)) lines had has old before rest = Answers had has old before [] old [] × IsBadLine rest place × (number ≡ lines + 1)
 Finishes (Err ReadFault) lines had has old before rest = ⊥
-Finishes (Err WriteFault) lines had has old before rest = (done : List (List ℕ)) × (new : Holding) × (left : List ℕ) × Answers had has old before done new left × ((done ≡ []) ⊎ (done ≡ unended rest))
+Finishes (Err WriteFault) lines had has old before rest = (done : List (List ℕ)) × (new : SessionContent) × (left : List ℕ) × Answers had has old before done new left × ((done ≡ []) ⊎ (done ≡ unended rest))
 Finishes (Err NoRoom) lines had has old before rest = Answers had has old before [] old []

@@ -1,20 +1,31 @@
 //! Scripts: commands on lines, answered line by line.
 //!
 //! A script drives a data store with one command a line: `offer CHANGE` merges a change, as a replica that is
-//! told of it would, `show` prints the entries that stand, and `all` prints tombstones too. The commands and
+//! told of it would; `publish`, `delete`, `sweep`, `retrieve` and `nameof` ask for what a process or RS asks of
+//! MINIX 3's data store; `show` prints the entries that stand, and `all` prints tombstones too. The lines and
 //! their answers are of this project.
 #![tactic(auto)]
 
+mod answer;
+mod asking;
 mod command;
 mod fault;
 mod faulty;
+mod lines;
+mod pieces;
+mod reading;
 mod reply;
+mod session;
+mod shown;
 mod split;
 mod stream;
 mod transfer;
 mod turn;
+mod word;
 
 pub use command::ScriptCommand;
 pub use fault::ReplayFault;
 pub use faulty::{FailRead, FailWrite};
+pub use reading::read_command;
+pub use reply::write_reply;
 pub use stream::replay;

@@ -1,209 +1,166 @@
-//! The answers to commands.
+//! Printing what a store replies.
 
-ghost use Rattle.std.specs.Prelude.{◌≡◌, ◌≤◌, ◌<◌, ◌+◌, ◌⊎◌, ◌++◌, [], ◌∷◌, List, ℕ, IfOk, OnOk, OnErr, Err, Contains, Some, codes, slice_get, length, vec_len};
-ghost use Rattle.std.specs.List.{flat_map};
-ghost use Rattle.ds_entry.specs.Change.{ChangeRecord};
-ghost use Rattle.ds_line.specs.Spelling.{HasLine, spelling};
-ghost use Rattle.ds_join.specs.Held.{held_changes};
-ghost use Rattle.ds_join.specs.Top.{is_put as leaves_value};
+ghost use Rattle.std.specs.Prelude.{◌≡◌, ◌++◌, codes, IfOk, OnOk, OnErr};
 ghost use Rattle.ds_script.specs.Lines.{ended};
-ghost use Rattle.ds_script.specs.Command.{IsWritten};
-ghost use Rattle.ds_script.specs.Answer.{merge_text, picked, shown, refused_noroom, AnswersCommand, IsRefused, AllHaveLines};
+ghost use Rattle.ds_script.specs.Reply.{refusal_word, clashing, refused, offered, reply_words, owed_by, owed_line, reply_text};
+ghost use Rattle.ds_script.specs.Answer.{refused_noroom};
 
 use crate::command::ScriptCommand;
-use ds_entry::{Body, Change, Items};
-use ds_join::{Held, JoinFault, Merge};
-use ds_line::append_change;
+use ds_line::{append_all, append_value};
 use ds_names::{NoRoom, Version};
+use ds_store::{Refusal, Reply};
+use itoa::Buffer;
 use std::alloc::Global;
 
-/// Carries a command out, and puts its answer behind those that wait.
+#[cfg(test)]
+mod tests;
+
+/// Writes the lines that answer a command to which a store gave the reply.
 ///
-/// A command that there is no memory for is refused by name, and changes nothing. `Err` says that there was
-/// no room for the answer itself, and none of it stands then.
-pub(crate) fn answer_command(
+/// They depend on the reply alone: a change that took effect is `taken`, and so is an offer, which is a Merge of
+/// one item. Where notices are owed, a second line gives the mask of their subscriptions. The lines are of this
+/// project.
+pub fn write_reply(
     alloc: Global,
-    held: &mut Held,
-    output: &mut Vec<u8>,
-    command: ScriptCommand,
-) -> Result<(), NoRoom>
-    requires held { AllHaveLines held.old }
-    requires command { IsWritten command }
-    ensures answered { OnOk result ((out : List ℕ) × (output.new.items ≡ output.old.items ++ out) × (IsRefused held.old out held.new ⊎ AnswersCommand command held.old out held.new)) }
-    ensures unanswered { OnErr result (output.new.items ≡ output.old.items) }
-    ensures lines { AllHaveLines held.new }
+    _command: &ScriptCommand,
+    reply: &Reply,
+) -> Result<Vec<u8>, NoRoom>
+    ensures { IfOk result (λ text. text.items ≡ reply_text reply.now) }
 {
-    match command {
-        ScriptCommand::Offer(change) => {
-            let answer = held.merge(change);
-            append_merge(alloc, output, answer)
+    let mut text = Vec::new(alloc);
+    append_reply(&mut text, reply)?;
+    Ok(text)
+}
+
+/// Appends the lines of a reply. Where there is no room for all of them, the buffer is as it was.
+pub(crate) fn append_reply(buffer: &mut Vec<u8>, reply: &Reply) -> Result<(), NoRoom>
+    ensures written { OnOk result (buffer.new.items ≡ buffer.old.items ++ reply_text reply.now) }
+    ensures unchanged { OnErr result (buffer.new.items ≡ buffer.old.items) }
+{
+    let start = buffer.len();
+    append_words(buffer, reply)?;
+    let written = append_owed(buffer, owed_by(reply));
+    if written.is_err() {
+        buffer.truncate(start);
+    }
+    written
+}
+
+/// Appends the refusal of a line for want of memory, or nothing.
+pub(crate) fn append_noroom(buffer: &mut Vec<u8>) -> Result<(), NoRoom>
+    ensures written { OnOk result (buffer.new.items ≡ buffer.old.items ++ refused_noroom) }
+    ensures unchanged { OnErr result (buffer.new.items ≡ buffer.old.items) }
+{
+    append_all(buffer, &[b"refused noroom\n"])
+}
+
+// Appends the first line of a reply, or nothing.
+fn append_words(buffer: &mut Vec<u8>, reply: &Reply) -> Result<(), NoRoom>
+    ensures written { OnOk result (buffer.new.items ≡ buffer.old.items ++ ended (reply_words reply.now)) }
+    ensures unchanged { OnErr result (buffer.new.items ≡ buffer.old.items) }
+{
+    match reply {
+        Reply::Changed { .. } => append_all(buffer, &[b"taken\n"]),
+        Reply::Known => append_all(buffer, &[b"known\n"]),
+        Reply::Swept { count, .. } => {
+            let mut digits = Buffer::new();
+            let count = digits.format(*count).as_bytes();
+            append_all(buffer, &[b"swept ", count, b"\n"])
         }
-        ScriptCommand::Show => append_shown(alloc, held, output, false),
-        ScriptCommand::All => append_shown(alloc, held, output, true),
-    }
-}
-
-/// Refuses a command for want of memory.
-pub(crate) fn refuse(output: &mut Vec<u8>) -> Result<(), NoRoom>
-    ensures refused { OnOk result (output.new.items ≡ output.old.items ++ refused_noroom) }
-    ensures unanswered { OnErr result (output.new.items ≡ output.old.items) }
-{
-    append(output, b"refused noroom\n")
-}
-
-// Puts a text behind what a buffer has, all of it or nothing.
-fn append(output: &mut Vec<u8>, text: &[u8]) -> Result<(), NoRoom>
-    ensures written { OnOk result (output.new.items ≡ output.old.items ++ text.now) }
-    ensures unwritten { OnErr result (output.new.items ≡ output.old.items) }
-{
-    match output.extend_from_slice(text) {
-        Ok(()) => Ok(()),
-        Err(_) => Err(NoRoom),
-    }
-}
-
-// The answer to an offer.
-fn append_merge(
-    alloc: Global,
-    output: &mut Vec<u8>,
-    answer: Result<Merge, JoinFault>,
-) -> Result<(), NoRoom>
-    ensures written { OnOk result (output.new.items ≡ output.old.items ++ ended (merge_text answer)) }
-    ensures unwritten { OnErr result (output.new.items ≡ output.old.items) }
-{
-    match answer {
-        Ok(Merge::Taken) => append(output, b"taken\n"),
-        Ok(Merge::Known) => append(output, b"known\n"),
-        Ok(Merge::Stale) => append(output, b"stale\n"),
-        Err(JoinFault::NotOwner) => append(output, b"refused notowner\n"),
-        Err(JoinFault::Clash { version }) => append_clash(alloc, output, version),
-        Err(JoinFault::Full) => append(output, b"refused full\n"),
-        Err(JoinFault::NoRoom) => refuse(output),
-    }
-}
-
-// The answer to an offer of another body at the version that is held.
-fn append_clash(alloc: Global, output: &mut Vec<u8>, version: Version) -> Result<(), NoRoom>
-    ensures written { OnOk result (output.new.items ≡ output.old.items ++ ended (merge_text (Err (JoinFault.Clash version)))) }
-    ensures unwritten { OnErr result (output.new.items ≡ output.old.items) }
-{
-    let epoch = version.epoch.number();
-    let seq = version.seq;
-    match format!(in alloc; "refused clash {epoch}.{seq}\n") {
-        Ok(text) => append(output, text.as_bytes()),
-        Err(_) => Err(NoRoom),
-    }
-}
-
-// The answer to `show` and `all`, or the refusal for want of memory.
-//
-// It takes what is held in the order of the keys as one list: going from key to key instead would search
-// all keys for each.
-fn append_shown(
-    alloc: Global,
-    held: &Held,
-    output: &mut Vec<u8>,
-    tombstones: bool,
-) -> Result<(), NoRoom>
-    requires { AllHaveLines held.now }
-    ensures answered { OnOk result ((output.new.items ≡ output.old.items ++ refused_noroom) ⊎ (output.new.items ≡ output.old.items ++ shown (picked tombstones (held_changes held.now)))) }
-    ensures unanswered { OnErr result (output.new.items ≡ output.old.items) }
-{
-    match held.all(alloc) {
-        Ok(items) => match append_items(alloc, &items, output, tombstones) {
-            Ok(()) => Ok(()),
-            Err(NoRoom) => refuse(output),
-        },
-        Err(NoRoom) => refuse(output),
-    }
-}
-
-// The lines of the items that are picked, `shown` and their number, or nothing where there is no room for all.
-fn append_items(
-    alloc: Global,
-    items: &Items,
-    output: &mut Vec<u8>,
-    tombstones: bool,
-) -> Result<(), NoRoom>
-    requires { (c : ChangeRecord) → Contains items.now c → HasLine c }
-    ensures written { OnOk result (output.new.items ≡ output.old.items ++ shown (picked tombstones items.now)) }
-    ensures unwritten { OnErr result (output.new.items ≡ output.old.items) }
-{
-    let start = output.len();
-    match append_lines(alloc, items, output, tombstones) {
-        Ok(()) => Ok(()),
-        Err(NoRoom) => {
-            output.truncate(start);
-            Err(NoRoom)
+        Reply::Found(value) => append_value(buffer, b"found ", value, b"\n"),
+        Reply::Named(name) => append_all(buffer, &[b"named ", name.bytes(), b"\n"]),
+        Reply::Merged { taken, stale, .. } => {
+            append_all(buffer, &[offered(*taken, *stale), b"\n"])
         }
+        Reply::MergeStopped { fault, .. } => append_refused(buffer, *fault),
+        Reply::Refused(fault) => append_refused(buffer, *fault),
     }
 }
 
-// The same, but some of it may stand where there is no room for all.
-fn append_lines(
-    alloc: Global,
-    items: &Items,
-    output: &mut Vec<u8>,
-    tombstones: bool,
-) -> Result<(), NoRoom>
-    requires { (c : ChangeRecord) → Contains items.now c → HasLine c }
-    ensures written { OnOk result (output.new.items ≡ output.old.items ++ shown (picked tombstones items.now)) }
-    ensures some { OnErr result ((part : List ℕ) × (output.new.items ≡ output.old.items ++ part)) }
+// What became of an offer, by how many items of its Merge took effect and how many were stale.
+fn offered(taken: usize, stale: usize) -> &'static [u8]
+    ensures { result.now ≡ offered taken stale }
 {
-    let mut count = 0usize;
-    for index in 0..items.len() {
-        match append_item(items, index, output, tombstones) {
-            Ok(lines) => count += lines,
-            Err(NoRoom) => return Err(NoRoom),
-        }
-    }
-    match format!(in alloc; "shown {count}\n") {
-        Ok(text) => append(output, text.as_bytes()),
-        Err(_) => Err(NoRoom),
-    }
-}
-
-// The line of the change at an index, if it is picked, and how many lines that is.
-fn append_item(
-    items: &Items,
-    index: usize,
-    output: &mut Vec<u8>,
-    tombstones: bool,
-) -> Result<usize, NoRoom>
-    requires lines { (c : ChangeRecord) → Contains items.now c → HasLine c }
-    requires within { index < length items.now }
-    ensures item { IfOk result (λ count. (c : ChangeRecord) × (slice_get items.now index ≡ Some c) × (count ≡ length (picked tombstones (c ∷ []))) × (output.new.items ≡ output.old.items ++ flat_map spelling (picked tombstones (c ∷ [])))) }
-    ensures unwritten { OnErr result (output.new.items ≡ output.old.items) }
-{
-    match items.get(index) {
-        Some(change) => append_picked(change, output, tombstones),
-        None => Ok(0),
-    }
-}
-
-// The line of a change, if it is picked, and how many lines that is.
-fn append_picked(change: &Change, output: &mut Vec<u8>, tombstones: bool) -> Result<usize, NoRoom>
-    requires { HasLine change.now }
-    ensures count { IfOk result (λ count. count ≡ length (picked tombstones (change.now ∷ []))) }
-    ensures written { OnOk result (output.new.items ≡ output.old.items ++ flat_map spelling (picked tombstones (change.now ∷ []))) }
-    ensures unwritten { OnErr result (output.new.items ≡ output.old.items) }
-{
-    if tombstones || is_put(change) {
-        match append_change(output, change) {
-            Ok(()) => Ok(1),
-            Err(NoRoom) => Err(NoRoom),
-        }
+    if taken != 0 {
+        b"taken"
+    } else if stale != 0 {
+        b"stale"
     } else {
-        Ok(0)
+        b"known"
     }
 }
 
-// Whether a change leaves a value.
-fn is_put(change: &Change) -> bool
-    ensures { result ≡ leaves_value change.now }
+// Appends the line of a refusal, or nothing.
+fn append_refused(buffer: &mut Vec<u8>, refusal: Refusal) -> Result<(), NoRoom>
+    ensures written { OnOk result (buffer.new.items ≡ buffer.old.items ++ ended (refused refusal)) }
+    ensures unchanged { OnErr result (buffer.new.items ≡ buffer.old.items) }
 {
-    match change.body() {
-        Body::Put(_) => true,
-        Body::Gone => false,
+    match refusal {
+        Refusal::Clash { version } => append_clash(buffer, version),
+        _ => append_all(buffer, &[b"refused ", refusal_word(refusal), b"\n"]),
+    }
+}
+
+// Appends the line of a clash at a version, or nothing.
+fn append_clash(buffer: &mut Vec<u8>, version: Version) -> Result<(), NoRoom>
+    ensures written { OnOk result (buffer.new.items ≡ buffer.old.items ++ ended (refused (Refusal.Clash version))) }
+    ensures unchanged { OnErr result (buffer.new.items ≡ buffer.old.items) }
+{
+    let mut epoch_digits = Buffer::new();
+    let epoch = epoch_digits.format(version.epoch.number()).as_bytes();
+    let mut seq_digits = Buffer::new();
+    let seq = seq_digits.format(version.seq).as_bytes();
+    append_all(buffer, &[b"refused clash ", epoch, b".", seq, b"\n"])
+}
+
+// The word of a refusal.
+fn refusal_word(refusal: Refusal) -> &'static [u8]
+    ensures { result.now ≡ refusal_word refusal }
+{
+    match refusal {
+        Refusal::TooMany => b"toomany",
+        Refusal::BadKind => b"badkind",
+        Refusal::BadLabel => b"badlabel",
+        Refusal::BadVersion => b"badversion",
+        Refusal::NoCaller => b"nocaller",
+        Refusal::NotAllowed => b"notallowed",
+        Refusal::NotOwner => b"notowner",
+        Refusal::Clash { .. } => b"clash",
+        Refusal::Stale => b"stale",
+        Refusal::Exists => b"exists",
+        Refusal::NotFound => b"notfound",
+        Refusal::Full => b"full",
+        Refusal::Worn => b"worn",
+        Refusal::NoRoom => b"noroom",
+        Refusal::BadRing => b"badring",
+        Refusal::BadFirst => b"badfirst",
+    }
+}
+
+// The mask of the subscriptions to which a notice is owed.
+fn owed_by(reply: &Reply) -> u64
+    ensures { result ≡ owed_by reply.now }
+{
+    match reply {
+        Reply::Changed { owed } => *owed,
+        Reply::Swept { owed, .. } => *owed,
+        Reply::Merged { owed, .. } => *owed,
+        Reply::MergeStopped { owed, .. } => *owed,
+        Reply::Known | Reply::Found(_) | Reply::Named(_) | Reply::Refused(_) => 0,
+    }
+}
+
+// Appends the line of what is owed, where something is, or nothing.
+fn append_owed(buffer: &mut Vec<u8>, mask: u64) -> Result<(), NoRoom>
+    ensures written { OnOk result (buffer.new.items ≡ buffer.old.items ++ owed_line mask) }
+    ensures unchanged { OnErr result (buffer.new.items ≡ buffer.old.items) }
+{
+    if mask == 0 {
+        return Ok(());
+    }
+    let mut digits = [0u8; 16];
+    match hex::encode_to_slice(mask.to_be_bytes(), &mut digits) {
+        Ok(()) => append_all(buffer, &[b"owed ", &digits, b"\n"]),
+        Err(_) => Err(NoRoom),
     }
 }

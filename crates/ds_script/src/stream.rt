@@ -2,15 +2,14 @@
 
 ghost use Rattle.std.specs.Prelude.{◌≡◌, ◌≤◌, ◌<◌, ◌*◌, ◌^◌, ◌+◌, ◌++◌, [], ℕ, List, Some, IfOk, IfErr, OnOk, OnErr, length, vec_len};
 ghost use Rattle.std.specs.Io.KnownBytes.{Appends, IsAtEnd};
-ghost use Rattle.ds_join.specs.Held.{Holding, nothing_held};
 ghost use Rattle.ds_script.specs.Lines.{IsUnbroken};
-ghost use Rattle.ds_script.specs.Answer.{AllHaveLines};
+ghost use Rattle.ds_script.specs.Session.{SessionContent};
 ghost use Rattle.ds_script.specs.Replay.{Goes, Leaves, Replays, StopsWith, Written, Reported, Finishes};
 
 use crate::fault::ReplayFault;
+use crate::session::Session;
 use crate::transfer::write_out;
 use crate::turn::{Stop, answer_line, take_turn};
-use ds_join::Held;
 use ds_line::LineFault;
 use std::alloc::{AllocError, Global};
 use std::io::{Read, Write};
@@ -21,8 +20,9 @@ const CHUNK: usize = 65536;
 /// The most reads of one replay.
 const READS: u64 = 4294967296;
 
-/// Answers the lines of a script, one after the other, over one holder that holds nothing at first. It gives
-/// the number of lines.
+/// Answers the lines of a script, one after the other, over one store that holds nothing at first: its
+/// incarnation is 1, its first change has the position 0, and its ring keeps 256 changes. It gives the number of
+/// lines.
 ///
 /// What is written is the answers to the lines that were read, in their order, and nothing else. Each answer is
 /// written before the next read, so a person at a terminal sees it at once; answers to the lines that one read
@@ -40,7 +40,7 @@ pub fn replay<R: Read, W: Write>(
     ensures answered { IfOk result (λ count. (lines : List (List ℕ)) × Replays (R.remaining reader.old) (R.remaining reader.new) (W.contents writer.old) (W.contents writer.new) lines × (length lines ≡ count)) }
     ensures stopped { IfErr result (λ fault. StopsWith fault (R.remaining reader.old) (R.remaining reader.new) (W.contents writer.old) (W.contents writer.new)) }
 {
-    let mut held = Held::new(alloc);
+    let mut session = Session::open(alloc);
     let mut output = Vec::new(alloc);
     let mut pending = Vec::new(alloc);
     let Ok(mut chunk) = zeros(alloc) else {
@@ -52,7 +52,7 @@ pub fn replay<R: Read, W: Write>(
         writer,
         &mut chunk,
         &mut pending,
-        &mut held,
+        &mut session,
         &mut output,
     );
     match ended.stop {
@@ -61,7 +61,7 @@ pub fn replay<R: Read, W: Write>(
             writer,
             ended.lines,
             &mut pending,
-            &mut held,
+            &mut session,
             &mut output,
         ),
         Stop::BadLine { place } => report(
@@ -99,21 +99,19 @@ fn answer_input<R: Read, W: Write>(
     writer: &mut W,
     chunk: &mut [u8],
     pending: &mut Vec<u8>,
-    held: &mut Held,
+    session: &mut Session,
     output: &mut Vec<u8>,
 ) -> Ended
     requires chunk { length chunk.old ≡ 65536 }
     requires pending { pending.old.items ≡ [] }
-    requires held { AllHaveLines held.old }
-    ensures goes { (new : Holding) × (after rest : List ℕ)
-        × Goes (R.remaining reader.old) (R.remaining reader.new) (W.contents writer.old) (W.contents writer.new) held.old output.old.items [] result.lines new after rest
-        × Leaves (Some result.stop) (R.remaining reader.new) held.new output.new.items pending.new.items new after rest }
-    ensures held { AllHaveLines held.new }
+    ensures goes { (new : SessionContent) × (after rest : List ℕ)
+        × Goes (R.remaining reader.old) (R.remaining reader.new) (W.contents writer.old) (W.contents writer.new) session.old output.old.items [] result.lines new after rest
+        × Leaves (Some result.stop) (R.remaining reader.new) session.new output.new.items pending.new.items new after rest }
     ensures lines { result.lines < 2 ^ 63 }
 {
     let mut lines = 0u64;
     for _turn in 0..READS {
-        let answered = take_turn(alloc, reader, writer, chunk, pending, held, output);
+        let answered = take_turn(alloc, reader, writer, chunk, pending, session, output);
         lines += answered.lines;
         if let Some(stop) = answered.stop {
             return Ended { lines, stop };
@@ -141,19 +139,18 @@ fn finish<W: Write>(
     writer: &mut W,
     lines: u64,
     pending: &mut Vec<u8>,
-    held: &mut Held,
+    session: &mut Session,
     output: &mut Vec<u8>,
 ) -> Result<u64, ReplayFault>
     requires pending { IsUnbroken pending.old.items }
-    requires held { AllHaveLines held.old }
     requires lines { lines < 2 ^ 63 }
-    ensures { Finishes result lines (W.contents writer.old) (W.contents writer.new) held.old output.old.items pending.old.items }
+    ensures { Finishes result lines (W.contents writer.old) (W.contents writer.new) session.old output.old.items pending.old.items }
 {
     if pending.is_empty() {
         return written(writer, output, lines);
     }
     match pending.push(b'\n') {
-        Ok(()) => match answer_line(alloc, pending.as_slice(), held, output) {
+        Ok(()) => match answer_line(alloc, pending.as_slice(), session, output) {
             Ok(()) => written(writer, output, lines + 1),
             Err(LineFault::BadLine { place }) => report(
                 writer,

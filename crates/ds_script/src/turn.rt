@@ -4,16 +4,17 @@ ghost use Rattle.std.specs.Prelude.{◌≡◌, ◌≤◌, ◌<◌, ◌+◌, ◌�
 ghost use Rattle.std.specs.List.{All};
 ghost use Rattle.std.specs.Io.KnownBytes.{Appends};
 ghost use Rattle.ds_line.specs.LastNewline.{EndsLine};
-ghost use Rattle.ds_join.specs.Held.{Holding};
 ghost use Rattle.ds_script.specs.Lines.{IsUnbroken, ended, joined};
-ghost use Rattle.ds_script.specs.Answer.{AnswersLine, AllHaveLines};
+ghost use Rattle.ds_script.specs.Session.{SessionContent, Leads};
+ghost use Rattle.ds_script.specs.Answer.{AnswersLine};
 ghost use Rattle.ds_script.specs.Replay.{Answers, AnswersText, Leaves, Turns, IsFaultOf, LineStops};
 
-use crate::command::read_command;
-use crate::reply::{answer_command, refuse};
+use crate::answer::answer_command;
+use crate::reading::read_line;
+use crate::reply::append_noroom;
+use crate::session::Session;
 use crate::split::{drop_front, split_line};
 use crate::transfer::{Filled, WriteFailed, fill, write_out};
-use ds_join::Held;
 use ds_line::LineFault;
 use ds_names::NoRoom;
 use std::alloc::Global;
@@ -55,20 +56,18 @@ pub(crate) fn take_turn<R: Read, W: Write>(
     writer: &mut W,
     chunk: &mut [u8],
     pending: &mut Vec<u8>,
-    held: &mut Held,
+    session: &mut Session,
     output: &mut Vec<u8>,
 ) -> Answered
     requires chunk { 0 < length chunk.old }
     requires pending { IsUnbroken pending.old.items }
-    requires held { AllHaveLines held.old }
-    ensures goes { Turns result (R.remaining reader.old) (R.remaining reader.new) (W.contents writer.old) (W.contents writer.new) held.old output.old.items pending.old.items held.new output.new.items pending.new.items }
-    ensures held { AllHaveLines held.new }
+    ensures goes { Turns result (R.remaining reader.old) (R.remaining reader.new) (W.contents writer.old) (W.contents writer.new) session.old output.old.items pending.old.items session.new output.new.items pending.new.items }
     ensures lines { result.lines ≤ vec_len pending.old + length chunk.old }
     ensures pending { result.stop ≡ None → vec_len pending.old ≤ 4096 → vec_len pending.new ≤ 4096 }
 {
     match send(writer, output) {
         Ok(()) => match fill(reader, chunk, pending) {
-            Filled::More => answer_pending(alloc, writer, pending, held, output),
+            Filled::More => answer_pending(alloc, writer, pending, session, output),
             Filled::Interrupted => Answered {
                 lines: 0,
                 used: 0,
@@ -98,18 +97,16 @@ fn answer_pending<W: Write>(
     alloc: Global,
     writer: &mut W,
     pending: &mut Vec<u8>,
-    held: &mut Held,
+    session: &mut Session,
     output: &mut Vec<u8>,
 ) -> Answered
-    requires held { AllHaveLines held.old }
-    ensures answers { (new : Holding) × (after rest : List ℕ)
-        × AnswersText (W.contents writer.old) (W.contents writer.new) held.old output.old.items pending.old.items result.lines new after rest
-        × ((to : Option (List ℕ)) → Leaves result.stop to held.new output.new.items pending.new.items new after rest) }
-    ensures held { AllHaveLines held.new }
+    ensures answers { (new : SessionContent) × (after rest : List ℕ)
+        × AnswersText (W.contents writer.old) (W.contents writer.new) session.old output.old.items pending.old.items result.lines new after rest
+        × ((to : Option (List ℕ)) → Leaves result.stop to session.new output.new.items pending.new.items new after rest) }
     ensures lines { result.lines ≤ vec_len pending.old }
     ensures pending { result.stop ≡ None → vec_len pending.new ≤ 4096 }
 {
-    let answered = answer_lines(alloc, writer, pending.as_slice(), held, output);
+    let answered = answer_lines(alloc, writer, pending.as_slice(), session, output);
     drop_front(pending, answered.used);
     if answered.stop.is_none() && pending.len() > LONGEST_LINE {
         return Answered {
@@ -128,21 +125,19 @@ fn answer_lines<W: Write>(
     alloc: Global,
     writer: &mut W,
     text: &[u8],
-    held: &mut Held,
+    session: &mut Session,
     output: &mut Vec<u8>,
 ) -> Answered
-    requires held { AllHaveLines held.old }
-    ensures answers { (new : Holding) × (after : List ℕ)
-        × AnswersText (W.contents writer.old) (W.contents writer.new) held.old output.old.items text.now result.lines new after (drop result.used text.now)
-        × ((to : Option (List ℕ)) → Leaves result.stop to held.new output.new.items (drop result.used text.now) new after (drop result.used text.now)) }
-    ensures held { AllHaveLines held.new }
+    ensures answers { (new : SessionContent) × (after : List ℕ)
+        × AnswersText (W.contents writer.old) (W.contents writer.new) session.old output.old.items text.now result.lines new after (drop result.used text.now)
+        × ((to : Option (List ℕ)) → Leaves result.stop to session.new output.new.items (drop result.used text.now) new after (drop result.used text.now)) }
     ensures lines { result.lines ≤ length text.now }
     ensures used { result.used ≤ length text.now }
 {
     let mut rest = text;
     let mut lines = 0u64;
     while let Some((line, more)) = split_line(rest) {
-        match answer_next(alloc, writer, line, held, output) {
+        match answer_next(alloc, writer, line, session, output) {
             Ok(()) => {
                 lines += 1;
                 rest = more;
@@ -168,17 +163,15 @@ fn answer_next<W: Write>(
     alloc: Global,
     writer: &mut W,
     line: &[u8],
-    held: &mut Held,
+    session: &mut Session,
     output: &mut Vec<u8>,
 ) -> Result<(), Stop>
-    requires ends { EndsLine line.now }
-    requires held { AllHaveLines held.old }
-    ensures ok { OnOk result ((text : List ℕ) → line.now ≡ ended text → Answers (W.contents writer.old) (W.contents writer.new) held.old output.old.items (text ∷ []) held.new output.new.items) }
-    ensures err { IfErr result (λ stop. (after : List ℕ) × Answers (W.contents writer.old) (W.contents writer.new) held.old output.old.items [] held.old after × LineStops stop line.now output.new.items after) }
-    ensures held { AllHaveLines held.new }
+    requires { EndsLine line.now }
+    ensures ok { OnOk result ((text : List ℕ) → line.now ≡ ended text → Answers (W.contents writer.old) (W.contents writer.new) session.old output.old.items (text ∷ []) session.new output.new.items) }
+    ensures err { IfErr result (λ stop. (after : List ℕ) × Answers (W.contents writer.old) (W.contents writer.new) session.old output.old.items [] session.old after × LineStops stop line.now output.new.items after) }
 {
     match send_full(writer, output) {
-        Ok(()) => match answer_line(alloc, line, held, output) {
+        Ok(()) => match answer_line(alloc, line, session, output) {
             Ok(()) => Ok(()),
             Err(LineFault::BadLine { place }) => Err(Stop::BadLine { place }),
             Err(LineFault::NoRoom) => Err(Stop::NoRoom),
@@ -206,28 +199,26 @@ fn send_full<W: Write>(writer: &mut W, output: &mut Vec<u8>) -> Result<(), Write
 pub(crate) fn answer_line(
     alloc: Global,
     line: &[u8],
-    held: &mut Held,
+    session: &mut Session,
     output: &mut Vec<u8>,
 ) -> Result<(), LineFault>
-    requires ends { EndsLine line.now }
-    requires held { AllHaveLines held.old }
-    ensures ok { OnOk result ((out : List ℕ) × (output.new.items ≡ output.old.items ++ out) × ((text : List ℕ) → line.now ≡ ended text → AnswersLine held.old text out held.new)) }
+    requires { EndsLine line.now }
+    ensures ok { OnOk result ((out : List ℕ) × (output.new.items ≡ output.old.items ++ out) × ((text : List ℕ) → line.now ≡ ended text → Leads (λ s t. AnswersLine s text out t) session.old session.new)) }
     ensures err { OnErr result (output.new.items ≡ output.old.items) }
     ensures fault { IfErr result (λ fault. (text : List ℕ) → line.now ≡ ended text → IsFaultOf fault text) }
-    ensures held { AllHaveLines held.new }
 {
     if line.len() > LONGEST_LINE + 1 {
         return Err(LineFault::BadLine {
             place: LONGEST_LINE,
         });
     }
-    match read_command(alloc, line) {
-        Ok(command) => match answer_command(alloc, held, output, command) {
+    match read_line(alloc, line) {
+        Ok(command) => match answer_command(alloc, session, output, command) {
             Ok(()) => Ok(()),
             Err(NoRoom) => Err(LineFault::NoRoom),
         },
         Err(LineFault::BadLine { place }) => Err(LineFault::BadLine { place }),
-        Err(LineFault::NoRoom) => match refuse(output) {
+        Err(LineFault::NoRoom) => match append_noroom(output) {
             Ok(()) => Ok(()),
             Err(NoRoom) => Err(LineFault::NoRoom),
         },

@@ -14,11 +14,17 @@ fn key(name: &str) -> Result<Key, Fail> {
     })
 }
 
+// The endpoint of a generation and a slot.
+fn endpoint(generation: u32, slot: u16) -> Result<Endpoint, Fail> {
+    let generation = Generation::of(generation).ok_or("no generation")?;
+    Ok(Endpoint::of(generation, slot).ok_or("no endpoint")?)
+}
+
 // The put of a label for the endpoint of a generation and a slot.
 fn put(name: &str, generation: u32, slot: u16) -> Result<Change, Fail> {
-    let epoch = Generation::of(generation).ok_or("no generation")?;
-    let endpoint = Endpoint::of(epoch, slot).ok_or("no endpoint")?;
+    let endpoint = endpoint(generation, slot)?;
     let body = Body::Put(Value::Label(endpoint));
+    let epoch = endpoint.generation();
     let version = Version { epoch, seq: 0 };
     Ok(Change::make(key(name)?, Name::read(b"rs")?, version, body)?)
 }
@@ -28,6 +34,18 @@ fn gone(name: &str, generation: u32) -> Result<Change, Fail> {
     let epoch = Generation::of(generation).ok_or("no generation")?;
     let version = Version { epoch, seq: 1 };
     Ok(Change::make(key(name)?, Name::read(b"rs")?, version, Body::Gone)?)
+}
+
+// The put of a number, by the service of the same name.
+fn put_number(name: &str, generation: u32, number: u32) -> Result<Change, Fail> {
+    let owner = Name::read(name.as_bytes())?;
+    let epoch = Generation::of(generation).ok_or("no generation")?;
+    let key = Key {
+        name: owner,
+        kind: Kind::U32,
+    };
+    let body = Body::Put(Value::U32(number));
+    Ok(Change::make(key, owner, Version { epoch, seq: 0 }, body)?)
 }
 
 // A holder of so many labels, whose names begin alike.
@@ -102,5 +120,32 @@ fn two_join_in_the_order_of_their_keys(rt: HostRuntime) -> Result<(), Fail> {
     let disk = key("disk")?;
     assert!(rt; left.first_after(None) == Some(&put("disk", 1, 5)?));
     assert!(rt; left.first_after(Some(&disk)) == Some(&put("eth0", 3, 17)?));
+    Ok(())
+}
+
+#[test]
+fn the_least_live_label_names_an_endpoint(rt: HostRuntime) -> Result<(), Fail> {
+    let mut held = Held::new(rt.alloc());
+    assert!(rt; held.label_at(endpoint(3, 17)?).is_none());
+    let changes = [
+        put("tty", 3, 17)?,
+        put("eth0", 3, 17)?,
+        put("vga", 3, 17)?,
+        put("disk", 3, 18)?,
+        put("cdrom", 4, 17)?,
+        put("boot", 3, 17)?,
+        gone("boot", 3)?,
+        put_number("aux", 3, 17)?,
+    ];
+    for change in changes {
+        assert_eq!(rt; held.merge(change), Ok(Merge::Taken));
+    }
+    assert!(rt; held.label_at(endpoint(3, 17)?) == Some(&key("eth0")?.name));
+    assert!(rt; held.label_at(endpoint(3, 18)?) == Some(&key("disk")?.name));
+    assert!(rt; held.label_at(endpoint(4, 17)?) == Some(&key("cdrom")?.name));
+    assert!(rt; held.label_at(endpoint(2, 17)?).is_none());
+    assert!(rt; held.label_at(endpoint(3, 0)?).is_none());
+    assert_eq!(rt; held.merge(put("eth0", 4, 9)?), Ok(Merge::Taken));
+    assert!(rt; held.label_at(endpoint(3, 17)?) == Some(&key("tty")?.name));
     Ok(())
 }

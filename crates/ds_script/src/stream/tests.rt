@@ -44,6 +44,111 @@ const ROWS: [Row; 6] = [
     },
 ];
 
+/// Scripts of changes of all kinds, and of callers that publish them.
+const SCRIPTS: [Row; 3] = [
+    Row {
+        script: b"offer x u32 eth0 3.0 = 1\n\
+            offer x u32 eth0 3.0 = 2\n\
+            offer x u32 tty 4.0 = 1\n\
+            show\n",
+        answers: b"taken\n\
+            refused clash 3.0\n\
+            refused notowner\n\
+            x u32 eth0 3.0 = 1\n\
+            shown 1\n",
+        end: Ok(4),
+    },
+    Row {
+        script: b"offer id str eth0 3.0 = \"a\\\"b\"\n\
+            retrieve id str\n\
+            offer mac mem eth0 3.1 = 00ff\n\
+            retrieve mac mem\n\
+            retrieve mac u32\n\
+            offer x u32 eth0 3.4294967295 -\n\
+            offer x u32 eth0 3.4 = 1\n",
+        answers: b"taken\n\
+            found \"a\\\"b\"\n\
+            taken\n\
+            found 00ff\n\
+            refused notfound\n\
+            taken\n\
+            stale\n",
+        end: Ok(7),
+    },
+    Row {
+        script: b"publish 0/2 new eth0 label 3.0 = 3/17\n\
+            publish 0/2 new tty label 4.0 = 4/18\n\
+            publish 3/17 new mtu u32 3.0 = 1500\n\
+            publish 4/18 new mtu u32 4.0 = 9000\n\
+            publish 4/18 over mtu u32 4.0 = 9000\n\
+            publish 3/17 new mtu u32 3.1 = 1400\n\
+            publish 3/17 new mtu u32 3.0 = 1500\n\
+            publish 3/17 over mtu u32 3.1 = 1400\n\
+            publish 3/17 over mtu u32 3.0 = 1500\n\
+            retrieve mtu u32\n\
+            delete 3/17 mtu u32 3.2\n\
+            retrieve mtu u32\n\
+            publish 3/17 new mtu u32 3.3 = 1500\n\
+            publish 3/17 new mtu u32 3.3 = 1500\n\
+            delete 3/17 mtu u32 3.3\n\
+            publish 3/17 over mtu u32 4.0 = 1\n\
+            publish 3/17 new mac label 3.0 = 3/17\n\
+            publish 0/2 over eth0 label 6.0 = 7/17\n\
+            publish 0/2 over eth0 label 5.0 = 5/17\n\
+            publish 3/17 over mtu u32 3.9 = 1\n\
+            nameof 5/17\n\
+            sweep 5/17 eth0 3\n\
+            sweep 0/2 eth0 3\n\
+            sweep 0/2 eth0 3\n\
+            all\n\
+            show\n",
+        answers: b"taken\n\
+            taken\n\
+            taken\n\
+            refused notowner\n\
+            refused notowner\n\
+            refused exists\n\
+            known\n\
+            taken\n\
+            refused stale\n\
+            found 1400\n\
+            taken\n\
+            refused notfound\n\
+            taken\n\
+            known\n\
+            refused clash 3.3\n\
+            refused badversion\n\
+            refused notallowed\n\
+            refused badlabel\n\
+            taken\n\
+            refused nocaller\n\
+            named eth0\n\
+            refused notallowed\n\
+            swept 1\n\
+            swept 0\n\
+            eth0 label rs 5.0 = 5/17\n\
+            mtu u32 eth0 3.4294967295 -\n\
+            tty label rs 4.0 = 4/18\n\
+            shown 3\n\
+            eth0 label rs 5.0 = 5/17\n\
+            tty label rs 4.0 = 4/18\n\
+            shown 2\n",
+        end: Ok(26),
+    },
+];
+
+#[test]
+fn scripts_are_answered(rt: HostRuntime) -> Result<(), Fail> {
+    for row in &SCRIPTS {
+        let mut reader = FailRead::new(row.script, 0, 100);
+        let mut writer = FailWrite::new(rt.alloc(), 0, 100);
+        let end = replay(rt.alloc(), &mut reader, &mut writer);
+        assert_eq!(rt; writer.written(), row.answers);
+        assert!(rt; end == row.end);
+    }
+    Ok(())
+}
+
 #[test]
 fn each_read_fails_in_turn(rt: HostRuntime) -> Result<(), Fail> {
     for row in &ROWS {

@@ -3,7 +3,7 @@ use Rattle.std.specs.List.{find}
 use Rattle.std.specs.Option.{option_copied}
 use Rattle.ds_join.specs.Held.{held_changes}
 use Rattle.ds_join.specs.Reading.{comes_after}
-use Rattle.ds_join.specs.Kept.{holding_of, IsFirstAfter}
+use Rattle.ds_join.specs.Kept.{holding_of, IsFirst}
 use Rattle.ds_join.proofs.PlaceLemmas.{own_list}
 use Rattle.ds_join.proofs.KeptLemmas.{few_held}
 use Rattle.ds_join.proofs.NextLemmas.{first_found}
@@ -18,17 +18,17 @@ loop-change-init c = (c.requires.kept, joining_starts (holding_of c.args.changes
 next : (c : In-Some) → find (comes_after c.loop-change.last) (held_changes (holding_of c.args.other.now)) ≡ Some c.in-Some.change.now
 next c =
     let xs = c.args.other.now in
-    let first : IsFirstAfter xs c.loop-change.last (Some c.in-Some.change.now) =
-    subst (λ k. IsFirstAfter xs k (Some c.in-Some.change.now)) c.as_ref.ensures.value (subst (λ o. IsFirstAfter xs (option_copied c.as_ref.result) (option_copied o)) c.in-Some.is c.first_of.ensures.least) in
-    sym (first_found xs c.requires.other.apart c.loop-change.last (Some c.in-Some.change.now) first)
+    let first : IsFirst xs (comes_after c.loop-change.last) (Some c.in-Some.change.now) =
+    subst (λ k. IsFirst xs (comes_after k) (Some c.in-Some.change.now)) c.as_ref.ensures.value (subst (λ o. IsFirst xs (comes_after (option_copied c.as_ref.result)) (option_copied o)) c.in-Some.is c.first_of.ensures.least) in
+    sym (first_found xs c.requires.other.apart (comes_after c.loop-change.last) (Some c.in-Some.change.now) first)
 
 -- or there is none
 last : (c : In_default) → find (comes_after c.loop-change.last) (held_changes (holding_of c.args.other.now)) ≡ None
 last c =
     let xs = c.args.other.now in
-    let none : IsFirstAfter xs c.loop-change.last None =
-    subst (λ k. IsFirstAfter xs k None) c.as_ref.ensures.value (subst (λ o. IsFirstAfter xs (option_copied c.as_ref.result) (option_copied o)) c.in_default.is c.first_of.ensures.least) in
-    sym (first_found xs c.requires.other.apart c.loop-change.last None none)
+    let none : IsFirst xs (comes_after c.loop-change.last) None =
+    subst (λ k. IsFirst xs (comes_after k) None) c.as_ref.ensures.value (subst (λ o. IsFirst xs (comes_after (option_copied c.as_ref.result)) (option_copied o)) c.in_default.is c.first_of.ensures.least) in
+    sym (first_found xs c.requires.other.apart (comes_after c.loop-change.last) None none)
 
 pub overflow_add-done : goal.overflow_add-done
 overflow_add-done c =

@@ -2,7 +2,7 @@ use Rattle.std.proofs.Common.{◌≡◌, ◌++◌, ◌<◌, [], ◌∷◌, Some,
 use Rattle.std.specs.Option.{option_copied}
 use Rattle.ds_join.specs.Held.{held_changes}
 use Rattle.ds_join.specs.Reading.{comes_after}
-use Rattle.ds_join.specs.Kept.{holding_of, IsFirstAfter}
+use Rattle.ds_join.specs.Kept.{holding_of, IsFirst}
 use Rattle.ds_join.proofs.PlaceLemmas.{own_list}
 use Rattle.ds_join.proofs.HeldLemmas.{held_in_order}
 use Rattle.ds_join.proofs.NextLemmas.{all_after_none, first_found, left_after, none_left}
@@ -16,9 +16,9 @@ loop-change-init c = ap (λ l. l ++ filter (comes_after None) (held_changes (hol
 step : (c : In-Some) → filter (comes_after c.loop-change.last) (held_changes (holding_of c.args.changes.now)) ≡ c.in-Some.change.now ∷ filter (comes_after (Some c.in-Some.change.now.key)) (held_changes (holding_of c.args.changes.now))
 step c =
     let xs = c.args.changes.now in
-    let first : IsFirstAfter xs c.loop-change.last (Some c.in-Some.change.now) =
-    subst (λ k. IsFirstAfter xs k (Some c.in-Some.change.now)) c.as_ref.ensures.value (subst (λ o. IsFirstAfter xs (option_copied c.as_ref.result) (option_copied o)) c.in-Some.is c.first_of.ensures.least) in
-    left_after c.loop-change.last (held_changes (holding_of xs)) c.in-Some.change.now (held_in_order (holding_of xs) (own_list xs)) (sym (first_found xs c.requires.apart c.loop-change.last (Some c.in-Some.change.now) first))
+    let first : IsFirst xs (comes_after c.loop-change.last) (Some c.in-Some.change.now) =
+    subst (λ k. IsFirst xs (comes_after k) (Some c.in-Some.change.now)) c.as_ref.ensures.value (subst (λ o. IsFirst xs (comes_after (option_copied c.as_ref.result)) (option_copied o)) c.in-Some.is c.first_of.ensures.least) in
+    left_after c.loop-change.last (held_changes (holding_of xs)) c.in-Some.change.now (held_in_order (holding_of xs) (own_list xs)) (sym (first_found xs c.requires.apart (comes_after c.loop-change.last) (Some c.in-Some.change.now) first))
 
 pub loop-change-smaller : goal.loop-change-smaller
 loop-change-smaller c =
@@ -42,7 +42,7 @@ pub returns : goal.returns
 returns c =
     let xs = c.args.changes.now in
     let all = held_changes (holding_of xs) in
-    let none : IsFirstAfter xs c.loop-change.last None =
-    subst (λ k. IsFirstAfter xs k None) c.as_ref.ensures.value (subst (λ o. IsFirstAfter xs (option_copied c.as_ref.result) (option_copied o)) c.in_default.is c.first_of.ensures.least) in
-    let left : filter (comes_after c.loop-change.last) all ≡ [] = none_left (comes_after c.loop-change.last) all (sym (first_found xs c.requires.apart c.loop-change.last None none)) in
+    let none : IsFirst xs (comes_after c.loop-change.last) None =
+    subst (λ k. IsFirst xs (comes_after k) None) c.as_ref.ensures.value (subst (λ o. IsFirst xs (comes_after (option_copied c.as_ref.result)) (option_copied o)) c.in_default.is c.first_of.ensures.least) in
+    let left : filter (comes_after c.loop-change.last) all ≡ [] = none_left (comes_after c.loop-change.last) all (sym (first_found xs c.requires.apart (comes_after c.loop-change.last) None none)) in
     sym (append-nil c.loop-change.items) ∙ ap (λ l. c.loop-change.items ++ l) (sym left) ∙ c.loop-change.invariant

@@ -1,5 +1,4 @@
-use Rattle.std.proofs.Common.{sym, ◌∙◌, ap, drop, arith}
-use Rattle.std.specs.Fmt.{decimal}
+use Rattle.std.proofs.Common.{sym, ◌∙◌, ap, drop}
 use Rattle.ds_names.proofs.DecimalLemmas.{endpoint_after, endpoint_parts}
 use Rattle.ds_names.proofs.endpoint.read_endpoint.Goals as goal
 

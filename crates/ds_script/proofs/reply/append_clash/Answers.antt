@@ -1,12 +1,14 @@
-use Rattle.std.proofs.Common.{◌≡◌, ◌++◌, ◌∷◌, [], List, ℕ, sym, ap, ◌∙◌, append_assoc, codes}
+use Rattle.std.proofs.Common.{◌≡◌, ◌++◌, ◌∷◌, [], List, ℕ, ap, sym, ◌∙◌, append_assoc, codes}
 use Rattle.std.specs.Fmt.{decimal}
 use Rattle.ds_script.proofs.ResultLemmas.{on_ok}
 use Rattle.ds_script.proofs.reply.append_clash.Goals as goal
 
-pub returns-in-Ok-clause-written : goal.returns-in-Ok-clause-written
-returns-in-Ok-clause-written c =
-    let epoch : decimal c.number-epoch.result ≡ decimal c.args.version.epoch = ap decimal c.number-epoch.ensures.value in
-    let text : c.as_bytes.result.now ≡ codes "refused clash " ++ ((decimal c.args.version.epoch ++ 46 ∷ decimal c.args.version.seq) ++ 10 ∷ []) =
-    c.as_bytes.ensures.value ∙ (c.in-Ok.ensures).ok ∙ ap (λ (e : List ℕ). codes "refused clash " ++ (e ++ 46 ∷ (decimal c.args.version.seq ++ 10 ∷ []))) epoch
-    ∙ ap (λ (t : List ℕ). codes "refused clash " ++ t) (sym (append_assoc (decimal c.args.version.epoch) (46 ∷ decimal c.args.version.seq) (10 ∷ []))) in
-    on_ok c.append.result (λ same. same ∙ ap (λ (t : List ℕ). c.args.output.now.items ++ t) text) c.append.ensures.written
+pub returns-clause-written : goal.returns-clause-written
+returns-clause-written c =
+    let epoch : c.as_bytes-epoch.result.now ≡ decimal c.args.version.epoch = c.as_bytes-epoch.ensures.value ∙ c.format.ensures.text ∙ ap decimal c.number.ensures.value in
+    let seq : c.as_bytes-seq.result.now ≡ decimal c.args.version.seq = c.as_bytes-seq.ensures.value ∙ c.format-2.ensures.text in
+    on_ok c.append_all.result
+    (λ same. same ∙ ap (λ (e : List ℕ). c.args.buffer.now.items ++ (codes "refused clash " ++ (e ++ 46 ∷ (c.as_bytes-seq.result.now ++ 10 ∷ [])))) epoch
+    ∙ ap (λ (n : List ℕ). c.args.buffer.now.items ++ (codes "refused clash " ++ (decimal c.args.version.epoch ++ 46 ∷ (n ++ 10 ∷ [])))) seq
+    ∙ ap (λ (t : List ℕ). c.args.buffer.now.items ++ (codes "refused clash " ++ t)) (sym (append_assoc (decimal c.args.version.epoch) (46 ∷ decimal c.args.version.seq) (10 ∷ []))))
+    c.append_all.ensures.written

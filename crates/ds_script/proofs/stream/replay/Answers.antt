@@ -1,21 +1,17 @@
 use Rattle.std.proofs.Common.{◌+◌, [], ℕ, Some, refl, sym, ap, ◌∙◌, subst}
 use Rattle.std.proofs.KnownBytes.{Appends-nil, Consumes-nil}
 use Rattle.std.proofs.lemmas.List.Elements.{All-nil}
-use Rattle.ds_join.specs.Held.{nothing_held}
+use Rattle.ds_script.specs.Session.{at_start}
 use Rattle.ds_script.specs.declared.fault.ReplayFault.TheVariants.{BadLine, ReadFault, NoRoom}
 use Rattle.ds_script.specs.declared.turn.Stop.{Stop}
 use Rattle.ds_script.specs.Lines.{IsUnbroken}
-use Rattle.ds_script.specs.Answer.{AllHaveLines}
 use Rattle.ds_script.specs.Replay.{Leaves}
-use Rattle.ds_script.proofs.EndLemmas.{Begun, begun, begun_end, none_held, reported, unwritten_now, finished_well, finished_ill}
+use Rattle.ds_script.proofs.EndLemmas.{Begun, begun, begun_end, reported, unwritten_now, finished_well, finished_ill}
 use Rattle.ds_script.proofs.stream.replay.Goals as goal
 
 pub returns-in_default-clause-stopped : goal.returns-in_default-clause-stopped
 returns-in_default-clause-stopped g c =
-    ([], [], record { held = nothing_held; output = []; read = Consumes-nil (g.R.Read.remaining c.args.reader.now); unbroken = All-nil IsUnbroken; answers = (refl, refl); written = Appends-nil (g.W.Write.contents c.args.writer.now) })
-
-pub answer_input-ended-requires-clause-held : goal.answer_input-ended-requires-clause-held
-answer_input-ended-requires-clause-held g c = subst AllHaveLines (sym c.new-held.ensures) none_held
+    ([], [], record { state = at_start; output = []; read = Consumes-nil (g.R.Read.remaining c.args.reader.now); unbroken = All-nil IsUnbroken; answers = (refl, refl); written = Appends-nil (g.W.Write.contents c.args.writer.now) })
 
 pub returns-in-AtEnd-clause-answered : goal.returns-in-AtEnd-clause-answered
 returns-in-AtEnd-clause-answered g c =
@@ -25,13 +21,13 @@ returns-in-AtEnd-clause-answered g c =
     let mid = g.W.Write.contents c.answer_input-ended.new.writer in
     let t = c.answer_input-ended.ensures.goes in
     let n = c.answer_input-ended.result.lines in
-    let held = c.answer_input-ended.new.held in
+    let session = c.answer_input-ended.new.session in
     let output = c.answer_input-ended.new.output.items in
     let pending = c.answer_input-ended.new.pending.items in
-    let b : Begun from to had mid n t.0 t.1 t.2 = begun from to had mid c.new-held.result t.0 c.new-output.result.items t.1 t.2 n c.new-held.ensures c.new-output.ensures.items t.3 in
-    let l = subst (λ (s : Stop). Leaves (Some s) to held output pending t.0 t.1 t.2) c.in-AtEnd.is t.4 in
-    let e = begun_end from to had mid n t.0 held t.1 t.2 output pending b l in
-    finished_well c.finish.result from to had mid (g.W.Write.contents c.finish.new.writer) n held output pending e.0 e.1 e.2 c.finish.ensures
+    let b : Begun from to had mid n t.0 t.1 t.2 = begun from to had mid c.open-session.result t.0 c.new-output.result.items t.1 t.2 n c.open-session.ensures c.new-output.ensures.items t.3 in
+    let l = subst (λ (s : Stop). Leaves (Some s) to session output pending t.0 t.1 t.2) c.in-AtEnd.is t.4 in
+    let e = begun_end from to had mid n t.0 session t.1 t.2 output pending b l in
+    finished_well c.finish.result from to had mid (g.W.Write.contents c.finish.new.writer) n session output pending e.0 e.1 e.2 c.finish.ensures
 
 pub returns-in-AtEnd-clause-stopped : goal.returns-in-AtEnd-clause-stopped
 returns-in-AtEnd-clause-stopped g c =
@@ -41,13 +37,13 @@ returns-in-AtEnd-clause-stopped g c =
     let mid = g.W.Write.contents c.answer_input-ended.new.writer in
     let t = c.answer_input-ended.ensures.goes in
     let n = c.answer_input-ended.result.lines in
-    let held = c.answer_input-ended.new.held in
+    let session = c.answer_input-ended.new.session in
     let output = c.answer_input-ended.new.output.items in
     let pending = c.answer_input-ended.new.pending.items in
-    let b : Begun from to had mid n t.0 t.1 t.2 = begun from to had mid c.new-held.result t.0 c.new-output.result.items t.1 t.2 n c.new-held.ensures c.new-output.ensures.items t.3 in
-    let l = subst (λ (s : Stop). Leaves (Some s) to held output pending t.0 t.1 t.2) c.in-AtEnd.is t.4 in
-    let e = begun_end from to had mid n t.0 held t.1 t.2 output pending b l in
-    finished_ill c.finish.result from to had mid (g.W.Write.contents c.finish.new.writer) n held output pending e.0 e.1 e.2 c.finish.ensures
+    let b : Begun from to had mid n t.0 t.1 t.2 = begun from to had mid c.open-session.result t.0 c.new-output.result.items t.1 t.2 n c.open-session.ensures c.new-output.ensures.items t.3 in
+    let l = subst (λ (s : Stop). Leaves (Some s) to session output pending t.0 t.1 t.2) c.in-AtEnd.is t.4 in
+    let e = begun_end from to had mid n t.0 session t.1 t.2 output pending b l in
+    finished_ill c.finish.result from to had mid (g.W.Write.contents c.finish.new.writer) n session output pending e.0 e.1 e.2 c.finish.ensures
 
 pub returns-in-BadLine-clause-stopped : goal.returns-in-BadLine-clause-stopped
 returns-in-BadLine-clause-stopped g c =
@@ -57,11 +53,11 @@ returns-in-BadLine-clause-stopped g c =
     let mid = g.W.Write.contents c.answer_input-ended.new.writer in
     let t = c.answer_input-ended.ensures.goes in
     let n = c.answer_input-ended.result.lines in
-    let held = c.answer_input-ended.new.held in
+    let session = c.answer_input-ended.new.session in
     let output = c.answer_input-ended.new.output.items in
     let pending = c.answer_input-ended.new.pending.items in
-    let b : Begun from to had mid n t.0 t.1 t.2 = begun from to had mid c.new-held.result t.0 c.new-output.result.items t.1 t.2 n c.new-held.ensures c.new-output.ensures.items t.3 in
-    let l = subst (λ (s : Stop). Leaves (Some s) to held output pending t.0 t.1 t.2) c.in-BadLine.is t.4 in
+    let b : Begun from to had mid n t.0 t.1 t.2 = begun from to had mid c.open-session.result t.0 c.new-output.result.items t.1 t.2 n c.open-session.ensures c.new-output.ensures.items t.3 in
+    let l = subst (λ (s : Stop). Leaves (Some s) to session output pending t.0 t.1 t.2) c.in-BadLine.is t.4 in
     reported c.report.result (BadLine (n + 1) c.in-BadLine.place) from to had mid (g.W.Write.contents c.report.new.writer) n t.0 t.1 t.2 c.deref.result.now b
     (c.deref.ensures.value ∙ sym l.0) c.report.ensures (λ lines count st. (lines, t.2, st, l.1, ap (λ (k : ℕ). k + 1) (sym count)))
 
@@ -73,11 +69,11 @@ returns-in-ReadFault-clause-stopped g c =
     let mid = g.W.Write.contents c.answer_input-ended.new.writer in
     let t = c.answer_input-ended.ensures.goes in
     let n = c.answer_input-ended.result.lines in
-    let held = c.answer_input-ended.new.held in
+    let session = c.answer_input-ended.new.session in
     let output = c.answer_input-ended.new.output.items in
     let pending = c.answer_input-ended.new.pending.items in
-    let b : Begun from to had mid n t.0 t.1 t.2 = begun from to had mid c.new-held.result t.0 c.new-output.result.items t.1 t.2 n c.new-held.ensures c.new-output.ensures.items t.3 in
-    let l = subst (λ (s : Stop). Leaves (Some s) to held output pending t.0 t.1 t.2) c.in-ReadFault.is t.4 in
+    let b : Begun from to had mid n t.0 t.1 t.2 = begun from to had mid c.open-session.result t.0 c.new-output.result.items t.1 t.2 n c.open-session.ensures c.new-output.ensures.items t.3 in
+    let l = subst (λ (s : Stop). Leaves (Some s) to session output pending t.0 t.1 t.2) c.in-ReadFault.is t.4 in
     reported c.report-in-ReadFault.result ReadFault from to had mid (g.W.Write.contents c.report-in-ReadFault.new.writer) n t.0 t.1 t.2 c.deref-in-ReadFault.result.now b
     (c.deref-in-ReadFault.ensures.value ∙ sym l.0) c.report-in-ReadFault.ensures (λ lines count st. (lines, t.2, st, l.1))
 
@@ -89,11 +85,11 @@ returns-clause-stopped g c =
     let mid = g.W.Write.contents c.answer_input-ended.new.writer in
     let t = c.answer_input-ended.ensures.goes in
     let n = c.answer_input-ended.result.lines in
-    let held = c.answer_input-ended.new.held in
+    let session = c.answer_input-ended.new.session in
     let output = c.answer_input-ended.new.output.items in
     let pending = c.answer_input-ended.new.pending.items in
-    let b : Begun from to had mid n t.0 t.1 t.2 = begun from to had mid c.new-held.result t.0 c.new-output.result.items t.1 t.2 n c.new-held.ensures c.new-output.ensures.items t.3 in
-    let l = subst (λ (s : Stop). Leaves (Some s) to held output pending t.0 t.1 t.2) c.in-NoRoom.is t.4 in
+    let b : Begun from to had mid n t.0 t.1 t.2 = begun from to had mid c.open-session.result t.0 c.new-output.result.items t.1 t.2 n c.open-session.ensures c.new-output.ensures.items t.3 in
+    let l = subst (λ (s : Stop). Leaves (Some s) to session output pending t.0 t.1 t.2) c.in-NoRoom.is t.4 in
     reported c.report-in-NoRoom.result NoRoom from to had mid (g.W.Write.contents c.report-in-NoRoom.new.writer) n t.0 t.1 t.2 c.deref-in-NoRoom.result.now b
     (c.deref-in-NoRoom.ensures.value ∙ sym l) c.report-in-NoRoom.ensures (λ lines count st. (lines, t.2, st))
 
@@ -105,8 +101,8 @@ returns-in-WriteFault-clause-stopped g c =
     let mid = g.W.Write.contents c.answer_input-ended.new.writer in
     let t = c.answer_input-ended.ensures.goes in
     let n = c.answer_input-ended.result.lines in
-    let held = c.answer_input-ended.new.held in
+    let session = c.answer_input-ended.new.session in
     let output = c.answer_input-ended.new.output.items in
     let pending = c.answer_input-ended.new.pending.items in
-    let b : Begun from to had mid n t.0 t.1 t.2 = begun from to had mid c.new-held.result t.0 c.new-output.result.items t.1 t.2 n c.new-held.ensures c.new-output.ensures.items t.3 in
+    let b : Begun from to had mid n t.0 t.1 t.2 = begun from to had mid c.open-session.result t.0 c.new-output.result.items t.1 t.2 n c.open-session.ensures c.new-output.ensures.items t.3 in
     unwritten_now from to had mid n t.0 t.1 t.2 b

@@ -1,12 +1,10 @@
 use Rattle.std.proofs.Common.{◌≤◌, ◌+◌, length}
-use Rattle.ds_script.specs.Answer.{AllHaveLines}
 use Rattle.ds_script.specs.Replay.{AnswersText}
 use Rattle.ds_script.proofs.turn.answer_lines.Given as goal
 
 abbrev pub invariant-loop-line : goal.invariant-loop-line
 invariant-loop-line g l = record {
-  text : AnswersText (g.W.Write.contents l.fn.writer) (g.W.Write.contents l.writer) l.fn.held l.fn.output.items l.text l.lines l.held l.output.items l.rest;
-  held : AllHaveLines l.held;
+  text : AnswersText (g.W.Write.contents l.fn.writer) (g.W.Write.contents l.writer) l.fn.session l.fn.output.items l.text l.lines l.session l.output.items l.rest;
   few : l.lines + length l.rest ≤ length l.text;
 }
 

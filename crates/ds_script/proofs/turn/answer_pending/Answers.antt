@@ -19,9 +19,9 @@ returns-then-len-gt-LONGEST_LINE-clause-answers g c =
       a.0,
       a.1,
       rest,
-      subst (λ (t : List ℕ). AnswersText w v c.args.held.now c.args.output.now.items t r.lines a.0 a.1 rest) text a.2,
+      subst (λ (t : List ℕ). AnswersText w v c.args.session.now c.args.output.now.items t r.lines a.0 a.1 rest) text a.2,
       λ to.
-          let l = subst (λ (s : Option Stop). Leaves s to c.answer_lines-answered.new.held c.answer_lines-answered.new.output.items rest a.0 a.1 rest) none (a.3 to) in
+          let l = subst (λ (s : Option Stop). Leaves s to c.answer_lines-answered.new.session c.answer_lines-answered.new.output.items rest a.0 a.1 rest) none (a.3 to) in
           (l.1, overlong to rest l.3 long),
     )
 
@@ -37,6 +37,6 @@ returns-clause-answers g c =
       a.0,
       a.1,
       rest,
-      subst (λ (t : List ℕ). AnswersText w v c.args.held.now c.args.output.now.items t r.lines a.0 a.1 rest) text a.2,
-      λ to. subst (λ (p : List ℕ). Leaves r.stop to c.answer_lines-answered.new.held c.answer_lines-answered.new.output.items p a.0 a.1 rest) (sym left) (a.3 to),
+      subst (λ (t : List ℕ). AnswersText w v c.args.session.now c.args.output.now.items t r.lines a.0 a.1 rest) text a.2,
+      λ to. subst (λ (p : List ℕ). Leaves r.stop to c.answer_lines-answered.new.session c.answer_lines-answered.new.output.items p a.0 a.1 rest) (sym left) (a.3 to),
     )

@@ -1,6 +1,5 @@
-use Rattle.std.proofs.Common.{ap, sym, subst, ◌∙◌, arith}
-use Rattle.ds_names.specs.Name.{is_name_byte, IsName}
-use Rattle.ds_names.proofs.NameBlockLemmas.{fill_more, allowed_more, filled_all, not_allowed}
+use Rattle.std.proofs.Common.{sym, ◌∙◌, arith}
+use Rattle.ds_names.proofs.NameBlockLemmas.{fill_more, allowed_more}
 use Rattle.ds_names.proofs.name.Name.read.Goals as goal
 
 pub loop-i-preserved : goal.loop-i-preserved

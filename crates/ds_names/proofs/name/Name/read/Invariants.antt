@@ -1,4 +1,4 @@
-use Rattle.std.proofs.Common.{◌≡◌, ◌≤◌, true, length, take}
+use Rattle.std.proofs.Common.{◌≡◌, true, take}
 use Rattle.std.specs.List.{list_all}
 use Rattle.ds_names.specs.Name.{is_name_byte}
 use Rattle.ds_names.proofs.NameBlockLemmas.{filled}

@@ -1,0 +1,129 @@
+"""The workloads of bench/measure: scripts of so many lines, the same bytes each time, with an `all` at the end.
+
+Each yields first what has to be there, over a thousand keys, and then the lines that are measured.
+"""
+import random
+
+NAMES = 1000
+DRIVERS = [f"driver-{at}" for at in range(16)]
+ESCAPED = [{'"': '\\"', "\\": "\\\\"}.get(chr(byte), chr(byte)) for byte in range(0x20, 0x7F)]
+
+
+def owner(at):
+    """The driver that has the key of this number."""
+    return DRIVERS[at % len(DRIVERS)]
+
+
+def generation(at):
+    """The generation of that driver."""
+    return 3 + at % len(DRIVERS)
+
+
+def endpoint(at):
+    """Its endpoint."""
+    return f"{generation(at)}/{16 + at % len(DRIVERS)}"
+
+
+def offer(at, seq, value, kind="u32"):
+    """An offer of the entry of this number."""
+    return f"offer {owner(at)}.entry-{at} {kind} {owner(at)} {generation(at)}.{seq} = {value}\n"
+
+
+def publish(mode, at, seq, value, kind="u32"):
+    """Its publication by its driver."""
+    return f"publish {endpoint(at)} {mode} {owner(at)}.entry-{at} {kind} {generation(at)}.{seq} = {value}\n"
+
+
+def drivers():
+    """RS publishes the drivers' labels."""
+    for at, name in enumerate(DRIVERS):
+        yield f"publish 0/2 new {name} label {generation(at)}.0 = {endpoint(at)}\n"
+
+
+def labels(lines, chance):
+    """Offers of labels with rising generations: all taken."""
+    generations = [0] * NAMES
+    for _ in range(lines):
+        at = chance.randrange(NAMES)
+        generations[at] += 1
+        yield f"offer service-{at} label rs {generations[at]}.0 = {generations[at]}/{at}\n"
+
+
+def offers_hot(lines, chance):
+    """Offers of numbers with rising versions: all taken."""
+    seqs = [0] * NAMES
+    for _ in range(lines):
+        at = chance.randrange(NAMES)
+        seqs[at] += 1
+        yield offer(at, seqs[at], chance.getrandbits(32))
+
+
+def offers_cold(lines, chance):
+    """Offers of which nine in ten are known or stale."""
+    seqs = [1000] * NAMES
+    for at in range(NAMES):
+        yield offer(at, 1000, 1000)
+    for _ in range(lines):
+        at, fresh = chance.randrange(NAMES), chance.random() < 0.1
+        seqs[at] += fresh
+        seq = seqs[at] if fresh or chance.random() < 0.5 else chance.randrange(1000)
+        yield offer(at, seq, seq)
+
+
+def publishes(lines, chance):
+    """Overwrites by sixteen live drivers."""
+    yield from drivers()
+    seqs = [0] * NAMES
+    for at in range(NAMES):
+        yield publish("new", at, 0, 0)
+    for _ in range(lines):
+        at = chance.randrange(NAMES)
+        seqs[at] += 1
+        yield publish("over", at, seqs[at], chance.getrandbits(32))
+
+
+def retrieves(lines, chance):
+    """Questions, of which one in twenty is for a key that isn't there."""
+    for at in range(NAMES):
+        yield offer(at, 0, at)
+    for _ in range(lines):
+        at = chance.randrange(NAMES)
+        yield f"retrieve {owner(at)}.entry-{at}{'.none' * (chance.random() < 0.05)} u32\n"
+
+
+def long(lines, chance):
+    """Offers, publications and questions of strings of up to 256 bytes and memory of up to 1024."""
+    yield from drivers()
+    seqs = [0] * NAMES
+
+    def value(at):
+        if at % 2:
+            return chance.randbytes(chance.randrange(1025)).hex()
+        return '"' + "".join(chance.choices(ESCAPED, k=chance.randrange(257))) + '"'
+
+    kinds = ("str", "mem")
+    for at in range(NAMES):
+        yield publish("new", at, 0, value(at), kinds[at % 2])
+    for _ in range(lines):
+        at, which = chance.randrange(NAMES), chance.random()
+        if which < 0.25:
+            yield f"retrieve {owner(at)}.entry-{at} {kinds[at % 2]}\n"
+            continue
+        seqs[at] += 1
+        yield (offer(at, seqs[at], value(at), kinds[at % 2]) if which < 0.85 else publish("over", at, seqs[at], value(at), kinds[at % 2]))
+
+
+ALL = {
+    "labels": labels,
+    "offers-hot": offers_hot,
+    "offers-cold": offers_cold,
+    "publish": publishes,
+    "retrieve": retrieves,
+    "long": long,
+}
+
+
+def script(name, lines):
+    """The lines of a workload, `all` at the end."""
+    yield from ALL[name](lines, random.Random(1))
+    yield "all\n"

@@ -1,0 +1,50 @@
+-- Parts in a row that make one thing, such as a key or a version, and what a reader of them finds.
+use Rattle.std.specs.Prelude.{◌≡◌, ℕ, suc, List, [], ◌∷◌, length}
+use Rattle.ds_names.specs.declared.kind.Kind.{Kind}
+use Rattle.ds_entry.specs.declared.body.Value.{Value}
+use Rattle.ds_entry.specs.Change.{kind_of, IsValue, IsInPlace}
+use Rattle.ds_line.specs.Part.{Part}
+use Rattle.ds_line.specs.Spelling.{newline, value_part}
+use Rattle.ds_line.specs.FaultPlace.{Stand}
+use Rattle.ds_line.specs.declared.stop.Stop.{Stop}
+use Rattle.ds_line.specs.declared.stop.Stop.TheVariants.{BadPart, NoRoom}
+
+-- what the parts stand for, which of these there are, and how each is spelled
+pub record Piece : Type 1 where
+  pub Of : Type 0
+  pub Can : Of → Type 0
+  pub parts : Of → List Part
+
+-- all parts of the thing stand at the front, and the rest comes behind them
+pub record Found (p : Piece) (thing : p.Of) (bytes rest : List ℕ) : Type 0 where
+  pub can : p.Can thing
+  pub front : Stand (length (p.parts thing)) (p.parts thing) bytes rest
+
+-- the most parts that can be read of such a thing end where the rest begins, and of none do all parts stand there
+pub record Breaks (p : Piece) (bytes rest : List ℕ) : Type 0 where
+  pub count : ℕ
+  pub thing : p.Of
+  pub can : p.Can thing
+  pub front : Stand count (p.parts thing) bytes rest
+  pub most : (other : p.Of) (after : List ℕ) → p.Can other → ¬ Stand (suc count) (p.parts other) bytes after
+  pub none : (other : p.Of) (after : List ℕ) → p.Can other → ¬ Stand (length (p.parts other)) (p.parts other) bytes after
+
+-- Why nothing is read: so many bytes are left from the first part on that can't be read; or all parts stand there, and
+-- there is no room for what they say.
+abbrev pub StopsIn : Piece → Stop → List ℕ → Type 0
+StopsIn p (BadPart left) bytes = (rest : List ℕ) × Breaks p bytes rest × (length rest ≡ left)
+StopsIn p NoRoom bytes = (thing : p.Of) × (rest : List ℕ) × Found p thing bytes rest
+
+-- a value of the kind
+pub record IsValueOf (kind : Kind) (value : Value) : Type 0 where
+  pub valid : IsValue value
+  pub of : kind_of value ≡ kind
+
+-- a value of the kind, and the newline behind it
+abbrev pub last_value : Kind → Piece
+last_value kind = record { Of = Value; Can = IsValueOf kind; parts = λ (value : Value). value_part value ∷ newline ∷ [] }
+
+-- why no such value is read: there is no room for values alone that take memory
+abbrev pub StopsValue : Kind → Stop → List ℕ → Type 0
+StopsValue kind (BadPart left) bytes = StopsIn (last_value kind) (BadPart left) bytes
+StopsValue kind NoRoom bytes = (value : Value) × (rest : List ℕ) × Found (last_value kind) value bytes rest × ¬ IsInPlace value

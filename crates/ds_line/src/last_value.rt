@@ -1,0 +1,96 @@
+//! Values that end a line.
+
+ghost use Rattle.std.specs.Prelude.{IfOk, IfErr};
+ghost use Rattle.ds_names.specs.declared.kind.Kind.TheVariants.{Label, U32, Str, Mem};
+ghost use Rattle.ds_line.specs.Piece.{Found, last_value, StopsValue};
+
+use crate::parts::endpoint_at;
+use crate::stop::{Stop, stop_at};
+use crate::values::{hex_at, quoted_at};
+use ds_entry::{Blob, Text, Value};
+use ds_names::{Kind, read_byte, read_decimal};
+use std::alloc::Global;
+
+/// Reads a value of the kind and the newline behind it, and gives the value with what follows the newline. It is
+/// for whoever reads lines of its own that end with a value.
+///
+/// A label's value is `generation/slot`, of any generation. NoRoom comes only where the value and the newline stand
+/// there: a label or a number takes no memory.
+pub fn last_value_at(alloc: Global, kind: Kind, bytes: &[u8]) -> Result<(Value, &[u8]), Stop>
+    ensures found { IfOk result (λ r. Found (last_value kind) r.0 bytes.now r.1.now) }
+    ensures stop { IfErr result (λ stop. StopsValue kind stop bytes.now) }
+{
+    match kind {
+        Kind::Label => label_at(bytes),
+        Kind::U32 => number_at(bytes),
+        Kind::Str => text_at(alloc, bytes),
+        Kind::Mem => blob_at(alloc, bytes),
+    }
+}
+
+// Reads a label's value.
+fn label_at(bytes: &[u8]) -> Result<(Value, &[u8]), Stop>
+    ensures found { IfOk result (λ r. Found (last_value Label) r.0 bytes.now r.1.now) }
+    ensures stop { IfErr result (λ stop. StopsValue Label stop bytes.now) }
+{
+    let Some(read) = endpoint_at(bytes) else {
+        return Err(stop_at(bytes));
+    };
+    let (endpoint, rest) = read;
+    let Some(rest) = read_byte(rest, b'\n') else {
+        return Err(stop_at(rest));
+    };
+    Ok((Value::Label(endpoint), rest))
+}
+
+// Reads a number.
+fn number_at(bytes: &[u8]) -> Result<(Value, &[u8]), Stop>
+    ensures found { IfOk result (λ r. Found (last_value U32) r.0 bytes.now r.1.now) }
+    ensures stop { IfErr result (λ stop. StopsValue U32 stop bytes.now) }
+{
+    let Some((number, rest)) = read_decimal(bytes, 4294967295) else {
+        return Err(stop_at(bytes));
+    };
+    let Some(rest) = read_byte(rest, b'\n') else {
+        return Err(stop_at(rest));
+    };
+    Ok((Value::U32(number as u32), rest))
+}
+
+// Reads a text.
+fn text_at(alloc: Global, bytes: &[u8]) -> Result<(Value, &[u8]), Stop>
+    ensures found { IfOk result (λ r. Found (last_value Str) r.0 bytes.now r.1.now) }
+    ensures stop { IfErr result (λ stop. StopsValue Str stop bytes.now) }
+{
+    let mut block = [0u8; 256];
+    let Some((len, rest)) = quoted_at(bytes, &mut block) else {
+        return Err(stop_at(bytes));
+    };
+    let Some(rest) = read_byte(rest, b'\n') else {
+        return Err(stop_at(rest));
+    };
+    match Text::read(alloc, &block[..len]) {
+        Ok(text) => Ok((Value::Str(text), rest)),
+        Err(_) => Err(Stop::NoRoom),
+    }
+}
+
+// Reads a blob.
+fn blob_at(alloc: Global, bytes: &[u8]) -> Result<(Value, &[u8]), Stop>
+    ensures found { IfOk result (λ r. Found (last_value Mem) r.0 bytes.now r.1.now) }
+    ensures stop { IfErr result (λ stop. StopsValue Mem stop bytes.now) }
+{
+    let Some((digits, rest)) = hex_at(bytes) else {
+        return Err(stop_at(bytes));
+    };
+    let Some(rest) = read_byte(rest, b'\n') else {
+        return Err(stop_at(rest));
+    };
+    let Ok(decoded) = hex::decode(alloc, digits) else {
+        return Err(Stop::NoRoom);
+    };
+    match Blob::of(decoded) {
+        Some(blob) => Ok((Value::Mem(blob), rest)),
+        None => Err(Stop::NoRoom),
+    }
+}

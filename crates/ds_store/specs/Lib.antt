@@ -1,0 +1,6 @@
+pub mod State
+pub mod Content
+pub mod Judging
+pub mod Machine
+pub mod Stands
+pub mod Kept

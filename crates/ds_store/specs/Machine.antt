@@ -1,0 +1,216 @@
+-- The steps of the store's machine.
+use Rattle.std.specs.Prelude.{◌≡◌, ℕ, ◌+◌, ◌<◌, ◌≤◌, ◌⊎◌, List, [], ◌∷◌, ◌++◌, length, take, fold, Option, Some, None, Result, Ok, Err}
+use Rattle.std.specs.Option.{option_map, option_map_or, option_and_then}
+use Rattle.ds_names.specs.declared.kind.Kind.{Kind}
+use Rattle.ds_names.specs.declared.kind.Kind.TheVariants as kinds
+use Rattle.ds_names.specs.declared.key.Key.{Key}
+use Rattle.ds_names.specs.declared.version.Version.{Version}
+use Rattle.ds_names.specs.Endpoint.{EndpointRecord}
+use Rattle.ds_entry.specs.declared.body.Value.{Value}
+use Rattle.ds_entry.specs.declared.body.Body.{Body}
+use Rattle.ds_entry.specs.declared.body.Body.TheVariants.{Put, Gone}
+use Rattle.ds_entry.specs.Change.{ChangeRecord}
+use Rattle.ds_join.specs.declared.merge.Merge.{Merge as Join}
+use Rattle.ds_join.specs.declared.merge.Merge.TheVariants as joins
+use Rattle.ds_join.specs.Top.{tops}
+use Rattle.ds_join.specs.Reading.{value_of}
+use Rattle.ds_store.specs.State.{State, accepts, position, owed}
+use Rattle.ds_store.specs.Judging.{first_cause, held_at, standing_of, against_change, against_asked, against_sweep, against_merge, change_asked, published, deleted, name_of, tombstones}
+use Rattle.ds_store.specs.declared.store.asking.Asked.{Asked}
+use Rattle.ds_store.specs.declared.judging.Cause.{Cause}
+use Rattle.ds_store.specs.declared.judging.Cause.TheVariants as causes
+use Rattle.ds_store.specs.declared.refusal.Refusal.{Refusal}
+use Rattle.ds_store.specs.declared.refusal.Refusal.TheVariants as refusals
+use Rattle.ds_store.specs.declared.command.Command.{Command}
+use Rattle.ds_store.specs.declared.command.Command.TheVariants.{Publish, Delete, Sweep, Retrieve, NameOf, Merge}
+use Rattle.ds_store.specs.declared.command.Reply.{Reply}
+use Rattle.ds_store.specs.declared.command.Reply.TheVariants.{Changed, Known, Swept, Found, Named, Merged, MergeStopped, Refused}
+
+-- the refusal for a cause, at a change of this version
+abbrev pub refusal_for : Version → Cause → Refusal
+refusal_for v causes.TooMany = refusals.TooMany
+refusal_for v causes.BadKind = refusals.BadKind
+refusal_for v causes.BadLabel = refusals.BadLabel
+refusal_for v causes.BadVersion = refusals.BadVersion
+refusal_for v causes.NoCaller = refusals.NoCaller
+refusal_for v causes.NotAllowed = refusals.NotAllowed
+refusal_for v causes.NotOwner = refusals.NotOwner
+refusal_for v causes.Clash = refusals.Clash v
+refusal_for v causes.Stale = refusals.Stale
+refusal_for v causes.Known = refusals.Stale
+refusal_for v causes.Exists = refusals.Exists
+refusal_for v causes.NotFound = refusals.NotFound
+refusal_for v causes.Full = refusals.Full
+refusal_for v causes.Worn = refusals.Worn
+
+-- a repeat is known, and every other cause refuses
+abbrev pub answer_for : Version → Cause → Reply
+answer_for v causes.Known = Known
+answer_for v cause = Refused (refusal_for v cause)
+
+-- what is held: of each key the change with the greatest version, in key order
+abbrev pub held : State → List ChangeRecord
+held s = tops s.accepted
+
+-- ---- a Publish or a Delete
+abbrev pub cause_against : State → Asked → Body → Option Cause
+cause_against s a body = first_cause (against_asked (standing_of (held s) (position s) a.key) (name_of (held s) a.caller) a body)
+
+-- it takes effect unless a cause stands against it
+abbrev pub asking : State → Asked → Body → Reply × State
+asking s a body =
+    option_map_or (λ cause. (answer_for a.version cause, s)) (cause_against s a body)
+    (Changed (owed s (change_asked (name_of (held s) a.caller) a body ∷ [])), accepts s (change_asked (name_of (held s) a.caller) a body ∷ []))
+
+-- ---- a Sweep
+abbrev pub sweeping : State → List ChangeRecord → Option Cause → Reply × State
+sweeping s made cause = option_map_or (λ c. (Refused (refusal_for (record { epoch = 0; seq = 0 }) c), s)) cause (Swept (length made) (owed s made), accepts s made)
+
+-- ---- a Merge
+
+-- how far a merge has come: what it left, how many items it did, which of them took effect, how many were stale, and what stopped it
+pub record Course : Type 0 where
+  pub state : State
+  pub done : ℕ
+  pub taken : List ChangeRecord
+  pub stale : ℕ
+  pub stop : Option Refusal
+
+abbrev pub begun : State → Course
+begun s = record { state = s; done = 0; taken = []; stale = 0; stop = None }
+
+-- a merge passes over what is known or stale
+abbrev pub passed_as : Cause → Option Join
+passed_as causes.Known = Some joins.Known
+passed_as causes.Stale = Some joins.Stale
+passed_as _ = None
+
+-- an item takes effect, is known or stale, or stops the merge
+abbrev pub item_judged : Course → ChangeRecord → Option Cause → Course
+item_judged k c None = record k { state = accepts k.state (c ∷ []); done = k.done + 1; taken = k.taken ++ c ∷ [] }
+item_judged k c (Some causes.Known) = record k { done = k.done + 1 }
+item_judged k c (Some causes.Stale) = record k { done = k.done + 1; stale = k.stale + 1 }
+item_judged k c (Some cause) = record k { stop = Some (refusal_for c.version cause) }
+
+abbrev pub cause_of : State → ChangeRecord → Option Cause
+cause_of s c = first_cause (against_change (standing_of (held s) (position s) c.key) c)
+
+-- one more item, unless the merge was stopped
+abbrev pub item_merged : Course → ChangeRecord → Course
+item_merged k c = option_map_or (λ stop. k) k.stop (item_judged k c (cause_of k.state c))
+
+-- the items in order, up to the first that is refused
+abbrev pub course : State → List ChangeRecord → Course
+course s items = fold item_merged (begun s) items
+
+-- the reply of a merge that began in this state
+abbrev pub merge_reply : State → Course → Reply
+merge_reply s k = option_map_or (λ fault. MergeStopped k.done fault (owed s k.taken)) k.stop (Merged k.done (length k.taken) k.stale (owed s k.taken))
+
+abbrev pub merging : State → List ChangeRecord → Option Cause → Reply × State
+merging s items cause = option_map_or (λ c. (Refused (refusal_for (record { epoch = 0; seq = 0 }) c), s)) cause (merge_reply s (course s items), (course s items).state)
+
+-- an item is refused for this cause, and the merge stops
+pub record IsStopped (s : State) (c : ChangeRecord) (fault : Refusal) (cause : Cause) : Type 0 where
+  pub stands : cause_of s c ≡ Some cause
+  pub not_passed : passed_as cause ≡ None
+  pub fault_is : fault ≡ refusal_for c.version cause
+
+-- what becomes of one item: it takes effect, is passed over, or is refused, also for want of memory
+abbrev pub MergesItem : State → ChangeRecord → Result Join Refusal → State → Type 0
+MergesItem s c (Ok joins.Taken) t = (cause_of s c ≡ None) × (t ≡ accepts s (c ∷ []))
+MergesItem s c (Ok joins.Known) t = (cause_of s c ≡ Some causes.Known) × (t ≡ s)
+MergesItem s c (Ok joins.Stale) t = (cause_of s c ≡ Some causes.Stale) × (t ≡ s)
+MergesItem s c (Err fault) t = (t ≡ s) × ((fault ≡ refusals.NoRoom) ⊎ ((cause : Cause) × IsStopped s c fault cause))
+
+-- how many are taken by this, and how many stale
+abbrev pub taken_by : Join → ℕ
+taken_by joins.Taken = 1
+taken_by joins.Known = 0
+taken_by joins.Stale = 0
+
+abbrev pub stale_by : Join → ℕ
+stale_by joins.Taken = 0
+stale_by joins.Known = 0
+stale_by joins.Stale = 1
+
+-- ---- all commands
+
+-- the answer where there is one, else NotFound
+abbrev pub found_or : Option Reply → Reply
+found_or (Some reply) = reply
+found_or None = Refused refusals.NotFound
+
+-- the value that is live for the key
+abbrev pub live_at : State → Key → Option Value
+live_at s key = option_and_then value_of (held_at (held s) key)
+
+abbrev pub retrieving : State → Key → Reply × State
+retrieving s key = (found_or (option_map Found (live_at s key)), s)
+
+abbrev pub naming : State → EndpointRecord → Reply × State
+naming s endpoint = (found_or (option_map Named (name_of (held s) endpoint)), s)
+
+-- the answer to a command, and the state after it
+abbrev pub outcome : State → Command → Reply × State
+outcome s (Publish caller key version value overwrite) = asking s (published caller key version overwrite) (Put value)
+outcome s (Delete caller key version) = asking s (deleted caller key version) Gone
+outcome s (Sweep caller owner generation) =
+    sweeping s (tombstones (held s) owner generation) (first_cause (against_sweep (position s) (length (tombstones (held s) owner generation)) caller))
+outcome s (Retrieve key) = retrieving s key
+outcome s (NameOf endpoint) = naming s endpoint
+outcome s (Merge items) = merging s items (first_cause (against_merge (length items)))
+
+-- the reply and the state are these
+pub record IsOutcome (out : Reply × State) (reply : Reply) (new : State) : Type 0 where
+  pub reply_is : reply ≡ out.0
+  pub state_is : new ≡ out.1
+
+-- memory was wanted, and nothing changed
+pub record WantsRoom (old : State) (reply : Reply) (new : State) : Type 0 where
+  pub reply_is : reply ≡ Refused refusals.NoRoom
+  pub state_is : new ≡ old
+
+abbrev pub Answers : State → Reply × State → Reply → State → Type 0
+Answers old out reply new = IsOutcome out reply new ⊎ WantsRoom old reply new
+
+-- memory was wanted after so many items of a merge, none of which was refused, and those stand
+pub record StopsForRoom (old : State) (items : List ChangeRecord) (reply : Reply) (new : State) (done : ℕ) : Type 0 where
+  pub few : length items ≤ 256
+  pub some_left : done < length items
+  pub not_refused : (course old (take done items)).stop ≡ None
+  pub reply_is : reply ≡ MergeStopped done refusals.NoRoom (owed old (course old (take done items)).taken)
+  pub state_is : new ≡ (course old (take done items)).state
+
+-- a merge was stopped so, after some number of items
+abbrev pub MergeWantsRoom : State → Command → Reply → State → Type 0
+MergeWantsRoom old (Merge items) reply new = (done : ℕ) × StopsForRoom old items reply new done
+MergeWantsRoom old _ reply new = ⊥
+
+-- one step of the machine
+abbrev pub Step : State → Command → Reply → State → Type 0
+Step old command reply new = Answers old (outcome old command) reply new ⊎ MergeWantsRoom old command reply new
+
+-- these replies to these commands, one step after the other
+abbrev pub Run : State → List Command → List Reply → State → Type 0
+Run old [] [] new = new ≡ old
+Run old (command ∷ commands) (reply ∷ replies) new = (mid : State) × Step old command reply mid × Run mid commands replies new
+Run old [] (reply ∷ replies) new = ⊥
+Run old (command ∷ commands) [] new = ⊥
+
+-- the first of the commands were answered so, and no others
+abbrev pub RunsFirst : State → List Command → State → Type 0
+RunsFirst old commands new = (done : ℕ) × (replies : List Reply) × Run old (take done commands) replies new
+
+-- values of the kind are held in place
+abbrev pub IsKindInPlace : Kind → Type 0
+IsKindInPlace kinds.Label = Unit {0}
+IsKindInPlace kinds.U32 = Unit {0}
+IsKindInPlace kinds.Str = ⊥
+IsKindInPlace kinds.Mem = ⊥
+
+-- the command takes no memory: a Retrieve of a label or a u32 key, and NameOf
+abbrev pub TakesNoMemory : Command → Type 0
+TakesNoMemory (Retrieve key) = IsKindInPlace key.kind
+TakesNoMemory (NameOf endpoint) = Unit {0}
+TakesNoMemory _ = ⊥

@@ -1,0 +1,77 @@
+//! What a store is asked, and what it answers.
+
+use crate::refusal::Refusal;
+use ds_entry::{Items, Value};
+use ds_names::{Endpoint, Generation, Key, Name, Version};
+
+/// A command to a store.
+#[derive(Debug, Drop)]
+pub enum Command {
+    /// Puts a value under a key in the name of the caller, over a live entry only with `overwrite`.
+    Publish {
+        caller: Endpoint,
+        key: Key,
+        version: Version,
+        value: Value,
+        overwrite: bool,
+    },
+    /// Leaves a tombstone under the key of a live entry of the caller's.
+    Delete {
+        caller: Endpoint,
+        key: Key,
+        version: Version,
+    },
+    /// Ends all live entries of an owner, labels aside, whose epochs are at most the generation.
+    Sweep {
+        caller: Endpoint,
+        owner: Name,
+        generation: Generation,
+    },
+    /// Asks for the value of a live entry.
+    Retrieve {
+        key: Key,
+    },
+    /// Asks for the least name whose live label holds the endpoint.
+    NameOf {
+        endpoint: Endpoint,
+    },
+    /// Takes over changes that another holder gave, at most 256. No caller is asked.
+    Merge {
+        items: Items,
+    },
+}
+
+/// What a store answers. `owed` is the mask of the subscriptions whose query a changed key is under.
+#[derive(Debug, PartialEq, Eq, Drop)]
+pub enum Reply {
+    /// The change took effect.
+    Changed {
+        owed: u64,
+    },
+    /// The change is held already.
+    Known,
+    /// So many entries were ended.
+    Swept {
+        count: usize,
+        owed: u64,
+    },
+    /// The value of a live entry.
+    Found(Value),
+    /// The name of an endpoint.
+    Named(Name),
+    /// All items were done: some were taken, some were stale, and the others were known.
+    Merged {
+        done: usize,
+        taken: usize,
+        stale: usize,
+        owed: u64,
+    },
+    /// The first items were done, and the next one was refused.
+    MergeStopped {
+        done: usize,
+        fault: Refusal,
+        owed: u64,
+    },
+    /// The command was refused, and nothing changed.
+    Refused(Refusal),
+}

@@ -1,0 +1,58 @@
+//! Why a store refuses.
+
+use ds_names::Version;
+use thiserror::Error;
+
+/// Why a command was refused, in the order in which the causes are judged, or why no store was opened.
+#[derive(Clone, Copy, Debug, PartialEq, Eq, Error)]
+pub enum Refusal {
+    /// A Merge has more than 256 items.
+    #[error("more than 256 items")]
+    TooMany,
+    /// The value is of another kind than the key.
+    #[error("the value is of another kind than the key")]
+    BadKind,
+    /// No change of a label: its name is `rs`, its epoch is 0 or isn't its endpoint's generation, or its
+    /// sequence number isn't 0, or 1 where it is deleted.
+    #[error("no change of a label")]
+    BadLabel,
+    /// The epoch isn't the caller's generation, or the sequence number is 4294967295, which only sweeps use.
+    #[error("the version isn't one of the caller")]
+    BadVersion,
+    /// The caller isn't RS, and no live label holds it.
+    #[error("the caller has no name")]
+    NoCaller,
+    /// Only RS publishes labels and sweeps.
+    #[error("only RS may do this")]
+    NotAllowed,
+    /// The change that is held for the key has another owner.
+    #[error("the key has another owner")]
+    NotOwner,
+    /// The change that is held for the key has this version and another body.
+    #[error("the key has another change of version {version:?}")]
+    Clash { version: Version },
+    /// The change that is held for the key has a greater version.
+    #[error("the key has a greater version")]
+    Stale,
+    /// The entry is live, and isn't to be overwritten.
+    #[error("the entry is live")]
+    Exists,
+    /// There is no live entry of the key, or no live label that holds the endpoint.
+    #[error("there is no such entry")]
+    NotFound,
+    /// The key isn't held, and 1024 other keys are.
+    #[error("1024 keys are held")]
+    Full,
+    /// The position would pass 2^62.
+    #[error("all positions are used")]
+    Worn,
+    /// Memory is wanting.
+    #[error("out of memory")]
+    NoRoom,
+    /// The ring isn't 1 to 4096 (of `Store::open` alone).
+    #[error("a ring keeps 1 to 4096 changes")]
+    BadRing,
+    /// The first position is above 2^62 (of `Store::open` alone).
+    #[error("the first position is above 2^62")]
+    BadFirst,
+}

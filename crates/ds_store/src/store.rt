@@ -1,0 +1,203 @@
+//! Stores.
+
+ghost use Rattle.std.specs.Prelude.{◌≡◌, ◌≢◌, ◌<◌, ◌≤◌, ◌+◌, List, [], ◌∷◌, ◌++◌, length, None, IfOk, IfErr, OnOk, OnErr};
+ghost use Rattle.ds_entry.specs.Change.{ChangeRecord};
+ghost use Rattle.ds_join.specs.Held.{held_changes};
+ghost use Rattle.ds_join.specs.Top.{IsTop};
+ghost use Rattle.ds_store.specs.State.{State, opening, accepts, owed, last_place};
+ghost use Rattle.ds_store.specs.Judging.{held_at, TakesEffect};
+ghost use Rattle.ds_store.specs.Kept.{IsTakenOrNoRoom};
+ghost use Rattle.ds_store.specs.Stands.{Stands, IsOpenFault, IsRing};
+
+use crate::command::{Command, Reply};
+use crate::judging::LAST_PLACE;
+use crate::refusal::Refusal;
+use crate::search::name_of;
+use asking::{deleted, published};
+use ds_entry::{Body, Change};
+use ds_join::{Held, JoinFault, Merge};
+use ds_names::{Endpoint, Key, NoRoom};
+use std::alloc::Global;
+use std::marker::Model;
+
+mod asking;
+mod merging;
+mod sweeping;
+
+/// A replica of the data store: what it holds, and how many changes took effect.
+#[derive(Drop)]
+pub struct Store {
+    alloc: Global,
+    held: Held,
+    first: u64,
+    position: u64,
+    ring: u32,
+    incarnation: u64,
+    stamp: u64,
+}
+
+impl Model for Store {
+    ghost use Rattle.ds_store.specs.Content.{Content};
+    ghost use Rattle.ds_store.specs.Kept.{content_of, IsSound};
+
+    ghost Value = { Content };
+
+    ghost view = { content_of };
+
+    ghost invariant = { IsSound };
+}
+
+impl Store {
+    ghost use Rattle.ds_store.specs.Machine.{Answers, Step, TakesNoMemory, retrieving, naming, IsKindInPlace};
+
+    /// A store of this incarnation that holds nothing yet and whose first change will have the position
+    /// `first`. BadRing unless the ring is 1 to 4096, then BadFirst above 2^62.
+    pub fn open(alloc: Global, incarnation: u64, first: u64, ring: u32) -> Result<Store, Refusal>
+        ensures opened { IfOk result (λ store. Stands store (opening incarnation first ring)) }
+        ensures fits { OnOk result (IsRing ring × (first ≤ last_place)) }
+        ensures refused { IfErr result (λ refusal. IsOpenFault refusal first ring) }
+    {
+        if ring == 0 || ring > 4096 {
+            return Err(Refusal::BadRing);
+        }
+        if first > LAST_PLACE {
+            return Err(Refusal::BadFirst);
+        }
+        Ok(Store {
+            alloc,
+            held: Held::new(alloc),
+            first,
+            position: first,
+            ring,
+            incarnation,
+            stamp: first,
+        })
+    }
+
+    /// Answers a command, by one step of the store's machine.
+    ///
+    /// A command is refused for the first cause that stands against it, in the order of [`Refusal`]'s
+    /// variants; a repeat is `Known`, which is judged behind `Stale`. Every refusal but a stopped Merge
+    /// leaves the store as it was. NameOf, and Retrieve of a label or a number, take no memory.
+    pub fn apply(&mut self, command: Command) -> Reply
+        ensures step { (s : State) → Stands self.old s → (t : State) × Step s command result t × Stands self.new t }
+        ensures in_place { TakesNoMemory command → result ≢ Reply.Refused Refusal.NoRoom }
+    {
+        match command {
+            Command::Publish {
+                caller,
+                key,
+                version,
+                value,
+                overwrite,
+            } => self.ask(
+                &published(caller, key, version, overwrite),
+                Body::Put(value),
+            ),
+            Command::Delete {
+                caller,
+                key,
+                version,
+            } => self.ask(&deleted(caller, key, version), Body::Gone),
+            Command::Sweep {
+                caller,
+                owner,
+                generation,
+            } => self.sweep(caller, &owner, generation),
+            Command::Retrieve { key } => self.retrieve(key),
+            Command::NameOf { endpoint } => self.name(endpoint),
+            Command::Merge { items } => self.merge(&items),
+        }
+    }
+
+    /// What it holds: the tops of all changes that took effect.
+    pub fn held(&self) -> &Held
+        ensures value { held_changes result.now ≡ self.now.held }
+    {
+        &self.held
+    }
+
+    /// The position of the next change: the first one's, and one more for each change that took effect.
+    pub fn position(&self) -> u64
+        ensures value { result ≡ self.now.position }
+        ensures limit { self.now.position ≤ last_place }
+    {
+        self.position
+    }
+
+    /// The number by which its cursors are told from those of an earlier run.
+    pub fn incarnation(&self) -> u64
+        ensures { result ≡ self.now.incarnation }
+    {
+        self.incarnation
+    }
+
+    // A change against which nothing stands takes effect.
+    fn accept(&mut self, change: Change) -> Result<(), NoRoom>
+        requires taken { TakesEffect (held_at self.old.held change.key) (length self.old.held) change }
+        requires room { self.old.position < last_place }
+        ensures ok { OnOk result ((s : State) → Stands self.old s → Stands self.new (accepts s (change ∷ []))) }
+        ensures held { OnOk result (IsTop self.new.held (self.old.held ++ change ∷ [])) }
+        ensures position { OnOk result (self.new.position ≡ self.old.position + 1) }
+        ensures err { OnErr result (self.new ≡ self.old) }
+        ensures new_key { OnErr result (held_at self.old.held change.key ≡ None) }
+    {
+        let _count = self.held.len();
+        taken(self.held.merge(change))?;
+        self.position += 1;
+        Ok(())
+    }
+
+    // The subscriptions that some changes are owed to: none, since none is made yet.
+    fn owed(&self) -> u64
+        ensures { (s : State) (changes : List ChangeRecord) → Stands self.now s → result ≡ owed s changes }
+    {
+        let _position = self.position;
+        0
+    }
+
+    // The value of a live entry. It takes memory only to copy a string or memory.
+    fn retrieve(&self, key: Key) -> Reply
+        ensures answer { (s : State) → Stands self.now s → Answers s (retrieving s key) result s }
+        ensures in_place { IsKindInPlace key.kind → result ≢ Reply.Refused Refusal.NoRoom }
+    {
+        let Some(change) = self.held.get(&key) else {
+            return Reply::Refused(Refusal::NotFound);
+        };
+        let Body::Put(value) = change.body() else {
+            return Reply::Refused(Refusal::NotFound);
+        };
+        match value.copy(self.alloc) {
+            Ok(value) => Reply::Found(value),
+            Err(NoRoom) => Reply::Refused(Refusal::NoRoom),
+        }
+    }
+
+    // The name of an endpoint. It takes no memory.
+    fn name(&self, endpoint: Endpoint) -> Reply
+        ensures answer { (s : State) → Stands self.now s → Answers s (naming s endpoint) result s }
+        ensures in_place { result ≢ Reply.Refused Refusal.NoRoom }
+    {
+        match name_of(&self.held, endpoint) {
+            Some(name) => Reply::Named(name),
+            None => Reply::Refused(Refusal::NotFound),
+        }
+    }
+}
+
+// Only want of memory keeps out a change against which nothing that is held stands.
+fn taken(answer: Result<Merge, JoinFault>) -> Result<(), NoRoom>
+    requires { IsTakenOrNoRoom answer }
+    ensures ok { OnOk result (answer ≡ Ok Merge.Taken) }
+    ensures err { OnErr result (answer ≡ Err JoinFault.NoRoom) }
+{
+    match answer {
+        Ok(Merge::Taken) => Ok(()),
+        Ok(Merge::Known) => unreachable!(),
+        Ok(Merge::Stale) => unreachable!(),
+        Err(JoinFault::NotOwner) => unreachable!(),
+        Err(JoinFault::Clash { .. }) => unreachable!(),
+        Err(JoinFault::Full) => unreachable!(),
+        Err(JoinFault::NoRoom) => Err(NoRoom),
+    }
+}

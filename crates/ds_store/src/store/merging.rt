@@ -1,0 +1,108 @@
+//! Merges of what another holder gives.
+
+ghost use Rattle.std.specs.Prelude.{◌≡◌, ◌<◌, length, IfNone};
+ghost use Rattle.ds_store.specs.State.{State, last_place};
+ghost use Rattle.ds_store.specs.Machine.{Step, MergesItem, taken_by, stale_by, passed_as};
+ghost use Rattle.ds_store.specs.Judging.{first_cause, standing_of, held_at, against_change, TakesEffect};
+ghost use Rattle.ds_store.specs.Stands.{Stands};
+
+use crate::command::{Command, Reply};
+use crate::judging::{Cause, judge_change, refusal_for};
+use crate::refusal::Refusal;
+use crate::store::Store;
+use ds_entry::{Change, Items};
+use ds_join::Merge;
+use ds_names::NoRoom;
+
+impl Store {
+    // The first cause against a change that another holder gave.
+    fn cause_of(&self, change: &Change) -> Option<Cause>
+        ensures first { result ≡ first_cause (against_change (standing_of self.now.held self.now.position change.now.key) change.now) }
+        ensures taken { IfNone result (TakesEffect (held_at self.now.held change.now.key) (length self.now.held) change.now) }
+        ensures room { IfNone result (self.now.position < last_place) }
+    {
+        let count = self.held.len();
+        let held = self.held.get(change.key());
+        judge_change(held, count, self.position, change)
+    }
+
+    // One item of a merge: it takes effect, is passed over, or is refused.
+    fn merge_item(&mut self, item: &Change) -> Result<Merge, Refusal>
+        ensures { (s : State) → Stands self.old s → (t : State) × MergesItem s item.now result t × Stands self.new t }
+    {
+        if let Some(cause) = self.cause_of(item) {
+            return match passed_as(cause) {
+                Some(passed) => Ok(passed),
+                None => Err(refusal_for(item.version(), cause)),
+            };
+        }
+        let Ok(change) = item.copy(self.alloc) else {
+            return Err(Refusal::NoRoom);
+        };
+        match self.accept(change) {
+            Ok(()) => Ok(Merge::Taken),
+            Err(NoRoom) => Err(Refusal::NoRoom),
+        }
+    }
+
+    // The items take effect in order, up to the first that is refused.
+    pub(super) fn merge(&mut self, items: &Items) -> Reply
+        ensures { (s : State) → Stands self.old s → (t : State) × Step s (Command.Merge items.now) result t × Stands self.new t }
+    {
+        if items.len() > 256 {
+            return Reply::Refused(Refusal::TooMany);
+        }
+        let owed = self.owed();
+        let mut done = 0;
+        let mut taken = 0;
+        let mut stale = 0;
+        while let Some(item) = items.get(done) {
+            let join = match self.merge_item(item) {
+                Ok(join) => join,
+                Err(fault) => {
+                    return Reply::MergeStopped { done, fault, owed };
+                }
+            };
+            done += 1;
+            taken += taken_by(join);
+            stale += stale_by(join);
+        }
+        Reply::Merged {
+            done,
+            taken,
+            stale,
+            owed,
+        }
+    }
+}
+
+// How many items are taken by this.
+fn taken_by(join: Merge) -> usize
+    ensures { result ≡ taken_by join }
+{
+    match join {
+        Merge::Taken => 1,
+        Merge::Known | Merge::Stale => 0,
+    }
+}
+
+// How many items are stale by this.
+fn stale_by(join: Merge) -> usize
+    ensures { result ≡ stale_by join }
+{
+    match join {
+        Merge::Stale => 1,
+        Merge::Taken | Merge::Known => 0,
+    }
+}
+
+// What a merge passes over for this cause: a known or stale change.
+fn passed_as(cause: Cause) -> Option<Merge>
+    ensures { result ≡ passed_as cause }
+{
+    match cause {
+        Cause::Known => Some(Merge::Known),
+        Cause::Stale => Some(Merge::Stale),
+        _ => None,
+    }
+}

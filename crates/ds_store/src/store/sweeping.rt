@@ -1,0 +1,121 @@
+//! Sweeps, which end the entries of an owner that is dead.
+
+ghost use Rattle.std.specs.Prelude.{◌≡◌, ◌<◌, ◌≤◌, ◌+◌, ◌++◌, ◌∷◌, [], length, is_some, true, IfSome};
+ghost use Rattle.std.specs.Option.{option_copied};
+ghost use Rattle.std.specs.List.{find};
+ghost use Rattle.std.specs.List.Sorted.{IsStrictlySortedBy};
+ghost use Rattle.ds_entry.specs.Change.{IsChange};
+ghost use Rattle.ds_entry.specs.Covers.{change_cmp};
+ghost use Rattle.ds_join.specs.Reading.{comes_after};
+ghost use Rattle.ds_join.specs.Top.{IsTop};
+ghost use Rattle.ds_store.specs.State.{State, accepts, last_place};
+ghost use Rattle.ds_store.specs.Judging.{held_at, is_swept, tombstone, tombstones, TakesPlace};
+ghost use Rattle.ds_store.specs.Machine.{Step};
+ghost use Rattle.ds_store.specs.Stands.{Stands};
+
+use crate::command::{Command, Reply};
+use crate::judging::{LAST_PLACE, is_label, is_put, is_rs};
+use crate::refusal::Refusal;
+use crate::store::Store;
+use ds_entry::{Body, Change};
+use ds_names::{Endpoint, Generation, Key, Name, NoRoom, Version};
+
+// Whether a sweep ends the entry.
+fn is_swept(change: &Change, owner: &Name, generation: Generation) -> bool
+    ensures { result ≡ is_swept owner.now generation change.now }
+{
+    is_put(change)
+        && !is_label(change.key())
+        && change.owner() == owner
+        && change.version().epoch <= generation
+}
+
+// The tombstone that a sweep leaves for the entry.
+fn tombstone(change: &Change, owner: &Name, generation: Generation) -> Change
+    requires { is_swept owner.now generation change.now ≡ true }
+    ensures { result ≡ tombstone generation change.now }
+{
+    let version = Version {
+        epoch: generation,
+        seq: u32::MAX,
+    };
+    match Change::make(*change.key(), *change.owner(), version, Body::Gone) {
+        Ok(change) => change,
+        Err(_) => unreachable!(),
+    }
+}
+
+impl Store {
+    // What is held after a key, in key order.
+    fn next(&self, last: Option<&Key>) -> Option<&Change>
+        ensures value { option_copied result ≡ find (comes_after (option_copied last.entry)) self.now.held }
+        ensures change { IfSome (option_copied result) IsChange }
+        ensures in_order { IsStrictlySortedBy change_cmp self.now.held }
+        ensures few { length self.now.held ≤ 1024 }
+    {
+        let _count = self.held.len();
+        self.held.first_after(last)
+    }
+
+    // How many entries a sweep ends.
+    fn count_swept(&self, owner: &Name, generation: Generation) -> usize
+        ensures count { result ≡ length (tombstones self.now.held owner.now generation) }
+        ensures few { result ≤ 1024 }
+    {
+        let mut count = 0;
+        let mut last: Option<Key> = None;
+        while let Some(change) = self.next(last.as_ref()) {
+            if is_swept(change, owner, generation) {
+                count += 1;
+            }
+            last = Some(*change.key());
+        }
+        count
+    }
+
+    // A change takes the place of a held one, which takes no memory.
+    fn replace(&mut self, change: Change)
+        requires place { TakesPlace (held_at self.old.held change.key) change }
+        requires room { self.old.position < last_place }
+        ensures stands { (s : State) → Stands self.old s → Stands self.new (accepts s (change ∷ [])) }
+        ensures held { IsTop self.new.held (self.old.held ++ change ∷ []) }
+        ensures position { self.new.position ≡ self.old.position + 1 }
+    {
+        match self.accept(change) {
+            Ok(()) => {}
+            Err(NoRoom) => unreachable!(),
+        }
+    }
+
+    // The tombstones of a sweep take effect in key order.
+    fn end_all(&mut self, owner: &Name, generation: Generation)
+        requires { self.old.position + length (tombstones self.old.held owner.now generation) ≤ last_place }
+        ensures { (s : State) → Stands self.old s → Stands self.new (accepts s (tombstones self.old.held owner.now generation)) }
+    {
+        let mut last: Option<Key> = None;
+        while let Some(change) = self.next(last.as_ref()) {
+            let key = *change.key();
+            if is_swept(change, owner, generation) {
+                let tombstone = tombstone(change, owner, generation);
+                self.replace(tombstone);
+            }
+            last = Some(key);
+        }
+    }
+
+    // RS ends all live entries of an owner, labels aside, up to a generation. It takes no memory.
+    pub(super) fn sweep(&mut self, caller: Endpoint, owner: &Name, generation: Generation) -> Reply
+        ensures { (s : State) → Stands self.old s → (t : State) × Step s (Command.Sweep caller owner.now generation) result t × Stands self.new t }
+    {
+        if !is_rs(caller) {
+            return Reply::Refused(Refusal::NotAllowed);
+        }
+        let owed = self.owed();
+        let count = self.count_swept(owner, generation);
+        if count as u64 > LAST_PLACE - self.position {
+            return Reply::Refused(Refusal::Worn);
+        }
+        self.end_all(owner, generation);
+        Reply::Swept { count, owed }
+    }
+}

@@ -1,0 +1,20 @@
+"""A second opinion on `dsctl replay`, written from the rules of the script format and of the store, and not from the program."""
+from .lines import BadLine, read
+from .store import Store
+
+
+def replay(script):
+    """Answers a script: what is written, and the status."""
+    given = script.split(b"\n")
+    if not given[-1]:
+        given.pop()
+    store, answers, status = Store(), [], 0
+    for number, line in enumerate(given, 1):
+        try:
+            command, taken = read(line)
+        except BadLine as bad:
+            answers.append(b"badline %d %d" % (number, bad.place))
+            status = 1
+            break
+        answers += store.answer(command, taken)
+    return b"".join(it + b"\n" for it in answers), status

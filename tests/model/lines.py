@@ -1,0 +1,187 @@
+"""The lines of a script, read in parts from left to right.
+
+A bad line is named by the byte where its first part begins that can't be read. Each reader gives what its part says, a
+value as it is spelled.
+"""
+import re
+
+LONGEST = 4096  # bytes of a line, its newline not counted
+MOST_GENERATION = 2097151
+MOST_SLOT = 1023
+MOST_NUMBER = 4294967295  # of a sequence number and of a u32
+MOST_TEXT = 256  # bytes of a str
+MOST_BLOB = 1024  # bytes of a mem
+KINDS = [b"label", b"u32", b"str", b"mem"]  # in the order of keys
+NAME = re.compile(rb"[A-Za-z0-9._-]*")
+WORD = re.compile(rb"[A-Za-z0-9]*")
+DIGITS = re.compile(rb"[0-9]*")
+ENDPOINT = re.compile(rb"([0-9]+)/([0-9]+)|")
+HEX = re.compile(rb"[0-9a-f]*")
+QUOTED = re.compile(rb'"(?:[ !#-\[\]-~]|\\["\\])*"|')
+BYTE = re.compile(rb".?", re.DOTALL)
+
+
+class BadLine(Exception):
+    """A line that can't be read; `place` is where its first bad part begins."""
+
+    def __init__(self, place):
+        super().__init__(place)
+        self.place = place
+
+
+class Reader:
+    """Reads a line's parts from left to right."""
+
+    def __init__(self, line):
+        self.line = line
+        self.at = 0
+
+    def part(self, run, is_good):
+        """Reads the longest run here as one part, which must be good."""
+        found = run.match(self.line, self.at)
+        if not is_good(found.group()):
+            raise BadLine(self.at)
+        self.at = found.end()
+        return found.group()
+
+    def byte(self, wanted):
+        """Reads one byte, a part of its own."""
+        self.part(BYTE, lambda it: it == wanted)
+
+    def end(self):
+        """Reads the newline, the last part. (The line stands here without it.)"""
+        self.part(BYTE, lambda it: it == b"")
+
+    def behind_space(self, read, *given):
+        """Reads a space, and then what the reader `read` reads."""
+        self.byte(b" ")
+        return read(self, *given)
+
+
+def is_number(text, most):
+    """A decimal without leading zeros that isn't above `most`."""
+    return re.fullmatch(rb"0|[1-9][0-9]*", text) is not None and int(text) <= most
+
+
+def numbers_of(text):
+    """The generation and the slot of an endpoint's text, or None."""
+    found = re.fullmatch(rb"([0-9]+)/([0-9]+)", text)
+    if not found or not is_number(found[1], MOST_GENERATION) or not is_number(found[2], MOST_SLOT):
+        return None
+    return int(found[1]), int(found[2])
+
+
+def is_quoted(text):
+    """A text in quotes, of at most 256 bytes without its backslashes."""
+    return text != b"" and len(re.sub(rb"\\(.)", rb"\1", text[1:-1])) <= MOST_TEXT
+
+
+def is_hex(text):
+    """The hex of at most 1024 bytes."""
+    return len(text) % 2 == 0 and len(text) <= 2 * MOST_BLOB
+
+
+def name(reader):
+    return reader.part(NAME, lambda it: 1 <= len(it) <= 64)
+
+
+def number(reader, most):
+    return int(reader.part(DIGITS, lambda it: is_number(it, most)))
+
+
+def word(reader, *words):
+    return reader.part(WORD, lambda it: it in words)
+
+
+def endpoint(reader):
+    return numbers_of(reader.part(ENDPOINT, lambda it: numbers_of(it) is not None))
+
+
+def key(reader):
+    """A name and the place of a kind."""
+    return name(reader), KINDS.index(reader.behind_space(word, *KINDS))
+
+
+def version(reader):
+    """An epoch and a sequence number."""
+    epoch = number(reader, MOST_GENERATION)
+    reader.byte(b".")
+    return epoch, number(reader, MOST_NUMBER)
+
+
+def value(reader, kind, is_good=lambda it: True):
+    """A value of the kind, as it is spelled."""
+    run, is_spelled = [
+        (ENDPOINT, lambda it: numbers_of(it) is not None),
+        (DIGITS, lambda it: is_number(it, MOST_NUMBER)),
+        (QUOTED, is_quoted),
+        (HEX, is_hex),
+    ][kind]
+    return reader.part(run, lambda it: is_spelled(it) and is_good(it))
+
+
+def change(reader):
+    """A change: its key, its owner, its version, and its value as it is spelled, which is None for a tombstone."""
+    entry = name(reader)
+    reader.byte(b" ")
+    kind = KINDS.index(reader.part(WORD, lambda it: it in KINDS and (it, entry) != (b"label", b"rs")))
+    is_label = kind == 0
+    reader.byte(b" ")
+    owner = reader.part(NAME, lambda it: it == b"rs" if is_label else 1 <= len(it) <= 64)
+    reader.byte(b" ")
+    epoch = int(reader.part(DIGITS, lambda it: is_number(it, MOST_GENERATION) and not (is_label and it == b"0")))
+    reader.byte(b".")
+    seq = number(reader, 1 if is_label else MOST_NUMBER)
+    reader.byte(b" ")
+    marks = b"=-"[seq : seq + 1] if is_label else b"-" if seq == MOST_NUMBER else b"=-"
+    mark = reader.part(BYTE, lambda it: it != b"" and it in marks)
+    spelled = None
+    if mark == b"=":
+        own = b"%d/" % epoch  # a label's generation is its epoch
+        spelled = reader.behind_space(value, kind, lambda it: not is_label or it.startswith(own))
+    return (entry, kind), owner, (epoch, seq), spelled
+
+
+def put(reader):
+    """What a `publish` takes."""
+    caller = endpoint(reader)
+    overwrite = reader.behind_space(word, b"new", b"over") == b"over"
+    entry = reader.behind_space(key)
+    numbered = reader.behind_space(version)
+    reader.byte(b" ")
+    reader.byte(b"=")
+    return caller, entry, numbered, reader.behind_space(value, entry[1]), overwrite
+
+
+def deletion(reader):
+    """What a `delete` takes."""
+    return endpoint(reader), reader.behind_space(key), reader.behind_space(version)
+
+
+def sweep(reader):
+    """What a `sweep` takes."""
+    return endpoint(reader), reader.behind_space(name), reader.behind_space(number, MOST_GENERATION)
+
+
+# What each command takes behind its word and a space; `show` and `all` take nothing.
+COMMANDS = {
+    b"offer": change,
+    b"show": None,
+    b"all": None,
+    b"publish": put,
+    b"delete": deletion,
+    b"sweep": sweep,
+    b"retrieve": lambda reader: (key(reader),),
+    b"nameof": lambda reader: (endpoint(reader),),
+}
+
+
+def read(line):
+    """Reads a line without its newline: its command word, and what the command takes."""
+    if len(line) > LONGEST:
+        raise BadLine(LONGEST)
+    reader = Reader(line)
+    command = word(reader, *COMMANDS)
+    taken = () if COMMANDS[command] is None else reader.behind_space(COMMANDS[command])
+    reader.end()
+    return command, taken

@@ -1,0 +1,140 @@
+"""A data store, as small as it can be: what it holds, and the answer to each command in the words of a script."""
+from . import lines
+
+MOST_KEYS = 1024
+RS = (0, 2)  # the endpoint of RS
+LABEL = 0  # the place of the kind `label`
+
+
+class Refused(Exception):
+    """A refusal; its text is the word of a script."""
+
+
+class Store:
+    """What is held: a dictionary from keys to (owner, version, value), the value being None for a tombstone."""
+
+    def __init__(self):
+        self.held = {}
+
+    def answer(self, command, taken):
+        """Answers a command by the lines that a script prints."""
+        try:
+            return getattr(self, command.decode())(*taken)
+        except Refused as refused:
+            return [b"refused " + str(refused).encode()]
+
+    # ---- changes that others made ----
+
+    def offer(self, key, owner, version, value):
+        """Merges one change."""
+        try:
+            return self.take(key, owner, version, value)
+        except Stale:
+            return [b"stale"]
+
+    def take(self, key, owner, version, value, overwrite=True, is_deletion=False):
+        """Takes a change over, or says what stands against it."""
+        has = self.held.get(key)
+        if has:
+            if owner != has[0]:
+                raise Refused("notowner")
+            if version == has[1]:
+                if value == has[2]:
+                    return [b"known"]
+                raise Refused("clash %d.%d" % version)
+            if version < has[1]:
+                raise Stale("stale")
+        is_live = has is not None and has[2] is not None
+        if is_live and not overwrite:
+            raise Refused("exists")
+        if is_deletion and not is_live:
+            raise Refused("notfound")
+        if not has and len(self.held) == MOST_KEYS:
+            raise Refused("full")
+        self.held[key] = (owner, version, value)
+        return [b"taken"]
+
+    # ---- changes that a caller asks for ----
+
+    def publish(self, caller, key, version, value, overwrite):
+        """Puts a value in the caller's name."""
+        return self.take(key, self.owner(caller, key, version, value), version, value, overwrite)
+
+    def delete(self, caller, key, version):
+        """Leaves a tombstone in the caller's name."""
+        return self.take(key, self.owner(caller, key, version, None), version, None, is_deletion=True)
+
+    def owner(self, caller, key, version, value):
+        """The owner of what a caller asks for: the caller's name."""
+        epoch, seq = version
+        if key[1] == LABEL:
+            is_good = seq == 1 if value is None else seq == 0 and lines.numbers_of(value)[0] == epoch
+            if key[0] == b"rs" or epoch == 0 or not is_good:
+                raise Refused("badlabel")
+        elif epoch != caller[0] or seq == lines.MOST_NUMBER:
+            raise Refused("badversion")
+        named = self.name_of(caller)
+        if named is None:
+            raise Refused("nocaller")
+        if key[1] == LABEL and caller != RS:
+            raise Refused("notallowed")
+        return named
+
+    def name_of(self, endpoint):
+        """The least name whose live label holds the endpoint, or None."""
+        if endpoint == RS:
+            return b"rs"
+        spelled = b"%d/%d" % endpoint
+        return min((name for (name, kind), (_, _, value) in self.held.items() if kind == LABEL and value == spelled), default=None)
+
+    def sweep(self, caller, owner, generation):
+        """Ends what a dead owner left."""
+        if caller != RS:
+            raise Refused("notallowed")
+        swept = [
+            key
+            for key, (of, (epoch, _), value) in self.held.items()
+            if key[1] != LABEL and of == owner and epoch <= generation and value is not None
+        ]
+        for key in swept:
+            self.held[key] = (owner, (generation, lines.MOST_NUMBER), None)
+        return [b"swept %d" % len(swept)]
+
+    # ---- questions ----
+
+    def retrieve(self, key):
+        """The value of a live entry."""
+        _, _, value = self.held.get(key, (None, None, None))
+        if value is None:
+            raise Refused("notfound")
+        return [b"found " + value]
+
+    def nameof(self, endpoint):
+        """The name of an endpoint."""
+        named = self.name_of(endpoint)
+        if named is None:
+            raise Refused("notfound")
+        return [b"named " + named]
+
+    def show(self):
+        """The puts that are held."""
+        return self.listed(lambda value: value is not None)
+
+    def all(self):
+        """All that is held."""
+        return self.listed(lambda value: True)
+
+    def listed(self, is_shown):
+        """The lines of what is held, in order of the names' bytes and then the kinds, and then their number."""
+        shown = [line_of(key, *self.held[key]) for key in sorted(self.held) if is_shown(self.held[key][2])]
+        return shown + [b"shown %d" % len(shown)]
+
+
+class Stale(Refused):
+    """A change that is older than what is held: an offer of it is no fault."""
+
+
+def line_of(key, owner, version, value):
+    """The line of a change."""
+    body = b"-" if value is None else b"= " + value
+    return b"%s %s %s %d.%d %s" % (key[0], lines.KINDS[key[1]], owner, *version, body)
