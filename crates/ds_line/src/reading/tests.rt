@@ -1,4 +1,5 @@
 use super::*;
+use ds_entry::{Blob, Text};
 use std::test::Fail;
 
 // A line of each kind, and a tombstone of each rule.

@@ -12,7 +12,7 @@ const FAULTS: [(&[u8], usize); 85] = [
     (b" show", 0),
     (b"show-", 4),
     (b"show ", 4),
-    (b"allx", 3),
+    (b"all-", 3),
     (b"offers x u32 eth0 3.0 = 1", 0),
     (b"offer", 5),
     (b"offer ", 6),
@@ -41,7 +41,7 @@ const FAULTS: [(&[u8], usize); 85] = [
     (b"publish 0/2 over x u32 3,0 = 1", 24),
     (b"publish 0/2 over x u32 3.00 = 1", 25),
     (b"publish 0/2 over x u32 3.4294967296 = 1", 25),
-    (b"publish 0/2 over x u32 3.0 - 1", 26),
+    (b"publish 0/2 over x u32 3.0 - 1", 27),
     (b"publish 0/2 over x u32 3.0= 1", 26),
     (b"publish 0/2 over x u32 3.0 -", 27),
     (b"publish 0/2 over x u32 3.0 =", 28),
@@ -96,7 +96,10 @@ const FAULTS: [(&[u8], usize); 85] = [
 fn each_part_has_its_place(rt: HostRuntime) {
     for (line, place) in &FAULTS {
         let fault = LineFault::BadLine { place: *place };
-        assert!(rt; read_command(rt.alloc(), line) == Err(fault));
+        assert!(rt;
+            read_command(rt.alloc(), line) == Err(fault),
+            "place {place}"
+        );
     }
 }
 
