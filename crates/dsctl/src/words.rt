@@ -32,9 +32,21 @@ line is waited for. The store keeps, for each name and kind, the change with the
 late or repeated message never brings a dead driver's endpoint back.
 
 Lines of a script:
-  offer CHANGE   merge one change into what is held; the answer is `taken`, `known` or `stale`
-  show           print the entries that stand, in order of their keys, then `shown N`
-  all            the same with tombstones
+  publish CALLER new NAME KIND EPOCH.SEQ = VALUE
+                     put a value in the caller's name; over a live entry with `over` for `new`
+  delete CALLER NAME KIND EPOCH.SEQ
+                     end a live entry of the caller's
+  sweep CALLER OWNER GENERATION
+                     end what a dead owner left, labels aside; the answer is `swept N`
+  retrieve NAME KIND ask for a value: `found VALUE`
+  nameof ENDPOINT    ask which label holds an endpoint: `named NAME`
+  offer CHANGE       merge one change, whoever made it
+  show               print the entries that stand, in order of their keys, then `shown N`
+  all                the same with tombstones
+
+The other answers are `taken`, `known` for a repeat, `stale`, and `refused` with a word. CALLER and
+ENDPOINT are GENERATION/SLOT; 0/2 is RS, which alone publishes labels and sweeps. An entry but a label
+has its caller's generation as its epoch.
 
 A change is a line `NAME KIND OWNER EPOCH.SEQ = VALUE`, which puts a value, or `NAME KIND OWNER EPOCH.SEQ -`,
 which says that the entry is gone. Of two changes of one name and kind the one with the greater version
@@ -43,18 +55,20 @@ EPOCH.SEQ stands. The kinds and their values:
          the sequence number 0 for a put and 1 for a tombstone
   u32    a number up to 4294967295
   str    \"text\" of up to 256 printable characters; \\\" and \\\\ stand for a quote and a backslash
-  mem    up to 1024 bytes in lower-case hex
-A change that can't be merged is answered by `refused` and a word.";
+  mem    up to 1024 bytes in lower-case hex";
 
 const AFTER_HELP: &str = "\
 Example session (lines behind `>` are typed, the others are printed):
-  > offer eth0 label rs 3.0 = 3/17
+  > publish 0/2 new eth0 label 3.0 = 3/17
+  taken
+  > publish 3/17 new mtu u32 3.0 = 1500
   taken
   > offer eth0 label rs 2.0 = 2/9
   stale
   > show
   eth0 label rs 3.0 = 3/17
-  shown 1
+  mtu u32 eth0 3.0 = 1500
+  shown 2
 
 Exit status:
   0  the whole script was answered
