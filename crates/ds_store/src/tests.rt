@@ -129,10 +129,10 @@ fn offer(
     Ok(store.apply(Command::Merge { items }))
 }
 
-// A Merge of `count` keys, which are numbered from `from` on.
-fn offers(alloc: Global, store: &mut Store, from: u32, count: u32) -> Result<Reply, Fail> {
+// A Merge of the keys that are numbered from `from` up to `to`, which is left out.
+fn offers(alloc: Global, store: &mut Store, from: u32, to: u32) -> Result<Reply, Fail> {
     let mut items = Items::new(alloc);
-    for i in from..from + count {
+    for i in from..to {
         let name = format!(in alloc; "k{i}")?;
         items.push(change(&name, "eth0", (1, 0), Some(i))?)?;
     }

@@ -39,18 +39,18 @@ fn a_full_store(rt: HostRuntime) -> Result<(), Fail> {
     for i in 0..3u32 {
         answered(
             &rt,
-            offers(alloc, &mut store, 256 * i, 256)?,
+            offers(alloc, &mut store, 256 * i, 256 * i + 256)?,
             merged(256, 256, 0),
         );
     }
     answered(
         &rt,
-        offers(alloc, &mut store, 700, 256)?,
+        offers(alloc, &mut store, 700, 956)?,
         merged(256, 188, 0),
     );
     answered(
         &rt,
-        offers(alloc, &mut store, 900, 256)?,
+        offers(alloc, &mut store, 900, 1156)?,
         stopped(121, Refusal::Full),
     );
     assert_eq!(rt; store.held().len(), 1024);
