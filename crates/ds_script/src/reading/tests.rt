@@ -1,4 +1,5 @@
 use super::*;
+use crate::split::split_line;
 use ds_entry::{Blob, Body, Change, Text, Value};
 use ds_names::{Endpoint, Generation, Key, Kind, Name, Version};
 use std::test::Fail;
@@ -92,14 +93,19 @@ const FAULTS: [(&[u8], usize); 85] = [
     (b"subscribes", 0),
 ];
 
+// Reads a line, which has no newline.
+fn read(alloc: Global, line: &[u8]) -> Result<ScriptCommand, LineFault> {
+    match split_line(line) {
+        Some(_) => Err(LineFault::BadLine { place: 0 }),
+        None => read_command(alloc, line),
+    }
+}
+
 #[test]
 fn each_part_has_its_place(rt: HostRuntime) {
     for (line, place) in &FAULTS {
         let fault = LineFault::BadLine { place: *place };
-        assert!(rt;
-            read_command(rt.alloc(), line) == Err(fault),
-            "place {place}"
-        );
+        assert!(rt; read(rt.alloc(), line) == Err(fault), "place {place}");
     }
 }
 
@@ -133,14 +139,12 @@ fn each_line_is_read(rt: HostRuntime) -> Result<(), Fail> {
         name: name(b"eth0")?,
         kind: Kind::Label,
     };
-    assert!(rt; read_command(alloc, b"show") == Ok(ScriptCommand::Show));
-    assert!(rt; read_command(alloc, b"all") == Ok(ScriptCommand::All));
+    assert!(rt; read(alloc, b"show") == Ok(ScriptCommand::Show));
+    assert!(rt; read(alloc, b"all") == Ok(ScriptCommand::All));
     let change = Change::make(mtu, name(b"eth0")?, version(3, 9)?, Body::Gone)?;
+    assert!(rt; read(alloc, b"offer mtu u32 eth0 3.9 -") == Ok(ScriptCommand::Offer(change)));
     assert!(rt;
-        read_command(alloc, b"offer mtu u32 eth0 3.9 -") == Ok(ScriptCommand::Offer(change))
-    );
-    assert!(rt;
-        read_command(alloc, b"publish 3/17 new mtu u32 3.0 = 1500")
+        read(alloc, b"publish 3/17 new mtu u32 3.0 = 1500")
             == Ok(ScriptCommand::Publish {
                 caller: endpoint(3, 17)?,
                 key: mtu,
@@ -151,7 +155,7 @@ fn each_line_is_read(rt: HostRuntime) -> Result<(), Fail> {
     );
     // The store refuses this label and this number: its epoch isn't its generation, and seq isn't free.
     assert!(rt;
-        read_command(alloc, b"publish 0/2 over eth0 label 6.4294967295 = 7/17")
+        read(alloc, b"publish 0/2 over eth0 label 6.4294967295 = 7/17")
             == Ok(ScriptCommand::Publish {
                 caller: endpoint(0, 2)?,
                 key: eth0,
@@ -161,7 +165,7 @@ fn each_line_is_read(rt: HostRuntime) -> Result<(), Fail> {
             })
     );
     assert!(rt;
-        read_command(alloc, b"delete 3/17 mtu u32 3.2")
+        read(alloc, b"delete 3/17 mtu u32 3.2")
             == Ok(ScriptCommand::Delete {
                 caller: endpoint(3, 17)?,
                 key: mtu,
@@ -169,18 +173,16 @@ fn each_line_is_read(rt: HostRuntime) -> Result<(), Fail> {
             })
     );
     assert!(rt;
-        read_command(alloc, b"sweep 0/2 eth0 2097151")
+        read(alloc, b"sweep 0/2 eth0 2097151")
             == Ok(ScriptCommand::Sweep {
                 caller: endpoint(0, 2)?,
                 owner: name(b"eth0")?,
                 generation: generation(2097151)?,
             })
     );
+    assert!(rt; read(alloc, b"retrieve mtu u32") == Ok(ScriptCommand::Retrieve { key: mtu }));
     assert!(rt;
-        read_command(alloc, b"retrieve mtu u32") == Ok(ScriptCommand::Retrieve { key: mtu })
-    );
-    assert!(rt;
-        read_command(alloc, b"nameof 2097151/1023")
+        read(alloc, b"nameof 2097151/1023")
             == Ok(ScriptCommand::NameOf {
                 endpoint: endpoint(2097151, 1023)?,
             })
@@ -207,13 +209,13 @@ fn published(kind: Kind, value: Value) -> Result<ScriptCommand, Fail> {
 fn each_value_is_read(rt: HostRuntime) -> Result<(), Fail> {
     let alloc = rt.alloc();
     let empty = published(Kind::Str, Value::Str(Text::read(alloc, b"")?))?;
-    assert!(rt; read_command(alloc, b"publish 1/1 new x str 1.0 = \"\"") == Ok(empty));
+    assert!(rt; read(alloc, b"publish 1/1 new x str 1.0 = \"\"") == Ok(empty));
     let text = published(Kind::Str, Value::Str(Text::read(alloc, b"a \"b\\")?))?;
-    assert!(rt; read_command(alloc, b"publish 1/1 new x str 1.0 = \"a \\\"b\\\\\"") == Ok(text));
+    assert!(rt; read(alloc, b"publish 1/1 new x str 1.0 = \"a \\\"b\\\\\"") == Ok(text));
     let none = published(Kind::Mem, Value::Mem(Blob::read(alloc, b"")?))?;
-    assert!(rt; read_command(alloc, b"publish 1/1 new x mem 1.0 = ") == Ok(none));
+    assert!(rt; read(alloc, b"publish 1/1 new x mem 1.0 = ") == Ok(none));
     let blob = published(Kind::Mem, Value::Mem(Blob::read(alloc, &[0, 255])?))?;
-    assert!(rt; read_command(alloc, b"publish 1/1 new x mem 1.0 = 00ff") == Ok(blob));
+    assert!(rt; read(alloc, b"publish 1/1 new x mem 1.0 = 00ff") == Ok(blob));
     Ok(())
 }
 
@@ -223,8 +225,8 @@ fn long_lines_are_bad_at_their_end(rt: HostRuntime) -> Result<(), Fail> {
     let alloc = rt.alloc();
     let line = Vec::from_elem(alloc, b'a', 4097)?;
     let longest = &line.as_slice()[..4096];
-    assert!(rt; read_command(alloc, longest) == Err(LineFault::BadLine { place: 0 }));
-    assert!(rt; read_command(alloc, &line) == Err(LineFault::BadLine { place: 4096 }));
-    assert!(rt; read_command(alloc, b"") == Err(LineFault::BadLine { place: 0 }));
+    assert!(rt; read(alloc, longest) == Err(LineFault::BadLine { place: 0 }));
+    assert!(rt; read(alloc, &line) == Err(LineFault::BadLine { place: 4096 }));
+    assert!(rt; read(alloc, b"") == Err(LineFault::BadLine { place: 0 }));
     Ok(())
 }
