@@ -1,6 +1,6 @@
 use super::*;
 use crate::split::split_line;
-use ds_entry::{Blob, Body, Change, Text, Value};
+use ds_entry::{Blob, Text, Value};
 use ds_names::{Endpoint, Generation, Key, Kind, Name, Version};
 use std::test::Fail;
 
@@ -126,68 +126,6 @@ fn version(epoch: u32, seq: u32) -> Result<Version, Fail> {
         epoch: generation(epoch)?,
         seq,
     })
-}
-
-#[test]
-fn each_line_is_read(rt: HostRuntime) -> Result<(), Fail> {
-    let alloc = rt.alloc();
-    let mtu = Key {
-        name: name(b"mtu")?,
-        kind: Kind::U32,
-    };
-    let eth0 = Key {
-        name: name(b"eth0")?,
-        kind: Kind::Label,
-    };
-    assert!(rt; read(alloc, b"show") == Ok(ScriptCommand::Show));
-    assert!(rt; read(alloc, b"all") == Ok(ScriptCommand::All));
-    let change = Change::make(mtu, name(b"eth0")?, version(3, 9)?, Body::Gone)?;
-    assert!(rt; read(alloc, b"offer mtu u32 eth0 3.9 -") == Ok(ScriptCommand::Offer(change)));
-    assert!(rt;
-        read(alloc, b"publish 3/17 new mtu u32 3.0 = 1500")
-            == Ok(ScriptCommand::Publish {
-                caller: endpoint(3, 17)?,
-                key: mtu,
-                version: version(3, 0)?,
-                value: Value::U32(1500),
-                overwrite: false,
-            })
-    );
-    // The store refuses this label and this number: its epoch isn't its generation, and seq isn't free.
-    assert!(rt;
-        read(alloc, b"publish 0/2 over eth0 label 6.4294967295 = 7/17")
-            == Ok(ScriptCommand::Publish {
-                caller: endpoint(0, 2)?,
-                key: eth0,
-                version: version(6, 4294967295)?,
-                value: Value::Label(endpoint(7, 17)?),
-                overwrite: true,
-            })
-    );
-    assert!(rt;
-        read(alloc, b"delete 3/17 mtu u32 3.2")
-            == Ok(ScriptCommand::Delete {
-                caller: endpoint(3, 17)?,
-                key: mtu,
-                version: version(3, 2)?,
-            })
-    );
-    assert!(rt;
-        read(alloc, b"sweep 0/2 eth0 2097151")
-            == Ok(ScriptCommand::Sweep {
-                caller: endpoint(0, 2)?,
-                owner: name(b"eth0")?,
-                generation: generation(2097151)?,
-            })
-    );
-    assert!(rt; read(alloc, b"retrieve mtu u32") == Ok(ScriptCommand::Retrieve { key: mtu }));
-    assert!(rt;
-        read(alloc, b"nameof 2097151/1023")
-            == Ok(ScriptCommand::NameOf {
-                endpoint: endpoint(2097151, 1023)?,
-            })
-    );
-    Ok(())
 }
 
 // What `publish 1/1 new x KIND 1.0 = VALUE` says.
