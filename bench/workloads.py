@@ -40,22 +40,23 @@ def drivers():
         yield f"publish 0/2 new {name} label {generation(at)}.0 = {endpoint(at)}\n"
 
 
-def labels(lines, chance):
-    """Offers of labels with rising generations: all taken."""
-    generations = [0] * NAMES
+def rising(lines, chance, line):
+    """So many lines, each of a key by chance, with numbers that rise from 1 on for each key."""
+    numbers = [0] * NAMES
     for _ in range(lines):
         at = chance.randrange(NAMES)
-        generations[at] += 1
-        yield f"offer service-{at} label rs {generations[at]}.0 = {generations[at]}/{at}\n"
+        numbers[at] += 1
+        yield line(at, numbers[at])
+
+
+def labels(lines, chance):
+    """Offers of labels with rising generations: all taken."""
+    yield from rising(lines, chance, lambda at, number: f"offer service-{at} label rs {number}.0 = {number}/{at}\n")
 
 
 def offers_hot(lines, chance):
     """Offers of numbers with rising versions: all taken."""
-    seqs = [0] * NAMES
-    for _ in range(lines):
-        at = chance.randrange(NAMES)
-        seqs[at] += 1
-        yield offer(at, seqs[at], chance.getrandbits(32))
+    yield from rising(lines, chance, lambda at, number: offer(at, number, chance.getrandbits(32)))
 
 
 def offers_cold(lines, chance):
@@ -73,13 +74,9 @@ def offers_cold(lines, chance):
 def publishes(lines, chance):
     """Overwrites by sixteen live drivers."""
     yield from drivers()
-    seqs = [0] * NAMES
     for at in range(NAMES):
         yield publish("new", at, 0, 0)
-    for _ in range(lines):
-        at = chance.randrange(NAMES)
-        seqs[at] += 1
-        yield publish("over", at, seqs[at], chance.getrandbits(32))
+    yield from rising(lines, chance, lambda at, number: publish("over", at, number, chance.getrandbits(32)))
 
 
 def retrieves(lines, chance):
