@@ -11,6 +11,8 @@ MOST_SLOT = 1023
 MOST_NUMBER = 4294967295  # of a sequence number and of a u32
 MOST_TEXT = 256  # bytes of a str
 MOST_BLOB = 1024  # bytes of a mem
+MOST_WORD = 4294967295  # of the number of a subscription, and of how many changes are asked for
+MOST_MAP = 18446744073709551615  # of the number of a map
 KINDS = [b"label", b"u32", b"str", b"mem"]  # in the order of keys
 NAME = re.compile(rb"[A-Za-z0-9._-]*")
 WORD = re.compile(rb"[A-Za-z0-9]*")
@@ -18,6 +20,7 @@ DIGITS = re.compile(rb"[0-9]*")
 ENDPOINT = re.compile(rb"([0-9]+)/([0-9]+)|")
 HEX = re.compile(rb"[0-9a-f]*")
 QUOTED = re.compile(rb'"(?:[ !#-\[\]-~]|\\["\\])*"|')
+PATTERN = re.compile(rb'"(?:[^"\\\n]|\\["\\])*"|')
 BYTE = re.compile(rb".?", re.DOTALL)
 
 
@@ -163,6 +166,26 @@ def sweep(reader):
     return endpoint(reader), reader.behind_space(name), reader.behind_space(number, MOST_GENERATION)
 
 
+def query(reader):
+    """A pattern, any bytes but the newline in quotes, and a mask of kinds."""
+    spelled = reader.part(PATTERN, lambda it: it != b"")
+    kinds = int(reader.behind_space(Reader.part, DIGITS, lambda it: is_number(it, 15) and it != b"0"))
+    return re.sub(rb"\\(.)", rb"\1", spelled[1:-1]), kinds
+
+
+def subscription(reader):
+    """What a `subscribe` takes."""
+    sub = number(reader, MOST_WORD)
+    asked = reader.behind_space(query)
+    initial = reader.behind_space(word, b"first", b"later") == b"first"
+    return sub, asked, initial, reader.behind_space(word, b"new", b"over") == b"over"
+
+
+def check(reader):
+    """What a `check` takes."""
+    return number(reader, MOST_WORD), reader.behind_space(number, MOST_WORD)
+
+
 # What each command takes behind its word and a space; `show` and `all` take nothing.
 COMMANDS = {
     b"offer": change,
@@ -173,6 +196,10 @@ COMMANDS = {
     b"sweep": sweep,
     b"retrieve": lambda reader: (key(reader),),
     b"nameof": lambda reader: (endpoint(reader),),
+    b"subscribe": subscription,
+    b"check": check,
+    b"map": lambda reader: (query(reader),),
+    b"entries": lambda reader: (number(reader, MOST_MAP),),
 }
 
 

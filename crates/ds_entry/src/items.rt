@@ -68,3 +68,24 @@ impl Items {
         Ok(Items { changes })
     }
 }
+
+impl PartialEq for Items {
+    ghost use Rattle.std.specs.Cmp.Lexicographic.{pointwise, lists_per};
+    ghost use Rattle.ds_entry.specs.contracts.change.ChangePartialEq.TheImpl.{ghosts as change};
+    ghost use Rattle.ds_entry.specs.contracts.change.ChangePartialEq.TheImpl.Laws.{laws-law};
+
+    ghost eq = { pointwise change.eq };
+
+    ghost laws = { lists_per laws-law };
+
+    fn eq(&self, other: &Items) -> bool {
+        self.changes == other.changes
+    }
+}
+
+impl Eq for Items {
+    ghost use Rattle.std.proofs.lemmas.Cmp.{lists_equiv};
+    ghost use Rattle.ds_entry.specs.contracts.change.ChangeEq.TheImpl.Laws.{laws-law};
+
+    ghost laws = { lists_equiv laws-law };
+}

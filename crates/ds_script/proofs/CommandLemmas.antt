@@ -10,8 +10,8 @@ use Rattle.ds_names.specs.Run.{Begins}
 use Rattle.ds_names.specs.declared.key.Key.{Key}
 use Rattle.ds_names.specs.declared.version.Version.{Version}
 use Rattle.ds_entry.specs.declared.body.Body.TheVariants.{Put}
-use Rattle.ds_line.specs.Part.{Part, part, byte, texts, Word, Name, Number, Endpoint}
-use Rattle.ds_line.specs.Spelling.{space, newline, kind_word, value_part, body_parts, change_parts}
+use Rattle.ds_line.specs.Part.{Part, part, byte, texts, Word, Name, Number, Endpoint, Quoted}
+use Rattle.ds_line.specs.Spelling.{space, newline, kind_word, quoted, value_part, body_parts, change_parts}
 use Rattle.ds_line.specs.LastNewline.{EndsLine}
 use Rattle.ds_line.specs.FaultPlace.{Stand}
 use Rattle.ds_line.specs.Piece.{Found, Breaks, StopsIn}
@@ -21,10 +21,10 @@ use Rattle.ds_line.proofs.LineLemmas.{AllStand, stand_length, part_stands, byte_
 use Rattle.ds_line.proofs.NewlineLemmas.{line_ends}
 use Rattle.ds_line.proofs.PieceLemmas.{stand_texts}
 use Rattle.ds_script.specs.declared.command.ScriptCommand.{ScriptCommand}
-use Rattle.ds_script.specs.declared.command.ScriptCommand.TheVariants.{Offer, Show, All as Everything, Publish, Delete, Sweep, Retrieve, NameOf}
+use Rattle.ds_script.specs.declared.command.ScriptCommand.TheVariants.{Offer, Show, All as Everything, Publish, Delete, Sweep, Retrieve, NameOf, Subscribe, Check, Map, Entries}
 use Rattle.ds_script.specs.declared.word.Word.TheVariants as words
 use Rattle.ds_script.specs.declared.word.Word.{Word as CommandWord}
-use Rattle.ds_script.specs.Command.{word_of, behind_word, command_parts, IsCommand, IsCommandFault, mode_word, key_parts, version_parts}
+use Rattle.ds_script.specs.Command.{word_of, behind_word, command_parts, IsCommand, IsCommandFault, initial_word, mode_word, key_parts, version_parts, query_parts}
 use Rattle.ds_script.specs.Pieces.{taken_by, text_of}
 
 -- ---- words
@@ -38,6 +38,10 @@ word_is (Delete caller key version) = refl
 word_is (Sweep caller owner generation) = refl
 word_is (Retrieve key) = refl
 word_is (NameOf endpoint) = refl
+word_is (Subscribe sub query initial overwrite) = refl
+word_is (Check sub max) = refl
+word_is (Map query) = refl
+word_is (Entries map) = refl
 
 -- each command begins with one of the words
 word_there : (command : ScriptCommand) → (word : CommandWord) × (word_of command ≡ text_of word)
@@ -49,6 +53,10 @@ word_there (Delete caller key version) = (words.Delete, refl)
 word_there (Sweep caller owner generation) = (words.Sweep, refl)
 word_there (Retrieve key) = (words.Retrieve, refl)
 word_there (NameOf endpoint) = (words.NameOf, refl)
+word_there (Subscribe sub query initial overwrite) = (words.Subscribe, refl)
+word_there (Check sub max) = (words.Check, refl)
+word_there (Map query) = (words.Map, refl)
+word_there (Entries map) = (words.Entries, refl)
 
 text_is : (word : CommandWord) → list_all is_ascii_alphanumeric (text_of word) ≡ true
 text_is words.Offer = refl
@@ -59,6 +67,10 @@ text_is words.Delete = refl
 text_is words.Sweep = refl
 text_is words.Retrieve = refl
 text_is words.NameOf = refl
+text_is words.Subscribe = refl
+text_is words.Check = refl
+text_is words.Map = refl
+text_is words.Entries = refl
 
 -- two words at one front are one
 one_word : (command : ScriptCommand) (line word r s : List ℕ) → list_all is_ascii_alphanumeric word ≡ true → Begins is_ascii_alphanumeric line (word_of command) r → Begins is_ascii_alphanumeric line word s → (word_of command ≡ word) × (r ≡ s)
@@ -130,6 +142,40 @@ command_stands (NameOf endpoint) =
     byte_stands 32 (part Endpoint (endpoint_text endpoint) ∷ newline ∷ []) []
     (part_stands (part Endpoint (endpoint_text endpoint)) (newline ∷ []) [] refl
     (byte_stands 10 [] [] refl))
+command_stands (Subscribe sub query initial overwrite) =
+    let from_mode : List Part = part Word (mode_word overwrite) ∷ newline ∷ [] in
+    let from_initial : List Part = part Word (initial_word initial) ∷ space ∷ from_mode in
+    let from_kinds : List Part = part Number (decimal query.kinds) ∷ space ∷ from_initial in
+    let from_pattern : List Part = part Quoted (quoted query.text) ∷ space ∷ from_kinds in
+    byte_stands 32 (part Number (decimal sub) ∷ space ∷ from_pattern) []
+    (part_stands (part Number (decimal sub)) (space ∷ from_pattern) [] refl
+    (byte_stands 32 from_pattern []
+    (part_stands (part Quoted (quoted query.text)) (space ∷ from_kinds) [] refl
+    (byte_stands 32 from_kinds []
+    (part_stands (part Number (decimal query.kinds)) (space ∷ from_initial) [] refl
+    (byte_stands 32 from_initial []
+    (part_stands (part Word (initial_word initial)) (space ∷ from_mode) [] refl
+    (byte_stands 32 from_mode []
+    (part_stands (part Word (mode_word overwrite)) (newline ∷ []) [] refl
+    (byte_stands 10 [] [] refl))))))))))
+command_stands (Check sub max) =
+    let from_max : List Part = part Number (decimal max) ∷ newline ∷ [] in
+    byte_stands 32 (part Number (decimal sub) ∷ space ∷ from_max) []
+    (part_stands (part Number (decimal sub)) (space ∷ from_max) [] refl
+    (byte_stands 32 from_max []
+    (part_stands (part Number (decimal max)) (newline ∷ []) [] refl
+    (byte_stands 10 [] [] refl))))
+command_stands (Map query) =
+    let from_kinds : List Part = part Number (decimal query.kinds) ∷ newline ∷ [] in
+    byte_stands 32 (part Quoted (quoted query.text) ∷ space ∷ from_kinds) []
+    (part_stands (part Quoted (quoted query.text)) (space ∷ from_kinds) [] refl
+    (byte_stands 32 from_kinds []
+    (part_stands (part Number (decimal query.kinds)) (newline ∷ []) [] refl
+    (byte_stands 10 [] [] refl))))
+command_stands (Entries map) =
+    byte_stands 32 (part Number (decimal map) ∷ newline ∷ []) []
+    (part_stands (part Number (decimal map)) (newline ∷ []) [] refl
+    (byte_stands 10 [] [] refl))
 
 -- the line's word stands at its front
 word_begins : (command : ScriptCommand) (line : List ℕ) → line ≡ texts (command_parts command) → Begins is_ascii_alphanumeric line (word_of command) (texts (behind_word command))
@@ -141,6 +187,10 @@ word_begins (Delete caller key version) line is = record { parts = is; ends = re
 word_begins (Sweep caller owner generation) line is = record { parts = is; ends = refl }
 word_begins (Retrieve key) line is = record { parts = is; ends = refl }
 word_begins (NameOf endpoint) line is = record { parts = is; ends = refl }
+word_begins (Subscribe sub query initial overwrite) line is = record { parts = is; ends = refl }
+word_begins (Check sub max) line is = record { parts = is; ends = refl }
+word_begins (Map query) line is = record { parts = is; ends = refl }
+word_begins (Entries map) line is = record { parts = is; ends = refl }
 
 -- ---- the line can't be read
 
@@ -218,6 +268,11 @@ newline_last (Delete caller key version) is = last_newline (space ∷ part Endpo
 newline_last (Sweep caller owner generation) is = last_newline (space ∷ part Endpoint (endpoint_text caller) ∷ space ∷ part Name owner ∷ space ∷ part Number (decimal generation) ∷ [])
 newline_last (Retrieve key) is = last_newline (space ∷ key_parts key)
 newline_last (NameOf endpoint) is = last_newline (space ∷ part Endpoint (endpoint_text endpoint) ∷ [])
+newline_last (Subscribe sub query initial overwrite) is =
+    last_newline (space ∷ part Number (decimal sub) ∷ space ∷ (query_parts query ++ space ∷ part Word (initial_word initial) ∷ space ∷ part Word (mode_word overwrite) ∷ []))
+newline_last (Check sub max) is = last_newline (space ∷ part Number (decimal sub) ∷ space ∷ part Number (decimal max) ∷ [])
+newline_last (Map query) is = last_newline (space ∷ query_parts query)
+newline_last (Entries map) is = last_newline (space ∷ part Number (decimal map) ∷ [])
 
 -- the command is all of the line
 pub whole_line : (line word rest after : List ℕ) (command : ScriptCommand) → EndsLine line → Begins is_ascii_alphanumeric line word rest → Found (taken_by word) command rest after → IsCommand command × (line ≡ texts (command_parts command))

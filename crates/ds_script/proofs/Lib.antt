@@ -1,7 +1,9 @@
 pub mod NewlineLemmas
 pub mod PickLemmas
 pub mod PieceLemmas
+pub mod QueryLemmas
 pub mod LineLemmas
+pub mod SubscriptionLemmas
 pub mod OfferLemmas
 pub mod CommandLemmas
 pub mod ResultLemmas

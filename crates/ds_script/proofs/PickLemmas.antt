@@ -1,5 +1,5 @@
 -- What is picked of changes, one more at a time.
-use Rattle.std.proofs.Common.{◌≡◌, ◌≢◌, ℕ, zero, suc, ◌+◌, ◌<◌, ◌≤◌, cond, None, Bool, true, false, List, [], ◌∷◌, ◌++◌, length, take, Some, refl, sym, ap, ◌∙◌, arith, add-one, append_assoc, length-append}
+use Rattle.std.proofs.Common.{◌≡◌, ◌≢◌, ℕ, zero, suc, ◌+◌, ◌<◌, ◌≤◌, cond, None, Bool, true, false, List, [], ◌∷◌, ◌++◌, length, take, Some, refl, sym, ap, ◌∙◌, arith, add-one, append_assoc, append-nil, length-append}
 use Rattle.std.specs.List.{flat_map, slice_get, Contains}
 use Rattle.std.proofs.lemmas.Option.{same_Some}
 use Rattle.std.proofs.lemmas.List.Concat.{flat_map-append}
@@ -46,3 +46,10 @@ pub count_more : (b : Bool) (xs : List ChangeRecord) (i n k : ℕ) (c : ChangeRe
 count_more b xs i n k c got is more =
     let all : picked b (take (i + 1) xs) ≡ picked b (take i xs) ++ picked b (c ∷ []) = ap (picked b) (ap (λ m. take m xs) (add-one i) ∙ got_more xs i c got) ∙ picked-append b (take i xs) (c ∷ []) in
     (omega (arith, is, more, ap length all, length-append (picked b (take i xs)) (picked b (c ∷ []))), omega (arith, more, one_line b c))
+
+-- the lines of the first changes, and of one more, where all are picked
+pub line_more : (xs : List ChangeRecord) (i : ℕ) (c : ChangeRecord) (old before after : List ℕ)
+    → slice_get xs i ≡ Some c → before ≡ old ++ flat_map spelling (take i xs) → after ≡ before ++ spelling c
+    → after ≡ old ++ flat_map spelling (take (i + 1) xs)
+line_more xs i c old before after got is more =
+    lines_more true xs i c old before after got is (more ∙ ap (λ l. before ++ l) (sym (append-nil (spelling c))))

@@ -1,5 +1,5 @@
 -- Each piece of a line: it is missing where it has to stand, or it is read.
-use Rattle.std.proofs.Common.{◌≡◌, ◌≢◌, ℕ, ◌<◌, ◌≤◌, ◌^◌, Bool, true, false, List, [], ◌∷◌, length, refl, ap, arith}
+use Rattle.std.proofs.Common.{◌≡◌, ◌≢◌, ℕ, ◌<◌, ◌≤◌, ◌^◌, Bool, true, false, List, [], ◌∷◌, length, get_or, refl, sym, ap, subst, ◌∙◌, arith}
 use Rattle.std.specs.Char.{is_ascii_digit, is_ascii_alphanumeric}
 use Rattle.std.specs.Fmt.{decimal}
 use Rattle.std.specs.List.{list_all}
@@ -20,8 +20,8 @@ use Rattle.ds_line.proofs.PartLemmas.{part_one}
 use Rattle.ds_line.proofs.OpeningLemmas.{text_at, word_is_word, word_one, key_is, version_is}
 use Rattle.ds_line.proofs.ApartLemmas.{endpoints_one}
 use Rattle.ds_line.proofs.PieceLemmas.{behind, Fixed, One, one_by, Views, view_stops, first_stops, then_stops, after_byte, part_missing, byte_missing, byte_stops, stops_from}
-use Rattle.ds_script.specs.Command.{mode_word}
-use Rattle.ds_script.specs.Pieces.{an_endpoint, a_mode, a_name, a_kind, a_key, a_generation, a_seq, a_version, a_value, an_end}
+use Rattle.ds_script.specs.Command.{IsVersion, initial_word, mode_word}
+use Rattle.ds_script.specs.Pieces.{an_endpoint, an_initial, a_mode, a_name, a_kind, a_key, a_generation, a_seq, a_version, a_number, a_place, a_kinds, a_value, an_end}
 
 -- ---- a byte, and behind it one part
 
@@ -34,7 +34,7 @@ pub no_byte : (b : ℕ) (p : Piece) (some : p.Of) (stop : Stop) (bytes : List �
 no_byte b p some stop bytes can at none = stops_from (after_byte b p) stop bytes bytes at (byte_missing b p some bytes can none)
 
 -- behind the byte the part is missing
-no_part : (b : ℕ) (T : Type 0) (Can : T → Type 0) (of : T → Part) (some : T) (stop : Stop) (bytes r : List ℕ) → Can some → bytes ≡ b ∷ r → stop ≡ BadPart (length r) → ((x : T) (rest : List ℕ) → Can x → ¬ Begins (run_of (of x).class) r (of x).text rest)
+pub no_part : (b : ℕ) (T : Type 0) (Can : T → Type 0) (of : T → Part) (some : T) (stop : Stop) (bytes r : List ℕ) → Can some → bytes ≡ b ∷ r → stop ≡ BadPart (length r) → ((x : T) (rest : List ℕ) → Can x → ¬ Begins (run_of (of x).class) r (of x).text rest)
     → StopsIn (after_byte b (one_part T Can of)) stop bytes
 no_part b T Can of some stop bytes r can is at none =
     byte_stops b (one_part T Can of) stop bytes r is (stops_from (one_part T Can of) stop r r at (part_missing (one_part T Can of) of (λ x. []) some r (λ x. refl) can none))
@@ -86,6 +86,33 @@ mode_fixed overwrite = refl
 
 pub mode_one : One a_mode
 mode_one = one_by a_mode (λ a b is_a is_b. (refl, λ _. (refl, λ _. tt))) (λ a is. (refl, (mode_is_word a, tt))) (λ a b is_a is_b same. modes_one a b (ap (text_at 1) same))
+
+-- ---- the words `first` and `later`
+
+pub initial_is_word : (initial : Bool) → list_all is_ascii_alphanumeric (initial_word initial) ≡ true
+initial_is_word true = refl
+initial_is_word false = refl
+
+initials_one : (a b : Bool) → initial_word a ≡ initial_word b → a ≡ b
+initials_one true true same = refl
+initials_one true false same = absurd (omega (arith, ap (λ (w : List ℕ). get_or w 0 0) same))
+initials_one false true same = absurd (omega (arith, ap (λ (w : List ℕ). get_or w 0 0) same))
+initials_one false false same = refl
+
+abbrev pub initial_part : Bool → Part
+initial_part initial = part Word (initial_word initial)
+
+pub no_initial : (stop : Stop) (bytes r word rest : List ℕ) → bytes ≡ 32 ∷ r → stop ≡ BadPart (length r) → list_all is_ascii_alphanumeric word ≡ true → Begins is_ascii_alphanumeric r word rest → ((initial : Bool) → word ≢ initial_word initial)
+    → StopsIn an_initial stop bytes
+no_initial stop bytes r word rest is at all begins other =
+    no_part 32 Bool (λ _. Unit {0}) initial_part true stop bytes r tt is at
+    (λ x after can there. other x (part_one Word r word (initial_word x) rest after all (initial_is_word x) begins there).0)
+
+pub initial_fixed : Fixed an_initial 2
+initial_fixed initial = refl
+
+pub initial_one : One an_initial
+initial_one = one_by an_initial (λ a b is_a is_b. (refl, λ _. (refl, λ _. tt))) (λ a is. (refl, (initial_is_word a, tt))) (λ a b is_a is_b same. initials_one a b (ap (text_at 1) same))
 
 -- ---- names, kinds and keys
 
@@ -149,6 +176,48 @@ pub generation_one : One a_generation
 generation_one =
     one_by a_generation (λ a b is_a is_b. (refl, λ _. (refl, λ _. tt))) (λ a is. (refl, ((a, omega (arith, is), refl), tt)))
     (λ a b is_a is_b same. decimal_injective a b (omega (arith, is_a)) (omega (arith, is_b)) (ap (text_at 1) same))
+
+pub no_number : (stop : Stop) (bytes r : List ℕ) → bytes ≡ 32 ∷ r → stop ≡ BadPart (length r) → ((n : ℕ) (rest : List ℕ) → n ≤ 4294967295 → ¬ Begins is_ascii_digit r (decimal n) rest) → StopsIn a_number stop bytes
+no_number stop bytes r is at none = no_part 32 ℕ (λ n. n < 2 ^ 32) number_part 0 stop bytes r (omega arith) is at (λ n rest can. none n rest (omega (arith, can)))
+
+pub number_fixed : Fixed a_number 2
+number_fixed n = refl
+
+pub number_one : One a_number
+number_one =
+    one_by a_number (λ a b is_a is_b. (refl, λ _. (refl, λ _. tt))) (λ a is. (refl, ((a, omega (arith, is), refl), tt)))
+    (λ a b is_a is_b same. decimal_injective a b (omega (arith, is_a)) (omega (arith, is_b)) (ap (text_at 1) same))
+
+pub no_place : (stop : Stop) (bytes r : List ℕ) → bytes ≡ 32 ∷ r → stop ≡ BadPart (length r) → ((n : ℕ) (rest : List ℕ) → n ≤ 18446744073709551615 → ¬ Begins is_ascii_digit r (decimal n) rest) → StopsIn a_place stop bytes
+no_place stop bytes r is at none = no_part 32 ℕ (λ n. n < 2 ^ 64) number_part 0 stop bytes r (omega arith) is at (λ n rest can. none n rest (omega (arith, can)))
+
+pub place_fixed : Fixed a_place 2
+place_fixed n = refl
+
+pub place_one : One a_place
+place_one =
+    one_by a_place (λ a b is_a is_b. (refl, λ _. (refl, λ _. tt))) (λ a is. (refl, ((a, is, refl), tt)))
+    (λ a b is_a is_b same. decimal_injective a b is_a is_b (ap (text_at 1) same))
+
+pub no_kinds : (stop : Stop) (bytes r : List ℕ) → bytes ≡ 32 ∷ r → stop ≡ BadPart (length r) → ((n : ℕ) (rest : List ℕ) → n ≤ 15 → ¬ Begins is_ascii_digit r (decimal n) rest) → StopsIn a_kinds stop bytes
+no_kinds stop bytes r is at none = no_part 32 ℕ (λ n. (0 < n) × (n ≤ 15)) number_part 1 stop bytes r (omega arith, omega arith) is at (λ n rest can. none n rest can.1)
+
+-- the number names no kind
+pub kinds_zero : (stop : Stop) (bytes r after : List ℕ) (number : ℕ) → bytes ≡ 32 ∷ r → stop ≡ BadPart (length r) → Begins is_ascii_digit r (decimal number) after → number ≤ 15 → ¬ ((0 < number) × (number ≤ 15)) → StopsIn a_kinds stop bytes
+kinds_zero stop bytes r after number is at begins most zero =
+    no_part 32 ℕ (λ n. (0 < n) × (n ≤ 15)) number_part 1 stop bytes r (omega arith, omega arith) is at
+    (λ n rest can there.
+        let one = part_one Number r (decimal n) (decimal number) rest after (n, omega (arith, can.1), refl) (number, omega (arith, most), refl) there begins in
+        let same : n ≡ number = decimal_injective n number (omega (arith, can.1)) (omega (arith, most)) one.0 in
+        zero (subst (λ (k : ℕ). (0 < k) × (k ≤ 15)) same can))
+
+pub kinds_fixed : Fixed a_kinds 2
+kinds_fixed n = refl
+
+pub kinds_one : One a_kinds
+kinds_one =
+    one_by a_kinds (λ a b is_a is_b. (refl, λ _. (refl, λ _. tt))) (λ a is. (refl, ((a, omega (arith, is.1), refl), tt)))
+    (λ a b is_a is_b same. decimal_injective a b (omega (arith, is_a.1)) (omega (arith, is_b.1)) (ap (text_at 1) same))
 
 version_view : Views (behind a_generation (λ _. a_seq)) a_version
 version_view = record {

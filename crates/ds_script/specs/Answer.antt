@@ -1,18 +1,24 @@
 -- What the lines of a script are answered. It is a relation, since memory may be refused at any line.
-use Rattle.std.specs.Prelude.{◌≡◌, ℕ, Bool, true, false, ◌⊎◌, List, [], ◌∷◌, ◌++◌, length, MatchOption, codes}
+use Rattle.std.specs.Prelude.{◌≡◌, ℕ, Bool, true, false, ◌⊎◌, List, [], ◌∷◌, ◌++◌, length, slice_get, Option, MatchOption, codes}
 use Rattle.std.specs.List.{flat_map}
 use Rattle.std.specs.Fmt.{decimal}
+use Rattle.std.specs.Option.{option_map, option_map_or}
 use Rattle.ds_entry.specs.Change.{ChangeRecord}
 use Rattle.ds_line.specs.Spelling.{spelling}
 use Rattle.ds_join.specs.Top.{entries}
-use Rattle.ds_store.specs.Machine.{Step, held}
+use Rattle.ds_join.specs.Held.{held_changes}
+use Rattle.ds_pattern.specs.declared.query.Query.{Query}
+use Rattle.ds_submap.specs.Map.{SubMapRecord, empty_map}
+use Rattle.ds_store.specs.Machine.{held}
 use Rattle.ds_store.specs.declared.command.Command.{Command}
 use Rattle.ds_store.specs.declared.command.Reply.{Reply}
 use Rattle.ds_script.specs.declared.command.ScriptCommand.{ScriptCommand}
-use Rattle.ds_script.specs.declared.command.ScriptCommand.TheVariants.{Show, All}
+use Rattle.ds_script.specs.declared.command.ScriptCommand.TheVariants.{Show, All, Map, Entries}
+use Rattle.ds_script.specs.declared.maps.MapFault.{MapFault}
 use Rattle.ds_script.specs.Lines.{ended}
 use Rattle.ds_script.specs.Command.{IsLineOf, store_command}
-use Rattle.ds_script.specs.Session.{ScriptState}
+use Rattle.ds_script.specs.Maps.{map_fault_word}
+use Rattle.ds_script.specs.Session.{ScriptState, StoreSteps, MakesMap, RefusesMap}
 use Rattle.ds_script.specs.Reply.{reply_text}
 
 -- the lines of the changes, and then `shown` and their number
@@ -21,12 +27,34 @@ shown changes = flat_map spelling changes ++ ended (codes "shown " ++ decimal (l
 
 -- the store's machine makes a step, and what is answered is the step's reply
 abbrev pub AnswersAsked : Command → ScriptState → List ℕ → ScriptState → Type 0
-AnswersAsked asked old out new = (reply : Reply) × Step old.store asked reply new.store × (out ≡ reply_text reply)
+AnswersAsked asked old out new = (reply : Reply) × StoreSteps asked reply old new × (out ≡ reply_text reply)
+
+-- the line of a refusal by its word
+abbrev pub refused_by : List ℕ → List ℕ
+refused_by word = ended (codes "refused " ++ word)
+
+-- a map of the query is made, and its number is answered
+abbrev pub AnswersMade : Query → ScriptState → List ℕ → ScriptState → Type 0
+AnswersMade query old out new = (number : ℕ) × MakesMap query number old new × (out ≡ ended (codes "map " ++ decimal number))
+
+-- none is made, and the answer has the word of why
+abbrev pub AnswersUnmade : Query → ScriptState → List ℕ → ScriptState → Type 0
+AnswersUnmade query old out new = (fault : MapFault) × RefusesMap query fault old new × (out ≡ refused_by (map_fault_word fault))
+
+-- the puts of a map, in key order
+abbrev pub puts_of : SubMapRecord → List ChangeRecord
+puts_of kept = entries (held_changes kept.held)
+
+-- the lines of the map's puts, or the refusal where there is no such map
+abbrev pub entries_text : Option SubMapRecord → List ℕ
+entries_text kept = option_map_or (λ m. shown (puts_of m)) kept (refused_by (codes "nomap"))
 
 -- what is answered to a command, and the state after it
 abbrev pub AnswersCommand : ScriptCommand → ScriptState → List ℕ → ScriptState → Type 0
 AnswersCommand Show old out new = (new ≡ old) × (out ≡ shown (entries (held old.store)))
 AnswersCommand All old out new = (new ≡ old) × (out ≡ shown (held old.store))
+AnswersCommand (Map query) old out new = AnswersMade query old out new ⊎ AnswersUnmade query old out new
+AnswersCommand (Entries number) old out new = (new ≡ old) × (out ≡ entries_text (option_map empty_map (slice_get old.maps number)))
 AnswersCommand command old out new = MatchOption (store_command command) ⊥ (λ asked. AnswersAsked asked old out new)
 
 -- all of the changes, or the puts alone

@@ -7,17 +7,18 @@ use Rattle.ds_names.specs.declared.key.Key.{Key}
 use Rattle.ds_names.specs.declared.version.Version.{Version}
 use Rattle.ds_entry.specs.declared.body.Body.TheVariants.{Put}
 use Rattle.ds_entry.specs.Change.{IsChange}
-use Rattle.ds_line.specs.Part.{Part, part, byte, texts, Word, Name, Number, Endpoint}
-use Rattle.ds_line.specs.Spelling.{space, newline, kind_word, body_parts, change_parts}
+use Rattle.ds_line.specs.Part.{Part, part, byte, texts, Word, Name, Number, Endpoint, Quoted}
+use Rattle.ds_line.specs.Spelling.{space, newline, kind_word, quoted, body_parts, change_parts}
 use Rattle.ds_line.specs.FaultPlace.{IsFaultPlace}
 use Rattle.ds_line.specs.Piece.{IsValueOf}
+use Rattle.ds_pattern.specs.declared.query.Query.{Query}
 use Rattle.ds_store.specs.declared.command.Command.{Command}
 use Rattle.ds_store.specs.declared.command.Command.TheVariants as commands
-use Rattle.ds_script.specs.Lines.{ended}
+use Rattle.ds_script.specs.Lines.{ended, IsUnbroken}
 use Rattle.ds_line.specs.declared.fault.LineFault.{LineFault}
 use Rattle.ds_line.specs.declared.fault.LineFault.TheVariants.{BadLine, NoRoom}
 use Rattle.ds_script.specs.declared.command.ScriptCommand.{ScriptCommand}
-use Rattle.ds_script.specs.declared.command.ScriptCommand.TheVariants.{Offer, Show, All, Publish, Delete, Sweep, Retrieve, NameOf}
+use Rattle.ds_script.specs.declared.command.ScriptCommand.TheVariants.{Offer, Show, All, Publish, Delete, Sweep, Retrieve, NameOf, Subscribe, Check, Map, Entries}
 
 -- `offer`
 abbrev pub offer_word : List ℕ
@@ -51,6 +52,27 @@ retrieve_word = 114 ∷ 101 ∷ 116 ∷ 114 ∷ 105 ∷ 101 ∷ 118 ∷ 101 ∷ 
 abbrev pub nameof_word : List ℕ
 nameof_word = 110 ∷ 97 ∷ 109 ∷ 101 ∷ 111 ∷ 102 ∷ []
 
+-- `subscribe`
+abbrev pub subscribe_word : List ℕ
+subscribe_word = 115 ∷ 117 ∷ 98 ∷ 115 ∷ 99 ∷ 114 ∷ 105 ∷ 98 ∷ 101 ∷ []
+
+-- `check`
+abbrev pub check_word : List ℕ
+check_word = 99 ∷ 104 ∷ 101 ∷ 99 ∷ 107 ∷ []
+
+-- `map`
+abbrev pub map_word : List ℕ
+map_word = 109 ∷ 97 ∷ 112 ∷ []
+
+-- `entries`
+abbrev pub entries_word : List ℕ
+entries_word = 101 ∷ 110 ∷ 116 ∷ 114 ∷ 105 ∷ 101 ∷ 115 ∷ []
+
+-- `first` for a subscription that is shown what is held already, else `later`
+abbrev pub initial_word : Bool → List ℕ
+initial_word true = 102 ∷ 105 ∷ 114 ∷ 115 ∷ 116 ∷ []
+initial_word false = 108 ∷ 97 ∷ 116 ∷ 101 ∷ 114 ∷ []
+
 -- `over` with overwrite, else `new`
 abbrev pub mode_word : Bool → List ℕ
 mode_word true = 111 ∷ 118 ∷ 101 ∷ 114 ∷ []
@@ -64,6 +86,10 @@ key_parts key = part Name key.name ∷ space ∷ part Word (kind_word key.kind) 
 abbrev pub version_parts : Version → List Part
 version_parts version = part Number (decimal version.epoch) ∷ byte 46 ∷ part Number (decimal version.seq) ∷ []
 
+-- the pattern in quotes, and the mask of the kinds
+abbrev pub query_parts : Query → List Part
+query_parts query = part Quoted (quoted query.text) ∷ space ∷ part Number (decimal query.kinds) ∷ []
+
 -- the word of a command
 abbrev pub word_of : ScriptCommand → List ℕ
 word_of (Offer c) = offer_word
@@ -74,6 +100,10 @@ word_of (Delete caller key version) = delete_word
 word_of (Sweep caller owner generation) = sweep_word
 word_of (Retrieve key) = retrieve_word
 word_of (NameOf endpoint) = nameof_word
+word_of (Subscribe sub query initial overwrite) = subscribe_word
+word_of (Check sub max) = check_word
+word_of (Map query) = map_word
+word_of (Entries map) = entries_word
 
 -- the parts behind it: what the command takes, and the newline
 abbrev pub behind_word : ScriptCommand → List Part
@@ -89,6 +119,12 @@ behind_word (Sweep caller owner generation) =
     space ∷ part Endpoint (endpoint_text caller) ∷ space ∷ part Name owner ∷ space ∷ part Number (decimal generation) ∷ newline ∷ []
 behind_word (Retrieve key) = space ∷ (key_parts key ++ newline ∷ [])
 behind_word (NameOf endpoint) = space ∷ part Endpoint (endpoint_text endpoint) ∷ newline ∷ []
+behind_word (Subscribe sub query initial overwrite) =
+    space ∷ part Number (decimal sub) ∷ space
+    ∷ (query_parts query ++ space ∷ part Word (initial_word initial) ∷ space ∷ part Word (mode_word overwrite) ∷ newline ∷ [])
+behind_word (Check sub max) = space ∷ part Number (decimal sub) ∷ space ∷ part Number (decimal max) ∷ newline ∷ []
+behind_word (Map query) = space ∷ (query_parts query ++ newline ∷ [])
+behind_word (Entries map) = space ∷ part Number (decimal map) ∷ newline ∷ []
 
 -- the parts of a command's line: its word, and what it takes
 abbrev pub command_parts : ScriptCommand → List Part
@@ -98,6 +134,13 @@ command_parts command = part Word (word_of command) ∷ behind_word command
 pub record IsVersion (version : Version) : Type 0 where
   pub epoch : version.epoch ≤ 2097151
   pub seq : version.seq < 2 ^ 32
+
+-- The text has no newline, and some of the four kinds are named. Whether the text is a pattern is judged by whoever
+-- takes the query up.
+pub record IsQuery (query : Query) : Type 0 where
+  pub text : IsUnbroken query.text
+  pub some : 0 < query.kinds
+  pub limit : query.kinds ≤ 15
 
 -- What a command takes is valid. But for an offer, the rules of labels and of sequence numbers aren't judged here: the
 -- store judges what is published.
@@ -110,6 +153,10 @@ IsCommand (Delete caller key version) = IsEndpoint caller × IsName key.name × 
 IsCommand (Sweep caller owner generation) = IsEndpoint caller × IsName owner × (generation ≤ 2097151)
 IsCommand (Retrieve key) = IsName key.name
 IsCommand (NameOf endpoint) = IsEndpoint endpoint
+IsCommand (Subscribe sub query initial overwrite) = (sub < 2 ^ 32) × IsQuery query
+IsCommand (Check sub max) = (sub < 2 ^ 32) × (max < 2 ^ 32)
+IsCommand (Map query) = IsQuery query
+IsCommand (Entries map) = map < 2 ^ 64
 
 -- every command can be written
 abbrev pub IsWritten : ScriptCommand → Type 0
@@ -125,6 +172,10 @@ store_command (Delete caller key version) = Some (commands.Delete caller key ver
 store_command (Sweep caller owner generation) = Some (commands.Sweep caller owner generation)
 store_command (Retrieve key) = Some (commands.Retrieve key)
 store_command (NameOf endpoint) = Some (commands.NameOf endpoint)
+store_command (Subscribe sub query initial overwrite) = Some (commands.Subscribe sub query initial overwrite)
+store_command (Check sub max) = Some (commands.Check sub max)
+store_command (Map query) = None
+store_command (Entries map) = None
 
 -- ---- a line with its newline
 

@@ -8,12 +8,13 @@ use Rattle.ds_names.specs.declared.key.Key.{Key}
 use Rattle.ds_names.specs.declared.version.Version.{Version}
 use Rattle.ds_entry.specs.declared.body.Value.{Value}
 use Rattle.ds_entry.specs.declared.body.Body.TheVariants.{Put}
-use Rattle.ds_line.specs.Part.{part, byte, Word as AWord, Name, Number, Endpoint}
-use Rattle.ds_line.specs.Spelling.{space, newline, kind_word, body_parts}
+use Rattle.ds_line.specs.Part.{part, byte, Word as AWord, Name, Number, Endpoint, Quoted}
+use Rattle.ds_line.specs.Spelling.{space, newline, kind_word, escaped, quoted, body_parts}
 use Rattle.ds_line.specs.Piece.{Piece, Found, StopsIn, IsValueOf}
 use Rattle.ds_line.specs.declared.stop.Stop.{Stop}
+use Rattle.ds_script.specs.Lines.{IsUnbroken}
 use Rattle.ds_script.specs.declared.command.ScriptCommand.{ScriptCommand}
-use Rattle.ds_script.specs.Command.{IsCommand, IsVersion, word_of, behind_word, mode_word, key_parts, version_parts, offer_word, show_word, all_word, publish_word, delete_word, sweep_word, retrieve_word, nameof_word}
+use Rattle.ds_script.specs.Command.{IsCommand, IsVersion, word_of, behind_word, initial_word, mode_word, key_parts, version_parts, offer_word, show_word, all_word, publish_word, delete_word, sweep_word, retrieve_word, nameof_word, subscribe_word, check_word, map_word, entries_word}
 use Rattle.ds_script.specs.declared.word.Word.{Word}
 use Rattle.ds_script.specs.declared.word.Word.TheVariants as words
 
@@ -24,6 +25,10 @@ an_endpoint = record { Of = EndpointRecord; Can = IsEndpoint; parts = λ (e : En
 -- `new`, or `over`
 abbrev pub a_mode : Piece
 a_mode = record { Of = Bool; Can = λ (overwrite : Bool). Unit {0}; parts = λ (overwrite : Bool). space ∷ part AWord (mode_word overwrite) ∷ [] }
+
+-- `first`, or `later`
+abbrev pub an_initial : Piece
+an_initial = record { Of = Bool; Can = λ (initial : Bool). Unit {0}; parts = λ (initial : Bool). space ∷ part AWord (initial_word initial) ∷ [] }
 
 -- a name
 abbrev pub a_name : Piece
@@ -48,6 +53,30 @@ a_seq = record { Of = ℕ; Can = λ (n : ℕ). n < 2 ^ 32; parts = λ (n : ℕ).
 -- a version
 abbrev pub a_version : Piece
 a_version = record { Of = Version; Can = IsVersion; parts = λ (version : Version). space ∷ version_parts version }
+
+-- a number below 2^32
+abbrev pub a_number : Piece
+a_number = record { Of = ℕ; Can = λ (n : ℕ). n < 2 ^ 32; parts = λ (n : ℕ). space ∷ part Number (decimal n) ∷ [] }
+
+-- a number below 2^64
+abbrev pub a_place : Piece
+a_place = record { Of = ℕ; Can = λ (n : ℕ). n < 2 ^ 64; parts = λ (n : ℕ). space ∷ part Number (decimal n) ∷ [] }
+
+-- the mask of some kinds
+abbrev pub a_kinds : Piece
+a_kinds = record { Of = ℕ; Can = λ (n : ℕ). (0 < n) × (n ≤ 15); parts = λ (n : ℕ). space ∷ part Number (decimal n) ∷ [] }
+
+-- the text of a pattern, in quotes
+abbrev pub a_pattern : Piece
+a_pattern = record { Of = List ℕ; Can = IsUnbroken; parts = λ (text : List ℕ). space ∷ part Quoted (quoted text) ∷ [] }
+
+-- a text without a newline is written so between its quotes
+abbrev pub IsWrittenText : List ℕ → Type 0
+IsWrittenText written = (text : List ℕ) × IsUnbroken text × (written ≡ escaped text)
+
+-- a pattern is found whose text is written so
+abbrev pub FindsPattern : List ℕ → List ℕ → List ℕ → Type 0
+FindsPattern written bytes rest = (text : List ℕ) × (written ≡ escaped text) × Found a_pattern text bytes rest
 
 -- `=`, a value of the kind, and the newline
 abbrev pub a_value : Kind → Piece
@@ -76,3 +105,7 @@ text_of words.Delete = delete_word
 text_of words.Sweep = sweep_word
 text_of words.Retrieve = retrieve_word
 text_of words.NameOf = nameof_word
+text_of words.Subscribe = subscribe_word
+text_of words.Check = check_word
+text_of words.Map = map_word
+text_of words.Entries = entries_word

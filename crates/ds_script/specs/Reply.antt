@@ -1,19 +1,24 @@
 -- The lines that print a store's reply.
-use Rattle.std.specs.Prelude.{ℕ, ◌==◌, if◌then◌else◌, List, [], ◌∷◌, ◌++◌, codes}
+use Rattle.std.specs.Prelude.{ℕ, ◌==◌, if◌then◌else◌, List, [], ◌∷◌, ◌++◌, length, codes}
+use Rattle.std.specs.List.{flat_map}
 use Rattle.std.specs.Fmt.{decimal}
 use Rattle.std.specs.Int.{w64, to_be_bytes}
 use Rattle.hex.specs.Hex.{encode_lower}
 use Rattle.ds_names.specs.declared.version.Version.{Version}
-use Rattle.ds_line.specs.Spelling.{value_part}
+use Rattle.ds_entry.specs.Change.{ChangeRecord}
+use Rattle.ds_line.specs.Spelling.{spelling, value_part}
 use Rattle.ds_store.specs.declared.refusal.Refusal.{Refusal}
 use Rattle.ds_store.specs.declared.refusal.Refusal.TheVariants as refusals
 use Rattle.ds_store.specs.declared.command.Reply.{Reply}
-use Rattle.ds_store.specs.declared.command.Reply.TheVariants.{Changed, Known, Swept, Found, Named, Merged, MergeStopped, Refused}
+use Rattle.ds_store.specs.declared.command.Reply.TheVariants.{Changed, Known, Swept, Found, Named, Subscribed, Checked, Merged, MergeStopped, Refused}
 use Rattle.ds_script.specs.Lines.{ended}
 
 -- the word of a refusal: its name in lower case
 abbrev pub refusal_word : Refusal → List ℕ
+refusal_word refusals.BadSub = codes "badsub"
 refusal_word refusals.TooMany = codes "toomany"
+refusal_word refusals.TooLong = codes "toolong"
+refusal_word refusals.BadPattern = codes "badpattern"
 refusal_word refusals.BadKind = codes "badkind"
 refusal_word refusals.BadLabel = codes "badlabel"
 refusal_word refusals.BadVersion = codes "badversion"
@@ -47,6 +52,10 @@ refused refusal = codes "refused " ++ (refusal_word refusal ++ refusal_rest refu
 abbrev pub offered : ℕ → ℕ → List ℕ
 offered taken stale = if taken == 0 then (if stale == 0 then codes "known" else codes "stale") else codes "taken"
 
+-- how many items were shown, and the stamps before and after
+abbrev pub checked : ℕ → ℕ → ℕ → List ℕ
+checked count before after = codes "checked " ++ (decimal count ++ 32 ∷ (decimal before ++ 32 ∷ decimal after))
+
 -- what the reply says
 abbrev pub reply_words : Reply → List ℕ
 reply_words (Changed owed) = codes "taken"
@@ -54,6 +63,8 @@ reply_words Known = codes "known"
 reply_words (Swept count owed) = codes "swept " ++ decimal count
 reply_words (Found value) = codes "found " ++ (value_part value).text
 reply_words (Named name) = codes "named " ++ name
+reply_words (Subscribed stamp owed) = codes "subscribed " ++ decimal stamp
+reply_words (Checked items before after) = checked (length items) before after
 reply_words (Merged done taken stale owed) = offered taken stale
 reply_words (MergeStopped done fault owed) = refused fault
 reply_words (Refused fault) = refused fault
@@ -62,6 +73,7 @@ reply_words (Refused fault) = refused fault
 abbrev pub owed_by : Reply → ℕ
 owed_by (Changed owed) = owed
 owed_by (Swept count owed) = owed
+owed_by (Subscribed stamp owed) = owed
 owed_by (Merged done taken stale owed) = owed
 owed_by (MergeStopped done fault owed) = owed
 owed_by _ = 0
@@ -74,6 +86,11 @@ mask_hex mask = encode_lower (to_be_bytes w64 mask)
 abbrev pub owed_line : ℕ → List ℕ
 owed_line mask = if mask == 0 then [] else ended (codes "owed " ++ mask_hex mask)
 
--- the lines of the reply
+-- the changes that the reply shows, tombstones too
+abbrev pub shown_by : Reply → List ChangeRecord
+shown_by (Checked items before after) = items
+shown_by _ = []
+
+-- the lines of the reply: those of the changes that it shows, its words, and what is owed
 abbrev pub reply_text : Reply → List ℕ
-reply_text reply = ended (reply_words reply) ++ owed_line (owed_by reply)
+reply_text reply = flat_map spelling (shown_by reply) ++ (ended (reply_words reply) ++ owed_line (owed_by reply))

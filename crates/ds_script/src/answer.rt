@@ -1,16 +1,26 @@
 //! Carrying commands out, and their answers.
 
-ghost use Rattle.std.specs.Prelude.{◌≡◌, ◌++◌, List, ℕ, OnOk, OnErr};
+ghost use Rattle.std.specs.Prelude.{◌≡◌, ◌⊎◌, ◌++◌, List, ℕ, OnOk, OnErr};
+ghost use Rattle.std.specs.Option.{option_copied};
 ghost use Rattle.ds_script.specs.Session.{Leads};
-ghost use Rattle.ds_script.specs.Answer.{AnswersAsked, AnswersOrRefuses};
+ghost use Rattle.ds_script.specs.Maps.{map_fault_word};
+ghost use Rattle.ds_script.specs.Answer.{AnswersAsked, AnswersMade, AnswersUnmade, AnswersOrRefuses, entries_text, refused_noroom};
 
 use crate::command::ScriptCommand;
+use crate::maps::MapFault;
 use crate::reply::{append_noroom, append_reply};
 use crate::session::Session;
-use crate::shown::append_shown;
+use crate::shown::{append_items, append_shown};
+use ds_line::append_all;
 use ds_names::NoRoom;
+use ds_pattern::Query;
 use ds_store::Command;
+use ds_submap::SubMap;
+use itoa::Buffer;
 use std::alloc::Global;
+
+#[cfg(test)]
+mod tests;
 
 /// Carries a command out, and puts its answer behind those that wait.
 ///
@@ -28,6 +38,8 @@ pub(crate) fn answer_command(
     match command {
         ScriptCommand::Show => append_shown(alloc, session.held(), output, false),
         ScriptCommand::All => append_shown(alloc, session.held(), output, true),
+        ScriptCommand::Map { query } => answer_map(alloc, session, output, &query),
+        ScriptCommand::Entries { map } => append_entries(alloc, session.map(map), output),
         asking => match asking.into_store_command(alloc) {
             Ok(Some(asked)) => answer_asked(session, output, asked),
             Ok(None) => unreachable!(),
@@ -43,4 +55,52 @@ fn answer_asked(session: &mut Session, output: &mut Vec<u8>, asked: Command) -> 
 {
     let reply = session.ask(asked);
     append_reply(output, &reply)
+}
+
+// Makes a map, and puts its number behind the answers that wait, or why none is made.
+fn answer_map(
+    alloc: Global,
+    session: &mut Session,
+    output: &mut Vec<u8>,
+    query: &Query,
+) -> Result<(), NoRoom>
+    ensures answered { OnOk result ((out : List ℕ) × (output.new.items ≡ output.old.items ++ out) × Leads (λ s t. AnswersMade query.now s out t ⊎ AnswersUnmade query.now s out t) session.old session.new) }
+    ensures unanswered { OnErr result (output.new.items ≡ output.old.items) }
+{
+    match session.make_map(alloc, query) {
+        Ok(number) => {
+            let mut digits = Buffer::new();
+            append_all(output, &[b"map ", digits.format(number).as_bytes(), b"\n"])
+        }
+        Err(fault) => append_all(output, &[b"refused ", word_of(fault), b"\n"]),
+    }
+}
+
+// The word of why no map is made.
+fn word_of(fault: MapFault) -> &'static [u8]
+    ensures { result.now ≡ map_fault_word fault }
+{
+    match fault {
+        MapFault::MapsFull => b"mapsfull",
+        MapFault::TooLong => b"toolong",
+        MapFault::BadPattern => b"badpattern",
+        MapFault::NoRoom => b"noroom",
+    }
+}
+
+// Appends the puts of a map, or the refusal for want of one, or of memory.
+fn append_entries(alloc: Global, map: Option<&SubMap>, output: &mut Vec<u8>) -> Result<(), NoRoom>
+    ensures answered { OnOk result ((output.new.items ≡ output.old.items ++ refused_noroom) ⊎ (output.new.items ≡ output.old.items ++ entries_text (option_copied map.entry))) }
+    ensures unanswered { OnErr result (output.new.items ≡ output.old.items) }
+{
+    let Some(map) = map else {
+        return append_all(output, &[b"refused nomap\n"]);
+    };
+    match map.entries(alloc) {
+        Ok(items) => match append_items(&items, output, true) {
+            Ok(()) => Ok(()),
+            Err(NoRoom) => append_noroom(output),
+        },
+        Err(NoRoom) => append_noroom(output),
+    }
 }

@@ -15,7 +15,7 @@ mod tests;
 
 impl ScriptCommand {
     /// The store's command of the line, with copies of what the line has. `None` for a line that asks nothing of a
-    /// store: `show` and `all`. An `offer` is a Merge of one item. NoRoom: out of memory for the copies.
+    /// store: `show`, `all`, `map` and `entries`. An `offer` is a Merge of one item. NoRoom: out of memory for the copies.
     pub fn store_command(&self, alloc: Global) -> Result<Option<Command>, NoRoom>
         ensures { IfOk result (λ command. command ≡ store_command self.now) }
     {
@@ -57,6 +57,22 @@ impl ScriptCommand {
             ScriptCommand::NameOf { endpoint } => Ok(Some(Command::NameOf {
                 endpoint: *endpoint,
             })),
+            ScriptCommand::Subscribe {
+                sub,
+                query,
+                initial,
+                overwrite,
+            } => Ok(Some(Command::Subscribe {
+                sub: *sub,
+                query: query.copy(alloc)?,
+                initial: *initial,
+                overwrite: *overwrite,
+            })),
+            ScriptCommand::Check { sub, max } => Ok(Some(Command::Check {
+                sub: *sub,
+                max: *max,
+            })),
+            ScriptCommand::Map { query: _ } | ScriptCommand::Entries { map: _ } => Ok(None),
         }
     }
 
@@ -101,6 +117,19 @@ impl ScriptCommand {
             })),
             ScriptCommand::Retrieve { key } => Ok(Some(Command::Retrieve { key })),
             ScriptCommand::NameOf { endpoint } => Ok(Some(Command::NameOf { endpoint })),
+            ScriptCommand::Subscribe {
+                sub,
+                query,
+                initial,
+                overwrite,
+            } => Ok(Some(Command::Subscribe {
+                sub,
+                query,
+                initial,
+                overwrite,
+            })),
+            ScriptCommand::Check { sub, max } => Ok(Some(Command::Check { sub, max })),
+            ScriptCommand::Map { query: _ } | ScriptCommand::Entries { map: _ } => Ok(None),
         }
     }
 }

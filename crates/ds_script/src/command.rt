@@ -2,6 +2,7 @@
 
 use ds_entry::{Change, Value};
 use ds_names::{Endpoint, Generation, Key, Name, Version};
+use ds_pattern::Query;
 
 /// One line of a script, with its parts.
 #[derive(Debug, PartialEq, Eq, Drop)]
@@ -33,11 +34,21 @@ pub enum ScriptCommand {
         generation: Generation,
     },
     /// `retrieve NAME KIND`: asks for the value of a live entry.
-    Retrieve {
-        key: Key,
-    },
+    Retrieve { key: Key },
     /// `nameof ENDPOINT`: asks for the name of an endpoint.
-    NameOf {
-        endpoint: Endpoint,
+    NameOf { endpoint: Endpoint },
+    /// `subscribe SUB PATTERN KINDS first new`, or `later` for `first`, or `over` for `new`: opens a subscription,
+    /// which with `first` is to be shown what is held already.
+    Subscribe {
+        sub: u32,
+        query: Query,
+        initial: bool,
+        overwrite: bool,
     },
+    /// `check SUB MAX`: asks for changes that the subscription is still to be shown.
+    Check { sub: u32, max: u32 },
+    /// `map PATTERN KINDS`: makes a map, which takes over what is delivered to it.
+    Map { query: Query },
+    /// `entries J`: prints the puts of a map.
+    Entries { map: u64 },
 }

@@ -1,10 +1,11 @@
 //! What the lines of each command have behind their word.
 
-ghost use Rattle.ds_script.specs.Command.{offer_word, show_word, all_word, publish_word, delete_word, sweep_word, retrieve_word, nameof_word};
+ghost use Rattle.ds_script.specs.Command.{offer_word, show_word, all_word, publish_word, delete_word, sweep_word, retrieve_word, nameof_word, subscribe_word, check_word, map_word, entries_word};
 ghost use Rattle.ds_script.specs.Pieces.{Takes};
 
 use crate::command::ScriptCommand;
 use crate::pieces::Rest;
+use crate::query::query_of;
 use ds_line::{LineFault, Stop, read_change, stop_at};
 use ds_names::read_byte;
 use std::alloc::Global;
@@ -105,4 +106,57 @@ pub(crate) fn nameof_at(rest: &mut Rest) -> Result<ScriptCommand, Stop>
     let endpoint = rest.endpoint()?;
     rest.end()?;
     Ok(ScriptCommand::NameOf { endpoint })
+}
+
+/// Reads what follows `subscribe`.
+pub(crate) fn subscribe_at(alloc: Global, rest: &mut Rest) -> Result<ScriptCommand, Stop>
+    ensures { Takes subscribe_word rest.old.bytes.now result }
+{
+    let sub = rest.number()?;
+    let text = rest.pattern()?;
+    let kinds = rest.kinds()?;
+    let initial = rest.initial()?;
+    let overwrite = rest.mode()?;
+    rest.end()?;
+    let Ok(query) = query_of(alloc, text, kinds) else {
+        return Err(Stop::NoRoom);
+    };
+    Ok(ScriptCommand::Subscribe {
+        sub,
+        query,
+        initial,
+        overwrite,
+    })
+}
+
+/// Reads what follows `check`.
+pub(crate) fn check_at(rest: &mut Rest) -> Result<ScriptCommand, Stop>
+    ensures { Takes check_word rest.old.bytes.now result }
+{
+    let sub = rest.number()?;
+    let max = rest.number()?;
+    rest.end()?;
+    Ok(ScriptCommand::Check { sub, max })
+}
+
+/// Reads what follows `map`.
+pub(crate) fn map_at(alloc: Global, rest: &mut Rest) -> Result<ScriptCommand, Stop>
+    ensures { Takes map_word rest.old.bytes.now result }
+{
+    let text = rest.pattern()?;
+    let kinds = rest.kinds()?;
+    rest.end()?;
+    let Ok(query) = query_of(alloc, text, kinds) else {
+        return Err(Stop::NoRoom);
+    };
+    Ok(ScriptCommand::Map { query })
+}
+
+/// Reads what follows `entries`.
+pub(crate) fn entries_at(rest: &mut Rest) -> Result<ScriptCommand, Stop>
+    ensures { Takes entries_word rest.old.bytes.now result }
+{
+    let map = rest.place()?;
+    rest.end()?;
+    Ok(ScriptCommand::Entries { map })
 }

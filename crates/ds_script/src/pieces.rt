@@ -1,14 +1,14 @@
 //! Readers of the pieces of a line.
 
 ghost use Rattle.std.specs.Prelude.{◌≡◌, ◌≢◌, ◌∷◌, List, ℕ, Bool, length, IfOk, IfErr, OnOk, IfSome, IfNone};
-ghost use Rattle.ds_script.specs.Command.{mode_word};
+ghost use Rattle.ds_script.specs.Command.{initial_word, mode_word};
 ghost use Rattle.ds_line.specs.Piece.{Found, StopsIn};
 ghost use Rattle.ds_line.specs.declared.stop.Stop.TheVariants.{BadPart, NoRoom};
-ghost use Rattle.ds_script.specs.Pieces.{an_endpoint, a_mode, a_name, a_kind, a_key, a_generation, a_seq, a_version, a_value, an_end};
+ghost use Rattle.ds_script.specs.Pieces.{an_endpoint, an_initial, a_mode, a_name, a_kind, a_key, a_generation, a_seq, a_version, a_number, a_place, a_kinds, a_value, an_end};
 
 use ds_entry::Value;
 use ds_line::{Stop, behind_name, endpoint_at, kind_at, last_value_at, name_at, stop_at, word_at};
-use ds_names::{Endpoint, Generation, Key, Kind, Name, Version, read_byte, read_decimal};
+use ds_names::{Endpoint, Generation, Key, Kind, Kinds, Name, Version, read_byte, read_decimal};
 use std::alloc::Global;
 
 /// What isn't read yet of a line. Each reader leaves out what it reads: a piece, and before it the byte that parts it
@@ -19,8 +19,8 @@ pub(crate) struct Rest<'a> {
 }
 
 impl Rest<'_> {
-    // Reads one byte.
-    fn byte(&mut self, byte: u8) -> Result<(), Stop>
+    /// Reads one byte.
+    pub fn byte(&mut self, byte: u8) -> Result<(), Stop>
         ensures found { OnOk result (self.old.bytes.now ≡ byte ∷ self.new.bytes.now) }
         ensures stop { IfErr result (λ stop. stop ≡ BadPart (length self.old.bytes.now)) }
         ensures none { IfErr result (λ stop. (rest : List ℕ) → self.old.bytes.now ≢ byte ∷ rest) }
@@ -62,6 +62,21 @@ impl Rest<'_> {
         };
         self.bytes = rest;
         Ok(overwrite)
+    }
+
+    /// Reads `first` or `later`, and gives whether it is `first`.
+    pub fn initial(&mut self) -> Result<bool, Stop>
+        ensures found { IfOk result (λ initial. Found an_initial initial self.old.bytes.now self.new.bytes.now) }
+        ensures stop { IfErr result (λ stop. StopsIn an_initial stop self.old.bytes.now) }
+        ensures room { IfErr result (λ stop. stop ≢ NoRoom) }
+    {
+        self.byte(b' ')?;
+        let (word, rest) = word_at(self.bytes);
+        let Some(initial) = initial_of(word) else {
+            return Err(stop_at(self.bytes));
+        };
+        self.bytes = rest;
+        Ok(initial)
     }
 
     /// Reads a name.
@@ -145,6 +160,51 @@ impl Rest<'_> {
         Ok(Version { epoch, seq })
     }
 
+    /// Reads a number below 2^32.
+    pub fn number(&mut self) -> Result<u32, Stop>
+        ensures found { IfOk result (λ n. Found a_number n self.old.bytes.now self.new.bytes.now) }
+        ensures stop { IfErr result (λ stop. StopsIn a_number stop self.old.bytes.now) }
+        ensures room { IfErr result (λ stop. stop ≢ NoRoom) }
+    {
+        self.byte(b' ')?;
+        let Some((number, rest)) = read_decimal(self.bytes, 4294967295) else {
+            return Err(stop_at(self.bytes));
+        };
+        self.bytes = rest;
+        Ok(number as u32)
+    }
+
+    /// Reads a number below 2^64.
+    pub fn place(&mut self) -> Result<u64, Stop>
+        ensures found { IfOk result (λ n. Found a_place n self.old.bytes.now self.new.bytes.now) }
+        ensures stop { IfErr result (λ stop. StopsIn a_place stop self.old.bytes.now) }
+        ensures room { IfErr result (λ stop. stop ≢ NoRoom) }
+    {
+        self.byte(b' ')?;
+        let Some((number, rest)) = read_decimal(self.bytes, 18446744073709551615) else {
+            return Err(stop_at(self.bytes));
+        };
+        self.bytes = rest;
+        Ok(number)
+    }
+
+    /// Reads the mask of some kinds.
+    pub fn kinds(&mut self) -> Result<Kinds, Stop>
+        ensures found { IfOk result (λ kinds. Found a_kinds kinds self.old.bytes.now self.new.bytes.now) }
+        ensures stop { IfErr result (λ stop. StopsIn a_kinds stop self.old.bytes.now) }
+        ensures room { IfErr result (λ stop. stop ≢ NoRoom) }
+    {
+        self.byte(b' ')?;
+        let Some((number, rest)) = read_decimal(self.bytes, 15) else {
+            return Err(stop_at(self.bytes));
+        };
+        let Some(kinds) = Kinds::of(number as u8) else {
+            return Err(stop_at(self.bytes));
+        };
+        self.bytes = rest;
+        Ok(kinds)
+    }
+
     /// Reads `=`, a value of the kind, and the newline.
     pub fn value(&mut self, alloc: Global, kind: Kind) -> Result<Value, Stop>
         ensures found { IfOk result (λ value. Found (a_value kind) value self.old.bytes.now self.new.bytes.now) }
@@ -180,6 +240,20 @@ fn mode_of(word: &[u8]) -> Option<bool>
     if word == b"over".as_slice() {
         Some(true)
     } else if word == b"new".as_slice() {
+        Some(false)
+    } else {
+        None
+    }
+}
+
+// Whether a word is `first`, if it is `first` or `later`.
+fn initial_of(word: &[u8]) -> Option<bool>
+    ensures found { IfSome result (λ initial. word.now ≡ initial_word initial) }
+    ensures none { IfNone result ((initial : Bool) → word.now ≢ initial_word initial) }
+{
+    if word == b"first".as_slice() {
+        Some(true)
+    } else if word == b"later".as_slice() {
         Some(false)
     } else {
         None

@@ -8,7 +8,8 @@ ghost use Rattle.ds_script.specs.Pieces.{Takes, text_of};
 
 use crate::command::ScriptCommand;
 use crate::lines::{
-    all_at, delete_at, nameof_at, offer_at, publish_at, retrieve_at, show_at, sweep_at,
+    all_at, check_at, delete_at, entries_at, map_at, nameof_at, offer_at, publish_at, retrieve_at,
+    show_at, subscribe_at, sweep_at,
 };
 use crate::pieces::Rest;
 use crate::word::{Word, word_of};
@@ -25,7 +26,7 @@ const LONGEST_LINE: usize = 4096;
 ///
 /// Where the line is no command's it gives BadLine, with the place where the first part that can't be read begins,
 /// the newline being the last part; a line above 4096 bytes is bad at place 4096, whatever it holds. An unknown word
-/// is bad at place 0. NoRoom comes only where the line is a command's: only texts and blobs take memory.
+/// is bad at place 0. NoRoom comes only where the line is a command's: only texts, blobs and patterns take memory.
 pub fn read_command(alloc: Global, line: &[u8]) -> Result<ScriptCommand, LineFault>
     requires { IsUnbroken line.now }
     ensures found { IfOk result (λ command. IsLineOf command line.now) }
@@ -81,5 +82,9 @@ fn behind_word(alloc: Global, word: Word, rest: &mut Rest) -> Result<ScriptComma
         Word::Sweep => sweep_at(rest),
         Word::Retrieve => retrieve_at(rest),
         Word::NameOf => nameof_at(rest),
+        Word::Subscribe => subscribe_at(alloc, rest),
+        Word::Check => check_at(rest),
+        Word::Map => map_at(alloc, rest),
+        Word::Entries => entries_at(rest),
     }
 }

@@ -1,10 +1,13 @@
 //! Printing what a store replies.
 
 ghost use Rattle.std.specs.Prelude.{◌≡◌, ◌++◌, codes, IfOk, OnOk, OnErr};
+ghost use Rattle.std.specs.List.{flat_map};
+ghost use Rattle.ds_line.specs.Spelling.{spelling};
 ghost use Rattle.ds_script.specs.Lines.{ended};
-ghost use Rattle.ds_script.specs.Reply.{refusal_word, clashing, refused, offered, reply_words, owed_by, owed_line, reply_text};
+ghost use Rattle.ds_script.specs.Reply.{refusal_word, clashing, refused, offered, reply_words, shown_by, owed_by, owed_line, reply_text};
 ghost use Rattle.ds_script.specs.Answer.{refused_noroom};
 
+use crate::checked::append_checked;
 use crate::command::ScriptCommand;
 use ds_line::{append_all, append_value};
 use ds_names::{NoRoom, Version};
@@ -18,8 +21,8 @@ mod tests;
 /// Writes the lines that answer a command to which a store gave the reply.
 ///
 /// They depend on the reply alone: a change that took effect is `taken`, and so is an offer, which is a Merge of
-/// one item. Where notices are owed, a second line gives the mask of their subscriptions. The lines are of this
-/// project.
+/// one item. Before the words of a check stand the changes that it shows, each on its line. Where notices are
+/// owed, a last line gives the mask of their subscriptions. The lines are of this project.
 pub fn write_reply(
     alloc: Global,
     _command: &ScriptCommand,
@@ -54,9 +57,9 @@ pub(crate) fn append_noroom(buffer: &mut Vec<u8>) -> Result<(), NoRoom>
     append_all(buffer, &[b"refused noroom\n"])
 }
 
-// Appends the first line of a reply, or nothing.
+// Appends the lines of a reply but for what is owed, or nothing.
 fn append_words(buffer: &mut Vec<u8>, reply: &Reply) -> Result<(), NoRoom>
-    ensures written { OnOk result (buffer.new.items ≡ buffer.old.items ++ ended (reply_words reply.now)) }
+    ensures written { OnOk result (buffer.new.items ≡ buffer.old.items ++ (flat_map spelling (shown_by reply.now) ++ ended (reply_words reply.now))) }
     ensures unchanged { OnErr result (buffer.new.items ≡ buffer.old.items) }
 {
     match reply {
@@ -69,6 +72,16 @@ fn append_words(buffer: &mut Vec<u8>, reply: &Reply) -> Result<(), NoRoom>
         }
         Reply::Found(value) => append_value(buffer, b"found ", value, b"\n"),
         Reply::Named(name) => append_all(buffer, &[b"named ", name.bytes(), b"\n"]),
+        Reply::Subscribed { stamp, .. } => {
+            let mut digits = Buffer::new();
+            let stamp = digits.format(*stamp).as_bytes();
+            append_all(buffer, &[b"subscribed ", stamp, b"\n"])
+        }
+        Reply::Checked {
+            items,
+            before,
+            after,
+        } => append_checked(buffer, items, *before, *after),
         Reply::Merged { taken, stale, .. } => {
             append_all(buffer, &[offered(*taken, *stale), b"\n"])
         }
@@ -118,7 +131,10 @@ fn refusal_word(refusal: Refusal) -> &'static [u8]
     ensures { result.now ≡ refusal_word refusal }
 {
     match refusal {
+        Refusal::BadSub => b"badsub",
         Refusal::TooMany => b"toomany",
+        Refusal::TooLong => b"toolong",
+        Refusal::BadPattern => b"badpattern",
         Refusal::BadKind => b"badkind",
         Refusal::BadLabel => b"badlabel",
         Refusal::BadVersion => b"badversion",
@@ -144,9 +160,14 @@ fn owed_by(reply: &Reply) -> u64
     match reply {
         Reply::Changed { owed } => *owed,
         Reply::Swept { owed, .. } => *owed,
+        Reply::Subscribed { owed, .. } => *owed,
         Reply::Merged { owed, .. } => *owed,
         Reply::MergeStopped { owed, .. } => *owed,
-        Reply::Known | Reply::Found(_) | Reply::Named(_) | Reply::Refused(_) => 0,
+        Reply::Known
+        | Reply::Found(_)
+        | Reply::Named(_)
+        | Reply::Checked { .. }
+        | Reply::Refused(_) => 0,
     }
 }
 

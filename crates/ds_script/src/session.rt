@@ -1,39 +1,54 @@
 //! What a script drives.
 
-ghost use Rattle.std.specs.Prelude.{◌≡◌};
+ghost use Rattle.std.specs.Prelude.{◌≡◌, slice_get, IfOk, IfErr};
+ghost use Rattle.std.specs.Option.{option_copied};
 ghost use Rattle.ds_join.specs.Held.{held_changes};
-ghost use Rattle.ds_store.specs.Machine.{Step};
-ghost use Rattle.ds_script.specs.Session.{ScriptState, StandsFor, Leads, at_start};
+ghost use Rattle.ds_script.specs.Session.{StandsFor, Leads, StoreSteps, MakesMap, RefusesMap, at_start};
 
+use crate::maps::{MapFault, Maps};
 use ds_join::Held;
+use ds_pattern::Query;
 use ds_store::{Command, Reply, Store};
+use ds_submap::SubMap;
 use std::alloc::Global;
 use std::marker::Model;
 
 /// How many of its last changes the store's journal keeps.
 const RING: u32 = 256;
 
-/// What a script drives: one store.
+/// What a script drives: one store, and maps.
 #[derive(Drop)]
 pub(crate) struct Session {
     store: Store,
+    maps: Maps,
 }
 
 impl Model for Session {
+    ghost use Rattle.std.specs.Prelude.{List};
+    ghost use Rattle.std.specs.Coded.{code_by, coded×};
+    ghost use Rattle.ds_submap.specs.Map.{SubMapRecord};
+    ghost use Rattle.ds_store.specs.Content.{Content};
+    ghost use Rattle.ds_store.specs.contracts.store.Store.{the_row as store_row};
+    ghost use Rattle.ds_script.specs.contracts.maps.Maps.{the_row as maps_row};
     ghost use Rattle.ds_script.specs.Session.{SessionContent};
 
     ghost Value = { SessionContent };
 
-    ghost view = { λ s. record { store = s.store } };
+    ghost coded = { code_by (Content × List SubMapRecord) (coded× store_row.coded maps_row.coded) (λ s. (s.store, s.maps)) (λ p. record { store = p.0; maps = p.1 }) (λ s i. s) };
+
+    ghost view = { λ s. record { store = s.store; maps = s.maps } };
 }
 
 impl Session {
-    /// A store of incarnation 1 that holds nothing, whose first change will have the position 0.
+    /// A store of incarnation 1 that holds nothing, whose first change will have the position 0, and no maps.
     pub(crate) fn open(alloc: Global) -> Session
         ensures { StandsFor result at_start }
     {
         match Store::open(alloc, 1, 0, RING) {
-            Ok(store) => Session { store },
+            Ok(store) => Session {
+                store,
+                maps: Maps::new(alloc),
+            },
             Err(_) => unreachable!(),
         }
     }
@@ -47,8 +62,23 @@ impl Session {
 
     /// Gives the command to its store.
     pub(crate) fn ask(&mut self, command: Command) -> Reply
-        ensures { Leads (λ s t. Step s.store command result t.store) self.old self.new }
+        ensures { Leads (StoreSteps command result) self.old self.new }
     {
         self.store.apply(command)
+    }
+
+    /// Makes a map of a query, and gives its number. A refusal changes nothing.
+    pub(crate) fn make_map(&mut self, alloc: Global, query: &Query) -> Result<usize, MapFault>
+        ensures made { IfOk result (λ number. Leads (MakesMap query.now number) self.old self.new) }
+        ensures refused { IfErr result (λ fault. Leads (RefusesMap query.now fault) self.old self.new) }
+    {
+        self.maps.make(alloc, query)
+    }
+
+    /// The map of a number.
+    pub(crate) fn map(&self, number: u64) -> Option<&SubMap>
+        ensures { option_copied result ≡ slice_get self.now.maps number }
+    {
+        self.maps.get(number)
     }
 }

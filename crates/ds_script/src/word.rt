@@ -15,6 +15,10 @@ pub enum Word {
     Sweep,
     Retrieve,
     NameOf,
+    Subscribe,
+    Check,
+    Map,
+    Entries,
 }
 
 /// The command's word that a text is.
@@ -34,6 +38,14 @@ pub(crate) fn word_of(text: &[u8]) -> Option<Word>
         Some(Word::Retrieve)
     } else if text == b"nameof".as_slice() {
         Some(Word::NameOf)
+    } else if text == b"subscribe".as_slice() {
+        Some(Word::Subscribe)
+    } else if text == b"check".as_slice() {
+        Some(Word::Check)
+    } else if text == b"map".as_slice() {
+        Some(Word::Map)
+    } else if text == b"entries".as_slice() {
+        Some(Word::Entries)
     } else if text == b"show".as_slice() {
         Some(Word::Show)
     } else if text == b"all".as_slice() {

@@ -49,13 +49,13 @@ module _ (v : Content) (s : State) (a : Asked) (body : Body) (caller : Option (L
       let now : cause_against s a body ≡ Some cause = sym cause_is ∙ e in
       inl (record { reply_is = rw now refl; state_is = rw now refl })
 
-  pub asked_taken : (c : ChangeRecord) (bits : ℕ) → o ≡ None → c ≡ change_asked caller a body → ((changes : List ChangeRecord) → bits ≡ owed s changes) → Answers s (asking s a body) (Changed bits) (accepts s (c ∷ []))
+  pub asked_taken : (c : ChangeRecord) (bits : ℕ) → o ≡ None → c ≡ change_asked caller a body → bits ≡ owed s (c ∷ []) → Answers s (asking s a body) (Changed bits) (accepts s (c ∷ []))
   asked_taken c bits e made owes =
       let now : cause_against s a body ≡ None = sym cause_is ∙ e in
       let named : caller ≡ name_of (tops s.accepted) a.caller = is ∙ ap (λ hs. name_of hs a.caller) stands.held in
       let change : c ≡ change_asked (name_of (tops s.accepted) a.caller) a body = made ∙ ap (λ m. change_asked m a body) named in
       inl (record {
-        reply_is = rw now (ap Changed (owes (change_asked (name_of (tops s.accepted) a.caller) a body ∷ [])));
+        reply_is = rw now (ap Changed (owes ∙ ap (λ (x : ChangeRecord). owed s (x ∷ [])) change));
         state_is = rw now (ap (λ (x : ChangeRecord). accepts s (x ∷ [])) change);
       })
 

@@ -1,6 +1,14 @@
+pub mod KeyLemmas
+pub mod PlaceLemmas
+pub mod FlagLemmas
 pub mod StandsLemmas
 pub mod FaultLemmas
 pub mod AnswerLemmas
 pub mod MergeLemmas
 pub mod RunLemmas
 pub mod SweepLemmas
+pub mod MarkLemmas
+pub mod OwedLemmas
+pub mod CheckLemmas
+pub mod JudgeLemmas
+pub mod SubscribeLemmas

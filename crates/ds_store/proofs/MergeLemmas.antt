@@ -29,7 +29,7 @@ pub record Reached (k : Course) (d n m : ℕ) : Type 0 where
 pub not_begun : (s : State) → Reached (begun s) 0 0 0
 not_begun s = record { stop = refl; done = refl; taken = refl; stale = refl }
 
-judged : (k : Course) (c : ChangeRecord) (o : Option Cause) → k.stop ≡ None → cause_of k.state c ≡ o → item_merged k c ≡ item_judged k c o
+pub judged : (k : Course) (c : ChangeRecord) (o : Option Cause) → k.stop ≡ None → cause_of k.state c ≡ o → item_merged k c ≡ item_judged k c o
 judged k c o e f = ap₂ (λ stop x. option_map_or (λ (r : Refusal). k) stop (item_judged k c x)) e f
 
 pub item_done : (k : Course) (c : ChangeRecord) (join : Merge) (t : State) (d n m : ℕ) → Reached k d n m → MergesItem k.state c (Ok join) t → Reached (item_merged k c) (d + 1) (n + taken_by join) (m + stale_by join) × ((item_merged k c).state ≡ t)
@@ -75,12 +75,14 @@ course_stopped s items i d fault cause l e is =
     ∙ ap (λ (x : Course). fold item_merged x (drop (i + 1) items)) (course_more s items i d l ∙ there) ∙ stays (record k { stop = Some fault }) fault (drop (i + 1) items) refl
 
 -- ---- the next item
+pub next_course : (s : State) (items : List ChangeRecord) (i : ℕ) (c : ChangeRecord) → slice_get items i ≡ Some c → course s (take (i + 1) items) ≡ item_merged (course s (take i items)) c
+next_course s items i c at =
+    course_more s items i c (slice_get_within items i c at) ∙ ap (item_merged (course s (take i items))) (get_or_from_slice_get items i c c at)
+
 pub next_reached : (s : State) (items : List ChangeRecord) (i : ℕ) (c : ChangeRecord) (join : Merge) (t : State) (n m x y : ℕ) → slice_get items i ≡ Some c → Reached (course s (take i items)) i n m → MergesItem (course s (take i items)).state c (Ok join) t → x ≡ taken_by join → y ≡ stale_by join
     → Reached (course s (take (i + 1) items)) (i + 1) (n + x) (m + y) × (t ≡ (course s (take (i + 1) items)).state)
 next_reached s items i c join t n m x y at r is e f =
-    let within = slice_get_within items i c at in
-    let same : course s (take (i + 1) items) ≡ item_merged (course s (take i items)) c =
-    course_more s items i c within ∙ ap (item_merged (course s (take i items))) (get_or_from_slice_get items i c c at) in
+    let same = next_course s items i c at in
     let done = item_done (course s (take i items)) c join t i n m r is in (
       rw (same, e, f) done.0,
       sym done.1 ∙ ap (λ (k : Course). k.state) (sym same),
@@ -92,7 +94,7 @@ none_against n few =
     ap (λ b. cond (not b) (Some causes.TooMany) None) e
 
 -- ---- the answers
-pub merge_stopped : (s : State) (items : List ChangeRecord) (i : ℕ) (c : ChangeRecord) (fault : Refusal) (t : State) (n m o : ℕ) → ((changes : List ChangeRecord) → o ≡ owed s changes) → length items ≤ 256 → slice_get items i ≡ Some c
+pub merge_stopped : (s : State) (items : List ChangeRecord) (i : ℕ) (c : ChangeRecord) (fault : Refusal) (t : State) (n m o : ℕ) → o ≡ owed s (course s (take i items)).taken → length items ≤ 256 → slice_get items i ≡ Some c
     → Reached (course s (take i items)) i n m → MergesItem (course s (take i items)).state c (Err fault) t → Step s (Merges items) (MergeStopped i fault o) t
 merge_stopped s items i c fault t n m o owes few at r is = by_fault is.1
   where
@@ -100,7 +102,7 @@ merge_stopped s items i c fault t n m o owes few at r is = by_fault is.1
     k = course s (take i items)
 
     nothing : o ≡ owed s k.taken
-    nothing = owes k.taken
+    nothing = owes
 
     by_fault : (fault ≡ refusals.NoRoom) ⊎ ((cause : Cause) × IsStopped k.state c fault cause) → Step s (Merges items) (MergeStopped i fault o) t
     by_fault (inl e) = inr (
@@ -123,13 +125,13 @@ merge_stopped s items i c fault t n m o owes few at r is = by_fault is.1
         ap (λ x. (merging s items x).1) (none_against (length items) few) ∙ ap (λ (x : Course). x.state) there in
         inl (inl (record { reply_is = sym reply; state_is = is.0 ∙ sym state }))
 
-pub merge_done : (s : State) (items : List ChangeRecord) (i n m o : ℕ) → ((changes : List ChangeRecord) → o ≡ owed s changes) → length items ≤ 256 → slice_get items i ≡ None → i ≤ length items
+pub merge_done : (s : State) (items : List ChangeRecord) (i n m o : ℕ) → o ≡ owed s (course s (take i items)).taken → length items ≤ 256 → slice_get items i ≡ None → i ≤ length items
     → Reached (course s (take i items)) i n m → Step s (Merges items) (Merged i n m o) (course s (take i items)).state
 merge_done s items i n m o owes few gone within r =
     let k = course s (take i items) in
     let end : length items ≤ i = past items i gone in
     let whole : course s items ≡ k = ap (course s) (sym (take_all i items end)) in
-    let nothing : owed s k.taken ≡ o = sym (owes k.taken) in
+    let nothing : owed s k.taken ≡ o = sym owes in
     let counts : merge_reply s k ≡ Merged i n m o =
     ap (λ stop. option_map_or (λ (fault : Refusal). MergeStopped k.done fault (owed s k.taken)) stop (Merged k.done (length k.taken) k.stale (owed s k.taken))) r.stop
     ∙ ap₂ (λ d l. Merged d l k.stale (owed s k.taken)) r.done r.taken ∙ ap₂ (λ l b. Merged i n l b) r.stale nothing in

@@ -1,5 +1,5 @@
 -- What a store stands for after a change took effect.
-use Rattle.std.proofs.Common.{◌≡◌, ℕ, ◌+◌, zero, suc, Bool, true, false, cond, List, [], ◌∷◌, ◌++◌, map, length, replicate, Option, Some, None, refl, ap, sym, ◌∙◌, subst, inl, inr, arith, length-append, Contains}
+use Rattle.std.proofs.Common.{◌≡◌, ℕ, zero, suc, Bool, true, false, cond, List, [], ◌∷◌, ◌++◌, map, length, replicate, Option, Some, None, refl, ap, sym, ◌∙◌, subst, inl, inr, arith, Contains}
 use Rattle.std.proofs.lemmas.Option.{same_Some}
 use Rattle.std.proofs.lemmas.List.Elements.{Contains-push_cases}
 use Rattle.std.specs.declared.cmp.Ordering.TheVariants.{Less, Greater}
@@ -23,10 +23,11 @@ use Rattle.ds_join.proofs.HeldLemmas.{Contains-held, held_at_key}
 use Rattle.ds_join.proofs.NextLemmas.{found_among, none_left}
 use Rattle.ds_join.proofs.TopLemmas.{top_is_unique, top_of_top, held_apart}
 use Rattle.ds_join.proofs.ExistLemmas.{tops_is_top}
-use Rattle.ds_store.specs.State.{State, Subscription, accepts, owed, is_owed, mask}
-use Rattle.ds_store.specs.Content.{Content, Followed, followed_of}
+use Rattle.ds_store.specs.Content.{Followed, followed_of}
 use Rattle.ds_store.specs.Judging.{held_at, TakesEffect}
-use Rattle.ds_store.specs.Stands.{Stands, WasAccepted}
+use Rattle.ds_store.specs.Kept.{IsWatching}
+use Rattle.ds_store.specs.Watching.{Watching}
+use Rattle.ds_store.specs.Stands.{WasAccepted}
 
 -- ---- what is held for a key, in the list and in the holding
 found_passes : (p : ChangeRecord → Bool) (xs : List ChangeRecord) (c : ChangeRecord) → find p xs ≡ Some c → p c ≡ true
@@ -66,7 +67,7 @@ pub count_held : (h : Holding) → length (held_changes h) ≡ held_count h
 count_held h = omega (arith, length_values (entries h.changes), len-entries h.changes)
 
 -- ---- the accepted changes stay single-numbered
-not_above : (h c : Version) → version_cmp h c ≡ Less → is_at_most c h ≡ true → ⊥
+pub not_above : (h c : Version) → version_cmp h c ≡ Less → is_at_most c h ≡ true → ⊥
 not_above h c l a =
     let turned : version_cmp c h ≡ Greater = versions_total.antisymm c h ∙ ap ordering_reverse l in
     let no : true ≡ false = sym a ∙ ap is_le turned in
@@ -134,56 +135,6 @@ tops_more accepted held c n m t =
     (top_of_top accepted (c ∷ []) (tops accepted) held (tops_is_top accepted n.one_owner) t)
     (tops_is_top (accepted ++ c ∷ []) m.one_owner)
 
--- ---- no subscriptions
-abbrev pub NoneMade : List (Option Subscription) → Type 0
-NoneMade subs = AllByRecursion (λ (o : Option Subscription). o ≡ None) subs
-
-none_kept : (f : Subscription → Followed) (n : ℕ) (subs : List (Option Subscription)) → replicate n None ≡ map (option_map f) subs → NoneMade subs
-none_kept f zero [] e = tt
-none_kept f zero (o ∷ subs) e = absurd (cc)
-none_kept f (suc n) [] e = absurd (cc)
-none_kept f (suc n) (None ∷ subs) e = let rest : replicate n None ≡ map (option_map f) subs = cc in (refl, none_kept f n subs rest)
-none_kept f (suc n) (Some s ∷ subs) e = absurd (cc)
-
-pub none_made : (v : Content) (s : State) → v.subscriptions ≡ replicate 64 None → Stands v s → NoneMade s.subscriptions
-none_made v s e stands = none_kept (followed_of (tops s.accepted)) 64 s.subscriptions (sym e ∙ stands.subscriptions)
-
-same_followed : (f g : Subscription → Followed) (subs : List (Option Subscription)) → NoneMade subs → map (option_map f) subs ≡ map (option_map g) subs
-same_followed f g [] n = refl
-same_followed f g (None ∷ subs) n = ap (λ fs. None ∷ fs) (same_followed f g subs n.1)
-same_followed f g (Some s ∷ subs) n = absurd (let e : Some s ≡ None = n.0 in cc)
-
-none_owed : (changes : List ChangeRecord) (subs : List (Option Subscription)) → NoneMade subs → mask (map (is_owed changes) subs) ≡ 0
-none_owed changes [] n = refl
-none_owed changes (None ∷ subs) n = let rest = none_owed changes subs n.1 in omega (arith, rest)
-none_owed changes (Some s ∷ subs) n = absurd (let e : Some s ≡ None = n.0 in cc)
-
-pub nothing_owed : (v : Content) (s : State) (changes : List ChangeRecord) → v.subscriptions ≡ replicate 64 None → Stands v s → 0 ≡ owed s changes
-nothing_owed v s changes e stands = sym (none_owed changes s.subscriptions (none_made v s e stands))
-
-none_shown : (accepted : List ChangeRecord) (subs : List (Option Subscription)) → NoneMade subs → AllByRecursion (WasAccepted accepted) subs
-none_shown accepted [] n = tt
-none_shown accepted (None ∷ subs) n = (tt, none_shown accepted subs n.1)
-none_shown accepted (Some s ∷ subs) n = absurd (let e : Some s ≡ None = n.0 in cc)
-
--- ---- the state with the change
-pub stands_more : (v : Content) (s : State) (c : ChangeRecord) (held : List ChangeRecord) (count : ℕ) → Stands v s → v.subscriptions ≡ replicate 64 None → TakesEffect (held_at v.held c.key) count c → IsTop held (v.held ++ c ∷ [])
-    → Stands (record v { held = held; position = v.position + 1 }) (accepts s (c ∷ []))
-stands_more v s c held count stands none a t =
-    let single : IsSingleNumbered (s.accepted ++ c ∷ []) = single_more s.accepted c count stands.single (subst (λ hs. TakesEffect (held_at hs c.key) count c) stands.held a) in
-    let made = none_made v s none stands in
-    record {
-      held = tops_more s.accepted held c stands.single single (subst (λ hs. IsTop held (hs ++ c ∷ [])) stands.held t);
-      first = stands.first;
-      position = omega (arith, stands.position, length-append s.accepted (c ∷ []));
-      ring = stands.ring;
-      incarnation = stands.incarnation;
-      stamp = stands.stamp;
-      subscriptions = stands.subscriptions ∙ same_followed (followed_of (tops s.accepted)) (followed_of (tops (s.accepted ++ c ∷ []))) s.subscriptions made;
-      single = single;
-      shown = none_shown (s.accepted ++ c ∷ []) s.subscriptions made;
-    }
-
 -- ---- a new store
 no_length : (xs : List ChangeRecord) → length xs ≡ 0 → xs ≡ []
 no_length [] e = refl
@@ -192,19 +143,23 @@ no_length (x ∷ xs) e = absurd (omega (arith, e))
 pub none_held : held_changes nothing_held ≡ []
 none_held = no_length (held_changes nothing_held) (count_held nothing_held ∙ len-empty key_cmp ChangeRecord)
 
-all_none : (n : ℕ) → NoneMade (replicate n None)
-all_none zero = tt
-all_none (suc n) = (refl, all_none n)
-
 pub single_nothing : IsSingleNumbered []
 single_nothing = record { one_change = λ c d h. absurd (Contains-nil c h); one_owner = λ c d h. absurd (Contains-nil c h) }
 
-none_followed : (f : Subscription → Followed) (n : ℕ) → replicate n None ≡ map (option_map f) (replicate n None)
-none_followed f zero = refl
-none_followed f (suc n) = ap (λ fs. None ∷ fs) (none_followed f n)
+pub none_alike : {A B C : Type 0} (f : A → C) (g : B → C) (n : ℕ) → map (option_map f) (replicate n None) ≡ map (option_map g) (replicate n None)
+none_alike f g zero = refl
+none_alike f g (suc n) = ap (λ fs. None ∷ fs) (none_alike f g n)
 
-pub none_followed_yet : (held : List ChangeRecord) → replicate 64 None ≡ map (option_map (followed_of held)) (replicate 64 None)
-none_followed_yet held = none_followed (followed_of held) 64
+pub none_followed : (hs : List ChangeRecord) (f : Watching → Followed) (ws : List (Option Watching)) → ws ≡ replicate 64 None → map (option_map f) ws ≡ map (option_map (followed_of hs)) (replicate 64 None)
+none_followed hs f ws e = ap (map (option_map f)) e ∙ none_alike f (followed_of hs) 64
+
+pub none_watching : (held : List ChangeRecord) (n : ℕ) → AllByRecursion (IsWatching held) (replicate n None)
+none_watching held zero = tt
+none_watching held (suc n) = (tt, none_watching held n)
+
+none_shown : (accepted : List ChangeRecord) (n : ℕ) → AllByRecursion (WasAccepted accepted) (replicate n None)
+none_shown accepted zero = tt
+none_shown accepted (suc n) = (tt, none_shown accepted n)
 
 pub none_shown_yet : (accepted : List ChangeRecord) → AllByRecursion (WasAccepted accepted) (replicate 64 None)
-none_shown_yet accepted = none_shown accepted (replicate 64 None) (all_none 64)
+none_shown_yet accepted = none_shown accepted 64

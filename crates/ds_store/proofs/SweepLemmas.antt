@@ -66,7 +66,7 @@ In-once (x ∷ xs) c d s (inr h) (inl k) e =
     absurd (not_below_itself x.key c.key (ap (λ (y : ChangeRecord). y.key) (sym k) ∙ sym e) (from_along (λ (y : ChangeRecord). change_cmp x y ≡ Less) xs c s.0 h))
 In-once (x ∷ xs) c d s (inr h) (inr k) e = In-once xs c d s.1 h k e
 
-once : (xs : List ChangeRecord) → IsStrictlySortedBy change_cmp xs → (c d : ChangeRecord) → Contains xs c → Contains xs d → c.key ≡ d.key → c ≡ d
+pub once : (xs : List ChangeRecord) → IsStrictlySortedBy change_cmp xs → (c d : ChangeRecord) → Contains xs c → Contains xs d → c.key ≡ d.key → c ≡ d
 once xs s c d h k e = In-once xs c d s (In-from_Contains c xs h) (In-from_Contains d xs k) e
 
 pub held_here : (held : List ChangeRecord) (c : ChangeRecord) → IsStrictlySortedBy change_cmp held → Contains held c → held_at held c.key ≡ Some c

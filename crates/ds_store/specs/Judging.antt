@@ -1,5 +1,5 @@
 -- What stands against a command, and in which order it is judged.
-use Rattle.std.specs.Prelude.{◌≡◌, ℕ, ◌<◌, ◌+◌, Bool, true, false, not, ◌&&◌, ◌==◌, nat_le, List, [], ◌∷◌, length, Option, Some, None, is_some, is_none, cond, map, filter}
+use Rattle.std.specs.Prelude.{◌≡◌, ℕ, ◌<◌, ◌+◌, Bool, true, false, not, ◌&&◌, ◌||◌, ◌==◌, nat_le, List, [], ◌∷◌, length, Option, Some, None, is_some, is_none, cond, map, filter}
 use Rattle.std.specs.List.{find}
 use Rattle.std.specs.Option.{option_map, unwrap_or}
 use Rattle.std.specs.declared.cmp.Ordering.TheVariants.{Less}
@@ -19,9 +19,10 @@ use Rattle.ds_entry.specs.declared.body.Body.TheVariants.{Put, Gone}
 use Rattle.ds_entry.specs.Change.{ChangeRecord, change_of, rs_name, kind_of}
 use Rattle.ds_join.specs.Label.{is_same_endpoint, names_endpoint}
 use Rattle.ds_join.specs.Reading.{value_of}
+use Rattle.ds_pattern.specs.Patterns.{is_pattern}
 use Rattle.ds_store.specs.State.{last_place}
 use Rattle.ds_store.specs.declared.judging.Cause.{Cause}
-use Rattle.ds_store.specs.declared.judging.Cause.TheVariants.{TooMany, BadKind, BadLabel, BadVersion, NoCaller, NotAllowed, NotOwner, Clash, Stale, Known, Exists, NotFound, Full, Worn}
+use Rattle.ds_store.specs.declared.judging.Cause.TheVariants.{BadSub, TooMany, TooLong, BadPattern, BadKind, BadLabel, BadVersion, NoCaller, NotAllowed, NotOwner, Clash, Stale, Known, Exists, NotFound, Full, Worn}
 use Rattle.ds_store.specs.declared.store.asking.Asked.{Asked}
 use Rattle.ds_store.specs.declared.store.asking.Need.{Need}
 use Rattle.ds_store.specs.declared.store.asking.Need.TheVariants.{NotLive, Any, Live}
@@ -32,7 +33,7 @@ by_held = NotOwner ∷ Clash ∷ Stale ∷ Known ∷ Exists ∷ NotFound ∷ Ful
 
 -- the one order of all causes; a repeat is known, which stands between Stale and Exists
 abbrev pub order : List Cause
-order = TooMany ∷ BadKind ∷ BadLabel ∷ BadVersion ∷ NoCaller ∷ NotAllowed ∷ by_held
+order = BadSub ∷ TooMany ∷ TooLong ∷ BadPattern ∷ BadKind ∷ BadLabel ∷ BadVersion ∷ NoCaller ∷ NotAllowed ∷ by_held
 
 -- the first cause of those that stand against a command
 abbrev pub first_cause : (Cause → Bool) → Option Cause
@@ -189,3 +190,22 @@ against_sweep position count caller _ = false
 abbrev pub against_merge : ℕ → Cause → Bool
 against_merge count TooMany = not (nat_le count 256)
 against_merge count _ = false
+
+-- ---- a Subscribe and a Check
+
+-- what stands against a Subscribe with this text at the place `sub`, which is taken or not, after so many stamps
+abbrev pub against_subscribe : Bool → ℕ → ℕ → List ℕ → Bool → Cause → Bool
+against_subscribe taken stamp sub text overwrite BadSub = nat_le 64 sub
+against_subscribe taken stamp sub text overwrite TooLong = not (nat_le (length text) 128)
+against_subscribe taken stamp sub text overwrite BadPattern = not (is_pattern text)
+against_subscribe taken stamp sub text overwrite Exists = taken && not overwrite
+against_subscribe taken stamp sub text overwrite Worn = nat_le last_place stamp
+against_subscribe taken stamp sub text overwrite _ = false
+
+-- what stands against a Check of the place `sub`, which is taken or not, where some change is to be shown or none; only a Check that shows something takes a stamp
+abbrev pub against_check : Bool → Bool → ℕ → ℕ → ℕ → Cause → Bool
+against_check taken some stamp sub max BadSub = nat_le 64 sub
+against_check taken some stamp sub max TooMany = max == 0 || not (nat_le max 256)
+against_check taken some stamp sub max NotFound = not taken
+against_check taken some stamp sub max Worn = some && nat_le last_place stamp
+against_check taken some stamp sub max _ = false

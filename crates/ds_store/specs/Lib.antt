@@ -2,5 +2,7 @@ pub mod State
 pub mod Content
 pub mod Judging
 pub mod Machine
+pub mod Watching
+pub mod Owed
 pub mod Stands
 pub mod Kept

@@ -1,5 +1,5 @@
 -- The steps of the store's machine.
-use Rattle.std.specs.Prelude.{◌≡◌, ℕ, ◌+◌, ◌<◌, ◌≤◌, ◌⊎◌, List, [], ◌∷◌, ◌++◌, length, take, fold, Option, Some, None, Result, Ok, Err}
+use Rattle.std.specs.Prelude.{◌≡◌, ℕ, ◌+◌, ◌^◌, ◌<◌, ◌≤◌, ◌⊎◌, Bool, false, ◌&&◌, cond, is_some, List, [], ◌∷◌, ◌++◌, length, take, fold, Option, Some, None, Result, Ok, Err}
 use Rattle.std.specs.Option.{option_map, option_map_or, option_and_then}
 use Rattle.ds_names.specs.declared.kind.Kind.{Kind}
 use Rattle.ds_names.specs.declared.kind.Kind.TheVariants as kinds
@@ -14,21 +14,29 @@ use Rattle.ds_join.specs.declared.merge.Merge.{Merge as Join}
 use Rattle.ds_join.specs.declared.merge.Merge.TheVariants as joins
 use Rattle.ds_join.specs.Top.{tops}
 use Rattle.ds_join.specs.Reading.{value_of}
-use Rattle.ds_store.specs.State.{State, accepts, position, owed}
-use Rattle.ds_store.specs.Judging.{first_cause, held_at, standing_of, against_change, against_asked, against_sweep, against_merge, change_asked, published, deleted, name_of, tombstones}
+use Rattle.std.specs.List.{list_any}
+use Rattle.ds_pattern.specs.declared.query.Query.{Query}
+use Rattle.ds_pattern.specs.Under.{is_under}
+use Rattle.ds_pattern.specs.declared.pattern.PatternFault.{PatternFault}
+use Rattle.ds_pattern.specs.declared.pattern.PatternFault.TheVariants as faults
+use Rattle.ds_store.specs.State.{State, Subscription, accepts, position, owed, is_unseen, unseen, subscription_at, subscribes}
+use Rattle.ds_store.specs.Judging.{first_cause, held_at, standing_of, against_change, against_asked, against_sweep, against_merge, against_subscribe, against_check, change_asked, published, deleted, name_of, tombstones}
 use Rattle.ds_store.specs.declared.store.asking.Asked.{Asked}
 use Rattle.ds_store.specs.declared.judging.Cause.{Cause}
 use Rattle.ds_store.specs.declared.judging.Cause.TheVariants as causes
 use Rattle.ds_store.specs.declared.refusal.Refusal.{Refusal}
 use Rattle.ds_store.specs.declared.refusal.Refusal.TheVariants as refusals
 use Rattle.ds_store.specs.declared.command.Command.{Command}
-use Rattle.ds_store.specs.declared.command.Command.TheVariants.{Publish, Delete, Sweep, Retrieve, NameOf, Merge}
+use Rattle.ds_store.specs.declared.command.Command.TheVariants.{Publish, Delete, Sweep, Retrieve, NameOf, Subscribe, Check, Merge}
 use Rattle.ds_store.specs.declared.command.Reply.{Reply}
-use Rattle.ds_store.specs.declared.command.Reply.TheVariants.{Changed, Known, Swept, Found, Named, Merged, MergeStopped, Refused}
+use Rattle.ds_store.specs.declared.command.Reply.TheVariants.{Changed, Known, Swept, Found, Named, Subscribed, Checked, Merged, MergeStopped, Refused}
 
 -- the refusal for a cause, at a change of this version
 abbrev pub refusal_for : Version → Cause → Refusal
+refusal_for v causes.BadSub = refusals.BadSub
 refusal_for v causes.TooMany = refusals.TooMany
+refusal_for v causes.TooLong = refusals.TooLong
+refusal_for v causes.BadPattern = refusals.BadPattern
 refusal_for v causes.BadKind = refusals.BadKind
 refusal_for v causes.BadLabel = refusals.BadLabel
 refusal_for v causes.BadVersion = refusals.BadVersion
@@ -42,6 +50,12 @@ refusal_for v causes.Exists = refusals.Exists
 refusal_for v causes.NotFound = refusals.NotFound
 refusal_for v causes.Full = refusals.Full
 refusal_for v causes.Worn = refusals.Worn
+
+-- the refusal of a query whose pattern isn't read
+abbrev pub refusal_of : PatternFault → Refusal
+refusal_of faults.TooLong = refusals.TooLong
+refusal_of faults.BadPattern = refusals.BadPattern
+refusal_of faults.NoRoom = refusals.NoRoom
 
 -- a repeat is known, and every other cause refuses
 abbrev pub answer_for : Version → Cause → Reply
@@ -134,6 +148,50 @@ stale_by joins.Taken = 0
 stale_by joins.Known = 0
 stale_by joins.Stale = 1
 
+-- ---- a Subscribe and a Check
+
+-- the refusal for a cause at no change
+abbrev pub refused : Cause → Reply
+refused cause = Refused (refusal_for (record { epoch = 0; seq = 0 }) cause)
+
+-- the bit of the subscription, where with INITIAL some held key, of a tombstone too, is under the query
+abbrev pub owed_at_first : List ChangeRecord → ℕ → Query → Bool → ℕ
+owed_at_first held sub query initial = cond (initial && list_any (λ (c : ChangeRecord). is_under query c.key) held) (2 ^ sub) 0
+
+-- with INITIAL nothing was shown yet, without it all that is held
+abbrev pub shown_at_first : List ChangeRecord → Bool → List ChangeRecord
+shown_at_first held initial = cond initial [] held
+
+abbrev pub cause_against_subscribe : State → ℕ → Query → Bool → Option Cause
+cause_against_subscribe s sub query overwrite = first_cause (against_subscribe (is_some (subscription_at s sub)) s.stamp sub query.text overwrite)
+
+abbrev pub subscribing : State → ℕ → Query → Bool → Bool → Reply × State
+subscribing s sub query initial overwrite =
+    option_map_or (λ cause. (refused cause, s)) (cause_against_subscribe s sub query overwrite)
+    (Subscribed (s.stamp + 1) (owed_at_first (held s) sub query initial), subscribes s sub query (shown_at_first (held s) initial))
+
+-- memory was wanted, or a cause stands and this is its refusal
+abbrev pub IsRefusedFor : Option Cause → Refusal → Type 0
+IsRefusedFor cause refusal = (refusal ≡ refusals.NoRoom) ⊎ ((c : Cause) × (cause ≡ Some c) × (refusal ≡ refusal_for (record { epoch = 0; seq = 0 }) c))
+
+-- the subscription is shown these, and takes the next stamp; nothing to show leaves all as it was
+abbrev pub shows : State → ℕ → Subscription → List ChangeRecord → Reply × State
+shows s sub seer [] = (Checked [] seer.stamp seer.stamp, s)
+shows s sub seer (c ∷ items) = (Checked (c ∷ items) seer.stamp (s.stamp + 1), subscribes s sub seer.query (seer.shown ++ c ∷ items))
+
+-- some change is to be shown
+abbrev pub has_unseen : State → Subscription → Bool
+has_unseen s seer = list_any (is_unseen seer.query seer.shown) (held s)
+
+-- the first `max` unseen tops in key order are shown
+abbrev pub checking_at : State → ℕ → ℕ → Option Subscription → Reply × State
+checking_at s sub max seer =
+    option_map_or (λ cause. (refused cause, s)) (first_cause (against_check (is_some seer) (option_map_or (has_unseen s) seer false) s.stamp sub max))
+    (option_map_or (λ f. shows s sub f (take max (unseen s f))) seer (refused causes.NotFound, s))
+
+abbrev pub checking : State → ℕ → ℕ → Reply × State
+checking s sub max = checking_at s sub max (subscription_at s sub)
+
 -- ---- all commands
 
 -- the answer where there is one, else NotFound
@@ -159,6 +217,8 @@ outcome s (Sweep caller owner generation) =
     sweeping s (tombstones (held s) owner generation) (first_cause (against_sweep (position s) (length (tombstones (held s) owner generation)) caller))
 outcome s (Retrieve key) = retrieving s key
 outcome s (NameOf endpoint) = naming s endpoint
+outcome s (Subscribe sub query initial overwrite) = subscribing s sub query initial overwrite
+outcome s (Check sub max) = checking s sub max
 outcome s (Merge items) = merging s items (first_cause (against_merge (length items)))
 
 -- the reply and the state are these

@@ -1,8 +1,9 @@
 -- The state of the store's machine, which keeps every change that took effect.
-use Rattle.std.specs.Prelude.{ℕ, ◌+◌, ◌*◌, ◌^◌, Bool, false, ◌&&◌, not, cond, List, [], ◌∷◌, ◌++◌, map, replicate, length, Option, None, Some}
+use Rattle.std.specs.Prelude.{ℕ, ◌+◌, ◌*◌, ◌^◌, Bool, false, ◌&&◌, not, cond, List, [], ◌∷◌, ◌++◌, map, filter, replicate, length, slice_set, slice_index_or, Option, None, Some}
 use Rattle.std.specs.List.{list_any}
 use Rattle.ds_entry.specs.Change.{ChangeRecord}
 use Rattle.ds_entry.specs.Covers.{covers}
+use Rattle.ds_join.specs.Top.{tops}
 use Rattle.ds_pattern.specs.declared.query.Query.{Query}
 use Rattle.ds_pattern.specs.Under.{is_under}
 
@@ -39,6 +40,21 @@ accepts s changes = record s { accepted = s.accepted ++ changes }
 -- a change under the query that nothing shown covers
 abbrev pub is_unseen : Query → List ChangeRecord → ChangeRecord → Bool
 is_unseen query shown c = is_under query c.key && not (list_any (λ d. covers d c) shown)
+
+-- what is still to be shown to the subscription: the tops that are unseen, in key order, tombstones too
+abbrev pub unseen : State → Subscription → List ChangeRecord
+unseen s sub = filter (is_unseen sub.query sub.shown) (tops s.accepted)
+
+-- the subscription at the place
+abbrev pub subscription_at : State → ℕ → Option Subscription
+subscription_at s sub = slice_index_or s.subscriptions sub None
+
+-- the place has a subscription to the query that was shown these changes, and whose stamp is the next one
+abbrev pub subscribes : State → ℕ → Query → List ChangeRecord → State
+subscribes s sub query shown = record s {
+  stamp = s.stamp + 1;
+  subscriptions = slice_set s.subscriptions sub (Some (record { query = query; stamp = s.stamp + 1; shown = shown }));
+}
 
 -- one of the changes is of a key under the subscription's query
 abbrev pub is_owed : List ChangeRecord → Option Subscription → Bool

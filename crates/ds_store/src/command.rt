@@ -3,6 +3,7 @@
 use crate::refusal::Refusal;
 use ds_entry::{Items, Value};
 use ds_names::{Endpoint, Generation, Key, Name, Version};
+use ds_pattern::Query;
 
 /// A command to a store.
 #[derive(Debug, Drop)]
@@ -35,6 +36,22 @@ pub enum Command {
     NameOf {
         endpoint: Endpoint,
     },
+    /// Makes the subscription of this number below 64, over another one only with `overwrite`. With `initial`
+    /// all that is held under the query is to be shown to it, without it only what comes later. BadSub, TooLong,
+    /// BadPattern, Exists, or Worn where the stamp would pass 2^62.
+    Subscribe {
+        sub: u32,
+        query: Query,
+        initial: bool,
+        overwrite: bool,
+    },
+    /// Asks for the first `max` changes that are to be shown to the subscription, 1 to 256, in key order. BadSub,
+    /// TooMany, NotFound without a subscription, or Worn where something is to be shown and the stamp would pass
+    /// 2^62.
+    Check {
+        sub: u32,
+        max: u32,
+    },
     /// Takes over changes that another holder gave, at most 256. No caller is asked.
     Merge {
         items: Items,
@@ -59,6 +76,18 @@ pub enum Reply {
     Found(Value),
     /// The name of an endpoint.
     Named(Name),
+    /// The subscription was made, and has this stamp. `owed` is its own bit where something is to be shown.
+    Subscribed {
+        stamp: u64,
+        owed: u64,
+    },
+    /// What is shown, tombstones too, with the subscription's stamp before and after: one stamp where nothing
+    /// is shown.
+    Checked {
+        items: Items,
+        before: u64,
+        after: u64,
+    },
     /// All items were done: some were taken, some were stale, and the others were known.
     Merged {
         done: usize,

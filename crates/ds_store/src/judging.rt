@@ -19,7 +19,10 @@ pub(crate) const LAST_PLACE: u64 = 1 << 62;
 /// What can stand against a command, in the order in which it is judged.
 #[derive(Clone, Copy, Debug)]
 pub(crate) enum Cause {
+    BadSub,
     TooMany,
+    TooLong,
+    BadPattern,
     BadKind,
     BadLabel,
     BadVersion,
@@ -130,7 +133,10 @@ pub(crate) fn refusal_for(version: Version, cause: Cause) -> Refusal
     ensures { result ≡ refusal_for version cause }
 {
     match cause {
+        Cause::BadSub => Refusal::BadSub,
         Cause::TooMany => Refusal::TooMany,
+        Cause::TooLong => Refusal::TooLong,
+        Cause::BadPattern => Refusal::BadPattern,
         Cause::BadKind => Refusal::BadKind,
         Cause::BadLabel => Refusal::BadLabel,
         Cause::BadVersion => Refusal::BadVersion,

@@ -4,6 +4,10 @@
 //! only RS publishes labels, and a live entry is overwritten only with the overwrite flag. That each change has
 //! a version, that a delete leaves a tombstone, that RS sweeps the entries of a dead owner, and that stores merge
 //! what others give them, is of this project.
+//!
+//! A subscriber asks for the entries whose names a regular expression matches, is told that some changed, and
+//! then checks which: that is DS's too (its interface; Herder and others, DSN 2007). That a check gives the last
+//! change of each entry alone, in key order, and that stamps tell one check from another, is of this project.
 #![tactic(auto)]
 
 mod command;
@@ -12,6 +16,8 @@ mod laws;
 mod refusal;
 mod search;
 mod store;
+mod subscription;
+mod subscriptions;
 #[cfg(test)]
 mod tests;
 

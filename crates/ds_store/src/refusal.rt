@@ -6,9 +6,18 @@ use thiserror::Error;
 /// Why a command was refused, in the order in which the causes are judged, or why no store was opened.
 #[derive(Clone, Copy, Debug, PartialEq, Eq, Error)]
 pub enum Refusal {
-    /// A Merge has more than 256 items.
-    #[error("more than 256 items")]
+    /// The number of a subscription isn't below 64.
+    #[error("no number of a subscription")]
+    BadSub,
+    /// A Merge has more than 256 items, or a Check doesn't ask for 1 to 256.
+    #[error("not so many items at once")]
     TooMany,
+    /// The pattern has more than 128 bytes.
+    #[error("a pattern has at most 128 bytes")]
+    TooLong,
+    /// The text is no pattern.
+    #[error("not a pattern over names")]
+    BadPattern,
     /// The value is of another kind than the key.
     #[error("the value is of another kind than the key")]
     BadKind,
@@ -34,17 +43,17 @@ pub enum Refusal {
     /// The change that is held for the key has a greater version.
     #[error("the key has a greater version")]
     Stale,
-    /// The entry is live, and isn't to be overwritten.
-    #[error("the entry is live")]
+    /// The entry is live, or the subscription is made, and isn't to be overwritten.
+    #[error("there is one already")]
     Exists,
-    /// There is no live entry of the key, or no live label that holds the endpoint.
-    #[error("there is no such entry")]
+    /// There is no live entry of the key, no live label that holds the endpoint, or no such subscription.
+    #[error("there is none")]
     NotFound,
     /// The key isn't held, and 1024 other keys are.
     #[error("1024 keys are held")]
     Full,
-    /// The position would pass 2^62.
-    #[error("all positions are used")]
+    /// The position would pass 2^62, or the stamp would.
+    #[error("all positions or stamps are used")]
     Worn,
     /// Memory is wanting.
     #[error("out of memory")]

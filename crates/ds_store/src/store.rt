@@ -1,10 +1,10 @@
 //! Stores.
 
-ghost use Rattle.std.specs.Prelude.{◌≡◌, ◌≢◌, ◌<◌, ◌≤◌, ◌+◌, List, [], ◌∷◌, ◌++◌, length, None, IfOk, IfErr, OnOk, OnErr};
-ghost use Rattle.ds_entry.specs.Change.{ChangeRecord};
+ghost use Rattle.std.specs.Prelude.{◌≡◌, ◌≢◌, ◌<◌, ◌≤◌, ◌+◌, List, [], ◌∷◌, ◌++◌, length, map, None, IfOk, IfErr, OnOk, OnErr};
 ghost use Rattle.ds_join.specs.Held.{held_changes};
 ghost use Rattle.ds_join.specs.Top.{IsTop};
-ghost use Rattle.ds_store.specs.State.{State, opening, accepts, owed, last_place};
+ghost use Rattle.ds_store.specs.State.{State, opening, accepts, is_owed, last_place};
+ghost use Rattle.ds_store.specs.Content.{owed_for};
 ghost use Rattle.ds_store.specs.Judging.{held_at, TakesEffect};
 ghost use Rattle.ds_store.specs.Kept.{IsTakenOrNoRoom};
 ghost use Rattle.ds_store.specs.Stands.{Stands, IsOpenFault, IsRing};
@@ -13,6 +13,7 @@ use crate::command::{Command, Reply};
 use crate::judging::LAST_PLACE;
 use crate::refusal::Refusal;
 use crate::search::name_of;
+use crate::subscriptions::{Owed, Subscriptions};
 use asking::{deleted, published};
 use ds_entry::{Body, Change};
 use ds_join::{Held, JoinFault, Merge};
@@ -22,6 +23,7 @@ use std::marker::Model;
 
 mod asking;
 mod merging;
+mod subscribing;
 mod sweeping;
 
 /// A replica of the data store: what it holds, and how many changes took effect.
@@ -34,6 +36,7 @@ pub struct Store {
     ring: u32,
     incarnation: u64,
     stamp: u64,
+    subscriptions: Subscriptions,
 }
 
 impl Model for Store {
@@ -71,6 +74,7 @@ impl Store {
             ring,
             incarnation,
             stamp: first,
+            subscriptions: Subscriptions::new(),
         })
     }
 
@@ -106,6 +110,13 @@ impl Store {
             } => self.sweep(caller, &owner, generation),
             Command::Retrieve { key } => self.retrieve(key),
             Command::NameOf { endpoint } => self.name(endpoint),
+            Command::Subscribe {
+                sub,
+                query,
+                initial,
+                overwrite,
+            } => self.subscribe(sub, &query, initial, overwrite),
+            Command::Check { sub, max } => self.check(sub, max),
             Command::Merge { items } => self.merge(&items),
         }
     }
@@ -133,27 +144,39 @@ impl Store {
     }
 
     // A change against which nothing stands takes effect.
-    fn accept(&mut self, change: Change) -> Result<(), NoRoom>
+    fn accept(&mut self, change: Change, owed: &Owed) -> Result<(), NoRoom>
+        requires owed { owed.now.flags ≡ owed_for change.key self.old.subscriptions }
         requires taken { TakesEffect (held_at self.old.held change.key) (length self.old.held) change }
         requires room { self.old.position < last_place }
         ensures ok { OnOk result ((s : State) → Stands self.old s → Stands self.new (accepts s (change ∷ []))) }
+        ensures owed { OnOk result ((key : Key) → owed_for key self.new.subscriptions ≡ owed_for key self.old.subscriptions) }
         ensures held { OnOk result (IsTop self.new.held (self.old.held ++ change ∷ [])) }
         ensures position { OnOk result (self.new.position ≡ self.old.position + 1) }
         ensures err { OnErr result (self.new ≡ self.old) }
         ensures new_key { OnErr result (held_at self.old.held change.key ≡ None) }
     {
-        let _count = self.held.len();
+        let _before = self.held.len();
+        let key = *change.key();
         taken(self.held.merge(change))?;
+        let _after = self.held.len();
         self.position += 1;
+        self.subscriptions.mark(owed, &key);
         Ok(())
     }
 
-    // The subscriptions that some changes are owed to: none, since none is made yet.
-    fn owed(&self) -> u64
-        ensures { (s : State) (changes : List ChangeRecord) → Stands self.now s → result ≡ owed s changes }
+    // The subscriptions to which a change of the key is owed.
+    fn owed(&self, key: &Key) -> Result<Owed, NoRoom>
+        ensures { IfOk result (λ owed. owed.flags ≡ owed_for key.now self.now.subscriptions) }
     {
-        let _position = self.position;
-        0
+        self.subscriptions.owed(self.alloc, key)
+    }
+
+    // To none of the subscriptions.
+    fn owed_to_none(&self) -> Owed
+        ensures { (s : State) → Stands self.now s → result.flags ≡ map (is_owed []) s.subscriptions }
+    {
+        let _places = &self.subscriptions;
+        Owed::none()
     }
 
     // The value of a live entry. It takes memory only to copy a string or memory.

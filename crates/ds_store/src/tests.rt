@@ -1,5 +1,4 @@
-//! Where stores, positions and merges end, which no script reaches. Nothing is owed, since there are no
-//! subscriptions.
+//! Where stores, positions and merges end, which no script reaches, and subscriptions.
 
 use crate::{Command, Refusal, Reply, Store};
 use ds_entry::{Body, Change, Items, Value};
@@ -9,6 +8,7 @@ use std::process::Abort;
 use std::test::Fail;
 
 mod limits;
+mod subscriptions;
 
 fn generation(number: u32) -> Result<Generation, Fail> {
     Ok(Generation::of(number).ok_or("no generation")?)

@@ -1,6 +1,6 @@
 use super::*;
-use ds_entry::{Blob, Text, Value};
-use ds_names::{Endpoint, Generation, Name};
+use ds_entry::{Blob, Body, Change, Items, Text, Value};
+use ds_names::{Endpoint, Generation, Key, Kind, Name};
 use std::test::Fail;
 
 fn version(epoch: u32, seq: u32) -> Result<Version, Fail> {
@@ -30,6 +30,58 @@ fn stopped(fault: Refusal) -> Reply {
         fault,
         owed: 0,
     }
+}
+
+// The change of a label of RS's: a put of an endpoint, or a tombstone.
+fn label(name: &str, epoch: u32, slot: Option<u16>) -> Result<Change, Fail> {
+    let key = Key {
+        name: Name::read(name.as_bytes())?,
+        kind: Kind::Label,
+    };
+    let (seq, body) = match slot {
+        Some(slot) => (0, Body::Put(Value::Label(endpoint(epoch, slot)?))),
+        None => (1, Body::Gone),
+    };
+    Ok(Change::make(key, Name::read(b"rs")?, version(epoch, seq)?, body)?)
+}
+
+#[test]
+fn a_check_prints_its_changes_and_stamps(rt: HostRuntime) -> Result<(), Fail> {
+    let alloc = rt.alloc();
+    let mut items = Items::new(alloc);
+    items.push(label("eth0", 5, Some(17))?)?;
+    items.push(label("eth1", 3, None)?)?;
+    let rows: [(Reply, &[u8]); 3] = [
+        (
+            Reply::Checked {
+                items: Items::new(alloc),
+                before: 2,
+                after: 2,
+            },
+            b"checked 0 2 2\n",
+        ),
+        (
+            Reply::Checked {
+                items,
+                before: 1,
+                after: 2,
+            },
+            b"eth0 label rs 5.0 = 5/17\neth1 label rs 3.1 -\nchecked 2 1 2\n",
+        ),
+        (
+            Reply::Checked {
+                items: Items::new(alloc),
+                before: 4611686018427387904,
+                after: 4611686018427387904,
+            },
+            b"checked 0 4611686018427387904 4611686018427387904\n",
+        ),
+    ];
+    for (reply, text) in &rows {
+        let written = write_reply(alloc, &ScriptCommand::Show, reply)?;
+        assert_eq!(rt; written.as_slice(), *text);
+    }
+    Ok(())
 }
 
 #[test]
@@ -79,7 +131,10 @@ fn each_refusal_has_its_word(rt: HostRuntime) -> Result<(), Fail> {
     let clash = Refusal::Clash {
         version: version(2097151, 4294967295)?,
     };
-    let rows: [(Refusal, &[u8]); 14] = [
+    let rows: [(Refusal, &[u8]); 17] = [
+        (Refusal::BadSub, b"refused badsub\n"),
+        (Refusal::TooLong, b"refused toolong\n"),
+        (Refusal::BadPattern, b"refused badpattern\n"),
         (Refusal::TooMany, b"refused toomany\n"),
         (Refusal::BadKind, b"refused badkind\n"),
         (Refusal::BadLabel, b"refused badlabel\n"),
@@ -105,7 +160,12 @@ fn each_refusal_has_its_word(rt: HostRuntime) -> Result<(), Fail> {
 
 #[test]
 fn what_is_owed_has_a_line(rt: HostRuntime) -> Result<(), Fail> {
-    let rows: [(Reply, &[u8]); 4] = [
+    let rows: [(Reply, &[u8]); 6] = [
+        (Reply::Subscribed { stamp: 1, owed: 0 }, b"subscribed 1\n"),
+        (
+            Reply::Subscribed { stamp: 2, owed: 1 },
+            b"subscribed 2\nowed 0000000000000001\n",
+        ),
         (
             Reply::Changed { owed: 0x20 },
             b"taken\nowed 0000000000000020\n",

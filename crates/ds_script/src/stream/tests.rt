@@ -44,8 +44,66 @@ const ROWS: [Row; 6] = [
     },
 ];
 
-/// Scripts of changes of all kinds, and of callers that publish them.
-const SCRIPTS: [Row; 3] = [
+/// Scripts of changes of all kinds, of callers that publish them, and of subscribers.
+const SCRIPTS: [Row; 6] = [
+    Row {
+        script: b"subscribe 5 \"eth.*\" 15 later new\n\
+            offer eth0 label rs 3.0 = 3/17\n\
+            offer eth0 label rs 3.1 -\n\
+            offer eth0 label rs 5.0 = 5/17\n\
+            check 5 4\n\
+            check 5 4\n",
+        answers: b"subscribed 1\n\
+            taken\nowed 0000000000000020\n\
+            taken\nowed 0000000000000020\n\
+            taken\nowed 0000000000000020\n\
+            eth0 label rs 5.0 = 5/17\n\
+            checked 1 1 2\n\
+            checked 0 2 2\n",
+        end: Ok(6),
+    },
+    Row {
+        script: b"offer eth0 label rs 3.0 = 3/17\n\
+            subscribe 0 \"eth.*\" 1 later new\n\
+            subscribe 0 \"eth.*\" 1 first new\n\
+            subscribe 0 \"eth.*\" 1 first over\n\
+            check 0 1\n\
+            check 1 1\n\
+            check 64 1\n\
+            check 0 257\n\
+            subscribe 1 \"(\" 1 first new\n\
+            subscribe 1 \"eth\" 1 first new\n",
+        answers: b"taken\n\
+            subscribed 1\n\
+            refused exists\n\
+            subscribed 2\n\
+            owed 0000000000000001\n\
+            eth0 label rs 3.0 = 3/17\n\
+            checked 1 2 3\n\
+            refused notfound\n\
+            refused badsub\n\
+            refused toomany\n\
+            refused badpattern\n\
+            subscribed 4\n",
+        end: Ok(10),
+    },
+    Row {
+        script: b"offer eth0 label rs 3.0 = 3/17\n\
+            entries 0\n\
+            map \"(\" 15\n\
+            map \".*\" 15\n\
+            map \"eth.*\" 1\n\
+            entries 1\n\
+            entries 2\n",
+        answers: b"taken\n\
+            refused nomap\n\
+            refused badpattern\n\
+            map 0\n\
+            map 1\n\
+            shown 0\n\
+            refused nomap\n",
+        end: Ok(7),
+    },
     Row {
         script: b"offer x u32 eth0 3.0 = 1\n\
             offer x u32 eth0 3.0 = 2\n\

@@ -218,14 +218,16 @@ impl Store {
     pub(super) fn ask(&mut self, asked: &Asked, body: Body) -> Reply
         ensures { (s : State) → Stands self.old s → (t : State) × Answers s (asking s asked.now body) result t × Stands self.new t }
     {
-        let owed = self.owed();
         let caller = self.caller_of(asked);
         if let Some(cause) = self.cause_against(asked, &body, &caller) {
             return answer_to(asked, cause);
         }
+        let Ok(owed) = self.owed(&asked.key) else {
+            return Reply::Refused(Refusal::NoRoom);
+        };
         let change = change_asked(asked, body, caller);
-        match self.accept(change) {
-            Ok(()) => Reply::Changed { owed },
+        match self.accept(change, &owed) {
+            Ok(()) => Reply::Changed { owed: owed.mask() },
             Err(NoRoom) => Reply::Refused(Refusal::NoRoom),
         }
     }

@@ -2,7 +2,9 @@
 
 ghost use Rattle.std.specs.Prelude.{◌≡◌, ◌<◌, length, IfNone};
 ghost use Rattle.ds_store.specs.State.{State, last_place};
+ghost use Rattle.ds_store.specs.Content.{owed_for};
 ghost use Rattle.ds_store.specs.Machine.{Step, MergesItem, taken_by, stale_by, passed_as};
+ghost use Rattle.ds_store.specs.Owed.{owed_after};
 ghost use Rattle.ds_store.specs.Judging.{first_cause, standing_of, held_at, against_change, TakesEffect};
 ghost use Rattle.ds_store.specs.Stands.{Stands};
 
@@ -10,9 +12,10 @@ use crate::command::{Command, Reply};
 use crate::judging::{Cause, judge_change, refusal_for};
 use crate::refusal::Refusal;
 use crate::store::Store;
+use crate::subscriptions::Owed;
 use ds_entry::{Change, Items};
 use ds_join::Merge;
-use ds_names::NoRoom;
+use ds_names::{Key, NoRoom};
 
 impl Store {
     // The first cause against a change that another holder gave.
@@ -26,9 +29,11 @@ impl Store {
         judge_change(held, count, self.position, change)
     }
 
-    // One item of a merge: it takes effect, is passed over, or is refused.
-    fn merge_item(&mut self, item: &Change) -> Result<Merge, Refusal>
-        ensures { (s : State) → Stands self.old s → (t : State) × MergesItem s item.now result t × Stands self.new t }
+    // One item of a merge: it takes effect, is passed over, or is refused. Those to which it is owed are added.
+    fn merge_item(&mut self, item: &Change, total: &mut Owed) -> Result<Merge, Refusal>
+        ensures owed { total.new.flags ≡ owed_after result total.old.flags (owed_for item.now.key self.old.subscriptions) }
+        ensures queries { (key : Key) → owed_for key self.new.subscriptions ≡ owed_for key self.old.subscriptions }
+        ensures step { (s : State) → Stands self.old s → (t : State) × MergesItem s item.now result t × Stands self.new t }
     {
         if let Some(cause) = self.cause_of(item) {
             return match passed_as(cause) {
@@ -36,11 +41,17 @@ impl Store {
                 None => Err(refusal_for(item.version(), cause)),
             };
         }
+        let Ok(owed) = self.owed(item.key()) else {
+            return Err(Refusal::NoRoom);
+        };
         let Ok(change) = item.copy(self.alloc) else {
             return Err(Refusal::NoRoom);
         };
-        match self.accept(change) {
-            Ok(()) => Ok(Merge::Taken),
+        match self.accept(change, &owed) {
+            Ok(()) => {
+                total.add(&owed);
+                Ok(Merge::Taken)
+            }
             Err(NoRoom) => Err(Refusal::NoRoom),
         }
     }
@@ -52,15 +63,19 @@ impl Store {
         if items.len() > 256 {
             return Reply::Refused(Refusal::TooMany);
         }
-        let owed = self.owed();
+        let mut owed = self.owed_to_none();
         let mut done = 0;
         let mut taken = 0;
         let mut stale = 0;
         while let Some(item) = items.get(done) {
-            let join = match self.merge_item(item) {
+            let join = match self.merge_item(item, &mut owed) {
                 Ok(join) => join,
                 Err(fault) => {
-                    return Reply::MergeStopped { done, fault, owed };
+                    return Reply::MergeStopped {
+                        done,
+                        fault,
+                        owed: owed.mask(),
+                    };
                 }
             };
             done += 1;
@@ -71,7 +86,7 @@ impl Store {
             done,
             taken,
             stale,
-            owed,
+            owed: owed.mask(),
         }
     }
 }

@@ -1,6 +1,6 @@
 //! Sweeps, which end the entries of an owner that is dead.
 
-ghost use Rattle.std.specs.Prelude.{◌≡◌, ◌<◌, ◌≤◌, ◌+◌, ◌++◌, ◌∷◌, [], length, is_some, true, IfSome};
+ghost use Rattle.std.specs.Prelude.{◌≡◌, ◌<◌, ◌≤◌, ◌+◌, ◌++◌, ◌∷◌, [], length, map, is_some, true, IfOk, IfSome};
 ghost use Rattle.std.specs.Option.{option_copied};
 ghost use Rattle.std.specs.List.{find};
 ghost use Rattle.std.specs.List.Sorted.{IsStrictlySortedBy};
@@ -8,7 +8,9 @@ ghost use Rattle.ds_entry.specs.Change.{IsChange};
 ghost use Rattle.ds_entry.specs.Covers.{change_cmp};
 ghost use Rattle.ds_join.specs.Reading.{comes_after};
 ghost use Rattle.ds_join.specs.Top.{IsTop};
-ghost use Rattle.ds_store.specs.State.{State, accepts, last_place};
+ghost use Rattle.ds_store.specs.State.{State, accepts, last_place, mask};
+ghost use Rattle.ds_store.specs.Content.{owed_for, owed_each};
+ghost use Rattle.ds_store.specs.Owed.{any_of, flags_of};
 ghost use Rattle.ds_store.specs.Judging.{held_at, is_swept, tombstone, tombstones, TakesPlace};
 ghost use Rattle.ds_store.specs.Machine.{Step};
 ghost use Rattle.ds_store.specs.Stands.{Stands};
@@ -17,6 +19,7 @@ use crate::command::{Command, Reply};
 use crate::judging::{LAST_PLACE, is_label, is_put, is_rs};
 use crate::refusal::Refusal;
 use crate::store::Store;
+use crate::subscriptions::Owed;
 use ds_entry::{Body, Change};
 use ds_names::{Endpoint, Generation, Key, Name, NoRoom, Version};
 
@@ -74,48 +77,86 @@ impl Store {
     }
 
     // A change takes the place of a held one, which takes no memory.
-    fn replace(&mut self, change: Change)
+    fn replace(&mut self, change: Change, owed: &Owed)
+        requires owed { owed.now.flags ≡ owed_for change.key self.old.subscriptions }
         requires place { TakesPlace (held_at self.old.held change.key) change }
         requires room { self.old.position < last_place }
         ensures stands { (s : State) → Stands self.old s → Stands self.new (accepts s (change ∷ [])) }
+        ensures owed { (key : Key) → owed_for key self.new.subscriptions ≡ owed_for key self.old.subscriptions }
         ensures held { IsTop self.new.held (self.old.held ++ change ∷ []) }
         ensures position { self.new.position ≡ self.old.position + 1 }
     {
-        match self.accept(change) {
+        match self.accept(change, owed) {
             Ok(()) => {}
             Err(NoRoom) => unreachable!(),
         }
     }
 
+    // To which subscriptions each tombstone of a sweep is owed, in key order.
+    fn owed_swept(&self, owner: &Name, generation: Generation) -> Result<Vec<Owed>, NoRoom>
+        ensures { IfOk result (λ all. map flags_of all.items ≡ owed_each self.now.subscriptions (tombstones self.now.held owner.now generation)) }
+    {
+        let mut all = Vec::new(self.alloc);
+        let mut last: Option<Key> = None;
+        while let Some(change) = self.next(last.as_ref()) {
+            let key = *change.key();
+            if is_swept(change, owner, generation) {
+                all.push(self.owed(&key)?)?;
+            }
+            last = Some(key);
+        }
+        Ok(all)
+    }
+
     // The tombstones of a sweep take effect in key order.
-    fn end_all(&mut self, owner: &Name, generation: Generation)
-        requires { self.old.position + length (tombstones self.old.held owner.now generation) ≤ last_place }
+    fn end_all(&mut self, owner: &Name, generation: Generation, owed: &[Owed])
+        requires owed { map flags_of owed.now ≡ owed_each self.old.subscriptions (tombstones self.old.held owner.now generation) }
+        requires few { length owed.now ≤ 1024 }
+        requires room { self.old.position + length (tombstones self.old.held owner.now generation) ≤ last_place }
         ensures { (s : State) → Stands self.old s → Stands self.new (accepts s (tombstones self.old.held owner.now generation)) }
     {
+        let mut done = 0;
         let mut last: Option<Key> = None;
         while let Some(change) = self.next(last.as_ref()) {
             let key = *change.key();
             if is_swept(change, owner, generation) {
                 let tombstone = tombstone(change, owner, generation);
-                self.replace(tombstone);
+                self.replace(tombstone, &owed[done]);
+                done += 1;
             }
             last = Some(key);
         }
     }
 
-    // RS ends all live entries of an owner, labels aside, up to a generation. It takes no memory.
+    // RS ends all live entries of an owner, labels aside, up to a generation.
     pub(super) fn sweep(&mut self, caller: Endpoint, owner: &Name, generation: Generation) -> Reply
         ensures { (s : State) → Stands self.old s → (t : State) × Step s (Command.Sweep caller owner.now generation) result t × Stands self.new t }
     {
         if !is_rs(caller) {
             return Reply::Refused(Refusal::NotAllowed);
         }
-        let owed = self.owed();
         let count = self.count_swept(owner, generation);
         if count as u64 > LAST_PLACE - self.position {
             return Reply::Refused(Refusal::Worn);
         }
-        self.end_all(owner, generation);
-        Reply::Swept { count, owed }
+        let Ok(owed) = self.owed_swept(owner, generation) else {
+            return Reply::Refused(Refusal::NoRoom);
+        };
+        self.end_all(owner, generation, &owed);
+        Reply::Swept {
+            count,
+            owed: mask_of_all(&owed),
+        }
     }
+}
+
+// The mask of the subscriptions to which any of the changes is owed.
+fn mask_of_all(all: &[Owed]) -> u64
+    ensures { result ≡ mask (any_of (map flags_of all.now)) }
+{
+    let mut total = Owed::none();
+    for owed in all {
+        total.add(owed);
+    }
+    total.mask()
 }

@@ -1,12 +1,20 @@
-use Rattle.std.proofs.Common.{◌∷◌, []}
-use Rattle.ds_store.specs.State.{accepts}
+use Rattle.std.proofs.Common.{◌≡◌, ◌∷◌, [], ap, sym, ◌∙◌}
+use Rattle.ds_names.specs.declared.key.Key.{Key}
+use Rattle.ds_entry.specs.Change.{ChangeRecord}
+use Rattle.ds_store.specs.State.{accepts, mask, owed}
+use Rattle.ds_store.specs.Content.{owed_for}
 use Rattle.ds_store.proofs.AnswerLemmas.{asked_taken}
+use Rattle.ds_store.proofs.MarkLemmas.{owed_as}
 use Rattle.ds_store.proofs.store.Store.ask.Goals as goal
 
-pub returns-in-Ok : goal.returns-in-Ok
-returns-in-Ok c = λ s stands. (
-  accepts s (c.change_asked-change.result ∷ []),
-  asked_taken c.args.self.now s c.args.asked.now c.args.body c.caller_of-caller.result c.cause_against.result stands c.caller_of-caller.ensures c.cause_against.ensures.first c.change_asked-change.result c.owed-owed.result c.in_default.is c.change_asked-change.ensures
-      (λ changes. c.owed-owed.ensures s changes stands),
-  c.in-Ok.ensures.ok s stands,
-)
+pub returns-in-Ok-accept : goal.returns-in-Ok-accept
+returns-in-Ok-accept c = λ s stands.
+    let v = c.args.self.now in
+    let change = c.change_asked-change.result in
+    let key : c.args.asked.now.key ≡ change.key = ap (λ (x : ChangeRecord). x.key) (sym c.change_asked-change.ensures) in
+    let bits : c.mask.result ≡ owed s (change ∷ []) =
+    c.mask.ensures ∙ ap mask (c.in-Ok.ensures ∙ ap (λ (k : Key). owed_for k v.subscriptions) key ∙ owed_as v s change stands) in (
+      accepts s (change ∷ []),
+      asked_taken v s c.args.asked.now c.args.body c.caller_of-caller.result c.cause_against.result stands c.caller_of-caller.ensures c.cause_against.ensures.first change c.mask.result c.in_default.is c.change_asked-change.ensures bits,
+      c.in-Ok-accept.ensures.ok s stands,
+    )

@@ -1,11 +1,16 @@
-use Rattle.std.proofs.Common.{length, filter}
+use Rattle.std.proofs.Common.{◌≡◌, map, drop, length, filter}
 use Rattle.ds_join.specs.Reading.{comes_after}
-use Rattle.ds_store.proofs.SweepLemmas.{Ending}
+use Rattle.ds_store.specs.Content.{owed_each}
+use Rattle.ds_store.specs.Owed.{flags_of}
+use Rattle.ds_store.proofs.SweepLemmas.{Ending, left}
 use Rattle.ds_store.proofs.store.Store.end_all.Given as goal
 
--- the tombstones so far took effect, and those of what comes after the last key are left
+-- the tombstones so far took effect, and those of what comes after the last key are left, as are their flags
 abbrev pub invariant-loop-change : goal.invariant-loop-change
-invariant-loop-change l = Ending l.fn.self l.self l.owner l.generation l.last
+invariant-loop-change l = record {
+  ending : Ending l.fn.self l.self l.owner l.generation l.last;
+  owed : map flags_of (drop l.done l.owed) ≡ owed_each l.self.subscriptions (left l.self.held l.owner l.generation l.last);
+}
 
 abbrev pub decreases-loop-change : goal.decreases-loop-change
 decreases-loop-change l = length (filter (comes_after l.last) l.self.held)

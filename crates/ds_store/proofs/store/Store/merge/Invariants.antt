@@ -1,17 +1,21 @@
-use Rattle.std.proofs.Common.{◌≤◌, ◌-◌, length, take}
-use Rattle.ds_store.specs.State.{State}
+use Rattle.std.proofs.Common.{◌≡◌, ◌≤◌, ◌-◌, map, length, take}
+use Rattle.ds_names.specs.declared.key.Key.{Key}
+use Rattle.ds_store.specs.State.{State, is_owed}
+use Rattle.ds_store.specs.Content.{owed_for}
 use Rattle.ds_store.specs.Stands.{Stands}
 use Rattle.ds_store.specs.Machine.{course}
 use Rattle.ds_store.proofs.MergeLemmas.{Reached}
 use Rattle.ds_store.proofs.store.Store.merge.Given as goal
 
--- the items so far are merged
+-- the items so far are merged, and those to which they are owed are told
 abbrev pub invariant-loop-item : goal.invariant-loop-item
 invariant-loop-item l = record {
   few : length l.items ≤ 256;
   within : l.done ≤ length l.items;
   taken : l.taken ≤ l.done;
   stale : l.stale ≤ l.done;
+  queries : (key : Key) → owed_for key l.self.subscriptions ≡ owed_for key l.fn.self.subscriptions;
+  owed : (s : State) → Stands l.fn.self s → l.owed.flags ≡ map (is_owed (course s (take l.done l.items)).taken) s.subscriptions;
   reached : (s : State) → Stands l.fn.self s → Reached (course s (take l.done l.items)) l.done l.taken l.stale × Stands l.self (course s (take l.done l.items)).state;
 }
 

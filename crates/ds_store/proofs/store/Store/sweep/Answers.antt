@@ -1,6 +1,15 @@
-use Rattle.std.proofs.Common.{◌≡◌, ◌+◌, ◌≤◌, true, length, ap, sym, ◌∙◌, arith}
+use Rattle.std.proofs.Common.{◌≡◌, ◌+◌, ◌≤◌, true, List, map, length, ap, sym, ◌∙◌, arith}
+use Rattle.std.proofs.lemmas.List.{length-map}
+use Rattle.std.specs.Option.{option_map}
+use Rattle.ds_entry.specs.Change.{ChangeRecord}
+use Rattle.ds_join.specs.Held.{held_changes}
+use Rattle.ds_join.specs.Top.{tops}
+use Rattle.ds_store.specs.Kept.{followed_by}
+use Rattle.ds_store.specs.Owed.{any_of, flags_of}
+use Rattle.ds_store.specs.declared.subscriptions.Owed.{Owed}
+use Rattle.ds_store.proofs.OwedLemmas.{all_owed}
 use Rattle.ds_store.specs.Content.{Content}
-use Rattle.ds_store.specs.State.{accepts, last_place}
+use Rattle.ds_store.specs.State.{accepts, owed, mask, last_place}
 use Rattle.ds_store.specs.Judging.{is_rs, tombstones}
 use Rattle.ds_store.proofs.SweepLemmas.{sweep_done}
 use Rattle.ds_store.proofs.store.Store.sweep.Goals as goal
@@ -10,8 +19,14 @@ returns c = λ s stands.
     let v = c.args.self.now in
     let rs : is_rs c.args.caller ≡ true = sym c.is_rs.ensures ∙ c.if-not-is_rs.false in
     let at : c.self.inside.position ≡ v.position = ap (λ (x : Content). x.position) c.self.view_is in
-    let fits : v.position + length (tombstones v.held c.args.owner.now c.args.generation) ≤ last_place = omega (arith, at, c.if-count-self.false, c.count_swept-count.ensures.count, c.self.invariant.position) in (
+    let fits : v.position + length (tombstones v.held c.args.owner.now c.args.generation) ≤ last_place = omega (arith, at, c.if-count-self.false, c.count_swept-count.ensures.count, c.self.invariant.position) in
+    let all = tombstones v.held c.args.owner.now c.args.generation in
+    let long : length v.subscriptions ≡ 64 =
+    ap (λ (x : Content). length x.subscriptions) (sym c.self.view_is) ∙ length-map c.self.inside.subscriptions (option_map (followed_by (held_changes c.self.inside.held))) ∙ c.self.invariant.places in
+    let bits : c.mask_of_all.result ≡ owed s (tombstones (tops s.accepted) c.args.owner.now c.args.generation) =
+    c.mask_of_all.ensures ∙ ap (λ (l : List Owed). mask (any_of (map flags_of l))) c.deref-2.ensures.value ∙ ap (λ l. mask (any_of l)) c.in-Ok.ensures
+    ∙ ap mask (all_owed v s all long stands) ∙ ap (λ (hs : List ChangeRecord). owed s (tombstones hs c.args.owner.now c.args.generation)) stands.held in (
       accepts s (tombstones v.held c.args.owner.now c.args.generation),
-      sweep_done v s c.args.caller c.args.owner.now c.args.generation stands c.count_swept-count.result c.owed-owed.result rs fits c.count_swept-count.ensures.count (c.owed-owed.ensures s _ stands),
+      sweep_done v s c.args.caller c.args.owner.now c.args.generation stands c.count_swept-count.result c.mask_of_all.result rs fits c.count_swept-count.ensures.count bits,
       c.end_all.ensures s stands,
     )

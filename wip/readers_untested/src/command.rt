@@ -1,0 +1,54 @@
+//! The lines of a script.
+
+use ds_entry::{Change, Value};
+use ds_names::{Endpoint, Generation, Key, Name, Version};
+use ds_pattern::Query;
+
+/// One line of a script, with its parts.
+#[derive(Debug, PartialEq, Eq, Drop)]
+pub enum ScriptCommand {
+    /// `offer CHANGE`: merges the change into what is held.
+    Offer(Change),
+    /// `show`: prints the puts that are held.
+    Show,
+    /// `all`: prints all that is held, tombstones too.
+    All,
+    /// `publish CALLER new NAME KIND EPOCH.SEQ = VALUE`, or `over` for `new`: puts a value in the caller's name.
+    Publish {
+        caller: Endpoint,
+        key: Key,
+        version: Version,
+        value: Value,
+        overwrite: bool,
+    },
+    /// `delete CALLER NAME KIND EPOCH.SEQ`: leaves a tombstone in the caller's name.
+    Delete {
+        caller: Endpoint,
+        key: Key,
+        version: Version,
+    },
+    /// `sweep CALLER OWNER GENERATION`: ends the entries of a dead owner.
+    Sweep {
+        caller: Endpoint,
+        owner: Name,
+        generation: Generation,
+    },
+    /// `retrieve NAME KIND`: asks for the value of a live entry.
+    Retrieve { key: Key },
+    /// `nameof ENDPOINT`: asks for the name of an endpoint.
+    NameOf { endpoint: Endpoint },
+    /// `subscribe SUB PATTERN KINDS first new`, or `later` for `first`, or `over` for `new`: opens a subscription,
+    /// which with `first` is to be shown what is held already.
+    Subscribe {
+        sub: u32,
+        query: Query,
+        initial: bool,
+        overwrite: bool,
+    },
+    /// `check SUB MAX`: asks for changes that the subscription is still to be shown.
+    Check { sub: u32, max: u32 },
+    /// `map PATTERN KINDS`: makes a map, which takes over what is delivered to it.
+    Map { query: Query },
+    /// `entries J`: prints the puts of a map.
+    Entries { map: u64 },
+}

@@ -1,0 +1,21 @@
+//! Why a replay ends early.
+
+use thiserror::Error;
+
+/// Why a replay ended before its input did.
+#[derive(Clone, Copy, Debug, PartialEq, Eq, Error)]
+pub enum ReplayFault {
+    /// A line that is no command's: its number, from 1, and the byte, from 0, where the first part that can't
+    /// be read begins. A line above 4096 bytes is bad at 4096.
+    #[error("line {line} can't be read from byte {place} on")]
+    BadLine { line: u64, place: usize },
+    /// The reader failed, or was read 2^32 times.
+    #[error("the input can't be read")]
+    ReadFault,
+    /// The writer failed, or took no bytes.
+    #[error("the answers can't be written")]
+    WriteFault,
+    /// Out of memory for a line or its answer.
+    #[error("out of memory")]
+    NoRoom,
+}

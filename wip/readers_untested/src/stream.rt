@@ -1,0 +1,183 @@
+//! A whole replay: from a reader's lines to a writer's answers.
+
+ghost use Rattle.std.specs.Prelude.{◌≡◌, ◌≤◌, ◌<◌, ◌*◌, ◌^◌, ◌+◌, ◌++◌, [], ℕ, List, Some, IfOk, IfErr, OnOk, OnErr, length, vec_len};
+ghost use Rattle.std.specs.Io.KnownBytes.{Appends, IsAtEnd};
+ghost use Rattle.ds_join.specs.Held.{Holding, nothing_held};
+ghost use Rattle.ds_script.specs.Lines.{IsUnbroken};
+ghost use Rattle.ds_script.specs.Answer.{AllHaveLines};
+ghost use Rattle.ds_script.specs.Replay.{Goes, Leaves, Replays, StopsWith, Written, Reported, Finishes};
+
+use crate::fault::ReplayFault;
+use crate::transfer::write_out;
+use crate::turn::{Stop, answer_line, take_turn};
+use ds_join::Held;
+use ds_line::LineFault;
+use std::alloc::{AllocError, Global};
+use std::io::{Read, Write};
+
+/// The bytes that are asked for at once.
+const CHUNK: usize = 65536;
+
+/// The most reads of one replay.
+const READS: u64 = 4294967296;
+
+/// Answers the lines of a script, one after the other, over one holder that holds nothing at first. It gives
+/// the number of lines.
+///
+/// What is written is the answers to the lines that were read, in their order, and nothing else. Each answer is
+/// written before the next read, so a person at a terminal sees it at once; answers to the lines that one read
+/// brought are written together. A line that there is no memory for is answered `refused noroom`, and changes
+/// nothing. What is kept is bounded by the longest line and by what is held, whatever the length of the input.
+///
+/// A fault ends it: a line that is no command's (which the caller reports, no answer is written for it), a
+/// reader or a writer that fails, or want of memory for the buffers. All lines before were answered then, and
+/// but for a failed write all answers were written.
+pub fn replay<R: Read, W: Write>(
+    alloc: Global,
+    reader: &mut R,
+    writer: &mut W,
+) -> Result<u64, ReplayFault>
+    ensures answered { IfOk result (λ count. (lines : List (List ℕ)) × Replays (R.remaining reader.old) (R.remaining reader.new) (W.contents writer.old) (W.contents writer.new) lines × (length lines ≡ count)) }
+    ensures stopped { IfErr result (λ fault. StopsWith fault (R.remaining reader.old) (R.remaining reader.new) (W.contents writer.old) (W.contents writer.new)) }
+{
+    let mut held = Held::new(alloc);
+    let mut output = Vec::new(alloc);
+    let mut pending = Vec::new(alloc);
+    let Ok(mut chunk) = zeros(alloc) else {
+        return Err(ReplayFault::NoRoom);
+    };
+    let ended = answer_input(
+        alloc,
+        reader,
+        writer,
+        &mut chunk,
+        &mut pending,
+        &mut held,
+        &mut output,
+    );
+    match ended.stop {
+        Stop::AtEnd => finish(
+            alloc,
+            writer,
+            ended.lines,
+            &mut pending,
+            &mut held,
+            &mut output,
+        ),
+        Stop::BadLine { place } => report(
+            writer,
+            &output,
+            ReplayFault::BadLine {
+                line: ended.lines + 1,
+                place,
+            },
+        ),
+        Stop::ReadFault => report(writer, &output, ReplayFault::ReadFault),
+        Stop::WriteFault => Err(ReplayFault::WriteFault),
+        Stop::NoRoom => report(writer, &output, ReplayFault::NoRoom),
+    }
+}
+
+/// How many lines were answered, and why no more are.
+#[derive(Clone, Copy, Debug)]
+pub struct Ended {
+    pub lines: u64,
+    pub stop: Stop,
+}
+
+// Room for one read.
+fn zeros(alloc: Global) -> Result<Vec<u8>, AllocError>
+    ensures { IfOk result (λ chunk. vec_len chunk ≡ 65536) }
+{
+    Vec::from_elem(alloc, 0u8, CHUNK)
+}
+
+// Reads and answers until no more can be read or answered. A last line without its newline is left.
+fn answer_input<R: Read, W: Write>(
+    alloc: Global,
+    reader: &mut R,
+    writer: &mut W,
+    chunk: &mut [u8],
+    pending: &mut Vec<u8>,
+    held: &mut Held,
+    output: &mut Vec<u8>,
+) -> Ended
+    requires chunk { length chunk.old ≡ 65536 }
+    requires pending { pending.old.items ≡ [] }
+    requires held { AllHaveLines held.old }
+    ensures goes { (new : Holding) × (after rest : List ℕ)
+        × Goes (R.remaining reader.old) (R.remaining reader.new) (W.contents writer.old) (W.contents writer.new) held.old output.old.items [] result.lines new after rest
+        × Leaves (Some result.stop) (R.remaining reader.new) held.new output.new.items pending.new.items new after rest }
+    ensures held { AllHaveLines held.new }
+    ensures lines { result.lines < 2 ^ 63 }
+{
+    let mut lines = 0u64;
+    for _turn in 0..READS {
+        let answered = take_turn(alloc, reader, writer, chunk, pending, held, output);
+        lines += answered.lines;
+        if let Some(stop) = answered.stop {
+            return Ended { lines, stop };
+        }
+    }
+    Ended {
+        lines,
+        stop: Stop::ReadFault,
+    }
+}
+
+// Writes the answers that wait, and then gives the fault.
+fn report<W: Write>(writer: &mut W, output: &[u8], fault: ReplayFault) -> Result<u64, ReplayFault>
+    ensures { Reported result fault (W.contents writer.old) (W.contents writer.new) output.now }
+{
+    match write_out(writer, output) {
+        Ok(()) => Err(fault),
+        Err(_) => Err(ReplayFault::WriteFault),
+    }
+}
+
+// Answers the last line, where its newline is missing, and writes the answers that wait.
+fn finish<W: Write>(
+    alloc: Global,
+    writer: &mut W,
+    lines: u64,
+    pending: &mut Vec<u8>,
+    held: &mut Held,
+    output: &mut Vec<u8>,
+) -> Result<u64, ReplayFault>
+    requires pending { IsUnbroken pending.old.items }
+    requires held { AllHaveLines held.old }
+    requires lines { lines < 2 ^ 63 }
+    ensures { Finishes result lines (W.contents writer.old) (W.contents writer.new) held.old output.old.items pending.old.items }
+{
+    if pending.is_empty() {
+        return written(writer, output, lines);
+    }
+    match pending.push(b'\n') {
+        Ok(()) => match answer_line(alloc, pending.as_slice(), held, output) {
+            Ok(()) => written(writer, output, lines + 1),
+            Err(LineFault::BadLine { place }) => report(
+                writer,
+                output,
+                ReplayFault::BadLine {
+                    line: lines + 1,
+                    place,
+                },
+            ),
+            Err(LineFault::NoRoom) => report(writer, output, ReplayFault::NoRoom),
+        },
+        Err(_) => report(writer, output, ReplayFault::NoRoom),
+    }
+}
+
+// Writes the answers that wait, and then gives the number of lines.
+fn written<W: Write>(writer: &mut W, answers: &[u8], lines: u64) -> Result<u64, ReplayFault>
+    ensures { Written result lines (W.contents writer.old) (W.contents writer.new) answers.now }
+{
+    match write_out(writer, answers) {
+        Ok(()) => Ok(lines),
+        Err(_) => Err(ReplayFault::WriteFault),
+    }
+}
+
+#[cfg(test)]
+mod tests;

@@ -1,0 +1,98 @@
+//! Scripts with their answers, and each read and each write of them failing in turn.
+
+use super::*;
+use crate::faulty::{FailRead, FailWrite};
+use std::test::Fail;
+
+/// A script, its answers, and how it ends.
+struct Row {
+    script: &'static [u8],
+    answers: &'static [u8],
+    end: Result<u64, ReplayFault>,
+}
+
+const ROWS: [Row; 6] = [
+    Row {
+        script: b"",
+        answers: b"",
+        end: Ok(0),
+    },
+    Row {
+        script: b"offer eth0 label rs 3.0 = 3/17\noffer eth0 label rs 2.0 = 2/9\nshow\n",
+        answers: b"taken\nstale\neth0 label rs 3.0 = 3/17\nshown 1\n",
+        end: Ok(3),
+    },
+    Row {
+        script: b"offer eth0 label rs 3.0 = 3/17\noffer eth0 label rs 3.0 = 3/17\noffer eth0 label rs 3.0 = 3/18",
+        answers: b"taken\nknown\nrefused clash 3.0\n",
+        end: Ok(3),
+    },
+    Row {
+        script: b"offer eth0 label rs 3.1 -\noffer eth0 label rs 3.0 = 3/17\nshow\nall\n",
+        answers: b"taken\nstale\nshown 0\neth0 label rs 3.1 -\nshown 1\n",
+        end: Ok(4),
+    },
+    Row {
+        script: b"show\noffer eth0 label rs 03.0 = 3/17\nshow\n",
+        answers: b"shown 0\n",
+        end: Err(ReplayFault::BadLine { line: 2, place: 20 }),
+    },
+    Row {
+        script: b"all\n\n",
+        answers: b"shown 0\n",
+        end: Err(ReplayFault::BadLine { line: 2, place: 0 }),
+    },
+];
+
+#[test]
+fn each_read_fails_in_turn(rt: HostRuntime) -> Result<(), Fail> {
+    for row in &ROWS {
+        for fail_at in 1..40u32 {
+            let mut reader = FailRead::new(row.script, fail_at, 7);
+            let mut writer = FailWrite::new(rt.alloc(), 0, 5);
+            let end = replay(rt.alloc(), &mut reader, &mut writer);
+            assert!(rt; row.answers.starts_with(writer.written()));
+            if end == row.end {
+                assert_eq!(rt; writer.written(), row.answers);
+                break;
+            }
+            assert!(rt; end == Err(ReplayFault::ReadFault));
+        }
+    }
+    Ok(())
+}
+
+#[test]
+fn each_write_fails_in_turn(rt: HostRuntime) -> Result<(), Fail> {
+    for row in &ROWS {
+        for fail_at in 1..40u32 {
+            let mut reader = FailRead::new(row.script, 0, 64);
+            let mut writer = FailWrite::new(rt.alloc(), fail_at, 5);
+            let end = replay(rt.alloc(), &mut reader, &mut writer);
+            assert!(rt; row.answers.starts_with(writer.written()));
+            if end == row.end {
+                assert_eq!(rt; writer.written(), row.answers);
+                break;
+            }
+            assert!(rt; end == Err(ReplayFault::WriteFault));
+        }
+    }
+    Ok(())
+}
+
+#[test]
+fn overlong_lines_are_not_read_on(rt: HostRuntime) -> Result<(), Fail> {
+    let line = Vec::from_elem(rt.alloc(), b'a', 9000)?;
+    let mut reader = FailRead::new(line.as_slice(), 0, 4097);
+    let mut writer = FailWrite::new(rt.alloc(), 0, 1);
+    let end = replay(rt.alloc(), &mut reader, &mut writer);
+    assert!(rt;
+        end == Err(ReplayFault::BadLine {
+            line: 1,
+            place: 4096
+        })
+    );
+    let mut left = [0; 1];
+    assert!(rt; matches!(reader.read(&mut left), Ok(1)));
+    Ok(())
+}

@@ -1,0 +1,92 @@
+//! Bytes from a reader and to a writer.
+
+ghost use Rattle.std.specs.Prelude.{◌≡◌, ◌≤◌, ◌<◌, ◌++◌, ◌+◌, [], List, ℕ, IfOk, OnOk, OnErr, length, take, drop, vec_len};
+ghost use Rattle.std.specs.Io.KnownBytes.{Appends};
+ghost use Rattle.ds_script.specs.Transfer.{Fills};
+
+use std::io::{ErrorKind, Read, Write};
+
+/// What became of one read.
+#[derive(Clone, Copy, Debug, PartialEq, Eq)]
+pub enum Filled {
+    /// Some bytes came.
+    More,
+    /// The reader has no more.
+    End,
+    /// A signal came in the way. Nothing was read, and the next read may give more.
+    Interrupted,
+    /// The reader failed.
+    Failed,
+    /// Bytes came that there is no room for.
+    NoRoom,
+}
+
+/// Reads once, and puts what came behind the bytes that wait.
+pub(crate) fn fill<R: Read>(reader: &mut R, chunk: &mut [u8], pending: &mut Vec<u8>) -> Filled
+    requires { 0 < length chunk.old }
+    ensures fills { Fills result (R.remaining reader.old) (R.remaining reader.new) pending.old.items pending.new.items }
+    ensures most { vec_len pending.new ≤ vec_len pending.old + length chunk.old }
+{
+    match reader.read(chunk) {
+        Ok(0) => Filled::End,
+        Ok(count) => match pending.extend_from_slice(&chunk[..count]) {
+            Ok(()) => Filled::More,
+            Err(_) => Filled::NoRoom,
+        },
+        Err(fault) => {
+            if fault.kind() == ErrorKind::Interrupted {
+                Filled::Interrupted
+            } else {
+                Filled::Failed
+            }
+        }
+    }
+}
+
+/// The writer failed, or took no bytes.
+#[derive(Clone, Copy, Debug, PartialEq, Eq)]
+pub struct WriteFailed;
+
+/// Writes all of the text. Where the writer fails it has got a front of it.
+pub(crate) fn write_out<W: Write>(writer: &mut W, text: &[u8]) -> Result<(), WriteFailed>
+    ensures ok { OnOk result (Appends (W.contents writer.old) (W.contents writer.new) text.now) }
+    ensures err { OnErr result ((sent left : List ℕ) × (text.now ≡ sent ++ left) × Appends (W.contents writer.old) (W.contents writer.new) sent) }
+{
+    let mut rest = text;
+    for _turn in 0..u64::MAX {
+        if rest.is_empty() {
+            return Ok(());
+        }
+        match write_once(writer, rest) {
+            Ok(count) => rest = behind(rest, count),
+            Err(failed) => return Err(failed),
+        }
+    }
+    Err(WriteFailed)
+}
+
+// Writes once, and gives the number of bytes that were taken: 0 where a signal came in the way.
+fn write_once<W: Write>(writer: &mut W, text: &[u8]) -> Result<usize, WriteFailed>
+    ensures ok { IfOk result (λ count. (count ≤ length text.now) × Appends (W.contents writer.old) (W.contents writer.new) (take count text.now)) }
+    ensures err { OnErr result (Appends (W.contents writer.old) (W.contents writer.new) []) }
+{
+    match writer.write(text) {
+        Ok(0) => Err(WriteFailed),
+        Ok(count) => Ok(count),
+        Err(fault) => {
+            if fault.kind() == ErrorKind::Interrupted {
+                Ok(0)
+            } else {
+                Err(WriteFailed)
+            }
+        }
+    }
+}
+
+// What comes behind the first `count` bytes.
+fn behind(text: &[u8], count: usize) -> &[u8]
+    requires { count ≤ length text.now }
+    ensures { result.now ≡ drop count text.now }
+{
+    &text[count..]
+}
