@@ -32,14 +32,15 @@ GOOD = [
     b"sweep 0/2 eth0 3",
     b"retrieve boot u32",
     b"nameof 0/2",
+    b'subscribe 63 "a" 15 first new',
+    b'subscribe 0 "" 1 later over',
+    b"check 63 256",
+    b'map "a" 8',
+    b"entries 18446744073709551615",
 ]
 MEMORY = 64 << 10  # KiB of address space, where a behaviour limits it
 # A line of each command that isn't there yet.
 NOT_YET = b"""\
-subscribe 0 ".*" 15 first new
-check 0 1
-map ".*" 15
-entries 0
 ring 2
 since * 1 0 8
 snapshot *
@@ -315,7 +316,7 @@ def scripts_by_chance(program):
 
 
 def callers_by_chance(program):
-    """Seeded scripts in which RS and some drivers publish, delete, sweep and ask."""
+    """Seeded scripts in which RS and some drivers publish, delete, sweep and ask, and others subscribe and check."""
     chance = random.Random(2)
     scripts = [b"\n".join(command_by_chance(chance) for _ in range(400)) for _ in range(60)]
     harness.at_once(lambda it: agrees(program, it), scripts)
@@ -359,8 +360,12 @@ def command_by_chance(chance):
     kind, value = value_by_chance(chance)
     mode = chance.choice([b"new", b"over", b"over"])
     label = b"label %d.%d = %d/%d" % (generation, chance.random() < 0.1, generation + (chance.random() < 0.1), slot)
+    query = b'"%s" %d' % (chance.choice([b".*", b"m.*", b"eth0|id", b"[a-z]+\\\\d", b""]), chance.randrange(1, 16))
+    sub = chance.randrange(8) + 56 * chance.randrange(2)
     return chance.choice(
         [
+            b"subscribe %d %s %s %s" % (sub, query, chance.choice([b"first", b"later"]), mode),
+            *[b"check %d %d" % (sub, chance.choice([1, 1, 2, 256]))] * 2,
             *[b"publish 0/2 %s %s %s" % (mode, driver, label)] * 2,
             b"publish %s %s %s %s" % (caller, mode, driver, label),
             b"delete 0/2 %s label %d.1" % (driver, generation),

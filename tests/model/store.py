@@ -28,6 +28,8 @@ class Query:
         try:
             if re.search(rb"[^ -~]", pattern):
                 raise re.error("a byte that isn't printable")
+            if re.search(rb"\{(?!\d+(,\d*)?\})", pattern):
+                raise re.error("a brace that begins no repetition, which Python takes for itself")
             re.compile(pattern)
             self.whole = re.compile(rb"(?:" + pattern + rb")\Z")
         except re.error:

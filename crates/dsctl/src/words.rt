@@ -40,13 +40,24 @@ Lines of a script:
                      end what a dead owner left, labels aside; the answer is `swept N`
   retrieve NAME KIND ask for a value: `found VALUE`
   nameof ENDPOINT    ask which label holds an endpoint: `named NAME`
+  subscribe SUB PATTERN KINDS first new
+                     follow what is under a query: all that is held and all that changes, or with
+                     `later` for `first` what changes alone; in the place of another subscription
+                     with `over` for `new`. The answer is `subscribed STAMP`
+  check SUB MAX      print the first MAX changes that weren't shown to the subscription, then
+                     `checked N BEFORE AFTER`, its stamp before and after
+  map PATTERN KINDS  make a map of what is under a query: `map J`; nothing is delivered to it yet
+  entries J          print the entries of a map, then `shown N`
   offer CHANGE       merge one change, whoever made it
   show               print the entries that stand, in order of their keys, then `shown N`
   all                the same with tombstones
 
 The other answers are `taken`, `known` for a repeat, `stale`, and `refused` with a word. CALLER and
 ENDPOINT are GENERATION/SLOT; 0/2 is RS, which alone publishes labels and sweeps. An entry but a label
-has its caller's generation as its epoch.
+has its caller's generation as its epoch. SUB is 0 to 63. PATTERN is a regular expression in quotes that
+matches a whole name, with \\\" and \\\\ for a quote and a backslash; KINDS is the sum of 1 for label, 2 for
+u32, 4 for str and 8 for mem. An answer is followed by `owed MASK` where a change came under the queries
+of the subscriptions whose bits are set, the mask in hex.
 
 A change is a line `NAME KIND OWNER EPOCH.SEQ = VALUE`, which puts a value, or `NAME KIND OWNER EPOCH.SEQ -`,
 which says that the entry is gone. Of two changes of one name and kind the one with the greater version
