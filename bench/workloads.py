@@ -88,6 +88,20 @@ def retrieves(lines, chance):
         yield f"retrieve {owner(at)}.entry-{at}{'.none' * (chance.random() < 0.05)} u32\n"
 
 
+def watch(lines, chance):
+    """Overwrites under 64 subscriptions, each tenth line a check of up to 32 changes by the next of them."""
+    yield from drivers()
+    patterns = [".*"] * 4 + [f"{name}\\\\..*" for name in DRIVERS] * 2 + [f"driver-{first}.*" for first in range(1, 10)] * 2
+    patterns += [f"{owner(at)}\\\\.entry-{at}" for at in range(0, NAMES, 100)]
+    for sub, pattern in enumerate(patterns):
+        yield f'subscribe {sub} "{pattern}" {2 if sub % 2 else 15} {"first" if sub % 4 else "later"} new\n'
+    for at in range(NAMES):
+        yield publish("new", at, 0, 0)
+    overwrites = rising(lines, chance, lambda at, number: publish("over", at, number, chance.getrandbits(32)))
+    for number, line in enumerate(overwrites):
+        yield line if number % 10 != 9 else f"check {number // 10 % len(patterns)} 32\n"
+
+
 def long(lines, chance):
     """Offers, publications and questions of strings of up to 256 bytes and memory of up to 1024."""
     yield from drivers()
@@ -116,6 +130,7 @@ ALL = {
     "offers-cold": offers_cold,
     "publish": publishes,
     "retrieve": retrieves,
+    "watch": watch,
     "long": long,
 }
 
