@@ -191,6 +191,16 @@ def a_million_lines(program):
         expect(end(begin(program, limit=MEMORY, stdin=script)), b"taken\n" * 1000000, 0)
 
 
+def a_hundred_thousand_checks(program):
+    """Checks that show something, one after the other, in little memory."""
+    turns = range(1, 100001)
+    with tempfile.TemporaryFile() as script:
+        script.write(b'subscribe 0 "k" 2 later new\n' + b"".join(b"offer k u32 o 1.%d = 0\ncheck 0 1\n" % at for at in turns))
+        script.seek(0)
+        shown = (b"taken\nowed 0000000000000001\nk u32 o 1.%d = 0\nchecked 1 %d %d\n" % (at, at, at + 1) for at in turns)
+        expect(end(begin(program, limit=MEMORY, stdin=script)), b"subscribed 1\n" + b"".join(shown), 0)
+
+
 def a_long_show(program):
     """Many lists in a row, far longer together than the memory that is there."""
     names = [b"driver-%04d".ljust(64, b"-") % at for at in range(1000)]
@@ -259,7 +269,7 @@ def a_writer_that_is_closed(program):
 
 def tells_how_it_is_used(program):
     """`--help` names the subcommand, the lines and an answer, `--version` a version; both leave the input alone."""
-    for word, wanted in (("--help", (b"dsctl", b"replay", b"offer", b"publish", b"show", b"taken")), ("--version", (b"dsctl ", b"."))):
+    for word, wanted in (("--help", (b"dsctl", b"replay", b"offer", b"publish", b"subscribe", b"check", b"show", b"taken")), ("--version", (b"dsctl ", b"."))):
         ran = harness.run([program, word], b"bad\n")
         assert (ran.status, ran.error) == (0, b""), f"{word}: status {ran.status}, standard error {ran.error[:200]!r}"
         missing = [it for it in wanted if it not in ran.output]
@@ -365,7 +375,8 @@ def command_by_chance(chance):
     return chance.choice(
         [
             b"subscribe %d %s %s %s" % (sub, query, chance.choice([b"first", b"later"]), mode),
-            *[b"check %d %d" % (sub, chance.choice([1, 1, 2, 256]))] * 2,
+            *[b"check %d %d" % (sub, chance.choice([1, 1, 1, 2, 256, 257]))] * 2,
+            *[chance.choice([b"map " + query, b"entries 0", b"check 64 0"])] * (chance.random() < 0.2),
             *[b"publish 0/2 %s %s %s" % (mode, driver, label)] * 2,
             b"publish %s %s %s %s" % (caller, mode, driver, label),
             b"delete 0/2 %s label %d.1" % (driver, generation),
@@ -387,6 +398,7 @@ ALL = [
     a_gigabyte_without_a_newline,
     a_line_without_end,
     a_million_lines,
+    a_hundred_thousand_checks,
     a_long_show,
     a_reader_that_fails,
     a_reader_that_is_closed,

@@ -54,10 +54,12 @@ Lines of a script:
 
 The other answers are `taken`, `known` for a repeat, `stale`, and `refused` with a word. CALLER and
 ENDPOINT are GENERATION/SLOT; 0/2 is RS, which alone publishes labels and sweeps. An entry but a label
-has its caller's generation as its epoch. SUB is 0 to 63. PATTERN is a regular expression in quotes that
+has its caller's generation as its epoch.
+
+SUB is 0 to 63, four for each of 16 servers; MAX is 1 to 256. PATTERN is a regular expression in quotes that
 matches a whole name, with \\\" and \\\\ for a quote and a backslash; KINDS is the sum of 1 for label, 2 for
-u32, 4 for str and 8 for mem. An answer is followed by `owed MASK` where a change came under the queries
-of the subscriptions whose bits are set, the mask in hex.
+u32, 4 for str and 8 for mem; J counts maps from 0, 64 at most. Behind an answer stands `owed MASK` where
+something came under the queries of some subscriptions: in hex, with the bit of each SUB.
 
 A change is a line `NAME KIND OWNER EPOCH.SEQ = VALUE`, which puts a value, or `NAME KIND OWNER EPOCH.SEQ -`,
 which says that the entry is gone. Of two changes of one name and kind the one with the greater version
