@@ -133,6 +133,7 @@ ALL = {
     "watch": watch,
     "long": long,
 }
+PART = {"watch": 100}  # a slow workload is measured at one in so many of its lines
 
 
 def script(name, lines):
