@@ -5,6 +5,18 @@ use ds_names::Kinds;
 use ds_pattern::PatternText;
 use std::test::Fail;
 
+// Whether the command is answered so.
+fn answers(
+    alloc: Global,
+    session: &mut Session,
+    command: ScriptCommand,
+    text: &[u8],
+) -> Result<bool, Fail> {
+    let mut output = Vec::new(alloc);
+    answer_command(alloc, session, &mut output, command)?;
+    Ok(output.as_slice() == text)
+}
+
 // The line `map` of a pattern, over entries of all kinds.
 fn map(alloc: Global, pattern: &[u8]) -> Result<ScriptCommand, Fail> {
     Ok(ScriptCommand::Map {
@@ -19,45 +31,23 @@ fn map(alloc: Global, pattern: &[u8]) -> Result<ScriptCommand, Fail> {
 fn maps_are_made_and_printed(rt: HostRuntime) -> Result<(), Fail> {
     let alloc = rt.alloc();
     let mut session = Session::open(alloc);
-    let rows: [(ScriptCommand, &[u8]); 9] = [
-        (ScriptCommand::Entries { map: 0 }, b"refused nomap\n"),
-        (map(alloc, b"(")?, b"refused badpattern\n"),
-        (map(alloc, &[b'a'; 129])?, b"refused toolong\n"),
-        (map(alloc, b".*")?, b"map 0\n"),
-        (map(alloc, b"eth.*")?, b"map 1\n"),
-        (ScriptCommand::Entries { map: 0 }, b"shown 0\n"),
-        (ScriptCommand::Entries { map: 1 }, b"shown 0\n"),
-        (ScriptCommand::Entries { map: 2 }, b"refused nomap\n"),
-        (
-            ScriptCommand::Entries {
-                map: 18446744073709551615,
-            },
-            b"refused nomap\n",
-        ),
+    let maps: [(&[u8], &[u8]); 4] = [
+        (b"(", b"refused badpattern\n"),
+        (&[b'a'; 129], b"refused toolong\n"),
+        (b".*", b"map 0\n"),
+        (b"eth.*", b"map 1\n"),
     ];
-    for (command, text) in rows {
-        let mut output = Vec::new(alloc);
-        assert!(rt; answer_command(alloc, &mut session, &mut output, command).is_ok());
-        assert_eq!(rt; output.as_slice(), text);
+    for (pattern, text) in maps {
+        assert!(rt; answers(alloc, &mut session, map(alloc, pattern)?, text)?);
     }
-    Ok(())
-}
-
-#[test]
-fn map_65_is_refused_before_its_pattern_is_read(rt: HostRuntime) -> Result<(), Fail> {
-    let alloc = rt.alloc();
-    let mut session = Session::open(alloc);
-    let mut output = Vec::new(alloc);
-    for _map in 0..64u32 {
-        let made = answer_command(alloc, &mut session, &mut output, map(alloc, b".*")?);
-        assert!(rt; made.is_ok());
-    }
-    assert!(rt; output.as_slice().ends_with(b"map 62\nmap 63\n"));
-    for pattern in [b".*".as_slice(), b"(".as_slice()] {
-        output.clear();
-        let refused = answer_command(alloc, &mut session, &mut output, map(alloc, pattern)?);
-        assert!(rt; refused.is_ok());
-        assert_eq!(rt; output.as_slice(), b"refused mapsfull\n".as_slice());
+    let entries: [(u64, &[u8]); 4] = [
+        (0, b"shown 0\n"),
+        (1, b"shown 0\n"),
+        (2, b"refused nomap\n"),
+        (18446744073709551615, b"refused nomap\n"),
+    ];
+    for (map, text) in entries {
+        assert!(rt; answers(alloc, &mut session, ScriptCommand::Entries { map }, text)?);
     }
     Ok(())
 }

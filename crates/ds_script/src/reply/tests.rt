@@ -1,3 +1,5 @@
+//! The lines that answer each reply.
+
 use super::*;
 use ds_entry::{Blob, Body, Change, Items, Text, Value};
 use ds_names::{Endpoint, Generation, Key, Kind, Name};
@@ -45,84 +47,73 @@ fn label(name: &str, epoch: u32, slot: Option<u16>) -> Result<Change, Fail> {
     Ok(Change::make(key, Name::read(b"rs")?, version(epoch, seq)?, body)?)
 }
 
+// Whether the reply is printed so.
+fn prints(alloc: Global, reply: Reply, text: &[u8]) -> Result<bool, Fail> {
+    let written = write_reply(alloc, &ScriptCommand::Show, &reply)?;
+    Ok(written.as_slice() == text)
+}
+
+// The reply to a check.
+fn checked(items: Items, before: u64, after: u64) -> Reply {
+    Reply::Checked {
+        items,
+        before,
+        after,
+    }
+}
+
 #[test]
 fn a_check_prints_its_changes_and_stamps(rt: HostRuntime) -> Result<(), Fail> {
     let alloc = rt.alloc();
+    let last = 4611686018427387904;
+    let none = checked(Items::new(alloc), last, last);
+    let text = b"checked 0 4611686018427387904 4611686018427387904\n";
+    assert!(rt; prints(alloc, none, text)?);
     let mut items = Items::new(alloc);
     items.push(label("eth0", 5, Some(17))?)?;
     items.push(label("eth1", 3, None)?)?;
-    let rows: [(Reply, &[u8]); 3] = [
-        (
-            Reply::Checked {
-                items: Items::new(alloc),
-                before: 2,
-                after: 2,
-            },
-            b"checked 0 2 2\n",
-        ),
-        (
-            Reply::Checked {
-                items,
-                before: 1,
-                after: 2,
-            },
-            b"eth0 label rs 5.0 = 5/17\neth1 label rs 3.1 -\nchecked 2 1 2\n",
-        ),
-        (
-            Reply::Checked {
-                items: Items::new(alloc),
-                before: 4611686018427387904,
-                after: 4611686018427387904,
-            },
-            b"checked 0 4611686018427387904 4611686018427387904\n",
-        ),
-    ];
-    for (reply, text) in &rows {
-        let written = write_reply(alloc, &ScriptCommand::Show, reply)?;
-        assert_eq!(rt; written.as_slice(), *text);
-    }
+    let text = b"eth0 label rs 5.0 = 5/17\neth1 label rs 3.1 -\nchecked 2 1 2\n";
+    assert!(rt; prints(alloc, checked(items, 1, 2), text)?);
     Ok(())
 }
 
 #[test]
-fn each_reply_has_its_words(rt: HostRuntime) -> Result<(), Fail> {
+fn what_changes_has_its_words(rt: HostRuntime) -> Result<(), Fail> {
+    let alloc = rt.alloc();
+    assert!(rt; prints(alloc, Reply::Changed { owed: 0 }, b"taken\n")?);
+    assert!(rt; prints(alloc, Reply::Known, b"known\n")?);
+    assert!(rt; prints(alloc, Reply::Swept { count: 0, owed: 0 }, b"swept 0\n")?);
+    assert!(rt; prints(alloc, Reply::Swept { count: 12, owed: 0 }, b"swept 12\n")?);
+    Ok(())
+}
+
+#[test]
+fn an_offer_has_its_words(rt: HostRuntime) -> Result<(), Fail> {
     let alloc = rt.alloc();
     let clash = Refusal::Clash {
         version: version(3, 0)?,
     };
-    let rows: [(Reply, &[u8]); 15] = [
-        (Reply::Changed { owed: 0 }, b"taken\n"),
-        (Reply::Known, b"known\n"),
-        (Reply::Swept { count: 0, owed: 0 }, b"swept 0\n"),
-        (Reply::Swept { count: 12, owed: 0 }, b"swept 12\n"),
-        (
-            Reply::Found(Value::Label(endpoint(3, 17)?)),
-            b"found 3/17\n",
-        ),
-        (Reply::Found(Value::U32(1400)), b"found 1400\n"),
-        (
-            Reply::Found(Value::Str(Text::read(alloc, b"a\"b")?)),
-            b"found \"a\\\"b\"\n",
-        ),
-        (
-            Reply::Found(Value::Mem(Blob::read(alloc, b"\x00\xff")?)),
-            b"found 00ff\n",
-        ),
-        (
-            Reply::Found(Value::Mem(Blob::read(alloc, b"")?)),
-            b"found \n",
-        ),
-        (Reply::Named(Name::read(b"eth0")?), b"named eth0\n"),
-        (merged(1, 0, 0), b"taken\n"),
-        (merged(0, 1, 0), b"stale\n"),
-        (merged(0, 0, 0), b"known\n"),
-        (stopped(clash), b"refused clash 3.0\n"),
-        (stopped(Refusal::NotOwner), b"refused notowner\n"),
-    ];
-    for (reply, text) in &rows {
-        let written = write_reply(alloc, &ScriptCommand::Show, reply)?;
-        assert_eq!(rt; written.as_slice(), *text);
-    }
+    assert!(rt; prints(alloc, merged(1, 0, 0), b"taken\n")?);
+    assert!(rt; prints(alloc, merged(0, 1, 0), b"stale\n")?);
+    assert!(rt; prints(alloc, merged(0, 0, 0), b"known\n")?);
+    assert!(rt; prints(alloc, stopped(clash), b"refused clash 3.0\n")?);
+    assert!(rt; prints(alloc, stopped(Refusal::NotOwner), b"refused notowner\n")?);
+    Ok(())
+}
+
+#[test]
+fn what_is_found_is_printed(rt: HostRuntime) -> Result<(), Fail> {
+    let alloc = rt.alloc();
+    let label = Value::Label(endpoint(3, 17)?);
+    assert!(rt; prints(alloc, Reply::Found(label), b"found 3/17\n")?);
+    assert!(rt; prints(alloc, Reply::Found(Value::U32(1400)), b"found 1400\n")?);
+    let text = Value::Str(Text::read(alloc, b"a\"b")?);
+    assert!(rt; prints(alloc, Reply::Found(text), b"found \"a\\\"b\"\n")?);
+    let blob = Value::Mem(Blob::read(alloc, b"\x00\xff")?);
+    assert!(rt; prints(alloc, Reply::Found(blob), b"found 00ff\n")?);
+    let empty = Value::Mem(Blob::read(alloc, b"")?);
+    assert!(rt; prints(alloc, Reply::Found(empty), b"found \n")?);
+    assert!(rt; prints(alloc, Reply::Named(Name::read(b"eth0")?), b"named eth0\n")?);
     Ok(())
 }
 
@@ -160,34 +151,29 @@ fn each_refusal_has_its_word(rt: HostRuntime) -> Result<(), Fail> {
 
 #[test]
 fn what_is_owed_has_a_line(rt: HostRuntime) -> Result<(), Fail> {
-    let rows: [(Reply, &[u8]); 6] = [
-        (Reply::Subscribed { stamp: 1, owed: 0 }, b"subscribed 1\n"),
-        (
-            Reply::Subscribed { stamp: 2, owed: 1 },
-            b"subscribed 2\nowed 0000000000000001\n",
-        ),
-        (
-            Reply::Changed { owed: 0x20 },
-            b"taken\nowed 0000000000000020\n",
-        ),
-        (
-            Reply::Swept { count: 1, owed: 1 },
-            b"swept 1\nowed 0000000000000001\n",
-        ),
-        (
-            merged(1, 0, 0x8000_0000_0000_00ff),
-            b"taken\nowed 80000000000000ff\n",
-        ),
-        (
-            Reply::Changed {
-                owed: 0x0123_4567_89ab_cdef,
-            },
-            b"taken\nowed 0123456789abcdef\n",
-        ),
+    let alloc = rt.alloc();
+    let rows: [(u64, &[u8]); 5] = [
+        (0, b"taken\n"),
+        (1, b"taken\nowed 0000000000000001\n"),
+        (0x20, b"taken\nowed 0000000000000020\n"),
+        (0x8000_0000_0000_00ff, b"taken\nowed 80000000000000ff\n"),
+        (0x0123_4567_89ab_cdef, b"taken\nowed 0123456789abcdef\n"),
     ];
-    for (reply, text) in &rows {
-        let written = write_reply(rt.alloc(), &ScriptCommand::Show, reply)?;
-        assert_eq!(rt; written.as_slice(), *text);
+    for (owed, text) in rows {
+        assert!(rt; prints(alloc, Reply::Changed { owed }, text)?);
+        assert!(rt; prints(alloc, merged(1, 0, owed), text)?);
     }
+    Ok(())
+}
+
+#[test]
+fn subscriptions_and_sweeps_owe_too(rt: HostRuntime) -> Result<(), Fail> {
+    let alloc = rt.alloc();
+    let quiet = Reply::Subscribed { stamp: 1, owed: 0 };
+    assert!(rt; prints(alloc, quiet, b"subscribed 1\n")?);
+    let subscribed = Reply::Subscribed { stamp: 2, owed: 1 };
+    assert!(rt; prints(alloc, subscribed, b"subscribed 2\nowed 0000000000000001\n")?);
+    let swept = Reply::Swept { count: 1, owed: 1 };
+    assert!(rt; prints(alloc, swept, b"swept 1\nowed 0000000000000001\n")?);
     Ok(())
 }
