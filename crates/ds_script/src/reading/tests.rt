@@ -1,7 +1,8 @@
 use super::*;
 use crate::split::split_line;
 use ds_entry::{Blob, Text, Value};
-use ds_names::{Endpoint, Generation, Key, Kind, Name, Version};
+use ds_names::{Endpoint, Generation, Key, Kind, Kinds, Name, Version};
+use ds_pattern::{PatternText, Query};
 use std::test::Fail;
 
 // Lines that are no command's, and where the first part that can't be read begins: each command's parts in turn.
@@ -166,5 +167,38 @@ fn long_lines_are_bad_at_their_end(rt: HostRuntime) -> Result<(), Fail> {
     assert!(rt; read(alloc, longest) == Err(LineFault::BadLine { place: 0 }));
     assert!(rt; read(alloc, &line) == Err(LineFault::BadLine { place: 4096 }));
     assert!(rt; read(alloc, b"") == Err(LineFault::BadLine { place: 0 }));
+    Ok(())
+}
+
+// The line `map` of a pattern, over labels and numbers.
+fn mapped(alloc: Global, pattern: &[u8]) -> Result<ScriptCommand, Fail> {
+    Ok(ScriptCommand::Map {
+        query: Query {
+            text: PatternText::of(alloc, pattern)?,
+            kinds: Kinds::of(3).ok_or("no kinds")?,
+        },
+    })
+}
+
+// Quotes and backslashes stand escaped, and each other byte but the newline for itself.
+#[test]
+fn each_pattern_is_read(rt: HostRuntime) -> Result<(), Fail> {
+    let alloc = rt.alloc();
+    let escaped = mapped(alloc, b"\\d\"")?;
+    assert!(rt; read(alloc, b"map \"\\\\d\\\"\" 3") == Ok(escaped));
+    let bytes = mapped(alloc, b"\x00\t\x80\xff")?;
+    assert!(rt; read(alloc, b"map \"\x00\t\x80\xff\" 3") == Ok(bytes));
+    Ok(())
+}
+
+// A pattern alone makes a line of 4096 bytes a command's: the store and the maps refuse it.
+#[test]
+fn the_longest_line_is_read(rt: HostRuntime) -> Result<(), Fail> {
+    let alloc = rt.alloc();
+    let mut line = [b'a'; 4096];
+    line[..5].copy_from_slice(b"map \"");
+    line[4093..].copy_from_slice(b"\" 3");
+    let longest = mapped(alloc, &[b'a'; 4088])?;
+    assert!(rt; read(alloc, &line) == Ok(longest));
     Ok(())
 }
