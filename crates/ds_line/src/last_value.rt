@@ -91,6 +91,6 @@ fn blob_at(alloc: Global, bytes: &[u8]) -> Result<(Value, &[u8]), Stop>
     };
     match Blob::of(decoded) {
         Some(blob) => Ok((Value::Mem(blob), rest)),
-        None => Err(Stop::NoRoom),
+        None => unreachable!(),
     }
 }

@@ -182,6 +182,6 @@ fn append_owed(buffer: &mut Vec<u8>, mask: u64) -> Result<(), NoRoom>
     let mut digits = [0u8; 16];
     match hex::encode_to_slice(mask.to_be_bytes(), &mut digits) {
         Ok(()) => append_all(buffer, &[b"owed ", &digits, b"\n"]),
-        Err(_) => Err(NoRoom),
+        Err(_) => unreachable!(),
     }
 }

@@ -25,14 +25,15 @@ returns-in_default-decode-clause-stop c =
     let begins = subst (λ t. Begins (run_of Hex) c.args.bytes.now t c.in-Some.rest.now) v.2 c.in-Some.ensures.found in
     (values.Mem v.0, c.in-Some-read_byte.rest.now, value_whole Mem (values.Mem v.0) c.args.bytes.now c.in-Some.rest.now c.in-Some-read_byte.rest.now (record { valid = v.1; of = refl }) begins c.in-Some-read_byte.ensures.found, λ in_place. in_place)
 
-pub returns-in-None-clause-stop : goal.returns-in-None-clause-stop
-returns-in-None-clause-stop c =
+-- the digits are those of a blob, and so what they say has no more bytes than it
+pub unreachable-requires : goal.unreachable-requires
+unreachable-requires c =
     let v = c.in-Some.ensures.valid in
-    let begins = subst (λ t. Begins (run_of Hex) c.args.bytes.now t c.in-Some.rest.now) v.2 c.in-Some.ensures.found in
-    (values.Mem v.0, c.in-Some-read_byte.rest.now, value_whole Mem (values.Mem v.0) c.args.bytes.now c.in-Some.rest.now c.in-Some-read_byte.rest.now (record { valid = v.1; of = refl }) begins c.in-Some-read_byte.ensures.found, λ in_place. in_place)
+    let same : v.0 ≡ c.in-Ok.decoded.items = decoded_one _ _ _ v.3 c.in-Ok.ensures.ok in
+    c.in-None.ensures.found (subst IsBlob same v.1).limit
 
-pub returns-in-Some-of-clause-found : goal.returns-in-Some-of-clause-found
-returns-in-Some-of-clause-found c =
+pub returns-clause-found : goal.returns-clause-found
+returns-clause-found c =
     let v = c.in-Some.ensures.valid in
     let same : v.0 ≡ c.in-Some-of.blob = decoded_one _ _ _ v.3 c.in-Ok.ensures.ok ∙ sym c.in-Some-of.ensures.found.1 in
     let begins = subst (λ b. Begins (run_of Hex) c.args.bytes.now (encode_lower b) c.in-Some.rest.now) same (subst (λ t. Begins (run_of Hex) c.args.bytes.now t c.in-Some.rest.now) v.2 c.in-Some.ensures.found) in
