@@ -20,7 +20,7 @@ use std::alloc::Global;
 mod tests;
 
 /// The most bytes of a line, its newline not counted.
-const LONGEST_LINE: usize = 4096;
+pub(crate) const LONGEST_LINE: usize = 4096;
 
 /// Reads the command of a line, which comes without its newline and has none in it.
 ///

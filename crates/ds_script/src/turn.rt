@@ -10,7 +10,7 @@ ghost use Rattle.ds_script.specs.Answer.{AnswersLine};
 ghost use Rattle.ds_script.specs.Replay.{Answers, AnswersText, Leaves, Turns, IsFaultOf, LineStops};
 
 use crate::answer::answer_command;
-use crate::reading::read_line;
+use crate::reading::{LONGEST_LINE, read_line};
 use crate::reply::append_noroom;
 use crate::session::Session;
 use crate::split::{drop_front, split_line};
@@ -19,9 +19,6 @@ use ds_line::LineFault;
 use ds_names::NoRoom;
 use std::alloc::Global;
 use std::io::{Read, Write};
-
-/// The most bytes of a line, its newline not counted.
-pub const LONGEST_LINE: usize = 4096;
 
 /// The answers that wait for the next read are written earlier once they are so many bytes.
 const FULL: usize = 65536;
