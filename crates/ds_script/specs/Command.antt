@@ -158,10 +158,6 @@ IsCommand (Check sub max) = (sub < 2 ^ 32) × (max < 2 ^ 32)
 IsCommand (Map query) = IsQuery query
 IsCommand (Entries map) = map < 2 ^ 64
 
--- every command can be written
-abbrev pub IsWritten : ScriptCommand → Type 0
-IsWritten command = IsCommand command
-
 -- what the line asks of a store: an offer is a Merge of one item
 abbrev pub store_command : ScriptCommand → Option Command
 store_command (Offer c) = Some (commands.Merge (c ∷ []))
