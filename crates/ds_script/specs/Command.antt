@@ -158,6 +158,21 @@ IsCommand (Check sub max) = (sub < 2 ^ 32) × (max < 2 ^ 32)
 IsCommand (Map query) = IsQuery query
 IsCommand (Entries map) = map < 2 ^ 64
 
+-- what the line asks of a store takes no memory: it has no change, no value and no pattern, or the line asks nothing
+abbrev pub is_plain : ScriptCommand → Bool
+is_plain (Offer c) = false
+is_plain Show = true
+is_plain All = true
+is_plain (Publish caller key version value overwrite) = false
+is_plain (Delete caller key version) = true
+is_plain (Sweep caller owner generation) = true
+is_plain (Retrieve key) = true
+is_plain (NameOf endpoint) = true
+is_plain (Subscribe sub query initial overwrite) = false
+is_plain (Check sub max) = true
+is_plain (Map query) = true
+is_plain (Entries map) = true
+
 -- what the line asks of a store: an offer is a Merge of one item
 abbrev pub store_command : ScriptCommand → Option Command
 store_command (Offer c) = Some (commands.Merge (c ∷ []))

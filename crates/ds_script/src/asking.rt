@@ -1,8 +1,8 @@
 //! What a line asks of a store.
 
-ghost use Rattle.std.specs.Prelude.{◌≡◌, ◌∷◌, [], IfOk};
+ghost use Rattle.std.specs.Prelude.{◌≡◌, ◌∷◌, [], true, IfOk};
 ghost use Rattle.ds_store.specs.declared.command.Command.TheVariants as commands;
-ghost use Rattle.ds_script.specs.Command.{store_command};
+ghost use Rattle.ds_script.specs.Command.{is_plain, store_command};
 
 use crate::command::ScriptCommand;
 use ds_entry::{Change, Items};
@@ -21,7 +21,6 @@ impl ScriptCommand {
     {
         match self {
             ScriptCommand::Offer(change) => Ok(Some(merge_of(alloc, change.copy(alloc)?)?)),
-            ScriptCommand::Show | ScriptCommand::All => Ok(None),
             ScriptCommand::Publish {
                 caller,
                 key,
@@ -35,28 +34,6 @@ impl ScriptCommand {
                 value: value.copy(alloc)?,
                 overwrite: *overwrite,
             })),
-            ScriptCommand::Delete {
-                caller,
-                key,
-                version,
-            } => Ok(Some(Command::Delete {
-                caller: *caller,
-                key: *key,
-                version: *version,
-            })),
-            ScriptCommand::Sweep {
-                caller,
-                owner,
-                generation,
-            } => Ok(Some(Command::Sweep {
-                caller: *caller,
-                owner: *owner,
-                generation: *generation,
-            })),
-            ScriptCommand::Retrieve { key } => Ok(Some(Command::Retrieve { key: *key })),
-            ScriptCommand::NameOf { endpoint } => Ok(Some(Command::NameOf {
-                endpoint: *endpoint,
-            })),
             ScriptCommand::Subscribe {
                 sub,
                 query,
@@ -68,11 +45,7 @@ impl ScriptCommand {
                 initial: *initial,
                 overwrite: *overwrite,
             })),
-            ScriptCommand::Check { sub, max } => Ok(Some(Command::Check {
-                sub: *sub,
-                max: *max,
-            })),
-            ScriptCommand::Map { query: _ } | ScriptCommand::Entries { map: _ } => Ok(None),
+            _ => Ok(self.plain_command()),
         }
     }
 
@@ -83,7 +56,6 @@ impl ScriptCommand {
     {
         match self {
             ScriptCommand::Offer(change) => Ok(Some(merge_of(alloc, change)?)),
-            ScriptCommand::Show | ScriptCommand::All => Ok(None),
             ScriptCommand::Publish {
                 caller,
                 key,
@@ -97,26 +69,6 @@ impl ScriptCommand {
                 value,
                 overwrite,
             })),
-            ScriptCommand::Delete {
-                caller,
-                key,
-                version,
-            } => Ok(Some(Command::Delete {
-                caller,
-                key,
-                version,
-            })),
-            ScriptCommand::Sweep {
-                caller,
-                owner,
-                generation,
-            } => Ok(Some(Command::Sweep {
-                caller,
-                owner,
-                generation,
-            })),
-            ScriptCommand::Retrieve { key } => Ok(Some(Command::Retrieve { key })),
-            ScriptCommand::NameOf { endpoint } => Ok(Some(Command::NameOf { endpoint })),
             ScriptCommand::Subscribe {
                 sub,
                 query,
@@ -128,8 +80,43 @@ impl ScriptCommand {
                 initial,
                 overwrite,
             })),
-            ScriptCommand::Check { sub, max } => Ok(Some(Command::Check { sub, max })),
-            ScriptCommand::Map { query: _ } | ScriptCommand::Entries { map: _ } => Ok(None),
+            plain => Ok(plain.plain_command()),
+        }
+    }
+
+    // The store's command of a line whose parts are numbers and names alone, which take no memory.
+    fn plain_command(&self) -> Option<Command>
+        requires { is_plain self.now ≡ true }
+        ensures { result ≡ store_command self.now }
+    {
+        match self {
+            ScriptCommand::Delete {
+                caller,
+                key,
+                version,
+            } => Some(Command::Delete {
+                caller: *caller,
+                key: *key,
+                version: *version,
+            }),
+            ScriptCommand::Sweep {
+                caller,
+                owner,
+                generation,
+            } => Some(Command::Sweep {
+                caller: *caller,
+                owner: *owner,
+                generation: *generation,
+            }),
+            ScriptCommand::Retrieve { key } => Some(Command::Retrieve { key: *key }),
+            ScriptCommand::NameOf { endpoint } => Some(Command::NameOf {
+                endpoint: *endpoint,
+            }),
+            ScriptCommand::Check { sub, max } => Some(Command::Check {
+                sub: *sub,
+                max: *max,
+            }),
+            _ => None,
         }
     }
 }
