@@ -207,9 +207,9 @@ pub kinds_zero : (stop : Stop) (bytes r after : List ℕ) (number : ℕ) → byt
 kinds_zero stop bytes r after number is at begins most zero =
     no_part 32 ℕ (λ n. (0 < n) × (n ≤ 15)) number_part 1 stop bytes r (omega arith, omega arith) is at
     (λ n rest can there.
-        let one = part_one Number r (decimal n) (decimal number) rest after (n, omega (arith, can.1), refl) (number, omega (arith, most), refl) there begins in
-        let same : n ≡ number = decimal_injective n number (omega (arith, can.1)) (omega (arith, most)) one.0 in
-        zero (subst (λ (k : ℕ). (0 < k) × (k ≤ 15)) same can))
+    let one = part_one Number r (decimal n) (decimal number) rest after (n, omega (arith, can.1), refl) (number, omega (arith, most), refl) there begins in
+    let same : n ≡ number = decimal_injective n number (omega (arith, can.1)) (omega (arith, most)) one.0 in
+    zero (subst (λ (k : ℕ). (0 < k) × (k ≤ 15)) same can))
 
 pub kinds_fixed : Fixed a_kinds 2
 kinds_fixed n = refl

@@ -49,17 +49,22 @@ escaped_end : (text : List ℕ) (b : ℕ) → escaped (text ++ b ∷ []) ≡ esc
 escaped_end text b = flat_map-append escaped_byte text (b ∷ []) ∙ ap (λ (t : List ℕ). escaped text ++ t) (append-nil (escaped_byte b))
 
 pub begun_more : (written rest behind : List ℕ) (b : ℕ) → IsBegun written rest → rest ≡ escaped_byte b ++ behind → b ≢ 10 → IsBegun written behind
-begun_more written rest behind b begun is other =
-    (begun.0 ++ b ∷ [], unbroken_end begun.0 b begun.1 other,
-    begun.2 ∙ ap (λ (t : List ℕ). escaped begun.0 ++ t) is ∙ sym (append_assoc (escaped begun.0) (escaped_byte b) behind) ∙ ap (λ (t : List ℕ). t ++ behind) (sym (escaped_end begun.0 b)))
+begun_more written rest behind b begun is other = (
+  begun.0 ++ b ∷ [],
+  unbroken_end begun.0 b begun.1 other,
+  begun.2 ∙ ap (λ (t : List ℕ). escaped begun.0 ++ t) is ∙ sym (append_assoc (escaped begun.0) (escaped_byte b) behind) ∙ ap (λ (t : List ℕ). t ++ behind) (sym (escaped_end begun.0 b)),
+)
 
 -- the closing quote stands behind it
 pub begun_closes : (bytes written rest behind front : List ℕ) → bytes ≡ 34 ∷ written → IsBegun written rest → rest ≡ 34 ∷ behind → front ≡ take (length written - length rest) written
     → (text : List ℕ) × IsUnbroken text × (front ≡ escaped text) × (bytes ≡ quoted text ++ behind)
 begun_closes bytes written rest behind front opens begun close is =
-    let len : length (escaped begun.0) ≡ length written - length rest = omega (arith, ap length begun.2, length-append (escaped begun.0) rest) in
-    (begun.0, begun.1, is ∙ ap (take (length written - length rest)) begun.2 ∙ take_at (escaped begun.0) rest (length written - length rest) len,
-    opens ∙ ap (λ (t : List ℕ). 34 ∷ t) (begun.2 ∙ ap (λ (t : List ℕ). escaped begun.0 ++ t) close) ∙ sym (unquoted begun.0 behind))
+    let len : length (escaped begun.0) ≡ length written - length rest = omega (arith, ap length begun.2, length-append (escaped begun.0) rest) in (
+      begun.0,
+      begun.1,
+      is ∙ ap (take (length written - length rest)) begun.2 ∙ take_at (escaped begun.0) rest (length written - length rest) len,
+      opens ∙ ap (λ (t : List ℕ). 34 ∷ t) (begun.2 ∙ ap (λ (t : List ℕ). escaped begun.0 ++ t) close) ∙ sym (unquoted begun.0 behind),
+    )
 
 pub rest_fits : (written rest : List ℕ) → IsBegun written rest → length rest < length written + 1
 rest_fits written rest begun = omega (arith, ap length begun.2, length-append (escaped begun.0) rest)
@@ -124,9 +129,11 @@ pub no_pattern : (stop : Stop) (bytes r : List ℕ) → bytes ≡ 32 ∷ r → s
 no_pattern stop bytes r is at none = no_part 32 (List ℕ) IsUnbroken pattern_part [] stop bytes r unbroken_none is at (λ text rest can begins. none text rest can begins.parts)
 
 pub pattern_found : (written bytes r rest : List ℕ) → bytes ≡ 32 ∷ r → (text : List ℕ) × IsUnbroken text × (written ≡ escaped text) × (r ≡ quoted text ++ rest) → FindsPattern written bytes rest
-pattern_found written bytes r rest is found =
-    (found.0, found.2,
-    byte_found 32 (one_part (List ℕ) IsUnbroken pattern_part) found.0 bytes r rest is (record { can = found.1; front = (rest, record { parts = found.3; ends = quote_ends rest }, refl) }))
+pattern_found written bytes r rest is found = (
+  found.0,
+  found.2,
+  byte_found 32 (one_part (List ℕ) IsUnbroken pattern_part) found.0 bytes r rest is (record { can = found.1; front = (rest, record { parts = found.3; ends = quote_ends rest }, refl) }),
+)
 
 pub pattern_fixed : Fixed a_pattern 2
 pattern_fixed text = refl

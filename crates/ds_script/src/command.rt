@@ -34,9 +34,13 @@ pub enum ScriptCommand {
         generation: Generation,
     },
     /// `retrieve NAME KIND`: asks for the value of a live entry.
-    Retrieve { key: Key },
+    Retrieve {
+        key: Key,
+    },
     /// `nameof ENDPOINT`: asks for the name of an endpoint.
-    NameOf { endpoint: Endpoint },
+    NameOf {
+        endpoint: Endpoint,
+    },
     /// `subscribe SUB PATTERN KINDS first new`, or `later` for `first`, or `over` for `new`: opens a subscription,
     /// which with `first` is to be shown what is held already.
     Subscribe {
@@ -46,9 +50,16 @@ pub enum ScriptCommand {
         overwrite: bool,
     },
     /// `check SUB MAX`: asks for changes that the subscription is still to be shown.
-    Check { sub: u32, max: u32 },
+    Check {
+        sub: u32,
+        max: u32,
+    },
     /// `map PATTERN KINDS`: makes a map, which takes over what is delivered to it.
-    Map { query: Query },
+    Map {
+        query: Query,
+    },
     /// `entries J`: prints the puts of a map.
-    Entries { map: u64 },
+    Entries {
+        map: u64,
+    },
 }
