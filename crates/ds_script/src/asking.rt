@@ -15,7 +15,8 @@ mod tests;
 
 impl ScriptCommand {
     /// The store's command of the line, with copies of what the line has. `None` for a line that asks nothing of a
-    /// store: `show`, `all`, `map` and `entries`. An `offer` is a Merge of one item. NoRoom: out of memory for the copies.
+    /// store: `show`, `all`, `map` and `entries`. An `offer` is a Merge of one item. NoRoom: out of memory for the
+    /// copies.
     pub fn store_command(&self, alloc: Global) -> Result<Option<Command>, NoRoom>
         ensures { IfOk result (λ command. command ≡ store_command self.now) }
     {
@@ -84,7 +85,7 @@ impl ScriptCommand {
         }
     }
 
-    // The store's command of a line whose parts are numbers and names alone, which take no memory.
+    // The store's command of a line that asks for what takes no memory, and `None` for one that asks nothing.
     fn plain_command(&self) -> Option<Command>
         requires { is_plain self.now ≡ true }
         ensures { result ≡ store_command self.now }
