@@ -73,15 +73,15 @@ standing held count position = record { held = held; count = count; position = p
 abbrev pub standing_of : List ChangeRecord → ℕ → Key → Standing
 standing_of held position key = standing (held_at held key) (length held) position
 
--- nothing that is held stands against the change: there is room for its key, or it is of the owner of what is held for its key, in a greater version
-abbrev pub TakesEffect : Option ChangeRecord → ℕ → ChangeRecord → Type 0
-TakesEffect None count c = count < 1024
-TakesEffect (Some h) count c = (h.owner ≡ c.owner) × (version_cmp h.version c.version ≡ Less)
-
 -- the change is of the owner of what is held for its key, in a greater version, so that it takes that one's place
 abbrev pub TakesPlace : Option ChangeRecord → ChangeRecord → Type 0
 TakesPlace None c = ⊥
 TakesPlace (Some h) c = (h.owner ≡ c.owner) × (version_cmp h.version c.version ≡ Less)
+
+-- nothing that is held stands against the change: there is room for its key, or it takes the place of what is held for its key
+abbrev pub TakesEffect : Option ChangeRecord → ℕ → ChangeRecord → Type 0
+TakesEffect None count c = count < 1024
+TakesEffect (Some h) count c = TakesPlace (Some h) c
 
 -- there is a held change, and it passes the test
 abbrev pub on_held : Option ChangeRecord → (ChangeRecord → Bool) → Bool
