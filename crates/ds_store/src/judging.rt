@@ -5,11 +5,10 @@ ghost use Rattle.std.specs.Option.{option_copied};
 ghost use Rattle.ds_join.specs.Reading.{value_of};
 ghost use Rattle.ds_store.specs.State.{last_place};
 ghost use Rattle.ds_store.specs.Machine.{refusal_for};
-ghost use Rattle.ds_store.specs.Judging.{first_cause, standing, is_same_value, is_same_body, is_rs, is_label, against_change, TakesEffect};
-ghost use Rattle.ds_join.specs.Label.{is_same_endpoint};
+ghost use Rattle.ds_store.specs.Judging.{first_cause, standing, is_rs, is_label, against_change, TakesEffect};
 
 use crate::refusal::Refusal;
-use ds_entry::{Body, Change, Value};
+use ds_entry::{Body, Change};
 use ds_names::{Endpoint, Key, Kind, Version};
 use std::cmp::Ordering;
 
@@ -38,42 +37,11 @@ pub(crate) enum Cause {
     Worn,
 }
 
-/// Whether two endpoints are one.
-pub(crate) fn is_same_endpoint(a: Endpoint, b: Endpoint) -> bool
-    ensures { result ≡ is_same_endpoint a b }
-{
-    a.generation() == b.generation() && a.slot() == b.slot()
-}
-
 /// Whether the endpoint is that of RS.
 pub(crate) fn is_rs(endpoint: Endpoint) -> bool
     ensures { result ≡ is_rs endpoint }
 {
-    is_same_endpoint(endpoint, Endpoint::rs())
-}
-
-// Whether two values are one.
-fn is_same_value(a: &Value, b: &Value) -> bool
-    ensures { result ≡ is_same_value a.now b.now }
-{
-    match (a, b) {
-        (Value::Label(d), Value::Label(e)) => is_same_endpoint(*d, *e),
-        (Value::U32(m), Value::U32(n)) => m == n,
-        (Value::Str(s), Value::Str(t)) => s == t,
-        (Value::Mem(s), Value::Mem(t)) => s == t,
-        _ => false,
-    }
-}
-
-/// Whether two bodies are one.
-pub(crate) fn is_same_body(a: &Body, b: &Body) -> bool
-    ensures { result ≡ is_same_body a.now b.now }
-{
-    match (a, b) {
-        (Body::Put(v), Body::Put(w)) => is_same_value(v, w),
-        (Body::Gone, Body::Gone) => true,
-        _ => false,
-    }
+    endpoint == Endpoint::rs()
 }
 
 /// The first cause against a change, where `held` is held for its key.
@@ -103,7 +71,7 @@ pub(crate) fn judge_change(
         Ordering::Less if position >= LAST_PLACE => Some(Cause::Worn),
         Ordering::Less => None,
         Ordering::Greater => Some(Cause::Stale),
-        Ordering::Equal if is_same_body(held.body(), change.body()) => Some(Cause::Known),
+        Ordering::Equal if held.body() == change.body() => Some(Cause::Known),
         Ordering::Equal => Some(Cause::Clash),
     }
 }

@@ -10,7 +10,7 @@ ghost use Rattle.ds_store.specs.Judging.{first_cause, by_held, standing, standin
 ghost use Rattle.ds_store.specs.Stands.{Stands};
 
 use crate::command::Reply;
-use crate::judging::{Cause, LAST_PLACE, is_label, is_put, is_rs, is_same_body, refusal_for};
+use crate::judging::{Cause, LAST_PLACE, is_label, is_put, is_rs, refusal_for};
 use crate::refusal::Refusal;
 use crate::search::{name_of, rs_name};
 use crate::store::Store;
@@ -150,7 +150,7 @@ fn judge_held(
     }
     match held.version().compare(&asked.version) {
         Ordering::Greater => return Some(Cause::Stale),
-        Ordering::Equal if is_same_body(held.body(), body) => return Some(Cause::Known),
+        Ordering::Equal if held.body() == body => return Some(Cause::Known),
         Ordering::Equal => return Some(Cause::Clash),
         Ordering::Less => {}
     }
