@@ -32,6 +32,7 @@ use Rattle.ds_store.specs.declared.command.Reply.{Reply}
 use Rattle.ds_store.specs.declared.command.Reply.TheVariants.{Changed, Known, Swept, Found, Named, Subscribed, Checked, Merged, MergeStopped, Refused}
 
 -- the refusal for a cause, at a change of this version
+-- (nobody is given the one at Known: a repeat is no refusal)
 abbrev pub refusal_for : Version → Cause → Refusal
 refusal_for v causes.BadSub = refusals.BadSub
 refusal_for v causes.TooMany = refusals.TooMany
