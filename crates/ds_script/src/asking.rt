@@ -1,6 +1,6 @@
 //! What a line asks of a store.
 
-ghost use Rattle.std.specs.Prelude.{◌≡◌, ◌∷◌, [], true, IfOk};
+ghost use Rattle.std.specs.Prelude.{◌≡◌, ◌∷◌, [], true, false, IfOk, OnErr};
 ghost use Rattle.ds_store.specs.declared.command.Command.TheVariants as commands;
 ghost use Rattle.ds_script.specs.Command.{is_plain, store_command};
 
@@ -16,9 +16,10 @@ mod tests;
 impl ScriptCommand {
     /// The store's command of the line, with copies of what the line has. `None` for a line that asks nothing of a
     /// store: `show`, `all`, `map` and `entries`. An `offer` is a Merge of one item. NoRoom: out of memory for the
-    /// copies.
+    /// copies of a change, a value or a pattern, and for no other line.
     pub fn store_command(&self, alloc: Global) -> Result<Option<Command>, NoRoom>
-        ensures { IfOk result (λ command. command ≡ store_command self.now) }
+        ensures command { IfOk result (λ command. command ≡ store_command self.now) }
+        ensures room { OnErr result (is_plain self.now ≡ false) }
     {
         match self {
             ScriptCommand::Offer(change) => Ok(Some(merge_of(alloc, change.copy(alloc)?)?)),
@@ -53,7 +54,8 @@ impl ScriptCommand {
     /// The store's command of the line, as `store_command` gives it, made of what the line has. NoRoom: out of memory
     /// for the list of an `offer`'s one item.
     pub fn into_store_command(self, alloc: Global) -> Result<Option<Command>, NoRoom>
-        ensures { IfOk result (λ command. command ≡ store_command self) }
+        ensures command { IfOk result (λ command. command ≡ store_command self) }
+        ensures room { OnErr result (is_plain self ≡ false) }
     {
         match self {
             ScriptCommand::Offer(change) => Ok(Some(merge_of(alloc, change)?)),
