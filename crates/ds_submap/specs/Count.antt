@@ -1,5 +1,5 @@
 -- How items are counted.
-use Rattle.std.specs.Prelude.{ℕ, ◌+◌, ◌≤◌, ◌<◌, ◌^◌, Option, Some, None}
+use Rattle.std.specs.Prelude.{◌+◌, ◌≤◌, ◌<◌, ◌^◌, Option, Some, None}
 use Rattle.ds_join.specs.declared.merge.Merge.{Merge}
 use Rattle.ds_join.specs.declared.merge.Merge.TheVariants.{Taken, Known, Stale}
 use Rattle.ds_submap.specs.declared.count.Count.{Count}
