@@ -1,8 +1,6 @@
 -- The parts of a change from its mark on: each is missing where it has to stand, or is read there.
 use Rattle.std.proofs.Common.{◌≡◌, ◌≢◌, ℕ, ◌^◌, ◌<◌, ◌≤◌, List, [], ◌∷◌, ◌++◌, length, get_or, drop, Result, Ok, Err, refl, sym, ap, subst, ◌∙◌, arith}
 use Rattle.std.specs.Char.{is_ascii_digit}
-use Rattle.std.specs.Fmt.{decimal}
-use Rattle.hex.specs.Hex.{encode_lower}
 use Rattle.ds_names.specs.Endpoint.{EndpointRecord, IsEndpoint, endpoint_text}
 use Rattle.ds_names.specs.Run.{Begins}
 use Rattle.ds_names.specs.Kind.{kind_place}
@@ -10,22 +8,21 @@ use Rattle.ds_names.specs.declared.kind.Kind.{Kind}
 use Rattle.ds_names.specs.declared.kind.Kind.TheVariants.{Label, U32, Str, Mem}
 use Rattle.ds_names.specs.declared.key.Key.{Key}
 use Rattle.ds_names.specs.declared.version.Version.{Version}
-use Rattle.ds_entry.specs.Value.{IsText as IsPrintable, IsBlob}
 use Rattle.ds_entry.specs.declared.body.Value.{Value}
 use Rattle.ds_entry.specs.declared.body.Value.TheVariants as values
 use Rattle.ds_entry.specs.declared.body.Body.{Body}
 use Rattle.ds_entry.specs.declared.body.Body.TheVariants.{Put, Gone}
-use Rattle.ds_entry.specs.Change.{ChangeRecord, change_of, kind_of, IsValue, IsChange, IsLabelChange, KeepsRule, IsBodyInPlace}
-use Rattle.ds_line.specs.Part.{Class, Byte, Number, Endpoint, Quoted, Hex, run_of, Part, part, byte}
-use Rattle.ds_line.specs.Spelling.{space, newline, quoted, value_part, body_parts, change_parts}
+use Rattle.ds_entry.specs.Change.{ChangeRecord, change_of, kind_of, IsValue, IsChange, IsLabelChange, KeepsRule}
+use Rattle.ds_line.specs.Part.{Class, Byte, Number, Endpoint, Quoted, Hex, run_of, Part, byte}
+use Rattle.ds_line.specs.Spelling.{space, newline, value_part, body_parts, change_parts}
 use Rattle.ds_line.specs.FaultPlace.{Stand}
 use Rattle.ds_line.specs.Reading.{HasBody, HasValue, up_to_mark, up_to_value, Completes, Reads}
 use Rattle.ds_line.specs.declared.stop.Stop.{Stop}
-use Rattle.ds_line.specs.declared.stop.Stop.TheVariants.{BadPart, NoRoom}
+use Rattle.ds_line.specs.declared.stop.Stop.TheVariants.{BadPart}
 use Rattle.ds_line.proofs.PartLemmas.{IsText, byte_begins}
 use Rattle.ds_line.proofs.DigitLemmas.{hex_run}
 use Rattle.ds_line.proofs.ReadLemmas.{Begun, Comes, missing, read_on}
-use Rattle.ds_line.proofs.LabelLemmas.{label_rule, put_epoch, other_put}
+use Rattle.ds_line.proofs.LabelLemmas.{label_rule, put_epoch}
 use Rattle.ds_line.proofs.OpeningLemmas.{version_known}
 
 -- the first byte of the first part

@@ -11,11 +11,9 @@ use Rattle.ds_names.specs.declared.kind.Kind.TheVariants.{Label, U32, Str, Mem}
 use Rattle.ds_entry.specs.Value.{IsText as IsPrintable, IsBlob}
 use Rattle.ds_entry.specs.declared.body.Value.{Value}
 use Rattle.ds_entry.specs.declared.body.Value.TheVariants as values
-use Rattle.ds_entry.specs.Change.{kind_of}
-use Rattle.ds_line.specs.Part.{Class, Part, Quoted, Hex, run_of}
+use Rattle.ds_line.specs.Part.{Class, Quoted, Hex, run_of}
 use Rattle.ds_line.specs.Spelling.{newline, quoted, value_part}
-use Rattle.ds_line.specs.FaultPlace.{Stand}
-use Rattle.ds_line.specs.Piece.{Piece, Found, Breaks, IsValueOf, last_value, StopsValue}
+use Rattle.ds_line.specs.Piece.{Found, Breaks, IsValueOf, last_value, StopsValue}
 use Rattle.ds_line.specs.declared.stop.Stop.{Stop}
 use Rattle.ds_line.specs.declared.stop.Stop.TheVariants.{BadPart}
 use Rattle.ds_line.proofs.PartLemmas.{IsText, part_one, byte_begins}

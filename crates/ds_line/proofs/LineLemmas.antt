@@ -4,13 +4,11 @@ use Rattle.std.specs.Fmt.{decimal}
 use Rattle.std.proofs.lemmas.List.{length-append}
 use Rattle.ds_names.specs.Name.{is_name_byte}
 use Rattle.ds_names.specs.Run.{Ends}
-use Rattle.ds_names.specs.declared.kind.Kind.{Kind}
-use Rattle.ds_names.specs.declared.kind.Kind.TheVariants.{Label, U32, Str, Mem}
 use Rattle.ds_entry.specs.declared.body.Value.{Value}
 use Rattle.ds_entry.specs.declared.body.Value.TheVariants as values
 use Rattle.ds_entry.specs.declared.body.Body.{Body}
 use Rattle.ds_entry.specs.declared.body.Body.TheVariants.{Put, Gone}
-use Rattle.ds_entry.specs.Change.{ChangeRecord, IsChange}
+use Rattle.ds_entry.specs.Change.{ChangeRecord}
 use Rattle.ds_line.specs.Part.{Name, Word, Number, run_of, Part, part, byte, texts}
 use Rattle.ds_line.specs.Spelling.{space, newline, kind_word, value_part, body_parts, change_parts, HasLine, spelling}
 use Rattle.ds_line.specs.FaultPlace.{Stand, HasNoLine, TakesRoom}

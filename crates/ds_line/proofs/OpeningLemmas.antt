@@ -1,5 +1,5 @@
 -- The parts of a change before its mark: each is missing where it has to stand, or is read there.
-use Rattle.std.proofs.Common.{◌≡◌, ◌≢◌, ℕ, suc, ◌^◌, ◌<◌, ◌≤◌, List, [], ◌∷◌, ◌++◌, length, get_or, drop, Bool, true, Result, Err, refl, sym, ap, subst, ◌∙◌, arith}
+use Rattle.std.proofs.Common.{◌≡◌, ◌≢◌, ℕ, ◌^◌, ◌<◌, ◌≤◌, List, [], ◌∷◌, ◌++◌, length, get_or, drop, true, Result, Err, refl, sym, ap, subst, ◌∙◌, arith}
 use Rattle.std.specs.Char.{is_ascii_digit, is_ascii_alphanumeric}
 use Rattle.std.specs.Fmt.{decimal}
 use Rattle.std.specs.List.{list_all}
@@ -19,9 +19,9 @@ use Rattle.ds_line.specs.FaultPlace.{Stand}
 use Rattle.ds_line.specs.Reading.{HasOwner, HasVersion, HasSeq, HasBody, up_to_kind, up_to_epoch, up_to_mark, Reads}
 use Rattle.ds_line.specs.declared.stop.Stop.{Stop}
 use Rattle.ds_line.specs.declared.stop.Stop.TheVariants.{BadPart}
-use Rattle.ds_line.proofs.PartLemmas.{IsText, part_one, byte_begins}
+use Rattle.ds_line.proofs.PartLemmas.{part_one, byte_begins}
 use Rattle.ds_line.proofs.ReadLemmas.{Begun, Comes, missing, read_on}
-use Rattle.ds_line.proofs.LabelLemmas.{rs_is_name, version_of, other_gone}
+use Rattle.ds_line.proofs.LabelLemmas.{rs_is_name, version_of}
 
 -- ---- what the known parts tell
 

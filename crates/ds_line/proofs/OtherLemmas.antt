@@ -1,5 +1,5 @@
 -- Reading the put of another kind than a label's from its value on.
-use Rattle.std.proofs.Common.{◌≡◌, ◌≢◌, ℕ, suc, List, [], ◌∷◌, length, Ok, Err, refl, sym, subst}
+use Rattle.std.proofs.Common.{◌≢◌, ℕ, suc, List, [], ◌∷◌, length, Ok, Err, refl, sym, subst}
 use Rattle.ds_names.specs.declared.kind.Kind.TheVariants.{Label}
 use Rattle.ds_names.specs.declared.key.Key.{Key}
 use Rattle.ds_names.specs.declared.version.Version.{Version}

@@ -1,13 +1,13 @@
 -- Reading things of several parts, one behind the other.
-use Rattle.std.proofs.Common.{◌≡◌, ◌≢◌, ℕ, zero, suc, ◌+◌, ◌<◌, ◌≤◌, ◌⊎◌, inl, inr, List, [], ◌∷◌, ◌++◌, length, drop, refl, sym, ap, subst, ◌∙◌, append_assoc, length-append, arith}
+use Rattle.std.proofs.Common.{◌≡◌, ◌≢◌, ℕ, zero, suc, ◌+◌, ◌<◌, ◌≤◌, inl, inr, List, [], ◌∷◌, ◌++◌, length, drop, refl, sym, ap, subst, ◌∙◌, append_assoc, length-append, arith}
 use Rattle.std.proofs.lemmas.Bool.{cases_lt}
 use Rattle.ds_names.specs.Run.{Begins}
-use Rattle.ds_line.specs.Part.{Class, run_of, Part, part, byte, texts}
+use Rattle.ds_line.specs.Part.{run_of, Part, byte, texts}
 use Rattle.ds_line.specs.FaultPlace.{Stand}
 use Rattle.ds_line.specs.Piece.{Piece, Found, Breaks, StopsIn}
 use Rattle.ds_line.specs.declared.stop.Stop.{Stop}
 use Rattle.ds_line.specs.declared.stop.Stop.TheVariants.{BadPart, NoRoom}
-use Rattle.ds_line.proofs.PartLemmas.{IsText, part_one, byte_begins}
+use Rattle.ds_line.proofs.PartLemmas.{byte_begins}
 use Rattle.ds_line.proofs.ApartLemmas.{AllTexts, Alike, same_parts}
 
 -- ---- parts that stand in a row

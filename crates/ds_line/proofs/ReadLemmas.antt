@@ -1,11 +1,11 @@
 -- Reading a change one part further: the next part is missing, or it is read.
-use Rattle.std.proofs.Common.{◌≡◌, ◌≢◌, ℕ, zero, suc, ◌<◌, ◌≤◌, List, [], ◌∷◌, ◌++◌, length, drop, Result, Ok, Err, refl, sym, ap, subst, ◌∙◌, append_assoc, arith}
+use Rattle.std.proofs.Common.{◌≡◌, ℕ, ◌<◌, List, [], ◌∷◌, ◌++◌, length, Result, Ok, Err, refl, sym, subst, arith}
 use Rattle.ds_names.specs.Run.{Begins}
 use Rattle.ds_entry.specs.Change.{ChangeRecord, IsChange}
 use Rattle.ds_line.specs.Part.{Class, run_of, Part}
 use Rattle.ds_line.specs.Spelling.{change_parts, HasLine}
 use Rattle.ds_line.specs.FaultPlace.{Stand}
-use Rattle.ds_line.specs.Reading.{ChangeStops, Completes, Reads}
+use Rattle.ds_line.specs.Reading.{Reads}
 use Rattle.ds_line.specs.declared.stop.Stop.{Stop}
 use Rattle.ds_line.specs.declared.stop.Stop.TheVariants.{BadPart, NoRoom}
 use Rattle.ds_line.proofs.PartLemmas.{IsText}

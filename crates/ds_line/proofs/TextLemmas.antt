@@ -1,8 +1,8 @@
 -- Reading a text in quotes byte by byte into a block.
-use Rattle.std.proofs.Common.{◌≡◌, ◌≢◌, ℕ, suc, ◌+◌, ◌<◌, ◌≤◌, Bool, true, false, ◌&&◌, ◌⊎◌, inl, inr, List, [], ◌∷◌, ◌++◌, length, get_or, take, drop, refl, sym, ap, subst, ◌∙◌, append_assoc, arith}
+use Rattle.std.proofs.Common.{◌≡◌, ◌≢◌, ℕ, ◌+◌, ◌<◌, ◌≤◌, true, inl, inr, List, [], ◌∷◌, ◌++◌, length, get_or, take, drop, refl, sym, ap, subst, ◌∙◌, append_assoc, arith}
 use Rattle.std.proofs.Math.ListN.{set}
-use Rattle.std.specs.List.{list_all, flat_map}
-use Rattle.std.proofs.lemmas.Bool.{false≢true, and_parts}
+use Rattle.std.specs.List.{list_all}
+use Rattle.std.proofs.lemmas.Bool.{and_parts}
 use Rattle.std.proofs.lemmas.List.{append-nil, length-append, length-set, length-take-le, get_or-set_same, take_more, take-set-le}
 use Rattle.std.proofs.lemmas.List.Folds.{list_all-append}
 use Rattle.std.proofs.lemmas.List.Concat.{flat_map-append}
@@ -10,7 +10,7 @@ use Rattle.ds_names.specs.Run.{Begins}
 use Rattle.ds_entry.specs.Value.{is_text_byte, IsText}
 use Rattle.ds_line.specs.Part.{Quoted, run_of}
 use Rattle.ds_line.specs.Spelling.{escaped_byte, escaped, quoted}
-use Rattle.ds_line.proofs.QuoteLemmas.{never_quote, goes_on, unquoted}
+use Rattle.ds_line.proofs.QuoteLemmas.{goes_on, unquoted}
 
 -- a byte written behind the first ones of a block
 pub block_more : (block : List ℕ) (n b : ℕ) → n < length block → take (n + 1) (set block n b) ≡ take n block ++ b ∷ []

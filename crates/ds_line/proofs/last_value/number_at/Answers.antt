@@ -1,8 +1,6 @@
 use Rattle.std.proofs.Common.{◌<◌, ◌^◌, refl, arith}
-use Rattle.ds_names.specs.Kind.{kind_place}
 use Rattle.ds_names.specs.declared.kind.Kind.TheVariants.{U32}
 use Rattle.ds_entry.specs.declared.body.Value.TheVariants as values
-use Rattle.ds_line.specs.Piece.{IsValueOf}
 use Rattle.ds_line.proofs.LastValueLemmas.{number_missing, end_missing, value_whole, stops_value}
 use Rattle.ds_line.proofs.last_value.number_at.Goals as goal
 

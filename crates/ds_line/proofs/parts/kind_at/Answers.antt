@@ -1,4 +1,4 @@
-use Rattle.std.proofs.Common.{subst, ◌∙◌}
+use Rattle.std.proofs.Common.{subst}
 use Rattle.std.specs.Char.{is_ascii_alphanumeric}
 use Rattle.ds_names.specs.Run.{Begins}
 use Rattle.ds_line.specs.Part.{Word}

@@ -1,7 +1,3 @@
-use Rattle.std.proofs.Common.{sym, subst}
-use Rattle.ds_entry.specs.declared.body.Body.TheVariants.{Gone}
-use Rattle.ds_line.specs.Part.{byte}
-use Rattle.ds_line.specs.Reading.{up_to_mark, Reads}
 use Rattle.ds_line.proofs.ReadLemmas.{reads_same}
 use Rattle.ds_line.proofs.BodyLemmas.{gone_end_missing, gone_whole}
 use Rattle.ds_line.proofs.reading.gone_at.Goals as goal

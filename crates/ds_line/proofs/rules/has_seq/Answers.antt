@@ -1,4 +1,4 @@
-use Rattle.std.proofs.Common.{refl, sym, ◌∙◌, arith}
+use Rattle.std.proofs.Common.{refl, arith}
 use Rattle.ds_line.proofs.LabelLemmas.{seq_of_label, seq_of_other, label_epoch}
 use Rattle.ds_line.proofs.AnswerLemmas.{is_false, above_zero, zero_above}
 use Rattle.ds_line.proofs.rules.has_seq.Goals as goal

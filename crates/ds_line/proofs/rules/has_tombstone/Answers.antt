@@ -1,4 +1,4 @@
-use Rattle.std.proofs.Common.{refl, arith}
+use Rattle.std.proofs.Common.{refl}
 use Rattle.ds_line.proofs.LabelLemmas.{body_of_gone, body_of_other, label_gone_seq, seq_of_body}
 use Rattle.ds_line.proofs.AnswerLemmas.{is_false, is_number, number_is}
 use Rattle.ds_line.proofs.rules.has_tombstone.Goals as goal

@@ -1,4 +1,4 @@
-use Rattle.std.proofs.Common.{◌≢◌, refl, arith}
+use Rattle.std.proofs.Common.{◌≢◌}
 use Rattle.ds_names.specs.declared.kind.Kind.TheVariants.{Label}
 use Rattle.ds_line.proofs.LabelLemmas.{body_of_put, value_of_other, label_put_seq, other_put_seq, seq_of_body}
 use Rattle.ds_line.proofs.AnswerLemmas.{is_false, below, is_below, is_number, number_is}
