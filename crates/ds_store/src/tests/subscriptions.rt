@@ -1,6 +1,6 @@
 //! The worked rows of subscriptions and their checks, and where stamps end.
 
-use super::{answered, delete, key, label, new, refused, sweep, up, version};
+use super::{answered, change, delete, key, label, new, refused, sweep, up, version};
 use crate::{Command, Refusal, Reply, Store};
 use ds_entry::{Body, Change, Items, Value};
 use ds_names::{Kind, Kinds, Name};
@@ -260,5 +260,24 @@ fn each_command_tells_to_whom_it_is_owed(rt: HostRuntime) -> Result<(), Fail> {
             owed: both,
         },
     );
+    Ok(())
+}
+
+#[test]
+fn a_stopped_merge_owes_what_took_effect(rt: HostRuntime) -> Result<(), Fail> {
+    let alloc = rt.alloc();
+    let mut store = Store::open(alloc, 1, 0, 256)?;
+    let _ = subscribe(alloc, &mut store, 1, b"a", 2, false, false)?;
+    let _ = subscribe(alloc, &mut store, 63, b"b", 2, false, false)?;
+    let mut items = Items::new(alloc);
+    items.push(change("a", "eth0", (1, 0), Some(1))?)?;
+    items.push(change("b", "eth0", (1, 0), Some(1))?)?;
+    items.push(change("a", "tty", (2, 0), Some(1))?)?;
+    let stopped = Reply::MergeStopped {
+        done: 2,
+        fault: Refusal::NotOwner,
+        owed: (1 << 63) + 2,
+    };
+    answered(&rt, store.apply(Command::Merge { items }), stopped);
     Ok(())
 }
