@@ -1,5 +1,5 @@
 -- Each piece of a line: it is missing where it has to stand, or it is read.
-use Rattle.std.proofs.Common.{◌≡◌, ◌≢◌, ℕ, ◌<◌, ◌≤◌, ◌^◌, Bool, true, false, List, [], ◌∷◌, length, get_or, refl, sym, ap, subst, ◌∙◌, arith}
+use Rattle.std.proofs.Common.{◌≡◌, ◌≢◌, ℕ, ◌<◌, ◌≤◌, ◌^◌, Bool, true, false, List, [], ◌∷◌, length, get_or, refl, ap, subst, arith}
 use Rattle.std.specs.Char.{is_ascii_digit, is_ascii_alphanumeric}
 use Rattle.std.specs.Fmt.{decimal}
 use Rattle.std.specs.List.{list_all}
@@ -20,7 +20,7 @@ use Rattle.ds_line.proofs.PartLemmas.{part_one}
 use Rattle.ds_line.proofs.OpeningLemmas.{text_at, word_is_word, word_one, key_is, version_is}
 use Rattle.ds_line.proofs.ApartLemmas.{endpoints_one}
 use Rattle.ds_line.proofs.PieceLemmas.{behind, Fixed, One, one_by, Views, view_stops, first_stops, then_stops, after_byte, part_missing, byte_missing, byte_stops, stops_from}
-use Rattle.ds_script.specs.Command.{IsVersion, initial_word, mode_word}
+use Rattle.ds_script.specs.Command.{initial_word, mode_word}
 use Rattle.ds_script.specs.Pieces.{an_endpoint, an_initial, a_mode, a_name, a_kind, a_key, a_generation, a_seq, a_version, a_number, a_place, a_kinds, a_value, an_end}
 
 -- ---- a byte, and behind it one part

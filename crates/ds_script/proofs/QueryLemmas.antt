@@ -1,12 +1,12 @@
 -- Patterns in quotes, read byte by byte.
-use Rattle.std.proofs.Common.{◌≡◌, ◌≢◌, ℕ, ◌+◌, ◌-◌, ◌<◌, ◌⊎◌, inl, inr, List, [], ◌∷◌, ◌++◌, length, take, drop, refl, sym, ap, subst, ◌∙◌, append_assoc, append-nil, length-append, arith}
+use Rattle.std.proofs.Common.{◌≡◌, ◌≢◌, ℕ, ◌+◌, ◌-◌, ◌<◌, inl, inr, List, [], ◌∷◌, ◌++◌, length, take, drop, refl, sym, ap, subst, ◌∙◌, append_assoc, append-nil, length-append, arith}
 use Rattle.std.proofs.lemmas.List.{take_at}
 use Rattle.std.proofs.lemmas.List.Elements.{All-head, All-tail}
 use Rattle.std.proofs.lemmas.List.Concat.{flat_map-append}
-use Rattle.ds_names.specs.Run.{Ends, Begins}
+use Rattle.ds_names.specs.Run.{Ends}
 use Rattle.ds_line.specs.Part.{Part, part, run_of, Quoted}
 use Rattle.ds_line.specs.Spelling.{escaped_byte, escaped, quoted}
-use Rattle.ds_line.specs.Piece.{Piece, Found, StopsIn}
+use Rattle.ds_line.specs.Piece.{StopsIn}
 use Rattle.ds_line.specs.declared.stop.Stop.{Stop}
 use Rattle.ds_line.specs.declared.stop.Stop.TheVariants.{BadPart}
 use Rattle.ds_line.proofs.OpeningLemmas.{text_at}

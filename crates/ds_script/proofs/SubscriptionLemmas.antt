@@ -1,14 +1,14 @@
 -- The lines of subscriptions and maps, piece by piece behind their words.
-use Rattle.std.proofs.Common.{◌≡◌, ◌≢◌, ℕ, ◌*◌, ◌+◌, ◌≤◌, ◌<◌, ◌^◌, Bool, false, List, [], ◌∷◌, ◌++◌, length, get_or, refl, sym, ap, subst, ◌∙◌, arith}
+use Rattle.std.proofs.Common.{◌≡◌, ◌≢◌, ℕ, Bool, false, List, [], refl, sym, ap, subst, ◌∙◌, arith}
 use Rattle.ds_line.specs.Spelling.{escaped}
 use Rattle.ds_line.specs.Piece.{Piece, Found, StopsIn}
 use Rattle.ds_line.specs.declared.stop.Stop.{Stop}
 use Rattle.ds_line.specs.declared.stop.Stop.TheVariants.{NoRoom}
-use Rattle.ds_line.proofs.PieceLemmas.{behind, Goes, Views, view_found, view_stops, first_stops, then_stops, both_found}
+use Rattle.ds_line.proofs.PieceLemmas.{behind, Views, view_found, view_stops, first_stops, then_stops, both_found}
 use Rattle.ds_pattern.specs.declared.query.Query.{Query}
 use Rattle.ds_script.specs.declared.command.ScriptCommand.{ScriptCommand}
 use Rattle.ds_script.specs.declared.command.ScriptCommand.TheVariants.{Subscribe, Check, Map, Entries}
-use Rattle.ds_script.specs.Command.{word_of, behind_word, subscribe_word, check_word, map_word, entries_word}
+use Rattle.ds_script.specs.Command.{behind_word, subscribe_word, check_word, map_word, entries_word}
 use Rattle.ds_script.specs.Pieces.{an_initial, a_mode, a_number, a_place, a_kinds, a_pattern, an_end, taken_by, FindsPattern}
 use Rattle.ds_script.proofs.NewlineLemmas.{unbroken_none}
 use Rattle.ds_script.proofs.LineLemmas.{code}

@@ -1,4 +1,4 @@
-use Rattle.std.proofs.Common.{◌≡◌, length}
+use Rattle.std.proofs.Common.{length}
 use Rattle.ds_script.proofs.QueryLemmas.{IsBegun}
 use Rattle.ds_script.proofs.query.quoted_at.Given as goal
 

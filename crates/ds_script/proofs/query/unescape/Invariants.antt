@@ -1,4 +1,4 @@
-use Rattle.std.proofs.Common.{◌≡◌, length}
+use Rattle.std.proofs.Common.{length}
 use Rattle.ds_script.proofs.QueryLemmas.{IsLeft}
 use Rattle.ds_script.proofs.query.unescape.Given as goal
 

@@ -1,4 +1,4 @@
-use Rattle.std.proofs.Common.{◌≡◌, ◌<◌, length, true, sym, ap, subst, arith, IfErr, Ok, Err}
+use Rattle.std.proofs.Common.{◌≡◌, ◌<◌, length, true, sym, ap, subst, arith, IfErr}
 use Rattle.ds_pattern.specs.Patterns.{IsPattern}
 use Rattle.ds_pattern.specs.Under.{is_printable}
 use Rattle.ds_pattern.proofs.RegexLemmas.{printable_of_accepted}

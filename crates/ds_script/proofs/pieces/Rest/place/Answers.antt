@@ -1,4 +1,4 @@
-use Rattle.std.proofs.Common.{ℕ, ◌<◌, ◌≤◌, ◌^◌, arith}
+use Rattle.std.proofs.Common.{ℕ, ◌<◌, ◌^◌, arith}
 use Rattle.std.proofs.lemmas.Result.{err_from_is_err_and}
 use Rattle.ds_script.proofs.PieceLemmas.{one_part, number_part, no_byte, no_place}
 use Rattle.ds_script.proofs.pieces.Rest.place.Goals as goal
