@@ -212,6 +212,13 @@ def a_long_show(program):
         expect(end(started), *model.replay(script))
 
 
+def a_pattern_that_is_too_large(program):
+    """A pattern beyond the limit of `regex` on its size, which no refused growth is behind, and another one after it."""
+    large = b'"(?:\\\\w{1000}){1000}" 15'
+    script = b"map %s\nsubscribe 0 %s first new\nmap \"a\" 15\n" % (large, large)
+    expect(end(begin(program, limit=MEMORY), script), b"refused noroom\nrefused noroom\nmap 0\n", 0)
+
+
 # ---- reading and writing that fails ----
 
 
@@ -400,6 +407,7 @@ ALL = [
     a_million_lines,
     a_hundred_thousand_checks,
     a_long_show,
+    a_pattern_that_is_too_large,
     a_reader_that_fails,
     a_reader_that_is_closed,
     a_writer_that_is_full,
