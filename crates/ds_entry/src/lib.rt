@@ -9,8 +9,6 @@ mod blob;
 mod body;
 mod change;
 mod items;
-#[cfg(test)]
-mod tests;
 mod text;
 
 pub use blob::{Blob, BlobFault};

@@ -12,8 +12,6 @@ use ds_names::NoRoom;
 use itoa::Buffer;
 use std::alloc::Global;
 
-#[cfg(test)]
-mod tests;
 
 /// Writes the line of a change, its newline included.
 pub fn write_change(alloc: Global, change: &Change) -> Result<Vec<u8>, NoRoom>

@@ -11,8 +11,6 @@ mod key;
 mod kind;
 mod name;
 mod room;
-#[cfg(test)]
-mod tests;
 mod version;
 
 pub use decimal::{read_byte, read_decimal};

@@ -9,8 +9,6 @@
 mod filter;
 mod pattern;
 mod query;
-#[cfg(test)]
-mod tests;
 
 pub use filter::Filter;
 pub use pattern::{Pattern, PatternFault};

@@ -19,8 +19,6 @@ use ds_words::{ScriptCommand, append_noroom, append_reply};
 use itoa::Buffer;
 use std::alloc::Global;
 
-#[cfg(test)]
-mod tests;
 
 /// Carries a command out, and puts its answer behind those that wait.
 ///

@@ -176,5 +176,3 @@ fn written<W: Write>(writer: &mut W, answers: &[u8], lines: u64) -> Result<u64, 
     }
 }
 
-#[cfg(test)]
-mod tests;

@@ -18,8 +18,6 @@ mod search;
 mod store;
 mod subscription;
 mod subscriptions;
-#[cfg(test)]
-mod tests;
 
 pub use command::{Command, Reply};
 pub use laws::run;

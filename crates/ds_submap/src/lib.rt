@@ -8,8 +8,6 @@
 mod count;
 mod map;
 mod take;
-#[cfg(test)]
-mod tests;
 
 pub use count::Count;
 pub use map::SubMap;

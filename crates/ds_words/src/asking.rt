@@ -10,8 +10,6 @@ use ds_names::NoRoom;
 use ds_store::Command;
 use std::alloc::Global;
 
-#[cfg(test)]
-mod tests;
 
 impl ScriptCommand {
     /// The store's command of the line, with copies of what the line has. `None` for a line that asks nothing of a

@@ -16,8 +16,6 @@ use crate::word::{Word, word_of};
 use ds_line::{LineFault, Stop, word_at};
 use std::alloc::Global;
 
-#[cfg(test)]
-mod tests;
 
 /// The most bytes of a line, its newline not counted.
 pub const LONGEST_LINE: usize = 4096;

@@ -14,8 +14,6 @@ use ds_store::{Refusal, Reply};
 use itoa::Buffer;
 use std::alloc::Global;
 
-#[cfg(test)]
-mod tests;
 
 /// Writes the lines that answer a command to which a store gave the reply.
 ///

@@ -1,8 +1,8 @@
 //! What lines ask of a store: each asked with copies and without.
 
-use super::*;
-use crate::reading::read_command;
-use crate::split::split_line;
+use ds_store::Command;
+use ds_words::{read_command, split_line};
+use std::alloc::Global;
 use std::test::Fail;
 
 // What a line asks of a store, with copies or without.

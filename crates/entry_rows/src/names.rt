@@ -1,6 +1,6 @@
 //! Texts that are printed, with ample memory.
 
-use crate::{BadEndpoint, Endpoint, Generation, Name, NameFault};
+use ds_names::{BadEndpoint, Endpoint, Generation, Name, NameFault};
 use std::test::Fail;
 
 #[test]

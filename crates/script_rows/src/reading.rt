@@ -1,7 +1,8 @@
 //! Lines with ample memory: one of each command, of each value, and the longest.
 
-use super::*;
-use crate::split::split_line;
+use ds_line::LineFault;
+use ds_words::{ScriptCommand, read_command, split_line};
+use std::alloc::Global;
 use std::test::Fail;
 
 const LINES: [&[u8]; 20] = [

@@ -1,10 +1,10 @@
 //! Where stores, positions, stamps and merges end, which no script reaches, and each command once with ample
 //! memory, for each kind of value.
 
-use crate::{Command, Refusal, Reply, Store, run};
 use ds_entry::{Blob, Body, Change, Items, Text, Value};
 use ds_names::{Endpoint, Generation, Key, Kind, Kinds, Name, Version};
 use ds_pattern::{PatternText, Query};
+use ds_store::{Command, Refusal, Reply, Store, run};
 use std::alloc::Global;
 use std::process::Abort;
 use std::test::Fail;

@@ -1,10 +1,10 @@
 //! Outside values, and with ample memory each call on its happy path.
 
-use crate::{Count, SubMap};
 use ds_entry::{Body, Change, Items, Value};
 use ds_join::{JoinFault, Stop};
 use ds_names::{Endpoint, Generation, Key, Kind, Kinds, Name, Version};
 use ds_pattern::{PatternFault, PatternText, Query};
+use ds_submap::{Count, SubMap};
 use std::alloc::Global;
 use std::test::Fail;
 

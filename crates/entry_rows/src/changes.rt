@@ -1,6 +1,6 @@
 //! With ample memory every copy is made and every change is kept.
 
-use crate::{Blob, BlobFault, Body, Change, EntryFault, Items, Text, TextFault, Value};
+use ds_entry::{Blob, BlobFault, Body, Change, EntryFault, Items, Text, TextFault, Value};
 use ds_names::{Endpoint, Generation, Key, Kind, Name, Version};
 use std::test::Fail;
 

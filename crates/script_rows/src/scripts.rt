@@ -1,7 +1,6 @@
 //! A script with its answers, and each read and each write of it failing in turn.
 
-use super::*;
-use crate::faulty::{FailRead, FailWrite};
+use ds_script::{FailRead, FailWrite, ReplayFault, replay};
 use std::test::Fail;
 
 /// A script, its answers, and how it ends.
@@ -11,7 +10,7 @@ struct Row {
     end: Result<u64, ReplayFault>,
 }
 
-const ROWS: [Row; 3] = [
+const ROWS: [Row; 4] = [
     Row {
         script: b"offer eth0 label rs 3.0 = 3/17\noffer eth0 label rs 2.0 = 2/9\nshow",
         answers: b"taken\nstale\neth0 label rs 3.0 = 3/17\nshown 1\n",
@@ -21,6 +20,11 @@ const ROWS: [Row; 3] = [
         script: b"subscribe 5 \"eth.*\" 15 later new\noffer eth0 label rs 3.1 -\ncheck 5 4\n",
         answers: b"subscribed 1\ntaken\nowed 0000000000000020\neth0 label rs 3.1 -\nchecked 1 1 2\n",
         end: Ok(3),
+    },
+    Row {
+        script: b"map \"(\" 15\nmap \".*\" 15\nentries 0\nentries 1\n",
+        answers: b"refused badpattern\nmap 0\nshown 0\nrefused nomap\n",
+        end: Ok(4),
     },
     Row {
         script: b"show\noffer eth0 label rs 03.0 = 3/17\nshow\n",

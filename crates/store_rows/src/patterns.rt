@@ -3,8 +3,8 @@
 //! The answers are from outside: Python's `re.fullmatch` where both syntaxes agree, and else the
 //! documentation of Rust's crate `regex`.
 
-use crate::{Filter, Pattern, PatternFault, PatternText, Query};
 use ds_names::{Key, Kind, Kinds, Name};
+use ds_pattern::{Filter, Pattern, PatternFault, PatternText, Query};
 use std::alloc::Global;
 use std::test::Fail;
 

@@ -1,7 +1,7 @@
 //! Outside values, and with ample memory each call on its happy path.
 
-use crate::{Held, JoinFault, Merge, Stop};
 use ds_entry::{Blob, Body, Change, Text, Value};
+use ds_join::{Held, JoinFault, Merge, Stop};
 use ds_names::{Endpoint, Generation, Key, Kind, Name, Version};
 use std::alloc::Global;
 use std::test::Fail;

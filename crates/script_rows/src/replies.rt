@@ -1,8 +1,10 @@
 //! The lines that answer each reply.
 
-use super::*;
 use ds_entry::{Blob, Body, Change, Items, Text, Value};
-use ds_names::{Endpoint, Generation, Key, Kind, Name};
+use ds_names::{Endpoint, Generation, Key, Kind, Name, Version};
+use ds_store::{Refusal, Reply};
+use ds_words::{ScriptCommand, write_reply};
+use std::alloc::Global;
 use std::test::Fail;
 
 fn version(epoch: u32, seq: u32) -> Result<Version, Fail> {
