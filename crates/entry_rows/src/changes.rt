@@ -1,129 +1,71 @@
-//! With ample memory every copy is made and every change is kept.
+//! With ample memory texts and blobs are read, every copy is made and every change is kept.
 
-use ds_entry::{Blob, BlobFault, Body, Change, EntryFault, Items, Text, TextFault, Value};
-use ds_names::{Endpoint, Generation, Key, Kind, Name, Version};
-use std::test::Fail;
+use ds_entry::{Blob, Body, Change, Items, Text, Value};
+use ds_names::{Generation, Key, Kind, Name, Version};
+use std::alloc::Global;
+use std::process::Abort;
 
-// The put of the label `eth0` by `owner`, for the endpoint of slot 17.
-fn label(
-    owner: &[u8],
-    epoch: u32,
-    generation: u32,
-    seq: u32,
-) -> Result<Result<Change, EntryFault>, Fail> {
-    let key = Key {
-        name: Name::read(b"eth0")?,
-        kind: Kind::Label,
-    };
-    let version = Version {
-        epoch: Generation::of(epoch).ok_or("no epoch")?,
-        seq,
-    };
-    let generation = Generation::of(generation).ok_or("no generation")?;
-    let endpoint = Endpoint::of(generation, 17).ok_or("no endpoint")?;
-    let body = Body::Put(Value::Label(endpoint));
-    Ok(Change::make(key, Name::read(owner)?, version, body))
-}
-
-#[test]
-fn labels_are_made_by_their_rule(rt: HostRuntime) -> Result<(), Fail> {
-    assert!(rt; label(b"rs", 3, 3, 0)?.is_ok());
-    let rows: [(&[u8], u32, u32, u32); 4] = [
-        (b"tty", 3, 3, 0),
-        (b"rs", 0, 0, 0),
-        (b"rs", 3, 3, 1),
-        (b"rs", 3, 4, 0),
-    ];
-    for (owner, epoch, generation, seq) in rows {
-        assert_eq!(rt;
-            label(owner, epoch, generation, seq)?.err(),
-            Some(EntryFault::BadLabel)
-        );
-    }
-    Ok(())
+fn name(rt: &impl Abort, text: &[u8]) -> Name {
+    Name::read(text).expect(rt, "a name")
 }
 
 // The change of the version 3.0 of the key eth0 of a kind.
-fn change(owner: &[u8], kind: Kind, body: Body) -> Result<Change, Fail> {
+fn change(rt: &impl Abort, kind: Kind, body: Body) -> Change {
     let key = Key {
-        name: Name::read(b"eth0")?,
+        name: name(rt, b"eth0"),
         kind,
     };
-    let epoch = Generation::of(3).ok_or("no epoch")?;
-    Ok(Change::make(key, Name::read(owner)?, Version { epoch, seq: 0 }, body)?)
+    let epoch = Generation::of(3).expect(rt, "a generation");
+    Change::make(key, name(rt, b"tty"), Version { epoch, seq: 0 }, body).expect(rt, "a change")
+}
+
+fn text(rt: &impl Abort, alloc: Global, bytes: &[u8]) -> Text {
+    Text::read(alloc, bytes).expect(rt, "a text")
+}
+
+fn blob(rt: &impl Abort, alloc: Global, bytes: &[u8]) -> Blob {
+    Blob::read(alloc, bytes).expect(rt, "a blob")
+}
+
+// A copy of the value is made, and its change is kept.
+fn add(rt: &impl Abort, alloc: Global, items: &mut Items, value: Value) {
+    let copy = value.copy(alloc).expect(rt, "memory");
+    assert!(rt; copy == value);
+    let pushed = items.push(change(rt, value.kind(), Body::Put(value)));
+    assert!(rt; pushed.is_ok());
 }
 
 #[test]
-fn copies_are_the_same(rt: HostRuntime) -> Result<(), Fail> {
+fn copies_are_the_same(rt: HostRuntime) {
     let alloc = rt.alloc();
     let mut items = Items::new(alloc);
-    items.push(label(b"rs", 3, 3, 0)??)?;
-    let values = [
-        Value::U32(1500),
-        Value::Str(Text::read(alloc, b"up")?),
-        Value::Mem(Blob::read(alloc, &[0x00, 0xff])?),
-    ];
-    for value in values {
-        let copy = value.copy(alloc)?;
-        assert!(rt; copy == value);
-        items.push(change(b"tty", value.kind(), Body::Put(value))?)?;
-    }
-    items.push(change(b"tty", Kind::Mem, Body::Gone)?)?;
-    let again = items.copy(alloc)?;
-    assert_eq!(rt; again.len(), 5);
+    add(&rt, alloc, &mut items, Value::U32(1500));
+    add(&rt, alloc, &mut items, Value::Str(text(&rt, alloc, b"up")));
+    add(
+        &rt,
+        alloc,
+        &mut items,
+        Value::Mem(blob(&rt, alloc, &[0x00, 0xff])),
+    );
+    let pushed = items.push(change(&rt, Kind::Mem, Body::Gone));
+    assert!(rt; pushed.is_ok());
+    let again = items.copy(alloc).expect(&rt, "memory");
+    assert!(rt; again.len() == 4);
     assert!(rt; again == items);
-    Ok(())
 }
 
 #[test]
-fn texts_have_at_most_256_printable_bytes(rt: HostRuntime) -> Result<(), Fail> {
+fn the_longest_text_is_read_and_copied(rt: HostRuntime) {
     let longest = [b'~'; 256];
-    let text = Text::read(rt.alloc(), &longest)?;
+    let text = text(&rt, rt.alloc(), &longest);
     assert!(rt; text.bytes() == longest.as_slice());
-    assert!(rt; text.copy(rt.alloc())? == text);
-    assert_eq!(rt; Text::read(rt.alloc(), b"")?.bytes().len(), 0);
-    assert_eq!(rt;
-        Text::read(rt.alloc(), &[0x7f; 257]).err(),
-        Some(TextFault::TooLong)
-    );
-    for byte in [0x00, 0x0a, 0x1f, 0x7f, 0x80, 0xff] {
-        assert_eq!(rt;
-            Text::read(rt.alloc(), &[byte]).err(),
-            Some(TextFault::BadText),
-            "{byte}"
-        );
-    }
-    Ok(())
+    assert!(rt; text.copy(rt.alloc()).expect(&rt, "memory") == text);
 }
 
 #[test]
-fn blobs_have_at_most_1024_bytes(rt: HostRuntime) -> Result<(), Fail> {
+fn the_longest_blob_is_read_and_copied(rt: HostRuntime) {
     let longest = [0xff; 1024];
-    let blob = Blob::read(rt.alloc(), &longest)?;
+    let blob = blob(&rt, rt.alloc(), &longest);
     assert!(rt; blob.bytes() == longest.as_slice());
-    assert!(rt; blob.copy(rt.alloc())? == blob);
-    assert_eq!(rt;
-        Blob::read(rt.alloc(), &[0; 1025]).err(),
-        Some(BlobFault::TooLong)
-    );
-    Ok(())
-}
-
-#[test]
-fn puts_leave_the_last_number_to_sweeps(rt: HostRuntime) -> Result<(), Fail> {
-    let made = |kind: Kind, seq: u32, body: Body| -> Result<Result<Change, EntryFault>, Fail> {
-        let key = Key {
-            name: Name::read(b"mtu")?,
-            kind,
-        };
-        let epoch = Generation::of(3).ok_or("no epoch")?;
-        Ok(Change::make(key, Name::read(b"eth0")?, Version { epoch, seq }, body))
-    };
-    assert!(rt; made(Kind::U32, u32::MAX - 1, Body::Put(Value::U32(1500)))?.is_ok());
-    assert!(rt; made(Kind::U32, u32::MAX, Body::Gone)?.is_ok());
-    let last = made(Kind::U32, u32::MAX, Body::Put(Value::U32(1500)))?;
-    assert_eq!(rt; last.err(), Some(EntryFault::BadVersion));
-    let other = made(Kind::Str, u32::MAX, Body::Put(Value::U32(1500)))?;
-    assert_eq!(rt; other.err(), Some(EntryFault::BadKind));
-    Ok(())
+    assert!(rt; blob.copy(rt.alloc()).expect(&rt, "memory") == blob);
 }

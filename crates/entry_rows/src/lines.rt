@@ -3,7 +3,7 @@
 use ds_entry::{Blob, Body, Change, Text, Value};
 use ds_line::{read_change, write_change};
 use ds_names::{Generation, Key, Kind, Name, Version};
-use std::test::Fail;
+use std::process::Abort;
 
 // A line of each kind, the empty values too, and a tombstone of each rule.
 const LINES: [&[u8]; 9] = [
@@ -19,35 +19,39 @@ const LINES: [&[u8]; 9] = [
 ];
 
 #[test]
-fn lines_are_read_and_written(rt: HostRuntime) -> Result<(), Fail> {
-    let alloc = rt.alloc();
+fn lines_are_read_and_written(rt: HostRuntime) {
     for line in LINES {
-        let (change, length) = read_change(alloc, line)?;
-        assert_eq!(rt; length, line.len());
-        assert_eq!(rt; write_change(alloc, &change)?.as_slice(), line);
+        let (change, length) = read_change(rt.alloc(), line).expect(&rt, "a line");
+        assert!(rt; length == line.len());
+        let written = write_change(rt.alloc(), &change).expect(&rt, "memory");
+        assert!(rt; written.as_slice() == line);
     }
-    Ok(())
 }
 
 // Puts a value of a kind at `m KIND eth0 3.1`.
-fn put_of(kind: Kind, value: Value) -> Result<Change, Fail> {
+fn put_of(rt: &impl Abort, kind: Kind, value: Value) -> Change {
     let key = Key {
-        name: Name::read(b"m")?,
+        name: Name::read(b"m").expect(rt, "a name"),
         kind,
     };
     let version = Version {
-        epoch: Generation::of(3).ok_or("a generation")?,
+        epoch: Generation::of(3).expect(rt, "a generation"),
         seq: 1,
     };
-    Ok(Change::make(key, Name::read(b"eth0")?, version, Body::Put(value))?)
+    let owner = Name::read(b"eth0").expect(rt, "a name");
+    Change::make(key, owner, version, Body::Put(value)).expect(rt, "a change")
 }
 
 #[test]
-fn the_longest_values_are_written(rt: HostRuntime) -> Result<(), Fail> {
-    let alloc = rt.alloc();
-    let text = put_of(Kind::Str, Value::Str(Text::read(alloc, &[b'"'; 256])?))?;
-    assert_eq!(rt; write_change(alloc, &text)?.len(), 532);
-    let blob = put_of(Kind::Mem, Value::Mem(Blob::read(alloc, &[0xab; 1024])?))?;
-    assert_eq!(rt; write_change(alloc, &blob)?.len(), 2066);
-    Ok(())
+fn the_longest_text_is_written(rt: HostRuntime) {
+    let text = Text::read(rt.alloc(), &[b'"'; 256]).expect(&rt, "a text");
+    let written = write_change(rt.alloc(), &put_of(&rt, Kind::Str, Value::Str(text)));
+    assert!(rt; written.expect(&rt, "memory").len() == 532);
+}
+
+#[test]
+fn the_longest_blob_is_written(rt: HostRuntime) {
+    let blob = Blob::read(rt.alloc(), &[0xab; 1024]).expect(&rt, "a blob");
+    let written = write_change(rt.alloc(), &put_of(&rt, Kind::Mem, Value::Mem(blob)));
+    assert!(rt; written.expect(&rt, "memory").len() == 2066);
 }

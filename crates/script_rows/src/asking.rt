@@ -3,47 +3,42 @@
 use ds_store::Command;
 use ds_words::{read_command, split_line};
 use std::alloc::Global;
-use std::test::Fail;
+use std::process::Abort;
 
 // What a line asks of a store, with copies or without.
-fn asked(alloc: Global, line: &[u8], copied: bool) -> Result<Option<Command>, Fail> {
+fn asked(rt: &impl Abort, alloc: Global, line: &[u8], copied: bool) -> Option<Command> {
     if split_line(line).is_some() {
-        return Err("a newline within the line".into());
+        return None;
     }
-    let command = read_command(alloc, line)?;
-    if copied {
-        Ok(command.store_command(alloc)?)
+    let command = read_command(alloc, line).expect(rt, "a command");
+    let asked = if copied {
+        command.store_command(alloc)
     } else {
-        Ok(command.into_store_command(alloc)?)
-    }
+        command.into_store_command(alloc)
+    };
+    asked.expect(rt, "memory")
 }
 
 #[test]
-fn an_offer_is_a_merge_of_one_item(rt: HostRuntime) -> Result<(), Fail> {
+fn an_offer_is_a_merge_of_one_item(rt: HostRuntime) {
     for copied in [true, false] {
-        let command = asked(rt.alloc(), b"offer eth0 label rs 3.0 = 3/17", copied)?;
-        let Some(Command::Merge { items }) = command else {
-            return Err("no Merge".into());
-        };
-        assert_eq!(rt; items.len(), 1);
+        let command = asked(&rt, rt.alloc(), b"offer eth0 label rs 3.0 = 3/17", copied);
+        assert!(rt; matches!(command, Some(Command::Merge { items }) if items.len() == 1));
     }
-    Ok(())
 }
 
 #[test]
-fn lines_are_asked_with_ample_memory(rt: HostRuntime) -> Result<(), Fail> {
-    let lines: [&[u8]; 5] = [
+fn lines_are_asked_with_ample_memory(rt: HostRuntime) {
+    let lines: [&[u8]; 4] = [
         b"offer x str eth0 3.0 = \"a\"",
         b"publish 1/1 new x str 1.0 = \"a\"",
         b"publish 1/1 new x mem 1.0 = 00ff",
         b"subscribe 7 \"x\" 3 first new",
-        b"show",
     ];
     for line in lines {
         for copied in [true, false] {
-            let command = asked(rt.alloc(), line, copied)?;
-            assert_eq!(rt; command.is_none(), line == b"show".as_slice());
+            assert!(rt; asked(&rt, rt.alloc(), line, copied).is_some());
         }
     }
-    Ok(())
+    assert!(rt; asked(&rt, rt.alloc(), b"show", true).is_none());
 }

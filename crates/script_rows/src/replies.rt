@@ -5,42 +5,45 @@ use ds_names::{Endpoint, Generation, Key, Kind, Name, Version};
 use ds_store::{Refusal, Reply};
 use ds_words::{ScriptCommand, write_reply};
 use std::alloc::Global;
-use std::test::Fail;
+use std::process::Abort;
 
-fn version(epoch: u32, seq: u32) -> Result<Version, Fail> {
-    Ok(Version {
-        epoch: Generation::of(epoch).ok_or("a generation")?,
-        seq,
-    })
+// Stops the test unless the reply is printed so.
+fn prints(rt: &impl Abort, alloc: Global, reply: Reply, text: &[u8]) {
+    let written = write_reply(alloc, &ScriptCommand::Show, &reply);
+    assert!(rt; written.expect(rt, "memory").as_slice() == text);
 }
 
-// Whether the reply is printed so.
-fn prints(alloc: Global, reply: &Reply, text: &[u8]) -> Result<bool, Fail> {
-    let written = write_reply(alloc, &ScriptCommand::Show, reply)?;
-    Ok(written.as_slice() == text)
+fn name(rt: &impl Abort, text: &[u8]) -> Name {
+    Name::read(text).expect(rt, "a name")
+}
+
+fn version(rt: &impl Abort, epoch: u32, seq: u32) -> Version {
+    let epoch = Generation::of(epoch).expect(rt, "a generation");
+    Version { epoch, seq }
 }
 
 // The tombstone `eth0 label rs 3.1 -`.
-fn tombstone() -> Result<Change, Fail> {
+fn tombstone(rt: &impl Abort) -> Change {
     let key = Key {
-        name: Name::read(b"eth0")?,
+        name: name(rt, b"eth0"),
         kind: Kind::Label,
     };
-    Ok(Change::make(key, Name::read(b"rs")?, version(3, 1)?, Body::Gone)?)
+    let made = Change::make(key, name(rt, b"rs"), version(rt, 3, 1), Body::Gone);
+    made.expect(rt, "a change")
 }
 
 #[test]
-fn a_check_prints_its_changes_and_stamps(rt: HostRuntime) -> Result<(), Fail> {
+fn a_check_prints_its_changes_and_stamps(rt: HostRuntime) {
     let mut items = Items::new(rt.alloc());
-    items.push(tombstone()?)?;
+    let pushed = items.push(tombstone(&rt));
+    assert!(rt; pushed.is_ok());
     let reply = Reply::Checked {
         items,
         before: 1,
         after: 4611686018427387904,
     };
     let text = b"eth0 label rs 3.1 -\nchecked 1 1 4611686018427387904\n";
-    assert!(rt; prints(rt.alloc(), &reply, text)?);
-    Ok(())
+    prints(&rt, rt.alloc(), reply, text);
 }
 
 fn merged(taken: usize, stale: usize, owed: u64) -> Reply {
@@ -53,62 +56,71 @@ fn merged(taken: usize, stale: usize, owed: u64) -> Reply {
 }
 
 #[test]
-fn replies_have_their_words(rt: HostRuntime) -> Result<(), Fail> {
+fn merges_have_their_words(rt: HostRuntime) {
+    let alloc = rt.alloc();
+    prints(
+        &rt,
+        alloc,
+        merged(1, 0, 0x20),
+        b"taken\nowed 0000000000000020\n",
+    );
+    prints(&rt, alloc, merged(0, 1, 0), b"stale\n");
+    prints(&rt, alloc, merged(0, 0, 0), b"known\n");
     let stopped = Reply::MergeStopped {
         done: 0,
         fault: Refusal::NotOwner,
         owed: 0,
     };
-    let rows: [(Reply, &[u8]); 9] = [
-        (Reply::Known, b"known\n"),
-        (
-            Reply::Swept { count: 12, owed: 1 },
-            b"swept 12\nowed 0000000000000001\n",
-        ),
-        (Reply::Named(Name::read(b"eth0")?), b"named eth0\n"),
-        (Reply::Subscribed { stamp: 2, owed: 0 }, b"subscribed 2\n"),
-        (merged(1, 0, 0x20), b"taken\nowed 0000000000000020\n"),
-        (merged(0, 1, 0), b"stale\n"),
-        (merged(0, 0, 0), b"known\n"),
-        (stopped, b"refused notowner\n"),
-        (
-            Reply::Changed {
-                owed: 0x8123_4567_89ab_cdef,
-            },
-            b"taken\nowed 8123456789abcdef\n",
-        ),
-    ];
-    for (reply, text) in &rows {
-        assert!(rt; prints(rt.alloc(), reply, text)?);
-    }
-    Ok(())
+    prints(&rt, alloc, stopped, b"refused notowner\n");
 }
 
 #[test]
-fn what_is_found_is_printed(rt: HostRuntime) -> Result<(), Fail> {
+fn replies_have_their_words(rt: HostRuntime) {
     let alloc = rt.alloc();
-    let generation = Generation::of(3).ok_or("a generation")?;
-    let endpoint = Endpoint::of(generation, 17).ok_or("an endpoint")?;
-    let rows: [(Value, &[u8]); 5] = [
-        (Value::Label(endpoint), b"found 3/17\n"),
-        (Value::U32(1400), b"found 1400\n"),
-        (
-            Value::Str(Text::read(alloc, b"a\"b")?),
-            b"found \"a\\\"b\"\n",
-        ),
-        (Value::Mem(Blob::read(alloc, b"\x00\xff")?), b"found 00ff\n"),
-        (Value::Mem(Blob::read(alloc, b"")?), b"found \n"),
-    ];
-    for (value, text) in rows {
-        assert!(rt; prints(alloc, &Reply::Found(value), text)?);
-    }
-    Ok(())
+    prints(&rt, alloc, Reply::Known, b"known\n");
+    let swept = Reply::Swept { count: 12, owed: 1 };
+    prints(&rt, alloc, swept, b"swept 12\nowed 0000000000000001\n");
+    prints(
+        &rt,
+        alloc,
+        Reply::Named(name(&rt, b"eth0")),
+        b"named eth0\n",
+    );
+    prints(
+        &rt,
+        alloc,
+        Reply::Subscribed { stamp: 2, owed: 0 },
+        b"subscribed 2\n",
+    );
+    let changed = Reply::Changed {
+        owed: 0x8123_4567_89ab_cdef,
+    };
+    prints(&rt, alloc, changed, b"taken\nowed 8123456789abcdef\n");
+}
+
+fn found(rt: &impl Abort, alloc: Global, value: Value, text: &[u8]) {
+    prints(rt, alloc, Reply::Found(value), text);
 }
 
 #[test]
-fn each_refusal_has_its_word(rt: HostRuntime) -> Result<(), Fail> {
+fn what_is_found_is_printed(rt: HostRuntime) {
+    let alloc = rt.alloc();
+    let generation = Generation::of(3).expect(&rt, "a generation");
+    let endpoint = Endpoint::of(generation, 17).expect(&rt, "an endpoint");
+    found(&rt, alloc, Value::Label(endpoint), b"found 3/17\n");
+    found(&rt, alloc, Value::U32(1400), b"found 1400\n");
+    let text = Text::read(alloc, b"a\"b").expect(&rt, "a text");
+    found(&rt, alloc, Value::Str(text), b"found \"a\\\"b\"\n");
+    let blob = Blob::read(alloc, b"\x00\xff").expect(&rt, "a blob");
+    found(&rt, alloc, Value::Mem(blob), b"found 00ff\n");
+    let empty = Blob::read(alloc, b"").expect(&rt, "a blob");
+    found(&rt, alloc, Value::Mem(empty), b"found \n");
+}
+
+#[test]
+fn each_refusal_has_its_word(rt: HostRuntime) {
     let clash = Refusal::Clash {
-        version: version(2097151, 4294967295)?,
+        version: version(&rt, 2097151, 4294967295),
     };
     let rows: [(Refusal, &[u8]); 17] = [
         (Refusal::BadSub, b"refused badsub\n"),
@@ -130,7 +142,6 @@ fn each_refusal_has_its_word(rt: HostRuntime) -> Result<(), Fail> {
         (Refusal::NoRoom, b"refused noroom\n"),
     ];
     for (refusal, text) in rows {
-        assert!(rt; prints(rt.alloc(), &Reply::Refused(refusal), text)?);
+        prints(&rt, rt.alloc(), Reply::Refused(refusal), text);
     }
-    Ok(())
 }

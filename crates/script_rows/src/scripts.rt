@@ -1,7 +1,6 @@
 //! A script with its answers, and each read and each write of it failing in turn.
 
 use ds_script::{FailRead, FailWrite, ReplayFault, replay};
-use std::test::Fail;
 
 /// A script, its answers, and how it ends.
 struct Row {
@@ -34,7 +33,7 @@ const ROWS: [Row; 4] = [
 ];
 
 #[test]
-fn each_read_fails_in_turn(rt: HostRuntime) -> Result<(), Fail> {
+fn each_read_fails_in_turn(rt: HostRuntime) {
     for row in &ROWS {
         for fail_at in 1..40u32 {
             let mut reader = FailRead::new(row.script, fail_at, 7);
@@ -48,11 +47,10 @@ fn each_read_fails_in_turn(rt: HostRuntime) -> Result<(), Fail> {
             assert!(rt; end == Err(ReplayFault::ReadFault));
         }
     }
-    Ok(())
 }
 
 #[test]
-fn each_write_fails_in_turn(rt: HostRuntime) -> Result<(), Fail> {
+fn each_write_fails_in_turn(rt: HostRuntime) {
     for row in &ROWS {
         for fail_at in 1..40u32 {
             let mut reader = FailRead::new(row.script, 0, 64);
@@ -66,5 +64,4 @@ fn each_write_fails_in_turn(rt: HostRuntime) -> Result<(), Fail> {
             assert!(rt; end == Err(ReplayFault::WriteFault));
         }
     }
-    Ok(())
 }
