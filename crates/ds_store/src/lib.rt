@@ -16,8 +16,6 @@ mod laws;
 mod refusal;
 mod search;
 mod store;
-mod subscription;
-mod subscriptions;
 #[cfg(test)]
 mod tests;
 
