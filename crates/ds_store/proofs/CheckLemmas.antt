@@ -17,11 +17,12 @@ use Rattle.ds_join.specs.Held.{Holding, held_changes, held_for, IsOwn}
 use Rattle.ds_join.proofs.HeldLemmas.{held_at_key}
 use Rattle.ds_pattern.specs.declared.query.Query.{Query}
 use Rattle.ds_pattern.specs.Under.{is_under}
-use Rattle.ds_store.specs.State.{Subscription, is_unseen}
-use Rattle.ds_store.specs.Content.{Followed, followed_of}
-use Rattle.ds_store.specs.Kept.{AreKept, followed_by}
-use Rattle.ds_store.specs.Watching.{Watching, watching, has_key, keys_under, shown}
-use Rattle.ds_store.proofs.KeyLemmas.{AreSorted, sorted_drop, sorted_under}
+use Rattle.ds_watch.specs.Subscription.{Subscription, is_unseen}
+use Rattle.ds_watch.specs.Followed.{Followed, followed_of}
+use Rattle.ds_store.specs.Kept.{AreKept, followed_by, keys_under}
+use Rattle.ds_watch.specs.Watching.{Watching, watching, has_key, shown}
+use Rattle.ds_watch.proofs.KeyLemmas.{AreSorted, sorted_drop}
+use Rattle.ds_store.proofs.UnderLemmas.{sorted_under}
 use Rattle.ds_store.proofs.FlagLemmas.{tests_at, flags_same, filter_same, keys_of, keys_kept, above_all, is_held}
 use Rattle.ds_store.proofs.MarkLemmas.{followed_same, held_if}
 use Rattle.ds_store.proofs.SweepLemmas.{once}

@@ -14,8 +14,8 @@ use Rattle.ds_entry.specs.Change.{ChangeRecord}
 use Rattle.ds_entry.specs.Covers.{change_cmp}
 use Rattle.ds_entry.proofs.Members.{Contains-nil, Contains-head, Contains-tail, Contains-cons}
 use Rattle.ds_store.specs.Judging.{held_at}
-use Rattle.ds_store.specs.Watching.{has_key}
-use Rattle.ds_store.proofs.KeyLemmas.{AreSorted, AllAbove, sorted_none}
+use Rattle.ds_watch.specs.Watching.{has_key}
+use Rattle.ds_watch.proofs.KeyLemmas.{AreSorted, AllAbove, sorted_none}
 
 -- ---- tests that agree on a list
 pub tests_at : (f g : ChangeRecord → Bool) (hs : List ChangeRecord) → map f hs ≡ map g hs → (c : ChangeRecord) → Contains hs c → f c ≡ g c

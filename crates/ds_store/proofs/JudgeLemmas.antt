@@ -6,8 +6,7 @@ use Rattle.ds_pattern.specs.declared.pattern.PatternFault.{PatternFault}
 use Rattle.ds_pattern.specs.declared.pattern.PatternFault.TheVariants as faults
 use Rattle.ds_store.specs.State.{last_place}
 use Rattle.ds_store.specs.Judging.{first_cause, against_subscribe, against_check}
-use Rattle.ds_store.specs.Machine.{IsRefusedFor, refusal_for}
-use Rattle.ds_store.specs.Machine.{refusal_of}
+use Rattle.ds_store.specs.Machine.{IsRefusedFor, refusal_for, refusal_of}
 use Rattle.ds_store.specs.declared.judging.Cause.{Cause}
 use Rattle.ds_store.specs.declared.judging.Cause.TheVariants.{BadSub, TooMany, TooLong, BadPattern, Exists, NotFound, Worn}
 

@@ -1,5 +1,4 @@
-pub mod KeyLemmas
-pub mod PlaceLemmas
+pub mod UnderLemmas
 pub mod FlagLemmas
 pub mod StandsLemmas
 pub mod FaultLemmas

@@ -15,13 +15,15 @@ use Rattle.ds_join.specs.Top.{IsTop, IsPartOf, tops}
 use Rattle.ds_join.proofs.ExistLemmas.{tops_is_top}
 use Rattle.ds_pattern.specs.declared.query.Query.{Query}
 use Rattle.ds_pattern.specs.Under.{is_under}
-use Rattle.ds_store.specs.State.{State, Subscription, accepts, is_unseen, is_owed}
-use Rattle.ds_store.specs.Content.{Content, Followed, followed_of, owed_for}
+use Rattle.ds_store.specs.State.{State, accepts}
+use Rattle.ds_watch.specs.Subscription.{Subscription, is_unseen, is_owed}
+use Rattle.ds_store.specs.Content.{Content}
+use Rattle.ds_watch.specs.Followed.{Followed, followed_of, owed_for}
 use Rattle.ds_store.specs.Judging.{held_at, TakesEffect}
 use Rattle.ds_store.specs.Kept.{AreKept, IsWatching, followed_by}
 use Rattle.ds_store.specs.Stands.{Stands, WasAccepted}
-use Rattle.ds_store.specs.Watching.{Watching, has_key, with_key, marked, watches, HasRoom}
-use Rattle.ds_store.proofs.KeyLemmas.{sorted_with, all_with, has_with}
+use Rattle.ds_watch.specs.Watching.{Watching, has_key, with_key, marked, watches, HasRoom}
+use Rattle.ds_watch.proofs.KeyLemmas.{sorted_with, all_with, has_with}
 use Rattle.ds_store.proofs.FlagLemmas.{tests_at, flags_same, is_held, AllHeld, few_kept}
 use Rattle.ds_store.proofs.StandsLemmas.{key_found, key_missing, held_covers, not_above, single_more, tops_more}
 use Rattle.ds_store.proofs.SweepLemmas.{once}

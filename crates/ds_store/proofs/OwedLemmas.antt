@@ -9,12 +9,15 @@ use Rattle.ds_join.specs.declared.merge.Merge.{Merge}
 use Rattle.ds_join.specs.declared.merge.Merge.TheVariants.{Taken, Known, Stale}
 use Rattle.ds_join.specs.Top.{tops}
 use Rattle.ds_pattern.specs.Under.{is_under}
-use Rattle.ds_store.specs.State.{State, Subscription, is_owed}
-use Rattle.ds_store.specs.Content.{Content, Followed, followed_of, owed_for, owed_each}
+use Rattle.ds_store.specs.State.{State}
+use Rattle.ds_watch.specs.Subscription.{Subscription, is_owed}
+use Rattle.ds_store.specs.Content.{Content}
+use Rattle.ds_watch.specs.Followed.{Followed, followed_of, owed_for, owed_each}
 use Rattle.ds_store.specs.Machine.{Course, item_merged, MergesItem}
 use Rattle.ds_store.specs.Stands.{Stands}
-use Rattle.ds_store.specs.Owed.{either, any_of, owed_after, flags_of}
-use Rattle.ds_store.specs.declared.subscriptions.Owed.{Owed}
+use Rattle.ds_watch.specs.Owed.{either, any_of, flags_of}
+use Rattle.ds_store.specs.Owed.{owed_after}
+use Rattle.ds_watch.specs.declared.subscriptions.Owed.{Owed}
 use Rattle.ds_store.specs.declared.judging.Cause.TheVariants as causes
 use Rattle.ds_store.proofs.MarkLemmas.{owed_as}
 use Rattle.ds_store.proofs.MergeLemmas.{judged}

@@ -23,10 +23,10 @@ use Rattle.ds_join.proofs.HeldLemmas.{Contains-held, held_at_key}
 use Rattle.ds_join.proofs.NextLemmas.{found_among, none_left}
 use Rattle.ds_join.proofs.TopLemmas.{top_is_unique, top_of_top, held_apart}
 use Rattle.ds_join.proofs.ExistLemmas.{tops_is_top}
-use Rattle.ds_store.specs.Content.{Followed, followed_of}
+use Rattle.ds_watch.specs.Followed.{Followed, followed_of}
 use Rattle.ds_store.specs.Judging.{held_at, TakesEffect}
 use Rattle.ds_store.specs.Kept.{IsWatching}
-use Rattle.ds_store.specs.Watching.{Watching}
+use Rattle.ds_watch.specs.Watching.{Watching}
 use Rattle.ds_store.specs.Stands.{WasAccepted}
 
 -- ---- what is held for a key, in the list and in the holding

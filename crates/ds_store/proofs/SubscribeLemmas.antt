@@ -13,13 +13,15 @@ use Rattle.ds_join.specs.Held.{Holding, held_changes, held_for, IsOwn}
 use Rattle.ds_join.specs.Top.{IsPartOf, tops}
 use Rattle.ds_join.proofs.ExistLemmas.{tops_is_top}
 use Rattle.ds_pattern.specs.declared.query.Query.{Query}
-use Rattle.ds_store.specs.State.{State, Subscription, is_unseen, unseen, subscription_at, subscribes, last_place}
-use Rattle.ds_store.specs.Content.{Content, Followed, followed_of}
+use Rattle.ds_store.specs.State.{State, unseen, subscription_at, subscribes, last_place}
+use Rattle.ds_watch.specs.Subscription.{Subscription, is_unseen}
+use Rattle.ds_store.specs.Content.{Content}
+use Rattle.ds_watch.specs.Followed.{Followed, followed_of}
 use Rattle.ds_store.specs.Judging.{first_cause, against_subscribe, against_check}
-use Rattle.ds_store.specs.Kept.{AreKept, followed_by}
+use Rattle.ds_store.specs.Kept.{AreKept, followed_by, keys_under}
 use Rattle.ds_store.specs.Machine.{Answers, IsRefusedFor, refusal_for, refused, subscribing, cause_against_subscribe, owed_at_first, shown_at_first, checking, checking_at, shows, has_unseen, held}
 use Rattle.ds_store.specs.Stands.{Stands, WasAccepted}
-use Rattle.ds_store.specs.Watching.{Watching, watching, keys_under, shown}
+use Rattle.ds_watch.specs.Watching.{Watching, watching, shown}
 use Rattle.ds_store.specs.declared.judging.Cause.{Cause}
 use Rattle.ds_store.specs.declared.judging.Cause.TheVariants.{NotFound, Worn}
 use Rattle.ds_store.specs.declared.refusal.Refusal.{Refusal}

@@ -1,16 +1,7 @@
 -- What callers see of a store.
-use Rattle.std.specs.Prelude.{ℕ, Bool, false, List, Option, None, Some, map}
-use Rattle.ds_names.specs.declared.key.Key.{Key}
+use Rattle.std.specs.Prelude.{ℕ, List, Option}
 use Rattle.ds_entry.specs.Change.{ChangeRecord}
-use Rattle.ds_pattern.specs.declared.query.Query.{Query}
-use Rattle.ds_pattern.specs.Under.{is_under}
-use Rattle.ds_store.specs.State.{Subscription, is_unseen}
-
--- a subscription, with a flag for each held change in key order: whether it is still to be shown
-pub record Followed : Type 0 where
-  pub query : Query
-  pub stamp : ℕ
-  pub unseen : List Bool
+use Rattle.ds_watch.specs.Followed.{Followed}
 
 pub record Content : Type 0 where
   -- for each key the change with the greatest version, in key order
@@ -22,20 +13,3 @@ pub record Content : Type 0 where
   pub incarnation : ℕ
   pub stamp : ℕ
   pub subscriptions : List (Option Followed)
-
--- what is to be shown to the subscription of what is held
-abbrev pub followed_of : List ChangeRecord → Subscription → Followed
-followed_of held sub = record { query = sub.query; stamp = sub.stamp; unseen = map (is_unseen sub.query sub.shown) held }
-
--- there is a subscription, and the key is under its query
-abbrev pub owes : Key → Option Followed → Bool
-owes key None = false
-owes key (Some f) = is_under f.query key
-
--- to which of the subscriptions a change of the key is owed
-abbrev pub owed_for : Key → List (Option Followed) → List Bool
-owed_for key subscriptions = map (owes key) subscriptions
-
--- the same for each of the changes
-abbrev pub owed_each : List (Option Followed) → List ChangeRecord → List (List Bool)
-owed_each subscriptions changes = map (λ (c : ChangeRecord). owed_for c.key subscriptions) changes

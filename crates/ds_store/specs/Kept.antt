@@ -1,20 +1,23 @@
 -- How a store's fields are seen as its content.
-use Rattle.std.specs.Prelude.{◌≡◌, ◌≤◌, true, List, Option, None, Some, is_some, length, map, Result, Ok, Err}
+use Rattle.std.specs.Prelude.{◌≡◌, ◌≤◌, true, List, Option, None, Some, is_some, length, map, filter, Result, Ok, Err}
 use Rattle.std.specs.List.{AllByRecursion}
 use Rattle.std.specs.List.Sorted.{IsStrictlySortedBy}
 use Rattle.std.specs.Option.{option_map}
 use Rattle.ds_names.specs.Key.{key_cmp}
 use Rattle.ds_names.specs.declared.key.Key.{Key}
 use Rattle.ds_entry.specs.Change.{ChangeRecord}
+use Rattle.ds_pattern.specs.declared.query.Query.{Query}
+use Rattle.ds_pattern.specs.Under.{is_under}
 use Rattle.ds_join.specs.declared.merge.Merge.{Merge}
 use Rattle.ds_join.specs.declared.merge.Merge.TheVariants.{Taken, Known, Stale}
 use Rattle.ds_join.specs.declared.merge.JoinFault.{JoinFault}
 use Rattle.ds_join.specs.declared.merge.JoinFault.TheVariants.{NotOwner, Clash, Full, NoRoom}
 use Rattle.ds_join.specs.Held.{held_changes}
 use Rattle.ds_store.specs.State.{last_place}
-use Rattle.ds_store.specs.Content.{Content, Followed}
+use Rattle.ds_store.specs.Content.{Content}
+use Rattle.ds_watch.specs.Followed.{Followed}
 use Rattle.ds_store.specs.Judging.{held_at}
-use Rattle.ds_store.specs.Watching.{Watching, has_key}
+use Rattle.ds_watch.specs.Watching.{Watching, has_key}
 use Rattle.ds_store.specs.declared.store.Store.TheInside.{Inside}
 
 -- the flags of a subscription's keys
@@ -31,6 +34,10 @@ content_of s = record {
   stamp = s.stamp;
   subscriptions = map (option_map (followed_by (held_changes s.held))) s.subscriptions;
 }
+
+-- the keys of the changes that are under the query
+abbrev pub keys_under : Query → List ChangeRecord → List Key
+keys_under query held = map (λ (c : ChangeRecord). c.key) (filter (λ (c : ChangeRecord). is_under query c.key) held)
 
 -- a subscription's keys are held, and stand in their order, each once
 pub record AreKept (held : List ChangeRecord) (keys : List Key) : Type 0 where

@@ -2,7 +2,6 @@ pub mod State
 pub mod Content
 pub mod Judging
 pub mod Machine
-pub mod Watching
 pub mod Owed
 pub mod Stands
 pub mod Kept

@@ -19,7 +19,8 @@ use Rattle.ds_pattern.specs.declared.query.Query.{Query}
 use Rattle.ds_pattern.specs.Under.{is_under}
 use Rattle.ds_pattern.specs.declared.pattern.PatternFault.{PatternFault}
 use Rattle.ds_pattern.specs.declared.pattern.PatternFault.TheVariants as faults
-use Rattle.ds_store.specs.State.{State, Subscription, accepts, position, owed, is_unseen, unseen, subscription_at, subscribes}
+use Rattle.ds_store.specs.State.{State, accepts, position, owed, unseen, subscription_at, subscribes}
+use Rattle.ds_watch.specs.Subscription.{Subscription, is_unseen}
 use Rattle.ds_store.specs.Judging.{first_cause, held_at, standing_of, against_change, against_asked, against_sweep, against_merge, against_subscribe, against_check, change_asked, published, deleted, name_of, tombstones}
 use Rattle.ds_store.specs.declared.store.asking.Asked.{Asked}
 use Rattle.ds_store.specs.declared.judging.Cause.{Cause}

@@ -5,10 +5,12 @@ use Rattle.std.specs.List.{AllByRecursion}
 use Rattle.ds_entry.specs.Change.{ChangeRecord}
 use Rattle.ds_entry.specs.SingleNumbered.{IsSingleNumbered}
 use Rattle.ds_join.specs.Top.{IsPartOf, tops}
-use Rattle.ds_store.specs.State.{State, Subscription, position, last_place}
+use Rattle.ds_store.specs.State.{State, position, last_place}
+use Rattle.ds_watch.specs.Subscription.{Subscription}
 use Rattle.ds_store.specs.declared.refusal.Refusal.{Refusal}
 use Rattle.ds_store.specs.declared.refusal.Refusal.TheVariants.{BadRing, BadFirst}
-use Rattle.ds_store.specs.Content.{Content, followed_of}
+use Rattle.ds_store.specs.Content.{Content}
+use Rattle.ds_watch.specs.Followed.{followed_of}
 
 -- a journal keeps 1 to 4096 changes
 pub record IsRing (ring : ℕ) : Type 0 where

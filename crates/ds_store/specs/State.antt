@@ -1,17 +1,10 @@
 -- The state of the store's machine, which keeps every change that took effect.
-use Rattle.std.specs.Prelude.{ℕ, ◌+◌, ◌*◌, ◌^◌, Bool, false, ◌&&◌, not, cond, List, [], ◌∷◌, ◌++◌, map, filter, replicate, length, slice_set, slice_index_or, Option, None, Some}
-use Rattle.std.specs.List.{list_any}
+use Rattle.std.specs.Prelude.{ℕ, ◌+◌, ◌^◌, List, [], ◌++◌, map, filter, replicate, length, slice_set, slice_index_or, Option, None, Some}
 use Rattle.ds_entry.specs.Change.{ChangeRecord}
-use Rattle.ds_entry.specs.Covers.{covers}
 use Rattle.ds_join.specs.Top.{tops}
 use Rattle.ds_pattern.specs.declared.query.Query.{Query}
-use Rattle.ds_pattern.specs.Under.{is_under}
-
--- what one subscriber asked for, the stamp of its last subscribe or check, and every change that it was shown
-pub record Subscription : Type 0 where
-  pub query : Query
-  pub stamp : ℕ
-  pub shown : List ChangeRecord
+use Rattle.ds_watch.specs.Subscription.{Subscription, is_unseen, is_owed}
+use Rattle.ds_watch.specs.Owed.{mask}
 
 pub record State : Type 0 where
   -- the changes that took effect, in order; the one at index i has the position `first` + i
@@ -37,10 +30,6 @@ position s = s.first + length s.accepted
 abbrev pub accepts : State → List ChangeRecord → State
 accepts s changes = record s { accepted = s.accepted ++ changes }
 
--- a change under the query that nothing shown covers
-abbrev pub is_unseen : Query → List ChangeRecord → ChangeRecord → Bool
-is_unseen query shown c = is_under query c.key && not (list_any (λ d. covers d c) shown)
-
 -- what is still to be shown to the subscription: the tops that are unseen, in key order, tombstones too
 abbrev pub unseen : State → Subscription → List ChangeRecord
 unseen s sub = filter (is_unseen sub.query sub.shown) (tops s.accepted)
@@ -55,16 +44,6 @@ subscribes s sub query shown = record s {
   stamp = s.stamp + 1;
   subscriptions = slice_set s.subscriptions sub (Some (record { query = query; stamp = s.stamp + 1; shown = shown }));
 }
-
--- one of the changes is of a key under the subscription's query
-abbrev pub is_owed : List ChangeRecord → Option Subscription → Bool
-is_owed changes None = false
-is_owed changes (Some sub) = list_any (λ (c : ChangeRecord). is_under sub.query c.key) changes
-
--- the number whose bits these are, the lowest first
-abbrev pub mask : List Bool → ℕ
-mask [] = 0
-mask (bit ∷ bits) = cond bit 1 0 + 2 * mask bits
 
 -- the subscriptions to which some of the changes are owed, as a mask
 abbrev pub owed : State → List ChangeRecord → ℕ

@@ -16,8 +16,6 @@ mod laws;
 mod refusal;
 mod search;
 mod store;
-mod subscription;
-mod subscriptions;
 
 pub use command::{Command, Reply};
 pub use laws::run;

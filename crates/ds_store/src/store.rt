@@ -3,8 +3,9 @@
 ghost use Rattle.std.specs.Prelude.{◌≡◌, ◌≢◌, ◌<◌, ◌≤◌, ◌+◌, List, [], ◌∷◌, ◌++◌, length, map, None, IfOk, IfErr, OnOk, OnErr};
 ghost use Rattle.ds_join.specs.Held.{held_changes};
 ghost use Rattle.ds_join.specs.Top.{IsTop};
-ghost use Rattle.ds_store.specs.State.{State, opening, accepts, is_owed, last_place};
-ghost use Rattle.ds_store.specs.Content.{owed_for};
+ghost use Rattle.ds_store.specs.State.{State, opening, accepts, last_place};
+ghost use Rattle.ds_watch.specs.Subscription.{is_owed};
+ghost use Rattle.ds_watch.specs.Followed.{owed_for};
 ghost use Rattle.ds_store.specs.Judging.{held_at, TakesEffect};
 ghost use Rattle.ds_store.specs.Kept.{IsTakenOrNoRoom};
 ghost use Rattle.ds_store.specs.Stands.{Stands, IsOpenFault, IsRing};
@@ -13,11 +14,11 @@ use crate::command::{Command, Reply};
 use crate::judging::LAST_PLACE;
 use crate::refusal::Refusal;
 use crate::search::name_of;
-use crate::subscriptions::{Owed, Subscriptions};
 use asking::{deleted, published};
 use ds_entry::{Body, Change};
 use ds_join::{Held, JoinFault, Merge};
 use ds_names::{Endpoint, Key, NoRoom};
+use ds_watch::{Owed, Subscriptions};
 use std::alloc::Global;
 use std::marker::Model;
 

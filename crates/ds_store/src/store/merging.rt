@@ -2,7 +2,7 @@
 
 ghost use Rattle.std.specs.Prelude.{◌≡◌, ◌<◌, length, IfNone};
 ghost use Rattle.ds_store.specs.State.{State, last_place};
-ghost use Rattle.ds_store.specs.Content.{owed_for};
+ghost use Rattle.ds_watch.specs.Followed.{owed_for};
 ghost use Rattle.ds_store.specs.Machine.{Step, MergesItem, taken_by, stale_by, passed_as};
 ghost use Rattle.ds_store.specs.Owed.{owed_after};
 ghost use Rattle.ds_store.specs.Judging.{first_cause, standing_of, held_at, against_change, TakesEffect};
@@ -12,10 +12,10 @@ use crate::command::{Command, Reply};
 use crate::judging::{Cause, judge_change, refusal_for};
 use crate::refusal::Refusal;
 use crate::store::Store;
-use crate::subscriptions::Owed;
 use ds_entry::{Change, Items};
 use ds_join::Merge;
 use ds_names::{Key, NoRoom};
+use ds_watch::Owed;
 
 impl Store {
     // The first cause against a change that another holder gave.

@@ -1,24 +1,26 @@
 //! Subscriptions and their checks.
 
-ghost use Rattle.std.specs.Prelude.{◌≡◌, ◌<◌, ◌^◌, [], cond, None, is_some, slice_index_or, filter_map, IfOk, IfErr, OnOk};
+ghost use Rattle.std.specs.Prelude.{◌≡◌, ◌<◌, ◌≤◌, ◌^◌, [], cond, None, is_some, slice_index_or, filter_map, IfOk, IfErr, OnOk};
+ghost use Rattle.std.specs.List.Sorted.{IsStrictlySortedBy};
+ghost use Rattle.std.specs.Vec.{vec_capacity};
+ghost use Rattle.ds_names.specs.Key.{key_cmp};
 ghost use Rattle.ds_join.specs.Held.{held_changes, held_for};
 ghost use Rattle.ds_store.specs.State.{State, last_place};
 ghost use Rattle.ds_store.specs.Judging.{first_cause, against_subscribe};
-ghost use Rattle.ds_store.specs.Machine.{Answers, subscribing, checking, IsRefusedFor, owed_at_first};
-ghost use Rattle.ds_store.specs.Kept.{AreKept};
-ghost use Rattle.ds_store.specs.Watching.{watching, keys_under};
-ghost use Rattle.ds_store.specs.Machine.{refusal_of};
+ghost use Rattle.ds_store.specs.Machine.{Answers, subscribing, checking, IsRefusedFor, owed_at_first, refusal_of};
+ghost use Rattle.ds_store.specs.Kept.{AreKept, keys_under};
+ghost use Rattle.ds_watch.specs.Watching.{watching};
 ghost use Rattle.ds_store.specs.Stands.{Stands};
 
 use crate::command::Reply;
 use crate::judging::LAST_PLACE;
 use crate::refusal::Refusal;
 use crate::store::Store;
-use crate::subscription::Subscription;
 use ds_entry::Items;
 use ds_join::Held;
 use ds_names::{Key, NoRoom};
 use ds_pattern::{Filter, PatternFault, Query};
+use ds_watch::{MOST_KEYS, Subscription};
 use std::alloc::Global;
 
 // The refusal of a query whose pattern isn't read.
@@ -30,6 +32,25 @@ fn refusal_of(fault: PatternFault) -> Refusal
         PatternFault::BadPattern => Refusal::BadPattern,
         PatternFault::NoRoom => Refusal::NoRoom,
     }
+}
+
+// The keys of what is held under the query, in their order, with room for those of a full store.
+fn keys_under(alloc: Global, filter: &Filter, held: &Held) -> Result<Vec<Key>, NoRoom>
+    ensures keys { IfOk result (λ keys. keys.items ≡ keys_under filter.now (held_changes held.now)) }
+    ensures in_order { OnOk result (IsStrictlySortedBy key_cmp (keys_under filter.now (held_changes held.now))) }
+    ensures room { IfOk result (λ keys. 1024 ≤ vec_capacity keys) }
+{
+    let _count = held.len();
+    let mut keys = Vec::with_capacity(alloc, MOST_KEYS)?;
+    let mut last: Option<Key> = None;
+    while let Some(change) = held.first_after(last.as_ref()) {
+        let key = *change.key();
+        if filter.admits(alloc, &key)? {
+            keys.push(key)?;
+        }
+        last = Some(key);
+    }
+    Ok(keys)
 }
 
 // The changes that are held for the keys.
@@ -84,11 +105,11 @@ impl Store {
         ensures kept { IfOk result (λ made. AreKept self.now.held made.unseen) }
     {
         let _count = self.held.len();
-        if initial {
-            Subscription::initial(self.alloc, filter, stamp, &self.held)
-        } else {
-            Subscription::later(self.alloc, filter, stamp)
+        if !initial {
+            return Subscription::later(self.alloc, filter, stamp);
         }
+        let unseen = keys_under(self.alloc, &filter, &self.held)?;
+        Ok(Subscription::initial(filter, stamp, unseen))
     }
 
     // A subscription is made at the place, over another one only with `overwrite`.

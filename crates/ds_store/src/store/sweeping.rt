@@ -8,9 +8,9 @@ ghost use Rattle.ds_entry.specs.Change.{IsChange};
 ghost use Rattle.ds_entry.specs.Covers.{change_cmp};
 ghost use Rattle.ds_join.specs.Reading.{comes_after};
 ghost use Rattle.ds_join.specs.Top.{IsTop};
-ghost use Rattle.ds_store.specs.State.{State, accepts, last_place, mask};
-ghost use Rattle.ds_store.specs.Content.{owed_for, owed_each};
-ghost use Rattle.ds_store.specs.Owed.{any_of, flags_of};
+ghost use Rattle.ds_store.specs.State.{State, accepts, last_place};
+ghost use Rattle.ds_watch.specs.Owed.{mask, any_of, flags_of};
+ghost use Rattle.ds_watch.specs.Followed.{owed_for, owed_each};
 ghost use Rattle.ds_store.specs.Judging.{held_at, is_swept, tombstone, tombstones, TakesPlace};
 ghost use Rattle.ds_store.specs.Machine.{Step};
 ghost use Rattle.ds_store.specs.Stands.{Stands};
@@ -19,9 +19,9 @@ use crate::command::{Command, Reply};
 use crate::judging::{LAST_PLACE, is_label, is_put, is_rs};
 use crate::refusal::Refusal;
 use crate::store::Store;
-use crate::subscriptions::Owed;
 use ds_entry::{Body, Change};
 use ds_names::{Endpoint, Generation, Key, Name, NoRoom, Version};
+use ds_watch::Owed;
 
 // Whether a sweep ends the entry.
 fn is_swept(change: &Change, owner: &Name, generation: Generation) -> bool

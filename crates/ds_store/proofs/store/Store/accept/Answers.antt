@@ -7,11 +7,12 @@ use Rattle.ds_names.specs.declared.key.Key.{Key}
 use Rattle.ds_join.specs.Held.{held_changes}
 use Rattle.ds_join.specs.Top.{IsTop}
 use Rattle.ds_store.specs.State.{accepts}
-use Rattle.ds_store.specs.Content.{Content, owed_for}
+use Rattle.ds_store.specs.Content.{Content}
+use Rattle.ds_watch.specs.Followed.{owed_for}
 use Rattle.ds_store.specs.Judging.{held_at, TakesEffect}
 use Rattle.ds_store.specs.Kept.{IsWatching, followed_by, content_of}
 use Rattle.ds_store.specs.Stands.{Stands}
-use Rattle.ds_store.specs.Watching.{Watching, watches, marked, HasRoom}
+use Rattle.ds_watch.specs.Watching.{Watching, watches, marked, HasRoom}
 use Rattle.ds_store.proofs.StandsLemmas.{count_held}
 use Rattle.ds_store.proofs.AnswerLemmas.{taken_or_no_room, no_room_for_new, on_err}
 use Rattle.ds_store.proofs.MarkLemmas.{stands_marked, room_for, all_marked_kept, watch_flags, marked_flags}

@@ -1,8 +1,9 @@
 use Rattle.std.proofs.Common.{◌≡◌, ◌∷◌, [], ap, sym, ◌∙◌}
 use Rattle.ds_names.specs.declared.key.Key.{Key}
 use Rattle.ds_entry.specs.Change.{ChangeRecord}
-use Rattle.ds_store.specs.State.{accepts, mask, owed}
-use Rattle.ds_store.specs.Content.{owed_for}
+use Rattle.ds_store.specs.State.{accepts, owed}
+use Rattle.ds_watch.specs.Owed.{mask}
+use Rattle.ds_watch.specs.Followed.{owed_for}
 use Rattle.ds_store.proofs.AnswerLemmas.{asked_taken}
 use Rattle.ds_store.proofs.MarkLemmas.{owed_as}
 use Rattle.ds_store.proofs.store.Store.ask.Goals as goal

@@ -11,7 +11,7 @@ use Rattle.ds_store.specs.Content.{Content}
 use Rattle.ds_store.specs.Kept.{AreKept, IsWatching, followed_by, content_of}
 use Rattle.ds_store.specs.Machine.{Answers, checking}
 use Rattle.ds_store.specs.Stands.{Stands}
-use Rattle.ds_store.specs.Watching.{Watching, shown}
+use Rattle.ds_watch.specs.Watching.{Watching, shown}
 use Rattle.ds_store.specs.declared.judging.Cause.TheVariants.{NotFound}
 use Rattle.ds_store.specs.declared.command.Reply.TheVariants.{Checked}
 use Rattle.ds_store.proofs.CheckLemmas.{all_set, all_at, at_map, is_some-map, kept_drop}

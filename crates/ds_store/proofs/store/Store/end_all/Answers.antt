@@ -4,8 +4,9 @@ use Rattle.ds_join.specs.Reading.{comes_after}
 use Rattle.ds_join.proofs.NextLemmas.{found_among}
 use Rattle.ds_entry.specs.Change.{ChangeRecord}
 use Rattle.ds_names.specs.declared.key.Key.{Key}
-use Rattle.ds_store.specs.Content.{Content, owed_for, owed_each}
-use Rattle.ds_store.specs.Owed.{flags_of}
+use Rattle.ds_store.specs.Content.{Content}
+use Rattle.ds_watch.specs.Followed.{owed_for, owed_each}
+use Rattle.ds_watch.specs.Owed.{flags_of}
 use Rattle.ds_store.proofs.OwedLemmas.{NextFlags, next_flags, same_each}
 use Rattle.ds_store.specs.Judging.{held_at, is_swept, tombstones, TakesPlace}
 use Rattle.ds_store.proofs.SweepLemmas.{Ending, left, left_at_first, next_left, ending_starts, ending_goes_on, ending_passes, ending_ends, takes_place, next_ended, fewer_after, same_after}

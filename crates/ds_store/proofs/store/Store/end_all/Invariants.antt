@@ -1,7 +1,7 @@
 use Rattle.std.proofs.Common.{◌≡◌, map, drop, length, filter}
 use Rattle.ds_join.specs.Reading.{comes_after}
-use Rattle.ds_store.specs.Content.{owed_each}
-use Rattle.ds_store.specs.Owed.{flags_of}
+use Rattle.ds_watch.specs.Followed.{owed_each}
+use Rattle.ds_watch.specs.Owed.{flags_of}
 use Rattle.ds_store.proofs.SweepLemmas.{Ending, left}
 use Rattle.ds_store.proofs.store.Store.end_all.Given as goal
 

@@ -2,7 +2,9 @@ use Rattle.std.proofs.Common.{◌≡◌, ◌<◌, ◌-◌, ◌+◌, Some, None, 
 use Rattle.std.specs.Prelude.{slice_get}
 use Rattle.std.specs.Option.{option_copied}
 use Rattle.std.proofs.lemmas.Option.{slice_get_within}
-use Rattle.ds_store.specs.State.{State, is_owed, mask}
+use Rattle.ds_store.specs.State.{State}
+use Rattle.ds_watch.specs.Subscription.{is_owed}
+use Rattle.ds_watch.specs.Owed.{mask}
 use Rattle.ds_store.specs.Stands.{Stands}
 use Rattle.ds_store.specs.Machine.{Course, course}
 use Rattle.ds_store.proofs.MergeLemmas.{next_course, next_reached, merge_stopped, merge_done, taken_within, stale_within}

@@ -1,7 +1,8 @@
 use Rattle.std.proofs.Common.{◌≡◌, ◌≤◌, ◌-◌, map, length, take}
 use Rattle.ds_names.specs.declared.key.Key.{Key}
-use Rattle.ds_store.specs.State.{State, is_owed}
-use Rattle.ds_store.specs.Content.{owed_for}
+use Rattle.ds_store.specs.State.{State}
+use Rattle.ds_watch.specs.Subscription.{is_owed}
+use Rattle.ds_watch.specs.Followed.{owed_for}
 use Rattle.ds_store.specs.Stands.{Stands}
 use Rattle.ds_store.specs.Machine.{course}
 use Rattle.ds_store.proofs.MergeLemmas.{Reached}

@@ -1,9 +1,10 @@
 use Rattle.std.proofs.Common.{◌≡◌, map, ap, sym, ◌∙◌}
 use Rattle.ds_join.specs.Held.{held_changes}
-use Rattle.ds_store.specs.Content.{Content, owed_for}
-use Rattle.ds_store.specs.Watching.{watches}
-use Rattle.ds_store.specs.Owed.{flags_of}
-use Rattle.ds_store.specs.declared.subscriptions.Owed.{Owed}
+use Rattle.ds_store.specs.Content.{Content}
+use Rattle.ds_watch.specs.Followed.{owed_for}
+use Rattle.ds_watch.specs.Watching.{watches}
+use Rattle.ds_watch.specs.Owed.{flags_of}
+use Rattle.ds_watch.specs.declared.subscriptions.Owed.{Owed}
 use Rattle.ds_store.proofs.MarkLemmas.{watch_flags, if_ok}
 use Rattle.ds_store.proofs.store.Store.owed.Goals as goal
 

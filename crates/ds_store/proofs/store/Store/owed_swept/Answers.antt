@@ -5,10 +5,10 @@ use Rattle.std.specs.List.{find}
 use Rattle.ds_join.specs.Reading.{comes_after}
 use Rattle.ds_entry.specs.Change.{ChangeRecord}
 use Rattle.ds_names.specs.declared.key.Key.{Key}
-use Rattle.ds_store.specs.Content.{owed_for, owed_each}
+use Rattle.ds_watch.specs.Followed.{owed_for, owed_each}
 use Rattle.ds_store.specs.Judging.{tombstones, tombstone}
-use Rattle.ds_store.specs.Owed.{flags_of}
-use Rattle.ds_store.specs.declared.subscriptions.Owed.{Owed}
+use Rattle.ds_watch.specs.Owed.{flags_of}
+use Rattle.ds_watch.specs.declared.subscriptions.Owed.{Owed}
 use Rattle.ds_store.proofs.OwedLemmas.{each_added}
 use Rattle.ds_store.proofs.SweepLemmas.{left, left_at_first, left_at_last, next_ended, next_left, fewer_after}
 use Rattle.ds_store.proofs.store.Store.owed_swept.Goals as goal

@@ -1,8 +1,8 @@
 use Rattle.std.proofs.Common.{◌≡◌, ◌++◌, map, length, filter}
 use Rattle.ds_join.specs.Reading.{comes_after}
-use Rattle.ds_store.specs.Content.{owed_each}
+use Rattle.ds_watch.specs.Followed.{owed_each}
 use Rattle.ds_store.specs.Judging.{tombstones}
-use Rattle.ds_store.specs.Owed.{flags_of}
+use Rattle.ds_watch.specs.Owed.{flags_of}
 use Rattle.ds_store.proofs.SweepLemmas.{left}
 use Rattle.ds_store.proofs.store.Store.owed_swept.Given as goal
 

@@ -6,11 +6,11 @@ use Rattle.ds_join.specs.Held.{held_changes}
 use Rattle.ds_pattern.specs.declared.query.Query.{Query}
 use Rattle.ds_store.specs.State.{subscribes}
 use Rattle.ds_store.specs.Content.{Content}
-use Rattle.ds_store.specs.Kept.{AreKept, IsWatching, followed_by, content_of}
+use Rattle.ds_store.specs.Kept.{AreKept, IsWatching, followed_by, content_of, keys_under}
 use Rattle.ds_store.specs.Machine.{shown_at_first, owed_at_first}
 use Rattle.ds_store.specs.Judging.{first_cause, against_subscribe}
 use Rattle.ds_store.specs.Stands.{Stands}
-use Rattle.ds_store.specs.Watching.{Watching, watching, keys_under}
+use Rattle.ds_watch.specs.Watching.{Watching, watching}
 use Rattle.ds_store.proofs.CheckLemmas.{all_set}
 use Rattle.ds_store.proofs.SubscribeLemmas.{subscribe_refused, subscribe_made, subscribed_stands, owed_first}
 use Rattle.ds_store.proofs.store.Store.subscribe.Goals as goal

@@ -5,11 +5,11 @@ use Rattle.ds_entry.specs.Change.{ChangeRecord}
 use Rattle.ds_join.specs.Held.{held_changes}
 use Rattle.ds_join.specs.Top.{tops}
 use Rattle.ds_store.specs.Kept.{followed_by}
-use Rattle.ds_store.specs.Owed.{any_of, flags_of}
-use Rattle.ds_store.specs.declared.subscriptions.Owed.{Owed}
+use Rattle.ds_watch.specs.Owed.{any_of, flags_of, mask}
+use Rattle.ds_watch.specs.declared.subscriptions.Owed.{Owed}
 use Rattle.ds_store.proofs.OwedLemmas.{all_owed}
 use Rattle.ds_store.specs.Content.{Content}
-use Rattle.ds_store.specs.State.{accepts, owed, mask, last_place}
+use Rattle.ds_store.specs.State.{accepts, owed, last_place}
 use Rattle.ds_store.specs.Judging.{is_rs, tombstones}
 use Rattle.ds_store.proofs.SweepLemmas.{sweep_done}
 use Rattle.ds_store.proofs.store.Store.sweep.Goals as goal

@@ -1,5 +1,5 @@
 use Rattle.std.proofs.Common.{◌≡◌, map, take}
-use Rattle.ds_store.specs.Owed.{any_of, flags_of}
+use Rattle.ds_watch.specs.Owed.{any_of, flags_of}
 use Rattle.ds_store.proofs.store.sweeping.mask_of_all.Given as goal
 
 -- the flags of any so far

@@ -1,0 +1,4 @@
+pub mod Subscription
+pub mod Followed
+pub mod Watching
+pub mod Owed

@@ -1,0 +1,12 @@
+//! Subscriptions: what each asks for, what is still to be shown to it, and to which of them changes are owed.
+//!
+//! A subscriber of MINIX 3's data store (DS) asks for the entries whose names a regular expression matches, is
+//! told that some changed, and then checks which (the DS interface of MINIX 3; Herder and others, DSN 2007).
+//! That there are 64 at most, and that stamps tell one check from another, is of this project.
+#![tactic(auto)]
+
+mod subscription;
+mod subscriptions;
+
+pub use subscription::{MOST_KEYS, Subscription};
+pub use subscriptions::{Owed, Subscriptions};
