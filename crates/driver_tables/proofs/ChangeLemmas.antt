@@ -253,7 +253,7 @@ reached_moved t label state h has old = record {
     ask = settle t.units label state
 
 -- the state that a label has already leaves all but its note as it is
-same_state : (a b : Option EndpointRecord) → is_same_state a b ≡ true → a ≡ b
+pub same_state : (a b : Option EndpointRecord) → is_same_state a b ≡ true → a ≡ b
 same_state None None h = refl
 same_state None (Some e) h = cc
 same_state (Some d) None h = cc

@@ -8,3 +8,5 @@ pub mod AssignLemmas
 pub mod SubmitLemmas
 pub mod ReplyLemmas
 pub mod ChangeLemmas
+pub mod RunLemmas
+pub mod LawLemmas

@@ -196,9 +196,9 @@ new_served t new d found a s = record {
     fits Network None = tt
 
 -- ---- all together
-all_and_one : {P : Request → Type 0} (l : List Request) (r : Request) → AllByRecursion P l → P r → AllByRecursion P (l ++ r ∷ [])
-all_and_one [] r h p = (p, tt)
-all_and_one (x ∷ l) r h p = (h.0, all_and_one l r h.1 p)
+all_and_one : (P : Request → Type 0) (l : List Request) (r : Request) → AllByRecursion P l → P r → AllByRecursion P (l ++ r ∷ [])
+all_and_one P [] r h p = (p, tt)
+all_and_one P (x ∷ l) r h p = (h.0, all_and_one P l r h.1 p)
 
 pub reached_taken : (t : DriverTable) (new : Request) (d : Driver) → IsReached t → is_above t.requests new.id ≡ true → driver_of t.units new.unit ≡ Some d → IsReached (taken t new (move_of t new d))
 reached_taken t new d h above_all found = record {
@@ -212,7 +212,7 @@ reached_taken t new d h above_all found = record {
       let before = h.unasked k parts.0 in
       (values-append k t.sends (sent_by m ++ []) ∙ (ap (λ (l : List EndpointRecord). l ++ values_of k (sent_by m ++ [])) before.0 ∙ other_send m new.id k own other),
        values-append k t.answers (answered_by m ++ []) ∙ (ap (λ (l : List Ending). l ++ values_of k (answered_by m ++ [])) before.1 ∙ other_answer m new.id k own other));
-  served = all_and_one t.requests new (served_before t new m t.requests (before_follow t new.id m own t.requests others) h.served) (new_served t new d found fresh.1 fresh.0);
+  served = all_and_one (IsServed (taken t new m)) t.requests new (served_before t new m t.requests (before_follow t new.id m own t.requests others) h.served) (new_served t new d found fresh.1 fresh.0);
 }
   where
     m : Move

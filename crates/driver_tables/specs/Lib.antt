@@ -13,3 +13,5 @@ pub mod Stands
 pub mod Value
 pub mod Devices
 pub mod Requests
+pub mod Run
+pub mod Laws
