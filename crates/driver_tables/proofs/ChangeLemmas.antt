@@ -167,9 +167,10 @@ labels_still t label state has h other none = by (is_same_name label other) refl
     by : (b : Bool) → is_same_name label other ≡ b → (endpoint_now (t.states ++ s ∷ []) other ≡ None) × (newest (t.states ++ s ∷ []) other ≡ None)
     by true e = let k : true ≡ false = sym has ∙ (ap (has_label t.units) (same_name label other e) ∙ none) in absurd (cc)
     by false e =
-        let before = h.labels other none in
-        (now_after t.states s other ∙ (ap (λ (b : Bool). cond b state (endpoint_now t.states other)) e ∙ before.0),
-         newest_after t.states s other ∙ (ap (λ (b : Bool). cond b (newer (newest t.states other) state) (newest t.states other)) e ∙ before.1))
+        let before = h.labels other none in (
+          now_after t.states s other ∙ (ap (λ (b : Bool). cond b state (endpoint_now t.states other)) e ∙ before.0),
+          newest_after t.states s other ∙ (ap (λ (b : Bool). cond b (newer (newest t.states other) state) (newest t.states other)) e ∙ before.1),
+        )
 
 -- a state that isn't old has the greatest generation
 newer_is : (g : Option ℕ) (now : Option EndpointRecord) (e : EndpointRecord) → is_old g now (Some e) ≡ false → newer g (Some e) ≡ Some e.generation
@@ -204,10 +205,12 @@ current_still t label state old h other e k = by (is_same_name label other) refl
 served_moved : (t : DriverTable) (label : List ℕ) (state : Option EndpointRecord) (requests : List Request) → AllByRecursion (λ (r : Request). Follows t (more_answers t label state) (more_sends t label state) r (settle t.units label state r)) requests →
     AllByRecursion (IsServed t) requests → AllByRecursion (IsServed (moved t label state)) requests
 served_moved t label state [] f h = tt
-served_moved t label state (r ∷ requests) f h =
-    (served_after t (moved t label state) (more_answers t label state) (more_sends t label state) r (settle t.units label state r) f.0 h.0 refl refl h.0.found
-         (λ o. subst (λ (m : Option Move). IsAnsweredBy d.class (endings m)) (sym asks) (fits (is_same_name label d.label) d.class state))
-         (λ o. subst (λ (m : Option Move). Reaches (endpoint_now t.states d.label) (endpoint_now (moved t label state).states d.label) m) (sym asks) (reaches (is_same_name label d.label) refl d.class state refl)), served_moved t label state requests f.1 h.1)
+served_moved t label state (r ∷ requests) f h = (
+  served_after t (moved t label state) (more_answers t label state) (more_sends t label state) r (settle t.units label state r) f.0 h.0 refl refl h.0.found
+      (λ o. subst (λ (m : Option Move). IsAnsweredBy d.class (endings m)) (sym asks) (fits (is_same_name label d.label) d.class state))
+      (λ o. subst (λ (m : Option Move). Reaches (endpoint_now t.states d.label) (endpoint_now (moved t label state).states d.label) m) (sym asks) (reaches (is_same_name label d.label) refl d.class state refl)),
+  served_moved t label state requests f.1 h.1,
+)
   where
     d : Driver
     d = h.0.driver
@@ -243,9 +246,10 @@ reached_moved t label state h has old = record {
   distinct = h.distinct;
   unasked = λ k none.
       let before = h.unasked k none in
-      let differ = all_differ t.requests k none in
-      (values-append k t.sends (more_sends t label state) ∙ (ap (λ (l : List EndpointRecord). l ++ values_of k (more_sends t label state)) before.0 ∙ none_left sent targets sends_left ask (settle_own t.units label state) (is_pending t.answers) k t.requests differ),
-       values-append k t.answers (more_answers t label state) ∙ (ap (λ (l : List Ending). l ++ values_of k (more_answers t label state)) before.1 ∙ none_left answered endings answers_left ask (settle_own t.units label state) (is_pending t.answers) k t.requests differ));
+      let differ = all_differ t.requests k none in (
+        values-append k t.sends (more_sends t label state) ∙ (ap (λ (l : List EndpointRecord). l ++ values_of k (more_sends t label state)) before.0 ∙ none_left sent targets sends_left ask (settle_own t.units label state) (is_pending t.answers) k t.requests differ),
+        values-append k t.answers (more_answers t label state) ∙ (ap (λ (l : List Ending). l ++ values_of k (more_answers t label state)) before.1 ∙ none_left answered endings answers_left ask (settle_own t.units label state) (is_pending t.answers) k t.requests differ),
+      );
   served = served_moved t label state t.requests (all_follow t label state h) h.served;
 }
   where

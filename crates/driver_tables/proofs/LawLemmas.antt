@@ -237,7 +237,7 @@ goes_so t (Changed label state) moves h after e = by (has_label t.units label) (
         let u = does (notes t label state) (all_moves t label state) in
         subst (AllByRecursion (GoesToLiving u)) all
         (all_append (GoesToLiving u) (filter_map (start label state) t.units) (filter_map (settle t.units label state) (pending t))
-             (starts_go t u label state after refl refl t.units h.units) (settles_go t u label state after refl refl refl (is_pending t.answers) t.requests (find_itself t.requests h.distinct)))
+        (starts_go t u label state after refl refl t.units h.units) (settles_go t u label state after refl refl refl (is_pending t.answers) t.requests (find_itself t.requests h.distinct)))
 goes_so t (Submit id unit) moves h after e = by (is_above t.requests id) refl (driver_of t.units unit) refl after e
   where
     r : Request
@@ -346,10 +346,12 @@ kept_from t r d (Fault ∷ y ∷ l) q Network b h sent = absurd h
 
 kept_each : (t : DriverTable) (requests : List Request) → AllByRecursion (IsServed t) requests → AllByRecursion (λ (r : Request). (d : Driver) → driver_of t.units r.unit ≡ Some d → d.class ≡ Block → IsKept t r d) requests
 kept_each t [] h = tt
-kept_each t (r ∷ requests) h =
-    (λ d found block.
-         let same : h.0.driver ≡ d = one h.0.driver d (sym h.0.found ∙ found) in
-         subst (IsKept t r) same (kept_from t r h.0.driver (values_of r.id t.answers) refl h.0.driver.class (ap (λ (x : Driver). x.class) same ∙ block) h.0.answered h.0.sent), kept_each t requests h.1)
+kept_each t (r ∷ requests) h = (
+  λ d found block.
+      let same : h.0.driver ≡ d = one h.0.driver d (sym h.0.found ∙ found) in
+      subst (IsKept t r) same (kept_from t r h.0.driver (values_of r.id t.answers) refl h.0.driver.class (ap (λ (x : Driver). x.class) same ∙ block) h.0.answered h.0.sent),
+  kept_each t requests h.1,
+)
   where
     one : (a b : Driver) → Some a ≡ Some b → a ≡ b
     one a b e = cc

@@ -145,6 +145,7 @@ module _ {X : Type 0} (all : Option Move → List (ℕ × X)) (values : Option M
   pub each_left : (requests : List Request) → IsDistinct (λ (r s : Request). r.id == s.id) requests → AllByRecursion (λ (r : Request). values_of r.id (parts all ask test requests) ≡ value r) requests
   unfolding IsDistinct
   each_left [] h = tt
-  each_left (r ∷ requests) h =
-      (values-append r.id (part r) (parts all ask test requests) ∙ (ap (λ (l : List X). values_of r.id (part r) ++ l) (none_left r.id requests (turned r requests h.0)) ∙ (append-nil (values_of r.id (part r)) ∙ part_own r)),
-       behind r (parts all ask test requests) requests h.0 (each_left requests h.1))
+  each_left (r ∷ requests) h = (
+    values-append r.id (part r) (parts all ask test requests) ∙ (ap (λ (l : List X). values_of r.id (part r) ++ l) (none_left r.id requests (turned r requests h.0)) ∙ (append-nil (values_of r.id (part r)) ∙ part_own r)),
+    behind r (parts all ask test requests) requests h.0 (each_left requests h.1),
+  )

@@ -124,9 +124,10 @@ reached_finished t id h there = record {
   current = h.current;
   distinct = h.distinct;
   unasked = λ k none.
-      let before = h.unasked k none in
-      (ap (values_of k) (append-nil t.sends) ∙ before.0,
-       values-append k t.answers ((id, Done) ∷ []) ∙ (ap (λ (l : List Ending). l ++ values_of k ((id, Done) ∷ [])) before.1 ∙ answers_left.other (Some (Answer id Done)) id k refl (differs k none)));
+      let before = h.unasked k none in (
+        ap (values_of k) (append-nil t.sends) ∙ before.0,
+        values-append k t.answers ((id, Done) ∷ []) ∙ (ap (λ (l : List Ending). l ++ values_of k ((id, Done) ∷ [])) before.1 ∙ answers_left.other (Some (Answer id Done)) id k refl (differs k none)),
+      );
   served = served_still t id t.requests (open_id t.answers t.requests id there) h.served;
 }
   where

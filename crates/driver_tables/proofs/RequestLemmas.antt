@@ -82,7 +82,7 @@ pending_after t answers sends ask (r ∷ requests) h = by (is_pending t.answers 
         retain_mut (λ p. stays_pending (ask p)) (λ p. kept_after (ask p) p) (map (pending_of t.sends) (cond b (r ∷ filter (is_pending t.answers) requests) (filter (is_pending t.answers) requests))) ≡ map (pending_of (t.sends ++ sends)) (cond (is_pending (t.answers ++ answers) r) (r ∷ filter (is_pending (t.answers ++ answers)) requests) (filter (is_pending (t.answers ++ answers)) requests))
     by false e a s rest =
         rest ∙ sym (ap (λ (b : Bool). map (pending_of (t.sends ++ sends)) (cond b (r ∷ filter (is_pending (t.answers ++ answers)) requests) (filter (is_pending (t.answers ++ answers)) requests)))
-            (ap is_empty (values-append r.id t.answers answers) ∙ more_old old (values_of r.id answers) e))
+        (ap is_empty (values-append r.id t.answers answers) ∙ more_old old (values_of r.id answers) e))
     by true e a s rest = at (stays_pending m) refl
       where
         now : is_pending (t.answers ++ answers) r ≡ stays_pending m

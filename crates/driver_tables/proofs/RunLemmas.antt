@@ -148,10 +148,11 @@ tells_run t u (entry ∷ entries) run =
     let mid = run.0 in
     let first = tells_step t mid entry.call entry.answer run.1 in
     let rest = tells_run mid u entries run.2 in
-    let moves = moves_in entry.answer in
-    (rest.0 ∙ (ap (λ (l : List Request). l ++ requests_in entries) first.requests ∙ (append_assoc t.requests (option_to_list (request_in entry.call entry.answer)) (requests_in entries) ∙ ap (λ (l : List Request). t.requests ++ l) (one_more (request_in entry.call entry.answer) (requests_in entries)))),
-     rest.1 ∙ (ap (λ (l : List (ℕ × EndpointRecord)). l ++ flat_map sent_by (all_moves_in entries)) first.sends ∙ (append_assoc t.sends (flat_map sent_by moves) (flat_map sent_by (all_moves_in entries)) ∙ ap (λ (l : List (ℕ × EndpointRecord)). t.sends ++ l) (sym (flat_map-append sent_by moves (all_moves_in entries))))),
-     rest.2 ∙ (ap (λ (l : List (ℕ × Ending)). l ++ flat_map answered_by (all_moves_in entries)) first.answers ∙ (append_assoc t.answers (flat_map answered_by moves) (flat_map answered_by (all_moves_in entries)) ∙ ap (λ (l : List (ℕ × Ending)). t.answers ++ l) (sym (flat_map-append answered_by moves (all_moves_in entries))))))
+    let moves = moves_in entry.answer in (
+      rest.0 ∙ (ap (λ (l : List Request). l ++ requests_in entries) first.requests ∙ (append_assoc t.requests (option_to_list (request_in entry.call entry.answer)) (requests_in entries) ∙ ap (λ (l : List Request). t.requests ++ l) (one_more (request_in entry.call entry.answer) (requests_in entries)))),
+      rest.1 ∙ (ap (λ (l : List (ℕ × EndpointRecord)). l ++ flat_map sent_by (all_moves_in entries)) first.sends ∙ (append_assoc t.sends (flat_map sent_by moves) (flat_map sent_by (all_moves_in entries)) ∙ ap (λ (l : List (ℕ × EndpointRecord)). t.sends ++ l) (sym (flat_map-append sent_by moves (all_moves_in entries))))),
+      rest.2 ∙ (ap (λ (l : List (ℕ × Ending)). l ++ flat_map answered_by (all_moves_in entries)) first.answers ∙ (append_assoc t.answers (flat_map answered_by moves) (flat_map answered_by (all_moves_in entries)) ∙ ap (λ (l : List (ℕ × Ending)). t.answers ++ l) (sym (flat_map-append answered_by moves (all_moves_in entries))))),
+    )
   where
     one_more : (o : Option Request) (l : List Request) → option_to_list o ++ l ≡ cons_option o l
     one_more None l = refl

@@ -125,11 +125,13 @@ before_follow : (t : DriverTable) (id : ℕ) (m : Move) → IsOf (Some m) id →
     AllByRecursion (λ (r : Request). Follows t (answered_by m ++ []) (sent_by m ++ []) r None) requests
 before_follow t id m own [] h = tt
 before_follow t id m own (r ∷ requests) h =
-    let other : id == r.id ≡ false = equal_turned id r.id ∙ h.0 in
-    (record {
-       answered = other_answer m id r.id own other ∙ sym (either_nothing (is_pending t.answers r));
-       sent = other_send m id r.id own other ∙ sym (either_nothing (is_pending t.answers r));
-     }, before_follow t id m own requests h.1)
+    let other : id == r.id ≡ false = equal_turned id r.id ∙ h.0 in (
+      record {
+        answered = other_answer m id r.id own other ∙ sym (either_nothing (is_pending t.answers r));
+        sent = other_send m id r.id own other ∙ sym (either_nothing (is_pending t.answers r));
+      },
+      before_follow t id m own requests h.1,
+    )
 
 retained_all : (l : List Pending) → retain_mut (λ p. true) (λ p. p) l ≡ l
 retained_all [] = refl
@@ -209,9 +211,10 @@ reached_taken t new d h above_all found = record {
   unasked = λ k none.
       let parts = or_false (is_asked t.requests k) (is_asked (new ∷ []) k) (sym (list_any-append (is_for k) t.requests (new ∷ [])) ∙ none) in
       let other : new.id == k ≡ false = (or_false (new.id == k) false parts.1).0 in
-      let before = h.unasked k parts.0 in
-      (values-append k t.sends (sent_by m ++ []) ∙ (ap (λ (l : List EndpointRecord). l ++ values_of k (sent_by m ++ [])) before.0 ∙ other_send m new.id k own other),
-       values-append k t.answers (answered_by m ++ []) ∙ (ap (λ (l : List Ending). l ++ values_of k (answered_by m ++ [])) before.1 ∙ other_answer m new.id k own other));
+      let before = h.unasked k parts.0 in (
+        values-append k t.sends (sent_by m ++ []) ∙ (ap (λ (l : List EndpointRecord). l ++ values_of k (sent_by m ++ [])) before.0 ∙ other_send m new.id k own other),
+        values-append k t.answers (answered_by m ++ []) ∙ (ap (λ (l : List Ending). l ++ values_of k (answered_by m ++ [])) before.1 ∙ other_answer m new.id k own other),
+      );
   served = all_and_one (IsServed (taken t new m)) t.requests new (served_before t new m t.requests (before_follow t new.id m own t.requests others) h.served) (new_served t new d found fresh.1 fresh.0);
 }
   where

@@ -93,7 +93,7 @@ impl Moves {
         ensures { OnOk result (self.new ≡ self.old ++ option_to_list step) }
     {
         if let Some(step) = step {
-            self.moves.push(step)?;
+            self.push(step)?;
         }
         Ok(())
     }

@@ -45,7 +45,7 @@ returns-then-is_same_state-clause-after c = λ t s.
     let same = sym c.is_same_state.ensures ∙ c.if-is_same_state.true in
     subst (Stands (record { devices = c.note.new.devices.entries; pending = v.pending; last = v.last })) (sym (ap (λ p. p.1) (change_judged v t c.args.label.now c.args.state.now c.in-Some.device false true here first old same)))
     (stands_noted v t c.args.label.now c.args.state.now c.note.new.devices.entries here (first_device v t c.args.label.now c.in-Some.device here first).0 (not_old v t c.args.label.now c.args.state.now c.in-Some.device here first old)
-         (new_state v t c.args.label.now c.args.state.now c.in-Some.device true here first same) c.note.ensures)
+    (new_state v t c.args.label.now c.args.state.now c.in-Some.device true here first same) c.note.ensures)
 
 pub returns-in_err-add_starts-clause-answer : goal.returns-in_err-add_starts-clause-answer
 returns-in_err-add_starts-clause-answer c = λ t s.
