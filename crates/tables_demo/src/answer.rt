@@ -8,14 +8,14 @@ use std::io;
 
 /// A table for each of the two servers.
 #[derive(Drop)]
-pub struct Tables {
+pub(crate) struct Tables {
     file: FileTable,
     net: NetTable,
 }
 
 impl Tables {
     /// Two tables of no units.
-    pub fn new(alloc: Global) -> Tables {
+    pub(crate) fn new(alloc: Global) -> Tables {
         Tables {
             file: FileTable::new(alloc),
             net: NetTable::new(alloc),
@@ -24,7 +24,7 @@ impl Tables {
 }
 
 /// Gives a command to its table, and prints the answer.
-pub fn answer(rt: &impl Print, tables: &mut Tables, command: Command) -> io::Result<()> {
+pub(crate) fn answer(rt: &impl Print, tables: &mut Tables, command: Command) -> io::Result<()> {
     match command {
         Command::AssignFile {
             major,

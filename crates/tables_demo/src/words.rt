@@ -6,14 +6,14 @@ use std::str::{FromStr, Split};
 
 /// Which of the two tables a line is for.
 #[derive(Clone, Copy)]
-pub enum Server {
+pub(crate) enum Server {
     File,
     Net,
 }
 
 /// What a line asks for.
 #[derive(Clone, Copy)]
-pub enum Command {
+pub(crate) enum Command {
     /// `assign file MAJOR block LABEL`, or `character`
     AssignFile {
         major: u8,
@@ -51,27 +51,13 @@ pub enum Command {
 }
 
 /// The command of a line, if it is one. What stands behind it isn't looked at.
-pub fn read_command(line: &str) -> Option<Command> {
+pub(crate) fn read_command(line: &str) -> Option<Command> {
     let mut words = line.split(' ');
     let verb = words.next()?;
     let server = read_server(words.next()?)?;
-    match (verb, server) {
-        ("assign", Server::File) => {
-            let major = read_number(&mut words)?;
-            let class = read_class(words.next()?)?;
-            let label = read_name(&mut words)?;
-            Some(Command::AssignFile {
-                major,
-                class,
-                label,
-            })
-        }
-        ("assign", Server::Net) => {
-            let port = read_number(&mut words)?;
-            let label = read_name(&mut words)?;
-            Some(Command::AssignNet { port, label })
-        }
-        ("changed", server) => {
+    match verb {
+        "assign" => read_assign(server, &mut words),
+        "changed" => {
             let label = read_name(&mut words)?;
             let state = read_state(words.next()?)?;
             Some(Command::Changed {
@@ -80,16 +66,16 @@ pub fn read_command(line: &str) -> Option<Command> {
                 state,
             })
         }
-        ("newest", server) => {
+        "newest" => {
             let label = read_name(&mut words)?;
             Some(Command::Newest { server, label })
         }
-        ("submit", server) => {
+        "submit" => {
             let id = read_number(&mut words)?;
             let unit = read_number(&mut words)?;
             Some(Command::Submit { server, id, unit })
         }
-        ("reply", server) => {
+        "reply" => {
             let endpoint = read_endpoint(words.next()?)?;
             let id = read_number(&mut words)?;
             Some(Command::Reply {
@@ -99,6 +85,26 @@ pub fn read_command(line: &str) -> Option<Command> {
             })
         }
         _ => None,
+    }
+}
+
+fn read_assign(server: Server, words: &mut Split<'_, char>) -> Option<Command> {
+    match server {
+        Server::File => {
+            let major = read_number(words)?;
+            let class = read_class(words.next()?)?;
+            let label = read_name(words)?;
+            Some(Command::AssignFile {
+                major,
+                class,
+                label,
+            })
+        }
+        Server::Net => {
+            let port = read_number(words)?;
+            let label = read_name(words)?;
+            Some(Command::AssignNet { port, label })
+        }
     }
 }
 
