@@ -94,9 +94,8 @@ def table(minutes, rest):
     crates = sorted({crate for crate, _ in minutes})
     rows = [(crate, *(minutes.get((crate, part), 0) for part in PARTS)) for crate in crates]
     sums = [sum(row[1:]) for row in rows]
-    lines = [f"{'processor minutes':<18}" + "".join(f"{part:>8}" for part in PARTS) + f"{'sum':>8}"]
-    lines += [f"{row[0]:<18}" + "".join(f"{it:8.1f}" for it in row[1:]) + f"{total:8.1f}" for row, total in zip(rows, sums)]
-    lines += [f"{name:<18}{'':24}{it:8.1f}" for name, it in rest]
-    lines += [f"{'all':<18}{'':24}{sum(sums) + sum(it for _, it in rest):8.1f}"]
+    lines = [f"{'processor minutes':<20}" + "".join(f"{part:>8}" for part in PARTS) + f"{'sum':>8}"]
+    lines += [f"{row[0]:<20}" + "".join(f"{it:8.1f}" for it in row[1:]) + f"{total:8.1f}" for row, total in zip(rows, sums)]
+    lines += [f"{name:<44}{it:8.1f}" for name, it in [*rest, ("all", sum(sums) + sum(it for _, it in rest))]]
     over = [(crate, part) for crate in crates for part in PARTS if minutes.get((crate, part), 0) > BUDGET[part]]
     return lines + [f"above its budget of {BUDGET[part]}: {crate}, {part}" for crate, part in over]

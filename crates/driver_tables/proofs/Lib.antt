@@ -1,0 +1,12 @@
+pub mod TestLemmas
+pub mod ListLemmas
+pub mod UnitLemmas
+pub mod MoveLemmas
+pub mod RequestLemmas
+pub mod StandsLemmas
+pub mod AssignLemmas
+pub mod SubmitLemmas
+pub mod ReplyLemmas
+pub mod ChangeLemmas
+pub mod RunLemmas
+pub mod LawLemmas

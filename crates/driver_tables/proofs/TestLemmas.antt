@@ -1,0 +1,43 @@
+-- Tests of numbers, names and truth.
+use Rattle.std.proofs.Common.{◌≡◌, ℕ, ◌==◌, nat_lt, ◌||◌, ◌&&◌, Bool, true, false, not, List, [], ◌∷◌, Option, Some, None, is_some, refl, sym, arith}
+use Rattle.std.proofs.lemmas.Bool.Decides.{nat_tests}
+use Rattle.std.specs.Cmp.Lexicographic.{same_text}
+use Rattle.driver_tables.specs.Driver.{is_same_name}
+
+pub equal_number : (m n : ℕ) → m == n ≡ true → m ≡ n
+equal_number m n e = grind (arith, nat_tests)
+
+pub equal_itself : (n : ℕ) → n == n ≡ true
+equal_itself n = grind (arith, nat_tests)
+
+pub equal_turned : (m n : ℕ) → m == n ≡ n == m
+equal_turned m n = grind (arith, nat_tests)
+
+pub below_differs : (m n : ℕ) → nat_lt m n ≡ true → m == n ≡ false
+below_differs m n l = grind (arith, nat_tests)
+
+pub below_trans : (i j k : ℕ) → nat_lt i j ≡ true → nat_lt j k ≡ true → nat_lt i k ≡ true
+below_trans i j k h l = grind (arith, nat_tests)
+
+pub same_name : (a b : List ℕ) → is_same_name a b ≡ true → a ≡ b
+same_name a b e = same_text a b (sym e)
+
+pub name_itself : (a : List ℕ) → is_same_name a a ≡ true
+name_itself [] = refl
+name_itself (n ∷ ns) = cc (equal_itself n, name_itself ns)
+
+pub or_false : (a b : Bool) → a || b ≡ false → (a ≡ false) × (b ≡ false)
+or_false true b e = cc
+or_false false b e = (refl, e)
+
+pub and_true : (a b : Bool) → a && b ≡ true → (a ≡ true) × (b ≡ true)
+and_true true b e = (refl, e)
+and_true false b e = cc
+
+pub or_nothing : (b : Bool) → b || false ≡ b
+or_nothing true = refl
+or_nothing false = refl
+
+pub none_from : {X : Type 0} (o : Option X) → is_some o ≡ false → o ≡ None
+none_from None e = refl
+none_from (Some x) e = cc

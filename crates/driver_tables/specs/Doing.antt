@@ -1,0 +1,20 @@
+-- What moves leave in the lists of sends and answers.
+use Rattle.std.specs.Prelude.{ℕ, List, [], ◌∷◌, ◌++◌}
+use Rattle.std.specs.List.{flat_map}
+use Rattle.ds_names.specs.Endpoint.{EndpointRecord}
+use Rattle.driver_tables.specs.declared.moves.Ending.{Ending}
+use Rattle.driver_tables.specs.declared.moves.Move.{Move}
+use Rattle.driver_tables.specs.declared.moves.Move.TheVariants.{Start, Send, Answer, Held}
+use Rattle.driver_tables.specs.DriverTable.{DriverTable}
+
+abbrev pub sent_by : Move → List (ℕ × EndpointRecord)
+sent_by (Send id endpoint) = (id, endpoint) ∷ []
+sent_by _ = []
+
+abbrev pub answered_by : Move → List (ℕ × Ending)
+answered_by (Answer id ending) = (id, ending) ∷ []
+answered_by _ = []
+
+-- the table after the moves
+abbrev pub does : DriverTable → List Move → DriverTable
+does t moves = record t { sends = t.sends ++ flat_map sent_by moves; answers = t.answers ++ flat_map answered_by moves }

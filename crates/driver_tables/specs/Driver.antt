@@ -1,0 +1,28 @@
+-- The units of a table and their drivers.
+use Rattle.std.specs.Prelude.{ℕ, ◌==◌, Bool, List, Option}
+use Rattle.std.specs.List.{list_any}
+use Rattle.std.specs.Map.{lookup}
+use Rattle.std.specs.Cmp.Lexicographic.{pointwise}
+use Rattle.driver_tables.specs.declared.device.Class.{Class}
+use Rattle.driver_tables.specs.declared.device.Class.TheVariants.{Network}
+
+-- what a driver drives, and the label under which RS starts it
+pub record Driver : Type 0 where
+  pub class : Class
+  pub label : List ℕ
+
+-- the driver of a port
+abbrev pub net_driver : List ℕ → Driver
+net_driver label = record { class = Network; label = label }
+
+-- the names are one, byte by byte
+abbrev pub is_same_name : List ℕ → List ℕ → Bool
+is_same_name = pointwise ◌==◌
+
+-- the driver of a unit, if the unit is assigned
+abbrev pub driver_of : List (ℕ × Driver) → ℕ → Option Driver
+driver_of units unit = lookup (λ u. unit == u) units
+
+-- some unit's driver has the label
+abbrev pub has_label : List (ℕ × Driver) → List ℕ → Bool
+has_label units label = list_any (λ (u : ℕ × Driver). is_same_name label u.1.label) units

@@ -1,0 +1,62 @@
+-- A driver table: its units, and four lists that only grow.
+use Rattle.std.specs.Prelude.{if◌then◌else◌, ℕ, ◌==◌, nat_lt, Bool, true, false, List, [], ◌∷◌, filter, Option, Some, None}
+use Rattle.std.specs.List.{list_any, list_all, filter_map, last_or}
+use Rattle.ds_names.specs.Endpoint.{EndpointRecord}
+use Rattle.driver_tables.specs.declared.moves.Ending.{Ending}
+use Rattle.driver_tables.specs.Driver.{Driver}
+use Rattle.driver_tables.specs.Label.{LabelState}
+
+pub record Request : Type 0 where
+  pub id : ℕ
+  pub unit : ℕ
+
+pub record DriverTable : Type 0 where
+  -- the assigned units, in order of assignment
+  pub units : List (ℕ × Driver)
+  -- the states that were accepted, of labels with a unit
+  pub states : List LabelState
+  -- the requests that were accepted
+  pub requests : List Request
+  -- each id that was sent, and where to
+  pub sends : List (ℕ × EndpointRecord)
+  -- each id that was answered, and how
+  pub answers : List (ℕ × Ending)
+
+-- a table of no units, of which nothing was asked
+abbrev pub opening : DriverTable
+opening = record { units = []; states = []; requests = []; sends = []; answers = [] }
+
+-- the value of a pair of the id
+abbrev pub value_of : {X : Type 0} → ℕ → ℕ × X → Option X
+value_of id pair = if pair.0 == id then Some pair.1 else None
+
+-- the values that a list of pairs has for an id, in order
+abbrev pub values_of : {X : Type 0} → ℕ → List (ℕ × X) → List X
+values_of id pairs = filter_map (value_of id) pairs
+
+-- where a request was last sent to
+abbrev pub last_sent : List (ℕ × EndpointRecord) → ℕ → Option EndpointRecord
+last_sent sends id = last_or None (values_of id sends)
+
+abbrev pub is_empty : {X : Type 0} → List X → Bool
+is_empty [] = true
+is_empty (x ∷ xs) = false
+
+-- a request without an answer is pending
+abbrev pub is_pending : List (ℕ × Ending) → Request → Bool
+is_pending answers r = is_empty (values_of r.id answers)
+
+-- the pending requests, in order of submission
+abbrev pub pending : DriverTable → List Request
+pending t = filter (is_pending t.answers) t.requests
+
+abbrev pub is_for : ℕ → Request → Bool
+is_for id r = r.id == id
+
+-- some request has the id
+abbrev pub is_asked : List Request → ℕ → Bool
+is_asked requests id = list_any (is_for id) requests
+
+-- the id is above every id that was accepted
+abbrev pub is_above : List Request → ℕ → Bool
+is_above requests id = list_all (λ (r : Request). nat_lt r.id id) requests

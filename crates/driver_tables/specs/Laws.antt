@@ -1,0 +1,62 @@
+-- What holds over every run of calls of a table that began empty.
+use Rattle.std.specs.Prelude.{◌≡◌, ◌≤◌, ℕ, ◌==◌, Bool, true, false, List, [], ◌∷◌, length, Option, Some, None, Result, Ok, ◌⊎◌}
+use Rattle.std.specs.List.{find, list_any, flat_map, AllByRecursion}
+use Rattle.ds_names.specs.Endpoint.{EndpointRecord}
+use Rattle.driver_tables.specs.declared.moves.Ending.TheVariants.{Done}
+use Rattle.driver_tables.specs.declared.moves.Move.{Move}
+use Rattle.driver_tables.specs.declared.moves.Move.TheVariants.{Start, Send, Answer, Held}
+use Rattle.driver_tables.specs.declared.fault.TableFault.{TableFault}
+use Rattle.driver_tables.specs.declared.device.Class.TheVariants.{Block}
+use Rattle.driver_tables.specs.Driver.{Driver, driver_of}
+use Rattle.driver_tables.specs.Label.{endpoint_now, newest}
+use Rattle.driver_tables.specs.DriverTable.{DriverTable, Request, opening, values_of, last_sent, is_for}
+use Rattle.driver_tables.specs.Doing.{sent_by, answered_by}
+use Rattle.driver_tables.specs.Run.{Call, Entry, Step, Run, all_moves_in, requests_in}
+use Rattle.driver_tables.specs.Run.{Reply}
+
+-- a table's requests, sends and answers are what the calls were answered
+abbrev pub ListsTell : Type 0
+ListsTell = (entries : List Entry) (t : DriverTable) → Run opening entries t →
+    (t.requests ≡ requests_in entries) × (t.sends ≡ flat_map sent_by (all_moves_in entries)) × (t.answers ≡ flat_map answered_by (all_moves_in entries))
+
+-- each id is answered at most once
+abbrev pub AnswersOnce : Type 0
+AnswersOnce = (entries : List Entry) (t : DriverTable) → Run opening entries t → (id : ℕ) → length (values_of id t.answers) ≤ 1
+
+-- the move answers the id with Done
+abbrev pub is_done : ℕ → Move → Bool
+is_done id (Answer i Done) = i == id
+is_done id _ = false
+
+-- Done is answered for a reply alone, of the endpoint that the request was last sent to
+abbrev pub DoneByItsDriver : Type 0
+DoneByItsDriver = (entries : List Entry) (t u : DriverTable) (call : Call) (moves : List Move) (id : ℕ) → Run opening entries t → Step t call (Ok moves) u → list_any (is_done id) moves ≡ true →
+    (endpoint : EndpointRecord) × (call ≡ Reply endpoint id) × (last_sent t.sends id ≡ Some endpoint)
+
+-- the unit's driver has the endpoint now, and no greater generation of its label was seen
+pub record IsLiving (t : DriverTable) (unit : ℕ) (endpoint : EndpointRecord) : Type 0 where
+  pub driver : Driver
+  pub found : driver_of t.units unit ≡ Some driver
+  pub now : endpoint_now t.states driver.label ≡ Some endpoint
+  pub greatest : newest t.states driver.label ≡ Some endpoint.generation
+
+-- a Start goes to the living driver of its port, a Send to that of its request's unit
+abbrev pub GoesToLiving : DriverTable → Move → Type 0
+GoesToLiving t (Start unit endpoint) = IsLiving t unit endpoint
+GoesToLiving t (Send id endpoint) = (r : Request) × (find (is_for id) t.requests ≡ Some r) × IsLiving t r.unit endpoint
+GoesToLiving t _ = Unit {0}
+
+abbrev pub NoneToOlder : Type 0
+NoneToOlder = (entries : List Entry) (t u : DriverTable) (call : Call) (moves : List Move) → Run opening entries t → Step t call (Ok moves) u → AllByRecursion (GoesToLiving u) moves
+
+-- the greatest generation of a label never falls
+abbrev pub NewestRises : Type 0
+NewestRises = (t u : DriverTable) (entries : List Entry) (label : List ℕ) (g : ℕ) → Run t entries u → newest t.states label ≡ Some g → (h : ℕ) × (newest u.states label ≡ Some h) × (g ≤ h)
+
+-- a request was answered Done and no more; or it has no answer, and was last sent to the driver's endpoint now, if there is one
+abbrev pub IsKept : DriverTable → Request → Driver → Type 0
+IsKept t r d = (values_of r.id t.answers ≡ Done ∷ []) ⊎ ((values_of r.id t.answers ≡ []) × ((endpoint : EndpointRecord) → endpoint_now t.states d.label ≡ Some endpoint → last_sent t.sends r.id ≡ Some endpoint))
+
+-- no request to a block driver is lost
+abbrev pub BlockRequestsAreKept : Type 0
+BlockRequestsAreKept = (entries : List Entry) (t : DriverTable) → Run opening entries t → AllByRecursion (λ (r : Request). (d : Driver) → driver_of t.units r.unit ≡ Some d → d.class ≡ Block → IsKept t r d) t.requests

@@ -1,0 +1,17 @@
+pub mod Driver
+pub mod FileDriver
+pub mod Label
+pub mod DriverTable
+pub mod Doing
+pub mod Answer
+pub mod Assign
+pub mod Changed
+pub mod Submit
+pub mod Reply
+pub mod Reached
+pub mod Stands
+pub mod Value
+pub mod Devices
+pub mod Requests
+pub mod Run
+pub mod Laws

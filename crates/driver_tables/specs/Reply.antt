@@ -1,0 +1,21 @@
+-- A driver replies.
+use Rattle.std.specs.Prelude.{if◌then◌else◌, ℕ, List, [], ◌∷◌, Some, Result, Ok, Err}
+use Rattle.ds_names.specs.Endpoint.{EndpointRecord}
+use Rattle.driver_tables.specs.declared.moves.Ending.TheVariants.{Done}
+use Rattle.driver_tables.specs.declared.moves.Move.{Move}
+use Rattle.driver_tables.specs.declared.moves.Move.TheVariants.{Answer}
+use Rattle.driver_tables.specs.declared.fault.TableFault.{TableFault}
+use Rattle.driver_tables.specs.declared.fault.TableFault.TheVariants.{NotPending, OldEndpoint}
+use Rattle.driver_tables.specs.Label.{is_same_state}
+use Rattle.driver_tables.specs.DriverTable.{DriverTable, last_sent, pending, is_asked}
+use Rattle.driver_tables.specs.Doing.{does}
+
+-- the request is answered Done
+abbrev pub finishes : DriverTable → ℕ → DriverTable
+finishes t id = does t (Answer id Done ∷ [])
+
+-- what a reply is answered, and the table after it
+abbrev pub replying : DriverTable → EndpointRecord → ℕ → Result Move TableFault × DriverTable
+replying t endpoint id =
+    if is_asked (pending t) id then (if is_same_state (last_sent t.sends id) (Some endpoint) then (Ok (Answer id Done), finishes t id) else (Err OldEndpoint, t))
+    else (Err NotPending, t)

@@ -1,0 +1,42 @@
+-- What private functions read and change of the pending requests.
+use Rattle.std.specs.Prelude.{if◌then◌else◌, ℕ, ◌==◌, Bool, true, false, not, List, Option, Some, None}
+use Rattle.std.specs.Option.{option_map, option_map_or}
+use Rattle.std.specs.Map.{lookup}
+use Rattle.ds_names.specs.Endpoint.{EndpointRecord}
+use Rattle.driver_tables.specs.declared.moves.Move.{Move}
+use Rattle.driver_tables.specs.declared.moves.Move.TheVariants.{Start, Send, Answer, Held}
+use Rattle.driver_tables.specs.declared.device.Device.{Device}
+use Rattle.driver_tables.specs.declared.request.Pending.{Pending}
+use Rattle.driver_tables.specs.Driver.{is_same_name}
+use Rattle.driver_tables.specs.Changed.{settled}
+
+-- the move ends its request
+abbrev pub is_ending : Move → Bool
+is_ending (Answer id ending) = true
+is_ending _ = false
+
+-- a request is pending after its move, if there is one
+abbrev pub stays_pending : Option Move → Bool
+stays_pending None = true
+stays_pending (Some m) = not (is_ending m)
+
+abbrev pub sent_again : ℕ → Option EndpointRecord → Option Move
+sent_again id state = option_map (Send id) state
+
+-- what a new state of the label makes of a pending request of the device
+abbrev pub settled_by : List ℕ → Option EndpointRecord → Pending → Device → Option Move
+settled_by label state p d = if is_same_name label d.label then settled d.class p.id state else None
+
+abbrev pub settled_in : List (ℕ × Device) → List ℕ → Option EndpointRecord → Pending → Option Move
+settled_in devices label state p = option_map_or (settled_by label state p) (lookup (λ u. p.unit == u) devices) None
+
+-- the request as its move leaves it
+abbrev pub kept_after : Option Move → Pending → Pending
+kept_after (Some (Send id endpoint)) p = record { id = p.id; unit = p.unit; sent = Some endpoint }
+kept_after _ p = p
+
+abbrev pub is_kept_in : List (ℕ × Device) → List ℕ → Option EndpointRecord → Pending → Bool
+is_kept_in devices label state p = stays_pending (settled_in devices label state p)
+
+abbrev pub kept_in : List (ℕ × Device) → List ℕ → Option EndpointRecord → Pending → Pending
+kept_in devices label state p = kept_after (settled_in devices label state p) p

@@ -1,0 +1,100 @@
+//! What a server does, move by move.
+
+ghost use Rattle.std.specs.Prelude.{◌≡◌, ◌++◌, ◌∷◌, [], List, length, slice_get, OnOk, IfErr, OnErr, IfOk};
+ghost use Rattle.std.specs.Option.{option_copied, option_to_list};
+
+use ds_names::{Endpoint, NoRoom};
+use std::alloc::{AllocFailed, Global};
+use std::marker::Model;
+
+/// How a request ended.
+#[derive(Clone, Copy, Debug, PartialEq, Eq)]
+pub enum Ending {
+    /// Its driver replied.
+    Done,
+    /// Its driver is gone, and nobody can say how far it came; the application is told.
+    Fault,
+}
+
+/// One thing that a server does.
+#[derive(Clone, Copy, Debug, PartialEq, Eq)]
+pub enum Move {
+    /// Starts a port anew, at the endpoint of its new driver.
+    Start { unit: u8, endpoint: Endpoint },
+    /// Sends a request to a driver.
+    Send { id: u64, endpoint: Endpoint },
+    /// Answers a request, which ends it.
+    Answer { id: u64, ending: Ending },
+    /// Holds a request until its block driver is there.
+    Held { id: u64 },
+}
+
+/// Moves in their order.
+#[derive(Debug, Drop)]
+pub struct Moves {
+    moves: Vec<Move>,
+}
+
+impl Model for Moves {
+    ghost use Rattle.std.specs.Prelude.{List};
+    ghost use Rattle.driver_tables.specs.declared.moves.Move.{Move};
+
+    ghost Value = { List Move };
+
+    ghost view = { λ m. m.moves.items };
+}
+
+impl Moves {
+    /// No moves. It takes no memory.
+    pub fn new(alloc: Global) -> Moves
+        ensures { result ≡ [] }
+    {
+        Moves {
+            moves: Vec::new(alloc),
+        }
+    }
+
+    /// Adds a move at the end. Where there is no room, the error gives it back.
+    pub fn push(&mut self, step: Move) -> Result<(), AllocFailed<Move>>
+        ensures added { OnOk result (self.new ≡ self.old ++ step ∷ []) }
+        ensures unchanged { OnErr result (self.new ≡ self.old) }
+        ensures back { IfErr result (λ back. back.value ≡ step) }
+    {
+        self.moves.push(step)
+    }
+
+    /// How many moves they are.
+    pub fn len(&self) -> usize
+        ensures { result ≡ length self.now }
+    {
+        self.moves.len()
+    }
+
+    /// The move at an index from 0; `None` behind the last.
+    pub fn get(&self, index: usize) -> Option<&Move>
+        ensures { option_copied result ≡ slice_get self.now index }
+    {
+        self.moves.get(index)
+    }
+
+    /// The same moves in the same order.
+    pub fn copy(&self, alloc: Global) -> Result<Moves, NoRoom>
+        ensures { IfOk result (λ moves. moves ≡ self.now) }
+    {
+        let mut moves = Vec::new(alloc);
+        for step in &self.moves {
+            moves.push(*step)?;
+        }
+        Ok(Moves { moves })
+    }
+
+    // Adds the move, if there is one.
+    pub(crate) fn add(&mut self, step: Option<Move>) -> Result<(), NoRoom>
+        ensures { OnOk result (self.new ≡ self.old ++ option_to_list step) }
+    {
+        if let Some(step) = step {
+            self.push(step)?;
+        }
+        Ok(())
+    }
+}

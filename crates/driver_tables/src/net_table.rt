@@ -1,0 +1,103 @@
+//! The driver table of a network server.
+
+ghost use Rattle.std.specs.Prelude.{◌≡◌, OnOk, OnErr};
+ghost use Rattle.driver_tables.specs.Label.{newest};
+ghost use Rattle.driver_tables.specs.DriverTable.{DriverTable, opening};
+ghost use Rattle.driver_tables.specs.Answer.{IsAnswer};
+ghost use Rattle.driver_tables.specs.Assign.{assigning};
+ghost use Rattle.driver_tables.specs.Changed.{changing};
+ghost use Rattle.driver_tables.specs.Submit.{submitting};
+ghost use Rattle.driver_tables.specs.Reply.{replying};
+ghost use Rattle.driver_tables.specs.Stands.{Stands};
+ghost use Rattle.driver_tables.specs.Driver.{net_driver};
+
+use crate::device::Class;
+use crate::fault::TableFault;
+use crate::moves::{Move, Moves};
+use crate::table::Table;
+use ds_names::{Endpoint, Generation, Name};
+use std::alloc::Global;
+use std::marker::Model;
+
+/// The driver of each port of a network server, and the requests that have no answer yet.
+///
+/// MINIX 3's network server reintegrates a restarted driver: it starts its ports anew. What was pending is
+/// answered Fault, since the layers above send lost packets again.
+#[derive(Drop)]
+pub struct NetTable {
+    table: Table,
+}
+
+impl Model for NetTable {
+    ghost use Rattle.driver_tables.specs.Stands.{TableRecord};
+
+    ghost Value = { TableRecord };
+
+    ghost view = { λ n. n.table };
+}
+
+impl NetTable {
+    /// A table of no units. It takes no memory.
+    pub fn new(alloc: Global) -> NetTable
+        ensures { Stands result opening }
+    {
+        NetTable {
+            table: Table::new(alloc),
+        }
+    }
+
+    /// Adds a port at the end. Assigned where there is one of this number.
+    ///
+    /// Where its label has other ports, the new one has their endpoint now.
+    pub fn assign(&mut self, port: u8, label: &Name) -> Result<(), TableFault>
+        ensures answer { (t : DriverTable) → Stands self.old t → IsAnswer (assigning t port (net_driver label.now)).0 result }
+        ensures after { (t : DriverTable) → Stands self.old t → OnOk result (Stands self.new (assigning t port (net_driver label.now)).1) }
+        ensures unchanged { OnErr result (self.new ≡ self.old) }
+    {
+        self.table.assign(port, Class::Network, label)
+    }
+
+    /// Takes the state of a label: the endpoint of its driver now, or that there is none. What follows from it
+    /// are the moves: each port of the label starts at a new endpoint, in order of assignment; then the pending
+    /// requests of the label are answered Fault, in order of submission.
+    ///
+    /// A label without a port has no moves, nor has a state that the label has already. OldEndpoint where the
+    /// generation is below the greatest that the label had, or is that one and the endpoint isn't the one now.
+    pub fn changed(&mut self, label: &Name, state: Option<Endpoint>) -> Result<Moves, TableFault>
+        ensures answer { (t : DriverTable) → Stands self.old t → IsAnswer (changing t label.now state).0 result }
+        ensures after { (t : DriverTable) → Stands self.old t → OnOk result (Stands self.new (changing t label.now state).1) }
+        ensures unchanged { OnErr result (self.new ≡ self.old) }
+    {
+        self.table.changed(label, &state)
+    }
+
+    /// The greatest generation that a label had, if it has a port and ever had an endpoint. It takes no memory.
+    pub fn newest(&self, label: &Name) -> Option<Generation>
+        ensures { (t : DriverTable) → Stands self.now t → result ≡ newest t.states label.now }
+    {
+        self.table.newest(label)
+    }
+
+    /// Takes a request to a port, by an id that is above all before it. With a driver it is sent, else it is
+    /// answered Fault, which uses its id.
+    ///
+    /// TwoIds, then NoDevice, which uses no id.
+    pub fn submit(&mut self, id: u64, port: u8) -> Result<Move, TableFault>
+        ensures answer { (t : DriverTable) → Stands self.old t → IsAnswer (submitting t id port).0 result }
+        ensures after { (t : DriverTable) → Stands self.old t → OnOk result (Stands self.new (submitting t id port).1) }
+        ensures unchanged { OnErr result (self.new ≡ self.old) }
+    {
+        self.table.submit(id, port)
+    }
+
+    /// Takes a driver's reply to a request, which is answered Done. It takes no memory.
+    ///
+    /// NotPending, then OldEndpoint where the request wasn't last sent to this endpoint.
+    pub fn reply(&mut self, endpoint: Endpoint, id: u64) -> Result<Move, TableFault>
+        ensures answer { (t : DriverTable) → Stands self.old t → result ≡ (replying t endpoint id).0 }
+        ensures after { (t : DriverTable) → Stands self.old t → OnOk result (Stands self.new (replying t endpoint id).1) }
+        ensures unchanged { OnErr result (self.new ≡ self.old) }
+    {
+        self.table.reply(endpoint, id)
+    }
+}

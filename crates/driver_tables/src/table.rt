@@ -1,0 +1,148 @@
+//! What the tables of both servers are made of.
+
+ghost use Rattle.std.specs.Prelude.{◌≡◌, OnOk, OnErr};
+ghost use Rattle.driver_tables.specs.Label.{newest};
+ghost use Rattle.driver_tables.specs.DriverTable.{DriverTable, opening};
+ghost use Rattle.driver_tables.specs.Answer.{IsAnswer};
+ghost use Rattle.driver_tables.specs.Assign.{assigning};
+ghost use Rattle.driver_tables.specs.Changed.{changing};
+ghost use Rattle.driver_tables.specs.Submit.{submitting};
+ghost use Rattle.driver_tables.specs.Reply.{replying};
+ghost use Rattle.driver_tables.specs.Stands.{Stands, is_above_last};
+
+use crate::device::{Class, Device, add_starts, device_at, first_of, note, status};
+use crate::fault::TableFault;
+use crate::moves::{Ending, Move, Moves};
+use crate::request::{Pending, add_settled, end, is_ending, sent_of, settle, submitted};
+use crate::state::{is_old, is_same_state};
+use ds_names::{Endpoint, Generation, Name};
+use indexmap::IndexMap;
+use std::alloc::Global;
+use std::marker::Model;
+
+/// Units with their drivers, and the requests that have no answer yet.
+#[derive(Drop)]
+pub struct Table {
+    alloc: Global,
+    devices: IndexMap<u8, Device>,
+    pending: Vec<Pending>,
+    last: Option<u64>,
+}
+
+impl Model for Table {
+    ghost use Rattle.driver_tables.specs.Stands.{TableRecord};
+    ghost use Rattle.driver_tables.specs.Value.{table_of};
+
+    ghost Value = { TableRecord };
+
+    ghost view = { table_of };
+}
+
+impl Table {
+    pub fn new(alloc: Global) -> Table
+        ensures { Stands result opening }
+    {
+        Table {
+            alloc,
+            devices: IndexMap::new(alloc),
+            pending: Vec::new(alloc),
+            last: None,
+        }
+    }
+
+    pub fn assign(&mut self, unit: u8, class: Class, label: &Name) -> Result<(), TableFault>
+        ensures answer { (t : DriverTable) → Stands self.old t → IsAnswer (assigning t unit (record { class = class; label = label.now })).0 result }
+        ensures after { (t : DriverTable) → Stands self.old t → OnOk result (Stands self.new (assigning t unit (record { class = class; label = label.now })).1) }
+        ensures unchanged { OnErr result (self.new ≡ self.old) }
+    {
+        if self.devices.contains_key(&unit) {
+            return Err(TableFault::Assigned);
+        }
+        let (endpoint, newest) = status(&self.devices, label);
+        let device = Device {
+            class,
+            label: *label,
+            endpoint,
+            newest,
+        };
+        self.devices.insert(unit, device)?;
+        Ok(())
+    }
+
+    pub fn changed(&mut self, label: &Name, state: &Option<Endpoint>) -> Result<Moves, TableFault>
+        ensures answer { (t : DriverTable) → Stands self.old t → IsAnswer (changing t label.now state.now).0 result }
+        ensures after { (t : DriverTable) → Stands self.old t → OnOk result (Stands self.new (changing t label.now state.now).1) }
+        ensures unchanged { OnErr result (self.new ≡ self.old) }
+    {
+        let Some(device) = first_of(&self.devices, label) else {
+            return Ok(Moves::new(self.alloc));
+        };
+        if is_old(device.newest, &device.endpoint, state) {
+            return Err(TableFault::OldEndpoint);
+        }
+        let mut moves = Moves::new(self.alloc);
+        if is_same_state(&device.endpoint, state) {
+            note(&mut self.devices, label, state);
+            return Ok(moves);
+        }
+        add_starts(&mut moves, &self.devices, label, state)?;
+        add_settled(&mut moves, &self.devices, &self.pending, label, state)?;
+        settle(&mut self.pending, &self.devices, label, state);
+        note(&mut self.devices, label, state);
+        Ok(moves)
+    }
+
+    pub fn newest(&self, label: &Name) -> Option<Generation>
+        ensures { (t : DriverTable) → Stands self.now t → result ≡ newest t.states label.now }
+    {
+        status(&self.devices, label).1
+    }
+
+    pub fn submit(&mut self, id: u64, unit: u8) -> Result<Move, TableFault>
+        ensures answer { (t : DriverTable) → Stands self.old t → IsAnswer (submitting t id unit).0 result }
+        ensures after { (t : DriverTable) → Stands self.old t → OnOk result (Stands self.new (submitting t id unit).1) }
+        ensures unchanged { OnErr result (self.new ≡ self.old) }
+    {
+        if !is_above(self.last, id) {
+            return Err(TableFault::TwoIds);
+        }
+        let Some(device) = device_at(&self.devices, unit) else {
+            return Err(TableFault::NoDevice);
+        };
+        let step = submitted(device.class, id, &device.endpoint);
+        if !is_ending(&step) {
+            let sent = device.endpoint;
+            self.pending.push(Pending { id, unit, sent })?;
+        }
+        self.last = Some(id);
+        Ok(step)
+    }
+
+    pub fn reply(&mut self, endpoint: Endpoint, id: u64) -> Result<Move, TableFault>
+        ensures answer { (t : DriverTable) → Stands self.old t → result ≡ (replying t endpoint id).0 }
+        ensures after { (t : DriverTable) → Stands self.old t → OnOk result (Stands self.new (replying t endpoint id).1) }
+        ensures unchanged { OnErr result (self.new ≡ self.old) }
+    {
+        let Some(sent) = sent_of(&self.pending, id) else {
+            return Err(TableFault::NotPending);
+        };
+        if !is_same_state(&sent, &Some(endpoint)) {
+            return Err(TableFault::OldEndpoint);
+        }
+        end(&mut self.pending, id);
+        Ok(Move::Answer {
+            id,
+            ending: Ending::Done,
+        })
+    }
+}
+
+// Whether an id is above the last one that was accepted.
+fn is_above(last: Option<u64>, id: u64) -> bool
+    ensures { result ≡ is_above_last last id }
+{
+    match last {
+        Some(last) => last < id,
+        None => true,
+    }
+}

@@ -1,0 +1,126 @@
+"""A second opinion on driver tables, written from their rules: all that was ever accepted is kept, and everything is looked up in it."""
+
+MOST_UNIT = 255
+REFUSALS = ("assigned", "twoids", "nodevice", "notpending", "oldendpoint")
+
+
+class Refused(Exception):
+    """A call that is refused, by its word."""
+
+
+class Table:
+    """The table of one server: `server` is "file" or "net"."""
+
+    def __init__(self, server):
+        self.server = server
+        self.units = {}  # each unit with its class and its label, in order of assignment
+        self.states = []  # (label, endpoint or None) of labels with a unit
+        self.requests = {}  # each id with its unit, in order of submission
+        self.sends = {}  # each id with the endpoints that it was sent to
+        self.answers = {}  # each id with its answer
+
+    # ---- what the lists say
+
+    def now(self, label):
+        """The endpoint of a label's last state."""
+        return next((endpoint for it, endpoint in reversed(self.states) if it == label), None)
+
+    def newest(self, label):
+        """The greatest generation that a label had."""
+        return max((endpoint[0] for it, endpoint in self.states if it == label and endpoint), default=None)
+
+    def pending(self):
+        return [id for id in self.requests if id not in self.answers]
+
+    # ---- the calls
+
+    def assign(self, unit, kind, label):
+        if unit in self.units:
+            raise Refused("assigned")
+        self.units[unit] = (kind, label)
+
+    def changed(self, label, state):
+        units = [unit for unit, (_, it) in self.units.items() if it == label]
+        if not units:
+            return []
+        now, newest = self.now(label), self.newest(label)
+        if state and newest is not None and (state[0] < newest or state[0] == newest and state != now):
+            raise Refused("oldendpoint")
+        self.states.append((label, state))
+        if state == now:
+            return []
+        moves = [("start", unit, state) for unit in units] if state and self.server == "net" else []
+        for id in self.pending():
+            if self.requests[id] in units:
+                moves += self._after_change(id, self.units[self.requests[id]][0], state)
+        return moves
+
+    def _after_change(self, id, kind, state):
+        if kind != "block":
+            return [self._answer(id, "fault")]
+        return [self._send(id, state)] if state else []
+
+    def submit(self, id, unit):
+        if self.requests and id <= max(self.requests):
+            raise Refused("twoids")
+        if unit not in self.units:
+            raise Refused("nodevice")
+        kind, label = self.units[unit]
+        self.requests[id] = unit
+        now = self.now(label)
+        if now:
+            return self._send(id, now)
+        return ("held", id) if kind == "block" else self._answer(id, "fault")
+
+    def reply(self, endpoint, id):
+        if id not in self.requests or id in self.answers:
+            raise Refused("notpending")
+        if self.sends.get(id, [None])[-1] != endpoint:
+            raise Refused("oldendpoint")
+        return self._answer(id, "done")
+
+    def _send(self, id, endpoint):
+        self.sends.setdefault(id, []).append(endpoint)
+        return ("send", id, endpoint)
+
+    def _answer(self, id, ending):
+        self.answers[id] = ending
+        return ("answer", id, ending)
+
+
+def spelled(endpoint):
+    """An endpoint as it is written."""
+    return "-" if endpoint is None else f"{endpoint[0]}/{endpoint[1]}"
+
+
+def told(move):
+    """A move as it is printed."""
+    return " ".join(spelled(it) if isinstance(it, tuple) else str(it) for it in move)
+
+
+class Tables:
+    """Both tables, which answer commands as `tables_demo` does its lines."""
+
+    def __init__(self):
+        self.tables = {"file": Table("file"), "net": Table("net")}
+
+    def answer(self, verb, server, *args):
+        """The lines that answer a command, and the line that asks for it."""
+        table = self.tables[server]
+        line = " ".join([verb, server] + [spelled(it) if it is None or isinstance(it, tuple) else str(it) for it in args])
+        try:
+            return line, self._answers(table, verb, args)
+        except Refused as refused:
+            return line, [f"refused {refused}"]
+
+    def _answers(self, table, verb, args):
+        if verb == "assign":
+            table.assign(args[0], args[1] if len(args) == 3 else "network", args[-1])
+            return ["assigned"]
+        if verb == "changed":
+            moves = table.changed(*args)
+            return [told(it) for it in moves] + [f"moves {len(moves)}"]
+        if verb == "newest":
+            newest = table.newest(*args)
+            return [f"newest {'-' if newest is None else newest}"]
+        return [told(table.submit(*args) if verb == "submit" else table.reply(*args))]
