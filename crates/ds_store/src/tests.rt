@@ -1,183 +1,327 @@
-//! Where stores, positions and merges end, which no script reaches, and subscriptions.
+//! Where stores, positions, stamps and merges end, which no script reaches, and with ample memory a Publish, a
+//! Retrieve and a Merge of each kind of value.
 
-use crate::{Command, Refusal, Reply, Store};
-use ds_entry::{Body, Change, Items, Value};
-use ds_names::{Endpoint, Generation, Key, Kind, Name, Version};
+use crate::{Command, Refusal, Reply, Store, run};
+use ds_entry::{Blob, Body, Change, Items, Text, Value};
+use ds_names::{Endpoint, Generation, Key, Kind, Kinds, Name, Version};
+use ds_pattern::{PatternText, Query};
 use std::alloc::Global;
 use std::process::Abort;
-use std::test::Fail;
 
-mod limits;
-mod subscriptions;
+// The greatest position and the greatest stamp.
+const LAST: u64 = 4611686018427387904;
 
-fn generation(number: u32) -> Result<Generation, Fail> {
-    Ok(Generation::of(number).ok_or("no generation")?)
+fn name(rt: &impl Abort, text: &str) -> Name {
+    Name::read(text.as_bytes()).expect(rt, "a name")
 }
 
-fn endpoint(number: u32, slot: u16) -> Result<Endpoint, Fail> {
-    Ok(Endpoint::of(generation(number)?, slot).ok_or("no endpoint")?)
+fn key(rt: &impl Abort, text: &str, kind: Kind) -> Key {
+    let name = name(rt, text);
+    Key { name, kind }
 }
 
-fn label(number: u32, slot: u16) -> Result<Value, Fail> {
-    Ok(Value::Label(endpoint(number, slot)?))
+// The third generation of all services.
+fn third(rt: &impl Abort) -> Generation {
+    Generation::of(3).expect(rt, "a generation")
 }
 
-fn key(name: &str, kind: Kind) -> Result<Key, Fail> {
-    Ok(Key {
-        name: Name::read(name.as_bytes())?,
-        kind,
-    })
+// The endpoint of eth0.
+fn eth0(rt: &impl Abort) -> Endpoint {
+    Endpoint::of(third(rt), 17).expect(rt, "an endpoint")
 }
 
-fn version(epoch: u32, seq: u32) -> Result<Version, Fail> {
-    Ok(Version {
-        epoch: generation(epoch)?,
-        seq,
-    })
+fn version(rt: &impl Abort, seq: u32) -> Version {
+    let epoch = third(rt);
+    Version { epoch, seq }
 }
 
 // A Publish of a key of the value's kind, over a live entry where `overwrite` is set.
 fn publish(
-    caller: (u32, u16),
-    name: &str,
-    at: (u32, u32),
+    rt: &impl Abort,
+    caller: Endpoint,
+    text: &str,
+    seq: u32,
     value: Value,
     overwrite: bool,
-) -> Result<Command, Fail> {
-    Ok(Command::Publish {
-        caller: endpoint(caller.0, caller.1)?,
-        key: key(name, value.kind())?,
-        version: version(at.0, at.1)?,
+) -> Command {
+    Command::Publish {
+        caller,
+        key: key(rt, text, value.kind()),
+        version: version(rt, seq),
         value,
         overwrite,
-    })
+    }
 }
 
-fn new(
-    store: &mut Store,
-    caller: (u32, u16),
-    name: &str,
-    at: (u32, u32),
-    value: Value,
-) -> Result<Reply, Fail> {
-    Ok(store.apply(publish(caller, name, at, value, false)?))
+// RS publishes the label eth0.
+fn up(rt: &impl Abort) -> Command {
+    publish(rt, Endpoint::rs(), "eth0", 0, Value::Label(eth0(rt)), false)
 }
 
-fn over(
-    store: &mut Store,
-    caller: (u32, u16),
-    name: &str,
-    at: (u32, u32),
-    value: Value,
-) -> Result<Reply, Fail> {
-    Ok(store.apply(publish(caller, name, at, value, true)?))
+// eth0 publishes a number under a name.
+fn put(rt: &impl Abort, text: &str, seq: u32, number: u32, overwrite: bool) -> Command {
+    publish(rt, eth0(rt), text, seq, Value::U32(number), overwrite)
 }
 
-// RS publishes the label of a service in its generation, over one before it.
-fn up(store: &mut Store, name: &str, number: u32, slot: u16) -> Result<Reply, Fail> {
-    over(store, (0, 2), name, (number, 0), label(number, slot)?)
+// eth0 deletes a number.
+fn delete(rt: &impl Abort, text: &str, seq: u32) -> Command {
+    Command::Delete {
+        caller: eth0(rt),
+        key: key(rt, text, Kind::U32),
+        version: version(rt, seq),
+    }
 }
 
-fn delete(
-    store: &mut Store,
-    caller: (u32, u16),
-    name: &str,
-    kind: Kind,
-    at: (u32, u32),
-) -> Result<Reply, Fail> {
-    Ok(store.apply(Command::Delete {
-        caller: endpoint(caller.0, caller.1)?,
-        key: key(name, kind)?,
-        version: version(at.0, at.1)?,
-    }))
+// RS sweeps an owner.
+fn sweep(rt: &impl Abort, owner: &str) -> Command {
+    Command::Sweep {
+        caller: Endpoint::rs(),
+        owner: name(rt, owner),
+        generation: third(rt),
+    }
 }
 
-fn sweep(store: &mut Store, caller: (u32, u16), owner: &str, up_to: u32) -> Result<Reply, Fail> {
-    Ok(store.apply(Command::Sweep {
-        caller: endpoint(caller.0, caller.1)?,
-        owner: Name::read(owner.as_bytes())?,
-        generation: generation(up_to)?,
-    }))
-}
-
-fn retrieve(store: &mut Store, name: &str, kind: Kind) -> Result<Reply, Fail> {
-    let key = key(name, kind)?;
-    Ok(store.apply(Command::Retrieve { key }))
-}
-
-// The change of a u32 key: a put of the number, or a tombstone where there is none.
-fn change(name: &str, owner: &str, at: (u32, u32), number: Option<u32>) -> Result<Change, Fail> {
-    let body = match number {
-        Some(number) => Body::Put(Value::U32(number)),
-        None => Body::Gone,
+// A Subscribe to the names that a pattern matches, of all kinds.
+fn subscribe(rt: &impl Abort, alloc: Global, sub: u32, pattern: &[u8]) -> Command {
+    let query = Query {
+        text: PatternText::of(alloc, pattern).expect(rt, "memory"),
+        kinds: Kinds::of(15).expect(rt, "kinds"),
     };
-    let owner = Name::read(owner.as_bytes())?;
-    Ok(Change::make(key(name, Kind::U32)?, owner, version(at.0, at.1)?, body)?)
+    Command::Subscribe {
+        sub,
+        query,
+        initial: true,
+        overwrite: false,
+    }
 }
 
-// A Merge of one change of a u32 key.
-fn offer(
-    alloc: Global,
-    store: &mut Store,
-    name: &str,
-    owner: &str,
-    at: (u32, u32),
-    number: Option<u32>,
-) -> Result<Reply, Fail> {
+// The put of a value by an owner.
+fn change(rt: &impl Abort, text: &str, owner: &str, seq: u32, value: Value) -> Change {
+    let key = key(rt, text, value.kind());
+    let owner = name(rt, owner);
+    Change::make(key, owner, version(rt, seq), Body::Put(value)).expect(rt, "a change")
+}
+
+// The put of a number is added to a list.
+fn add(rt: &impl Abort, items: &mut Items, text: &str, owner: &str, seq: u32) {
+    let change = change(rt, text, owner, seq, Value::U32(1500));
+    assert!(rt; items.push(change).is_ok());
+}
+
+// A Merge of the put of one number.
+fn offer(rt: &impl Abort, alloc: Global, text: &str) -> Command {
     let mut items = Items::new(alloc);
-    items.push(change(name, owner, at, number)?)?;
-    Ok(store.apply(Command::Merge { items }))
+    add(rt, &mut items, text, "eth0", 0);
+    Command::Merge { items }
 }
 
 // A Merge of the keys that are numbered from `from` up to `to`, which is left out.
-fn offers(alloc: Global, store: &mut Store, from: u32, to: u32) -> Result<Reply, Fail> {
+fn offers(rt: &impl Abort, alloc: Global, from: u32, to: u32) -> Command {
     let mut items = Items::new(alloc);
     for i in from..to {
-        let name = format!(in alloc; "k{i}")?;
-        items.push(change(&name, "eth0", (1, 0), Some(i))?)?;
+        let text = format!(in alloc; "k{i}").expect(rt, "memory");
+        add(rt, &mut items, &text, "eth0", 0);
     }
-    Ok(store.apply(Command::Merge { items }))
+    Command::Merge { items }
+}
+
+fn opened(rt: &impl Abort, alloc: Global, first: u64) -> Store {
+    Store::open(alloc, 7, first, 256).expect(rt, "a store")
 }
 
 fn refused(refusal: Refusal) -> Reply {
     Reply::Refused(refusal)
 }
 
-// Stops the test unless the answer is the one that is wanted.
-fn answered(rt: &impl Abort, answer: Reply, wanted: Reply) {
-    assert_eq!(rt; answer, wanted);
+fn changed(owed: u64) -> Reply {
+    Reply::Changed { owed }
 }
 
-fn changed() -> Reply {
-    Reply::Changed { owed: 0 }
-}
-
-fn swept(count: usize) -> Reply {
-    Reply::Swept { count, owed: 0 }
-}
-
-fn merged(done: usize, taken: usize, stale: usize) -> Reply {
+fn merged(done: usize, taken: usize) -> Reply {
     Reply::Merged {
         done,
         taken,
-        stale,
+        stale: 0,
         owed: 0,
     }
 }
 
-fn stopped(done: usize, fault: Refusal) -> Reply {
-    Reply::MergeStopped {
-        done,
-        fault,
-        owed: 0,
-    }
+fn stopped(done: usize, fault: Refusal, owed: u64) -> Reply {
+    Reply::MergeStopped { done, fault, owed }
 }
 
-// A store where eth0 is up as 3/17 and tty as 4/18, and eth0 has published mtu.
-fn two_services(alloc: Global) -> Result<Store, Fail> {
-    let mut store = Store::open(alloc, 1, 0, 256)?;
-    let _ = up(&mut store, "eth0", 3, 17)?;
-    let _ = up(&mut store, "tty", 4, 18)?;
-    let _ = new(&mut store, (3, 17), "mtu", (3, 0), Value::U32(1500))?;
-    Ok(store)
+// Stops the test unless the command is answered as is wanted.
+fn answered(rt: &impl Abort, store: &mut Store, command: Command, wanted: Reply) {
+    assert_eq!(rt; store.apply(command), wanted);
+}
+
+// The value is published, found, and merged into another store.
+fn goes_round(rt: &impl Abort, alloc: Global, store: &mut Store, value: Value) {
+    let copy = value.copy(alloc).expect(rt, "memory");
+    let again = value.copy(alloc).expect(rt, "memory");
+    let key = key(rt, "mtu", value.kind());
+    answered(
+        rt,
+        store,
+        publish(rt, eth0(rt), "mtu", 0, value, false),
+        changed(0),
+    );
+    answered(rt, store, Command::Retrieve { key }, Reply::Found(copy));
+    let mut items = Items::new(alloc);
+    assert!(rt; items.push(change(rt, "mtu", "eth0", 0, again)).is_ok());
+    let mut other = opened(rt, alloc, 0);
+    answered(rt, &mut other, Command::Merge { items }, merged(1, 1));
+}
+
+// Stops the test unless no store is opened, for this reason.
+fn is_not_opened(rt: &impl Abort, alloc: Global, first: u64, ring: u32, refusal: Refusal) {
+    let fault = Store::open(alloc, 7, first, ring).err();
+    assert!(rt; fault == Some(refusal));
+}
+
+// Stops the test unless a store is opened, and has its first position and its incarnation.
+fn is_opened(rt: &impl Abort, alloc: Global, first: u64, ring: u32) {
+    let store = Store::open(alloc, 7, first, ring).expect(rt, "a store");
+    assert!(rt; store.position() == first);
+    assert!(rt; store.incarnation() == 7);
+    assert!(rt; store.held().len() == 0);
+}
+
+#[test]
+fn stores_are_opened_within_their_limits(rt: HostRuntime) {
+    let alloc = rt.alloc();
+    is_not_opened(&rt, alloc, 0, 0, Refusal::BadRing);
+    is_not_opened(&rt, alloc, 0, 4097, Refusal::BadRing);
+    is_not_opened(&rt, alloc, LAST + 1, 0, Refusal::BadRing);
+    is_not_opened(&rt, alloc, LAST + 1, 256, Refusal::BadFirst);
+    is_opened(&rt, alloc, 0, 1);
+    is_opened(&rt, alloc, LAST, 4096);
+}
+
+#[test]
+fn each_kind_goes_round(rt: HostRuntime) {
+    let alloc = rt.alloc();
+    let mut store = opened(&rt, alloc, 0);
+    answered(&rt, &mut store, up(&rt), changed(0));
+    goes_round(&rt, alloc, &mut store, Value::U32(1500));
+    let text = Text::read(alloc, b"up").expect(&rt, "a text");
+    goes_round(&rt, alloc, &mut store, Value::Str(text));
+    let blob = Blob::read(alloc, &[0x00, 0xff]).expect(&rt, "a blob");
+    goes_round(&rt, alloc, &mut store, Value::Mem(blob));
+}
+
+#[test]
+fn a_stopped_merge_keeps_its_first_items(rt: HostRuntime) {
+    let alloc = rt.alloc();
+    let mut store = opened(&rt, alloc, 0);
+    let made = Reply::Subscribed { stamp: 1, owed: 0 };
+    answered(&rt, &mut store, subscribe(&rt, alloc, 1, b"a"), made);
+    let made = Reply::Subscribed { stamp: 2, owed: 0 };
+    answered(&rt, &mut store, subscribe(&rt, alloc, 63, b"b"), made);
+    let mut items = Items::new(alloc);
+    add(&rt, &mut items, "a", "eth0", 1);
+    add(&rt, &mut items, "a", "eth0", 1);
+    add(&rt, &mut items, "a", "eth0", 0);
+    add(&rt, &mut items, "b", "eth0", 0);
+    add(&rt, &mut items, "a", "tty", 2);
+    add(&rt, &mut items, "c", "eth0", 0);
+    let wanted = stopped(4, Refusal::NotOwner, (1 << 63) + 2);
+    answered(&rt, &mut store, Command::Merge { items }, wanted);
+    assert_eq!(rt; store.held().len(), 2);
+}
+
+#[test]
+fn a_full_store(rt: HostRuntime) {
+    let alloc = rt.alloc();
+    let mut store = opened(&rt, alloc, 0);
+    let too_many = offers(&rt, alloc, 0, 257);
+    answered(&rt, &mut store, too_many, refused(Refusal::TooMany));
+    for i in 0..4u32 {
+        let offers = offers(&rt, alloc, 256 * i, 256 * i + 256);
+        answered(&rt, &mut store, offers, merged(256, 256));
+    }
+    let beyond = offers(&rt, alloc, 1000, 1100);
+    answered(&rt, &mut store, beyond, stopped(24, Refusal::Full, 0));
+    assert_eq!(rt; store.held().len(), 1024);
+}
+
+#[test]
+fn a_change_at_the_last_place(rt: HostRuntime) {
+    let mut store = opened(&rt, rt.alloc(), LAST - 2);
+    answered(&rt, &mut store, up(&rt), changed(0));
+    answered(&rt, &mut store, put(&rt, "mtu", 0, 1500, false), changed(0));
+    answered(
+        &rt,
+        &mut store,
+        put(&rt, "mtu", 0, 1500, false),
+        Reply::Known,
+    );
+    let exists = refused(Refusal::Exists);
+    answered(&rt, &mut store, put(&rt, "mtu", 1, 1400, false), exists);
+    answered(
+        &rt,
+        &mut store,
+        put(&rt, "mtu", 1, 1400, true),
+        refused(Refusal::Worn),
+    );
+    answered(
+        &rt,
+        &mut store,
+        put(&rt, "mac", 1, 1, false),
+        refused(Refusal::Worn),
+    );
+    answered(
+        &rt,
+        &mut store,
+        delete(&rt, "mtu", 1),
+        refused(Refusal::Worn),
+    );
+    assert_eq!(rt; store.position(), LAST);
+}
+
+#[test]
+fn sweeps_and_merges_at_the_last_place(rt: HostRuntime) {
+    let alloc = rt.alloc();
+    let mut store = opened(&rt, alloc, LAST - 1);
+    answered(&rt, &mut store, offer(&rt, alloc, "mtu"), merged(1, 1));
+    answered(&rt, &mut store, sweep(&rt, "eth0"), refused(Refusal::Worn));
+    let none = Reply::Swept { count: 0, owed: 0 };
+    answered(&rt, &mut store, sweep(&rt, "tty"), none);
+    answered(&rt, &mut store, offer(&rt, alloc, "mtu"), merged(1, 0));
+    answered(
+        &rt,
+        &mut store,
+        offer(&rt, alloc, "a"),
+        stopped(0, Refusal::Worn, 0),
+    );
+}
+
+#[test]
+fn a_check_at_the_last_stamp(rt: HostRuntime) {
+    let alloc = rt.alloc();
+    let mut store = opened(&rt, alloc, LAST - 1);
+    let (stamp, before, after) = (LAST, LAST, LAST);
+    let made = Reply::Subscribed { stamp, owed: 0 };
+    answered(&rt, &mut store, subscribe(&rt, alloc, 0, b".*"), made);
+    let items = Items::new(alloc);
+    let nothing = Reply::Checked {
+        items,
+        before,
+        after,
+    };
+    answered(&rt, &mut store, Command::Check { sub: 0, max: 1 }, nothing);
+    answered(&rt, &mut store, up(&rt), changed(1));
+    let worn = refused(Refusal::Worn);
+    answered(&rt, &mut store, Command::Check { sub: 0, max: 1 }, worn);
+    let worn = refused(Refusal::Worn);
+    answered(&rt, &mut store, subscribe(&rt, alloc, 1, b".*"), worn);
+}
+
+#[test]
+fn a_command_is_run(rt: HostRuntime) {
+    let alloc = rt.alloc();
+    let mut store = opened(&rt, alloc, 0);
+    let commands = Vec::from_array(alloc, [up(&rt)]).expect(&rt, "memory");
+    let replies = run(alloc, &mut store, commands).expect(&rt, "memory");
+    assert!(rt; replies.first() == Some(&changed(0)));
 }
