@@ -6,4 +6,3 @@ pub mod KeptLemmas
 pub mod NextLemmas
 pub mod JoinLemmas
 pub mod ExistLemmas
-pub mod MarkLemmas

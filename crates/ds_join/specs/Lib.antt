@@ -2,10 +2,7 @@ pub mod Held
 pub mod Reading
 pub mod Label
 pub mod Top
-pub mod TopLaws
 pub mod Join
 pub mod Merge
 pub mod Stop
 pub mod Kept
-pub mod Marked
-pub mod Beside

@@ -1,25 +1,43 @@
-//! Merging into a list of changes in the order of their keys.
+//! Changes of different keys in a list, in the order in which their keys came.
 
 ghost use Rattle.std.specs.Prelude.{◌≡◌, ◌<◌, ◌≤◌, ◌++◌, ◌∷◌, [], List, length, Some, None, IfErr, IfSome, OnOk, OnErr, take, vec_len, slice_index_or, slice_set};
 ghost use Rattle.std.specs.Option.{option_copied};
-ghost use Rattle.std.specs.List.{insert};
+ghost use Rattle.std.specs.List.{position_from};
+ghost use Rattle.std.specs.Ordering.{eq_by_cmp};
+ghost use Rattle.ds_names.specs.Key.{key_cmp};
 ghost use Rattle.ds_entry.specs.Change.{ChangeRecord, IsChange};
 ghost use Rattle.ds_entry.specs.SingleNumbered.{IsSingleNumbered};
 ghost use Rattle.ds_join.specs.Held.{held_changes, held_for};
 ghost use Rattle.ds_join.specs.Join.{IsJoin};
 ghost use Rattle.ds_join.specs.Merge.{AnswersHeld, AnswersNew, MergeAnswer, after_merge};
 ghost use Rattle.ds_join.specs.Stop.{IsStopped, IsRefused};
-ghost use Rattle.ds_join.specs.Kept.{holding_of, IsKept, IsPlace, put_at, changes_after};
+ghost use Rattle.ds_join.specs.Kept.{holding_of, IsKept, changes_after};
 
 use crate::merge::{JoinFault, Merge, Stop};
-use crate::order::{nth, place_of};
+use crate::order::first_of;
 use ds_entry::Change;
 use ds_names::{Key, NoRoom};
 use std::alloc::Global;
 use std::cmp::Ordering;
 
 // The most keys that are held, those of tombstones too.
-pub(crate) const MOST_KEYS: usize = 1024;
+const MOST_KEYS: usize = 1024;
+
+// Whether two keys are one. Names of other lengths differ without a look at their bytes.
+fn is_same_key(a: &Key, b: &Key) -> bool
+    ensures { result ≡ eq_by_cmp key_cmp a.now b.now }
+{
+    a == b
+}
+
+// Where the change of a key stands.
+fn place_of(changes: &[Change], key: &Key) -> Option<usize>
+    ensures { result ≡ position_from (λ (c : ChangeRecord). eq_by_cmp key_cmp key.now c.key) 0 changes.now }
+{
+    changes
+        .iter()
+        .position(|change| is_same_key(key, change.key()))
+}
 
 // The change of a key.
 pub(crate) fn change_at<'a>(changes: &'a [Change], key: &Key) -> Option<&'a Change>
@@ -28,8 +46,8 @@ pub(crate) fn change_at<'a>(changes: &'a [Change], key: &Key) -> Option<&'a Chan
     ensures change { IfSome (option_copied result) IsChange }
 {
     match place_of(changes, key) {
-        Ok(i) => nth(changes, i),
-        Err(_) => None,
+        Some(i) => Some(&changes[i]),
+        None => None,
     }
 }
 
@@ -64,40 +82,18 @@ fn replace(changes: &mut Vec<Change>, i: usize, change: Change) -> Result<Merge,
     Ok(answer)
 }
 
-// Merges the change of a key that isn't held, and belongs at an index.
-fn add(changes: &mut Vec<Change>, i: usize, change: Change) -> Result<Merge, JoinFault>
-    requires within { i ≤ vec_len changes.old }
-    requires few { vec_len changes.old ≤ 1024 }
+// Merges the change of a key that isn't held.
+fn add(changes: &mut Vec<Change>, change: Change) -> Result<Merge, JoinFault>
+    requires { vec_len changes.old ≤ 1024 }
     ensures answer { AnswersNew (length changes.old.items) result }
-    ensures items { changes.new.items ≡ changes_after changes.old.items (insert changes.old.items i change) result }
+    ensures items { changes.new.items ≡ changes_after changes.old.items (changes.old.items ++ change ∷ []) result }
 {
     if changes.len() >= MOST_KEYS {
         return Err(JoinFault::Full);
     }
-    match changes.insert(i, change) {
+    match changes.push(change) {
         Ok(()) => Ok(Merge::Taken),
         Err(_) => Err(JoinFault::NoRoom),
-    }
-}
-
-// Merges a change at its place.
-pub(crate) fn merge_at(
-    changes: &mut Vec<Change>,
-    place: Result<usize, usize>,
-    change: Change,
-) -> Result<Merge, JoinFault>
-    requires kept { IsKept changes.old.items }
-    requires place { IsPlace changes.old.items change.key place }
-    ensures answer { MergeAnswer (holding_of changes.old.items) change result }
-    ensures after { holding_of changes.new.items ≡ after_merge (holding_of changes.old.items) change result }
-    ensures items { changes.new.items ≡ changes_after changes.old.items (put_at changes.old.items place change) result }
-    ensures kept { IsKept changes.new.items }
-    ensures change { IsChange change }
-{
-    let _key = change.key();
-    match place {
-        Ok(i) => replace(changes, i, change),
-        Err(i) => add(changes, i, change),
     }
 }
 
@@ -109,24 +105,21 @@ pub(crate) fn merge_into(changes: &mut Vec<Change>, change: Change) -> Result<Me
     ensures kept { IsKept changes.new.items }
     ensures change { IsChange change }
 {
-    let place = place_of(changes, change.key());
-    merge_at(changes, place, change)
+    match place_of(changes, change.key()) {
+        Some(i) => replace(changes, i, change),
+        None => add(changes, change),
+    }
 }
 
-// What the merge of a change at its place will be answered, where there is memory for it.
-fn outlook(
-    changes: &[Change],
-    place: Result<usize, usize>,
-    change: &Change,
-) -> Result<Merge, JoinFault>
-    requires kept { IsKept changes.now }
-    requires place { IsPlace changes.now change.now.key place }
+// What the merge of a change will be answered, where there is memory for it.
+fn outlook(changes: &[Change], change: &Change) -> Result<Merge, JoinFault>
+    requires { IsKept changes.now }
     ensures { MergeAnswer (holding_of changes.now) change.now result }
 {
-    match place {
-        Ok(i) => judge(&changes[i], change),
-        Err(_) if changes.len() >= MOST_KEYS => Err(JoinFault::Full),
-        Err(_) => Ok(Merge::Taken),
+    match change_at(changes, change.key()) {
+        Some(held) => judge(held, change),
+        None if changes.len() >= MOST_KEYS => Err(JoinFault::Full),
+        None => Ok(Merge::Taken),
     }
 }
 
@@ -142,10 +135,9 @@ pub(crate) fn merge_copy(
     ensures after { holding_of changes.new.items ≡ after_merge (holding_of changes.old.items) change.now result }
     ensures kept { IsKept changes.new.items }
 {
-    let place = place_of(changes, change.key());
-    match outlook(changes, place, change)? {
+    match outlook(changes, change)? {
         Merge::Taken => match change.copy(alloc) {
-            Ok(copy) => merge_at(changes, place, copy),
+            Ok(copy) => merge_into(changes, copy),
             Err(NoRoom) => Err(JoinFault::NoRoom),
         },
         other => Ok(other),
@@ -166,11 +158,13 @@ pub(crate) fn join_into(
     ensures kept { IsKept changes.new.items }
 {
     let mut done = 0;
-    for change in other {
+    let mut last: Option<Key> = None;
+    while let Some(change) = first_of(other, last.as_ref()) {
         match merge_copy(alloc, changes, change) {
             Ok(_) => done += 1,
             Err(fault) => return Err(Stop { done, fault }),
         }
+        last = Some(*change.key());
     }
     Ok(())
 }
