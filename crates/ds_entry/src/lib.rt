@@ -8,6 +8,7 @@
 mod blob;
 mod body;
 mod change;
+mod floor;
 mod items;
 #[cfg(test)]
 mod tests;
@@ -16,5 +17,6 @@ mod text;
 pub use blob::{Blob, BlobFault};
 pub use body::{Body, Value};
 pub use change::{Change, EntryFault};
+pub use floor::Floor;
 pub use items::Items;
 pub use text::{Text, TextFault};
