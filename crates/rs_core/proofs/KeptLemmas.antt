@@ -10,7 +10,7 @@ use Rattle.rs_settings.specs.Settings.{SettingsRecord}
 use Rattle.rs_core.specs.declared.state.State.{State}
 use Rattle.rs_core.specs.declared.state.State.TheVariants.{Down, Up, Waiting, GaveUp}
 use Rattle.rs_core.specs.declared.state.Running.{Running}
-use Rattle.rs_core.specs.Kept.{IsRunning, IsState, IsRs, IsAtRest}
+use Rattle.rs_core.specs.Kept.{IsRunning, IsState, IsRs, IsAtRest, HaveTwoSlots}
 use Rattle.rs_core.specs.Machine.{pause}
 
 -- a state without an instance asks nothing of the slots
@@ -69,3 +69,11 @@ pub pause_long : (k : ℕ) → 6 ≤ k → pause k ≡ 32
 pause_long k h =
     let e : 2 ^ 5 ≤ 2 ^ (k - 1) = pow_mono {i = 5} {j = k - 1} (omega arith) in
     omega arith
+
+-- two services that run have two slots, since a slot's key is one service's
+pub two_slots : (next : ℕ) (slots : Slab ℕ) (i j : ℕ) (a b : State) → i < j → IsState next slots i a → IsState next slots j b → HaveTwoSlots a b
+two_slots next slots i j (Up r) (Up q) below h k = λ (e : r.endpoint.slot ≡ q.endpoint.slot). apart (same_some i j (sym h.holds ∙ ap (λ n. get slots (n - 16)) e ∙ k.holds))
+  where
+    apart : i ≡ j → ⊥
+    apart e = omega arith
+two_slots next slots i j a b below h k = tt

@@ -16,7 +16,7 @@ use Rattle.rs_core.specs.declared.deed.Plan.{Plan}
 use Rattle.rs_core.specs.declared.numberer.Numberer.{Numberer}
 use Rattle.rs_core.specs.Action.{label_put, label_gone, label_key, version, start_actions, stop_actions}
 use Rattle.rs_core.specs.State.{RsRecord, state_at, service_at}
-use Rattle.rs_core.specs.Machine.{actions_of, next_after}
+use Rattle.rs_core.specs.Machine.{actions_of, next_after, new_endpoint, same_slot}
 use Rattle.rs_core.specs.Step.{Follows, Step}
 use Rattle.rs_core.specs.Run.{Run, starts, offers, AreRising, StartsRise, LabelsAreSingleNumbered}
 use Rattle.rs_core.specs.Numbering.{Gives, GiveAll, AreNumbered, NumbersRise}
@@ -115,9 +115,9 @@ replaced_label label e f c (inr (inl same)) = inl (label, f, inl refl, same)
 replaced_label label e f c (inr (inr h)) = absurd h
 
 deed_labels : (s : RsRecord) (service : Service) (state : State) (deed : Deed) (c : ChangeRecord) → In c (offers (actions_of s service state deed)) → IsLabelOf (starts (actions_of s service state deed)) c
-deed_labels s service state Begin c h = started_label service.label _ c h
-deed_labels s service state Resume c h = started_label service.label _ c h
-deed_labels s service (Up r) Replace c h = replaced_label service.label _ _ c h
+deed_labels s service state Begin c h = started_label service.label (new_endpoint s) c h
+deed_labels s service state Resume c h = started_label service.label (new_endpoint s) c h
+deed_labels s service (Up r) Replace c h = replaced_label service.label r.endpoint (same_slot s r) c h
 deed_labels s service (Up r) (Lose kill) c h = stopped_label kill service.label r.endpoint c h
 deed_labels s service (Up r) Halt c h = stopped_label true service.label r.endpoint c h
 deed_labels s service (Up r) Ping c h = absurd h

@@ -30,13 +30,13 @@ impl Action {
     pub fn copy(&self, alloc: Global) -> Result<Action, NoRoom>
         ensures { IfOk result (λ action. action ≡ self.now) }
     {
-        Ok(match self {
-            Action::Kill(endpoint) => Action::Kill(*endpoint),
-            Action::Start(label, endpoint) => Action::Start(*label, *endpoint),
-            Action::Ping(endpoint) => Action::Ping(*endpoint),
-            Action::Offer(change) => Action::Offer(change.copy(alloc)?),
-            Action::Sweep(floor) => Action::Sweep(*floor),
-        })
+        match self {
+            Action::Kill(endpoint) => Ok(Action::Kill(*endpoint)),
+            Action::Start(label, endpoint) => Ok(Action::Start(*label, *endpoint)),
+            Action::Ping(endpoint) => Ok(Action::Ping(*endpoint)),
+            Action::Offer(change) => Ok(Action::Offer(change.copy(alloc)?)),
+            Action::Sweep(floor) => Ok(Action::Sweep(*floor)),
+        }
     }
 }
 

@@ -88,10 +88,7 @@ impl Rs {
     {
         match self.judge(&event, tick) {
             Ok(Some(plan)) => self.follow(plan, tick),
-            Ok(None) => {
-                self.tick = tick;
-                Ok(Actions::new(self.alloc))
-            }
+            Ok(None) => Ok(self.idle(tick)),
             Err(fault) => Err(fault),
         }
     }

@@ -77,24 +77,30 @@ repeats-less a b (m ∷ ms) le h = rw absent (repeats-less (a ++ m ∷ []) (b ++
     more : (n : List ℕ) → has_name (a ++ m ∷ []) n ≡ true → has_name (b ++ m ∷ []) n ≡ true
     more n t = has_name-append b (m ∷ []) n ∙ wider (has_name a n) (has_name b n) (has_name (m ∷ []) n) (le n) (sym (has_name-append a (m ∷ []) n) ∙ t)
 
--- each service's names are new behind those of all services before it
-new_names : (before : List (List ℕ)) (k : ℕ) (ss : List Service) (j : ℕ) (d : Service) → first_repeat before k ss ≡ None → j < length ss → (b : List (List ℕ)) × (repeats (before ++ b) (get_or ss j d).publishes ≡ false) × ((i : ℕ) (n : List ℕ) → i < j → has_name (get_or ss i d).publishes n ≡ true → has_name (before ++ b) n ≡ true)
-new_names before k [] j d h l = absurd (omega arith)
-new_names before k (s ∷ ss) j d h l = elim (cases_Bool (repeats before s.publishes)) [
-  | inl t ↦ (let bad : Some k ≡ None = rw t at h in absurd (cc))
-  | inr f ↦ at j l f (λ m lm. new_names (before ++ s.publishes) (k + 1) ss m d (rw f at h) lm)
-]
+-- the names of service j are new behind some names, among which are those of all services before it
+abbrev AreNew : List (List ℕ) → List Service → ℕ → Service → Type 0
+AreNew before ss j d = (b : List (List ℕ)) × (repeats (before ++ b) (get_or ss j d).publishes ≡ false) × ((i : ℕ) (n : List ℕ) → i < j → has_name (get_or ss i d).publishes n ≡ true → has_name (before ++ b) n ≡ true)
+
+new_here : (before : List (List ℕ)) (s : Service) (ss : List Service) (d : Service) → repeats before s.publishes ≡ false → AreNew before (s ∷ ss) zero d
+new_here before s ss d f = ([], subst (λ (z : List (List ℕ)). repeats z s.publishes ≡ false) (sym (append_nil before)) f, λ i n below t. absurd (omega arith))
+
+new_later : (before : List (List ℕ)) (s : Service) (ss : List Service) (m : ℕ) (d : Service) → AreNew (before ++ s.publishes) ss m d → AreNew before (s ∷ ss) (suc m) d
+new_later before s ss m d (b, new, known) = (s.publishes ++ b, subst (λ (z : List (List ℕ)). repeats z (get_or ss m d).publishes ≡ false) (append_assoc before s.publishes b) new, all_before)
   where
-    at : (j : ℕ) → j < length (s ∷ ss) → repeats before s.publishes ≡ false → ((m : ℕ) → m < length ss → (b : List (List ℕ)) × (repeats ((before ++ s.publishes) ++ b) (get_or ss m d).publishes ≡ false) × ((i : ℕ) (n : List ℕ) → i < m → has_name (get_or ss i d).publishes n ≡ true → has_name ((before ++ s.publishes) ++ b) n ≡ true)) → (b : List (List ℕ)) × (repeats (before ++ b) (get_or (s ∷ ss) j d).publishes ≡ false) × ((i : ℕ) (n : List ℕ) → i < j → has_name (get_or (s ∷ ss) i d).publishes n ≡ true → has_name (before ++ b) n ≡ true)
-    at zero l f later = ([], subst (λ (z : List (List ℕ)). repeats z s.publishes ≡ false) (sym (append_nil before)) f, λ i n below t. absurd (omega arith))
-    at (suc m) l f later = wrap (later m (omega arith))
-      where
-        wrap : (b : List (List ℕ)) × (repeats ((before ++ s.publishes) ++ b) (get_or ss m d).publishes ≡ false) × ((i : ℕ) (n : List ℕ) → i < m → has_name (get_or ss i d).publishes n ≡ true → has_name ((before ++ s.publishes) ++ b) n ≡ true) → (b : List (List ℕ)) × (repeats (before ++ b) (get_or ss m d).publishes ≡ false) × ((i : ℕ) (n : List ℕ) → i < suc m → has_name (get_or (s ∷ ss) i d).publishes n ≡ true → has_name (before ++ b) n ≡ true)
-        wrap (b, new, known) = (s.publishes ++ b, subst (λ (z : List (List ℕ)). repeats z (get_or ss m d).publishes ≡ false) (append_assoc before s.publishes b) new, before_it)
-          where
-            before_it : (i : ℕ) (n : List ℕ) → i < suc m → has_name (get_or (s ∷ ss) i d).publishes n ≡ true → has_name (before ++ (s.publishes ++ b)) n ≡ true
-            before_it zero n below t = has_name-append before (s.publishes ++ b) n ∙ or_true (has_name before n) (has_name (s.publishes ++ b) n) (has_name-append s.publishes b n ∙ rw t refl)
-            before_it (suc i) n below t = subst (λ (z : List (List ℕ)). has_name z n ≡ true) (append_assoc before s.publishes b) (known i n (omega arith) t)
+    all_before : (i : ℕ) (n : List ℕ) → i < suc m → has_name (get_or (s ∷ ss) i d).publishes n ≡ true → has_name (before ++ (s.publishes ++ b)) n ≡ true
+    all_before zero n below t = has_name-append before (s.publishes ++ b) n ∙ or_true (has_name before n) (has_name (s.publishes ++ b) n) (has_name-append s.publishes b n ∙ rw t refl)
+    all_before (suc i) n below t = subst (λ (z : List (List ℕ)). has_name z n ≡ true) (append_assoc before s.publishes b) (known i n (omega arith) t)
+
+new_names : (before : List (List ℕ)) (k : ℕ) (ss : List Service) (j : ℕ) (d : Service) → first_repeat before k ss ≡ None → j < length ss → AreNew before ss j d
+new_names before k [] j d h l = absurd (omega arith)
+new_names before k (s ∷ ss) zero d h l = elim (cases_Bool (repeats before s.publishes)) [
+  | inl t ↦ (let bad : Some k ≡ None = rw t at h in absurd (cc))
+  | inr f ↦ new_here before s ss d f
+]
+new_names before k (s ∷ ss) (suc m) d h l = elim (cases_Bool (repeats before s.publishes)) [
+  | inl t ↦ (let bad : Some k ≡ None = rw t at h in absurd (cc))
+  | inr f ↦ new_later before s ss m d (new_names (before ++ s.publishes) (k + 1) ss m d (rw f at h) (omega arith))
+]
 
 not_mapped : {A C : Type 0} (f : A → C) (o : Option A) → option_map f o ≡ None → o ≡ None
 not_mapped f None h = refl
@@ -104,24 +110,25 @@ neither : {A : Type 0} (o p : Option A) → option_or o p ≡ None → (o ≡ No
 neither None p h = (refl, h)
 neither (Some a) p h = let bad : Some a ≡ None = h in absurd (cc)
 
+-- so a later service publishes none of an earlier one's, and each of its own once
+other : (ss : List Service) (j : ℕ) (d : Service) → AreNew [] ss j d → (i : ℕ) (n : List ℕ) → i < j → has_name (get_or ss i d).publishes n ≡ true → has_name (get_or ss j d).publishes n ≡ false
+other ss j d (b, new, known) i n below t = elim (cases_Bool (has_name (get_or ss j d).publishes n)) [
+  | inl u ↦ absurd (false≢true (sym (not_before b (get_or ss j d).publishes n new u) ∙ known i n below t))
+  | inr f ↦ f
+]
+
+once_of : (ss : List Service) (j : ℕ) (d : Service) → AreNew [] ss j d → repeats [] (get_or ss j d).publishes ≡ false
+once_of ss j d (b, new, known) = repeats-less [] b (get_or ss j d).publishes (λ n t. absurd (false≢true t)) new
+
 pub services_apart : ServicesAreApart
 services_apart s h =
     let ss = s.services in
     let a = neither (option_map (at_service TwoLabels) (first_clash share_label [] ss)) (option_or (option_map (at_service TwoUnits) (first_clash share_unit [] ss)) (option_map (at_service SharedName) (first_repeat [] 0 ss))) h.apart in
     let b = neither (option_map (at_service TwoUnits) (first_clash share_unit [] ss)) (option_map (at_service SharedName) (first_repeat [] 0 ss)) a.1 in
-    let names = not_mapped (at_service SharedName) (first_repeat [] 0 ss) b.1 in
+    let names : first_repeat [] 0 ss ≡ None = not_mapped (at_service SharedName) (first_repeat [] 0 ss) b.1 in
     record {
       labels = distinct share_label ss (not_mapped (at_service TwoLabels) (first_clash share_label [] ss) a.0);
       units = distinct share_unit ss (not_mapped (at_service TwoUnits) (first_clash share_unit [] ss) b.0);
-      publishers = λ i j d n below l t. other j d (new_names [] 0 ss j d names l) i n below t;
-      once = λ i d l. once_of i d (new_names [] 0 ss i d names l);
+      publishers = λ i j d n below l t. other ss j d (new_names [] 0 ss j d names l) i n below t;
+      once = λ i d l. once_of ss i d (new_names [] 0 ss i d names l);
     }
-  where
-    other : (j : ℕ) (d : Service) → (b : List (List ℕ)) × (repeats b (get_or s.services j d).publishes ≡ false) × ((i : ℕ) (n : List ℕ) → i < j → has_name (get_or s.services i d).publishes n ≡ true → has_name b n ≡ true) → (i : ℕ) (n : List ℕ) → i < j → has_name (get_or s.services i d).publishes n ≡ true → has_name (get_or s.services j d).publishes n ≡ false
-    other j d (b, new, known) i n below t = elim (cases_Bool (has_name (get_or s.services j d).publishes n)) [
-      | inl u ↦ absurd (false≢true (sym (not_before b (get_or s.services j d).publishes n new u) ∙ known i n below t))
-      | inr f ↦ f
-    ]
-
-    once_of : (j : ℕ) (d : Service) → (b : List (List ℕ)) × (repeats b (get_or s.services j d).publishes ≡ false) × ((i : ℕ) (n : List ℕ) → i < j → has_name (get_or s.services i d).publishes n ≡ true → has_name b n ≡ true) → repeats [] (get_or s.services j d).publishes ≡ false
-    once_of j d (b, new, known) = repeats-less [] b (get_or s.services j d).publishes (λ n t. absurd (false≢true t)) new

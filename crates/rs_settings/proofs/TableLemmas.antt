@@ -82,8 +82,11 @@ length-last xs ys x e = ap length e ∙ simp length-append
 pub map-last : {X Y : Type 0} (f : X → Y) (xs ys : List X) (x : X) → ys ≡ xs ++ x ∷ [] → map f ys ≡ map f xs ++ f x ∷ []
 map-last f xs ys x e = ap (map f) e ∙ map-append f xs (x ∷ [])
 
+moved : {X : Type 0} (Q : X → Type 0) (y x : X) → x ≡ y → Q y → Q x
+moved Q y x e h = subst Q (sym e) h
+
 -- a fact of each element's image, at one of them
 pub each-at : {X Y : Type 0} (P : Y → Type 0) (f : X → Y) (xs : List X) (k : ℕ) (x : X) → All P (map f xs) → k < length xs → x ≡ get_or xs k x → P (f x)
 each-at P f [] k x all l e = absurd (omega arith)
-each-at {X} P f (y ∷ ys) zero x all l e = let Q : X → Type 0 = λ z. P (f z) in subst Q (sym e) (all zero (f x) (omega arith))
+each-at P f (y ∷ ys) zero x all l e = moved (λ z. P (f z)) y x e (all zero (f x) (omega arith))
 each-at P f (y ∷ ys) (suc k) x all l e = each-at P f ys k x (λ j d m. all (suc j) d (omega arith)) (omega arith) e

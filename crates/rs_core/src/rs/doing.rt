@@ -15,6 +15,16 @@ use crate::rs::Rs;
 use crate::state::{Pause, Running, State, endpoint_at, failed, failures_of};
 
 impl Rs {
+    // Leaves all as it is but the tick.
+    pub(crate) fn idle(&mut self, tick: u64) -> Actions
+        requires { tick ≤ 2 ^ 62 }
+        ensures done { result ≡ [] }
+        ensures after { self.new ≡ record self.old { tick = tick } }
+    {
+        self.tick = tick;
+        Actions::new(self.alloc)
+    }
+
     // Does what is planned.
     pub(crate) fn follow(&mut self, plan: Plan, tick: u64) -> Result<Actions, RsFault>
         requires within { plan.place < length self.old.states }
@@ -25,16 +35,36 @@ impl Rs {
         ensures unchanged { OnErr result (self.new ≡ self.old) }
     {
         let place = plan.place;
-        match (plan.deed, self.state_at(place)) {
-            (Deed::Begin, _) => self.begin(place, tick, 0),
-            (Deed::Resume, state) => self.begin(place, tick, failures_of(state)),
-            (Deed::Replace, State::Up(running)) => self.replace(place, tick, running),
-            (Deed::Lose(kill), State::Up(running)) => self.lose(place, tick, kill, running),
-            (Deed::Halt, State::Up(running)) => self.end(place, tick, true, running, State::Down),
-            (Deed::Forget, State::Waiting(pause)) => Ok(self.forget(place, tick, pause)),
-            (Deed::Hear, State::Up(running)) => Ok(self.hear(place, tick, running)),
-            (Deed::Ping, State::Up(running)) => self.ping(place, tick, running),
-            _ => Ok(self.leave(place, tick)),
+        match plan.deed {
+            Deed::Begin => self.begin(place, tick, 0),
+            Deed::Resume => {
+                let failures = failures_of(self.state_at(place));
+                self.begin(place, tick, failures)
+            }
+            Deed::Replace => match self.state_at(place) {
+                State::Up(running) => self.replace(place, tick, running),
+                _ => Ok(self.leave(place, tick)),
+            },
+            Deed::Lose(kill) => match self.state_at(place) {
+                State::Up(running) => self.lose(place, tick, kill, running),
+                _ => Ok(self.leave(place, tick)),
+            },
+            Deed::Halt => match self.state_at(place) {
+                State::Up(running) => self.end(place, tick, true, running, State::Down),
+                _ => Ok(self.leave(place, tick)),
+            },
+            Deed::Forget => match self.state_at(place) {
+                State::Waiting(pause) => Ok(self.forget(place, tick, pause)),
+                _ => Ok(self.leave(place, tick)),
+            },
+            Deed::Hear => match self.state_at(place) {
+                State::Up(running) => Ok(self.hear(place, tick, running)),
+                _ => Ok(self.leave(place, tick)),
+            },
+            Deed::Ping => match self.state_at(place) {
+                State::Up(running) => self.ping(place, tick, running),
+                _ => Ok(self.leave(place, tick)),
+            },
         }
     }
 
