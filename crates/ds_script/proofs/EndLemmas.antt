@@ -7,7 +7,7 @@ use Rattle.ds_script.specs.Session.{SessionContent, StandsFor, Leads, at_start}
 use Rattle.ds_script.specs.declared.fault.ReplayFault.{ReplayFault}
 use Rattle.ds_script.specs.declared.fault.ReplayFault.TheVariants.{BadLine, ReadFault, WriteFault, NoRoom}
 use Rattle.ds_script.specs.declared.turn.Stop.TheVariants as stops
-use Rattle.ds_script.specs.Lines.{IsUnbroken, joined, unended, HasLines}
+use Rattle.ds_words.specs.Lines.{IsUnbroken, joined, unended, HasLines}
 use Rattle.ds_script.specs.Answer.{AnswersLine, AnswersLines}
 use Rattle.ds_script.specs.Replay.{Answers, Goes, Leaves, Replays, Stopped, Unwritten, StopsWith, Written, Reported, Finishes}
 use Rattle.ds_script.proofs.RunLemmas.{answers_sent, answers_then, leads_by}

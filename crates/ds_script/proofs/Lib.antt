@@ -1,12 +1,4 @@
-pub mod NewlineLemmas
 pub mod PickLemmas
-pub mod PieceLemmas
-pub mod QueryLemmas
-pub mod LineLemmas
-pub mod SubscriptionLemmas
-pub mod OfferLemmas
-pub mod CommandLemmas
-pub mod ResultLemmas
 pub mod RunLemmas
 pub mod SessionLemmas
 pub mod EndLemmas

@@ -6,7 +6,7 @@ use Rattle.std.proofs.lemmas.List.{drop_at}
 use Rattle.std.proofs.lemmas.List.Elements.{All-nil, All-append, All-push}
 use Rattle.std.proofs.lemmas.List.Concat.{flat_map-append}
 use Rattle.ds_script.specs.Session.{ScriptState, SessionContent, Leads}
-use Rattle.ds_script.specs.Lines.{IsUnbroken, ended, joined}
+use Rattle.ds_words.specs.Lines.{IsUnbroken, ended, joined}
 use Rattle.ds_script.specs.Answer.{AnswersLine, AnswersLines}
 use Rattle.ds_line.specs.LastNewline.{EndsLine}
 use Rattle.ds_script.specs.declared.turn.Answered.{Answered}

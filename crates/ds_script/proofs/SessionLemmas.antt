@@ -9,12 +9,12 @@ use Rattle.ds_store.specs.declared.command.Reply.{Reply}
 use Rattle.ds_store.specs.State.{State}
 use Rattle.ds_store.specs.Stands.{Stands}
 use Rattle.ds_store.specs.Machine.{Step}
-use Rattle.ds_script.specs.declared.command.ScriptCommand.{ScriptCommand}
-use Rattle.ds_script.specs.declared.command.ScriptCommand.TheVariants.{Offer, Show, All, Publish, Delete, Sweep, Retrieve, NameOf, Subscribe, Check, Map, Entries}
-use Rattle.ds_script.specs.Command.{store_command, IsLineOf}
+use Rattle.ds_words.specs.declared.command.ScriptCommand.{ScriptCommand}
+use Rattle.ds_words.specs.declared.command.ScriptCommand.TheVariants.{Offer, Show, All, Publish, Delete, Sweep, Retrieve, NameOf, Subscribe, Check, Map, Entries}
+use Rattle.ds_words.specs.Command.{store_command, IsLineOf}
 use Rattle.ds_script.specs.Session.{ScriptState, SessionContent, Leads, StoreSteps}
-use Rattle.ds_script.specs.Answer.{AnswersAsked, AnswersMade, AnswersUnmade, AnswersCommand, AnswersOrRefuses, AnswersLine, entries_text, refused_noroom}
-use Rattle.ds_script.specs.Reply.{reply_text}
+use Rattle.ds_script.specs.Answer.{AnswersAsked, AnswersMade, AnswersUnmade, AnswersCommand, AnswersOrRefuses, AnswersLine, entries_text}
+use Rattle.ds_words.specs.Reply.{reply_text, refused_noroom}
 use Rattle.ds_script.proofs.RunLemmas.{leads_by, leads_none}
 
 -- the store's step is the session's

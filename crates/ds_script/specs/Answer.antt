@@ -12,14 +12,14 @@ use Rattle.ds_submap.specs.Map.{SubMapRecord, empty_map}
 use Rattle.ds_store.specs.Machine.{held}
 use Rattle.ds_store.specs.declared.command.Command.{Command}
 use Rattle.ds_store.specs.declared.command.Reply.{Reply}
-use Rattle.ds_script.specs.declared.command.ScriptCommand.{ScriptCommand}
-use Rattle.ds_script.specs.declared.command.ScriptCommand.TheVariants.{Show, All, Map, Entries}
+use Rattle.ds_words.specs.declared.command.ScriptCommand.{ScriptCommand}
+use Rattle.ds_words.specs.declared.command.ScriptCommand.TheVariants.{Show, All, Map, Entries}
 use Rattle.ds_script.specs.declared.maps.MapFault.{MapFault}
-use Rattle.ds_script.specs.Lines.{ended}
-use Rattle.ds_script.specs.Command.{IsLineOf, store_command}
+use Rattle.ds_words.specs.Lines.{ended}
+use Rattle.ds_words.specs.Command.{IsLineOf, store_command}
 use Rattle.ds_script.specs.Maps.{map_fault_word}
 use Rattle.ds_script.specs.Session.{ScriptState, StoreSteps, MakesMap, RefusesMap}
-use Rattle.ds_script.specs.Reply.{reply_text}
+use Rattle.ds_words.specs.Reply.{reply_text, refused_noroom}
 
 -- the lines of the changes, and then `shown` and their number
 abbrev pub shown : List ChangeRecord → List ℕ
@@ -61,10 +61,6 @@ AnswersCommand command old out new = MatchOption (store_command command) ⊥ (λ
 abbrev pub picked : Bool → List ChangeRecord → List ChangeRecord
 picked true changes = changes
 picked false changes = entries changes
-
--- the answer for want of memory
-abbrev pub refused_noroom : List ℕ
-refused_noroom = ended (codes "refused noroom")
 
 -- for want of memory a command is refused, and nothing changes
 abbrev pub IsRefused : ScriptState → List ℕ → ScriptState → Type 0

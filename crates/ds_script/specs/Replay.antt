@@ -11,8 +11,8 @@ use Rattle.ds_script.specs.declared.turn.Answered.{Answered}
 use Rattle.ds_script.specs.declared.turn.Stop.{Stop}
 use Rattle.ds_script.specs.declared.turn.Stop.TheVariants as stops
 use Rattle.ds_script.specs.Session.{ScriptState, at_start, SessionContent, Leads}
-use Rattle.ds_script.specs.Lines.{IsUnbroken, ended, joined, unended, HasLines}
-use Rattle.ds_script.specs.Command.{IsBadLine}
+use Rattle.ds_words.specs.Lines.{IsUnbroken, ended, joined, unended, HasLines}
+use Rattle.ds_words.specs.Command.{IsBadLine}
 use Rattle.ds_script.specs.Answer.{AnswersLines}
 
 -- All that was left to read was read, and the answers to its lines were written, and nothing else.

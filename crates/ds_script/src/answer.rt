@@ -4,11 +4,10 @@ ghost use Rattle.std.specs.Prelude.{◌≡◌, ◌⊎◌, ◌++◌, List, ℕ, O
 ghost use Rattle.std.specs.Option.{option_copied};
 ghost use Rattle.ds_script.specs.Session.{Leads};
 ghost use Rattle.ds_script.specs.Maps.{map_fault_word};
-ghost use Rattle.ds_script.specs.Answer.{AnswersAsked, AnswersMade, AnswersUnmade, AnswersOrRefuses, entries_text, refused_noroom};
+ghost use Rattle.ds_script.specs.Answer.{AnswersAsked, AnswersMade, AnswersUnmade, AnswersOrRefuses, entries_text};
+ghost use Rattle.ds_words.specs.Reply.{refused_noroom};
 
-use crate::command::ScriptCommand;
 use crate::maps::MapFault;
-use crate::reply::{append_noroom, append_reply};
 use crate::session::Session;
 use crate::shown::{append_items, append_shown};
 use ds_line::append_all;
@@ -16,6 +15,7 @@ use ds_names::NoRoom;
 use ds_pattern::Query;
 use ds_store::Command;
 use ds_submap::SubMap;
+use ds_words::{ScriptCommand, append_noroom, append_reply};
 use itoa::Buffer;
 use std::alloc::Global;
 

@@ -12,9 +12,6 @@ use std::alloc::Global;
 use std::marker::Model;
 use thiserror::Error;
 
-#[cfg(test)]
-mod tests;
-
 /// The most maps of one script.
 const MOST_MAPS: usize = 64;
 

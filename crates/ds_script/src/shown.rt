@@ -6,13 +6,14 @@ ghost use Rattle.ds_line.specs.Spelling.{spelling};
 ghost use Rattle.ds_entry.specs.Change.{ChangeRecord};
 ghost use Rattle.ds_join.specs.Held.{held_changes};
 ghost use Rattle.ds_join.specs.Top.{is_put as leaves_value};
-ghost use Rattle.ds_script.specs.Answer.{picked, shown, refused_noroom};
+ghost use Rattle.ds_script.specs.Answer.{picked, shown};
+ghost use Rattle.ds_words.specs.Reply.{refused_noroom};
 
-use crate::reply::append_noroom;
 use ds_entry::{Body, Change, Items};
 use ds_join::Held;
 use ds_line::{append_all, append_change};
 use ds_names::NoRoom;
+use ds_words::append_noroom;
 use itoa::Buffer;
 use std::alloc::Global;
 

@@ -2,7 +2,7 @@
 
 ghost use Rattle.std.specs.Prelude.{◌≡◌, ◌≤◌, ◌<◌, ◌*◌, ◌^◌, ◌+◌, ◌++◌, [], ℕ, List, Some, IfOk, IfErr, OnOk, OnErr, length, vec_len};
 ghost use Rattle.std.specs.Io.KnownBytes.{Appends, IsAtEnd};
-ghost use Rattle.ds_script.specs.Lines.{IsUnbroken};
+ghost use Rattle.ds_words.specs.Lines.{IsUnbroken};
 ghost use Rattle.ds_script.specs.Session.{SessionContent};
 ghost use Rattle.ds_script.specs.Replay.{Goes, Leaves, Replays, StopsWith, Written, Reported, Finishes};
 

@@ -90,3 +90,13 @@ fn behind(text: &[u8], count: usize) -> &[u8]
 {
     &text[count..]
 }
+
+/// Leaves out the first `count` of the bytes that wait.
+pub(crate) fn drop_front(pending: &mut Vec<u8>, count: usize)
+    requires { count ≤ vec_len pending.old }
+    ensures { pending.new.items ≡ drop count pending.old.items }
+{
+    let left = pending.len() - count;
+    pending.copy_within(count.., 0);
+    pending.truncate(left);
+}

@@ -4,19 +4,17 @@ ghost use Rattle.std.specs.Prelude.{◌≡◌, ◌≤◌, ◌<◌, ◌+◌, ◌�
 ghost use Rattle.std.specs.List.{All};
 ghost use Rattle.std.specs.Io.KnownBytes.{Appends};
 ghost use Rattle.ds_line.specs.LastNewline.{EndsLine};
-ghost use Rattle.ds_script.specs.Lines.{IsUnbroken, ended, joined};
+ghost use Rattle.ds_words.specs.Lines.{IsUnbroken, ended, joined};
 ghost use Rattle.ds_script.specs.Session.{SessionContent, Leads};
 ghost use Rattle.ds_script.specs.Answer.{AnswersLine};
 ghost use Rattle.ds_script.specs.Replay.{Answers, AnswersText, Leaves, Turns, IsFaultOf, LineStops};
 
 use crate::answer::answer_command;
-use crate::reading::{LONGEST_LINE, read_line};
-use crate::reply::append_noroom;
 use crate::session::Session;
-use crate::split::{drop_front, split_line};
-use crate::transfer::{Filled, WriteFailed, fill, write_out};
+use crate::transfer::{Filled, WriteFailed, drop_front, fill, write_out};
 use ds_line::LineFault;
 use ds_names::NoRoom;
+use ds_words::{LONGEST_LINE, append_noroom, read_line, split_line};
 use std::alloc::Global;
 use std::io::{Read, Write};
 

@@ -1,5 +1,5 @@
-use Rattle.ds_script.specs.Reply.{reply_text}
-use Rattle.ds_script.proofs.ResultLemmas.{on_ok}
+use Rattle.ds_words.specs.Reply.{reply_text}
+use Rattle.ds_words.proofs.ResultLemmas.{on_ok}
 use Rattle.ds_script.proofs.SessionLemmas.{replied}
 use Rattle.ds_script.proofs.answer.answer_asked.Goals as goal
 

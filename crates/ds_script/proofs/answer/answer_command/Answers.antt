@@ -1,8 +1,9 @@
 use Rattle.std.proofs.Common.{◌≡◌, Some, sym, inl, inr, ◌∙◌}
 use Rattle.std.specs.Option.{option_copied}
-use Rattle.ds_script.specs.Command.{store_command}
-use Rattle.ds_script.specs.Answer.{entries_text, refused_noroom}
-use Rattle.ds_script.proofs.ResultLemmas.{on_ok}
+use Rattle.ds_words.specs.Command.{store_command}
+use Rattle.ds_script.specs.Answer.{entries_text}
+use Rattle.ds_words.specs.Reply.{refused_noroom}
+use Rattle.ds_words.proofs.ResultLemmas.{on_ok}
 use Rattle.ds_script.proofs.SessionLemmas.{asked_answers, map_answers, noroom_answers, entries_answers}
 use Rattle.ds_script.proofs.answer.answer_command.Goals as goal
 

@@ -1,9 +1,9 @@
 use Rattle.std.proofs.Common.{◌≡◌, ◌⊎◌, ◌++◌, ◌∷◌, [], List, ℕ, ap, refl, inl, ◌∙◌, codes}
 use Rattle.std.specs.Fmt.{decimal}
-use Rattle.ds_script.specs.Lines.{ended}
+use Rattle.ds_words.specs.Lines.{ended}
 use Rattle.ds_script.specs.Session.{MakesMap}
 use Rattle.ds_script.specs.Answer.{AnswersMade, AnswersUnmade}
-use Rattle.ds_script.proofs.ResultLemmas.{on_ok}
+use Rattle.ds_words.proofs.ResultLemmas.{on_ok}
 use Rattle.ds_script.proofs.RunLemmas.{leads_by}
 use Rattle.ds_script.proofs.answer.answer_map.Goals as goal
 

@@ -1,5 +1,5 @@
 use Rattle.std.proofs.Common.{sym}
-use Rattle.ds_script.proofs.PickLemmas.{got_none}
+use Rattle.ds_words.proofs.ChangeLemmas.{got_none}
 use Rattle.ds_script.proofs.shown.append_item.Goals as goal
 
 pub returns-in-None-clause-item : goal.returns-in-None-clause-item

@@ -1,5 +1,5 @@
 use Rattle.std.proofs.Common.{◌≤◌, ◌*◌, [], vec_len}
-use Rattle.ds_script.specs.Lines.{IsUnbroken}
+use Rattle.ds_words.specs.Lines.{IsUnbroken}
 use Rattle.ds_script.specs.Replay.{Goes}
 use Rattle.ds_script.proofs.stream.answer_input.Given as goal
 

@@ -4,7 +4,7 @@ use Rattle.std.proofs.lemmas.List.Elements.{All-nil}
 use Rattle.ds_script.specs.Session.{at_start}
 use Rattle.ds_script.specs.declared.fault.ReplayFault.TheVariants.{BadLine, ReadFault, NoRoom}
 use Rattle.ds_script.specs.declared.turn.Stop.{Stop}
-use Rattle.ds_script.specs.Lines.{IsUnbroken}
+use Rattle.ds_words.specs.Lines.{IsUnbroken}
 use Rattle.ds_script.specs.Replay.{Leaves}
 use Rattle.ds_script.proofs.EndLemmas.{Begun, begun, begun_end, reported, unwritten_now, finished_well, finished_ill}
 use Rattle.ds_script.proofs.stream.replay.Goals as goal

@@ -1,7 +1,7 @@
 use Rattle.std.proofs.Common.{◌≡◌, ◌<◌, List, ℕ, Option, None, length, drop, sym, ap, ◌∙◌, subst, arith}
 use Rattle.ds_script.specs.declared.turn.Stop.{Stop}
 use Rattle.ds_script.specs.Replay.{AnswersText, Leaves}
-use Rattle.ds_script.proofs.ResultLemmas.{none_of}
+use Rattle.ds_words.proofs.ResultLemmas.{none_of}
 use Rattle.ds_script.proofs.RunLemmas.{overlong}
 use Rattle.ds_script.proofs.turn.answer_pending.Goals as goal
 

@@ -1,0 +1,9 @@
+pub mod ResultLemmas
+pub mod NewlineLemmas
+pub mod ChangeLemmas
+pub mod PieceLemmas
+pub mod QueryLemmas
+pub mod LineLemmas
+pub mod SubscriptionLemmas
+pub mod OfferLemmas
+pub mod CommandLemmas

@@ -1,0 +1,219 @@
+-- The lines of commands, part by part.
+use Rattle.std.specs.Prelude.{◌≡◌, ◌≢◌, ℕ, ◌<◌, ◌≤◌, ◌^◌, ◌⊎◌, Bool, true, false, List, [], ◌∷◌, ◌++◌, length, Option, None, Some, Result, Ok, Err}
+use Rattle.std.specs.Fmt.{decimal}
+use Rattle.ds_names.specs.Name.{IsName}
+use Rattle.ds_names.specs.Endpoint.{IsEndpoint, endpoint_text}
+use Rattle.ds_names.specs.declared.key.Key.{Key}
+use Rattle.ds_names.specs.declared.version.Version.{Version}
+use Rattle.ds_entry.specs.declared.body.Body.TheVariants.{Put}
+use Rattle.ds_entry.specs.Change.{IsChange}
+use Rattle.ds_line.specs.Part.{Part, part, byte, texts, Word, Name, Number, Endpoint, Quoted}
+use Rattle.ds_line.specs.Spelling.{space, newline, kind_word, quoted, body_parts, change_parts}
+use Rattle.ds_line.specs.FaultPlace.{IsFaultPlace}
+use Rattle.ds_line.specs.Piece.{IsValueOf}
+use Rattle.ds_pattern.specs.declared.query.Query.{Query}
+use Rattle.ds_store.specs.declared.command.Command.{Command}
+use Rattle.ds_store.specs.declared.command.Command.TheVariants as commands
+use Rattle.ds_words.specs.Lines.{ended, IsUnbroken}
+use Rattle.ds_line.specs.declared.fault.LineFault.{LineFault}
+use Rattle.ds_line.specs.declared.fault.LineFault.TheVariants.{BadLine, NoRoom}
+use Rattle.ds_words.specs.declared.command.ScriptCommand.{ScriptCommand}
+use Rattle.ds_words.specs.declared.command.ScriptCommand.TheVariants.{Offer, Show, All, Publish, Delete, Sweep, Retrieve, NameOf, Subscribe, Check, Map, Entries}
+
+-- `offer`
+abbrev pub offer_word : List ℕ
+offer_word = 111 ∷ 102 ∷ 102 ∷ 101 ∷ 114 ∷ []
+
+-- `show`
+abbrev pub show_word : List ℕ
+show_word = 115 ∷ 104 ∷ 111 ∷ 119 ∷ []
+
+-- `all`
+abbrev pub all_word : List ℕ
+all_word = 97 ∷ 108 ∷ 108 ∷ []
+
+-- `publish`
+abbrev pub publish_word : List ℕ
+publish_word = 112 ∷ 117 ∷ 98 ∷ 108 ∷ 105 ∷ 115 ∷ 104 ∷ []
+
+-- `delete`
+abbrev pub delete_word : List ℕ
+delete_word = 100 ∷ 101 ∷ 108 ∷ 101 ∷ 116 ∷ 101 ∷ []
+
+-- `sweep`
+abbrev pub sweep_word : List ℕ
+sweep_word = 115 ∷ 119 ∷ 101 ∷ 101 ∷ 112 ∷ []
+
+-- `retrieve`
+abbrev pub retrieve_word : List ℕ
+retrieve_word = 114 ∷ 101 ∷ 116 ∷ 114 ∷ 105 ∷ 101 ∷ 118 ∷ 101 ∷ []
+
+-- `nameof`
+abbrev pub nameof_word : List ℕ
+nameof_word = 110 ∷ 97 ∷ 109 ∷ 101 ∷ 111 ∷ 102 ∷ []
+
+-- `subscribe`
+abbrev pub subscribe_word : List ℕ
+subscribe_word = 115 ∷ 117 ∷ 98 ∷ 115 ∷ 99 ∷ 114 ∷ 105 ∷ 98 ∷ 101 ∷ []
+
+-- `check`
+abbrev pub check_word : List ℕ
+check_word = 99 ∷ 104 ∷ 101 ∷ 99 ∷ 107 ∷ []
+
+-- `map`
+abbrev pub map_word : List ℕ
+map_word = 109 ∷ 97 ∷ 112 ∷ []
+
+-- `entries`
+abbrev pub entries_word : List ℕ
+entries_word = 101 ∷ 110 ∷ 116 ∷ 114 ∷ 105 ∷ 101 ∷ 115 ∷ []
+
+-- `first` for a subscription that is shown what is held already, else `later`
+abbrev pub initial_word : Bool → List ℕ
+initial_word true = 102 ∷ 105 ∷ 114 ∷ 115 ∷ 116 ∷ []
+initial_word false = 108 ∷ 97 ∷ 116 ∷ 101 ∷ 114 ∷ []
+
+-- `over` with overwrite, else `new`
+abbrev pub mode_word : Bool → List ℕ
+mode_word true = 111 ∷ 118 ∷ 101 ∷ 114 ∷ []
+mode_word false = 110 ∷ 101 ∷ 119 ∷ []
+
+-- the name and the word of the kind
+abbrev pub key_parts : Key → List Part
+key_parts key = part Name key.name ∷ space ∷ part Word (kind_word key.kind) ∷ []
+
+-- the epoch, a dot, and the sequence number
+abbrev pub version_parts : Version → List Part
+version_parts version = part Number (decimal version.epoch) ∷ byte 46 ∷ part Number (decimal version.seq) ∷ []
+
+-- the pattern in quotes, and the mask of the kinds
+abbrev pub query_parts : Query → List Part
+query_parts query = part Quoted (quoted query.text) ∷ space ∷ part Number (decimal query.kinds) ∷ []
+
+-- the word of a command
+abbrev pub word_of : ScriptCommand → List ℕ
+word_of (Offer c) = offer_word
+word_of Show = show_word
+word_of All = all_word
+word_of (Publish caller key version value overwrite) = publish_word
+word_of (Delete caller key version) = delete_word
+word_of (Sweep caller owner generation) = sweep_word
+word_of (Retrieve key) = retrieve_word
+word_of (NameOf endpoint) = nameof_word
+word_of (Subscribe sub query initial overwrite) = subscribe_word
+word_of (Check sub max) = check_word
+word_of (Map query) = map_word
+word_of (Entries map) = entries_word
+
+-- the parts behind it: what the command takes, and the newline
+abbrev pub behind_word : ScriptCommand → List Part
+behind_word (Offer c) = space ∷ change_parts c
+behind_word Show = newline ∷ []
+behind_word All = newline ∷ []
+behind_word (Publish caller key version value overwrite) =
+    space ∷ part Endpoint (endpoint_text caller) ∷ space ∷ part Word (mode_word overwrite) ∷ space
+    ∷ (key_parts key ++ space ∷ (version_parts version ++ space ∷ body_parts (Put value)))
+behind_word (Delete caller key version) =
+    space ∷ part Endpoint (endpoint_text caller) ∷ space ∷ (key_parts key ++ space ∷ (version_parts version ++ newline ∷ []))
+behind_word (Sweep caller owner generation) =
+    space ∷ part Endpoint (endpoint_text caller) ∷ space ∷ part Name owner ∷ space ∷ part Number (decimal generation) ∷ newline ∷ []
+behind_word (Retrieve key) = space ∷ (key_parts key ++ newline ∷ [])
+behind_word (NameOf endpoint) = space ∷ part Endpoint (endpoint_text endpoint) ∷ newline ∷ []
+behind_word (Subscribe sub query initial overwrite) =
+    space ∷ part Number (decimal sub) ∷ space
+    ∷ (query_parts query ++ space ∷ part Word (initial_word initial) ∷ space ∷ part Word (mode_word overwrite) ∷ newline ∷ [])
+behind_word (Check sub max) = space ∷ part Number (decimal sub) ∷ space ∷ part Number (decimal max) ∷ newline ∷ []
+behind_word (Map query) = space ∷ (query_parts query ++ newline ∷ [])
+behind_word (Entries map) = space ∷ part Number (decimal map) ∷ newline ∷ []
+
+-- the parts of a command's line: its word, and what it takes
+abbrev pub command_parts : ScriptCommand → List Part
+command_parts command = part Word (word_of command) ∷ behind_word command
+
+-- the numbers of a version are in their ranges
+pub record IsVersion (version : Version) : Type 0 where
+  pub epoch : version.epoch ≤ 2097151
+  pub seq : version.seq < 2 ^ 32
+
+-- The text has no newline, and some of the four kinds are named. Whether the text is a pattern is judged by whoever
+-- takes the query up.
+pub record IsQuery (query : Query) : Type 0 where
+  pub text : IsUnbroken query.text
+  pub some : 0 < query.kinds
+  pub limit : query.kinds ≤ 15
+
+-- What a command takes is valid. But for an offer, the rules of labels and of sequence numbers aren't judged here: the
+-- store judges what is published.
+abbrev pub IsCommand : ScriptCommand → Type 0
+IsCommand (Offer c) = IsChange c
+IsCommand Show = Unit {0}
+IsCommand All = Unit {0}
+IsCommand (Publish caller key version value overwrite) = IsEndpoint caller × IsName key.name × IsVersion version × IsValueOf key.kind value
+IsCommand (Delete caller key version) = IsEndpoint caller × IsName key.name × IsVersion version
+IsCommand (Sweep caller owner generation) = IsEndpoint caller × IsName owner × (generation ≤ 2097151)
+IsCommand (Retrieve key) = IsName key.name
+IsCommand (NameOf endpoint) = IsEndpoint endpoint
+IsCommand (Subscribe sub query initial overwrite) = (sub < 2 ^ 32) × IsQuery query
+IsCommand (Check sub max) = (sub < 2 ^ 32) × (max < 2 ^ 32)
+IsCommand (Map query) = IsQuery query
+IsCommand (Entries map) = map < 2 ^ 64
+
+-- what the line asks of a store takes no memory: it has no change, no value and no pattern, or the line asks nothing
+abbrev pub is_plain : ScriptCommand → Bool
+is_plain (Offer c) = false
+is_plain Show = true
+is_plain All = true
+is_plain (Publish caller key version value overwrite) = false
+is_plain (Delete caller key version) = true
+is_plain (Sweep caller owner generation) = true
+is_plain (Retrieve key) = true
+is_plain (NameOf endpoint) = true
+is_plain (Subscribe sub query initial overwrite) = false
+is_plain (Check sub max) = true
+is_plain (Map query) = true
+is_plain (Entries map) = true
+
+-- what the line asks of a store: an offer is a Merge of one item
+abbrev pub store_command : ScriptCommand → Option Command
+store_command (Offer c) = Some (commands.Merge (c ∷ []))
+store_command Show = None
+store_command All = None
+store_command (Publish caller key version value overwrite) = Some (commands.Publish caller key version value overwrite)
+store_command (Delete caller key version) = Some (commands.Delete caller key version)
+store_command (Sweep caller owner generation) = Some (commands.Sweep caller owner generation)
+store_command (Retrieve key) = Some (commands.Retrieve key)
+store_command (NameOf endpoint) = Some (commands.NameOf endpoint)
+store_command (Subscribe sub query initial overwrite) = Some (commands.Subscribe sub query initial overwrite)
+store_command (Check sub max) = Some (commands.Check sub max)
+store_command (Map query) = None
+store_command (Entries map) = None
+
+-- ---- a line with its newline
+
+-- the bytes are no command's line, and the first part of one that can't be read begins at the place
+pub record IsCommandFault (bytes : List ℕ) (place : ℕ) : Type 0 where
+  pub none : (command : ScriptCommand) → IsCommand command → bytes ≢ texts (command_parts command)
+  pub first : IsFaultPlace IsCommand command_parts bytes place
+
+-- what the reader of a line, newline included, answers: there is no room for commands alone
+abbrev pub Reads : List ℕ → Result ScriptCommand LineFault → Type 0
+Reads bytes (Ok command) = IsCommand command × (bytes ≡ texts (command_parts command))
+Reads bytes (Err (BadLine place)) = IsCommandFault bytes place
+Reads bytes (Err NoRoom) = (command : ScriptCommand) × IsCommand command × (bytes ≡ texts (command_parts command))
+
+-- ---- lines
+
+-- the line, without its newline, is the command's
+pub record IsLineOf (command : ScriptCommand) (line : List ℕ) : Type 0 where
+  pub written : IsCommand command
+  pub text : ended line ≡ texts (command_parts command)
+  pub short : length line ≤ 4096
+
+-- a line above 4096 bytes is bad there, whatever it holds
+abbrev pub IsBadLine : List ℕ → ℕ → Type 0
+IsBadLine line place = ((4096 < length line) × (place ≡ 4096)) ⊎ ((length line ≤ 4096) × IsCommandFault (ended line) place)
+
+-- why a line isn't read: it is bad, or it is a command's, and there is no room for it
+abbrev pub IsLineFault : LineFault → List ℕ → Type 0
+IsLineFault (BadLine place) line = IsBadLine line place
+IsLineFault NoRoom line = (command : ScriptCommand) × IsLineOf command line

@@ -1,0 +1,4 @@
+pub mod Lines
+pub mod Command
+pub mod Pieces
+pub mod Reply

@@ -1,0 +1,111 @@
+-- What the readers of a command's pieces find. Each piece begins with the byte that parts it from the one before it.
+use Rattle.std.specs.Prelude.{◌≡◌, ℕ, ◌<◌, ◌≤◌, ◌^◌, Bool, List, [], ◌∷◌, Result, Ok, Err}
+use Rattle.std.specs.Fmt.{decimal}
+use Rattle.ds_names.specs.Name.{IsName}
+use Rattle.ds_names.specs.Endpoint.{EndpointRecord, IsEndpoint, endpoint_text}
+use Rattle.ds_names.specs.declared.kind.Kind.{Kind}
+use Rattle.ds_names.specs.declared.key.Key.{Key}
+use Rattle.ds_names.specs.declared.version.Version.{Version}
+use Rattle.ds_entry.specs.declared.body.Value.{Value}
+use Rattle.ds_entry.specs.declared.body.Body.TheVariants.{Put}
+use Rattle.ds_line.specs.Part.{part, byte, Word as AWord, Name, Number, Endpoint, Quoted}
+use Rattle.ds_line.specs.Spelling.{space, newline, kind_word, escaped, quoted, body_parts}
+use Rattle.ds_line.specs.Piece.{Piece, Found, StopsIn, IsValueOf}
+use Rattle.ds_line.specs.declared.stop.Stop.{Stop}
+use Rattle.ds_words.specs.Lines.{IsUnbroken}
+use Rattle.ds_words.specs.declared.command.ScriptCommand.{ScriptCommand}
+use Rattle.ds_words.specs.Command.{IsCommand, IsVersion, word_of, behind_word, initial_word, mode_word, key_parts, version_parts, offer_word, show_word, all_word, publish_word, delete_word, sweep_word, retrieve_word, nameof_word, subscribe_word, check_word, map_word, entries_word}
+use Rattle.ds_words.specs.declared.word.Word.{Word}
+use Rattle.ds_words.specs.declared.word.Word.TheVariants as words
+
+-- an endpoint
+abbrev pub an_endpoint : Piece
+an_endpoint = record { Of = EndpointRecord; Can = IsEndpoint; parts = λ (e : EndpointRecord). space ∷ part Endpoint (endpoint_text e) ∷ [] }
+
+-- `new`, or `over`
+abbrev pub a_mode : Piece
+a_mode = record { Of = Bool; Can = λ (overwrite : Bool). Unit {0}; parts = λ (overwrite : Bool). space ∷ part AWord (mode_word overwrite) ∷ [] }
+
+-- `first`, or `later`
+abbrev pub an_initial : Piece
+an_initial = record { Of = Bool; Can = λ (initial : Bool). Unit {0}; parts = λ (initial : Bool). space ∷ part AWord (initial_word initial) ∷ [] }
+
+-- a name
+abbrev pub a_name : Piece
+a_name = record { Of = List ℕ; Can = IsName; parts = λ (name : List ℕ). space ∷ part Name name ∷ [] }
+
+-- the word of a kind
+abbrev pub a_kind : Piece
+a_kind = record { Of = Kind; Can = λ (kind : Kind). Unit {0}; parts = λ (kind : Kind). space ∷ part AWord (kind_word kind) ∷ [] }
+
+-- a key
+abbrev pub a_key : Piece
+a_key = record { Of = Key; Can = λ (key : Key). IsName key.name; parts = λ (key : Key). space ∷ key_parts key }
+
+-- a generation
+abbrev pub a_generation : Piece
+a_generation = record { Of = ℕ; Can = λ (n : ℕ). n ≤ 2097151; parts = λ (n : ℕ). space ∷ part Number (decimal n) ∷ [] }
+
+-- a sequence number
+abbrev pub a_seq : Piece
+a_seq = record { Of = ℕ; Can = λ (n : ℕ). n < 2 ^ 32; parts = λ (n : ℕ). byte 46 ∷ part Number (decimal n) ∷ [] }
+
+-- a version
+abbrev pub a_version : Piece
+a_version = record { Of = Version; Can = IsVersion; parts = λ (version : Version). space ∷ version_parts version }
+
+-- a number below 2^32
+abbrev pub a_number : Piece
+a_number = record { Of = ℕ; Can = λ (n : ℕ). n < 2 ^ 32; parts = λ (n : ℕ). space ∷ part Number (decimal n) ∷ [] }
+
+-- a number below 2^64
+abbrev pub a_place : Piece
+a_place = record { Of = ℕ; Can = λ (n : ℕ). n < 2 ^ 64; parts = λ (n : ℕ). space ∷ part Number (decimal n) ∷ [] }
+
+-- the mask of some kinds
+abbrev pub a_kinds : Piece
+a_kinds = record { Of = ℕ; Can = λ (n : ℕ). (0 < n) × (n ≤ 15); parts = λ (n : ℕ). space ∷ part Number (decimal n) ∷ [] }
+
+-- the text of a pattern, in quotes
+abbrev pub a_pattern : Piece
+a_pattern = record { Of = List ℕ; Can = IsUnbroken; parts = λ (text : List ℕ). space ∷ part Quoted (quoted text) ∷ [] }
+
+-- a text without a newline is written so between its quotes
+abbrev pub IsWrittenText : List ℕ → Type 0
+IsWrittenText written = (text : List ℕ) × IsUnbroken text × (written ≡ escaped text)
+
+-- a pattern is found whose text is written so
+abbrev pub FindsPattern : List ℕ → List ℕ → List ℕ → Type 0
+FindsPattern written bytes rest = (text : List ℕ) × (written ≡ escaped text) × Found a_pattern text bytes rest
+
+-- `=`, a value of the kind, and the newline
+abbrev pub a_value : Kind → Piece
+a_value kind = record { Of = Value; Can = IsValueOf kind; parts = λ (value : Value). space ∷ body_parts (Put value) }
+
+-- the newline
+abbrev pub an_end : Piece
+an_end = record { Of = Unit {0}; Can = λ x. Unit {0}; parts = λ x. newline ∷ [] }
+
+-- what the commands of a word take
+abbrev pub taken_by : List ℕ → Piece
+taken_by word = record { Of = ScriptCommand; Can = λ (command : ScriptCommand). IsCommand command × (word_of command ≡ word); parts = behind_word }
+
+-- what the reader of it answers
+abbrev pub Takes : List ℕ → List ℕ → Result ScriptCommand Stop → Type 0
+Takes word bytes (Ok command) = (rest : List ℕ) × Found (taken_by word) command bytes rest
+Takes word bytes (Err stop) = StopsIn (taken_by word) stop bytes
+
+-- the text of a command's word
+abbrev pub text_of : Word → List ℕ
+text_of words.Offer = offer_word
+text_of words.Show = show_word
+text_of words.All = all_word
+text_of words.Publish = publish_word
+text_of words.Delete = delete_word
+text_of words.Sweep = sweep_word
+text_of words.Retrieve = retrieve_word
+text_of words.NameOf = nameof_word
+text_of words.Subscribe = subscribe_word
+text_of words.Check = check_word
+text_of words.Map = map_word
+text_of words.Entries = entries_word

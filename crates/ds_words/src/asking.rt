@@ -1,0 +1,134 @@
+//! What a line asks of a store.
+
+ghost use Rattle.std.specs.Prelude.{◌≡◌, ◌∷◌, [], true, false, IfOk, OnErr};
+ghost use Rattle.ds_store.specs.declared.command.Command.TheVariants as commands;
+ghost use Rattle.ds_words.specs.Command.{is_plain, store_command};
+
+use crate::command::ScriptCommand;
+use ds_entry::{Change, Items};
+use ds_names::NoRoom;
+use ds_store::Command;
+use std::alloc::Global;
+
+#[cfg(test)]
+mod tests;
+
+impl ScriptCommand {
+    /// The store's command of the line, with copies of what the line has. `None` for a line that asks nothing of a
+    /// store: `show`, `all`, `map` and `entries`. An `offer` is a Merge of one item. NoRoom: out of memory for the
+    /// copies of a change, a value or a pattern, and for no other line.
+    pub fn store_command(&self, alloc: Global) -> Result<Option<Command>, NoRoom>
+        ensures command { IfOk result (λ command. command ≡ store_command self.now) }
+        ensures room { OnErr result (is_plain self.now ≡ false) }
+    {
+        match self {
+            ScriptCommand::Offer(change) => Ok(Some(merge_of(alloc, change.copy(alloc)?)?)),
+            ScriptCommand::Publish {
+                caller,
+                key,
+                version,
+                value,
+                overwrite,
+            } => Ok(Some(Command::Publish {
+                caller: *caller,
+                key: *key,
+                version: *version,
+                value: value.copy(alloc)?,
+                overwrite: *overwrite,
+            })),
+            ScriptCommand::Subscribe {
+                sub,
+                query,
+                initial,
+                overwrite,
+            } => Ok(Some(Command::Subscribe {
+                sub: *sub,
+                query: query.copy(alloc)?,
+                initial: *initial,
+                overwrite: *overwrite,
+            })),
+            _ => Ok(self.plain_command()),
+        }
+    }
+
+    /// The store's command of the line, as `store_command` gives it, made of what the line has. NoRoom: out of memory
+    /// for the list of an `offer`'s one item.
+    pub fn into_store_command(self, alloc: Global) -> Result<Option<Command>, NoRoom>
+        ensures command { IfOk result (λ command. command ≡ store_command self) }
+        ensures room { OnErr result (is_plain self ≡ false) }
+    {
+        match self {
+            ScriptCommand::Offer(change) => Ok(Some(merge_of(alloc, change)?)),
+            ScriptCommand::Publish {
+                caller,
+                key,
+                version,
+                value,
+                overwrite,
+            } => Ok(Some(Command::Publish {
+                caller,
+                key,
+                version,
+                value,
+                overwrite,
+            })),
+            ScriptCommand::Subscribe {
+                sub,
+                query,
+                initial,
+                overwrite,
+            } => Ok(Some(Command::Subscribe {
+                sub,
+                query,
+                initial,
+                overwrite,
+            })),
+            plain => Ok(plain.plain_command()),
+        }
+    }
+
+    // The store's command of a line that asks for what takes no memory, and `None` for one that asks nothing.
+    fn plain_command(&self) -> Option<Command>
+        requires { is_plain self.now ≡ true }
+        ensures { result ≡ store_command self.now }
+    {
+        match self {
+            ScriptCommand::Delete {
+                caller,
+                key,
+                version,
+            } => Some(Command::Delete {
+                caller: *caller,
+                key: *key,
+                version: *version,
+            }),
+            ScriptCommand::Sweep {
+                caller,
+                owner,
+                generation,
+            } => Some(Command::Sweep {
+                caller: *caller,
+                owner: *owner,
+                generation: *generation,
+            }),
+            ScriptCommand::Retrieve { key } => Some(Command::Retrieve { key: *key }),
+            ScriptCommand::NameOf { endpoint } => Some(Command::NameOf {
+                endpoint: *endpoint,
+            }),
+            ScriptCommand::Check { sub, max } => Some(Command::Check {
+                sub: *sub,
+                max: *max,
+            }),
+            _ => None,
+        }
+    }
+}
+
+// A Merge of one item.
+fn merge_of(alloc: Global, change: Change) -> Result<Command, NoRoom>
+    ensures { IfOk result (λ command. command ≡ commands.Merge (change ∷ [])) }
+{
+    let mut items = Items::new(alloc);
+    items.push(change)?;
+    Ok(Command::Merge { items })
+}

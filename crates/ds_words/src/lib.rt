@@ -1,0 +1,23 @@
+//! The words of scripts and traces: commands on lines, and the lines that answer a store's replies.
+//!
+//! A line is one command with what it takes: `offer CHANGE` merges a change, as a replica that is told of it would;
+//! `publish`, `delete`, `sweep`, `retrieve` and `nameof` ask for what a process or RS asks of MINIX 3's data store, and
+//! `subscribe` and `check` what a subscriber asks for; `show` and `all` ask for what is held, `map` and `entries` for a
+//! map of a query and what stands in it. The lines and their answers are of this project.
+#![tactic(auto)]
+
+mod asking;
+mod checked;
+mod command;
+mod lines;
+mod pieces;
+mod query;
+mod reading;
+mod reply;
+mod split;
+mod word;
+
+pub use command::ScriptCommand;
+pub use reading::{LONGEST_LINE, read_command, read_line};
+pub use reply::{append_noroom, append_reply, write_reply};
+pub use split::split_line;

@@ -1,0 +1,162 @@
+//! What the lines of each command have behind their word.
+
+ghost use Rattle.ds_words.specs.Command.{offer_word, show_word, all_word, publish_word, delete_word, sweep_word, retrieve_word, nameof_word, subscribe_word, check_word, map_word, entries_word};
+ghost use Rattle.ds_words.specs.Pieces.{Takes};
+
+use crate::command::ScriptCommand;
+use crate::pieces::Rest;
+use crate::query::query_of;
+use ds_line::{LineFault, Stop, read_change, stop_at};
+use ds_names::read_byte;
+use std::alloc::Global;
+
+/// Reads what follows `show`.
+pub(crate) fn show_at(rest: &mut Rest) -> Result<ScriptCommand, Stop>
+    ensures { Takes show_word rest.old.bytes.now result }
+{
+    rest.end()?;
+    Ok(ScriptCommand::Show)
+}
+
+/// Reads what follows `all`.
+pub(crate) fn all_at(rest: &mut Rest) -> Result<ScriptCommand, Stop>
+    ensures { Takes all_word rest.old.bytes.now result }
+{
+    rest.end()?;
+    Ok(ScriptCommand::All)
+}
+
+/// Reads what follows `offer`.
+pub(crate) fn offer_at(alloc: Global, rest: &mut Rest) -> Result<ScriptCommand, Stop>
+    ensures { Takes offer_word rest.old.bytes.now result }
+{
+    let Some(text) = read_byte(rest.bytes, b' ') else {
+        return Err(stop_at(rest.bytes));
+    };
+    match read_change(alloc, text) {
+        Ok((change, _)) => Ok(ScriptCommand::Offer(change)),
+        Err(LineFault::BadLine { place }) => Err(Stop::BadPart {
+            left: text.len() - place,
+        }),
+        Err(LineFault::NoRoom) => Err(Stop::NoRoom),
+    }
+}
+
+/// Reads what follows `publish`.
+pub(crate) fn publish_at(alloc: Global, rest: &mut Rest) -> Result<ScriptCommand, Stop>
+    ensures { Takes publish_word rest.old.bytes.now result }
+{
+    let caller = rest.endpoint()?;
+    let overwrite = rest.mode()?;
+    let key = rest.key()?;
+    let version = rest.version()?;
+    let value = rest.value(alloc, key.kind)?;
+    Ok(ScriptCommand::Publish {
+        caller,
+        key,
+        version,
+        value,
+        overwrite,
+    })
+}
+
+/// Reads what follows `delete`.
+pub(crate) fn delete_at(rest: &mut Rest) -> Result<ScriptCommand, Stop>
+    ensures { Takes delete_word rest.old.bytes.now result }
+{
+    let caller = rest.endpoint()?;
+    let key = rest.key()?;
+    let version = rest.version()?;
+    rest.end()?;
+    Ok(ScriptCommand::Delete {
+        caller,
+        key,
+        version,
+    })
+}
+
+/// Reads what follows `sweep`.
+pub(crate) fn sweep_at(rest: &mut Rest) -> Result<ScriptCommand, Stop>
+    ensures { Takes sweep_word rest.old.bytes.now result }
+{
+    let caller = rest.endpoint()?;
+    let owner = rest.name()?;
+    let generation = rest.generation()?;
+    rest.end()?;
+    Ok(ScriptCommand::Sweep {
+        caller,
+        owner,
+        generation,
+    })
+}
+
+/// Reads what follows `retrieve`.
+pub(crate) fn retrieve_at(rest: &mut Rest) -> Result<ScriptCommand, Stop>
+    ensures { Takes retrieve_word rest.old.bytes.now result }
+{
+    let key = rest.key()?;
+    rest.end()?;
+    Ok(ScriptCommand::Retrieve { key })
+}
+
+/// Reads what follows `nameof`.
+pub(crate) fn nameof_at(rest: &mut Rest) -> Result<ScriptCommand, Stop>
+    ensures { Takes nameof_word rest.old.bytes.now result }
+{
+    let endpoint = rest.endpoint()?;
+    rest.end()?;
+    Ok(ScriptCommand::NameOf { endpoint })
+}
+
+/// Reads what follows `subscribe`.
+pub(crate) fn subscribe_at(alloc: Global, rest: &mut Rest) -> Result<ScriptCommand, Stop>
+    ensures { Takes subscribe_word rest.old.bytes.now result }
+{
+    let sub = rest.number()?;
+    let text = rest.pattern()?;
+    let kinds = rest.kinds()?;
+    let initial = rest.initial()?;
+    let overwrite = rest.mode()?;
+    rest.end()?;
+    let Ok(query) = query_of(alloc, text, kinds) else {
+        return Err(Stop::NoRoom);
+    };
+    Ok(ScriptCommand::Subscribe {
+        sub,
+        query,
+        initial,
+        overwrite,
+    })
+}
+
+/// Reads what follows `check`.
+pub(crate) fn check_at(rest: &mut Rest) -> Result<ScriptCommand, Stop>
+    ensures { Takes check_word rest.old.bytes.now result }
+{
+    let sub = rest.number()?;
+    let max = rest.number()?;
+    rest.end()?;
+    Ok(ScriptCommand::Check { sub, max })
+}
+
+/// Reads what follows `map`.
+pub(crate) fn map_at(alloc: Global, rest: &mut Rest) -> Result<ScriptCommand, Stop>
+    ensures { Takes map_word rest.old.bytes.now result }
+{
+    let text = rest.pattern()?;
+    let kinds = rest.kinds()?;
+    rest.end()?;
+    let Ok(query) = query_of(alloc, text, kinds) else {
+        return Err(Stop::NoRoom);
+    };
+    Ok(ScriptCommand::Map { query })
+}
+
+/// Reads what follows `entries`.
+pub(crate) fn entries_at(rest: &mut Rest) -> Result<ScriptCommand, Stop>
+    ensures { Takes entries_word rest.old.bytes.now result }
+{
+    let map = rest.place()?;
+    rest.end()?;
+    Ok(ScriptCommand::Entries { map })
+}

@@ -1,0 +1,261 @@
+//! Readers of the pieces of a line.
+
+ghost use Rattle.std.specs.Prelude.{◌≡◌, ◌≢◌, ◌∷◌, List, ℕ, Bool, length, IfOk, IfErr, OnOk, IfSome, IfNone};
+ghost use Rattle.ds_words.specs.Command.{initial_word, mode_word};
+ghost use Rattle.ds_line.specs.Piece.{Found, StopsIn};
+ghost use Rattle.ds_line.specs.declared.stop.Stop.TheVariants.{BadPart, NoRoom};
+ghost use Rattle.ds_words.specs.Pieces.{an_endpoint, an_initial, a_mode, a_name, a_kind, a_key, a_generation, a_seq, a_version, a_number, a_place, a_kinds, a_value, an_end};
+
+use ds_entry::Value;
+use ds_line::{Stop, behind_name, endpoint_at, kind_at, last_value_at, name_at, stop_at, word_at};
+use ds_names::{Endpoint, Generation, Key, Kind, Kinds, Name, Version, read_byte, read_decimal};
+use std::alloc::Global;
+
+/// What isn't read yet of a line. Each reader leaves out what it reads: a piece, and before it the byte that parts it
+/// from the piece before.
+#[derive(Clone, Copy)]
+pub(crate) struct Rest<'a> {
+    pub bytes: &'a [u8],
+}
+
+impl Rest<'_> {
+    /// Reads one byte.
+    pub fn byte(&mut self, byte: u8) -> Result<(), Stop>
+        ensures found { OnOk result (self.old.bytes.now ≡ byte ∷ self.new.bytes.now) }
+        ensures stop { IfErr result (λ stop. stop ≡ BadPart (length self.old.bytes.now)) }
+        ensures none { IfErr result (λ stop. (rest : List ℕ) → self.old.bytes.now ≢ byte ∷ rest) }
+    {
+        match read_byte(self.bytes, byte) {
+            Some(rest) => {
+                self.bytes = rest;
+                Ok(())
+            }
+            None => Err(stop_at(self.bytes)),
+        }
+    }
+
+    /// Reads an endpoint.
+    pub fn endpoint(&mut self) -> Result<Endpoint, Stop>
+        ensures found { IfOk result (λ endpoint. Found an_endpoint endpoint self.old.bytes.now self.new.bytes.now) }
+        ensures stop { IfErr result (λ stop. StopsIn an_endpoint stop self.old.bytes.now) }
+        ensures room { IfErr result (λ stop. stop ≢ NoRoom) }
+    {
+        self.byte(b' ')?;
+        let Some(read) = endpoint_at(self.bytes) else {
+            return Err(stop_at(self.bytes));
+        };
+        let (endpoint, rest) = read;
+        self.bytes = rest;
+        Ok(endpoint)
+    }
+
+    /// Reads `new` or `over`, and gives whether it is `over`.
+    pub fn mode(&mut self) -> Result<bool, Stop>
+        ensures found { IfOk result (λ overwrite. Found a_mode overwrite self.old.bytes.now self.new.bytes.now) }
+        ensures stop { IfErr result (λ stop. StopsIn a_mode stop self.old.bytes.now) }
+        ensures room { IfErr result (λ stop. stop ≢ NoRoom) }
+    {
+        self.byte(b' ')?;
+        let (word, rest) = word_at(self.bytes);
+        let Some(overwrite) = mode_of(word) else {
+            return Err(stop_at(self.bytes));
+        };
+        self.bytes = rest;
+        Ok(overwrite)
+    }
+
+    /// Reads `first` or `later`, and gives whether it is `first`.
+    pub fn initial(&mut self) -> Result<bool, Stop>
+        ensures found { IfOk result (λ initial. Found an_initial initial self.old.bytes.now self.new.bytes.now) }
+        ensures stop { IfErr result (λ stop. StopsIn an_initial stop self.old.bytes.now) }
+        ensures room { IfErr result (λ stop. stop ≢ NoRoom) }
+    {
+        self.byte(b' ')?;
+        let (word, rest) = word_at(self.bytes);
+        let Some(initial) = initial_of(word) else {
+            return Err(stop_at(self.bytes));
+        };
+        self.bytes = rest;
+        Ok(initial)
+    }
+
+    /// Reads a name.
+    pub fn name(&mut self) -> Result<Name, Stop>
+        ensures found { IfOk result (λ name. Found a_name name self.old.bytes.now self.new.bytes.now) }
+        ensures stop { IfErr result (λ stop. StopsIn a_name stop self.old.bytes.now) }
+        ensures room { IfErr result (λ stop. stop ≢ NoRoom) }
+    {
+        self.byte(b' ')?;
+        let Some(name) = name_at(self.bytes) else {
+            return Err(stop_at(self.bytes));
+        };
+        self.bytes = behind_name(self.bytes, &name);
+        Ok(name)
+    }
+
+    // Reads the word of a kind.
+    fn kind(&mut self) -> Result<Kind, Stop>
+        ensures found { IfOk result (λ kind. Found a_kind kind self.old.bytes.now self.new.bytes.now) }
+        ensures stop { IfErr result (λ stop. StopsIn a_kind stop self.old.bytes.now) }
+        ensures room { IfErr result (λ stop. stop ≢ NoRoom) }
+    {
+        self.byte(b' ')?;
+        let Some((kind, rest)) = kind_at(self.bytes) else {
+            return Err(stop_at(self.bytes));
+        };
+        self.bytes = rest;
+        Ok(kind)
+    }
+
+    /// Reads a key: a name and a kind.
+    pub fn key(&mut self) -> Result<Key, Stop>
+        ensures found { IfOk result (λ key. Found a_key key self.old.bytes.now self.new.bytes.now) }
+        ensures stop { IfErr result (λ stop. StopsIn a_key stop self.old.bytes.now) }
+        ensures room { IfErr result (λ stop. stop ≢ NoRoom) }
+    {
+        let name = self.name()?;
+        let kind = self.kind()?;
+        Ok(Key { name, kind })
+    }
+
+    /// Reads a generation.
+    pub fn generation(&mut self) -> Result<Generation, Stop>
+        ensures found { IfOk result (λ n. Found a_generation n self.old.bytes.now self.new.bytes.now) }
+        ensures stop { IfErr result (λ stop. StopsIn a_generation stop self.old.bytes.now) }
+        ensures room { IfErr result (λ stop. stop ≢ NoRoom) }
+    {
+        self.byte(b' ')?;
+        let Some((number, rest)) = read_decimal(self.bytes, 2097151) else {
+            return Err(stop_at(self.bytes));
+        };
+        let Some(generation) = Generation::of(number as u32) else {
+            return Err(stop_at(self.bytes));
+        };
+        self.bytes = rest;
+        Ok(generation)
+    }
+
+    // Reads a dot and a sequence number.
+    fn seq(&mut self) -> Result<u32, Stop>
+        ensures found { IfOk result (λ n. Found a_seq n self.old.bytes.now self.new.bytes.now) }
+        ensures stop { IfErr result (λ stop. StopsIn a_seq stop self.old.bytes.now) }
+        ensures room { IfErr result (λ stop. stop ≢ NoRoom) }
+    {
+        self.byte(b'.')?;
+        let Some((number, rest)) = read_decimal(self.bytes, 4294967295) else {
+            return Err(stop_at(self.bytes));
+        };
+        self.bytes = rest;
+        Ok(number as u32)
+    }
+
+    /// Reads a version: an epoch, a dot and a sequence number.
+    pub fn version(&mut self) -> Result<Version, Stop>
+        ensures found { IfOk result (λ version. Found a_version version self.old.bytes.now self.new.bytes.now) }
+        ensures stop { IfErr result (λ stop. StopsIn a_version stop self.old.bytes.now) }
+        ensures room { IfErr result (λ stop. stop ≢ NoRoom) }
+    {
+        let epoch = self.generation()?;
+        let seq = self.seq()?;
+        Ok(Version { epoch, seq })
+    }
+
+    /// Reads a number below 2^32.
+    pub fn number(&mut self) -> Result<u32, Stop>
+        ensures found { IfOk result (λ n. Found a_number n self.old.bytes.now self.new.bytes.now) }
+        ensures stop { IfErr result (λ stop. StopsIn a_number stop self.old.bytes.now) }
+        ensures room { IfErr result (λ stop. stop ≢ NoRoom) }
+    {
+        self.byte(b' ')?;
+        let Some((number, rest)) = read_decimal(self.bytes, 4294967295) else {
+            return Err(stop_at(self.bytes));
+        };
+        self.bytes = rest;
+        Ok(number as u32)
+    }
+
+    /// Reads a number below 2^64.
+    pub fn place(&mut self) -> Result<u64, Stop>
+        ensures found { IfOk result (λ n. Found a_place n self.old.bytes.now self.new.bytes.now) }
+        ensures stop { IfErr result (λ stop. StopsIn a_place stop self.old.bytes.now) }
+        ensures room { IfErr result (λ stop. stop ≢ NoRoom) }
+    {
+        self.byte(b' ')?;
+        let Some((number, rest)) = read_decimal(self.bytes, 18446744073709551615) else {
+            return Err(stop_at(self.bytes));
+        };
+        self.bytes = rest;
+        Ok(number)
+    }
+
+    /// Reads the mask of some kinds.
+    pub fn kinds(&mut self) -> Result<Kinds, Stop>
+        ensures found { IfOk result (λ kinds. Found a_kinds kinds self.old.bytes.now self.new.bytes.now) }
+        ensures stop { IfErr result (λ stop. StopsIn a_kinds stop self.old.bytes.now) }
+        ensures room { IfErr result (λ stop. stop ≢ NoRoom) }
+    {
+        self.byte(b' ')?;
+        let Some((number, rest)) = read_decimal(self.bytes, 15) else {
+            return Err(stop_at(self.bytes));
+        };
+        let Some(kinds) = Kinds::of(number as u8) else {
+            return Err(stop_at(self.bytes));
+        };
+        self.bytes = rest;
+        Ok(kinds)
+    }
+
+    /// Reads `=`, a value of the kind, and the newline.
+    pub fn value(&mut self, alloc: Global, kind: Kind) -> Result<Value, Stop>
+        ensures found { IfOk result (λ value. Found (a_value kind) value self.old.bytes.now self.new.bytes.now) }
+        ensures stop { IfErr result (λ stop. StopsIn (a_value kind) stop self.old.bytes.now) }
+    {
+        self.byte(b' ')?;
+        self.byte(b'=')?;
+        self.byte(b' ')?;
+        match last_value_at(alloc, kind, self.bytes) {
+            Ok((value, rest)) => {
+                self.bytes = rest;
+                Ok(value)
+            }
+            Err(stop) => Err(stop),
+        }
+    }
+
+    /// Reads the newline.
+    pub fn end(&mut self) -> Result<(), Stop>
+        ensures found { IfOk result (λ end. Found an_end end self.old.bytes.now self.new.bytes.now) }
+        ensures stop { IfErr result (λ stop. StopsIn an_end stop self.old.bytes.now) }
+        ensures room { IfErr result (λ stop. stop ≢ NoRoom) }
+    {
+        self.byte(b'\n')
+    }
+}
+
+// Whether a word is `over`, if it is `new` or `over`.
+fn mode_of(word: &[u8]) -> Option<bool>
+    ensures found { IfSome result (λ overwrite. word.now ≡ mode_word overwrite) }
+    ensures none { IfNone result ((overwrite : Bool) → word.now ≢ mode_word overwrite) }
+{
+    if word == b"over".as_slice() {
+        Some(true)
+    } else if word == b"new".as_slice() {
+        Some(false)
+    } else {
+        None
+    }
+}
+
+// Whether a word is `first`, if it is `first` or `later`.
+fn initial_of(word: &[u8]) -> Option<bool>
+    ensures found { IfSome result (λ initial. word.now ≡ initial_word initial) }
+    ensures none { IfNone result ((initial : Bool) → word.now ≢ initial_word initial) }
+{
+    if word == b"first".as_slice() {
+        Some(true)
+    } else if word == b"later".as_slice() {
+        Some(false)
+    } else {
+        None
+    }
+}

@@ -1,0 +1,95 @@
+//! Queries as lines write them: a pattern in quotes, and the mask of the kinds.
+
+ghost use Rattle.std.specs.Prelude.{◌≡◌, ◌≢◌, ◌++◌, ℕ, List, IfOk, IfErr, IfSome, IfNone};
+ghost use Rattle.ds_line.specs.Spelling.{escaped, escaped_byte, quoted};
+ghost use Rattle.ds_line.specs.Piece.{StopsIn};
+ghost use Rattle.ds_line.specs.declared.stop.Stop.TheVariants.{NoRoom as TheStopForRoom};
+ghost use Rattle.ds_words.specs.Lines.{IsUnbroken};
+ghost use Rattle.ds_words.specs.Pieces.{a_pattern, IsWrittenText, FindsPattern};
+
+use crate::pieces::Rest;
+use ds_line::{Stop, stop_at};
+use ds_names::{Kinds, NoRoom, read_byte};
+use ds_pattern::{PatternText, Query};
+use std::alloc::Global;
+
+impl<'a> Rest<'a> {
+    /// Reads a pattern in quotes, and gives what is written between them: only where the whole line is read does the
+    /// pattern take memory.
+    pub fn pattern(&mut self) -> Result<&'a [u8], Stop>
+        ensures found { IfOk result (λ text. FindsPattern text.now self.old.bytes.now self.new.bytes.now) }
+        ensures stop { IfErr result (λ stop. StopsIn a_pattern stop self.old.bytes.now) }
+        ensures room { IfErr result (λ stop. stop ≢ TheStopForRoom) }
+    {
+        self.byte(b' ')?;
+        let Some((text, rest)) = quoted_at(self.bytes) else {
+            return Err(stop_at(self.bytes));
+        };
+        self.bytes = rest;
+        Ok(text)
+    }
+}
+
+/// The query of a pattern that is written so between its quotes, and of some kinds. NoRoom: out of memory for the
+/// pattern.
+pub(crate) fn query_of(alloc: Global, written: &[u8], kinds: Kinds) -> Result<Query, NoRoom>
+    requires { IsWrittenText written.now }
+    ensures text { IfOk result (λ query. written.now ≡ escaped query.text) }
+    ensures kinds { IfOk result (λ query. query.kinds ≡ kinds) }
+{
+    let text = unescape(alloc, written)?;
+    Ok(Query { text, kinds })
+}
+
+// Reads one byte of a text as it stands in quotes: `\"` is a quote and `\\` a backslash, and each other byte but the
+// newline stands for itself.
+fn written_byte_at(bytes: &[u8]) -> Option<(u8, &[u8])>
+    ensures found { IfSome result (λ r. bytes.now ≡ escaped_byte r.0 ++ r.1.now) }
+    ensures valid { IfSome result (λ r. r.0 ≢ 10) }
+    ensures none { IfNone result ((b : ℕ) (rest : List ℕ) → b ≢ 10 → bytes.now ≢ escaped_byte b ++ rest) }
+{
+    let (first, rest) = bytes.split_first()?;
+    if *first == b'\\' {
+        let (second, rest) = rest.split_first()?;
+        if *second == b'"' || *second == b'\\' {
+            Some((*second, rest))
+        } else {
+            None
+        }
+    } else if *first != b'"' && *first != b'\n' {
+        Some((*first, rest))
+    } else {
+        None
+    }
+}
+
+// Reads the text in quotes at the front, and gives what is written between the quotes with what comes behind them.
+// `None` where no text without a newline is written there.
+fn quoted_at(bytes: &[u8]) -> Option<(&[u8], &[u8])>
+    ensures found { IfSome result (λ r. (text : List ℕ) × IsUnbroken text × (r.0.now ≡ escaped text) × (bytes.now ≡ quoted text ++ r.1.now)) }
+    ensures none { IfNone result ((text rest : List ℕ) → IsUnbroken text → bytes.now ≢ quoted text ++ rest) }
+{
+    let written = read_byte(bytes, b'"')?;
+    let mut rest = written;
+    while let Some((_, behind)) = written_byte_at(rest) {
+        rest = behind;
+    }
+    let Some(behind) = read_byte(rest, b'"') else {
+        return None;
+    };
+    Some((&written[..written.len() - rest.len()], behind))
+}
+
+// The text that is written so.
+fn unescape(alloc: Global, written: &[u8]) -> Result<PatternText, NoRoom>
+    requires { IsWrittenText written.now }
+    ensures { IfOk result (λ text. written.now ≡ escaped text) }
+{
+    let mut text = Vec::new(alloc);
+    let mut rest = written;
+    while let Some((byte, behind)) = written_byte_at(rest) {
+        text.push(byte)?;
+        rest = behind;
+    }
+    PatternText::of(alloc, &text)
+}

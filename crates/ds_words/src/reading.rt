@@ -1,0 +1,90 @@
+//! Reading the lines of commands.
+
+ghost use Rattle.std.specs.Prelude.{◌≡◌, ◌≤◌, ◌+◌, length, take, IfOk, IfErr};
+ghost use Rattle.ds_line.specs.LastNewline.{EndsLine};
+ghost use Rattle.ds_words.specs.Lines.{IsUnbroken, ended};
+ghost use Rattle.ds_words.specs.Command.{Reads, IsLineOf, IsLineFault};
+ghost use Rattle.ds_words.specs.Pieces.{Takes, text_of};
+
+use crate::command::ScriptCommand;
+use crate::lines::{
+    all_at, check_at, delete_at, entries_at, map_at, nameof_at, offer_at, publish_at, retrieve_at,
+    show_at, subscribe_at, sweep_at,
+};
+use crate::pieces::Rest;
+use crate::word::{Word, word_of};
+use ds_line::{LineFault, Stop, word_at};
+use std::alloc::Global;
+
+#[cfg(test)]
+mod tests;
+
+/// The most bytes of a line, its newline not counted.
+pub const LONGEST_LINE: usize = 4096;
+
+/// Reads the command of a line, which comes without its newline and has none in it.
+///
+/// Where the line is no command's it gives BadLine, with the place where the first part that can't be read begins,
+/// the newline being the last part; a line above 4096 bytes is bad at place 4096, whatever it holds. An unknown word
+/// is bad at place 0. NoRoom comes only where the line is a command's: only texts, blobs and patterns take memory.
+pub fn read_command(alloc: Global, line: &[u8]) -> Result<ScriptCommand, LineFault>
+    requires { IsUnbroken line.now }
+    ensures found { IfOk result (λ command. IsLineOf command line.now) }
+    ensures fault { IfErr result (λ fault. IsLineFault fault line.now) }
+{
+    if line.len() > LONGEST_LINE {
+        return Err(LineFault::BadLine {
+            place: LONGEST_LINE,
+        });
+    }
+    let mut block = [0; LONGEST_LINE + 1];
+    end_line(line, &mut block);
+    read_line(alloc, &block[..line.len() + 1])
+}
+
+// Writes a line, and a newline behind it, to the front of a block.
+fn end_line(line: &[u8], block: &mut [u8; LONGEST_LINE + 1])
+    requires { length line.now ≤ 4096 }
+    ensures { take (length line.now + 1) block.new ≡ ended line.now }
+{
+    block[..line.len()].copy_from_slice(line);
+    block[line.len()] = b'\n';
+}
+
+/// Reads the command of a line, which comes with its newline and has no other.
+pub fn read_line(alloc: Global, line: &[u8]) -> Result<ScriptCommand, LineFault>
+    requires { EndsLine line.now }
+    ensures { Reads line.now result }
+{
+    let (text, bytes) = word_at(line);
+    let Some(word) = word_of(text) else {
+        return Err(LineFault::BadLine { place: 0 });
+    };
+    match behind_word(alloc, word, &mut Rest { bytes }) {
+        Ok(command) => Ok(command),
+        Err(Stop::BadPart { left }) => Err(LineFault::BadLine {
+            place: line.len() - left,
+        }),
+        Err(Stop::NoRoom) => Err(LineFault::NoRoom),
+    }
+}
+
+// Reads what follows a command's word.
+fn behind_word(alloc: Global, word: Word, rest: &mut Rest) -> Result<ScriptCommand, Stop>
+    ensures { Takes (text_of word) rest.old.bytes.now result }
+{
+    match word {
+        Word::Offer => offer_at(alloc, rest),
+        Word::Show => show_at(rest),
+        Word::All => all_at(rest),
+        Word::Publish => publish_at(alloc, rest),
+        Word::Delete => delete_at(rest),
+        Word::Sweep => sweep_at(rest),
+        Word::Retrieve => retrieve_at(rest),
+        Word::NameOf => nameof_at(rest),
+        Word::Subscribe => subscribe_at(alloc, rest),
+        Word::Check => check_at(rest),
+        Word::Map => map_at(alloc, rest),
+        Word::Entries => entries_at(rest),
+    }
+}

@@ -1,0 +1,23 @@
+//! Lines in bytes.
+
+ghost use Rattle.std.specs.Prelude.{◌≡◌, ◌++◌, ◌==◌, MatchOption};
+ghost use Rattle.std.specs.List.{position_from};
+ghost use Rattle.ds_line.specs.LastNewline.{EndsLine};
+ghost use Rattle.ds_words.specs.Lines.{IsUnbroken};
+
+// The place of the first newline.
+fn newline_place(text: &[u8]) -> Option<usize>
+    ensures { result ≡ position_from (λ b. b == 10) 0 text.now }
+{
+    text.iter().position(|b| *b == b'\n')
+}
+
+/// The first line with its newline, and what follows it. `None` where no newline stands in the text.
+pub fn split_line(text: &[u8]) -> Option<(&[u8], &[u8])>
+    ensures { MatchOption result (IsUnbroken text.now) (λ p. EndsLine p.0.now × (text.now ≡ p.0.now ++ p.1.now)) }
+{
+    match newline_place(text) {
+        Some(place) => Some(text.split_at(place + 1)),
+        None => None,
+    }
+}

@@ -1,0 +1,56 @@
+//! The words that commands begin with.
+
+ghost use Rattle.std.specs.Prelude.{◌≡◌, ◌≢◌, IfSome, IfNone};
+ghost use Rattle.ds_words.specs.Pieces.{text_of};
+ghost use Rattle.ds_words.specs.declared.word.Word.{Word};
+
+/// The word of a command.
+#[derive(Clone, Copy, Debug)]
+pub enum Word {
+    Offer,
+    Show,
+    All,
+    Publish,
+    Delete,
+    Sweep,
+    Retrieve,
+    NameOf,
+    Subscribe,
+    Check,
+    Map,
+    Entries,
+}
+
+/// The command's word that a text is.
+pub(crate) fn word_of(text: &[u8]) -> Option<Word>
+    ensures found { IfSome result (λ word. text.now ≡ text_of word) }
+    ensures none { IfNone result ((word : Word) → text.now ≢ text_of word) }
+{
+    if text == b"offer".as_slice() {
+        Some(Word::Offer)
+    } else if text == b"publish".as_slice() {
+        Some(Word::Publish)
+    } else if text == b"delete".as_slice() {
+        Some(Word::Delete)
+    } else if text == b"sweep".as_slice() {
+        Some(Word::Sweep)
+    } else if text == b"retrieve".as_slice() {
+        Some(Word::Retrieve)
+    } else if text == b"nameof".as_slice() {
+        Some(Word::NameOf)
+    } else if text == b"subscribe".as_slice() {
+        Some(Word::Subscribe)
+    } else if text == b"check".as_slice() {
+        Some(Word::Check)
+    } else if text == b"map".as_slice() {
+        Some(Word::Map)
+    } else if text == b"entries".as_slice() {
+        Some(Word::Entries)
+    } else if text == b"show".as_slice() {
+        Some(Word::Show)
+    } else if text == b"all".as_slice() {
+        Some(Word::All)
+    } else {
+        None
+    }
+}
