@@ -30,7 +30,10 @@ deed_rises s service state Resume = (omega arith, omega arith)
 deed_rises s service (Up r) Replace = (omega arith, omega arith)
 deed_rises s service (Up r) (Lose true) = omega arith
 deed_rises s service (Up r) (Lose false) = omega arith
-deed_rises s service state deed = omega arith
+deed_rises s service Down deed = omega arith
+deed_rises s service (Up r) deed = omega arith
+deed_rises s service (Waiting p) deed = omega arith
+deed_rises s service GaveUp deed = omega arith
 
 follow_rises : (s : RsRecord) (tick : ℕ) (p : Option Plan) (actions : List Action) (t : RsRecord) → Follows s tick p actions t → AreRising s.next (starts actions) t.next
 follow_rises s tick None actions t h =
@@ -121,7 +124,10 @@ deed_labels s service (Up r) Replace c h = replaced_label service.label r.endpoi
 deed_labels s service (Up r) (Lose kill) c h = stopped_label kill service.label r.endpoint c h
 deed_labels s service (Up r) Halt c h = stopped_label true service.label r.endpoint c h
 deed_labels s service (Up r) Ping c h = absurd h
-deed_labels s service state deed c h = absurd h
+deed_labels s service Down deed c h = absurd h
+deed_labels s service (Up r) deed c h = absurd h
+deed_labels s service (Waiting p) deed c h = absurd h
+deed_labels s service GaveUp deed c h = absurd h
 
 follow_labels : (s : RsRecord) (tick : ℕ) (p : Option Plan) (actions : List Action) (t : RsRecord) (c : ChangeRecord) → Follows s tick p actions t → In c (offers actions) → IsLabelOf (starts actions) c
 follow_labels s tick None actions t c h i = absurd (subst (λ (z : List Action). In c (offers z)) h.done i)
@@ -138,6 +144,9 @@ owner_of_label : (es : List EndpointRecord) (c : ChangeRecord) → IsLabelOf es 
 owner_of_label es c (inl (label, e, i, same)) = ap (λ (z : ChangeRecord). z.owner) same
 owner_of_label es c (inr (label, g, same)) = ap (λ (z : ChangeRecord). z.owner) same
 
+two_numbers : (n : ℕ) → n ≡ 0 → n ≡ 1 → ⊥
+two_numbers n e f = omega arith
+
 -- two of them with one key and one version are one
 one_label : (low high : ℕ) (es : List EndpointRecord) (c d : ChangeRecord) → AreRising low es high → IsLabelOf es c → IsLabelOf es d → c.key ≡ d.key → c.version ≡ d.version → c ≡ d
 one_label low high es c d rise (inl (l, e, i, p)) (inl (m, f, j, q)) k v =
@@ -145,12 +154,8 @@ one_label low high es c d rise (inl (l, e, i, p)) (inl (m, f, j, q)) k v =
     let epoch : e.generation ≡ f.generation = sym (ap (λ (z : ChangeRecord). z.version.epoch) p) ∙ ap (λ (z : Version). z.epoch) v ∙ ap (λ (z : ChangeRecord). z.version.epoch) q in
     let same : e ≡ f = one_start low high es e f rise i j epoch in
     p ∙ ap (λ (n : List ℕ). label_put n e) name ∙ ap (λ (z : EndpointRecord). label_put m z) same ∙ sym q
-one_label low high es c d rise (inl (l, e, i, p)) (inr (m, g, q)) k v =
-    let seq : 0 ≡ 1 = sym (ap (λ (z : ChangeRecord). z.version.seq) p) ∙ ap (λ (z : Version). z.seq) v ∙ ap (λ (z : ChangeRecord). z.version.seq) q in
-    absurd (omega arith)
-one_label low high es c d rise (inr (l, g, p)) (inl (m, f, j, q)) k v =
-    let seq : 1 ≡ 0 = sym (ap (λ (z : ChangeRecord). z.version.seq) p) ∙ ap (λ (z : Version). z.seq) v ∙ ap (λ (z : ChangeRecord). z.version.seq) q in
-    absurd (omega arith)
+one_label low high es c d rise (inl (l, e, i, p)) (inr (m, g, q)) k v = absurd (two_numbers c.version.seq (ap (λ (z : ChangeRecord). z.version.seq) p) (ap (λ (z : Version). z.seq) v ∙ ap (λ (z : ChangeRecord). z.version.seq) q))
+one_label low high es c d rise (inr (l, g, p)) (inl (m, f, j, q)) k v = absurd (two_numbers c.version.seq (ap (λ (z : Version). z.seq) v ∙ ap (λ (z : ChangeRecord). z.version.seq) q) (ap (λ (z : ChangeRecord). z.version.seq) p))
 one_label low high es c d rise (inr (l, g, p)) (inr (m, h, q)) k v =
     let name : l ≡ m = sym (ap (λ (z : ChangeRecord). z.key.name) p) ∙ ap (λ (z : Key). z.name) k ∙ ap (λ (z : ChangeRecord). z.key.name) q in
     let epoch : g ≡ h = sym (ap (λ (z : ChangeRecord). z.version.epoch) p) ∙ ap (λ (z : Version). z.epoch) v ∙ ap (λ (z : ChangeRecord). z.version.epoch) q in

@@ -3,7 +3,7 @@ use Rattle.slab.specs.Slab.{get, Updates}
 use Rattle.rs_core.specs.declared.state.State.TheVariants.{Down, Up}
 use Rattle.rs_core.specs.State.{RsRecord, state_at}
 use Rattle.rs_core.proofs.KeptLemmas.{at_rest, replaced, up_keeps}
-use Rattle.rs_core.proofs.rs.doing.Rs.end.Goals as goal
+use Rattle.rs_core.proofs.rs.Rs.end.Goals as goal
 
 pub invariant_of-self : goal.invariant_of-self
 invariant_of-self c =
