@@ -91,12 +91,12 @@ fn behind(text: &[u8], count: usize) -> &[u8]
     &text[count..]
 }
 
-/// Leaves out the first `count` of the bytes that wait.
-pub(crate) fn drop_front(pending: &mut Vec<u8>, count: usize)
-    requires { count ≤ vec_len pending.old }
-    ensures { pending.new.items ≡ drop count pending.old.items }
+/// Leaves out the first `count` bytes.
+pub(crate) fn drop_front(bytes: &mut Vec<u8>, count: usize)
+    requires { count ≤ vec_len bytes.old }
+    ensures { bytes.new.items ≡ drop count bytes.old.items }
 {
-    let left = pending.len() - count;
-    pending.copy_within(count.., 0);
-    pending.truncate(left);
+    let left = bytes.len() - count;
+    bytes.copy_within(count.., 0);
+    bytes.truncate(left);
 }
