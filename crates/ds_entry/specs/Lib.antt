@@ -4,3 +4,4 @@ pub mod Change
 pub mod ChangeFault
 pub mod Covers
 pub mod SingleNumbered
+pub mod Floor

@@ -8,11 +8,13 @@
 mod blob;
 mod body;
 mod change;
+mod floor;
 mod items;
 mod text;
 
 pub use blob::{Blob, BlobFault};
 pub use body::{Body, Value};
 pub use change::{Change, EntryFault};
+pub use floor::Floor;
 pub use items::Items;
 pub use text::{Text, TextFault};

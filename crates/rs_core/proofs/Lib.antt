@@ -1,0 +1,3 @@
+pub mod FindLemmas
+pub mod KeptLemmas
+pub mod RunLemmas

@@ -1,0 +1,35 @@
+-- What RS does when an instance of a service starts, and when one is stopped.
+use Rattle.std.specs.Prelude.{ℕ, Bool, List, [], ◌∷◌, ◌++◌, if◌then◌else◌}
+use Rattle.ds_names.specs.declared.kind.Kind.TheVariants.{Label}
+use Rattle.ds_names.specs.declared.key.Key.{Key}
+use Rattle.ds_names.specs.declared.version.Version.{Version}
+use Rattle.ds_names.specs.Endpoint.{EndpointRecord}
+use Rattle.ds_entry.specs.Change.{ChangeRecord, change_of, rs_name}
+use Rattle.ds_entry.specs.Floor.{floor_of}
+use Rattle.ds_entry.specs.declared.body.Value.TheVariants as values
+use Rattle.ds_entry.specs.declared.body.Body.TheVariants.{Put, Gone}
+use Rattle.rs_core.specs.declared.action.Action.{Action}
+use Rattle.rs_core.specs.declared.action.Action.TheVariants.{Kill, Start, Offer, Sweep}
+
+-- the key of a label in the data store
+abbrev pub label_key : List ℕ → Key
+label_key label = record { name = label; kind = Label }
+
+abbrev pub version : ℕ → ℕ → Version
+version epoch seq = record { epoch = epoch; seq = seq }
+
+-- the change that publishes a label: number 0 of its endpoint's generation
+abbrev pub label_put : List ℕ → EndpointRecord → ChangeRecord
+label_put label endpoint = change_of (label_key label) rs_name (version endpoint.generation 0) (Put (values.Label endpoint))
+
+-- the change that takes it back: number 1 of that generation
+abbrev pub label_gone : List ℕ → ℕ → ChangeRecord
+label_gone label generation = change_of (label_key label) rs_name (version generation 1) Gone
+
+-- to start an instance: it is started, and its label is published
+abbrev pub start_actions : List ℕ → EndpointRecord → List Action
+start_actions label endpoint = Start label endpoint ∷ Offer (label_put label endpoint) ∷ []
+
+-- to stop one: it is killed where it may still live, its label is taken back, and what it published is swept
+abbrev pub stop_actions : Bool → List ℕ → EndpointRecord → List Action
+stop_actions kill label endpoint = (if kill then Kill endpoint ∷ [] else []) ++ (Offer (label_gone label endpoint.generation) ∷ Sweep (floor_of label endpoint.generation) ∷ [])

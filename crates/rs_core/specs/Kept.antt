@@ -1,0 +1,50 @@
+-- What RS keeps true of its states, slots and generations.
+use Rattle.std.specs.Prelude.{◌≡◌, ◌≢◌, ℕ, ◌+◌, ◌-◌, ◌^◌, ◌<◌, ◌≤◌, List, length, slice_index_or, Some}
+use Rattle.slab.specs.Slab.{Slab, get}
+use Rattle.ds_names.specs.Endpoint.{IsEndpoint}
+use Rattle.rs_settings.specs.Settings.{SettingsRecord, IsSettings}
+use Rattle.rs_core.specs.declared.state.State.{State}
+use Rattle.rs_core.specs.declared.state.State.TheVariants.{Down, Up, Waiting, GaveUp}
+use Rattle.rs_core.specs.declared.state.Running.{Running}
+
+-- the instance of service i: its generation was given, and its slot's key is the service's
+pub record IsRunning (next : ℕ) (slots : Slab ℕ) (i : ℕ) (r : Running) : Type 0 where
+  pub valid : IsEndpoint r.endpoint
+  pub given : 0 < r.endpoint.generation
+  pub below : r.endpoint.generation < next
+  pub slot : 16 ≤ r.endpoint.slot
+  pub holds : get slots (r.endpoint.slot - 16) ≡ Some i
+  pub failures : r.failures ≤ 1000
+
+abbrev pub IsState : ℕ → Slab ℕ → ℕ → State → Type 0
+IsState next slots i (Up r) = IsRunning next slots i r
+IsState next slots i (Waiting p) = p.failures ≤ 1000
+IsState next slots i Down = Unit {0}
+IsState next slots i GaveUp = Unit {0}
+
+pub record IsRs (settings : SettingsRecord) (states : List State) (tick next : ℕ) (slots : Slab ℕ) : Type 0 where
+  pub checked : IsSettings settings
+  pub count : length states ≡ length settings.services
+  pub worn : tick ≤ 2 ^ 62
+  pub some : 1 ≤ next
+  pub spent : next ≤ 2097152
+  pub each : (i : ℕ) → i < length states → IsState next slots i (slice_index_or states i Down)
+
+-- no instance of the service runs in the slot with the key
+abbrev pub IsNotAt : ℕ → State → Type 0
+IsNotAt key (Up r) = r.endpoint.slot ≢ 16 + key
+IsNotAt key (Waiting p) = Unit {0}
+IsNotAt key Down = Unit {0}
+IsNotAt key GaveUp = Unit {0}
+
+-- where both services run, they run in two slots
+abbrev pub HaveTwoSlots : State → State → Type 0
+HaveTwoSlots (Up r) (Up q) = r.endpoint.slot ≢ q.endpoint.slot
+HaveTwoSlots _ _ = Unit {0}
+
+-- the service runs no instance
+abbrev pub IsAtRest : State → Type 0
+IsAtRest (Up r) = ⊥
+IsAtRest (Waiting p) = p.failures ≤ 1000
+IsAtRest Down = Unit {0}
+IsAtRest GaveUp = Unit {0}

@@ -1,0 +1,10 @@
+pub mod Action
+pub mod State
+pub mod Table
+pub mod Finding
+pub mod Machine
+pub mod Judging
+pub mod Step
+pub mod Kept
+pub mod Run
+pub mod Numbering

@@ -1,0 +1,116 @@
+-- The restart machine: what an event asks, what is then done, and the state that it leaves.
+use Rattle.std.specs.Prelude.{ℕ, ◌+◌, ◌-◌, ◌^◌, min, Bool, true, nat_lt, List, [], ◌∷◌, ◌++◌, Option, Some, None, option_map, Result, Ok, Err, if◌then◌else◌}
+use Rattle.std.specs.Option.{option_or}
+use Rattle.ds_names.specs.Endpoint.{EndpointRecord, endpoint_of}
+use Rattle.rs_settings.specs.declared.service.Service.{Service}
+use Rattle.rs_core.specs.declared.action.Action.{Action}
+use Rattle.rs_core.specs.declared.action.Action.TheVariants as actions
+use Rattle.rs_core.specs.declared.event.Event.{Event}
+use Rattle.rs_core.specs.declared.event.Event.TheVariants as events
+use Rattle.rs_core.specs.declared.fault.RsFault.{RsFault}
+use Rattle.rs_core.specs.declared.fault.RsFault.TheVariants.{UnknownLabel, OldEndpoint}
+use Rattle.rs_core.specs.declared.state.State.{State}
+use Rattle.rs_core.specs.declared.state.State.TheVariants.{Down, Up, Waiting, GaveUp}
+use Rattle.rs_core.specs.declared.state.Running.{Running}
+use Rattle.rs_core.specs.declared.finding.Sought.TheVariants as sought
+use Rattle.rs_core.specs.declared.deed.Deed.{Deed}
+use Rattle.rs_core.specs.declared.deed.Deed.TheVariants.{Begin, Resume, Halt, Replace, Lose, Forget, Hear, Ping}
+use Rattle.rs_core.specs.declared.deed.Plan.{Plan}
+use Rattle.rs_core.specs.Action.{start_actions, stop_actions}
+use Rattle.rs_core.specs.State.{RsRecord, state_at}
+use Rattle.rs_core.specs.Table.{on_up, on_stop, on_refresh, on_restart, on_death}
+use Rattle.rs_core.specs.Finding.{place_of}
+
+-- ---- what is asked
+
+-- the deed, done to the service with this index
+abbrev pub plan : Deed → ℕ → Plan
+plan deed place = record { place = place; deed = deed }
+
+abbrev pub planned : ℕ → Result Deed RsFault → Result (Option Plan) RsFault
+planned i (Ok deed) = Ok (Some (plan deed i))
+planned i (Err fault) = Err fault
+
+-- what the table asks of the service with the label
+abbrev pub of_label : RsRecord → (State → Result Deed RsFault) → Option ℕ → Result (Option Plan) RsFault
+of_label s table None = Err UnknownLabel
+of_label s table (Some i) = planned i (table (state_at s i))
+
+-- what is asked of the service that is up with the endpoint
+abbrev pub of_instance : Deed → Option ℕ → Result (Option Plan) RsFault
+of_instance deed None = Err OldEndpoint
+of_instance deed (Some i) = Ok (Some (plan deed i))
+
+-- the first of these that is due: a missed heartbeat, which is a death of cause 4; a ping; a start after a wait
+abbrev pub due : RsRecord → ℕ → Option Plan
+due s tick =
+    option_or (option_map (plan (Lose true)) (place_of s (sought.Missed tick)))
+    (option_or (option_map (plan Ping) (place_of s (sought.Silent tick)))
+    (option_map (plan Resume) (place_of s (sought.Rested tick))))
+
+-- what the event asks: of one service, or nothing, or the fault that the table names
+abbrev pub asked : RsRecord → Event → ℕ → Result (Option Plan) RsFault
+asked s (events.Up label) tick = of_label s on_up (place_of s (sought.Label label))
+asked s (events.Stop label) tick = of_label s on_stop (place_of s (sought.Label label))
+asked s (events.Refresh label) tick = of_label s on_refresh (place_of s (sought.Label label))
+asked s (events.Restart label) tick = of_label s on_restart (place_of s (sought.Label label))
+asked s (events.Death endpoint cause) tick = of_instance (on_death cause) (place_of s (sought.Instance endpoint))
+asked s (events.Beat endpoint) tick = of_instance Hear (place_of s (sought.Instance endpoint))
+asked s events.Tick tick = Ok (due s tick)
+
+-- ---- what is done
+
+-- the ticks before the start that answers failure k of a row: 1, 2, 4, 8, 16, and 32 from the sixth on
+abbrev pub pause : ℕ → ℕ
+pause k = min (2 ^ (k - 1)) 32
+
+-- after failure k of a row
+abbrev pub failed : ℕ → ℕ → ℕ → State
+failed limit tick k = if nat_lt limit k then GaveUp else Waiting (record { until = tick + pause k; failures = k })
+
+abbrev pub failures_of : State → ℕ
+failures_of (Up r) = r.failures
+failures_of (Waiting p) = p.failures
+failures_of Down = 0
+failures_of GaveUp = 0
+
+-- an instance that starts now
+abbrev pub started_at : EndpointRecord → ℕ → ℕ → State
+started_at endpoint tick failures = Up (record { endpoint = endpoint; beat = tick; ping = tick; failures = failures })
+
+-- the endpoint of a start: the next generation, in the slot that is free next; the first 16 slots are left to others
+abbrev pub new_endpoint : RsRecord → EndpointRecord
+new_endpoint s = endpoint_of s.next (16 + s.key)
+
+-- the endpoint of a start behind a stop: the slot that the stop freed is the one that is free next
+abbrev pub same_slot : RsRecord → Running → EndpointRecord
+same_slot s r = endpoint_of s.next r.endpoint.slot
+
+-- the state of a service that the deed is done to; where the deed is none for its state, which no event asks, it stays
+abbrev pub state_after : RsRecord → ℕ → Service → State → Deed → State
+state_after s tick service state Begin = started_at (new_endpoint s) tick 0
+state_after s tick service state Resume = started_at (new_endpoint s) tick (failures_of state)
+state_after s tick service (Up r) Replace = started_at (same_slot s r) tick r.failures
+state_after s tick service (Up r) (Lose kill) = failed service.limit tick (r.failures + 1)
+state_after s tick service (Up r) Hear = Up (record r { beat = tick })
+state_after s tick service (Up r) Ping = Up (record r { ping = tick })
+state_after s tick service (Up r) Halt = Down
+state_after s tick service (Waiting p) Forget = Down
+state_after s tick service state _ = state
+
+-- the actions of the deed
+abbrev pub actions_of : RsRecord → Service → State → Deed → List Action
+actions_of s service state Begin = start_actions service.label (new_endpoint s)
+actions_of s service state Resume = start_actions service.label (new_endpoint s)
+actions_of s service (Up r) Replace = stop_actions true service.label r.endpoint ++ start_actions service.label (same_slot s r)
+actions_of s service (Up r) (Lose kill) = stop_actions kill service.label r.endpoint
+actions_of s service (Up r) Ping = actions.Ping r.endpoint ∷ []
+actions_of s service (Up r) Halt = stop_actions true service.label r.endpoint
+actions_of s service state _ = []
+
+-- a start takes the next generation
+abbrev pub next_after : RsRecord → State → Deed → ℕ
+next_after s state Begin = s.next + 1
+next_after s state Resume = s.next + 1
+next_after s (Up r) Replace = s.next + 1
+next_after s state _ = s.next

@@ -1,0 +1,45 @@
+-- Runs of the restart machine, and what holds over each of them.
+use Rattle.std.specs.Prelude.{◌≡◌, ℕ, ◌+◌, ◌≤◌, List, [], ◌∷◌, Option, Some, None}
+use Rattle.std.specs.List.{filter_map, flat_map}
+use Rattle.ds_names.specs.Endpoint.{EndpointRecord}
+use Rattle.ds_entry.specs.Change.{ChangeRecord}
+use Rattle.ds_entry.specs.SingleNumbered.{IsSingleNumbered}
+use Rattle.rs_core.specs.declared.action.Action.{Action}
+use Rattle.rs_core.specs.declared.action.Action.TheVariants.{Start, Offer}
+use Rattle.rs_core.specs.declared.event.Event.{Event}
+use Rattle.rs_core.specs.State.{RsRecord}
+use Rattle.rs_core.specs.Step.{Step}
+
+-- steps one after another, each with its actions
+abbrev pub Run : RsRecord → List (List Action) → RsRecord → Type 0
+Run s [] t = s ≡ t
+Run s (actions ∷ rest) t = (event : Event) × (tick : ℕ) × (m : RsRecord) × Step s event tick actions m × Run m rest t
+
+abbrev pub start_of : Action → Option EndpointRecord
+start_of (Start label endpoint) = Some endpoint
+start_of _ = None
+
+-- the endpoints that are started
+abbrev pub starts : List Action → List EndpointRecord
+starts = filter_map start_of
+
+abbrev pub offer_of : Action → Option ChangeRecord
+offer_of (Offer change) = Some change
+offer_of _ = None
+
+-- the label changes that are offered
+abbrev pub offers : List Action → List ChangeRecord
+offers = filter_map offer_of
+
+-- each generation is above those before it, none is below low, and all are below high
+abbrev pub AreRising : ℕ → List EndpointRecord → ℕ → Type 0
+AreRising low [] high = low ≤ high
+AreRising low (e ∷ es) high = (low ≤ e.generation) × AreRising (e.generation + 1) es high
+
+-- each start's generation is above those of all earlier ones
+abbrev pub StartsRise : Type 0
+StartsRise = (s t : RsRecord) (steps : List (List Action)) → Run s steps t → AreRising s.next (flat_map starts steps) t.next
+
+-- the label changes of a run are single-numbered: no two of them contradict each other
+abbrev pub LabelsAreSingleNumbered : Type 0
+LabelsAreSingleNumbered = (s t : RsRecord) (steps : List (List Action)) → Run s steps t → IsSingleNumbered (flat_map offers steps)

@@ -1,0 +1,26 @@
+-- One step of the restart machine: an event that nothing stands against.
+use Rattle.std.specs.Prelude.{◌≡◌, ℕ, List, [], Option, Some, None, Ok, slice_set}
+use Rattle.rs_core.specs.declared.action.Action.{Action}
+use Rattle.rs_core.specs.declared.event.Event.{Event}
+use Rattle.rs_core.specs.declared.deed.Plan.{Plan}
+use Rattle.rs_core.specs.State.{RsRecord, rs_of, state_at, service_at}
+use Rattle.rs_core.specs.Machine.{asked, state_after, actions_of, next_after}
+use Rattle.rs_core.specs.Judging.{refusal}
+
+-- the deed is done to the service that is meant, and to no other; which slot is free next is left open
+pub record IsDone (s : RsRecord) (tick : ℕ) (p : Plan) (actions : List Action) (t : RsRecord) : Type 0 where
+  pub done : actions ≡ actions_of s (service_at s p.place) (state_at s p.place) p.deed
+  pub after : t ≡ rs_of s.settings (slice_set s.states p.place (state_after s tick (service_at s p.place) (state_at s p.place) p.deed)) tick (next_after s (state_at s p.place) p.deed) t.key
+
+-- nothing is due: the tick is kept
+pub record IsIdle (s : RsRecord) (tick : ℕ) (actions : List Action) (t : RsRecord) : Type 0 where
+  pub done : actions ≡ []
+  pub after : t ≡ record s { tick = tick }
+
+abbrev pub Follows : RsRecord → ℕ → Option Plan → List Action → RsRecord → Type 0
+Follows s tick None actions t = IsIdle s tick actions t
+Follows s tick (Some p) actions t = IsDone s tick p actions t
+
+-- nothing stands against the event, and what it asks is done
+abbrev pub Step : RsRecord → Event → ℕ → List Action → RsRecord → Type 0
+Step s event tick actions t = (p : Option Plan) × (refusal s event tick ≡ None) × (asked s event tick ≡ Ok p) × Follows s tick p actions t

@@ -1,0 +1,192 @@
+//! What RS does.
+
+ghost use Rattle.std.specs.Prelude.{◌≡◌, ◌<◌, ◌≢◌, ◌++◌, ◌∷◌, [], length, slice_get, OnOk, IfErr, OnErr, IfOk};
+ghost use Rattle.std.specs.Option.{option_copied};
+ghost use Rattle.ds_entry.specs.Change.{rs_name, IsChange};
+ghost use Rattle.rs_core.specs.Action.{label_put, label_gone, start_actions, stop_actions};
+
+use ds_entry::{Body, Change, Floor, Value};
+use ds_names::{Endpoint, Generation, Key, Kind, Name, NoRoom, Version};
+use std::alloc::{AllocFailed, Global};
+use std::marker::Model;
+
+/// One thing that RS does.
+#[derive(Debug, Drop)]
+pub enum Action {
+    /// Kill the process.
+    Kill(Endpoint),
+    /// Start the service under the endpoint.
+    Start(Name, Endpoint),
+    /// Ask the process whether it lives.
+    Ping(Endpoint),
+    /// Give the change to the data store: a label, or that it is gone.
+    Offer(Change),
+    /// Have the data store end what a dead instance published: raise the floor.
+    Sweep(Floor),
+}
+
+impl Action {
+    /// The same action again.
+    pub fn copy(&self, alloc: Global) -> Result<Action, NoRoom>
+        ensures { IfOk result (λ action. action ≡ self.now) }
+    {
+        match self {
+            Action::Kill(endpoint) => Ok(Action::Kill(*endpoint)),
+            Action::Start(label, endpoint) => Ok(Action::Start(*label, *endpoint)),
+            Action::Ping(endpoint) => Ok(Action::Ping(*endpoint)),
+            Action::Offer(change) => Ok(Action::Offer(change.copy(alloc)?)),
+            Action::Sweep(floor) => Ok(Action::Sweep(*floor)),
+        }
+    }
+}
+
+/// What RS does, in order.
+#[derive(Debug, Drop)]
+pub struct Actions {
+    actions: Vec<Action>,
+}
+
+impl Model for Actions {
+    ghost use Rattle.std.specs.Prelude.{List};
+    ghost use Rattle.rs_core.specs.declared.action.Action.{Action};
+
+    ghost Value = { List Action };
+
+    ghost view = { λ a. a.actions.items };
+}
+
+impl Actions {
+    /// A list of no actions. It takes no memory.
+    pub fn new(alloc: Global) -> Actions
+        ensures { result ≡ [] }
+    {
+        Actions {
+            actions: Vec::new(alloc),
+        }
+    }
+
+    /// Adds an action at the end. Where there is no room, the list is unchanged and the error gives the action back.
+    pub fn push(&mut self, action: Action) -> Result<(), AllocFailed<Action>>
+        ensures ok { OnOk result (self.new ≡ self.old ++ action ∷ []) }
+        ensures err { OnErr result (self.new ≡ self.old) }
+        ensures back { IfErr result (λ back. back.value ≡ action) }
+    {
+        self.actions.push(action)
+    }
+
+    /// How many actions it has.
+    pub fn len(&self) -> usize
+        ensures { result ≡ length self.now }
+    {
+        self.actions.len()
+    }
+
+    /// The action at an index from 0, `None` behind the last one.
+    pub fn get(&self, index: usize) -> Option<&Action>
+        ensures { option_copied result ≡ slice_get self.now index }
+    {
+        self.actions.get(index)
+    }
+
+    /// The same actions again, in the same order.
+    pub fn copy(&self, alloc: Global) -> Result<Actions, NoRoom>
+        ensures { IfOk result (λ actions. actions ≡ self.now) }
+    {
+        let mut actions = Vec::new(alloc);
+        for action in &self.actions {
+            actions.push(action.copy(alloc)?)?;
+        }
+        Ok(Actions { actions })
+    }
+}
+
+// The change that publishes a label.
+fn label_put(label: Name, endpoint: Endpoint) -> Change
+    requires other { label ≢ rs_name }
+    requires given { 0 < endpoint.generation }
+    ensures value { result ≡ label_put label endpoint }
+    ensures change { IsChange result }
+{
+    let key = Key {
+        name: label,
+        kind: Kind::Label,
+    };
+    let version = Version {
+        epoch: endpoint.generation(),
+        seq: 0,
+    };
+    match Change::make(key, rs_label(), version, Body::Put(Value::Label(endpoint))) {
+        Ok(change) => change,
+        Err(_) => unreachable!(),
+    }
+}
+
+// The change that takes it back.
+fn label_gone(label: Name, generation: Generation) -> Change
+    requires other { label ≢ rs_name }
+    requires given { 0 < generation }
+    ensures value { result ≡ label_gone label generation }
+    ensures change { IsChange result }
+{
+    let key = Key {
+        name: label,
+        kind: Kind::Label,
+    };
+    let version = Version {
+        epoch: generation,
+        seq: 1,
+    };
+    match Change::make(key, rs_label(), version, Body::Gone) {
+        Ok(change) => change,
+        Err(_) => unreachable!(),
+    }
+}
+
+// RS's own label, which owns all labels.
+fn rs_label() -> Name
+    ensures { result ≡ rs_name }
+{
+    match Name::read(b"rs") {
+        Ok(name) => name,
+        Err(_) => unreachable!(),
+    }
+}
+
+// Adds what starts an instance.
+pub(crate) fn add_start(
+    actions: &mut Actions,
+    label: Name,
+    endpoint: Endpoint,
+) -> Result<(), NoRoom>
+    requires other { label ≢ rs_name }
+    requires given { 0 < endpoint.generation }
+    ensures { OnOk result (actions.new ≡ actions.old ++ start_actions label endpoint) }
+{
+    actions.push(Action::Start(label, endpoint))?;
+    actions.push(Action::Offer(label_put(label, endpoint)))?;
+    Ok(())
+}
+
+// Adds what stops one.
+pub(crate) fn add_stop(
+    actions: &mut Actions,
+    kill: bool,
+    label: Name,
+    endpoint: Endpoint,
+) -> Result<(), NoRoom>
+    requires other { label ≢ rs_name }
+    requires given { 0 < endpoint.generation }
+    ensures { OnOk result (actions.new ≡ actions.old ++ stop_actions kill label endpoint) }
+{
+    let generation = endpoint.generation();
+    if kill {
+        actions.push(Action::Kill(endpoint))?;
+    }
+    actions.push(Action::Offer(label_gone(label, generation)))?;
+    let floor = Floor {
+        owner: label,
+        generation,
+    };
+    actions.push(Action::Sweep(floor))?;
+    Ok(())
+}

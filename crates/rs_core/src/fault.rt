@@ -1,0 +1,49 @@
+//! Why RS refuses an event, or settings.
+
+use thiserror::Error;
+
+/// Why an event is refused. The causes stand in the order in which they are judged.
+#[derive(Clone, Copy, Debug, PartialEq, Eq, Error)]
+pub enum RsFault {
+    /// The tick is below that of the last event that wasn't refused.
+    #[error("the tick is below the last one")]
+    TickBack,
+    /// The tick is above 2^62.
+    #[error("the tick is too great")]
+    Worn,
+    /// No service of the settings has the label.
+    #[error("no service has the label")]
+    UnknownLabel,
+    /// The cause of a death isn't 1 to 6.
+    #[error("no cause of death has the number")]
+    BadCause,
+    /// The service runs, or waits for its next start.
+    #[error("the service is up already")]
+    AlreadyUp,
+    /// The service doesn't run.
+    #[error("the service isn't up")]
+    NotUp,
+    /// No service runs under the endpoint.
+    #[error("no service is up with the endpoint")]
+    OldEndpoint,
+    /// A start would need a generation above 2097151.
+    #[error("all generations are spent")]
+    GenerationsSpent,
+    /// The slot that is free next is none of RS's, and the event frees none.
+    #[error("no slot is free")]
+    NoSlot,
+    /// Memory is wanting.
+    #[error("out of memory")]
+    NoRoom,
+}
+
+/// Why RS can't begin.
+#[derive(Clone, Copy, Debug, PartialEq, Eq, Error)]
+pub enum NewFault {
+    /// The next generation isn't 1 to 2097152.
+    #[error("the next generation is out of its range")]
+    OutOfRange,
+    /// Memory is wanting.
+    #[error("out of memory")]
+    NoRoom,
+}

@@ -1,0 +1,19 @@
+//! Laws of the restart machine and of numbers.
+
+ghost use Rattle.rs_core.specs.Run.{StartsRise, LabelsAreSingleNumbered};
+ghost use Rattle.rs_core.specs.Numbering.{NumbersRise};
+
+/// The law of starts: over any events, each start has a generation above those of all earlier ones.
+pub fn starts_rise()
+    ensures { StartsRise }
+{}
+
+/// The law of labels: over any events, no two of the label changes that RS offers contradict each other.
+pub fn labels_are_single_numbered()
+    ensures { LabelsAreSingleNumbered }
+{}
+
+/// The law of numbers: a numberer gives no number twice.
+pub fn numbers_rise()
+    ensures { NumbersRise }
+{}

@@ -1,0 +1,45 @@
+//! Numbers of a process's changes.
+
+ghost use Rattle.std.specs.Prelude.{◌≡◌, ◌≤◌, ◌<◌, ◌+◌, IfOk, OnErr};
+ghost use Rattle.rs_core.specs.Numbering.{Gives};
+
+use ds_names::{Generation, Version};
+use thiserror::Error;
+
+/// All sequence numbers of the generation are given.
+#[derive(Clone, Copy, Debug, PartialEq, Eq, Error)]
+#[error("all sequence numbers are spent")]
+pub struct SeqSpent;
+
+/// Gives the versions of one generation's changes (of this project), each number once.
+#[derive(Debug, Drop)]
+pub struct Numberer {
+    generation: Generation,
+    seq: u32,
+}
+
+impl Numberer {
+    /// Numbers of a generation, from `seq` on.
+    pub fn of(generation: Generation, seq: u32) -> Numberer
+        ensures { result ≡ record { generation = generation; seq = seq } }
+    {
+        Numberer { generation, seq }
+    }
+
+    /// The next version. SeqSpent behind number 4294967294, since no put has the greatest number. It takes no memory.
+    pub fn next(&mut self) -> Result<Version, SeqSpent>
+        ensures given { IfOk result (Gives self.old self.new) }
+        ensures spent { OnErr result (4294967294 < self.old.seq) }
+        ensures unchanged { OnErr result (self.new ≡ self.old) }
+    {
+        if self.seq > 4294967294 {
+            return Err(SeqSpent);
+        }
+        let version = Version {
+            epoch: self.generation,
+            seq: self.seq,
+        };
+        self.seq += 1;
+        Ok(version)
+    }
+}

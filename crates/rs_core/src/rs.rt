@@ -1,0 +1,151 @@
+//! RS itself.
+
+ghost use Rattle.std.specs.Prelude.{◌≡◌, ◌≢◌, ℕ, ◌<◌, ◌≤◌, option_map, ◌↔◌, ◌⊎◌, IsErrOf, length, replicate, None, Some, IfOk, IfErr, IfSome, OnErr};
+ghost use Rattle.rs_settings.specs.Settings.{IsService, IsSettings};
+ghost use Rattle.rs_core.specs.State.{rs_of, state_at, service_at};
+ghost use Rattle.rs_core.specs.Finding.{place_of};
+ghost use Rattle.rs_core.specs.Machine.{failures_of};
+ghost use Rattle.rs_core.specs.Judging.{refusal};
+ghost use Rattle.rs_core.specs.Step.{Step};
+ghost use Rattle.rs_core.specs.Kept.{IsNotAt, HaveTwoSlots};
+
+mod asking;
+mod doing;
+
+use crate::action::Actions;
+use crate::event::Event;
+use crate::fault::{NewFault, RsFault};
+use crate::finding::{Sought, place_of};
+use crate::state::State;
+use ds_names::Name;
+use rs_settings::{Service, Settings};
+use slab::Slab;
+use std::alloc::Global;
+use std::marker::Model;
+
+/// RS: what it knows of each service, and the process slots that its instances have.
+#[derive(Drop)]
+pub struct Rs {
+    alloc: Global,
+    settings: Settings,
+    // One for each service, in the order of the settings.
+    states: Vec<State>,
+    // The index of the service that runs in each slot; slot 16 has key 0.
+    slots: Slab<usize>,
+    tick: u64,
+    next: u32,
+}
+
+impl Model for Rs {
+    ghost use Rattle.std.specs.Prelude.{ℕ, List};
+    ghost use Rattle.std.specs.Coded.{code_by, coded×, coded_ℕ, coded_list};
+    ghost use Rattle.rs_settings.specs.Settings.{SettingsRecord};
+    ghost use Rattle.rs_settings.specs.contracts.settings.Settings.{the_row as settings_row};
+    ghost use Rattle.rs_core.specs.declared.state.State.{State};
+    ghost use Rattle.rs_core.specs.contracts.state.State.{the_row as state_row};
+    ghost use Rattle.rs_core.specs.State.{RsRecord, rs_of};
+    ghost use Rattle.rs_core.specs.Kept.{IsRs};
+
+    ghost Value = { RsRecord };
+
+    ghost coded = { code_by (SettingsRecord × (List State × (ℕ × (ℕ × ℕ)))) (coded× settings_row.coded (coded× (coded_list state_row.coded) (coded× coded_ℕ (coded× coded_ℕ coded_ℕ)))) (λ r. (r.settings, (r.states, (r.tick, (r.next, r.key))))) (λ p. rs_of p.0 p.1.0 p.1.1.0 p.1.1.1.0 p.1.1.1.1) (λ r i. r) };
+
+    ghost view = { λ r. rs_of r.settings r.states.items r.tick r.next r.slots.vacant_key };
+
+    ghost invariant = { λ r. IsRs r.settings r.states.items r.tick r.next r.slots };
+}
+
+impl Rs {
+    /// RS before any event: every service is down. `next` is the generation of the first start; OutOfRange unless it
+    /// is 1 to 2097152.
+    pub fn new(alloc: Global, settings: Settings, next: u32) -> Result<Rs, NewFault>
+        ensures value { IfOk result (λ rs. rs ≡ rs_of settings (replicate (length settings.services) State.Down) 0 next 0) }
+        ensures range { IsErrOf result NewFault.OutOfRange ↔ (next < 1 ⊎ 2097152 < next) }
+    {
+        if next < 1 || next > 2097152 {
+            return Err(NewFault::OutOfRange);
+        }
+        let count = settings.services().len();
+        let Ok(states) = vec![in alloc; State::Down; count] else {
+            return Err(NewFault::NoRoom);
+        };
+        Ok(Rs {
+            alloc,
+            settings,
+            states,
+            slots: Slab::new(alloc),
+            tick: 0,
+            next,
+        })
+    }
+
+    /// One event at a tick: what RS does then, in order. A refused event changes nothing, the tick included.
+    pub fn event(&mut self, event: Event, tick: u64) -> Result<Actions, RsFault>
+        ensures step { IfOk result (λ actions. Step self.old event tick actions self.new) }
+        ensures refused { IfErr result (λ fault. fault ≢ RsFault.NoRoom → refusal self.old event tick ≡ Some fault) }
+        ensures last { IfErr result (λ fault. fault ≡ RsFault.NoRoom → refusal self.old event tick ≡ None) }
+        ensures unchanged { OnErr result (self.new ≡ self.old) }
+    {
+        match self.judge(&event, tick) {
+            Ok(Some(plan)) => self.follow(plan, tick),
+            Ok(None) => Ok(self.idle(tick)),
+            Err(fault) => Err(fault),
+        }
+    }
+
+    /// What RS knows of the service with the label. `None` where no service has it.
+    pub fn state(&self, label: &Name) -> Option<State>
+        ensures { result ≡ option_map (state_at self.now) (place_of self.now (Sought.Label label.now)) }
+    {
+        match self.place(Sought::Label(*label)) {
+            Some(place) => Some(self.state_at(place)),
+            None => None,
+        }
+    }
+
+    /// The key of the slot that the next start takes, unless it stops an instance itself: slot 16 has key 0.
+    ///
+    /// No running service has that slot, and no two of them have one slot.
+    pub fn next_key(&self) -> usize
+        ensures value { result ≡ self.now.key }
+        ensures free { (i : ℕ) → i < length self.now.states → IsNotAt result (state_at self.now i) }
+        ensures own { (i j : ℕ) → i < j → j < length self.now.states → HaveTwoSlots (state_at self.now i) (state_at self.now j) }
+    {
+        self.slots.vacant_key()
+    }
+
+    /// The settings.
+    pub fn settings(&self) -> &Settings
+        ensures value { result.now ≡ self.now.settings }
+        ensures settings { IsSettings self.now.settings }
+    {
+        &self.settings
+    }
+
+    // The service that is meant.
+    fn place(&self, what: Sought) -> Option<usize>
+        ensures value { result ≡ place_of self.now what }
+        ensures within { IfSome result (λ i. i < length self.now.states) }
+    {
+        place_of(&what, self.settings.services(), self.states.as_slice())
+    }
+
+    fn state_at(&self, place: usize) -> State
+        requires { place < length self.now.states }
+        ensures value { result ≡ state_at self.now place }
+        ensures failures { failures_of result ≤ 1000 }
+    {
+        self.states[place]
+    }
+
+    fn service_at(&self, place: usize) -> &Service
+        requires { place < length self.now.states }
+        ensures value { result.now ≡ service_at self.now place }
+        ensures service { IsService result.now }
+    {
+        match self.settings.services().get(place) {
+            Some(service) => service,
+            None => unreachable!(),
+        }
+    }
+}

@@ -1,0 +1,261 @@
+//! What is done, once nothing stands against it.
+
+ghost use Rattle.std.specs.Prelude.{◌≡◌, ◌<◌, ◌≤◌, ◌+◌, ◌^◌, ◌∷◌, ◌++◌, [], true, length, slice_set, None, IfOk, IfErr, OnOk, OnErr};
+ghost use Rattle.rs_core.specs.Action.{start_actions, stop_actions};
+ghost use Rattle.rs_core.specs.State.{rs_of, state_at, service_at};
+ghost use Rattle.rs_core.specs.Machine.{started_at, failed, new_endpoint, same_slot};
+ghost use Rattle.rs_core.specs.Judging.{lack_for};
+ghost use Rattle.rs_core.specs.Step.{IsDone};
+ghost use Rattle.rs_core.specs.Kept.{IsAtRest};
+
+use crate::action::{Action, Actions, add_start, add_stop};
+use crate::deed::{Deed, Plan};
+use crate::fault::RsFault;
+use crate::rs::Rs;
+use crate::state::{Pause, Running, State, endpoint_at, failed, failures_of};
+
+impl Rs {
+    // Leaves all as it is but the tick.
+    pub(crate) fn idle(&mut self, tick: u64) -> Actions
+        requires { tick ≤ 2 ^ 62 }
+        ensures done { result ≡ [] }
+        ensures after { self.new ≡ record self.old { tick = tick } }
+    {
+        self.tick = tick;
+        Actions::new(self.alloc)
+    }
+
+    // Does what is planned.
+    pub(crate) fn follow(&mut self, plan: Plan, tick: u64) -> Result<Actions, RsFault>
+        requires within { plan.place < length self.old.states }
+        requires tick { tick ≤ 2 ^ 62 }
+        requires room { lack_for self.old plan.deed ≡ None }
+        ensures done { IfOk result (λ actions. IsDone self.old tick plan actions self.new) }
+        ensures err { IfErr result (λ fault. fault ≡ RsFault.NoRoom) }
+        ensures unchanged { OnErr result (self.new ≡ self.old) }
+    {
+        let place = plan.place;
+        match plan.deed {
+            Deed::Begin => self.begin(place, tick, 0),
+            Deed::Resume => {
+                let failures = failures_of(self.state_at(place));
+                self.begin(place, tick, failures)
+            }
+            Deed::Replace => match self.state_at(place) {
+                State::Up(running) => self.replace(place, tick, running),
+                _ => Ok(self.leave(place, tick)),
+            },
+            Deed::Lose(kill) => match self.state_at(place) {
+                State::Up(running) => self.lose(place, tick, kill, running),
+                _ => Ok(self.leave(place, tick)),
+            },
+            Deed::Halt => match self.state_at(place) {
+                State::Up(running) => self.end(place, tick, true, running, State::Down),
+                _ => Ok(self.leave(place, tick)),
+            },
+            Deed::Forget => match self.state_at(place) {
+                State::Waiting(pause) => Ok(self.forget(place, tick, pause)),
+                _ => Ok(self.leave(place, tick)),
+            },
+            Deed::Hear => match self.state_at(place) {
+                State::Up(running) => Ok(self.hear(place, tick, running)),
+                _ => Ok(self.leave(place, tick)),
+            },
+            Deed::Ping => match self.state_at(place) {
+                State::Up(running) => self.ping(place, tick, running),
+                _ => Ok(self.leave(place, tick)),
+            },
+        }
+    }
+
+    // Starts the service in the slot that is free next.
+    fn begin(&mut self, place: usize, tick: u64, failures: u32) -> Result<Actions, RsFault>
+        requires within { place < length self.old.states }
+        requires tick { tick ≤ 2 ^ 62 }
+        requires next { self.old.next ≤ 2097151 }
+        requires key { self.old.key < self.old.settings.slots }
+        requires failures { failures ≤ 1000 }
+        ensures done { IfOk result (λ actions. actions ≡ start_actions (service_at self.old place).label (new_endpoint self.old)) }
+        ensures after { OnOk result (self.new ≡ rs_of self.old.settings (slice_set self.old.states place (started_at (new_endpoint self.old) tick failures)) tick (self.old.next + 1) self.new.key) }
+        ensures err { IfErr result (λ fault. fault ≡ RsFault.NoRoom) }
+        ensures unchanged { OnErr result (self.new ≡ self.old) }
+    {
+        let label = self.service_at(place).label;
+        let endpoint = endpoint_at(self.next, self.slots.vacant_key());
+        let mut actions = Actions::new(self.alloc);
+        let Ok(()) = add_start(&mut actions, label, endpoint) else {
+            return Err(RsFault::NoRoom);
+        };
+        let Ok(()) = self.slots.reserve(1) else {
+            return Err(RsFault::NoRoom);
+        };
+        self.slots.insert_reserved(place);
+        self.states[place] = State::Up(Running {
+            endpoint,
+            beat: tick,
+            ping: tick,
+            failures,
+        });
+        self.next += 1;
+        self.tick = tick;
+        Ok(actions)
+    }
+
+    // Stops the instance of the service, which is then in the state `after`.
+    fn end(
+        &mut self,
+        place: usize,
+        tick: u64,
+        kill: bool,
+        running: Running,
+        after: State,
+    ) -> Result<Actions, RsFault>
+        requires within { place < length self.old.states }
+        requires tick { tick ≤ 2 ^ 62 }
+        requires up { state_at self.old place ≡ State.Up running }
+        requires rest { IsAtRest after }
+        ensures done { IfOk result (λ actions. actions ≡ stop_actions kill (service_at self.old place).label running.endpoint) }
+        ensures after { OnOk result (self.new ≡ rs_of self.old.settings (slice_set self.old.states place after) tick self.old.next self.new.key) }
+        ensures freed { OnOk result (self.new.key + 16 ≡ running.endpoint.slot) }
+        ensures err { IfErr result (λ fault. fault ≡ RsFault.NoRoom) }
+        ensures unchanged { OnErr result (self.new ≡ self.old) }
+    {
+        let label = self.service_at(place).label;
+        let mut actions = Actions::new(self.alloc);
+        let Ok(()) = add_stop(&mut actions, kill, label, running.endpoint) else {
+            return Err(RsFault::NoRoom);
+        };
+        let key = running.endpoint.slot() as usize - 16;
+        self.slots.remove(key);
+        self.states[place] = after;
+        self.tick = tick;
+        Ok(actions)
+    }
+
+    // Stops the instance of the service, and starts one in its slot.
+    fn replace(&mut self, place: usize, tick: u64, running: Running) -> Result<Actions, RsFault>
+        requires within { place < length self.old.states }
+        requires tick { tick ≤ 2 ^ 62 }
+        requires next { self.old.next ≤ 2097151 }
+        requires up { state_at self.old place ≡ State.Up running }
+        ensures done { IfOk result (λ actions. actions ≡ stop_actions true (service_at self.old place).label running.endpoint ++ start_actions (service_at self.old place).label (same_slot self.old running)) }
+        ensures after { OnOk result (self.new ≡ rs_of self.old.settings (slice_set self.old.states place (started_at (same_slot self.old running) tick running.failures)) tick (self.old.next + 1) self.new.key) }
+        ensures err { IfErr result (λ fault. fault ≡ RsFault.NoRoom) }
+        ensures unchanged { OnErr result (self.new ≡ self.old) }
+    {
+        let label = self.service_at(place).label;
+        let key = running.endpoint.slot() as usize - 16;
+        let endpoint = endpoint_at(self.next, key);
+        let mut actions = Actions::new(self.alloc);
+        let Ok(()) = add_stop(&mut actions, true, label, running.endpoint) else {
+            return Err(RsFault::NoRoom);
+        };
+        let Ok(()) = add_start(&mut actions, label, endpoint) else {
+            return Err(RsFault::NoRoom);
+        };
+        self.slots.remove(key);
+        self.slots.insert_reserved(place);
+        self.states[place] = State::Up(Running {
+            endpoint,
+            beat: tick,
+            ping: tick,
+            failures: running.failures,
+        });
+        self.next += 1;
+        self.tick = tick;
+        Ok(actions)
+    }
+
+    // The instance of the service failed.
+    fn lose(
+        &mut self,
+        place: usize,
+        tick: u64,
+        kill: bool,
+        running: Running,
+    ) -> Result<Actions, RsFault>
+        requires within { place < length self.old.states }
+        requires tick { tick ≤ 2 ^ 62 }
+        requires up { state_at self.old place ≡ State.Up running }
+        requires failures { running.failures ≤ 1000 }
+        ensures done { IfOk result (λ actions. actions ≡ stop_actions kill (service_at self.old place).label running.endpoint) }
+        ensures after { OnOk result (self.new ≡ rs_of self.old.settings (slice_set self.old.states place (failed (service_at self.old place).limit tick (running.failures + 1))) tick self.old.next self.new.key) }
+        ensures err { IfErr result (λ fault. fault ≡ RsFault.NoRoom) }
+        ensures unchanged { OnErr result (self.new ≡ self.old) }
+    {
+        let after = failed(self.service_at(place).limit, tick, running.failures + 1);
+        self.end(place, tick, kill, running, after)
+    }
+
+    // Keeps what is known of the instance of the service, which goes on.
+    fn keep(&mut self, place: usize, tick: u64, running: Running, beat: u64, ping: u64)
+        requires within { place < length self.old.states }
+        requires tick { tick ≤ 2 ^ 62 }
+        requires up { state_at self.old place ≡ State.Up running }
+        ensures { self.new ≡ rs_of self.old.settings (slice_set self.old.states place (State.Up (record running { beat = beat; ping = ping }))) tick self.old.next self.old.key }
+    {
+        self.states[place] = State::Up(Running {
+            endpoint: running.endpoint,
+            beat,
+            ping,
+            failures: running.failures,
+        });
+        self.tick = tick;
+    }
+
+    // Notes a heartbeat of the instance of the service.
+    fn hear(&mut self, place: usize, tick: u64, running: Running) -> Actions
+        requires within { place < length self.old.states }
+        requires tick { tick ≤ 2 ^ 62 }
+        requires up { state_at self.old place ≡ State.Up running }
+        ensures done { result ≡ [] }
+        ensures after { self.new ≡ rs_of self.old.settings (slice_set self.old.states place (State.Up (record running { beat = tick }))) tick self.old.next self.old.key }
+    {
+        let ping = running.ping;
+        self.keep(place, tick, running, tick, ping);
+        Actions::new(self.alloc)
+    }
+
+    // Asks the instance of the service whether it lives.
+    fn ping(&mut self, place: usize, tick: u64, running: Running) -> Result<Actions, RsFault>
+        requires within { place < length self.old.states }
+        requires tick { tick ≤ 2 ^ 62 }
+        requires up { state_at self.old place ≡ State.Up running }
+        ensures done { IfOk result (λ actions. actions ≡ Action.Ping running.endpoint ∷ []) }
+        ensures after { OnOk result (self.new ≡ rs_of self.old.settings (slice_set self.old.states place (State.Up (record running { ping = tick }))) tick self.old.next self.old.key) }
+        ensures err { IfErr result (λ fault. fault ≡ RsFault.NoRoom) }
+        ensures unchanged { OnErr result (self.new ≡ self.old) }
+    {
+        let mut actions = Actions::new(self.alloc);
+        let Ok(()) = actions.push(Action::Ping(running.endpoint)) else {
+            return Err(RsFault::NoRoom);
+        };
+        let beat = running.beat;
+        self.keep(place, tick, running, beat, tick);
+        Ok(actions)
+    }
+
+    // The service waits no longer.
+    fn forget(&mut self, place: usize, tick: u64, pause: Pause) -> Actions
+        requires within { place < length self.old.states }
+        requires tick { tick ≤ 2 ^ 62 }
+        requires waiting { state_at self.old place ≡ State.Waiting pause }
+        ensures done { result ≡ [] }
+        ensures after { self.new ≡ rs_of self.old.settings (slice_set self.old.states place State.Down) tick self.old.next self.old.key }
+    {
+        let _failures = pause.failures;
+        self.states[place] = State::Down;
+        self.tick = tick;
+        Actions::new(self.alloc)
+    }
+
+    // Leaves the service as it is.
+    fn leave(&mut self, place: usize, tick: u64) -> Actions
+        requires { tick ≤ 2 ^ 62 }
+        ensures done { result ≡ [] }
+        ensures after { self.new ≡ rs_of self.old.settings (slice_set self.old.states place (state_at self.old place)) tick self.old.next self.old.key }
+    {
+        self.tick = tick;
+        Actions::new(self.alloc)
+    }
+}

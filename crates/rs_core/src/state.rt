@@ -1,0 +1,98 @@
+//! What RS knows of a service.
+
+ghost use Rattle.std.specs.Prelude.{◌≡◌, ◌<◌, ◌≤◌, ◌+◌, ◌^◌};
+ghost use Rattle.ds_names.specs.Endpoint.{endpoint_of};
+ghost use Rattle.rs_core.specs.Machine.{failed, failures_of, pause};
+ghost use Rattle.rs_core.specs.Kept.{IsAtRest};
+
+use ds_names::{Endpoint, Generation};
+
+/// A running instance.
+#[derive(Clone, Copy, Debug, PartialEq, Eq)]
+pub struct Running {
+    pub endpoint: Endpoint,
+    /// The tick of its last heartbeat, or of its start.
+    pub beat: u64,
+    /// The tick of its last ping, or of its start.
+    pub ping: u64,
+    /// How often the service failed in a row before it.
+    pub failures: u32,
+}
+
+/// A wait for the next start.
+#[derive(Clone, Copy, Debug, PartialEq, Eq)]
+pub struct Pause {
+    /// The tick from which on it is over.
+    pub until: u64,
+    /// How often the service failed in a row.
+    pub failures: u32,
+}
+
+/// What RS knows of a service: it was never started or was stopped, it runs, it failed and waits, or it failed more
+/// often than its limit.
+#[derive(Clone, Copy, Debug, PartialEq, Eq)]
+pub enum State {
+    Down,
+    Up(Running),
+    Waiting(Pause),
+    GaveUp,
+}
+
+pub(crate) fn failures_of(state: State) -> u32
+    ensures { result ≡ failures_of state }
+{
+    match state {
+        State::Up(running) => running.failures,
+        State::Waiting(pause) => pause.failures,
+        State::Down | State::GaveUp => 0,
+    }
+}
+
+// The ticks before the start that answers failure k of a row.
+fn wait_after(k: u32) -> u64
+    requires { 1 ≤ k }
+    ensures value { result ≡ pause k }
+    ensures limit { result ≤ 32 }
+{
+    match k {
+        1 => 1,
+        2 => 2,
+        3 => 4,
+        4 => 8,
+        5 => 16,
+        _ => 32,
+    }
+}
+
+// The state of a service after failure k of a row.
+pub(crate) fn failed(limit: u32, tick: u64, k: u32) -> State
+    requires some { 1 ≤ k }
+    requires limit { limit ≤ 1000 }
+    requires tick { tick ≤ 2 ^ 62 }
+    ensures value { result ≡ failed limit tick k }
+    ensures rest { IsAtRest result }
+{
+    if k > limit {
+        State::GaveUp
+    } else {
+        State::Waiting(Pause {
+            until: tick + wait_after(k),
+            failures: k,
+        })
+    }
+}
+
+// The endpoint of a generation in the slot with a key.
+pub(crate) fn endpoint_at(generation: u32, key: usize) -> Endpoint
+    requires generation { generation ≤ 2097151 }
+    requires key { key < 1008 }
+    ensures { result ≡ endpoint_of generation (16 + key) }
+{
+    match Generation::of(generation) {
+        Some(generation) => match Endpoint::of(generation, 16 + key as u16) {
+            Some(endpoint) => endpoint,
+            None => unreachable!(),
+        },
+        None => unreachable!(),
+    }
+}

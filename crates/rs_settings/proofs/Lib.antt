@@ -1,0 +1,5 @@
+pub mod ValueLemmas
+pub mod TableLemmas
+pub mod SharedLemmas
+pub mod AscendingLemmas
+pub mod ApartLemmas

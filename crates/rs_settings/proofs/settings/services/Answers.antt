@@ -1,0 +1,8 @@
+use Rattle.std.proofs.Common.{arith}
+use Rattle.rs_settings.specs.Settings.{IsService}
+use Rattle.rs_settings.specs.Draft.{service_of_draft}
+use Rattle.rs_settings.proofs.TableLemmas.{each-at}
+use Rattle.rs_settings.proofs.settings.services.Goals as goal
+
+pub service-requires : goal.service-requires
+service-requires c = each-at IsService service_of_draft c.args.drafts.now c.loop-draft.draft-index c.draft-item.result c.requires (omega arith) c.draft-item.is

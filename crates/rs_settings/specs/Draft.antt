@@ -1,0 +1,23 @@
+-- A service that is judged, its published names still in the document.
+use Rattle.std.specs.Prelude.{ℕ, Bool, List, [], map, unwrap_or}
+use Rattle.toml.specs.Data.{as_str}
+use Rattle.toml.specs.View.{view}
+use Rattle.toml.specs.declared.value.Value.{Value}
+use Rattle.rs_settings.specs.declared.draft.Draft.{Draft}
+use Rattle.rs_settings.specs.declared.service.Service.{Service}
+use Rattle.rs_settings.specs.declared.shared.Mark.{Mark}
+use Rattle.rs_settings.specs.declared.shared.Mark.TheVariants.{Label, Unit}
+use Rattle.rs_settings.specs.Shared.{share_label, share_unit}
+
+-- the bytes of a string, none of another value
+abbrev pub text_of : Value → List ℕ
+text_of value = unwrap_or (as_str (view value)) []
+
+-- the service that a draft becomes
+abbrev pub service_of_draft : Draft → Service
+service_of_draft d = record { label = d.label; class = d.class; unit = d.unit; period = d.period; limit = d.limit; publishes = map text_of d.publishes.now }
+
+-- what the two services may not share
+abbrev pub share_by : Mark → Service → Service → Bool
+share_by Label = share_label
+share_by Unit = share_unit

@@ -1,0 +1,96 @@
+-- The settings that a text stands for, or its first fault: a function of the document that `toml` reads.
+use Rattle.std.specs.Prelude.{◌≡◌, ◌≢◌, ℕ, ◌≤◌, Bool, true, false, not, ◌&&◌, ◌||◌, nat_le, All, List, [], length, codes, Option, Some, None, option_and_then, Result, Ok, Err, if◌then◌else◌}
+use Rattle.std.specs.Str.{is_utf8}
+use Rattle.toml.specs.Data.{Data, Items, no_items, Members, get_member, as_array}
+use Rattle.toml.specs.Text.{are_tables}
+use Rattle.toml.specs.Parse.{parse_document}
+use Rattle.ds_names.specs.Name.{IsName}
+use Rattle.rs_settings.specs.declared.service.Service.{Service}
+use Rattle.rs_settings.specs.declared.fault.SettingsCause.TheVariants.{BadToml, UnknownField, OutOfRange}
+use Rattle.rs_settings.specs.declared.fault.SettingsFault.{SettingsFault}
+use Rattle.rs_settings.specs.Fault.{at_top}
+use Rattle.rs_settings.specs.Values.{is_same, keys_pass, item_count, number_or, rs_label, is_server}
+use Rattle.rs_settings.specs.Service.{services_in}
+use Rattle.rs_settings.specs.Shared.{shared_fault}
+
+-- how many process slots there are, and the services in their order
+pub record SettingsRecord : Type 0 where
+  pub slots : ℕ
+  pub services : List Service
+
+abbrev pub settings : ℕ → List Service → SettingsRecord
+settings slots services = record { slots = slots; services = services }
+
+-- the document that a text is: what `toml` reads, if the text is UTF-8
+unfoldable pub document : List ℕ → Option Members
+document text = if is_utf8 text then parse_document text else None
+
+-- a field that may stand at the top
+abbrev pub is_top_field : List ℕ → Bool
+is_top_field key = is_same key (codes "slots") || is_same key (codes "service")
+
+-- at most 64 tables
+abbrev pub tables_of : Items → Option Items
+tables_of items = if nat_le (item_count items) 64 && are_tables items then Some items else None
+
+-- an array of such tables, and no tables where the field isn't there
+abbrev pub tables_or : Option Data → Option Items
+tables_or None = Some no_items
+tables_or (Some value) = option_and_then tables_of (as_array value)
+
+-- the settings, unless the services have a fault together
+abbrev pub unless_shared : ℕ → List Service → Option SettingsFault → Result SettingsRecord SettingsFault
+unless_shared slots services None = Ok (settings slots services)
+unless_shared slots services (Some fault) = Err fault
+
+abbrev pub with_services : ℕ → Result (List Service) SettingsFault → Result SettingsRecord SettingsFault
+with_services slots (Ok services) = unless_shared slots services (shared_fault services)
+with_services slots (Err fault) = Err fault
+
+abbrev pub with_top : Option ℕ → Option Items → Result SettingsRecord SettingsFault
+with_top (Some slots) (Some tables) = with_services slots (services_in [] tables)
+with_top (Some slots) None = Err (at_top OutOfRange)
+with_top None tables = Err (at_top OutOfRange)
+
+-- the settings of a document, or its first fault: an unknown field, then a value at the top, then the services, each and together
+abbrev pub settings_in : Members → Result SettingsRecord SettingsFault
+settings_in doc =
+    if not (keys_pass is_top_field doc) then Err (at_top UnknownField)
+    else with_top (number_or 64 1 1008 (get_member (codes "slots") doc)) (tables_or (get_member (codes "service") doc))
+
+abbrev pub settings_of_document : Option Members → Result SettingsRecord SettingsFault
+settings_of_document None = Err (at_top BadToml)
+settings_of_document (Some doc) = settings_in doc
+
+-- the settings of a text, or its first fault
+abbrev pub settings_of : List ℕ → Result SettingsRecord SettingsFault
+settings_of text = settings_of_document (document text)
+
+-- ---- what settings keep
+
+-- a server has no unit, another service one of 0 to 255
+abbrev pub HasUnit : Bool → Option ℕ → Type 0
+HasUnit server None = server ≡ true
+HasUnit server (Some n) = (server ≡ false) × (n ≤ 255)
+
+-- at most 64 names
+pub record ArePublished (names : List (List ℕ)) : Type 0 where
+  pub count : length names ≤ 64
+  pub each : All IsName names
+
+-- each part of the service is in its range
+pub record IsService (s : Service) : Type 0 where
+  pub label : IsName s.label
+  pub other : s.label ≢ rs_label
+  pub unit : HasUnit (is_server s.class) s.unit
+  pub period : s.period ≤ 1000000
+  pub limit : s.limit ≤ 1000
+  pub publishes : ArePublished s.publishes
+
+-- each part of the settings is in its range, and the services share nothing
+pub record IsSettings (s : SettingsRecord) : Type 0 where
+  pub some : 1 ≤ s.slots
+  pub slots : s.slots ≤ 1008
+  pub count : length s.services ≤ 64
+  pub each : All IsService s.services
+  pub apart : shared_fault s.services ≡ None

@@ -1,0 +1,36 @@
+//! Classes of services.
+
+ghost use Rattle.std.specs.Prelude.{◌≡◌};
+ghost use Rattle.rs_settings.specs.Values.{is_server};
+ghost use Rattle.rs_settings.specs.Shared.{is_network};
+
+/// What a service drives: a block device, a character device, a network device, or none.
+///
+/// MINIX 3 has block and character drivers behind major numbers, network drivers behind ports, and servers.
+#[derive(Clone, Copy, Debug, PartialEq, Eq)]
+pub enum Class {
+    Block,
+    Character,
+    Network,
+    Server,
+}
+
+impl Class {
+    pub(crate) fn is_server(self) -> bool
+        ensures { result ≡ is_server self }
+    {
+        match self {
+            Class::Server => true,
+            Class::Block | Class::Character | Class::Network => false,
+        }
+    }
+
+    pub(crate) fn is_network(self) -> bool
+        ensures { result ≡ is_network self }
+    {
+        match self {
+            Class::Network => true,
+            Class::Block | Class::Character | Class::Server => false,
+        }
+    }
+}

@@ -1,0 +1,164 @@
+//! A service as the document has it: judged, and not copied yet.
+
+ghost use Rattle.std.specs.Prelude.{◌≡◌, ◌≢◌, ◌≤◌, [], All, map, Ok, Err, length, codes, option_map, IfOk, IfErr, IfSome};
+ghost use Rattle.std.specs.Option.{option_and_then};
+ghost use Rattle.toml.specs.Data.{get_member, as_table};
+ghost use Rattle.toml.specs.View.{view, table_view, items_view};
+ghost use Rattle.ds_names.specs.Name.{IsName};
+ghost use Rattle.rs_settings.specs.Values.{class_in, label_in, rs_label};
+ghost use Rattle.rs_settings.specs.Service.{lacks_field, names_server, values_in, service_in, service_at, services_in};
+ghost use Rattle.rs_settings.specs.Settings.{IsService};
+ghost use Rattle.rs_settings.specs.Draft.{service_of_draft};
+
+use crate::class::Class;
+use crate::fault::{SettingsCause, SettingsFault};
+use crate::value::{
+    class, field, has_service_fields, label, names_field, number_field, unit_field,
+};
+use arrayvec::ArrayVec;
+use ds_names::Name;
+use toml::{Table, Value};
+
+/// A service whose published names, each of them a name, still stand in the document.
+#[derive(Clone, Copy)]
+pub(crate) struct Draft<'a> {
+    pub label: Name,
+    pub class: Class,
+    pub unit: Option<u8>,
+    pub period: u32,
+    pub limit: u32,
+    pub publishes: &'a [Value],
+}
+
+impl Default for Draft<'_> {
+    fn default() -> Self {
+        Draft {
+            label: any_name(),
+            class: Class::Server,
+            unit: None,
+            period: 0,
+            limit: 0,
+            publishes: &[],
+        }
+    }
+}
+
+// Some name: the label of a draft that nobody wrote.
+fn any_name() -> Name {
+    match Name::read(b"-") {
+        Ok(name) => name,
+        Err(_) => unreachable!(),
+    }
+}
+
+fn names_server(table: &Table) -> bool
+    ensures { result ≡ names_server (get_member (codes "class") (table_view table.now)) }
+{
+    match class_field(table) {
+        Some(class) => class.is_server(),
+        None => false,
+    }
+}
+
+// Whether a field is missing that a service has to have.
+fn lacks_field(table: &Table) -> bool
+    ensures { result ≡ lacks_field (table_view table.now) }
+{
+    let no_unit = field(table, "unit").is_none() && !names_server(table);
+    field(table, "label").is_none() || field(table, "class").is_none() || no_unit
+}
+
+fn class_field(table: &Table) -> Option<Class>
+    ensures { result ≡ option_and_then class_in (get_member (codes "class") (table_view table.now)) }
+{
+    match field(table, "class") {
+        Some(value) => class(value),
+        None => None,
+    }
+}
+
+fn label_field(table: &Table) -> Option<Name>
+    ensures value { result ≡ option_and_then label_in (get_member (codes "label") (table_view table.now)) }
+    ensures name { IfSome result IsName }
+    ensures other { IfSome result (λ name. name ≢ rs_label) }
+{
+    match field(table, "label") {
+        Some(value) => label(value),
+        None => None,
+    }
+}
+
+// The service of the fields, where each value is in its range.
+fn values(table: &Table) -> Option<Draft<'_>>
+    ensures value { option_map service_of_draft result ≡ values_in (table_view table.now) }
+    ensures service { IfSome result (λ draft. IsService (service_of_draft draft)) }
+{
+    let label = label_field(table)?;
+    let class = class_field(table)?;
+    let unit = unit_field(table, "unit", class)?;
+    let period = number_field(table, "period", 0, 0, 1000000)?;
+    let limit = number_field(table, "limit", 0, 0, 1000)?;
+    let publishes = names_field(table, "publishes")?;
+    Some(Draft {
+        label,
+        class,
+        unit,
+        period,
+        limit,
+        publishes,
+    })
+}
+
+// The service of a table, or the first thing that is wrong with it.
+fn draft_of(table: &Table) -> Result<Draft<'_>, SettingsCause>
+    ensures read { IfOk result (λ draft. service_in (table_view table.now) ≡ Ok (service_of_draft draft)) }
+    ensures refused { IfErr result (λ cause. service_in (table_view table.now) ≡ Err cause) }
+    ensures other { IfErr result (λ cause. cause ≢ SettingsCause.NoRoom) }
+    ensures service { IfOk result (λ draft. IsService (service_of_draft draft)) }
+{
+    if !has_service_fields(table) {
+        return Err(SettingsCause::UnknownField);
+    }
+    if lacks_field(table) {
+        return Err(SettingsCause::Missing);
+    }
+    match values(table) {
+        Some(draft) => Ok(draft),
+        None => Err(SettingsCause::OutOfRange),
+    }
+}
+
+// The service of an item with its index, or its first fault.
+fn draft_at(index: usize, item: &Value) -> Result<Draft<'_>, SettingsFault>
+    ensures read { IfOk result (λ draft. service_at index (as_table (view item.now)) ≡ Ok (service_of_draft draft)) }
+    ensures refused { IfErr result (λ fault. service_at index (as_table (view item.now)) ≡ Err fault) }
+    ensures other { IfErr result (λ fault. fault.cause ≢ SettingsCause.NoRoom) }
+    ensures service { IfOk result (λ draft. IsService (service_of_draft draft)) }
+{
+    let Some(table) = item.as_table() else {
+        return Err(SettingsFault::at_top(SettingsCause::OutOfRange));
+    };
+    match draft_of(table) {
+        Ok(draft) => Ok(draft),
+        Err(cause) => Err(SettingsFault::at_service(cause, index)),
+    }
+}
+
+// The services of the items, or the fault of the first that has one.
+pub(crate) fn drafts(items: &[Value]) -> Result<ArrayVec<Draft<'_>, 64>, SettingsFault>
+    requires { length items.now ≤ 64 }
+    ensures read { IfOk result (λ drafts. services_in [] (items_view items.now) ≡ Ok (map service_of_draft drafts.items)) }
+    ensures refused { IfErr result (λ fault. services_in [] (items_view items.now) ≡ Err fault) }
+    ensures other { IfErr result (λ fault. fault.cause ≢ SettingsCause.NoRoom) }
+    ensures each { IfOk result (λ drafts. All IsService (map service_of_draft drafts.items)) }
+    ensures count { IfOk result (λ drafts. length drafts.items ≤ 64) }
+{
+    let mut drafts: ArrayVec<Draft<'_>, 64> = ArrayVec::new();
+    for item in items {
+        match draft_at(drafts.len(), item) {
+            Ok(draft) => drafts.push(draft),
+            Err(fault) => return Err(fault),
+        }
+    }
+    Ok(drafts)
+}

@@ -1,0 +1,65 @@
+//! Lists of names.
+
+ghost use Rattle.std.specs.Prelude.{◌≡◌, ◌++◌, ◌∷◌, [], length, slice_get, OnOk, IfErr, OnErr, IfOk};
+ghost use Rattle.std.specs.Option.{option_copied};
+
+use ds_names::{Name, NoRoom};
+use std::alloc::{AllocFailed, Global};
+use std::marker::Model;
+
+/// Names in order.
+#[derive(Debug, Drop)]
+pub struct Names {
+    names: Vec<Name>,
+}
+
+impl Model for Names {
+    ghost use Rattle.std.specs.Prelude.{ℕ, List};
+
+    ghost Value = { List (List ℕ) };
+
+    ghost view = { λ a. a.names.items };
+}
+
+impl Names {
+    /// A list of no names. It takes no memory.
+    pub fn new(alloc: Global) -> Names
+        ensures { result ≡ [] }
+    {
+        Names {
+            names: Vec::new(alloc),
+        }
+    }
+
+    /// Adds a name at the end. Where there is no room, the list is unchanged and the error gives the name back.
+    pub fn push(&mut self, name: Name) -> Result<(), AllocFailed<Name>>
+        ensures ok { OnOk result (self.new ≡ self.old ++ name ∷ []) }
+        ensures err { OnErr result (self.new ≡ self.old) }
+        ensures back { IfErr result (λ back. back.value ≡ name) }
+    {
+        self.names.push(name)
+    }
+
+    /// How many names it has.
+    pub fn len(&self) -> usize
+        ensures { result ≡ length self.now }
+    {
+        self.names.len()
+    }
+
+    /// The name at an index from 0, `None` behind the last one.
+    pub fn get(&self, index: usize) -> Option<&Name>
+        ensures { option_copied result ≡ slice_get self.now index }
+    {
+        self.names.get(index)
+    }
+
+    /// The same names again, in the same order.
+    pub fn copy(&self, alloc: Global) -> Result<Names, NoRoom>
+        ensures { IfOk result (λ names. names ≡ self.now) }
+    {
+        Ok(Names {
+            names: self.names.as_slice().to_vec(alloc)?,
+        })
+    }
+}

@@ -1,0 +1,40 @@
+//! Services.
+
+ghost use Rattle.std.specs.Prelude.{◌≡◌, IfOk};
+
+use crate::class::Class;
+use crate::names::Names;
+use ds_names::{Name, NoRoom};
+use std::alloc::Global;
+
+/// What RS is told of a service.
+#[derive(Debug, Drop)]
+pub struct Service {
+    /// What it is called; no service is called `rs`.
+    pub label: Name,
+    pub class: Class,
+    /// The major number of a block or character service, the port of a network service; a server has none.
+    pub unit: Option<u8>,
+    /// Ticks from one ping to the next, 0 to 1000000; 0 for no pings.
+    pub period: u32,
+    /// How many failures in a row are answered by another start, 0 to 1000.
+    pub limit: u32,
+    /// The names that it may publish, 64 at most.
+    pub publishes: Names,
+}
+
+impl Service {
+    /// The same service again.
+    pub fn copy(&self, alloc: Global) -> Result<Service, NoRoom>
+        ensures { IfOk result (λ service. service ≡ self.now) }
+    {
+        Ok(Service {
+            label: self.label,
+            class: self.class,
+            unit: self.unit,
+            period: self.period,
+            limit: self.limit,
+            publishes: self.publishes.copy(alloc)?,
+        })
+    }
+}

@@ -1,0 +1,69 @@
+//! Lists of services.
+
+ghost use Rattle.std.specs.Prelude.{◌≡◌, ◌++◌, ◌∷◌, [], length, slice_get, OnOk, IfErr, OnErr, IfOk};
+ghost use Rattle.std.specs.Option.{option_copied};
+
+use crate::service::Service;
+use ds_names::NoRoom;
+use std::alloc::{AllocFailed, Global};
+use std::marker::Model;
+
+/// Services in order.
+#[derive(Debug, Drop)]
+pub struct Services {
+    services: Vec<Service>,
+}
+
+impl Model for Services {
+    ghost use Rattle.std.specs.Prelude.{List};
+    ghost use Rattle.rs_settings.specs.declared.service.Service.{Service};
+
+    ghost Value = { List Service };
+
+    ghost view = { λ a. a.services.items };
+}
+
+impl Services {
+    /// A list of no services. It takes no memory.
+    pub fn new(alloc: Global) -> Services
+        ensures { result ≡ [] }
+    {
+        Services {
+            services: Vec::new(alloc),
+        }
+    }
+
+    /// Adds a service at the end. Where there is no room, the list is unchanged and the error gives the service back.
+    pub fn push(&mut self, service: Service) -> Result<(), AllocFailed<Service>>
+        ensures ok { OnOk result (self.new ≡ self.old ++ service ∷ []) }
+        ensures err { OnErr result (self.new ≡ self.old) }
+        ensures back { IfErr result (λ back. back.value ≡ service) }
+    {
+        self.services.push(service)
+    }
+
+    /// How many services it has.
+    pub fn len(&self) -> usize
+        ensures { result ≡ length self.now }
+    {
+        self.services.len()
+    }
+
+    /// The service at an index from 0, `None` behind the last one.
+    pub fn get(&self, index: usize) -> Option<&Service>
+        ensures { option_copied result ≡ slice_get self.now index }
+    {
+        self.services.get(index)
+    }
+
+    /// The same services again, in the same order.
+    pub fn copy(&self, alloc: Global) -> Result<Services, NoRoom>
+        ensures { IfOk result (λ services. services ≡ self.now) }
+    {
+        let mut services = Vec::new(alloc);
+        for service in &self.services {
+            services.push(service.copy(alloc)?)?;
+        }
+        Ok(Services { services })
+    }
+}

@@ -1,0 +1,221 @@
+//! Settings, and how they are read.
+
+ghost use Rattle.std.specs.Prelude.{◌≡◌, ◌≢◌, ◌≤◌, ◌&&◌, All, IsTrue, IsOk, IfOk, IfErr, IfSome, Ok, Err, [], nat_le, length, map, option_map};
+ghost use Rattle.std.specs.Option.{option_and_then};
+ghost use Rattle.toml.specs.Data.{get_member, as_array};
+ghost use Rattle.toml.specs.View.{view, table_view, array_view, items_view};
+ghost use Rattle.toml.specs.Text.{are_tables};
+ghost use Rattle.ds_names.specs.Name.{IsName};
+ghost use Rattle.rs_settings.specs.Values.{item_count};
+ghost use Rattle.rs_settings.specs.Service.{services_in};
+ghost use Rattle.rs_settings.specs.Fault.{no_room};
+ghost use Rattle.rs_settings.specs.Settings.{settings_in, settings_of, with_services, tables_of, IsService, IsSettings};
+ghost use Rattle.rs_settings.specs.Draft.{service_of_draft, text_of};
+
+use crate::draft::{Draft, drafts};
+use crate::fault::{SettingsCause, SettingsFault};
+use crate::names::Names;
+use crate::service::Service;
+use crate::services::Services;
+use crate::shared::shared_fault;
+use crate::value::{field, has_top_fields, number_field, text_of};
+use ds_names::{Name, NoRoom};
+use std::alloc::Global;
+use std::marker::Model;
+use toml::value::Array;
+use toml::{Table, Value};
+
+/// What RS is told: how many process slots it may use, 1 to 1008, and its services, 64 at most.
+///
+/// No two of the services have one label, no two one major number or one port, and no name is published twice.
+#[derive(Debug, Drop)]
+pub struct Settings {
+    slots: u32,
+    services: Services,
+}
+
+impl Model for Settings {
+    ghost use Rattle.std.specs.Prelude.{ℕ};
+    ghost use Rattle.std.specs.Coded.{code_by, coded×, coded_ℕ};
+    ghost use Rattle.rs_settings.specs.declared.services.Services.{Services as ServiceList};
+    ghost use Rattle.rs_settings.specs.contracts.services.Services.{the_row as services_row};
+    ghost use Rattle.rs_settings.specs.Settings.{SettingsRecord, settings, IsSettings};
+
+    ghost Value = { SettingsRecord };
+
+    ghost coded = { code_by (ℕ × ServiceList) (coded× coded_ℕ services_row.coded) (λ s. (s.slots, s.services)) (λ p. settings p.0 p.1) (λ s i. s) };
+
+    ghost view = { λ s. settings s.slots s.services };
+
+    ghost invariant = { λ s. IsSettings (settings s.slots s.services) };
+}
+
+impl Settings {
+    /// How many process slots RS may use, 1 to 1008.
+    pub fn slots(&self) -> u32
+        ensures value { result ≡ self.now.slots }
+        ensures settings { IsSettings self.now }
+    {
+        self.slots
+    }
+
+    /// The services, in the order of the text.
+    pub fn services(&self) -> &Services
+        ensures value { result.now ≡ self.now.services }
+        ensures settings { IsSettings self.now }
+    {
+        &self.services
+    }
+
+    /// The same settings again.
+    pub fn copy(&self, alloc: Global) -> Result<Settings, NoRoom>
+        ensures { IfOk result (λ settings. settings ≡ self.now) }
+    {
+        Ok(Settings {
+            slots: self.slots,
+            services: self.services.copy(alloc)?,
+        })
+    }
+}
+
+fn are_tables(items: &Array) -> bool
+    ensures { result ≡ are_tables (array_view items.now) }
+{
+    items.iter().all(|item| item.is_table())
+}
+
+// Whether these are at most 64 tables.
+fn are_few_tables(items: &Array) -> bool
+    ensures value { result ≡ (nat_le (item_count (array_view items.now)) 64 && are_tables (array_view items.now)) }
+    ensures count { IsTrue result → length items.now.items ≤ 64 }
+{
+    items.len() <= 64 && are_tables(items)
+}
+
+// The tables of an array of at most 64 tables.
+fn tables(value: &Value) -> Option<&Array>
+    ensures value { option_map (λ v. array_view v.now) result ≡ option_and_then tables_of (as_array (view value.now)) }
+    ensures count { IfSome result (λ v. length v.now.items ≤ 64) }
+{
+    match value.as_array() {
+        Some(items) => {
+            if are_few_tables(items) {
+                Some(items)
+            } else {
+                None
+            }
+        }
+        None => None,
+    }
+}
+
+// The name with the bytes of a text that is one.
+fn name_of(text: &str) -> Name
+    requires { IsName text.now }
+    ensures { result ≡ text.now }
+{
+    match Name::read(text.as_bytes()) {
+        Ok(name) => name,
+        Err(_) => unreachable!(),
+    }
+}
+
+// The names that the items are.
+fn names(alloc: Global, items: &[Value]) -> Result<Names, NoRoom>
+    requires { All IsName (map text_of items.now) }
+    ensures { IfOk result (λ names. names ≡ map text_of items.now) }
+{
+    let mut names = Names::new(alloc);
+    for item in items {
+        names.push(name_of(text_of(item)))?;
+    }
+    Ok(names)
+}
+
+// The service that a draft is, out of the document.
+fn service(alloc: Global, draft: &Draft<'_>) -> Result<Service, NoRoom>
+    requires { IsService (service_of_draft draft.now) }
+    ensures { IfOk result (λ service. service ≡ service_of_draft draft.now) }
+{
+    Ok(Service {
+        label: draft.label,
+        class: draft.class,
+        unit: draft.unit,
+        period: draft.period,
+        limit: draft.limit,
+        publishes: names(alloc, draft.publishes)?,
+    })
+}
+
+fn services(alloc: Global, drafts: &[Draft<'_>]) -> Result<Services, NoRoom>
+    requires { All IsService (map service_of_draft drafts.now) }
+    ensures { IfOk result (λ services. services ≡ map service_of_draft drafts.now) }
+{
+    let mut services = Services::new(alloc);
+    for draft in drafts {
+        services.push(service(alloc, draft)?)?;
+    }
+    Ok(services)
+}
+
+// The settings of the services of tables. All faults are judged before memory is taken.
+fn of_tables(alloc: Global, slots: u32, tables: &[Value]) -> Result<Settings, SettingsFault>
+    requires some { 1 ≤ slots }
+    requires slots { slots ≤ 1008 }
+    requires count { length tables.now ≤ 64 }
+    ensures read { IfOk result (λ settings. with_services slots (services_in [] (items_view tables.now)) ≡ Ok settings) }
+    ensures refused { IfErr result (λ fault. fault.cause ≢ SettingsCause.NoRoom → with_services slots (services_in [] (items_view tables.now)) ≡ Err fault) }
+    ensures last { IfErr result (λ fault. fault.cause ≡ SettingsCause.NoRoom → IsOk (with_services slots (services_in [] (items_view tables.now)))) }
+    ensures settings { IfOk result IsSettings }
+{
+    let drafts = drafts(tables)?;
+    if let Some(fault) = shared_fault(drafts.as_slice()) {
+        return Err(fault);
+    }
+    match services(alloc, drafts.as_slice()) {
+        Ok(services) => Ok(Settings { slots, services }),
+        Err(NoRoom) => Err(SettingsFault::at_top(SettingsCause::NoRoom)),
+    }
+}
+
+/// Reads the settings of a TOML document. NoRoom comes only where the document has no fault.
+pub fn read_table(alloc: Global, table: &Table) -> Result<Settings, SettingsFault>
+    ensures read { IfOk result (λ settings. settings_in (table_view table.now) ≡ Ok settings) }
+    ensures refused { IfErr result (λ fault. fault.cause ≢ SettingsCause.NoRoom → settings_in (table_view table.now) ≡ Err fault) }
+    ensures last { IfErr result (λ fault. fault.cause ≡ SettingsCause.NoRoom → IsOk (settings_in (table_view table.now))) }
+    ensures settings { IfOk result IsSettings }
+{
+    if !has_top_fields(table) {
+        return Err(SettingsFault::at_top(SettingsCause::UnknownField));
+    }
+    let Some(slots) = number_field(table, "slots", 64, 1, 1008) else {
+        return Err(SettingsFault::at_top(SettingsCause::OutOfRange));
+    };
+    let Some(value) = field(table, "service") else {
+        return of_tables(alloc, slots, &[]);
+    };
+    let Some(items) = tables(value) else {
+        return Err(SettingsFault::at_top(SettingsCause::OutOfRange));
+    };
+    of_tables(alloc, slots, items)
+}
+
+/// Reads the settings of a text, or finds its first fault.
+///
+/// What is read is a function of the text, which has to be one TOML document in UTF-8. NoRoom may come in the place of
+/// BadToml, for want of memory to read the TOML; what the settings take comes last, behind every other fault.
+pub fn read(alloc: Global, text: &[u8]) -> Result<Settings, SettingsFault>
+    ensures read { IfOk result (λ settings. settings_of text.now ≡ Ok settings) }
+    ensures refused { IfErr result (λ fault. fault.cause ≢ SettingsCause.NoRoom → settings_of text.now ≡ Err fault) }
+    ensures settings { IfOk result IsSettings }
+{
+    match toml::table_from_slice(alloc, text) {
+        Ok(table) => read_table(alloc, &table),
+        Err(fault) => {
+            if fault.is_memory() {
+                return Err(SettingsFault::at_top(SettingsCause::NoRoom));
+            }
+            Err(SettingsFault::at_top(SettingsCause::BadToml))
+        }
+    }
+}

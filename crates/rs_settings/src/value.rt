@@ -1,0 +1,226 @@
+//! Single values of a document, judged in place: nothing here takes memory.
+
+ghost use Rattle.std.specs.Prelude.{◌≡◌, ◌≢◌, ◌≤◌, All, IsTrue, Some, None, map, option_map, if◌then◌else◌, IfSome};
+ghost use Rattle.std.specs.Option.{option_and_then};
+ghost use Rattle.toml.specs.Data.{get_member, as_array};
+ghost use Rattle.toml.specs.View.{view, table_view, items_view, array_view};
+ghost use Rattle.ds_names.specs.Name.{IsName};
+ghost use Rattle.rs_settings.specs.Values.{keys_pass, within, number_in, number_or, name_of, name_in, label_in, each_of, names_of, names_or, class_of, class_in, unit_in, is_server, rs_label};
+ghost use Rattle.rs_settings.specs.Service.{is_service_field};
+ghost use Rattle.rs_settings.specs.Settings.{is_top_field, HasUnit, ArePublished};
+ghost use Rattle.rs_settings.specs.Draft.{text_of};
+
+use crate::class::Class;
+use ds_names::Name;
+use toml::value::Array;
+use toml::{Table, Value};
+
+// The value of a field.
+pub(crate) fn field<'a>(table: &'a Table, name: &str) -> Option<&'a Value>
+    ensures { option_map (λ v. view v.now) result ≡ get_member name.now (table_view table.now) }
+{
+    table.get(name)
+}
+
+fn is_service_field(key: &str) -> bool
+    ensures { result ≡ is_service_field key.now }
+{
+    key == "label"
+        || key == "class"
+        || key == "unit"
+        || key == "period"
+        || key == "limit"
+        || key == "publishes"
+}
+
+fn is_top_field(key: &str) -> bool
+    ensures { result ≡ is_top_field key.now }
+{
+    key == "slots" || key == "service"
+}
+
+// Whether a service may have each of the fields.
+pub(crate) fn has_service_fields(table: &Table) -> bool
+    ensures { result ≡ keys_pass is_service_field (table_view table.now) }
+{
+    table.keys().all(|key| is_service_field(key.as_str()))
+}
+
+// Whether each of the fields may stand at the top.
+pub(crate) fn has_top_fields(table: &Table) -> bool
+    ensures { result ≡ keys_pass is_top_field (table_view table.now) }
+{
+    table.keys().all(|key| is_top_field(key.as_str()))
+}
+
+fn number_within(number: i64, low: u32, high: u32) -> Option<u32>
+    ensures value { result ≡ within low high number }
+    ensures range { IfSome result (λ n. (low ≤ n) × (n ≤ high)) }
+{
+    if number >= 0 && number <= 4294967295 {
+        let number = number as u32;
+        if low <= number && number <= high {
+            return Some(number);
+        }
+    }
+    None
+}
+
+// A whole number from low to high.
+fn number(value: &Value, low: u32, high: u32) -> Option<u32>
+    ensures value { result ≡ number_in low high (view value.now) }
+    ensures range { IfSome result (λ n. (low ≤ n) × (n ≤ high)) }
+{
+    match value.as_integer() {
+        Some(number) => number_within(number, low, high),
+        None => None,
+    }
+}
+
+// A field with such a number; another one where it isn't there.
+pub(crate) fn number_field(
+    table: &Table,
+    name: &str,
+    missing: u32,
+    low: u32,
+    high: u32,
+) -> Option<u32>
+    ensures value { result ≡ number_or missing low high (get_member name.now (table_view table.now)) }
+    ensures range { low ≤ missing → missing ≤ high → IfSome result (λ n. (low ≤ n) × (n ≤ high)) }
+{
+    match field(table, name) {
+        Some(value) => number(value, low, high),
+        None => Some(missing),
+    }
+}
+
+fn name_of(text: &str) -> Option<Name>
+    ensures value { result ≡ name_of text.now }
+    ensures name { IfSome result IsName }
+{
+    match Name::read(text.as_bytes()) {
+        Ok(name) => Some(name),
+        Err(_) => None,
+    }
+}
+
+// A string that is a name.
+pub(crate) fn name(value: &Value) -> Option<Name>
+    ensures value { result ≡ name_in (view value.now) }
+    ensures name { IfSome result IsName }
+{
+    match value.as_str() {
+        Some(text) => name_of(text),
+        None => None,
+    }
+}
+
+// A name other than `rs`.
+pub(crate) fn label(value: &Value) -> Option<Name>
+    ensures value { result ≡ label_in (view value.now) }
+    ensures name { IfSome result IsName }
+    ensures other { IfSome result (λ name. name ≢ rs_label) }
+{
+    match name(value) {
+        Some(name) => {
+            if name.bytes() == b"rs".as_slice() {
+                None
+            } else {
+                Some(name)
+            }
+        }
+        None => None,
+    }
+}
+
+// Whether each item is a name.
+fn are_names(items: &[Value]) -> bool
+    ensures value { each_of name_in (items_view items.now) ≡ (if result then Some (map text_of items.now) else None) }
+    ensures names { IsTrue result → All IsName (map text_of items.now) }
+{
+    items.iter().all(|item| name(item).is_some())
+}
+
+// The names of an array of at most 64.
+fn names_of(items: &Array) -> Option<&[Value]>
+    ensures value { option_map (λ names. map text_of names.now) result ≡ names_of (array_view items.now) }
+    ensures names { IfSome result (λ names. ArePublished (map text_of names.now)) }
+{
+    if items.len() > 64 {
+        return None;
+    }
+    if are_names(items.as_slice()) {
+        Some(items.as_slice())
+    } else {
+        None
+    }
+}
+
+// A field with at most 64 names, in place; none of them where it isn't there.
+pub(crate) fn names_field<'a>(table: &'a Table, name: &str) -> Option<&'a [Value]>
+    ensures value { option_map (λ names. map text_of names.now) result ≡ names_or (get_member name.now (table_view table.now)) }
+    ensures names { IfSome result (λ names. ArePublished (map text_of names.now)) }
+{
+    match field(table, name) {
+        Some(value) => match value.as_array() {
+            Some(items) => names_of(items),
+            None => None,
+        },
+        None => Some(&[]),
+    }
+}
+
+// The text of a string, an empty one of another value.
+pub(crate) fn text_of(value: &Value) -> &str
+    ensures { result.now ≡ text_of value.now }
+{
+    match value.as_str() {
+        Some(text) => text,
+        None => "",
+    }
+}
+
+fn class_of(word: &str) -> Option<Class>
+    ensures { result ≡ class_of word.now }
+{
+    if word == "block" {
+        Some(Class::Block)
+    } else if word == "character" {
+        Some(Class::Character)
+    } else if word == "network" {
+        Some(Class::Network)
+    } else if word == "server" {
+        Some(Class::Server)
+    } else {
+        None
+    }
+}
+
+// A string that names a class.
+pub(crate) fn class(value: &Value) -> Option<Class>
+    ensures { result ≡ class_in (view value.now) }
+{
+    match value.as_str() {
+        Some(word) => class_of(word),
+        None => None,
+    }
+}
+
+// The unit of a service of the class.
+pub(crate) fn unit_field(table: &Table, name: &str, class: Class) -> Option<Option<u8>>
+    ensures value { result ≡ unit_in class (get_member name.now (table_view table.now)) }
+    ensures unit { IfSome result (HasUnit (is_server class)) }
+{
+    match field(table, name) {
+        Some(value) => {
+            if class.is_server() {
+                return None;
+            }
+            match number(value, 0, 255) {
+                Some(unit) => Some(Some(unit as u8)),
+                None => None,
+            }
+        }
+        None => { if class.is_server() { Some(None) } else { None } }
+    }
+}
