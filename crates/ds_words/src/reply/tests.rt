@@ -1,8 +1,8 @@
 //! The lines that answer each reply.
 
 use super::*;
-use ds_entry::{Blob, Body, Change, Items, Text, Value};
-use ds_names::{Endpoint, Generation, Key, Kind, Name};
+use ds_entry::{Body, Change};
+use ds_names::{Generation, Key, Kind, Name};
 use std::test::Fail;
 
 fn version(epoch: u32, seq: u32) -> Result<Version, Fail> {
@@ -12,7 +12,7 @@ fn version(epoch: u32, seq: u32) -> Result<Version, Fail> {
     })
 }
 
-// Whether the reply is printed so.
+// Whether the reply to a command that is no offer is printed so.
 fn prints(alloc: Global, reply: &Reply, text: &[u8]) -> Result<bool, Fail> {
     let written = write_reply(alloc, &ScriptCommand::Show, reply)?;
     Ok(written.as_slice() == text)
@@ -27,20 +27,6 @@ fn tombstone() -> Result<Change, Fail> {
     Ok(Change::make(key, Name::read(b"rs")?, version(3, 1)?, Body::Gone)?)
 }
 
-#[test]
-fn a_check_prints_its_changes_and_stamps(rt: HostRuntime) -> Result<(), Fail> {
-    let mut items = Items::new(rt.alloc());
-    items.push(tombstone()?)?;
-    let reply = Reply::Checked {
-        items,
-        before: 1,
-        after: 4611686018427387904,
-    };
-    let text = b"eth0 label rs 3.1 -\nchecked 1 1 4611686018427387904\n";
-    assert!(rt; prints(rt.alloc(), &reply, text)?);
-    Ok(())
-}
-
 fn merged(taken: usize, stale: usize, owed: u64) -> Reply {
     Reply::Merged {
         done: 1,
@@ -50,25 +36,27 @@ fn merged(taken: usize, stale: usize, owed: u64) -> Reply {
     }
 }
 
+fn stopped(fault: Refusal) -> Reply {
+    Reply::MergeStopped {
+        done: 2,
+        fault,
+        owed: 0,
+    }
+}
+
 #[test]
 fn replies_have_their_words(rt: HostRuntime) -> Result<(), Fail> {
-    let stopped = Reply::MergeStopped {
-        done: 0,
-        fault: Refusal::NotOwner,
-        owed: 0,
+    let clash = Refusal::Clash {
+        version: version(3, 0)?,
     };
-    let rows: [(Reply, &[u8]); 9] = [
-        (Reply::Known, b"known\n"),
+    let rows: [(Reply, &[u8]); 5] = [
         (
             Reply::Swept { count: 12, owed: 1 },
             b"swept 12\nowed 0000000000000001\n",
         ),
-        (Reply::Named(Name::read(b"eth0")?), b"named eth0\n"),
         (Reply::Subscribed { stamp: 2, owed: 0 }, b"subscribed 2\n"),
-        (merged(1, 0, 0x20), b"taken\nowed 0000000000000020\n"),
-        (merged(0, 1, 0), b"stale\n"),
-        (merged(0, 0, 0), b"known\n"),
-        (stopped, b"refused notowner\n"),
+        (merged(1, 0, 0), b"merged 1 1 0\n"),
+        (stopped(clash), b"stopped 2 clash 3.0\n"),
         (
             Reply::Changed {
                 owed: 0x8123_4567_89ab_cdef,
@@ -83,22 +71,17 @@ fn replies_have_their_words(rt: HostRuntime) -> Result<(), Fail> {
 }
 
 #[test]
-fn what_is_found_is_printed(rt: HostRuntime) -> Result<(), Fail> {
-    let alloc = rt.alloc();
-    let generation = Generation::of(3).ok_or("a generation")?;
-    let endpoint = Endpoint::of(generation, 17).ok_or("an endpoint")?;
-    let rows: [(Value, &[u8]); 5] = [
-        (Value::Label(endpoint), b"found 3/17\n"),
-        (Value::U32(1400), b"found 1400\n"),
-        (
-            Value::Str(Text::read(alloc, b"a\"b")?),
-            b"found \"a\\\"b\"\n",
-        ),
-        (Value::Mem(Blob::read(alloc, b"\x00\xff")?), b"found 00ff\n"),
-        (Value::Mem(Blob::read(alloc, b"")?), b"found \n"),
+fn an_offer_has_its_words(rt: HostRuntime) -> Result<(), Fail> {
+    let offer = ScriptCommand::Offer(tombstone()?);
+    let rows: [(Reply, &[u8]); 4] = [
+        (merged(1, 0, 0x20), b"taken\nowed 0000000000000020\n"),
+        (merged(0, 1, 0), b"stale\n"),
+        (merged(0, 0, 0), b"known\n"),
+        (stopped(Refusal::NotOwner), b"refused notowner\n"),
     ];
-    for (value, text) in rows {
-        assert!(rt; prints(alloc, &Reply::Found(value), text)?);
+    for (reply, text) in &rows {
+        let written = write_reply(rt.alloc(), &offer, reply)?;
+        assert_eq!(rt; written.as_slice(), *text);
     }
     Ok(())
 }
