@@ -43,17 +43,35 @@ fn labels_are_made_by_their_rule(rt: HostRuntime) -> Result<(), Fail> {
     Ok(())
 }
 
+// The change of the version 3.0 of the key eth0 of a kind.
+fn change(owner: &[u8], kind: Kind, body: Body) -> Result<Change, Fail> {
+    let key = Key {
+        name: Name::read(b"eth0")?,
+        kind,
+    };
+    let epoch = Generation::of(3).ok_or("no epoch")?;
+    Ok(Change::make(key, Name::read(owner)?, Version { epoch, seq: 0 }, body)?)
+}
+
 #[test]
 fn copies_are_the_same(rt: HostRuntime) -> Result<(), Fail> {
-    let change = label(b"rs", 3, 3, 0)??;
-    let copy = change.copy(rt.alloc())?;
-    assert!(rt; copy == change);
-    let mut items = Items::new(rt.alloc());
-    items.push(copy)?;
-    let again = items.copy(rt.alloc())?;
-    assert_eq!(rt; again.len(), 1);
-    assert!(rt; again.get(0) == Some(&change));
-    assert!(rt; again.get(1).is_none());
+    let alloc = rt.alloc();
+    let mut items = Items::new(alloc);
+    items.push(label(b"rs", 3, 3, 0)??)?;
+    let values = [
+        Value::U32(1500),
+        Value::Str(Text::read(alloc, b"up")?),
+        Value::Mem(Blob::read(alloc, &[0x00, 0xff])?),
+    ];
+    for value in values {
+        let copy = value.copy(alloc)?;
+        assert!(rt; copy == value);
+        items.push(change(b"tty", value.kind(), Body::Put(value))?)?;
+    }
+    items.push(change(b"tty", Kind::Mem, Body::Gone)?)?;
+    let again = items.copy(alloc)?;
+    assert_eq!(rt; again.len(), 5);
+    assert!(rt; again == items);
     Ok(())
 }
 

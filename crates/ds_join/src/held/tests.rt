@@ -1,7 +1,7 @@
 //! Outside values, and with ample memory each call on its happy path.
 
 use crate::{Held, JoinFault, Merge, Stop};
-use ds_entry::{Body, Change, Value};
+use ds_entry::{Blob, Body, Change, Text, Value};
 use ds_names::{Endpoint, Generation, Key, Kind, Name, Version};
 use std::alloc::Global;
 use std::test::Fail;
@@ -36,16 +36,15 @@ fn gone(name: &str, generation: u32) -> Result<Change, Fail> {
     Ok(Change::make(key(name)?, Name::read(b"rs")?, version, Body::Gone)?)
 }
 
-// The put of a number, by the service of the same name.
-fn put_number(name: &str, generation: u32, number: u32) -> Result<Change, Fail> {
+// The put of a value that is no label, by the service of the same name.
+fn put_value(name: &str, generation: u32, value: Value) -> Result<Change, Fail> {
     let owner = Name::read(name.as_bytes())?;
     let epoch = Generation::of(generation).ok_or("no generation")?;
     let key = Key {
         name: owner,
-        kind: Kind::U32,
+        kind: value.kind(),
     };
-    let body = Body::Put(Value::U32(number));
-    Ok(Change::make(key, owner, Version { epoch, seq: 0 }, body)?)
+    Ok(Change::make(key, owner, Version { epoch, seq: 0 }, Body::Put(value))?)
 }
 
 // A holder of so many labels, whose names begin alike.
@@ -135,7 +134,7 @@ fn the_least_live_label_names_an_endpoint(rt: HostRuntime) -> Result<(), Fail> {
         put("cdrom", 4, 17)?,
         put("boot", 3, 17)?,
         gone("boot", 3)?,
-        put_number("aux", 3, 17)?,
+        put_value("aux", 3, Value::U32(17))?,
     ];
     for change in changes {
         assert_eq!(rt; held.merge(change), Ok(Merge::Taken));
@@ -147,5 +146,23 @@ fn the_least_live_label_names_an_endpoint(rt: HostRuntime) -> Result<(), Fail> {
     assert!(rt; held.label_at(endpoint(3, 0)?).is_none());
     assert_eq!(rt; held.merge(put("eth0", 4, 9)?), Ok(Merge::Taken));
     assert!(rt; held.label_at(endpoint(3, 17)?) == Some(&key("tty")?.name));
+    Ok(())
+}
+
+#[test]
+fn texts_and_blobs_are_copied(rt: HostRuntime) -> Result<(), Fail> {
+    let alloc = rt.alloc();
+    let mut held = Held::new(alloc);
+    let text = Value::Str(Text::read(alloc, b"up")?);
+    let blob = Value::Mem(Blob::read(alloc, &[0x00, 0xff])?);
+    for value in [text, blob] {
+        let change = put_value("eth0", 3, value)?;
+        assert_eq!(rt; held.merge_copy(alloc, &change), Ok(Merge::Taken));
+        assert_eq!(rt; held.merge_copy(alloc, &change), Ok(Merge::Known));
+    }
+    let mut other = Held::new(alloc);
+    assert_eq!(rt; other.join(alloc, &held), Ok(()));
+    assert_eq!(rt; other.len(), 2);
+    assert!(rt; other.all(alloc)? == held.all(alloc)?);
     Ok(())
 }
