@@ -15,7 +15,7 @@ use Rattle.ds_entry.specs.declared.body.Body.{Body}
 use Rattle.ds_entry.specs.declared.body.Body.TheVariants.{Put, Gone}
 use Rattle.ds_entry.specs.Change.{ChangeRecord, change_of, kind_of, IsOfKind, IsValue, IsBody, IsChange}
 use Rattle.ds_line.specs.Part.{Class, Endpoint, run_of, Part, part}
-use Rattle.ds_line.specs.Spelling.{quoted, value_part, body_parts, change_parts, HasLine, spelling}
+use Rattle.ds_line.specs.Spelling.{quoted, value_part, body_parts, change_parts, spelling}
 use Rattle.ds_line.specs.FaultPlace.{Stand}
 use Rattle.ds_line.proofs.PartLemmas.{IsText, part_one}
 use Rattle.ds_line.proofs.QuoteLemmas.{quoted_one}
@@ -137,7 +137,7 @@ body_one k (Put v) Gone is_a is_b kind_a kind_b eq = absurd (other_byte 61 45 (�
 body_one k Gone (Put w) is_a is_b kind_a kind_b eq = absurd (other_byte 45 61 (λ h. omega arith) (ap (text_at 0) eq))
 body_one k Gone Gone is_a is_b kind_a kind_b eq = refl
 
-change_one : (c d : ChangeRecord) → IsChange c → IsChange d → change_parts c ≡ change_parts d → c ≡ d
+pub change_one : (c d : ChangeRecord) → IsChange c → IsChange d → change_parts c ≡ change_parts d → c ≡ d
 change_one c d is_c is_d eq =
     let kind : c.key.kind ≡ d.key.kind = word_one c.key.kind d.key.kind (ap (text_at 2) eq) in
     let key : c.key ≡ d.key = key_is c.key d.key (ap (text_at 0) eq) kind in
@@ -151,10 +151,10 @@ change_one c d is_c is_d eq =
     ∙ ap (λ (v : Version). change_of d.key d.owner v c.body) version
     ∙ ap (λ (b : Body). change_of d.key d.owner d.version b) body
 
-pub apart : (c d : ChangeRecord) (r s : List ℕ) → HasLine c → HasLine d → spelling c ++ r ≡ spelling d ++ s → (c ≡ d) × (r ≡ s)
+pub apart : (c d : ChangeRecord) (r s : List ℕ) → IsChange c → IsChange d → spelling c ++ r ≡ spelling d ++ s → (c ≡ d) × (r ≡ s)
 apart c d r s is_c is_d eq =
     let same = same_parts (change_parts c) (change_parts d) (spelling c ++ r) r s (change_texts c is_c) (change_texts d is_d) (changes_alike c d is_c is_d) (line_stands c (spelling c ++ r) r refl) (line_stands d (spelling c ++ r) s eq) in
     (change_one c d is_c is_d same.0, same.1)
 
-pub one_change : (c d : ChangeRecord) → HasLine c → HasLine d → spelling c ≡ spelling d → c ≡ d
+pub one_change : (c d : ChangeRecord) → IsChange c → IsChange d → spelling c ≡ spelling d → c ≡ d
 one_change c d is_c is_d eq = (apart c d [] [] is_c is_d (ap (λ (x : List ℕ). x ++ []) eq)).0

@@ -14,8 +14,8 @@ use Rattle.ds_entry.specs.declared.body.Value.TheVariants as values
 use Rattle.ds_line.specs.Part.{Class, Quoted, Hex, run_of}
 use Rattle.ds_line.specs.Spelling.{newline, quoted, value_part}
 use Rattle.ds_line.specs.Piece.{Found, Breaks, IsValueOf, last_value, StopsValue}
-use Rattle.ds_line.specs.declared.stop.Stop.{Stop}
-use Rattle.ds_line.specs.declared.stop.Stop.TheVariants.{BadPart}
+use Rattle.ds_line.specs.declared.part_fault.PartFault.{PartFault}
+use Rattle.ds_line.specs.declared.part_fault.PartFault.TheVariants.{BadPart}
 use Rattle.ds_line.proofs.PartLemmas.{IsText, part_one, byte_begins}
 use Rattle.ds_line.proofs.LabelLemmas.{some_value, some_kind, some_is}
 use Rattle.ds_line.proofs.BodyLemmas.{class_one, value_text}
@@ -52,8 +52,8 @@ pub value_whole : (kind : Kind) (v : Value) (bytes r rest : List ℕ) → IsValu
 value_whole kind v bytes r rest is begins end = record { can = is; front = (r, begins, (rest, byte_begins 10 r rest end, refl)) }
 
 -- a reader that stops so
-pub stops_value : (kind : Kind) (stop : Stop) (bytes rest : List ℕ) → stop ≡ BadPart (length rest) → Breaks (last_value kind) bytes rest → StopsValue kind stop bytes
-stops_value kind stop bytes rest is s = subst (λ (x : Stop). StopsValue kind x bytes) (sym is) (rest, s, refl)
+pub stops_value : (kind : Kind) (stop : PartFault) (bytes rest : List ℕ) → stop ≡ BadPart (length rest) → Breaks (last_value kind) bytes rest → StopsValue kind stop bytes
+stops_value kind stop bytes rest is s = subst (λ (x : PartFault). StopsValue kind x bytes) (sym is) (rest, s, refl)
 
 -- ---- no value of each kind
 

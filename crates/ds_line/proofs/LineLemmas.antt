@@ -8,9 +8,9 @@ use Rattle.ds_entry.specs.declared.body.Value.{Value}
 use Rattle.ds_entry.specs.declared.body.Value.TheVariants as values
 use Rattle.ds_entry.specs.declared.body.Body.{Body}
 use Rattle.ds_entry.specs.declared.body.Body.TheVariants.{Put, Gone}
-use Rattle.ds_entry.specs.Change.{ChangeRecord}
+use Rattle.ds_entry.specs.Change.{ChangeRecord, IsChange}
 use Rattle.ds_line.specs.Part.{Name, Word, Number, run_of, Part, part, byte, texts}
-use Rattle.ds_line.specs.Spelling.{space, newline, kind_word, value_part, body_parts, change_parts, HasLine, spelling}
+use Rattle.ds_line.specs.Spelling.{space, newline, kind_word, value_part, body_parts, change_parts, spelling}
 use Rattle.ds_line.specs.FaultPlace.{Stand, HasNoLine, TakesRoom}
 use Rattle.ds_line.specs.Reading.{ChangeStops, Completes, CompletesInRoom}
 use Rattle.ds_line.proofs.PartLemmas.{byte_ends}
@@ -95,7 +95,7 @@ pub no_line : (bytes rest : List ℕ) → ChangeStops [] bytes rest → HasNoLin
 no_line bytes rest s = λ c after line eq. s.none c (change_parts c) after line refl (line_stands c bytes after eq)
 
 -- the change that is read has its line at the front
-pub line_is : (c : ChangeRecord) (bytes rest : List ℕ) → Completes [] c bytes rest → HasLine c × (bytes ≡ spelling c ++ rest)
+pub line_is : (c : ChangeRecord) (bytes rest : List ℕ) → Completes [] c bytes rest → IsChange c × (bytes ≡ spelling c ++ rest)
 line_is c bytes rest k = (k.change, k.text ∙ ap (λ (ps : List Part). spelled ps rest) (sym k.split))
 
 -- so has the one that there was no room for

@@ -16,9 +16,9 @@ use Rattle.ds_entry.specs.declared.body.Value.{Value}
 use Rattle.ds_entry.specs.declared.body.Value.TheVariants as values
 use Rattle.ds_entry.specs.declared.body.Body.{Body}
 use Rattle.ds_entry.specs.declared.body.Body.TheVariants.{Put, Gone}
-use Rattle.ds_entry.specs.Change.{ChangeRecord, IsValue, IsBody}
+use Rattle.ds_entry.specs.Change.{ChangeRecord, IsValue, IsBody, IsChange}
 use Rattle.ds_line.specs.Part.{Name, Word, Number, Part, part, byte, texts, is_hex_byte}
-use Rattle.ds_line.specs.Spelling.{space, newline, kind_word, escaped_byte, escaped, quoted, value_part, body_parts, HasLine, spelling}
+use Rattle.ds_line.specs.Spelling.{space, newline, kind_word, escaped_byte, escaped, quoted, value_part, body_parts, spelling}
 use Rattle.ds_line.specs.LastNewline.{EndsLine}
 use Rattle.ds_line.proofs.QuoteLemmas.{shape}
 use Rattle.ds_line.proofs.DigitLemmas.{hex_run}
@@ -98,7 +98,7 @@ body_ends (Put v) is =
     (ends_behind (value_part v) (newline ∷ []) (unbroken_value v is) newline_ends))
 body_ends Gone is = ends_behind_byte 45 (newline ∷ []) (λ same. omega (arith, same)) newline_ends
 
-pub line_ends : (c : ChangeRecord) → HasLine c → EndsLine (spelling c)
+pub line_ends : (c : ChangeRecord) → IsChange c → EndsLine (spelling c)
 line_ends c is =
     let from_seq : List Part = part Number (decimal c.version.seq) ∷ space ∷ body_parts c.body in
     let from_epoch : List Part = part Number (decimal c.version.epoch) ∷ byte 46 ∷ from_seq in

@@ -5,8 +5,8 @@ use Rattle.ds_names.specs.Run.{Begins}
 use Rattle.ds_line.specs.Part.{run_of, Part, byte, texts}
 use Rattle.ds_line.specs.FaultPlace.{Stand}
 use Rattle.ds_line.specs.Piece.{Piece, Found, Breaks, StopsIn}
-use Rattle.ds_line.specs.declared.stop.Stop.{Stop}
-use Rattle.ds_line.specs.declared.stop.Stop.TheVariants.{BadPart, NoRoom}
+use Rattle.ds_line.specs.declared.part_fault.PartFault.{PartFault}
+use Rattle.ds_line.specs.declared.part_fault.PartFault.TheVariants.{BadPart, NoRoom}
 use Rattle.ds_line.proofs.PartLemmas.{byte_begins}
 use Rattle.ds_line.proofs.ApartLemmas.{AllTexts, Alike, same_parts}
 
@@ -29,7 +29,7 @@ stand_join n k [] ys bytes mid rest eq first second =
 stand_join zero k (x ∷ xs) ys bytes mid rest eq first second = absurd (omega (arith, eq))
 stand_join (suc n) k (x ∷ xs) ys bytes mid rest eq first second = (first.0, first.1, stand_join n k xs ys first.0 mid rest (omega (arith, eq)) first.2 second)
 
-stand_split : (n k : ℕ) (xs ys : List Part) (bytes rest : List ℕ) → n ≡ length xs + k → Stand n (xs ++ ys) bytes rest → (mid : List ℕ) × Stand (length xs) xs bytes mid × Stand k ys mid rest
+pub stand_split : (n k : ℕ) (xs ys : List Part) (bytes rest : List ℕ) → n ≡ length xs + k → Stand n (xs ++ ys) bytes rest → (mid : List ℕ) × Stand (length xs) xs bytes mid × Stand k ys mid rest
 stand_split n k [] ys bytes rest eq h =
     let same : n ≡ k = omega (arith, eq) in
     (bytes, refl, subst (λ (c : ℕ). Stand c ys bytes rest) same h)
@@ -134,11 +134,11 @@ both_found p q a b bytes r rest first second =
 
 -- ---- what readers say, of one piece and of two
 
-pub first_stops : (p : Piece) (q : p.Of → Piece) (n : ℕ) (stop : Stop) (bytes : List ℕ) → Fixed p n → Goes p q → (stop ≢ NoRoom) → StopsIn p stop bytes → StopsIn (behind p q) stop bytes
+pub first_stops : (p : Piece) (q : p.Of → Piece) (n : ℕ) (stop : PartFault) (bytes : List ℕ) → Fixed p n → Goes p q → (stop ≢ NoRoom) → StopsIn p stop bytes → StopsIn (behind p q) stop bytes
 first_stops p q n (BadPart left) bytes fixed goes room s = (s.0, first_breaks p q n bytes s.0 fixed goes s.1, s.2)
 first_stops p q n NoRoom bytes fixed goes room s = absurd (room refl)
 
-pub then_stops : (p : Piece) (q : p.Of → Piece) (n : ℕ) (stop : Stop) (a : p.Of) (bytes r : List ℕ) → Fixed p n → One p → Found p a bytes r → StopsIn (q a) stop r → StopsIn (behind p q) stop bytes
+pub then_stops : (p : Piece) (q : p.Of → Piece) (n : ℕ) (stop : PartFault) (a : p.Of) (bytes r : List ℕ) → Fixed p n → One p → Found p a bytes r → StopsIn (q a) stop r → StopsIn (behind p q) stop bytes
 then_stops p q n (BadPart left) a bytes r fixed one found s = (s.0, then_breaks p q n a bytes r s.0 fixed one found s.1, s.2)
 then_stops p q n NoRoom a bytes r fixed one found s = ((a, s.0), s.1, both_found p q a s.0 bytes r s.1 found s.2)
 
@@ -165,7 +165,7 @@ view_breaks p q v bytes rest s =
       none = λ b after can h. let a = v.from b can in s.none a.0 after a.1 (subst (λ (x : List Part). Stand (length x) x bytes after) (sym a.2) h);
     }
 
-pub view_stops : (p q : Piece) (v : Views p q) (stop : Stop) (bytes : List ℕ) → StopsIn p stop bytes → StopsIn q stop bytes
+pub view_stops : (p q : Piece) (v : Views p q) (stop : PartFault) (bytes : List ℕ) → StopsIn p stop bytes → StopsIn q stop bytes
 view_stops p q v (BadPart left) bytes s = (s.0, view_breaks p q v bytes s.0 s.1, s.2)
 view_stops p q v NoRoom bytes s = (v.to s.0, s.1, view_found p q v s.0 bytes s.1 s.2)
 
@@ -208,12 +208,12 @@ byte_breaks b p bytes r rest is s =
 pub byte_found : (b : ℕ) (p : Piece) (a : p.Of) (bytes r rest : List ℕ) → bytes ≡ b ∷ r → Found p a r rest → Found (after_byte b p) a bytes rest
 byte_found b p a bytes r rest is f = record { can = f.can; front = (r, byte_begins b bytes r is, f.front) }
 
-pub byte_stops : (b : ℕ) (p : Piece) (stop : Stop) (bytes r : List ℕ) → bytes ≡ b ∷ r → StopsIn p stop r → StopsIn (after_byte b p) stop bytes
+pub byte_stops : (b : ℕ) (p : Piece) (stop : PartFault) (bytes r : List ℕ) → bytes ≡ b ∷ r → StopsIn p stop r → StopsIn (after_byte b p) stop bytes
 byte_stops b p (BadPart left) bytes r is s = (s.0, byte_breaks b p bytes r s.0 is s.1, s.2)
 byte_stops b p NoRoom bytes r is s = (s.0, s.1, byte_found b p s.0 bytes r s.1 is s.2)
 
 -- ---- a reader that stops
 
 -- it stops where it begins
-pub stops_from : (p : Piece) (stop : Stop) (bytes rest : List ℕ) → stop ≡ BadPart (length rest) → Breaks p bytes rest → StopsIn p stop bytes
-stops_from p stop bytes rest is s = subst (λ (x : Stop). StopsIn p x bytes) (sym is) (rest, s, refl)
+pub stops_from : (p : Piece) (stop : PartFault) (bytes rest : List ℕ) → stop ≡ BadPart (length rest) → Breaks p bytes rest → StopsIn p stop bytes
+stops_from p stop bytes rest is s = subst (λ (x : PartFault). StopsIn p x bytes) (sym is) (rest, s, refl)

@@ -3,7 +3,7 @@ use Rattle.std.specs.Prelude.{◌≡◌, ◌≢◌, ℕ, zero, suc, ◌+◌, Lis
 use Rattle.ds_names.specs.Run.{Begins}
 use Rattle.ds_entry.specs.Change.{ChangeRecord, IsChange, IsBodyInPlace}
 use Rattle.ds_line.specs.Part.{Part, run_of}
-use Rattle.ds_line.specs.Spelling.{change_parts, HasLine, spelling}
+use Rattle.ds_line.specs.Spelling.{change_parts, spelling}
 use Rattle.ds_line.specs.declared.fault.LineFault.{LineFault}
 use Rattle.ds_line.specs.declared.fault.LineFault.TheVariants.{BadLine, NoRoom}
 
@@ -34,7 +34,7 @@ pub record IsFaultPlace {T : Type 0} (IsMember : T → Type 0) (parts : T → Li
 
 -- no change's line stands at the front
 abbrev pub HasNoLine : List ℕ → Type 0
-HasNoLine bytes = (c : ChangeRecord) (rest : List ℕ) → HasLine c → bytes ≢ spelling c ++ rest
+HasNoLine bytes = (c : ChangeRecord) (rest : List ℕ) → IsChange c → bytes ≢ spelling c ++ rest
 
 -- no change's line stands at the front, and the first part of a change that can't be read begins at the place
 pub record IsLineFault (bytes : List ℕ) (place : ℕ) : Type 0 where
@@ -45,7 +45,7 @@ pub record IsLineFault (bytes : List ℕ) (place : ℕ) : Type 0 where
 pub record TakesRoom (bytes : List ℕ) : Type 0 where
   pub change : ChangeRecord
   pub rest : List ℕ
-  pub line : HasLine change
+  pub line : IsChange change
   pub value : ¬ IsBodyInPlace change.body
   pub front : bytes ≡ spelling change ++ rest
 

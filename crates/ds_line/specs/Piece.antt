@@ -6,8 +6,8 @@ use Rattle.ds_entry.specs.Change.{kind_of, IsValue, IsInPlace}
 use Rattle.ds_line.specs.Part.{Part}
 use Rattle.ds_line.specs.Spelling.{newline, value_part}
 use Rattle.ds_line.specs.FaultPlace.{Stand}
-use Rattle.ds_line.specs.declared.stop.Stop.{Stop}
-use Rattle.ds_line.specs.declared.stop.Stop.TheVariants.{BadPart, NoRoom}
+use Rattle.ds_line.specs.declared.part_fault.PartFault.{PartFault}
+use Rattle.ds_line.specs.declared.part_fault.PartFault.TheVariants.{BadPart, NoRoom}
 
 -- what the parts stand for, which of these there are, and how each is spelled
 pub record Piece : Type 1 where
@@ -20,7 +20,7 @@ pub record Found (p : Piece) (thing : p.Of) (bytes rest : List ℕ) : Type 0 whe
   pub can : p.Can thing
   pub front : Stand (length (p.parts thing)) (p.parts thing) bytes rest
 
--- the most parts that can be read of such a thing end where the rest begins, and of none do all parts stand there
+-- `StopsAt` for such things, and of none of them do all parts stand there
 pub record Breaks (p : Piece) (bytes rest : List ℕ) : Type 0 where
   pub count : ℕ
   pub thing : p.Of
@@ -31,7 +31,7 @@ pub record Breaks (p : Piece) (bytes rest : List ℕ) : Type 0 where
 
 -- Why nothing is read: so many bytes are left from the first part on that can't be read; or all parts stand there, and
 -- there is no room for what they say.
-abbrev pub StopsIn : Piece → Stop → List ℕ → Type 0
+abbrev pub StopsIn : Piece → PartFault → List ℕ → Type 0
 StopsIn p (BadPart left) bytes = (rest : List ℕ) × Breaks p bytes rest × (length rest ≡ left)
 StopsIn p NoRoom bytes = (thing : p.Of) × (rest : List ℕ) × Found p thing bytes rest
 
@@ -45,6 +45,6 @@ abbrev pub last_value : Kind → Piece
 last_value kind = record { Of = Value; Can = IsValueOf kind; parts = λ (value : Value). value_part value ∷ newline ∷ [] }
 
 -- why no such value is read: there is no room for values alone that take memory
-abbrev pub StopsValue : Kind → Stop → List ℕ → Type 0
+abbrev pub StopsValue : Kind → PartFault → List ℕ → Type 0
 StopsValue kind (BadPart left) bytes = StopsIn (last_value kind) (BadPart left) bytes
 StopsValue kind NoRoom bytes = (value : Value) × (rest : List ℕ) × Found (last_value kind) value bytes rest × ¬ IsInPlace value

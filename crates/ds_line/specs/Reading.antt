@@ -8,10 +8,10 @@ use Rattle.ds_entry.specs.declared.body.Body.{Body}
 use Rattle.ds_entry.specs.declared.body.Body.TheVariants.{Put}
 use Rattle.ds_entry.specs.Change.{ChangeRecord, change_of, IsChange, IsBodyInPlace}
 use Rattle.ds_line.specs.Part.{Part, part, byte, Name, Word, Number, texts}
-use Rattle.ds_line.specs.Spelling.{space, kind_word, change_parts, HasLine}
+use Rattle.ds_line.specs.Spelling.{space, kind_word, change_parts}
 use Rattle.ds_line.specs.FaultPlace.{Stand}
-use Rattle.ds_line.specs.declared.stop.Stop.{Stop}
-use Rattle.ds_line.specs.declared.stop.Stop.TheVariants.{BadPart, NoRoom}
+use Rattle.ds_line.specs.declared.part_fault.PartFault.{PartFault}
+use Rattle.ds_line.specs.declared.part_fault.PartFault.TheVariants.{BadPart, NoRoom}
 
 -- the parts of a change up to the word of its kind
 abbrev pub up_to_kind : Key → List Part
@@ -50,9 +50,9 @@ HasVersion key owner = (version : Version) × HasBody key owner version
 abbrev pub HasOwner : Key → Type 0
 HasOwner key = (owner : List ℕ) × HasVersion key owner
 
--- Of the members whose first parts are the known ones, the most further parts that can be read end where the rest
--- begins, and none that is whole has all its parts there.
-pub record StopsBehind {T : Type 0} (IsMember IsWhole : T → Type 0) (parts : T → List Part) (known : List Part) (bytes rest : List ℕ) : Type 0 where
+-- `StopsAt` for the members whose first parts are the known ones, of whose further parts the text is read; and of none
+-- of them do all further parts stand there.
+pub record StopsBehind {T : Type 0} (IsMember : T → Type 0) (parts : T → List Part) (known : List Part) (bytes rest : List ℕ) : Type 0 where
   pub count : ℕ
   pub member : T
   pub is : IsMember member
@@ -60,11 +60,11 @@ pub record StopsBehind {T : Type 0} (IsMember IsWhole : T → Type 0) (parts : T
   pub split : parts member ≡ known ++ further
   pub front : Stand count further bytes rest
   pub most : (m : T) (more : List Part) (after : List ℕ) → IsMember m → parts m ≡ known ++ more → ¬ Stand (suc count) more bytes after
-  pub none : (m : T) (more : List Part) (after : List ℕ) → IsWhole m → parts m ≡ known ++ more → ¬ Stand (length more) more bytes after
+  pub none : (m : T) (more : List Part) (after : List ℕ) → IsMember m → parts m ≡ known ++ more → ¬ Stand (length more) more bytes after
 
 -- the same of changes
 abbrev pub ChangeStops : List Part → List ℕ → List ℕ → Type 0
-ChangeStops known bytes rest = StopsBehind IsChange HasLine change_parts known bytes rest
+ChangeStops known bytes rest = StopsBehind IsChange change_parts known bytes rest
 
 -- the further parts of the change stand at the front, and the rest behind them
 pub record Completes (known : List Part) (c : ChangeRecord) (bytes rest : List ℕ) : Type 0 where
@@ -82,7 +82,7 @@ pub record CompletesInRoom (known : List Part) (bytes : List ℕ) : Type 0 where
 
 -- What a reader gives behind the known parts: the change, and how many bytes are left behind its line; how many are
 -- left from the first part on that can't be read; or that there is no room for the value.
-abbrev pub Reads : List Part → List ℕ → Result (ChangeRecord × ℕ) Stop → Type 0
+abbrev pub Reads : List Part → List ℕ → Result (ChangeRecord × ℕ) PartFault → Type 0
 Reads known bytes (Ok r) = (rest : List ℕ) × Completes known r.0 bytes rest × (length rest ≡ r.1)
 Reads known bytes (Err (BadPart left)) = (rest : List ℕ) × ChangeStops known bytes rest × (length rest ≡ left)
 Reads known bytes (Err NoRoom) = CompletesInRoom known bytes

@@ -1,5 +1,5 @@
 -- The parts of a change's line, and the line that they make.
-use Rattle.std.specs.Prelude.{ℕ, ◌==◌, ◌||◌, if◌then◌else◌, List, [], ◌∷◌, ◌++◌}
+use Rattle.std.specs.Prelude.{ℕ, ◌==◌, ◌||◌, if◌then◌else◌, List, [], ◌∷◌, ◌++◌, codes}
 use Rattle.std.specs.List.{flat_map}
 use Rattle.std.specs.Fmt.{decimal}
 use Rattle.hex.specs.Hex.{encode_lower}
@@ -10,7 +10,7 @@ use Rattle.ds_entry.specs.declared.body.Value.{Value}
 use Rattle.ds_entry.specs.declared.body.Value.TheVariants as values
 use Rattle.ds_entry.specs.declared.body.Body.{Body}
 use Rattle.ds_entry.specs.declared.body.Body.TheVariants.{Put, Gone}
-use Rattle.ds_entry.specs.Change.{ChangeRecord, IsChange}
+use Rattle.ds_entry.specs.Change.{ChangeRecord}
 use Rattle.ds_line.specs.Part.{Part, part, byte, Name, Word, Number, Endpoint, Quoted, Hex, texts}
 
 -- the space between two parts
@@ -23,10 +23,10 @@ newline = byte 10
 
 -- the word of a kind: `label`, `u32`, `str` or `mem`
 abbrev pub kind_word : Kind → List ℕ
-kind_word Label = 108 ∷ 97 ∷ 98 ∷ 101 ∷ 108 ∷ []
-kind_word U32 = 117 ∷ 51 ∷ 50 ∷ []
-kind_word Str = 115 ∷ 116 ∷ 114 ∷ []
-kind_word Mem = 109 ∷ 101 ∷ 109 ∷ []
+kind_word Label = codes "label"
+kind_word U32 = codes "u32"
+kind_word Str = codes "str"
+kind_word Mem = codes "mem"
 
 -- a quote and a backslash have a backslash before them, and every other byte stands for itself
 abbrev pub escaped_byte : ℕ → List ℕ
@@ -64,7 +64,3 @@ change_parts c =
 -- the change's one line, its newline included
 abbrev pub spelling : ChangeRecord → List ℕ
 spelling c = texts (change_parts c)
-
--- a change that has a line: each has one
-abbrev pub HasLine : ChangeRecord → Type 0
-HasLine c = IsChange c

@@ -4,8 +4,8 @@ ghost use Rattle.std.specs.Prelude.{IfOk, IfErr};
 ghost use Rattle.ds_names.specs.declared.kind.Kind.TheVariants.{Label, U32, Str, Mem};
 ghost use Rattle.ds_line.specs.Piece.{Found, last_value, StopsValue};
 
+use crate::part_fault::{PartFault, stop_at};
 use crate::parts::endpoint_at;
-use crate::stop::{Stop, stop_at};
 use crate::values::{hex_at, quoted_at};
 use ds_entry::{Blob, Text, Value};
 use ds_names::{Kind, read_byte, read_decimal};
@@ -16,7 +16,7 @@ use std::alloc::Global;
 ///
 /// A label's value is `generation/slot`, of any generation. NoRoom comes only where the value and the newline stand
 /// there: a label or a number takes no memory.
-pub fn last_value_at(alloc: Global, kind: Kind, bytes: &[u8]) -> Result<(Value, &[u8]), Stop>
+pub fn last_value_at(alloc: Global, kind: Kind, bytes: &[u8]) -> Result<(Value, &[u8]), PartFault>
     ensures found { IfOk result (λ r. Found (last_value kind) r.0 bytes.now r.1.now) }
     ensures stop { IfErr result (λ stop. StopsValue kind stop bytes.now) }
 {
@@ -29,7 +29,7 @@ pub fn last_value_at(alloc: Global, kind: Kind, bytes: &[u8]) -> Result<(Value, 
 }
 
 // Reads a label's value.
-fn label_at(bytes: &[u8]) -> Result<(Value, &[u8]), Stop>
+fn label_at(bytes: &[u8]) -> Result<(Value, &[u8]), PartFault>
     ensures found { IfOk result (λ r. Found (last_value Label) r.0 bytes.now r.1.now) }
     ensures stop { IfErr result (λ stop. StopsValue Label stop bytes.now) }
 {
@@ -44,7 +44,7 @@ fn label_at(bytes: &[u8]) -> Result<(Value, &[u8]), Stop>
 }
 
 // Reads a number.
-fn number_at(bytes: &[u8]) -> Result<(Value, &[u8]), Stop>
+fn number_at(bytes: &[u8]) -> Result<(Value, &[u8]), PartFault>
     ensures found { IfOk result (λ r. Found (last_value U32) r.0 bytes.now r.1.now) }
     ensures stop { IfErr result (λ stop. StopsValue U32 stop bytes.now) }
 {
@@ -58,7 +58,7 @@ fn number_at(bytes: &[u8]) -> Result<(Value, &[u8]), Stop>
 }
 
 // Reads a text.
-fn text_at(alloc: Global, bytes: &[u8]) -> Result<(Value, &[u8]), Stop>
+fn text_at(alloc: Global, bytes: &[u8]) -> Result<(Value, &[u8]), PartFault>
     ensures found { IfOk result (λ r. Found (last_value Str) r.0 bytes.now r.1.now) }
     ensures stop { IfErr result (λ stop. StopsValue Str stop bytes.now) }
 {
@@ -71,12 +71,12 @@ fn text_at(alloc: Global, bytes: &[u8]) -> Result<(Value, &[u8]), Stop>
     };
     match Text::read(alloc, &block[..len]) {
         Ok(text) => Ok((Value::Str(text), rest)),
-        Err(_) => Err(Stop::NoRoom),
+        Err(_) => Err(PartFault::NoRoom),
     }
 }
 
 // Reads a blob.
-fn blob_at(alloc: Global, bytes: &[u8]) -> Result<(Value, &[u8]), Stop>
+fn blob_at(alloc: Global, bytes: &[u8]) -> Result<(Value, &[u8]), PartFault>
     ensures found { IfOk result (λ r. Found (last_value Mem) r.0 bytes.now r.1.now) }
     ensures stop { IfErr result (λ stop. StopsValue Mem stop bytes.now) }
 {
@@ -87,7 +87,7 @@ fn blob_at(alloc: Global, bytes: &[u8]) -> Result<(Value, &[u8]), Stop>
         return Err(stop_at(rest));
     };
     let Ok(decoded) = hex::decode(alloc, digits) else {
-        return Err(Stop::NoRoom);
+        return Err(PartFault::NoRoom);
     };
     match Blob::of(decoded) {
         Some(blob) => Ok((Value::Mem(blob), rest)),

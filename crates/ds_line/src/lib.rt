@@ -7,17 +7,17 @@
 mod fault;
 mod last_value;
 mod laws;
+mod part_fault;
 mod parts;
 mod reading;
 mod rules;
-mod stop;
 mod values;
 mod writing;
 
 pub use fault::LineFault;
 pub use last_value::last_value_at;
 pub use laws::{changes_have_one_line, faults_have_one_place, lines_are_apart, newlines_end_lines};
+pub use part_fault::{PartFault, stop_at};
 pub use parts::{behind_name, endpoint_at, kind_at, name_at, word_at};
 pub use reading::read_change;
-pub use stop::{Stop, stop_at};
 pub use writing::{append_all, append_change, append_value, write_change};

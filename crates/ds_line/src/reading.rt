@@ -6,15 +6,15 @@ ghost use Rattle.ds_names.specs.declared.kind.Kind.TheVariants.{Label};
 ghost use Rattle.ds_entry.specs.Change.{change_of, IsChange};
 ghost use Rattle.ds_entry.specs.declared.body.Body.TheVariants.{Gone};
 ghost use Rattle.ds_line.specs.Part.{byte};
-ghost use Rattle.ds_line.specs.Spelling.{HasLine, spelling};
+ghost use Rattle.ds_line.specs.Spelling.{spelling};
 ghost use Rattle.ds_line.specs.FaultPlace.{IsFaultIn};
 ghost use Rattle.ds_line.specs.Reading.{HasOwner, HasVersion, HasBody, HasValue, up_to_kind, up_to_epoch, up_to_mark, up_to_value, Reads};
 
 use crate::fault::LineFault;
 use crate::last_value::last_value_at;
+use crate::part_fault::{PartFault, stop_at};
 use crate::parts::{behind_name, kind_at, name_at};
 use crate::rules::{has_body, has_owner, has_seq, has_tombstone, has_value, has_version, is_label};
-use crate::stop::{Stop, stop_at};
 use ds_entry::{Body, Change, Value};
 use ds_names::{Endpoint, Generation, Key, Name, Version, read_byte, read_decimal, read_endpoint};
 use std::alloc::Global;
@@ -27,7 +27,7 @@ use std::alloc::Global;
 /// be read begins. NoRoom comes only where the whole line of a put of a text or a blob stands there: all other
 /// lines take no memory to read.
 pub fn read_change(alloc: Global, bytes: &[u8]) -> Result<(Change, usize), LineFault>
-    ensures line { IfOk result (λ r. HasLine r.0) }
+    ensures line { IfOk result (λ r. IsChange r.0) }
     ensures found { IfOk result (λ r. take r.1 bytes.now ≡ spelling r.0) }
     ensures length { IfOk result (λ r. r.1 ≡ length (spelling r.0)) }
     ensures fault { IfErr result (λ fault. IsFaultIn fault bytes.now) }
@@ -37,11 +37,11 @@ pub fn read_change(alloc: Global, bytes: &[u8]) -> Result<(Change, usize), LineF
             let length = bytes.len() - left;
             Ok((change, length))
         }
-        Err(Stop::BadPart { left }) => {
+        Err(PartFault::BadPart { left }) => {
             let place = bytes.len() - left;
             Err(LineFault::BadLine { place })
         }
-        Err(Stop::NoRoom) => Err(LineFault::NoRoom),
+        Err(PartFault::NoRoom) => Err(LineFault::NoRoom),
     }
 }
 
@@ -49,7 +49,7 @@ pub fn read_change(alloc: Global, bytes: &[u8]) -> Result<(Change, usize), LineF
 // first part on that can't be read.
 
 // Reads a change from its name on.
-fn change_at(alloc: Global, bytes: &[u8]) -> Result<(Change, usize), Stop>
+fn change_at(alloc: Global, bytes: &[u8]) -> Result<(Change, usize), PartFault>
     ensures { Reads [] bytes.now result }
 {
     let Some(name) = name_at(bytes) else {
@@ -70,7 +70,7 @@ fn change_at(alloc: Global, bytes: &[u8]) -> Result<(Change, usize), Stop>
 }
 
 // Reads a change from the space behind its kind on.
-fn owner_at(alloc: Global, key: Key, bytes: &[u8]) -> Result<(Change, usize), Stop>
+fn owner_at(alloc: Global, key: Key, bytes: &[u8]) -> Result<(Change, usize), PartFault>
     requires { HasOwner key }
     ensures { Reads (up_to_kind key) bytes.now result }
 {
@@ -91,7 +91,12 @@ fn owner_at(alloc: Global, key: Key, bytes: &[u8]) -> Result<(Change, usize), St
 }
 
 // Reads a change from its epoch on.
-fn version_at(alloc: Global, key: Key, owner: Name, bytes: &[u8]) -> Result<(Change, usize), Stop>
+fn version_at(
+    alloc: Global,
+    key: Key,
+    owner: Name,
+    bytes: &[u8],
+) -> Result<(Change, usize), PartFault>
     requires { HasVersion key owner }
     ensures { Reads (up_to_epoch key owner) bytes.now result }
 {
@@ -130,7 +135,7 @@ fn body_at(
     owner: Name,
     version: Version,
     bytes: &[u8],
-) -> Result<(Change, usize), Stop>
+) -> Result<(Change, usize), PartFault>
     requires { HasBody key owner version }
     ensures { Reads (up_to_mark key owner version) bytes.now result }
 {
@@ -148,7 +153,12 @@ fn body_at(
 }
 
 // Reads a tombstone from its newline on.
-fn gone_at(key: Key, owner: Name, version: Version, bytes: &[u8]) -> Result<(Change, usize), Stop>
+fn gone_at(
+    key: Key,
+    owner: Name,
+    version: Version,
+    bytes: &[u8],
+) -> Result<(Change, usize), PartFault>
     requires { IsChange (change_of key owner version Gone) }
     ensures { Reads (up_to_mark key owner version ++ byte 45 ∷ []) bytes.now result }
 {
@@ -165,7 +175,7 @@ fn put_at(
     owner: Name,
     version: Version,
     bytes: &[u8],
-) -> Result<(Change, usize), Stop>
+) -> Result<(Change, usize), PartFault>
     requires { HasValue key owner version }
     ensures { Reads (up_to_mark key owner version ++ byte 61 ∷ []) bytes.now result }
 {
@@ -180,7 +190,12 @@ fn put_at(
 }
 
 // Reads a label's put from its endpoint on.
-fn label_at(key: Key, owner: Name, version: Version, bytes: &[u8]) -> Result<(Change, usize), Stop>
+fn label_at(
+    key: Key,
+    owner: Name,
+    version: Version,
+    bytes: &[u8],
+) -> Result<(Change, usize), PartFault>
     requires kind { key.kind ≡ Label }
     requires value { HasValue key owner version }
     ensures { Reads (up_to_value key owner version) bytes.now result }
@@ -207,7 +222,7 @@ fn other_at(
     owner: Name,
     version: Version,
     bytes: &[u8],
-) -> Result<(Change, usize), Stop>
+) -> Result<(Change, usize), PartFault>
     requires kind { key.kind ≢ Label }
     requires value { HasValue key owner version }
     ensures { Reads (up_to_value key owner version) bytes.now result }
@@ -225,7 +240,7 @@ fn whole(
     version: Version,
     body: Body,
     rest: &[u8],
-) -> Result<(Change, usize), Stop>
+) -> Result<(Change, usize), PartFault>
     requires { IsChange (change_of key owner version body) }
     ensures { result ≡ Ok (change_of key owner version body, length rest.now) }
 {

@@ -10,9 +10,10 @@ use Rattle.ds_words.specs.Lines.{IsUnbroken, ended, joined}
 use Rattle.ds_script.specs.Answer.{AnswersLine, AnswersLines}
 use Rattle.ds_line.specs.LastNewline.{EndsLine}
 use Rattle.ds_script.specs.declared.turn.Answered.{Answered}
-use Rattle.ds_script.specs.declared.turn.Stop.{Stop}
-use Rattle.ds_script.specs.declared.turn.Stop.TheVariants.{AtEnd, BadLine, ReadFault, WriteFault, NoRoom}
-use Rattle.ds_script.specs.Replay.{Answers, AnswersText, Goes, Leaves, LineStops, BeginsBadLine, Turns}
+use Rattle.ds_script.specs.declared.turn.Ending.{Ending}
+use Rattle.ds_script.specs.declared.turn.Ending.TheVariants.{AtEnd, BadLine, ReadFault, WriteFault, NoRoom}
+use Rattle.ds_script.specs.Replay.{BeginsBadLine}
+use Rattle.ds_script.specs.Progress.{Answers, AnswersText, Goes, Leaves, LineStops, Turns}
 
 -- ---- answers
 
@@ -166,7 +167,7 @@ goes_full from to a b old before pending bytes x read written none =
 
 -- ---- a line that isn't answered
 
-pub line_leaves : (stop : Stop) (to : Option (List ℕ)) (held old : SessionContent) (output pending line more rest after : List ℕ) → LineStops stop line output after → rest ≡ line ++ more → EndsLine line → Leaves (Some stop) to held output pending old after rest
+pub line_leaves : (stop : Ending) (to : Option (List ℕ)) (held old : SessionContent) (output pending line more rest after : List ℕ) → LineStops stop line output after → rest ≡ line ++ more → EndsLine line → Leaves (Some stop) to held output pending old after rest
 line_leaves AtEnd to held old output pending line more rest after h split e = absurd h
 line_leaves (BadLine place) to held old output pending line more rest after h split e = (
   h.0,
@@ -191,13 +192,13 @@ overlong to rest unbroken long = record { line = rest; more = []; split = sym (a
 pub turn_more : (a b c u v w : Option (List ℕ)) (old mid held : SessionContent) (before x rest output waiting : List ℕ) (n : ℕ) (r : Answered)
     → Goes a b u v old before [] n mid x rest → Turns r b c v w mid x rest held output waiting → r.stop ≡ None → Goes a c u w old before [] (n + r.lines) held output waiting × IsUnbroken waiting
 turn_more a b c u v w old mid held before x rest output waiting n r p t none =
-    let l : Leaves None c held output waiting t.0 t.1 t.2 = subst (λ (s : Option Stop). Leaves s c held output waiting t.0 t.1 t.2) none t.4 in
+    let l : Leaves None c held output waiting t.0 t.1 t.2 = subst (λ (s : Option Ending). Leaves s c held output waiting t.0 t.1 t.2) none t.4 in
     let g : Goes a c u w old before [] (n + r.lines) t.0 t.1 t.2 = goes_then a b c u v w old mid t.0 before [] x rest t.1 t.2 n r.lines p t.3 in
     let g1 : Goes a c u w old before [] (n + r.lines) held t.1 t.2 = subst (λ (h : SessionContent). Goes a c u w old before [] (n + r.lines) h t.1 t.2) l.0 g in
     let g2 : Goes a c u w old before [] (n + r.lines) held output t.2 = subst (λ (o : List ℕ). Goes a c u w old before [] (n + r.lines) held o t.2) l.1 g1 in
     (subst (λ (y : List ℕ). Goes a c u w old before [] (n + r.lines) held output y) l.2 g2, subst IsUnbroken l.2 l.3)
 
-pub turn_last : (a b c u v w : Option (List ℕ)) (old mid held : SessionContent) (before x rest output waiting : List ℕ) (n : ℕ) (r : Answered) (stop : Stop)
+pub turn_last : (a b c u v w : Option (List ℕ)) (old mid held : SessionContent) (before x rest output waiting : List ℕ) (n : ℕ) (r : Answered) (stop : Ending)
     → Goes a b u v old before [] n mid x rest → Turns r b c v w mid x rest held output waiting → r.stop ≡ Some stop
     → (new : SessionContent) × (after last : List ℕ) × Goes a c u w old before [] (n + r.lines) new after last × Leaves (Some stop) c held output waiting new after last
 turn_last a b c u v w old mid held before x rest output waiting n r stop p t some = (
@@ -205,5 +206,5 @@ turn_last a b c u v w old mid held before x rest output waiting n r stop p t som
   t.1,
   t.2,
   goes_then a b c u v w old mid t.0 before [] x rest t.1 t.2 n r.lines p t.3,
-  subst (λ (s : Option Stop). Leaves s c held output waiting t.0 t.1 t.2) some t.4,
+  subst (λ (s : Option Ending). Leaves s c held output waiting t.0 t.1 t.2) some t.4,
 )

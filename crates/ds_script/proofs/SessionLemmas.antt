@@ -14,7 +14,9 @@ use Rattle.ds_words.specs.declared.command.ScriptCommand.TheVariants.{Offer, Sho
 use Rattle.ds_words.specs.Command.{store_command, IsLineOf}
 use Rattle.ds_script.specs.Session.{ScriptState, SessionContent, Leads, StoreSteps}
 use Rattle.ds_script.specs.Answer.{AnswersAsked, AnswersMade, AnswersUnmade, AnswersCommand, AnswersOrRefuses, AnswersLine, entries_text}
-use Rattle.ds_words.specs.Reply.{reply_text, refused_noroom}
+use Rattle.ds_words.specs.declared.wording.Wording.{Wording}
+use Rattle.ds_words.specs.declared.wording.Wording.TheVariants.{AsOffer, AsMerge}
+use Rattle.ds_words.specs.Reply.{wording, reply_lines, refused_noroom}
 use Rattle.ds_script.proofs.RunLemmas.{leads_by, leads_none}
 
 -- the store's step is the session's
@@ -27,26 +29,28 @@ store_steps old new command reply step same = λ s stands.
     (record { store = t.0; maps = s.maps }, (t.1, refl), record { store = t.2; maps = same ∙ stands.maps })
 
 -- the session prints the store's reply
-pub replied : (old new : SessionContent) (asked : Command) (reply : Reply) → Leads (StoreSteps asked reply) old new → Leads (λ s t. AnswersAsked asked s (reply_text reply) t) old new
-replied old new asked reply step = leads_by old new (StoreSteps asked reply) (λ s t. AnswersAsked asked s (reply_text reply) t) step (λ s t one. (reply, one, refl))
+pub replied : (old new : SessionContent) (wording : Wording) (asked : Command) (reply : Reply) → Leads (StoreSteps asked reply) old new → Leads (λ s t. AnswersAsked wording asked s (reply_lines wording reply) t) old new
+replied old new wording asked reply step = leads_by old new (StoreSteps asked reply) (λ s t. AnswersAsked wording asked s (reply_lines wording reply) t) step (λ s t one. (reply, one, refl))
 
 -- what a line's command to the store is answered, its line is
-answers_it : (command : ScriptCommand) (asked : Command) (s : ScriptState) (out : List ℕ) (t : ScriptState) → store_command command ≡ Some asked → AnswersAsked asked s out t → AnswersCommand command s out t
+answers_it : (command : ScriptCommand) (asked : Command) (s : ScriptState) (out : List ℕ) (t : ScriptState) → store_command command ≡ Some asked → AnswersAsked (wording command) asked s out t → AnswersCommand command s out t
 answers_it Show asked s out t e a = absurd (cc)
 answers_it All asked s out t e a = absurd (cc)
 answers_it (Map query) asked s out t e a = absurd (cc)
 answers_it (Entries number) asked s out t e a = absurd (cc)
-answers_it (Offer c) asked s out t e a = subst (λ o. MatchOption o ⊥ (λ x. AnswersAsked x s out t)) (sym e) a
-answers_it (Publish caller key version value overwrite) asked s out t e a = subst (λ o. MatchOption o ⊥ (λ x. AnswersAsked x s out t)) (sym e) a
-answers_it (Delete caller key version) asked s out t e a = subst (λ o. MatchOption o ⊥ (λ x. AnswersAsked x s out t)) (sym e) a
-answers_it (Sweep caller owner generation) asked s out t e a = subst (λ o. MatchOption o ⊥ (λ x. AnswersAsked x s out t)) (sym e) a
-answers_it (Retrieve key) asked s out t e a = subst (λ o. MatchOption o ⊥ (λ x. AnswersAsked x s out t)) (sym e) a
-answers_it (NameOf endpoint) asked s out t e a = subst (λ o. MatchOption o ⊥ (λ x. AnswersAsked x s out t)) (sym e) a
-answers_it (Subscribe sub query initial overwrite) asked s out t e a = subst (λ o. MatchOption o ⊥ (λ x. AnswersAsked x s out t)) (sym e) a
-answers_it (Check sub max) asked s out t e a = subst (λ o. MatchOption o ⊥ (λ x. AnswersAsked x s out t)) (sym e) a
+answers_it (Offer c) asked s out t e a = subst (λ o. MatchOption o ⊥ (λ x. AnswersAsked AsOffer x s out t)) (sym e) a
+answers_it (Publish caller key version value overwrite) asked s out t e a = subst (λ o. MatchOption o ⊥ (λ x. AnswersAsked AsMerge x s out t)) (sym e) a
+answers_it (Delete caller key version) asked s out t e a = subst (λ o. MatchOption o ⊥ (λ x. AnswersAsked AsMerge x s out t)) (sym e) a
+answers_it (Sweep caller owner generation) asked s out t e a = subst (λ o. MatchOption o ⊥ (λ x. AnswersAsked AsMerge x s out t)) (sym e) a
+answers_it (Retrieve key) asked s out t e a = subst (λ o. MatchOption o ⊥ (λ x. AnswersAsked AsMerge x s out t)) (sym e) a
+answers_it (NameOf endpoint) asked s out t e a = subst (λ o. MatchOption o ⊥ (λ x. AnswersAsked AsMerge x s out t)) (sym e) a
+answers_it (Subscribe sub query initial overwrite) asked s out t e a = subst (λ o. MatchOption o ⊥ (λ x. AnswersAsked AsMerge x s out t)) (sym e) a
+answers_it (Check sub max) asked s out t e a = subst (λ o. MatchOption o ⊥ (λ x. AnswersAsked AsMerge x s out t)) (sym e) a
 
-pub asked_answers : (old new : SessionContent) (command : ScriptCommand) (asked : Command) (out : List ℕ) → store_command command ≡ Some asked → Leads (λ s t. AnswersAsked asked s out t) old new → Leads (λ s t. AnswersOrRefuses command s out t) old new
-asked_answers old new command asked out e one = leads_by old new (λ s t. AnswersAsked asked s out t) (λ s t. AnswersOrRefuses command s out t) one (λ s t a. inr (answers_it command asked s out t e a))
+pub asked_answers : (old new : SessionContent) (command : ScriptCommand) (w : Wording) (asked : Command) (out : List ℕ) → w ≡ wording command → store_command command ≡ Some asked → Leads (λ s t. AnswersAsked w asked s out t) old new
+    → Leads (λ s t. AnswersOrRefuses command s out t) old new
+asked_answers old new command w asked out worded e one =
+    leads_by old new (λ s t. AnswersAsked w asked s out t) (λ s t. AnswersOrRefuses command s out t) one (λ s t a. inr (answers_it command asked s out t e (subst (λ (v : Wording). AnswersAsked v asked s out t) worded a)))
 
 -- for want of memory each command may be refused
 pub noroom_answers : (value : SessionContent) (command : ScriptCommand) → Leads (λ s t. AnswersOrRefuses command s refused_noroom t) value value

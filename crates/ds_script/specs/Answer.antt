@@ -19,15 +19,16 @@ use Rattle.ds_words.specs.Lines.{ended}
 use Rattle.ds_words.specs.Command.{IsLineOf, store_command}
 use Rattle.ds_script.specs.Maps.{map_fault_word}
 use Rattle.ds_script.specs.Session.{ScriptState, StoreSteps, MakesMap, RefusesMap}
-use Rattle.ds_words.specs.Reply.{reply_text, refused_noroom}
+use Rattle.ds_words.specs.declared.wording.Wording.{Wording}
+use Rattle.ds_words.specs.Reply.{wording, reply_lines, refused_noroom}
 
 -- the lines of the changes, and then `shown` and their number
 abbrev pub shown : List ChangeRecord → List ℕ
 shown changes = flat_map spelling changes ++ ended (codes "shown " ++ decimal (length changes))
 
--- the store's machine makes a step, and what is answered is the step's reply
-abbrev pub AnswersAsked : Command → ScriptState → List ℕ → ScriptState → Type 0
-AnswersAsked asked old out new = (reply : Reply) × StoreSteps asked reply old new × (out ≡ reply_text reply)
+-- the store's machine makes a step, and what is answered is the step's reply, so worded
+abbrev pub AnswersAsked : Wording → Command → ScriptState → List ℕ → ScriptState → Type 0
+AnswersAsked wording asked old out new = (reply : Reply) × StoreSteps asked reply old new × (out ≡ reply_lines wording reply)
 
 -- the line of a refusal by its word
 abbrev pub refused_by : List ℕ → List ℕ
@@ -55,7 +56,7 @@ AnswersCommand Show old out new = (new ≡ old) × (out ≡ shown (entries (held
 AnswersCommand All old out new = (new ≡ old) × (out ≡ shown (held old.store))
 AnswersCommand (Map query) old out new = AnswersMade query old out new ⊎ AnswersUnmade query old out new
 AnswersCommand (Entries number) old out new = (new ≡ old) × (out ≡ entries_text (option_map empty_map (slice_get old.maps number)))
-AnswersCommand command old out new = MatchOption (store_command command) ⊥ (λ asked. AnswersAsked asked old out new)
+AnswersCommand command old out new = MatchOption (store_command command) ⊥ (λ asked. AnswersAsked (wording command) asked old out new)
 
 -- all of the changes, or the puts alone
 abbrev pub picked : Bool → List ChangeRecord → List ChangeRecord

@@ -3,3 +3,4 @@ pub mod Maps
 pub mod Session
 pub mod Answer
 pub mod Replay
+pub mod Progress

@@ -1,57 +1,46 @@
--- What a replay of a script does: to the reader, whose bytes to come are `from` before it and `to` after it, and to
--- the writer, whose bytes are `had` before it and `has` after it, where these are known.
-use Rattle.std.specs.Prelude.{◌≡◌, ℕ, ◌<◌, ◌+◌, ◌⊎◌, List, [], ◌∷◌, ◌++◌, length, Option, Some, None, Result, Ok, Err}
+-- What the bytes of a script are answered: whole, or up to a fault.
+use Rattle.std.specs.Prelude.{◌≡◌, ℕ, ◌<◌, ◌+◌, ◌⊎◌, List, [], ◌∷◌, ◌++◌, length, Option}
 use Rattle.std.specs.List.{All}
-use Rattle.std.specs.Io.KnownBytes.{Appends, Consumes, IsAtEnd}
-use Rattle.ds_line.specs.declared.fault.LineFault.{LineFault}
-use Rattle.ds_line.specs.declared.fault.LineFault.TheVariants as lines
+use Rattle.std.specs.Io.KnownBytes.{IsAtEnd}
+use Rattle.ds_words.specs.Lines.{IsUnbroken, joined, HasLines}
+use Rattle.ds_words.specs.Command.{IsBadLine}
 use Rattle.ds_script.specs.declared.fault.ReplayFault.{ReplayFault}
 use Rattle.ds_script.specs.declared.fault.ReplayFault.TheVariants.{BadLine, ReadFault, WriteFault, NoRoom}
-use Rattle.ds_script.specs.declared.turn.Answered.{Answered}
-use Rattle.ds_script.specs.declared.turn.Stop.{Stop}
-use Rattle.ds_script.specs.declared.turn.Stop.TheVariants as stops
-use Rattle.ds_script.specs.Session.{ScriptState, at_start, SessionContent, Leads}
-use Rattle.ds_words.specs.Lines.{IsUnbroken, ended, joined, unended, HasLines}
-use Rattle.ds_words.specs.Command.{IsBadLine}
+use Rattle.ds_script.specs.Session.{ScriptState, at_start}
 use Rattle.ds_script.specs.Answer.{AnswersLines}
 
--- All that was left to read was read, and the answers to its lines were written, and nothing else.
-pub record Replays (from to had has : Option (List ℕ)) (lines : List (List ℕ)) : Type 0 where
-  pub input : List ℕ
-  pub output : List ℕ
-  pub state : ScriptState
-  pub read : Consumes from to input
-  pub end : IsAtEnd to
-  pub split : HasLines input lines
-  pub answers : AnswersLines at_start lines output state
-  pub written : Appends had has output
+-- the output is what the lines of a script are answered, one after the other
+abbrev pub AreAnswers : List (List ℕ) → List ℕ → Type 0
+AreAnswers lines output = (state : ScriptState) × AnswersLines at_start lines output state
 
--- The lines were read and answered, and behind them the rest was read.
-pub record Stopped (from to had has : Option (List ℕ)) (lines : List (List ℕ)) (rest : List ℕ) : Type 0 where
-  pub state : ScriptState
-  pub output : List ℕ
-  pub read : Consumes from to (joined lines ++ rest)
-  pub unbroken : All IsUnbroken lines
-  pub answers : AnswersLines at_start lines output state
-  pub written : Appends had has output
-
--- The answers to all lines of the input were made, but the last of them, `left`, weren't written.
-pub record Unwritten (from to had has : Option (List ℕ)) : Type 0 where
-  pub input : List ℕ
-  pub rest : List ℕ
+-- The input is so many lines, and the output is the answers to all of them.
+pub record IsAnswered (input : List ℕ) (count : ℕ) (output : List ℕ) : Type 0 where
   pub lines : List (List ℕ)
-  pub state : ScriptState
-  pub output : List ℕ
-  pub sent : List ℕ
-  pub left : List ℕ
-  pub read : Consumes from to (input ++ rest)
-  pub lines_are : HasLines input lines
-  pub answers : AnswersLines at_start lines output state
-  pub split : output ≡ sent ++ left
-  pub written : Appends had has sent
+  pub split : HasLines input lines
+  pub answers : AreAnswers lines output
+  pub counted : length lines ≡ count
 
--- A bad line begins what was read behind the answered ones. It was read to its newline or to the end of the input,
--- or more than 4096 bytes of it were.
+-- The input begins with so many whole lines, behind which the rest comes, and the output is the answers to these lines.
+pub record IsAnsweredUpTo (rest input : List ℕ) (count : ℕ) (output : List ℕ) : Type 0 where
+  pub lines : List (List ℕ)
+  pub unbroken : All IsUnbroken lines
+  pub split : input ≡ joined lines ++ rest
+  pub answers : AreAnswers lines output
+  pub counted : length lines ≡ count
+
+-- The output is the answers to a front of the input but for the last of them, which are left. That front ends with a
+-- newline, or it is all that there was to read.
+pub record IsAnsweredInPart (to : Option (List ℕ)) (input output : List ℕ) : Type 0 where
+  pub front : List ℕ
+  pub rest : List ℕ
+  pub left : List ℕ
+  pub count : ℕ
+  pub split : input ≡ front ++ rest
+  pub answered : IsAnswered front count (output ++ left)
+  pub ends : (answered.split.last ≡ []) ⊎ ((rest ≡ []) × IsAtEnd to)
+
+-- The rest begins with a line that is bad at the place. It was read to its newline, or to the end of all that there was
+-- to read, or more than 4096 bytes of it were.
 pub record BeginsBadLine (to : Option (List ℕ)) (rest : List ℕ) (place : ℕ) : Type 0 where
   pub line : List ℕ
   pub more : List ℕ
@@ -60,80 +49,9 @@ pub record BeginsBadLine (to : Option (List ℕ)) (rest : List ℕ) (place : ℕ
   pub bad : IsBadLine line place
   pub ends : ((after : List ℕ) × (more ≡ 10 ∷ after)) ⊎ (((more ≡ []) × IsAtEnd to) ⊎ (4096 < length line))
 
--- What was done before a fault. But for a failed write, no answer is left unwritten.
-abbrev pub StopsWith : ReplayFault → Option (List ℕ) → Option (List ℕ) → Option (List ℕ) → Option (List ℕ) → Type 0
-StopsWith (BadLine number place) from to had has = (lines : List (List ℕ)) × (rest : List ℕ) × Stopped from to had has lines rest × BeginsBadLine to rest place × (number ≡ length lines + 1)
-StopsWith ReadFault from to had has = (lines : List (List ℕ)) × (rest : List ℕ) × Stopped from to had has lines rest × IsUnbroken rest
-StopsWith WriteFault from to had has = Unwritten from to had has
-StopsWith NoRoom from to had has = (lines : List (List ℕ)) × (rest : List ℕ) × Stopped from to had has lines rest
-
--- ---- within a replay
-
--- The lines were answered: some of the answers were written, behind those that waited before, and `after` waits.
-pub record Answers (had has : Option (List ℕ)) (old : SessionContent) (before : List ℕ) (lines : List (List ℕ)) (new : SessionContent) (after : List ℕ) : Type 0 where
-  pub output : List ℕ
-  pub sent : List ℕ
-  pub answers : Leads (λ s t. AnswersLines s lines output t) old new
-  pub split : before ++ output ≡ sent ++ after
-  pub written : Appends had has sent
-
--- So many lines of a text were answered. Behind them the rest stands.
-pub record AnswersText (had has : Option (List ℕ)) (old : SessionContent) (before text : List ℕ) (count : ℕ) (new : SessionContent) (after rest : List ℕ) : Type 0 where
-  pub lines : List (List ℕ)
-  pub split : text ≡ joined lines ++ rest
-  pub unbroken : All IsUnbroken lines
-  pub counted : length lines ≡ count
-  pub answers : Answers had has old before lines new after
-
--- More was read behind what was pending, and so many lines of it were answered. Behind them the rest stands.
-pub record Goes (from to had has : Option (List ℕ)) (old : SessionContent) (before pending : List ℕ) (count : ℕ) (new : SessionContent) (after rest : List ℕ) : Type 0 where
-  pub bytes : List ℕ
-  pub read : Consumes from to bytes
-  pub answers : AnswersText had has old before (pending ++ bytes) count new after rest
-
--- why a line, without its newline, isn't answered
-abbrev pub IsFaultOf : LineFault → List ℕ → Type 0
-IsFaultOf (lines.BadLine place) text = IsBadLine text place
-IsFaultOf lines.NoRoom text = Unit {0}
-
--- Why a line with its newline isn't answered, where `after` wasn't written of the answers before, and the buffer of
--- answers is `output`.
-abbrev pub LineStops : Stop → (line output after : List ℕ) → Type 0
-LineStops stops.AtEnd line output after = ⊥
-LineStops (stops.BadLine place) line output after = (after ≡ output) × ((text : List ℕ) → line ≡ ended text → IsBadLine text place)
-LineStops stops.ReadFault line output after = ⊥
-LineStops stops.WriteFault line output after = Unit {0}
-LineStops stops.NoRoom line output after = after ≡ output
-
--- What is so when no more is read, or all lines so far are answered: by `session`, the buffer `output` of answers and
--- the bytes `pending`, where `new` stood after the last answered line, `after` wasn't written, and `rest` wasn't
--- answered.
-abbrev pub Leaves : Option Stop → Option (List ℕ) → (session : SessionContent) → (output pending : List ℕ) → (new : SessionContent) → (after rest : List ℕ) → Type 0
-Leaves None to session output pending new after rest = (new ≡ session) × (after ≡ output) × (rest ≡ pending) × IsUnbroken rest
-Leaves (Some stops.AtEnd) to session output pending new after rest = (new ≡ session) × (after ≡ output) × (rest ≡ pending) × IsUnbroken rest × IsAtEnd to
-Leaves (Some (stops.BadLine place)) to session output pending new after rest = (after ≡ output) × BeginsBadLine to rest place
-Leaves (Some stops.ReadFault) to session output pending new after rest = (after ≡ output) × IsUnbroken rest
-Leaves (Some stops.WriteFault) to session output pending new after rest = Unit {0}
-Leaves (Some stops.NoRoom) to session output pending new after rest = after ≡ output
-
--- what one turn does
-abbrev pub Turns : Answered → (from to had has : Option (List ℕ)) → SessionContent → (before pending : List ℕ) → SessionContent → (output waiting : List ℕ) → Type 0
-Turns answered from to had has old before pending session output waiting = (new : SessionContent) × (after rest : List ℕ) × Goes from to had has old before pending answered.lines new after rest × Leaves answered.stop to session output waiting new after rest
-
--- the text was written
-abbrev pub Written : Result ℕ ReplayFault → ℕ → Option (List ℕ) → Option (List ℕ) → List ℕ → Type 0
-Written (Ok count) lines had has text = (count ≡ lines) × Appends had has text
-Written (Err fault) lines had has text = (fault ≡ WriteFault) × (sent left : List ℕ) × (text ≡ sent ++ left) × Appends had has sent
-
--- the text was written before the fault is given, or the writer failed
-abbrev pub Reported : Result ℕ ReplayFault → ReplayFault → Option (List ℕ) → Option (List ℕ) → List ℕ → Type 0
-Reported (Ok count) fault had has text = ⊥
-Reported (Err given) fault had has text = ((given ≡ fault) × Appends had has text) ⊎ ((given ≡ WriteFault) × (sent left : List ℕ) × (text ≡ sent ++ left) × Appends had has sent)
-
--- What becomes of the last line, `rest`, whose newline is missing.
-abbrev pub Finishes : Result ℕ ReplayFault → ℕ → Option (List ℕ) → Option (List ℕ) → SessionContent → List ℕ → List ℕ → Type 0
-Finishes (Ok count) lines had has old before rest = (new : SessionContent) × Answers had has old before (unended rest) new [] × (count ≡ lines + length (unended rest))
-Finishes (Err (BadLine number place)) lines had has old before rest = Answers had has old before [] old [] × IsBadLine rest place × (number ≡ lines + 1)
-Finishes (Err ReadFault) lines had has old before rest = ⊥
-Finishes (Err WriteFault) lines had has old before rest = (done : List (List ℕ)) × (new : SessionContent) × (left : List ℕ) × Answers had has old before done new left × ((done ≡ []) ⊎ (done ≡ unended rest))
-Finishes (Err NoRoom) lines had has old before rest = Answers had has old before [] old []
+-- How the input was answered by the output when a fault ended it, where `to` is what the reader has left.
+abbrev pub StopsWith : ReplayFault → Option (List ℕ) → List ℕ → List ℕ → Type 0
+StopsWith (BadLine number place) to input output = (count : ℕ) × (rest : List ℕ) × IsAnsweredUpTo rest input count output × BeginsBadLine to rest place × (number ≡ count + 1)
+StopsWith ReadFault to input output = (count : ℕ) × (rest : List ℕ) × IsAnsweredUpTo rest input count output × IsUnbroken rest
+StopsWith WriteFault to input output = IsAnsweredInPart to input output
+StopsWith NoRoom to input output = (count : ℕ) × (rest : List ℕ) × IsAnsweredUpTo rest input count output

@@ -15,7 +15,7 @@ use ds_names::NoRoom;
 use ds_pattern::Query;
 use ds_store::Command;
 use ds_submap::SubMap;
-use ds_words::{ScriptCommand, append_noroom, append_reply};
+use ds_words::{ScriptCommand, Wording, append_noroom, append_reply};
 use itoa::Buffer;
 use std::alloc::Global;
 
@@ -38,21 +38,29 @@ pub(crate) fn answer_command(
         ScriptCommand::All => append_shown(alloc, session.held(), output, true),
         ScriptCommand::Map { query } => answer_map(alloc, session, output, &query),
         ScriptCommand::Entries { map } => append_entries(alloc, session.map(map), output),
-        asking => match asking.into_store_command(alloc) {
-            Ok(Some(asked)) => answer_asked(session, output, asked),
-            Ok(None) => unreachable!(),
-            Err(NoRoom) => append_noroom(output),
-        },
+        asking => {
+            let wording = asking.wording();
+            match asking.into_store_command(alloc) {
+                Ok(Some(asked)) => answer_asked(session, output, wording, asked),
+                Ok(None) => unreachable!(),
+                Err(NoRoom) => append_noroom(output),
+            }
+        }
     }
 }
 
 // Gives the command to the store, and puts its reply behind the answers that wait.
-fn answer_asked(session: &mut Session, output: &mut Vec<u8>, asked: Command) -> Result<(), NoRoom>
-    ensures answered { OnOk result ((out : List ℕ) × (output.new.items ≡ output.old.items ++ out) × Leads (λ s t. AnswersAsked asked s out t) session.old session.new) }
+fn answer_asked(
+    session: &mut Session,
+    output: &mut Vec<u8>,
+    wording: Wording,
+    asked: Command,
+) -> Result<(), NoRoom>
+    ensures answered { OnOk result ((out : List ℕ) × (output.new.items ≡ output.old.items ++ out) × Leads (λ s t. AnswersAsked wording asked s out t) session.old session.new) }
     ensures unanswered { OnErr result (output.new.items ≡ output.old.items) }
 {
     let reply = session.ask(asked);
-    append_reply(output, &reply)
+    append_reply(output, wording, &reply)
 }
 
 // Makes a map, and puts its number behind the answers that wait, or why none is made.

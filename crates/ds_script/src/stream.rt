@@ -1,15 +1,16 @@
 //! A whole replay: from a reader's lines to a writer's answers.
 
 ghost use Rattle.std.specs.Prelude.{◌≡◌, ◌≤◌, ◌<◌, ◌*◌, ◌^◌, ◌+◌, ◌++◌, [], ℕ, List, Some, IfOk, IfErr, OnOk, OnErr, length, vec_len};
-ghost use Rattle.std.specs.Io.KnownBytes.{Appends, IsAtEnd};
+ghost use Rattle.std.specs.Io.KnownBytes.{Appends, Consumes, IsAtEnd};
 ghost use Rattle.ds_words.specs.Lines.{IsUnbroken};
 ghost use Rattle.ds_script.specs.Session.{SessionContent};
-ghost use Rattle.ds_script.specs.Replay.{Goes, Leaves, Replays, StopsWith, Written, Reported, Finishes};
+ghost use Rattle.ds_script.specs.Replay.{IsAnswered, StopsWith};
+ghost use Rattle.ds_script.specs.Progress.{Goes, Leaves, Written, Reported, Finishes};
 
 use crate::fault::ReplayFault;
 use crate::session::Session;
 use crate::transfer::write_out;
-use crate::turn::{Stop, answer_line, take_turn};
+use crate::turn::{Ending, answer_line, take_turn};
 use ds_line::LineFault;
 use std::alloc::{AllocError, Global};
 use std::io::{Read, Write};
@@ -37,8 +38,14 @@ pub fn replay<R: Read, W: Write>(
     reader: &mut R,
     writer: &mut W,
 ) -> Result<u64, ReplayFault>
-    ensures answered { IfOk result (λ count. (lines : List (List ℕ)) × Replays (R.remaining reader.old) (R.remaining reader.new) (W.contents writer.old) (W.contents writer.new) lines × (length lines ≡ count)) }
-    ensures stopped { IfErr result (λ fault. StopsWith fault (R.remaining reader.old) (R.remaining reader.new) (W.contents writer.old) (W.contents writer.new)) }
+    ensures answered { IfOk result (λ count. (input output : List ℕ)
+        × Consumes (R.remaining reader.old) (R.remaining reader.new) input × IsAtEnd (R.remaining reader.new)
+        × Appends (W.contents writer.old) (W.contents writer.new) output
+        × IsAnswered input count output) }
+    ensures stopped { IfErr result (λ fault. (input output : List ℕ)
+        × Consumes (R.remaining reader.old) (R.remaining reader.new) input
+        × Appends (W.contents writer.old) (W.contents writer.new) output
+        × StopsWith fault (R.remaining reader.new) input output) }
 {
     let mut session = Session::open(alloc);
     let mut output = Vec::new(alloc);
@@ -56,7 +63,7 @@ pub fn replay<R: Read, W: Write>(
         &mut output,
     );
     match ended.stop {
-        Stop::AtEnd => finish(
+        Ending::AtEnd => finish(
             alloc,
             writer,
             ended.lines,
@@ -64,7 +71,7 @@ pub fn replay<R: Read, W: Write>(
             &mut session,
             &mut output,
         ),
-        Stop::BadLine { place } => report(
+        Ending::BadLine { place } => report(
             writer,
             &output,
             ReplayFault::BadLine {
@@ -72,9 +79,9 @@ pub fn replay<R: Read, W: Write>(
                 place,
             },
         ),
-        Stop::ReadFault => report(writer, &output, ReplayFault::ReadFault),
-        Stop::WriteFault => Err(ReplayFault::WriteFault),
-        Stop::NoRoom => report(writer, &output, ReplayFault::NoRoom),
+        Ending::ReadFault => report(writer, &output, ReplayFault::ReadFault),
+        Ending::WriteFault => Err(ReplayFault::WriteFault),
+        Ending::NoRoom => report(writer, &output, ReplayFault::NoRoom),
     }
 }
 
@@ -82,7 +89,7 @@ pub fn replay<R: Read, W: Write>(
 #[derive(Clone, Copy, Debug)]
 pub struct Ended {
     pub lines: u64,
-    pub stop: Stop,
+    pub stop: Ending,
 }
 
 // Room for one read.
@@ -119,7 +126,7 @@ fn answer_input<R: Read, W: Write>(
     }
     Ended {
         lines,
-        stop: Stop::ReadFault,
+        stop: Ending::ReadFault,
     }
 }
 

@@ -7,7 +7,7 @@ ghost use Rattle.ds_line.specs.LastNewline.{EndsLine};
 ghost use Rattle.ds_words.specs.Lines.{IsUnbroken, ended, joined};
 ghost use Rattle.ds_script.specs.Session.{SessionContent, Leads};
 ghost use Rattle.ds_script.specs.Answer.{AnswersLine};
-ghost use Rattle.ds_script.specs.Replay.{Answers, AnswersText, Leaves, Turns, IsFaultOf, LineStops};
+ghost use Rattle.ds_script.specs.Progress.{Answers, AnswersText, Leaves, Turns, IsFaultOf, LineStops};
 
 use crate::answer::answer_command;
 use crate::session::Session;
@@ -23,7 +23,7 @@ const FULL: usize = 65536;
 
 /// Why a replay doesn't go on.
 #[derive(Clone, Copy, Debug, PartialEq, Eq)]
-pub enum Stop {
+pub enum Ending {
     /// The reader has no more.
     AtEnd,
     /// A line is no command's, from the byte `place` on.
@@ -41,7 +41,7 @@ pub enum Stop {
 pub struct Answered {
     pub lines: u64,
     pub used: usize,
-    pub stop: Option<Stop>,
+    pub stop: Option<Ending>,
 }
 
 /// Writes the answers that wait, reads once, and answers all whole lines that are there then.
@@ -68,16 +68,16 @@ pub(crate) fn take_turn<R: Read, W: Write>(
                 used: 0,
                 stop: None,
             },
-            Filled::End => stopped(Stop::AtEnd),
-            Filled::Failed => stopped(Stop::ReadFault),
-            Filled::NoRoom => stopped(Stop::NoRoom),
+            Filled::End => stopped(Ending::AtEnd),
+            Filled::Failed => stopped(Ending::ReadFault),
+            Filled::NoRoom => stopped(Ending::NoRoom),
         },
-        Err(WriteFailed) => stopped(Stop::WriteFault),
+        Err(WriteFailed) => stopped(Ending::WriteFault),
     }
 }
 
 // No line was answered.
-fn stopped(stop: Stop) -> Answered
+fn stopped(stop: Ending) -> Answered
     ensures { result ≡ record { lines = 0; used = 0; stop = Some stop } }
 {
     Answered {
@@ -107,7 +107,7 @@ fn answer_pending<W: Write>(
         return Answered {
             lines: answered.lines,
             used: answered.used,
-            stop: Some(Stop::BadLine {
+            stop: Some(Ending::BadLine {
                 place: LONGEST_LINE,
             }),
         };
@@ -160,7 +160,7 @@ fn answer_next<W: Write>(
     line: &[u8],
     session: &mut Session,
     output: &mut Vec<u8>,
-) -> Result<(), Stop>
+) -> Result<(), Ending>
     requires { EndsLine line.now }
     ensures ok { OnOk result ((text : List ℕ) → line.now ≡ ended text → Answers (W.contents writer.old) (W.contents writer.new) session.old output.old.items (text ∷ []) session.new output.new.items) }
     ensures err { IfErr result (λ stop. (after : List ℕ) × Answers (W.contents writer.old) (W.contents writer.new) session.old output.old.items [] session.old after × LineStops stop line.now output.new.items after) }
@@ -168,10 +168,10 @@ fn answer_next<W: Write>(
     match send_full(writer, output) {
         Ok(()) => match answer_line(alloc, line, session, output) {
             Ok(()) => Ok(()),
-            Err(LineFault::BadLine { place }) => Err(Stop::BadLine { place }),
-            Err(LineFault::NoRoom) => Err(Stop::NoRoom),
+            Err(LineFault::BadLine { place }) => Err(Ending::BadLine { place }),
+            Err(LineFault::NoRoom) => Err(Ending::NoRoom),
         },
-        Err(WriteFailed) => Err(Stop::WriteFault),
+        Err(WriteFailed) => Err(Ending::WriteFault),
     }
 }
 

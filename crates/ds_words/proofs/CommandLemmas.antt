@@ -15,7 +15,7 @@ use Rattle.ds_line.specs.Spelling.{space, newline, kind_word, quoted, value_part
 use Rattle.ds_line.specs.LastNewline.{EndsLine}
 use Rattle.ds_line.specs.FaultPlace.{Stand}
 use Rattle.ds_line.specs.Piece.{Found, Breaks, StopsIn}
-use Rattle.ds_line.specs.declared.stop.Stop.TheVariants.{BadPart}
+use Rattle.ds_line.specs.declared.part_fault.PartFault.TheVariants.{BadPart}
 use Rattle.ds_line.proofs.PartLemmas.{part_one}
 use Rattle.ds_line.proofs.LineLemmas.{AllStand, stand_length, part_stands, byte_stands, name_stands, body_stands, change_stands}
 use Rattle.ds_line.proofs.NewlineLemmas.{line_ends}
@@ -44,7 +44,7 @@ word_is (Map query) = refl
 word_is (Entries map) = refl
 
 -- each command begins with one of the words
-word_there : (command : ScriptCommand) → (word : CommandWord) × (word_of command ≡ text_of word)
+pub word_there : (command : ScriptCommand) → (word : CommandWord) × (word_of command ≡ text_of word)
 word_there (Offer c) = (words.Offer, refl)
 word_there Show = (words.Show, refl)
 word_there Everything = (words.All, refl)
@@ -58,7 +58,7 @@ word_there (Check sub max) = (words.Check, refl)
 word_there (Map query) = (words.Map, refl)
 word_there (Entries map) = (words.Entries, refl)
 
-text_is : (word : CommandWord) → list_all is_ascii_alphanumeric (text_of word) ≡ true
+pub text_is : (word : CommandWord) → list_all is_ascii_alphanumeric (text_of word) ≡ true
 text_is words.Offer = refl
 text_is words.Show = refl
 text_is words.All = refl
@@ -73,7 +73,7 @@ text_is words.Map = refl
 text_is words.Entries = refl
 
 -- two words at one front are one
-one_word : (command : ScriptCommand) (line word r s : List ℕ) → list_all is_ascii_alphanumeric word ≡ true → Begins is_ascii_alphanumeric line (word_of command) r → Begins is_ascii_alphanumeric line word s → (word_of command ≡ word) × (r ≡ s)
+pub one_word : (command : ScriptCommand) (line word r s : List ℕ) → list_all is_ascii_alphanumeric word ≡ true → Begins is_ascii_alphanumeric line (word_of command) r → Begins is_ascii_alphanumeric line word s → (word_of command ≡ word) × (r ≡ s)
 one_word command line word r s is first second = part_one Word line (word_of command) word r s (word_is command) is first second
 
 -- ---- what is spelled out stands there
@@ -92,7 +92,7 @@ delete_stands key version =
     (part_stands (part Number (decimal version.seq)) (newline ∷ []) [] refl
     (byte_stands 10 [] [] refl)))))))
 
-command_stands : (command : ScriptCommand) → AllStand (behind_word command) []
+pub command_stands : (command : ScriptCommand) → AllStand (behind_word command) []
 command_stands (Offer c) = byte_stands 32 (change_parts c) [] (change_stands c [])
 command_stands Show = byte_stands 10 [] [] refl
 command_stands Everything = byte_stands 10 [] [] refl
@@ -178,7 +178,7 @@ command_stands (Entries map) =
     (byte_stands 10 [] [] refl))
 
 -- the line's word stands at its front
-word_begins : (command : ScriptCommand) (line : List ℕ) → line ≡ texts (command_parts command) → Begins is_ascii_alphanumeric line (word_of command) (texts (behind_word command))
+pub word_begins : (command : ScriptCommand) (line : List ℕ) → line ≡ texts (command_parts command) → Begins is_ascii_alphanumeric line (word_of command) (texts (behind_word command))
 word_begins (Offer c) line is = record { parts = is; ends = refl }
 word_begins Show line is = record { parts = is; ends = refl }
 word_begins Everything line is = record { parts = is; ends = refl }

@@ -3,7 +3,9 @@ pub mod NewlineLemmas
 pub mod ChangeLemmas
 pub mod PieceLemmas
 pub mod QueryLemmas
+pub mod OneLemmas
 pub mod LineLemmas
 pub mod SubscriptionLemmas
 pub mod OfferLemmas
 pub mod CommandLemmas
+pub mod LawLemmas

@@ -1,5 +1,5 @@
 -- Each piece of a line: it is missing where it has to stand, or it is read.
-use Rattle.std.proofs.Common.{◌≡◌, ◌≢◌, ℕ, ◌<◌, ◌≤◌, ◌^◌, Bool, true, false, List, [], ◌∷◌, length, get_or, refl, ap, subst, arith}
+use Rattle.std.proofs.Common.{◌≡◌, ◌≢◌, ℕ, ◌<◌, ◌≤◌, ◌^◌, Bool, true, false, List, [], ◌∷◌, length, get_or, refl, sym, ap, subst, ◌∙◌, arith}
 use Rattle.std.specs.Char.{is_ascii_digit, is_ascii_alphanumeric}
 use Rattle.std.specs.Fmt.{decimal}
 use Rattle.std.specs.List.{list_all}
@@ -13,15 +13,15 @@ use Rattle.ds_entry.specs.Change.{rs_name}
 use Rattle.ds_line.specs.Part.{Part, part, run_of, Word, Name, Number, Endpoint}
 use Rattle.ds_line.specs.Spelling.{kind_word}
 use Rattle.ds_line.specs.Piece.{Piece, Found, StopsIn, IsValueOf, last_value, StopsValue}
-use Rattle.ds_line.specs.declared.stop.Stop.{Stop}
-use Rattle.ds_line.specs.declared.stop.Stop.TheVariants.{BadPart, NoRoom}
+use Rattle.ds_line.specs.declared.part_fault.PartFault.{PartFault}
+use Rattle.ds_line.specs.declared.part_fault.PartFault.TheVariants.{BadPart, NoRoom}
 use Rattle.ds_line.proofs.LabelLemmas.{rs_is_name, some_value, some_kind, some_is}
 use Rattle.ds_line.proofs.PartLemmas.{part_one}
 use Rattle.ds_line.proofs.OpeningLemmas.{text_at, word_is_word, word_one, key_is, version_is}
 use Rattle.ds_line.proofs.ApartLemmas.{endpoints_one}
-use Rattle.ds_line.proofs.PieceLemmas.{behind, Fixed, One, one_by, Views, view_stops, first_stops, then_stops, after_byte, part_missing, byte_missing, byte_stops, stops_from}
+use Rattle.ds_line.proofs.PieceLemmas.{behind, Fixed, One, one_by, Views, view_stops, first_stops, then_stops, after_byte, part_missing, byte_missing, byte_found, byte_stops, stops_from}
 use Rattle.ds_words.specs.Command.{initial_word, mode_word}
-use Rattle.ds_words.specs.Pieces.{an_endpoint, an_initial, a_mode, a_name, a_kind, a_key, a_generation, a_seq, a_version, a_number, a_place, a_kinds, a_value, an_end}
+use Rattle.ds_words.specs.Pieces.{an_endpoint, an_initial, a_mode, a_name, a_kind, a_key, a_generation, a_seq, a_version, a_number, a_place, a_kinds, a_value, WantsRoom, an_end}
 
 -- ---- a byte, and behind it one part
 
@@ -30,11 +30,11 @@ abbrev pub one_part : (T : Type 0) → (T → Type 0) → (T → Part) → Piece
 one_part T Can of = record { Of = T; Can = Can; parts = λ x. of x ∷ [] }
 
 -- the byte is missing
-pub no_byte : (b : ℕ) (p : Piece) (some : p.Of) (stop : Stop) (bytes : List ℕ) → p.Can some → stop ≡ BadPart (length bytes) → ((rest : List ℕ) → bytes ≢ b ∷ rest) → StopsIn (after_byte b p) stop bytes
+pub no_byte : (b : ℕ) (p : Piece) (some : p.Of) (stop : PartFault) (bytes : List ℕ) → p.Can some → stop ≡ BadPart (length bytes) → ((rest : List ℕ) → bytes ≢ b ∷ rest) → StopsIn (after_byte b p) stop bytes
 no_byte b p some stop bytes can at none = stops_from (after_byte b p) stop bytes bytes at (byte_missing b p some bytes can none)
 
 -- behind the byte the part is missing
-pub no_part : (b : ℕ) (T : Type 0) (Can : T → Type 0) (of : T → Part) (some : T) (stop : Stop) (bytes r : List ℕ) → Can some → bytes ≡ b ∷ r → stop ≡ BadPart (length r) → ((x : T) (rest : List ℕ) → Can x → ¬ Begins (run_of (of x).class) r (of x).text rest)
+pub no_part : (b : ℕ) (T : Type 0) (Can : T → Type 0) (of : T → Part) (some : T) (stop : PartFault) (bytes r : List ℕ) → Can some → bytes ≡ b ∷ r → stop ≡ BadPart (length r) → ((x : T) (rest : List ℕ) → Can x → ¬ Begins (run_of (of x).class) r (of x).text rest)
     → StopsIn (after_byte b (one_part T Can of)) stop bytes
 no_part b T Can of some stop bytes r can is at none =
     byte_stops b (one_part T Can of) stop bytes r is (stops_from (one_part T Can of) stop r r at (part_missing (one_part T Can of) of (λ x. []) some r (λ x. refl) can none))
@@ -51,7 +51,7 @@ endpoint_rest = one_part EndpointRecord IsEndpoint endpoint_part
 pub endpoint_is : IsEndpoint (endpoint_of 0 0)
 endpoint_is = record { generation = omega arith; slot = omega arith }
 
-pub no_endpoint : (stop : Stop) (bytes r : List ℕ) → bytes ≡ 32 ∷ r → stop ≡ BadPart (length r) → ((e : EndpointRecord) (rest : List ℕ) → IsEndpoint e → ¬ Begins is_ascii_digit r (endpoint_text e) rest) → StopsIn an_endpoint stop bytes
+pub no_endpoint : (stop : PartFault) (bytes r : List ℕ) → bytes ≡ 32 ∷ r → stop ≡ BadPart (length r) → ((e : EndpointRecord) (rest : List ℕ) → IsEndpoint e → ¬ Begins is_ascii_digit r (endpoint_text e) rest) → StopsIn an_endpoint stop bytes
 no_endpoint stop bytes r is at none = no_part 32 EndpointRecord IsEndpoint endpoint_part (endpoint_of 0 0) stop bytes r endpoint_is is at none
 
 pub endpoint_fixed : Fixed an_endpoint 2
@@ -75,7 +75,7 @@ modes_one false false same = refl
 abbrev pub mode_part : Bool → Part
 mode_part overwrite = part Word (mode_word overwrite)
 
-pub no_mode : (stop : Stop) (bytes r word rest : List ℕ) → bytes ≡ 32 ∷ r → stop ≡ BadPart (length r) → list_all is_ascii_alphanumeric word ≡ true → Begins is_ascii_alphanumeric r word rest → ((overwrite : Bool) → word ≢ mode_word overwrite)
+pub no_mode : (stop : PartFault) (bytes r word rest : List ℕ) → bytes ≡ 32 ∷ r → stop ≡ BadPart (length r) → list_all is_ascii_alphanumeric word ≡ true → Begins is_ascii_alphanumeric r word rest → ((overwrite : Bool) → word ≢ mode_word overwrite)
     → StopsIn a_mode stop bytes
 no_mode stop bytes r word rest is at all begins other =
     no_part 32 Bool (λ _. Unit {0}) mode_part true stop bytes r tt is at
@@ -102,7 +102,7 @@ initials_one false false same = refl
 abbrev pub initial_part : Bool → Part
 initial_part initial = part Word (initial_word initial)
 
-pub no_initial : (stop : Stop) (bytes r word rest : List ℕ) → bytes ≡ 32 ∷ r → stop ≡ BadPart (length r) → list_all is_ascii_alphanumeric word ≡ true → Begins is_ascii_alphanumeric r word rest → ((initial : Bool) → word ≢ initial_word initial)
+pub no_initial : (stop : PartFault) (bytes r word rest : List ℕ) → bytes ≡ 32 ∷ r → stop ≡ BadPart (length r) → list_all is_ascii_alphanumeric word ≡ true → Begins is_ascii_alphanumeric r word rest → ((initial : Bool) → word ≢ initial_word initial)
     → StopsIn an_initial stop bytes
 no_initial stop bytes r word rest is at all begins other =
     no_part 32 Bool (λ _. Unit {0}) initial_part true stop bytes r tt is at
@@ -119,7 +119,7 @@ initial_one = one_by an_initial (λ a b is_a is_b. (refl, λ _. (refl, λ _. tt)
 abbrev pub name_part : List ℕ → Part
 name_part name = part Name name
 
-pub no_name : (stop : Stop) (bytes r : List ℕ) → bytes ≡ 32 ∷ r → stop ≡ BadPart (length r) → ((name rest : List ℕ) → IsName name → ¬ Begins is_name_byte r name rest) → StopsIn a_name stop bytes
+pub no_name : (stop : PartFault) (bytes r : List ℕ) → bytes ≡ 32 ∷ r → stop ≡ BadPart (length r) → ((name rest : List ℕ) → IsName name → ¬ Begins is_name_byte r name rest) → StopsIn a_name stop bytes
 no_name stop bytes r is at none = no_part 32 (List ℕ) IsName name_part rs_name stop bytes r rs_is_name is at none
 
 pub name_fixed : Fixed a_name 2
@@ -131,7 +131,7 @@ name_one = one_by a_name (λ a b is_a is_b. (refl, λ _. (refl, λ _. tt))) (λ 
 abbrev pub kind_part : Kind → Part
 kind_part kind = part Word (kind_word kind)
 
-pub no_kind : (stop : Stop) (bytes r : List ℕ) → bytes ≡ 32 ∷ r → stop ≡ BadPart (length r) → ((kind : Kind) (rest : List ℕ) → ¬ Begins is_ascii_alphanumeric r (kind_word kind) rest) → StopsIn a_kind stop bytes
+pub no_kind : (stop : PartFault) (bytes r : List ℕ) → bytes ≡ 32 ∷ r → stop ≡ BadPart (length r) → ((kind : Kind) (rest : List ℕ) → ¬ Begins is_ascii_alphanumeric r (kind_word kind) rest) → StopsIn a_kind stop bytes
 no_kind stop bytes r is at none = no_part 32 Kind (λ _. Unit {0}) kind_part U32 stop bytes r tt is at (λ kind rest can. none kind rest)
 
 key_view : Views (behind a_name (λ _. a_kind)) a_key
@@ -143,11 +143,11 @@ key_view = record {
 }
 
 -- a key's name is missing
-pub key_name_stops : (stop : Stop) (bytes : List ℕ) → stop ≢ NoRoom → StopsIn a_name stop bytes → StopsIn a_key stop bytes
+pub key_name_stops : (stop : PartFault) (bytes : List ℕ) → stop ≢ NoRoom → StopsIn a_name stop bytes → StopsIn a_key stop bytes
 key_name_stops stop bytes room s = view_stops (behind a_name (λ _. a_kind)) a_key key_view stop bytes (first_stops a_name (λ _. a_kind) 2 stop bytes name_fixed (λ name can. (U32, tt)) room s)
 
 -- its kind is missing
-pub key_kind_stops : (name : List ℕ) (stop : Stop) (bytes r : List ℕ) → Found a_name name bytes r → StopsIn a_kind stop r → StopsIn a_key stop bytes
+pub key_kind_stops : (name : List ℕ) (stop : PartFault) (bytes r : List ℕ) → Found a_name name bytes r → StopsIn a_kind stop r → StopsIn a_key stop bytes
 key_kind_stops name stop bytes r found s = view_stops (behind a_name (λ _. a_kind)) a_key key_view stop bytes (then_stops a_name (λ _. a_kind) 2 stop name bytes r name_fixed name_one found s)
 
 pub key_fixed : Fixed a_key 4
@@ -163,10 +163,10 @@ key_one =
 abbrev pub number_part : ℕ → Part
 number_part n = part Number (decimal n)
 
-pub no_generation : (stop : Stop) (bytes r : List ℕ) → bytes ≡ 32 ∷ r → stop ≡ BadPart (length r) → ((n : ℕ) (rest : List ℕ) → n ≤ 2097151 → ¬ Begins is_ascii_digit r (decimal n) rest) → StopsIn a_generation stop bytes
+pub no_generation : (stop : PartFault) (bytes r : List ℕ) → bytes ≡ 32 ∷ r → stop ≡ BadPart (length r) → ((n : ℕ) (rest : List ℕ) → n ≤ 2097151 → ¬ Begins is_ascii_digit r (decimal n) rest) → StopsIn a_generation stop bytes
 no_generation stop bytes r is at none = no_part 32 ℕ (λ n. n ≤ 2097151) number_part 0 stop bytes r (omega arith) is at none
 
-pub no_seq : (stop : Stop) (bytes r : List ℕ) → bytes ≡ 46 ∷ r → stop ≡ BadPart (length r) → ((n : ℕ) (rest : List ℕ) → n ≤ 4294967295 → ¬ Begins is_ascii_digit r (decimal n) rest) → StopsIn a_seq stop bytes
+pub no_seq : (stop : PartFault) (bytes r : List ℕ) → bytes ≡ 46 ∷ r → stop ≡ BadPart (length r) → ((n : ℕ) (rest : List ℕ) → n ≤ 4294967295 → ¬ Begins is_ascii_digit r (decimal n) rest) → StopsIn a_seq stop bytes
 no_seq stop bytes r is at none = no_part 46 ℕ (λ n. n < 2 ^ 32) number_part 0 stop bytes r (omega arith) is at (λ n rest can. none n rest (omega (arith, can)))
 
 pub generation_fixed : Fixed a_generation 2
@@ -177,7 +177,7 @@ generation_one =
     one_by a_generation (λ a b is_a is_b. (refl, λ _. (refl, λ _. tt))) (λ a is. (refl, ((a, omega (arith, is), refl), tt)))
     (λ a b is_a is_b same. decimal_injective a b (omega (arith, is_a)) (omega (arith, is_b)) (ap (text_at 1) same))
 
-pub no_number : (stop : Stop) (bytes r : List ℕ) → bytes ≡ 32 ∷ r → stop ≡ BadPart (length r) → ((n : ℕ) (rest : List ℕ) → n ≤ 4294967295 → ¬ Begins is_ascii_digit r (decimal n) rest) → StopsIn a_number stop bytes
+pub no_number : (stop : PartFault) (bytes r : List ℕ) → bytes ≡ 32 ∷ r → stop ≡ BadPart (length r) → ((n : ℕ) (rest : List ℕ) → n ≤ 4294967295 → ¬ Begins is_ascii_digit r (decimal n) rest) → StopsIn a_number stop bytes
 no_number stop bytes r is at none = no_part 32 ℕ (λ n. n < 2 ^ 32) number_part 0 stop bytes r (omega arith) is at (λ n rest can. none n rest (omega (arith, can)))
 
 pub number_fixed : Fixed a_number 2
@@ -188,7 +188,7 @@ number_one =
     one_by a_number (λ a b is_a is_b. (refl, λ _. (refl, λ _. tt))) (λ a is. (refl, ((a, omega (arith, is), refl), tt)))
     (λ a b is_a is_b same. decimal_injective a b (omega (arith, is_a)) (omega (arith, is_b)) (ap (text_at 1) same))
 
-pub no_place : (stop : Stop) (bytes r : List ℕ) → bytes ≡ 32 ∷ r → stop ≡ BadPart (length r) → ((n : ℕ) (rest : List ℕ) → n ≤ 18446744073709551615 → ¬ Begins is_ascii_digit r (decimal n) rest) → StopsIn a_place stop bytes
+pub no_place : (stop : PartFault) (bytes r : List ℕ) → bytes ≡ 32 ∷ r → stop ≡ BadPart (length r) → ((n : ℕ) (rest : List ℕ) → n ≤ 18446744073709551615 → ¬ Begins is_ascii_digit r (decimal n) rest) → StopsIn a_place stop bytes
 no_place stop bytes r is at none = no_part 32 ℕ (λ n. n < 2 ^ 64) number_part 0 stop bytes r (omega arith) is at (λ n rest can. none n rest (omega (arith, can)))
 
 pub place_fixed : Fixed a_place 2
@@ -199,11 +199,11 @@ place_one =
     one_by a_place (λ a b is_a is_b. (refl, λ _. (refl, λ _. tt))) (λ a is. (refl, ((a, is, refl), tt)))
     (λ a b is_a is_b same. decimal_injective a b is_a is_b (ap (text_at 1) same))
 
-pub no_kinds : (stop : Stop) (bytes r : List ℕ) → bytes ≡ 32 ∷ r → stop ≡ BadPart (length r) → ((n : ℕ) (rest : List ℕ) → n ≤ 15 → ¬ Begins is_ascii_digit r (decimal n) rest) → StopsIn a_kinds stop bytes
+pub no_kinds : (stop : PartFault) (bytes r : List ℕ) → bytes ≡ 32 ∷ r → stop ≡ BadPart (length r) → ((n : ℕ) (rest : List ℕ) → n ≤ 15 → ¬ Begins is_ascii_digit r (decimal n) rest) → StopsIn a_kinds stop bytes
 no_kinds stop bytes r is at none = no_part 32 ℕ (λ n. (0 < n) × (n ≤ 15)) number_part 1 stop bytes r (omega arith, omega arith) is at (λ n rest can. none n rest can.1)
 
 -- the number names no kind
-pub kinds_zero : (stop : Stop) (bytes r after : List ℕ) (number : ℕ) → bytes ≡ 32 ∷ r → stop ≡ BadPart (length r) → Begins is_ascii_digit r (decimal number) after → number ≤ 15 → ¬ ((0 < number) × (number ≤ 15)) → StopsIn a_kinds stop bytes
+pub kinds_zero : (stop : PartFault) (bytes r after : List ℕ) (number : ℕ) → bytes ≡ 32 ∷ r → stop ≡ BadPart (length r) → Begins is_ascii_digit r (decimal number) after → number ≤ 15 → ¬ ((0 < number) × (number ≤ 15)) → StopsIn a_kinds stop bytes
 kinds_zero stop bytes r after number is at begins most zero =
     no_part 32 ℕ (λ n. (0 < n) × (n ≤ 15)) number_part 1 stop bytes r (omega arith, omega arith) is at
     (λ n rest can there.
@@ -228,12 +228,12 @@ version_view = record {
 }
 
 -- a version's epoch is missing
-pub version_epoch_stops : (stop : Stop) (bytes : List ℕ) → stop ≢ NoRoom → StopsIn a_generation stop bytes → StopsIn a_version stop bytes
+pub version_epoch_stops : (stop : PartFault) (bytes : List ℕ) → stop ≢ NoRoom → StopsIn a_generation stop bytes → StopsIn a_version stop bytes
 version_epoch_stops stop bytes room s =
     view_stops (behind a_generation (λ _. a_seq)) a_version version_view stop bytes (first_stops a_generation (λ _. a_seq) 2 stop bytes generation_fixed (λ n can. (0, omega arith)) room s)
 
 -- its sequence number is missing
-pub version_seq_stops : (epoch : ℕ) (stop : Stop) (bytes r : List ℕ) → Found a_generation epoch bytes r → StopsIn a_seq stop r → StopsIn a_version stop bytes
+pub version_seq_stops : (epoch : ℕ) (stop : PartFault) (bytes r : List ℕ) → Found a_generation epoch bytes r → StopsIn a_seq stop r → StopsIn a_version stop bytes
 version_seq_stops epoch stop bytes r found s =
     view_stops (behind a_generation (λ _. a_seq)) a_version version_view stop bytes (then_stops a_generation (λ _. a_seq) 2 stop epoch bytes r generation_fixed generation_one found s)
 
@@ -251,25 +251,39 @@ version_one =
 pub value_of : (kind : Kind) → IsValueOf kind (some_value kind)
 value_of kind = record { valid = some_is kind; of = some_kind kind }
 
-pub value_stops : (kind : Kind) (stop : Stop) (bytes : List ℕ) → StopsValue kind stop bytes → StopsIn (last_value kind) stop bytes
+pub value_stops : (kind : Kind) (stop : PartFault) (bytes : List ℕ) → StopsValue kind stop bytes → StopsIn (last_value kind) stop bytes
 value_stops kind (BadPart left) bytes s = s
 value_stops kind NoRoom bytes s = (s.0, s.1, s.2)
 
+-- what can't be read isn't wanting of room
+pub no_want : (stop : PartFault) (left : ℕ) → stop ≡ BadPart left → stop ≢ NoRoom
+no_want stop left is room = let same : BadPart left ≡ NoRoom = sym is ∙ room in cc
+
+-- there is no room for the value
+pub value_wants : (kind : Kind) (stop : PartFault) (bytes r1 r2 r3 : List ℕ) → bytes ≡ 32 ∷ r1 → r1 ≡ 61 ∷ r2 → r2 ≡ 32 ∷ r3 → StopsValue kind stop r3 → stop ≡ NoRoom → WantsRoom kind bytes
+value_wants kind stop bytes r1 r2 r3 is1 is2 is3 s room =
+    let k = subst (λ (x : PartFault). StopsValue kind x r3) room s in (
+      k.0,
+      k.1,
+      byte_found 32 (after_byte 61 (after_byte 32 (last_value kind))) k.0 bytes r1 k.1 is1 (byte_found 61 (after_byte 32 (last_value kind)) k.0 r1 r2 k.1 is2 (byte_found 32 (last_value kind) k.0 r2 r3 k.1 is3 k.2)),
+      k.3,
+    )
+
 -- the value is missing, or there is no room for it
-pub behind_mark : (kind : Kind) (stop : Stop) (bytes r1 r2 r3 : List ℕ) → bytes ≡ 32 ∷ r1 → r1 ≡ 61 ∷ r2 → r2 ≡ 32 ∷ r3 → StopsIn (last_value kind) stop r3 → StopsIn (a_value kind) stop bytes
+pub behind_mark : (kind : Kind) (stop : PartFault) (bytes r1 r2 r3 : List ℕ) → bytes ≡ 32 ∷ r1 → r1 ≡ 61 ∷ r2 → r2 ≡ 32 ∷ r3 → StopsIn (last_value kind) stop r3 → StopsIn (a_value kind) stop bytes
 behind_mark kind stop bytes r1 r2 r3 is1 is2 is3 s =
     byte_stops 32 (after_byte 61 (after_byte 32 (last_value kind))) stop bytes r1 is1 (byte_stops 61 (after_byte 32 (last_value kind)) stop r1 r2 is2 (byte_stops 32 (last_value kind) stop r2 r3 is3 s))
 
-pub no_first_space : (kind : Kind) (stop : Stop) (bytes : List ℕ) → stop ≡ BadPart (length bytes) → ((rest : List ℕ) → bytes ≢ 32 ∷ rest) → StopsIn (a_value kind) stop bytes
+pub no_first_space : (kind : Kind) (stop : PartFault) (bytes : List ℕ) → stop ≡ BadPart (length bytes) → ((rest : List ℕ) → bytes ≢ 32 ∷ rest) → StopsIn (a_value kind) stop bytes
 no_first_space kind stop bytes at none = no_byte 32 (after_byte 61 (after_byte 32 (last_value kind))) (some_value kind) stop bytes (value_of kind) at none
 
-pub no_mark : (kind : Kind) (stop : Stop) (bytes r1 : List ℕ) → bytes ≡ 32 ∷ r1 → stop ≡ BadPart (length r1) → ((rest : List ℕ) → r1 ≢ 61 ∷ rest) → StopsIn (a_value kind) stop bytes
+pub no_mark : (kind : Kind) (stop : PartFault) (bytes r1 : List ℕ) → bytes ≡ 32 ∷ r1 → stop ≡ BadPart (length r1) → ((rest : List ℕ) → r1 ≢ 61 ∷ rest) → StopsIn (a_value kind) stop bytes
 no_mark kind stop bytes r1 is1 at none = byte_stops 32 (after_byte 61 (after_byte 32 (last_value kind))) stop bytes r1 is1 (no_byte 61 (after_byte 32 (last_value kind)) (some_value kind) stop r1 (value_of kind) at none)
 
-pub no_second_space : (kind : Kind) (stop : Stop) (bytes r1 r2 : List ℕ) → bytes ≡ 32 ∷ r1 → r1 ≡ 61 ∷ r2 → stop ≡ BadPart (length r2) → ((rest : List ℕ) → r2 ≢ 32 ∷ rest) → StopsIn (a_value kind) stop bytes
+pub no_second_space : (kind : Kind) (stop : PartFault) (bytes r1 r2 : List ℕ) → bytes ≡ 32 ∷ r1 → r1 ≡ 61 ∷ r2 → stop ≡ BadPart (length r2) → ((rest : List ℕ) → r2 ≢ 32 ∷ rest) → StopsIn (a_value kind) stop bytes
 no_second_space kind stop bytes r1 r2 is1 is2 at none =
     byte_stops 32 (after_byte 61 (after_byte 32 (last_value kind))) stop bytes r1 is1 (byte_stops 61 (after_byte 32 (last_value kind)) stop r1 r2 is2 (no_byte 32 (last_value kind) (some_value kind) stop r2 (value_of kind) at none))
 
 -- the newline is missing
-pub no_end : (stop : Stop) (bytes : List ℕ) → stop ≡ BadPart (length bytes) → ((rest : List ℕ) → bytes ≢ 10 ∷ rest) → StopsIn an_end stop bytes
+pub no_end : (stop : PartFault) (bytes : List ℕ) → stop ≡ BadPart (length bytes) → ((rest : List ℕ) → bytes ≢ 10 ∷ rest) → StopsIn an_end stop bytes
 no_end stop bytes at none = no_byte 10 (record { Of = Unit {0}; Can = λ x. Unit {0}; parts = λ x. [] }) tt stop bytes tt at none

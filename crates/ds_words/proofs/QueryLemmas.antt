@@ -7,8 +7,8 @@ use Rattle.ds_names.specs.Run.{Ends}
 use Rattle.ds_line.specs.Part.{Part, part, run_of, Quoted}
 use Rattle.ds_line.specs.Spelling.{escaped_byte, escaped, quoted}
 use Rattle.ds_line.specs.Piece.{StopsIn}
-use Rattle.ds_line.specs.declared.stop.Stop.{Stop}
-use Rattle.ds_line.specs.declared.stop.Stop.TheVariants.{BadPart}
+use Rattle.ds_line.specs.declared.part_fault.PartFault.{PartFault}
+use Rattle.ds_line.specs.declared.part_fault.PartFault.TheVariants.{BadPart}
 use Rattle.ds_line.proofs.OpeningLemmas.{text_at}
 use Rattle.ds_line.proofs.PieceLemmas.{Fixed, One, one_by, byte_found}
 use Rattle.ds_line.proofs.QuoteLemmas.{shape, byte_one, goes_on, unquoted, quoted_one}
@@ -125,7 +125,7 @@ quote_ends : (rest : List ℕ) → Ends (run_of Quoted) rest
 quote_ends [] = tt
 quote_ends (b ∷ rest) = refl
 
-pub no_pattern : (stop : Stop) (bytes r : List ℕ) → bytes ≡ 32 ∷ r → stop ≡ BadPart (length r) → ((text rest : List ℕ) → IsUnbroken text → r ≢ quoted text ++ rest) → StopsIn a_pattern stop bytes
+pub no_pattern : (stop : PartFault) (bytes r : List ℕ) → bytes ≡ 32 ∷ r → stop ≡ BadPart (length r) → ((text rest : List ℕ) → IsUnbroken text → r ≢ quoted text ++ rest) → StopsIn a_pattern stop bytes
 no_pattern stop bytes r is at none = no_part 32 (List ℕ) IsUnbroken pattern_part [] stop bytes r unbroken_none is at (λ text rest can begins. none text rest can begins.parts)
 
 pub pattern_found : (written bytes r rest : List ℕ) → bytes ≡ 32 ∷ r → (text : List ℕ) × IsUnbroken text × (written ≡ escaped text) × (r ≡ quoted text ++ rest) → FindsPattern written bytes rest

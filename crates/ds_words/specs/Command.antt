@@ -1,12 +1,12 @@
 -- The lines of commands, part by part.
-use Rattle.std.specs.Prelude.{◌≡◌, ◌≢◌, ℕ, ◌<◌, ◌≤◌, ◌^◌, ◌⊎◌, Bool, true, false, List, [], ◌∷◌, ◌++◌, length, Option, None, Some, Result, Ok, Err}
+use Rattle.std.specs.Prelude.{◌≡◌, ◌≢◌, ℕ, ◌<◌, ◌≤◌, ◌^◌, ◌⊎◌, Bool, true, false, List, [], ◌∷◌, ◌++◌, length, Option, None, Some, Result, Ok, Err, codes}
 use Rattle.std.specs.Fmt.{decimal}
 use Rattle.ds_names.specs.Name.{IsName}
 use Rattle.ds_names.specs.Endpoint.{IsEndpoint, endpoint_text}
 use Rattle.ds_names.specs.declared.key.Key.{Key}
 use Rattle.ds_names.specs.declared.version.Version.{Version}
 use Rattle.ds_entry.specs.declared.body.Body.TheVariants.{Put}
-use Rattle.ds_entry.specs.Change.{IsChange}
+use Rattle.ds_entry.specs.Change.{IsChange, IsBodyInPlace, IsInPlace}
 use Rattle.ds_line.specs.Part.{Part, part, byte, texts, Word, Name, Number, Endpoint, Quoted}
 use Rattle.ds_line.specs.Spelling.{space, newline, kind_word, quoted, body_parts, change_parts}
 use Rattle.ds_line.specs.FaultPlace.{IsFaultPlace}
@@ -22,61 +22,61 @@ use Rattle.ds_words.specs.declared.command.ScriptCommand.TheVariants.{Offer, Sho
 
 -- `offer`
 abbrev pub offer_word : List ℕ
-offer_word = 111 ∷ 102 ∷ 102 ∷ 101 ∷ 114 ∷ []
+offer_word = codes "offer"
 
 -- `show`
 abbrev pub show_word : List ℕ
-show_word = 115 ∷ 104 ∷ 111 ∷ 119 ∷ []
+show_word = codes "show"
 
 -- `all`
 abbrev pub all_word : List ℕ
-all_word = 97 ∷ 108 ∷ 108 ∷ []
+all_word = codes "all"
 
 -- `publish`
 abbrev pub publish_word : List ℕ
-publish_word = 112 ∷ 117 ∷ 98 ∷ 108 ∷ 105 ∷ 115 ∷ 104 ∷ []
+publish_word = codes "publish"
 
 -- `delete`
 abbrev pub delete_word : List ℕ
-delete_word = 100 ∷ 101 ∷ 108 ∷ 101 ∷ 116 ∷ 101 ∷ []
+delete_word = codes "delete"
 
 -- `sweep`
 abbrev pub sweep_word : List ℕ
-sweep_word = 115 ∷ 119 ∷ 101 ∷ 101 ∷ 112 ∷ []
+sweep_word = codes "sweep"
 
 -- `retrieve`
 abbrev pub retrieve_word : List ℕ
-retrieve_word = 114 ∷ 101 ∷ 116 ∷ 114 ∷ 105 ∷ 101 ∷ 118 ∷ 101 ∷ []
+retrieve_word = codes "retrieve"
 
 -- `nameof`
 abbrev pub nameof_word : List ℕ
-nameof_word = 110 ∷ 97 ∷ 109 ∷ 101 ∷ 111 ∷ 102 ∷ []
+nameof_word = codes "nameof"
 
 -- `subscribe`
 abbrev pub subscribe_word : List ℕ
-subscribe_word = 115 ∷ 117 ∷ 98 ∷ 115 ∷ 99 ∷ 114 ∷ 105 ∷ 98 ∷ 101 ∷ []
+subscribe_word = codes "subscribe"
 
 -- `check`
 abbrev pub check_word : List ℕ
-check_word = 99 ∷ 104 ∷ 101 ∷ 99 ∷ 107 ∷ []
+check_word = codes "check"
 
 -- `map`
 abbrev pub map_word : List ℕ
-map_word = 109 ∷ 97 ∷ 112 ∷ []
+map_word = codes "map"
 
 -- `entries`
 abbrev pub entries_word : List ℕ
-entries_word = 101 ∷ 110 ∷ 116 ∷ 114 ∷ 105 ∷ 101 ∷ 115 ∷ []
+entries_word = codes "entries"
 
 -- `first` for a subscription that is shown what is held already, else `later`
 abbrev pub initial_word : Bool → List ℕ
-initial_word true = 102 ∷ 105 ∷ 114 ∷ 115 ∷ 116 ∷ []
-initial_word false = 108 ∷ 97 ∷ 116 ∷ 101 ∷ 114 ∷ []
+initial_word true = codes "first"
+initial_word false = codes "later"
 
 -- `over` with overwrite, else `new`
 abbrev pub mode_word : Bool → List ℕ
-mode_word true = 111 ∷ 118 ∷ 101 ∷ 114 ∷ []
-mode_word false = 110 ∷ 101 ∷ 119 ∷ []
+mode_word true = codes "over"
+mode_word false = codes "new"
 
 -- the name and the word of the kind
 abbrev pub key_parts : Key → List Part
@@ -158,6 +158,14 @@ IsCommand (Check sub max) = (sub < 2 ^ 32) × (max < 2 ^ 32)
 IsCommand (Map query) = IsQuery query
 IsCommand (Entries map) = map < 2 ^ 64
 
+-- the command has a text, a blob or a pattern
+abbrev pub TakesMemory : ScriptCommand → Type 0
+TakesMemory (Offer c) = ¬ IsBodyInPlace c.body
+TakesMemory (Publish caller key version value overwrite) = ¬ IsInPlace value
+TakesMemory (Subscribe sub query initial overwrite) = Unit {0}
+TakesMemory (Map query) = Unit {0}
+TakesMemory _ = ⊥
+
 -- what the line asks of a store takes no memory: it has no change, no value and no pattern, or the line asks nothing
 abbrev pub is_plain : ScriptCommand → Bool
 is_plain (Offer c) = false
@@ -195,11 +203,11 @@ pub record IsCommandFault (bytes : List ℕ) (place : ℕ) : Type 0 where
   pub none : (command : ScriptCommand) → IsCommand command → bytes ≢ texts (command_parts command)
   pub first : IsFaultPlace IsCommand command_parts bytes place
 
--- what the reader of a line, newline included, answers: there is no room for commands alone
+-- what the reader of a line, newline included, answers: there is no room for texts, blobs and patterns alone
 abbrev pub Reads : List ℕ → Result ScriptCommand LineFault → Type 0
 Reads bytes (Ok command) = IsCommand command × (bytes ≡ texts (command_parts command))
 Reads bytes (Err (BadLine place)) = IsCommandFault bytes place
-Reads bytes (Err NoRoom) = (command : ScriptCommand) × IsCommand command × (bytes ≡ texts (command_parts command))
+Reads bytes (Err NoRoom) = (command : ScriptCommand) × IsCommand command × (bytes ≡ texts (command_parts command)) × TakesMemory command
 
 -- ---- lines
 
@@ -213,7 +221,7 @@ pub record IsLineOf (command : ScriptCommand) (line : List ℕ) : Type 0 where
 abbrev pub IsBadLine : List ℕ → ℕ → Type 0
 IsBadLine line place = ((4096 < length line) × (place ≡ 4096)) ⊎ ((length line ≤ 4096) × IsCommandFault (ended line) place)
 
--- why a line isn't read: it is bad, or it is a command's, and there is no room for it
+-- why a line isn't read: it is bad, or it is a command's, and there is no room for its text, blob or pattern
 abbrev pub IsLineFault : LineFault → List ℕ → Type 0
 IsLineFault (BadLine place) line = IsBadLine line place
-IsLineFault NoRoom line = (command : ScriptCommand) × IsLineOf command line
+IsLineFault NoRoom line = (command : ScriptCommand) × IsLineOf command line × TakesMemory command

@@ -8,13 +8,15 @@ use Rattle.ds_names.specs.declared.key.Key.{Key}
 use Rattle.ds_names.specs.declared.version.Version.{Version}
 use Rattle.ds_entry.specs.declared.body.Value.{Value}
 use Rattle.ds_entry.specs.declared.body.Body.TheVariants.{Put}
+use Rattle.ds_entry.specs.Change.{IsInPlace}
 use Rattle.ds_line.specs.Part.{part, byte, Word as AWord, Name, Number, Endpoint, Quoted}
 use Rattle.ds_line.specs.Spelling.{space, newline, kind_word, escaped, quoted, body_parts}
 use Rattle.ds_line.specs.Piece.{Piece, Found, StopsIn, IsValueOf}
-use Rattle.ds_line.specs.declared.stop.Stop.{Stop}
+use Rattle.ds_line.specs.declared.part_fault.PartFault.{PartFault}
+use Rattle.ds_line.specs.declared.part_fault.PartFault.TheVariants.{BadPart, NoRoom}
 use Rattle.ds_words.specs.Lines.{IsUnbroken}
 use Rattle.ds_words.specs.declared.command.ScriptCommand.{ScriptCommand}
-use Rattle.ds_words.specs.Command.{IsCommand, IsVersion, word_of, behind_word, initial_word, mode_word, key_parts, version_parts, offer_word, show_word, all_word, publish_word, delete_word, sweep_word, retrieve_word, nameof_word, subscribe_word, check_word, map_word, entries_word}
+use Rattle.ds_words.specs.Command.{IsCommand, IsVersion, TakesMemory, word_of, behind_word, initial_word, mode_word, key_parts, version_parts, offer_word, show_word, all_word, publish_word, delete_word, sweep_word, retrieve_word, nameof_word, subscribe_word, check_word, map_word, entries_word}
 use Rattle.ds_words.specs.declared.word.Word.{Word}
 use Rattle.ds_words.specs.declared.word.Word.TheVariants as words
 
@@ -82,6 +84,10 @@ FindsPattern written bytes rest = (text : List ℕ) × (written ≡ escaped text
 abbrev pub a_value : Kind → Piece
 a_value kind = record { Of = Value; Can = IsValueOf kind; parts = λ (value : Value). space ∷ body_parts (Put value) }
 
+-- `=`, a value of the kind that takes memory, and the newline stand there
+abbrev pub WantsRoom : Kind → List ℕ → Type 0
+WantsRoom kind bytes = (value : Value) × (rest : List ℕ) × Found (a_value kind) value bytes rest × ¬ IsInPlace value
+
 -- the newline
 abbrev pub an_end : Piece
 an_end = record { Of = Unit {0}; Can = λ x. Unit {0}; parts = λ x. newline ∷ [] }
@@ -91,9 +97,10 @@ abbrev pub taken_by : List ℕ → Piece
 taken_by word = record { Of = ScriptCommand; Can = λ (command : ScriptCommand). IsCommand command × (word_of command ≡ word); parts = behind_word }
 
 -- what the reader of it answers
-abbrev pub Takes : List ℕ → List ℕ → Result ScriptCommand Stop → Type 0
+abbrev pub Takes : List ℕ → List ℕ → Result ScriptCommand PartFault → Type 0
 Takes word bytes (Ok command) = (rest : List ℕ) × Found (taken_by word) command bytes rest
-Takes word bytes (Err stop) = StopsIn (taken_by word) stop bytes
+Takes word bytes (Err (BadPart left)) = StopsIn (taken_by word) (BadPart left) bytes
+Takes word bytes (Err NoRoom) = (command : ScriptCommand) × (rest : List ℕ) × Found (taken_by word) command bytes rest × TakesMemory command
 
 -- the text of a command's word
 abbrev pub text_of : Word → List ℕ

@@ -1,4 +1,4 @@
--- The lines that print a store's reply.
+-- The lines that answer a command, by the reply that a store gives to it.
 use Rattle.std.specs.Prelude.{ℕ, ◌==◌, if◌then◌else◌, List, [], ◌∷◌, ◌++◌, length, codes}
 use Rattle.std.specs.List.{flat_map}
 use Rattle.std.specs.Fmt.{decimal}
@@ -11,6 +11,10 @@ use Rattle.ds_store.specs.declared.refusal.Refusal.{Refusal}
 use Rattle.ds_store.specs.declared.refusal.Refusal.TheVariants as refusals
 use Rattle.ds_store.specs.declared.command.Reply.{Reply}
 use Rattle.ds_store.specs.declared.command.Reply.TheVariants.{Changed, Known, Swept, Found, Named, Subscribed, Checked, Merged, MergeStopped, Refused}
+use Rattle.ds_words.specs.declared.command.ScriptCommand.{ScriptCommand}
+use Rattle.ds_words.specs.declared.command.ScriptCommand.TheVariants as asked
+use Rattle.ds_words.specs.declared.wording.Wording.{Wording}
+use Rattle.ds_words.specs.declared.wording.Wording.TheVariants.{AsOffer, AsMerge}
 use Rattle.ds_words.specs.Lines.{ended}
 
 -- the word of a refusal: its name in lower case
@@ -44,30 +48,45 @@ abbrev pub refusal_rest : Refusal → List ℕ
 refusal_rest (refusals.Clash version) = clashing version
 refusal_rest _ = []
 
--- `refused`, and the word
-abbrev pub refused : Refusal → List ℕ
-refused refusal = codes "refused " ++ (refusal_word refusal ++ refusal_rest refusal)
+-- the word, and what is behind it
+abbrev pub refusal_words : Refusal → List ℕ
+refusal_words refusal = refusal_word refusal ++ refusal_rest refusal
 
--- what became of an offer, by how many items of its Merge took effect and how many were stale
-abbrev pub offered : ℕ → ℕ → List ℕ
-offered taken stale = if taken == 0 then (if stale == 0 then codes "known" else codes "stale") else codes "taken"
+-- `refused`, and the words
+abbrev pub refused : Refusal → List ℕ
+refused refusal = codes "refused " ++ refusal_words refusal
+
+-- An offer's Merge is told by what became of its one item, each other command's by its counts.
+abbrev pub wording : ScriptCommand → Wording
+wording (asked.Offer c) = AsOffer
+wording _ = AsMerge
+
+-- what became of a Merge, by how many items are done, took effect and were stale
+abbrev pub merged : Wording → ℕ → ℕ → ℕ → List ℕ
+merged AsOffer done taken stale = if taken == 0 then (if stale == 0 then codes "known" else codes "stale") else codes "taken"
+merged AsMerge done taken stale = codes "merged " ++ (decimal done ++ 32 ∷ (decimal taken ++ 32 ∷ decimal stale))
+
+-- why a Merge stopped behind so many items
+abbrev pub stopped : Wording → ℕ → Refusal → List ℕ
+stopped AsOffer done fault = refused fault
+stopped AsMerge done fault = codes "stopped " ++ (decimal done ++ 32 ∷ refusal_words fault)
 
 -- how many items were shown, and the stamps before and after
 abbrev pub checked : ℕ → ℕ → ℕ → List ℕ
 checked count before after = codes "checked " ++ (decimal count ++ 32 ∷ (decimal before ++ 32 ∷ decimal after))
 
 -- what the reply says
-abbrev pub reply_words : Reply → List ℕ
-reply_words (Changed owed) = codes "taken"
-reply_words Known = codes "known"
-reply_words (Swept count owed) = codes "swept " ++ decimal count
-reply_words (Found value) = codes "found " ++ (value_part value).text
-reply_words (Named name) = codes "named " ++ name
-reply_words (Subscribed stamp owed) = codes "subscribed " ++ decimal stamp
-reply_words (Checked items before after) = checked (length items) before after
-reply_words (Merged done taken stale owed) = offered taken stale
-reply_words (MergeStopped done fault owed) = refused fault
-reply_words (Refused fault) = refused fault
+abbrev pub reply_words : Wording → Reply → List ℕ
+reply_words wording (Changed owed) = codes "taken"
+reply_words wording Known = codes "known"
+reply_words wording (Swept count owed) = codes "swept " ++ decimal count
+reply_words wording (Found value) = codes "found " ++ (value_part value).text
+reply_words wording (Named name) = codes "named " ++ name
+reply_words wording (Subscribed stamp owed) = codes "subscribed " ++ decimal stamp
+reply_words wording (Checked items before after) = checked (length items) before after
+reply_words wording (Merged done taken stale owed) = merged wording done taken stale
+reply_words wording (MergeStopped done fault owed) = stopped wording done fault
+reply_words wording (Refused fault) = refused fault
 
 -- the mask of the subscriptions to which a notice is owed
 abbrev pub owed_by : Reply → ℕ
@@ -92,8 +111,12 @@ shown_by (Checked items before after) = items
 shown_by _ = []
 
 -- the lines of the reply: those of the changes that it shows, its words, and what is owed
-abbrev pub reply_text : Reply → List ℕ
-reply_text reply = flat_map spelling (shown_by reply) ++ (ended (reply_words reply) ++ owed_line (owed_by reply))
+abbrev pub reply_lines : Wording → Reply → List ℕ
+reply_lines wording reply = flat_map spelling (shown_by reply) ++ (ended (reply_words wording reply) ++ owed_line (owed_by reply))
+
+-- the lines that answer the command
+abbrev pub reply_text : ScriptCommand → Reply → List ℕ
+reply_text command reply = reply_lines (wording command) reply
 
 -- the answer for want of memory
 abbrev pub refused_noroom : List ℕ

@@ -9,6 +9,7 @@
 mod asking;
 mod checked;
 mod command;
+mod laws;
 mod lines;
 mod pieces;
 mod query;
@@ -16,8 +17,11 @@ mod reading;
 mod reply;
 mod split;
 mod word;
+mod wording;
 
 pub use command::ScriptCommand;
+pub use laws::lines_have_one_command;
 pub use reading::{LONGEST_LINE, read_command, read_line};
 pub use reply::{append_noroom, append_reply, write_reply};
 pub use split::split_line;
+pub use wording::Wording;

@@ -6,12 +6,12 @@ ghost use Rattle.ds_words.specs.Pieces.{Takes};
 use crate::command::ScriptCommand;
 use crate::pieces::Rest;
 use crate::query::query_of;
-use ds_line::{LineFault, Stop, read_change, stop_at};
+use ds_line::{LineFault, PartFault, read_change, stop_at};
 use ds_names::read_byte;
 use std::alloc::Global;
 
 /// Reads what follows `show`.
-pub(crate) fn show_at(rest: &mut Rest) -> Result<ScriptCommand, Stop>
+pub(crate) fn show_at(rest: &mut Rest) -> Result<ScriptCommand, PartFault>
     ensures { Takes show_word rest.old.bytes.now result }
 {
     rest.end()?;
@@ -19,7 +19,7 @@ pub(crate) fn show_at(rest: &mut Rest) -> Result<ScriptCommand, Stop>
 }
 
 /// Reads what follows `all`.
-pub(crate) fn all_at(rest: &mut Rest) -> Result<ScriptCommand, Stop>
+pub(crate) fn all_at(rest: &mut Rest) -> Result<ScriptCommand, PartFault>
     ensures { Takes all_word rest.old.bytes.now result }
 {
     rest.end()?;
@@ -27,7 +27,7 @@ pub(crate) fn all_at(rest: &mut Rest) -> Result<ScriptCommand, Stop>
 }
 
 /// Reads what follows `offer`.
-pub(crate) fn offer_at(alloc: Global, rest: &mut Rest) -> Result<ScriptCommand, Stop>
+pub(crate) fn offer_at(alloc: Global, rest: &mut Rest) -> Result<ScriptCommand, PartFault>
     ensures { Takes offer_word rest.old.bytes.now result }
 {
     let Some(text) = read_byte(rest.bytes, b' ') else {
@@ -35,15 +35,15 @@ pub(crate) fn offer_at(alloc: Global, rest: &mut Rest) -> Result<ScriptCommand, 
     };
     match read_change(alloc, text) {
         Ok((change, _)) => Ok(ScriptCommand::Offer(change)),
-        Err(LineFault::BadLine { place }) => Err(Stop::BadPart {
+        Err(LineFault::BadLine { place }) => Err(PartFault::BadPart {
             left: text.len() - place,
         }),
-        Err(LineFault::NoRoom) => Err(Stop::NoRoom),
+        Err(LineFault::NoRoom) => Err(PartFault::NoRoom),
     }
 }
 
 /// Reads what follows `publish`.
-pub(crate) fn publish_at(alloc: Global, rest: &mut Rest) -> Result<ScriptCommand, Stop>
+pub(crate) fn publish_at(alloc: Global, rest: &mut Rest) -> Result<ScriptCommand, PartFault>
     ensures { Takes publish_word rest.old.bytes.now result }
 {
     let caller = rest.endpoint()?;
@@ -61,7 +61,7 @@ pub(crate) fn publish_at(alloc: Global, rest: &mut Rest) -> Result<ScriptCommand
 }
 
 /// Reads what follows `delete`.
-pub(crate) fn delete_at(rest: &mut Rest) -> Result<ScriptCommand, Stop>
+pub(crate) fn delete_at(rest: &mut Rest) -> Result<ScriptCommand, PartFault>
     ensures { Takes delete_word rest.old.bytes.now result }
 {
     let caller = rest.endpoint()?;
@@ -76,7 +76,7 @@ pub(crate) fn delete_at(rest: &mut Rest) -> Result<ScriptCommand, Stop>
 }
 
 /// Reads what follows `sweep`.
-pub(crate) fn sweep_at(rest: &mut Rest) -> Result<ScriptCommand, Stop>
+pub(crate) fn sweep_at(rest: &mut Rest) -> Result<ScriptCommand, PartFault>
     ensures { Takes sweep_word rest.old.bytes.now result }
 {
     let caller = rest.endpoint()?;
@@ -91,7 +91,7 @@ pub(crate) fn sweep_at(rest: &mut Rest) -> Result<ScriptCommand, Stop>
 }
 
 /// Reads what follows `retrieve`.
-pub(crate) fn retrieve_at(rest: &mut Rest) -> Result<ScriptCommand, Stop>
+pub(crate) fn retrieve_at(rest: &mut Rest) -> Result<ScriptCommand, PartFault>
     ensures { Takes retrieve_word rest.old.bytes.now result }
 {
     let key = rest.key()?;
@@ -100,7 +100,7 @@ pub(crate) fn retrieve_at(rest: &mut Rest) -> Result<ScriptCommand, Stop>
 }
 
 /// Reads what follows `nameof`.
-pub(crate) fn nameof_at(rest: &mut Rest) -> Result<ScriptCommand, Stop>
+pub(crate) fn nameof_at(rest: &mut Rest) -> Result<ScriptCommand, PartFault>
     ensures { Takes nameof_word rest.old.bytes.now result }
 {
     let endpoint = rest.endpoint()?;
@@ -109,7 +109,7 @@ pub(crate) fn nameof_at(rest: &mut Rest) -> Result<ScriptCommand, Stop>
 }
 
 /// Reads what follows `subscribe`.
-pub(crate) fn subscribe_at(alloc: Global, rest: &mut Rest) -> Result<ScriptCommand, Stop>
+pub(crate) fn subscribe_at(alloc: Global, rest: &mut Rest) -> Result<ScriptCommand, PartFault>
     ensures { Takes subscribe_word rest.old.bytes.now result }
 {
     let sub = rest.number()?;
@@ -119,7 +119,7 @@ pub(crate) fn subscribe_at(alloc: Global, rest: &mut Rest) -> Result<ScriptComma
     let overwrite = rest.mode()?;
     rest.end()?;
     let Ok(query) = query_of(alloc, text, kinds) else {
-        return Err(Stop::NoRoom);
+        return Err(PartFault::NoRoom);
     };
     Ok(ScriptCommand::Subscribe {
         sub,
@@ -130,7 +130,7 @@ pub(crate) fn subscribe_at(alloc: Global, rest: &mut Rest) -> Result<ScriptComma
 }
 
 /// Reads what follows `check`.
-pub(crate) fn check_at(rest: &mut Rest) -> Result<ScriptCommand, Stop>
+pub(crate) fn check_at(rest: &mut Rest) -> Result<ScriptCommand, PartFault>
     ensures { Takes check_word rest.old.bytes.now result }
 {
     let sub = rest.number()?;
@@ -140,20 +140,20 @@ pub(crate) fn check_at(rest: &mut Rest) -> Result<ScriptCommand, Stop>
 }
 
 /// Reads what follows `map`.
-pub(crate) fn map_at(alloc: Global, rest: &mut Rest) -> Result<ScriptCommand, Stop>
+pub(crate) fn map_at(alloc: Global, rest: &mut Rest) -> Result<ScriptCommand, PartFault>
     ensures { Takes map_word rest.old.bytes.now result }
 {
     let text = rest.pattern()?;
     let kinds = rest.kinds()?;
     rest.end()?;
     let Ok(query) = query_of(alloc, text, kinds) else {
-        return Err(Stop::NoRoom);
+        return Err(PartFault::NoRoom);
     };
     Ok(ScriptCommand::Map { query })
 }
 
 /// Reads what follows `entries`.
-pub(crate) fn entries_at(rest: &mut Rest) -> Result<ScriptCommand, Stop>
+pub(crate) fn entries_at(rest: &mut Rest) -> Result<ScriptCommand, PartFault>
     ensures { Takes entries_word rest.old.bytes.now result }
 {
     let map = rest.place()?;

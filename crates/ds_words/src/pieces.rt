@@ -3,11 +3,13 @@
 ghost use Rattle.std.specs.Prelude.{◌≡◌, ◌≢◌, ◌∷◌, List, ℕ, Bool, length, IfOk, IfErr, OnOk, IfSome, IfNone};
 ghost use Rattle.ds_words.specs.Command.{initial_word, mode_word};
 ghost use Rattle.ds_line.specs.Piece.{Found, StopsIn};
-ghost use Rattle.ds_line.specs.declared.stop.Stop.TheVariants.{BadPart, NoRoom};
-ghost use Rattle.ds_words.specs.Pieces.{an_endpoint, an_initial, a_mode, a_name, a_kind, a_key, a_generation, a_seq, a_version, a_number, a_place, a_kinds, a_value, an_end};
+ghost use Rattle.ds_line.specs.declared.part_fault.PartFault.TheVariants.{BadPart, NoRoom};
+ghost use Rattle.ds_words.specs.Pieces.{an_endpoint, an_initial, a_mode, a_name, a_kind, a_key, a_generation, a_seq, a_version, a_number, a_place, a_kinds, a_value, WantsRoom, an_end};
 
 use ds_entry::Value;
-use ds_line::{Stop, behind_name, endpoint_at, kind_at, last_value_at, name_at, stop_at, word_at};
+use ds_line::{
+    PartFault, behind_name, endpoint_at, kind_at, last_value_at, name_at, stop_at, word_at,
+};
 use ds_names::{Endpoint, Generation, Key, Kind, Kinds, Name, Version, read_byte, read_decimal};
 use std::alloc::Global;
 
@@ -20,7 +22,7 @@ pub(crate) struct Rest<'a> {
 
 impl Rest<'_> {
     /// Reads one byte.
-    pub fn byte(&mut self, byte: u8) -> Result<(), Stop>
+    pub fn byte(&mut self, byte: u8) -> Result<(), PartFault>
         ensures found { OnOk result (self.old.bytes.now ≡ byte ∷ self.new.bytes.now) }
         ensures stop { IfErr result (λ stop. stop ≡ BadPart (length self.old.bytes.now)) }
         ensures none { IfErr result (λ stop. (rest : List ℕ) → self.old.bytes.now ≢ byte ∷ rest) }
@@ -35,7 +37,7 @@ impl Rest<'_> {
     }
 
     /// Reads an endpoint.
-    pub fn endpoint(&mut self) -> Result<Endpoint, Stop>
+    pub fn endpoint(&mut self) -> Result<Endpoint, PartFault>
         ensures found { IfOk result (λ endpoint. Found an_endpoint endpoint self.old.bytes.now self.new.bytes.now) }
         ensures stop { IfErr result (λ stop. StopsIn an_endpoint stop self.old.bytes.now) }
         ensures room { IfErr result (λ stop. stop ≢ NoRoom) }
@@ -50,7 +52,7 @@ impl Rest<'_> {
     }
 
     /// Reads `new` or `over`, and gives whether it is `over`.
-    pub fn mode(&mut self) -> Result<bool, Stop>
+    pub fn mode(&mut self) -> Result<bool, PartFault>
         ensures found { IfOk result (λ overwrite. Found a_mode overwrite self.old.bytes.now self.new.bytes.now) }
         ensures stop { IfErr result (λ stop. StopsIn a_mode stop self.old.bytes.now) }
         ensures room { IfErr result (λ stop. stop ≢ NoRoom) }
@@ -65,7 +67,7 @@ impl Rest<'_> {
     }
 
     /// Reads `first` or `later`, and gives whether it is `first`.
-    pub fn initial(&mut self) -> Result<bool, Stop>
+    pub fn initial(&mut self) -> Result<bool, PartFault>
         ensures found { IfOk result (λ initial. Found an_initial initial self.old.bytes.now self.new.bytes.now) }
         ensures stop { IfErr result (λ stop. StopsIn an_initial stop self.old.bytes.now) }
         ensures room { IfErr result (λ stop. stop ≢ NoRoom) }
@@ -80,7 +82,7 @@ impl Rest<'_> {
     }
 
     /// Reads a name.
-    pub fn name(&mut self) -> Result<Name, Stop>
+    pub fn name(&mut self) -> Result<Name, PartFault>
         ensures found { IfOk result (λ name. Found a_name name self.old.bytes.now self.new.bytes.now) }
         ensures stop { IfErr result (λ stop. StopsIn a_name stop self.old.bytes.now) }
         ensures room { IfErr result (λ stop. stop ≢ NoRoom) }
@@ -94,7 +96,7 @@ impl Rest<'_> {
     }
 
     // Reads the word of a kind.
-    fn kind(&mut self) -> Result<Kind, Stop>
+    fn kind(&mut self) -> Result<Kind, PartFault>
         ensures found { IfOk result (λ kind. Found a_kind kind self.old.bytes.now self.new.bytes.now) }
         ensures stop { IfErr result (λ stop. StopsIn a_kind stop self.old.bytes.now) }
         ensures room { IfErr result (λ stop. stop ≢ NoRoom) }
@@ -108,7 +110,7 @@ impl Rest<'_> {
     }
 
     /// Reads a key: a name and a kind.
-    pub fn key(&mut self) -> Result<Key, Stop>
+    pub fn key(&mut self) -> Result<Key, PartFault>
         ensures found { IfOk result (λ key. Found a_key key self.old.bytes.now self.new.bytes.now) }
         ensures stop { IfErr result (λ stop. StopsIn a_key stop self.old.bytes.now) }
         ensures room { IfErr result (λ stop. stop ≢ NoRoom) }
@@ -119,7 +121,7 @@ impl Rest<'_> {
     }
 
     /// Reads a generation.
-    pub fn generation(&mut self) -> Result<Generation, Stop>
+    pub fn generation(&mut self) -> Result<Generation, PartFault>
         ensures found { IfOk result (λ n. Found a_generation n self.old.bytes.now self.new.bytes.now) }
         ensures stop { IfErr result (λ stop. StopsIn a_generation stop self.old.bytes.now) }
         ensures room { IfErr result (λ stop. stop ≢ NoRoom) }
@@ -136,7 +138,7 @@ impl Rest<'_> {
     }
 
     // Reads a dot and a sequence number.
-    fn seq(&mut self) -> Result<u32, Stop>
+    fn seq(&mut self) -> Result<u32, PartFault>
         ensures found { IfOk result (λ n. Found a_seq n self.old.bytes.now self.new.bytes.now) }
         ensures stop { IfErr result (λ stop. StopsIn a_seq stop self.old.bytes.now) }
         ensures room { IfErr result (λ stop. stop ≢ NoRoom) }
@@ -150,7 +152,7 @@ impl Rest<'_> {
     }
 
     /// Reads a version: an epoch, a dot and a sequence number.
-    pub fn version(&mut self) -> Result<Version, Stop>
+    pub fn version(&mut self) -> Result<Version, PartFault>
         ensures found { IfOk result (λ version. Found a_version version self.old.bytes.now self.new.bytes.now) }
         ensures stop { IfErr result (λ stop. StopsIn a_version stop self.old.bytes.now) }
         ensures room { IfErr result (λ stop. stop ≢ NoRoom) }
@@ -161,7 +163,7 @@ impl Rest<'_> {
     }
 
     /// Reads a number below 2^32.
-    pub fn number(&mut self) -> Result<u32, Stop>
+    pub fn number(&mut self) -> Result<u32, PartFault>
         ensures found { IfOk result (λ n. Found a_number n self.old.bytes.now self.new.bytes.now) }
         ensures stop { IfErr result (λ stop. StopsIn a_number stop self.old.bytes.now) }
         ensures room { IfErr result (λ stop. stop ≢ NoRoom) }
@@ -175,7 +177,7 @@ impl Rest<'_> {
     }
 
     /// Reads a number below 2^64.
-    pub fn place(&mut self) -> Result<u64, Stop>
+    pub fn place(&mut self) -> Result<u64, PartFault>
         ensures found { IfOk result (λ n. Found a_place n self.old.bytes.now self.new.bytes.now) }
         ensures stop { IfErr result (λ stop. StopsIn a_place stop self.old.bytes.now) }
         ensures room { IfErr result (λ stop. stop ≢ NoRoom) }
@@ -189,7 +191,7 @@ impl Rest<'_> {
     }
 
     /// Reads the mask of some kinds.
-    pub fn kinds(&mut self) -> Result<Kinds, Stop>
+    pub fn kinds(&mut self) -> Result<Kinds, PartFault>
         ensures found { IfOk result (λ kinds. Found a_kinds kinds self.old.bytes.now self.new.bytes.now) }
         ensures stop { IfErr result (λ stop. StopsIn a_kinds stop self.old.bytes.now) }
         ensures room { IfErr result (λ stop. stop ≢ NoRoom) }
@@ -206,9 +208,10 @@ impl Rest<'_> {
     }
 
     /// Reads `=`, a value of the kind, and the newline.
-    pub fn value(&mut self, alloc: Global, kind: Kind) -> Result<Value, Stop>
+    pub fn value(&mut self, alloc: Global, kind: Kind) -> Result<Value, PartFault>
         ensures found { IfOk result (λ value. Found (a_value kind) value self.old.bytes.now self.new.bytes.now) }
         ensures stop { IfErr result (λ stop. StopsIn (a_value kind) stop self.old.bytes.now) }
+        ensures room { IfErr result (λ stop. stop ≡ NoRoom → WantsRoom kind self.old.bytes.now) }
     {
         self.byte(b' ')?;
         self.byte(b'=')?;
@@ -223,7 +226,7 @@ impl Rest<'_> {
     }
 
     /// Reads the newline.
-    pub fn end(&mut self) -> Result<(), Stop>
+    pub fn end(&mut self) -> Result<(), PartFault>
         ensures found { IfOk result (λ end. Found an_end end self.old.bytes.now self.new.bytes.now) }
         ensures stop { IfErr result (λ stop. StopsIn an_end stop self.old.bytes.now) }
         ensures room { IfErr result (λ stop. stop ≢ NoRoom) }

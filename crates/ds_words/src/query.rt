@@ -3,12 +3,12 @@
 ghost use Rattle.std.specs.Prelude.{◌≡◌, ◌≢◌, ◌++◌, ℕ, List, IfOk, IfErr, IfSome, IfNone};
 ghost use Rattle.ds_line.specs.Spelling.{escaped, escaped_byte, quoted};
 ghost use Rattle.ds_line.specs.Piece.{StopsIn};
-ghost use Rattle.ds_line.specs.declared.stop.Stop.TheVariants.{NoRoom as TheStopForRoom};
+ghost use Rattle.ds_line.specs.declared.part_fault.PartFault.TheVariants.{NoRoom as TheStopForRoom};
 ghost use Rattle.ds_words.specs.Lines.{IsUnbroken};
 ghost use Rattle.ds_words.specs.Pieces.{a_pattern, IsWrittenText, FindsPattern};
 
 use crate::pieces::Rest;
-use ds_line::{Stop, stop_at};
+use ds_line::{PartFault, stop_at};
 use ds_names::{Kinds, NoRoom, read_byte};
 use ds_pattern::{PatternText, Query};
 use std::alloc::Global;
@@ -16,7 +16,7 @@ use std::alloc::Global;
 impl<'a> Rest<'a> {
     /// Reads a pattern in quotes, and gives what is written between them: only where the whole line is read does the
     /// pattern take memory.
-    pub fn pattern(&mut self) -> Result<&'a [u8], Stop>
+    pub fn pattern(&mut self) -> Result<&'a [u8], PartFault>
         ensures found { IfOk result (λ text. FindsPattern text.now self.old.bytes.now self.new.bytes.now) }
         ensures stop { IfErr result (λ stop. StopsIn a_pattern stop self.old.bytes.now) }
         ensures room { IfErr result (λ stop. stop ≢ TheStopForRoom) }

@@ -13,7 +13,7 @@ use crate::lines::{
 };
 use crate::pieces::Rest;
 use crate::word::{Word, word_of};
-use ds_line::{LineFault, Stop, word_at};
+use ds_line::{LineFault, PartFault, word_at};
 use std::alloc::Global;
 
 
@@ -60,15 +60,15 @@ pub fn read_line(alloc: Global, line: &[u8]) -> Result<ScriptCommand, LineFault>
     };
     match behind_word(alloc, word, &mut Rest { bytes }) {
         Ok(command) => Ok(command),
-        Err(Stop::BadPart { left }) => Err(LineFault::BadLine {
+        Err(PartFault::BadPart { left }) => Err(LineFault::BadLine {
             place: line.len() - left,
         }),
-        Err(Stop::NoRoom) => Err(LineFault::NoRoom),
+        Err(PartFault::NoRoom) => Err(LineFault::NoRoom),
     }
 }
 
 // Reads what follows a command's word.
-fn behind_word(alloc: Global, word: Word, rest: &mut Rest) -> Result<ScriptCommand, Stop>
+fn behind_word(alloc: Global, word: Word, rest: &mut Rest) -> Result<ScriptCommand, PartFault>
     ensures { Takes (text_of word) rest.old.bytes.now result }
 {
     match word {

@@ -4,10 +4,12 @@ ghost use Rattle.std.specs.Prelude.{◌≡◌, ◌++◌, codes, IfOk, OnOk, OnEr
 ghost use Rattle.std.specs.List.{flat_map};
 ghost use Rattle.ds_line.specs.Spelling.{spelling};
 ghost use Rattle.ds_words.specs.Lines.{ended};
-ghost use Rattle.ds_words.specs.Reply.{refusal_word, clashing, refused, offered, reply_words, shown_by, owed_by, owed_line, reply_text, refused_noroom};
+ghost use Rattle.ds_words.specs.declared.wording.Wording.TheVariants.{AsOffer, AsMerge};
+ghost use Rattle.ds_words.specs.Reply.{refusal_word, refusal_words, refused, merged, stopped, reply_words, shown_by, owed_by, owed_line, reply_lines, reply_text, refused_noroom};
 
 use crate::checked::append_checked;
 use crate::command::ScriptCommand;
+use crate::wording::Wording;
 use ds_line::{append_all, append_value};
 use ds_names::{NoRoom, Version};
 use ds_store::{Refusal, Reply};
@@ -17,28 +19,25 @@ use std::alloc::Global;
 
 /// Writes the lines that answer a command to which a store gave the reply.
 ///
-/// They depend on the reply alone: a change that took effect is `taken`, and so is an offer, which is a Merge of
-/// one item. Before the words of a check stand the changes that it shows, each on its line. Where notices are
-/// owed, a last line gives the mask of their subscriptions. The lines are of this project.
-pub fn write_reply(
-    alloc: Global,
-    _command: &ScriptCommand,
-    reply: &Reply,
-) -> Result<Vec<u8>, NoRoom>
-    ensures { IfOk result (λ text. text.items ≡ reply_text reply.now) }
+/// A change that took effect is `taken`. An offer, which is a Merge of one item, is told by what became of that item, and
+/// a Merge of any other command by how many items are done, took effect and were stale. Before the words of a check stand
+/// the changes that it shows, each on its line. Where notices are owed, a last line gives the mask of their subscriptions.
+/// The lines are of this project.
+pub fn write_reply(alloc: Global, command: &ScriptCommand, reply: &Reply) -> Result<Vec<u8>, NoRoom>
+    ensures { IfOk result (λ text. text.items ≡ reply_text command.now reply.now) }
 {
     let mut text = Vec::new(alloc);
-    append_reply(&mut text, reply)?;
+    append_reply(&mut text, command.wording(), reply)?;
     Ok(text)
 }
 
 /// Appends the lines of a reply. Where there is no room for all of them, the buffer is as it was.
-pub fn append_reply(buffer: &mut Vec<u8>, reply: &Reply) -> Result<(), NoRoom>
-    ensures written { OnOk result (buffer.new.items ≡ buffer.old.items ++ reply_text reply.now) }
+pub fn append_reply(buffer: &mut Vec<u8>, wording: Wording, reply: &Reply) -> Result<(), NoRoom>
+    ensures written { OnOk result (buffer.new.items ≡ buffer.old.items ++ reply_lines wording reply.now) }
     ensures unchanged { OnErr result (buffer.new.items ≡ buffer.old.items) }
 {
     let start = buffer.len();
-    append_words(buffer, reply)?;
+    append_words(buffer, wording, reply)?;
     let written = append_owed(buffer, owed_by(reply));
     if written.is_err() {
         buffer.truncate(start);
@@ -55,8 +54,8 @@ pub fn append_noroom(buffer: &mut Vec<u8>) -> Result<(), NoRoom>
 }
 
 // Appends the lines of a reply but for what is owed, or nothing.
-fn append_words(buffer: &mut Vec<u8>, reply: &Reply) -> Result<(), NoRoom>
-    ensures written { OnOk result (buffer.new.items ≡ buffer.old.items ++ (flat_map spelling (shown_by reply.now) ++ ended (reply_words reply.now))) }
+fn append_words(buffer: &mut Vec<u8>, wording: Wording, reply: &Reply) -> Result<(), NoRoom>
+    ensures written { OnOk result (buffer.new.items ≡ buffer.old.items ++ (flat_map spelling (shown_by reply.now) ++ ended (reply_words wording reply.now))) }
     ensures unchanged { OnErr result (buffer.new.items ≡ buffer.old.items) }
 {
     match reply {
@@ -79,17 +78,26 @@ fn append_words(buffer: &mut Vec<u8>, reply: &Reply) -> Result<(), NoRoom>
             before,
             after,
         } => append_checked(buffer, items, *before, *after),
-        Reply::Merged { taken, stale, .. } => {
-            append_all(buffer, &[offered(*taken, *stale), b"\n"])
-        }
-        Reply::MergeStopped { fault, .. } => append_refused(buffer, *fault),
+        Reply::Merged {
+            done,
+            taken,
+            stale,
+            ..
+        } => match wording {
+            Wording::AsOffer => append_all(buffer, &[offered(*taken, *stale), b"\n"]),
+            Wording::AsMerge => append_merged(buffer, *done, *taken, *stale),
+        },
+        Reply::MergeStopped { done, fault, .. } => match wording {
+            Wording::AsOffer => append_refused(buffer, *fault),
+            Wording::AsMerge => append_stopped(buffer, *done, *fault),
+        },
         Reply::Refused(fault) => append_refused(buffer, *fault),
     }
 }
 
 // What became of an offer, by how many items of its Merge took effect and how many were stale.
 fn offered(taken: usize, stale: usize) -> &'static [u8]
-    ensures { result.now ≡ offered taken stale }
+    ensures { result.now ≡ merged AsOffer 1 taken stale }
 {
     if taken != 0 {
         b"taken"
@@ -100,27 +108,78 @@ fn offered(taken: usize, stale: usize) -> &'static [u8]
     }
 }
 
+// Appends the line that counts the items of a Merge, or nothing.
+fn append_merged(
+    buffer: &mut Vec<u8>,
+    done: usize,
+    taken: usize,
+    stale: usize,
+) -> Result<(), NoRoom>
+    ensures written { OnOk result (buffer.new.items ≡ buffer.old.items ++ ended (merged AsMerge done taken stale)) }
+    ensures unchanged { OnErr result (buffer.new.items ≡ buffer.old.items) }
+{
+    let mut done_digits = Buffer::new();
+    let done = done_digits.format(done).as_bytes();
+    let mut taken_digits = Buffer::new();
+    let taken = taken_digits.format(taken).as_bytes();
+    let mut stale_digits = Buffer::new();
+    let stale = stale_digits.format(stale).as_bytes();
+    append_all(buffer, &[b"merged ", done, b" ", taken, b" ", stale, b"\n"])
+}
+
+// Appends the line of a Merge that stopped behind so many items, or nothing.
+fn append_stopped(buffer: &mut Vec<u8>, done: usize, fault: Refusal) -> Result<(), NoRoom>
+    ensures written { OnOk result (buffer.new.items ≡ buffer.old.items ++ ended (stopped AsMerge done fault)) }
+    ensures unchanged { OnErr result (buffer.new.items ≡ buffer.old.items) }
+{
+    let mut digits = Buffer::new();
+    let done = digits.format(done).as_bytes();
+    append_refusal(buffer, &[b"stopped ", done, b" "], fault)
+}
+
 // Appends the line of a refusal, or nothing.
 fn append_refused(buffer: &mut Vec<u8>, refusal: Refusal) -> Result<(), NoRoom>
     ensures written { OnOk result (buffer.new.items ≡ buffer.old.items ++ ended (refused refusal)) }
     ensures unchanged { OnErr result (buffer.new.items ≡ buffer.old.items) }
 {
+    append_refusal(buffer, &[b"refused "], refusal)
+}
+
+// Appends some texts and the words of a refusal as one line, or nothing.
+fn append_refusal(buffer: &mut Vec<u8>, before: &[&[u8]], refusal: Refusal) -> Result<(), NoRoom>
+    ensures written { OnOk result (buffer.new.items ≡ buffer.old.items ++ (flat_map (λ text. text.now) before.now ++ ended (refusal_words refusal))) }
+    ensures unchanged { OnErr result (buffer.new.items ≡ buffer.old.items) }
+{
+    let start = buffer.len();
+    append_all(buffer, before)?;
+    let written = append_refusal_words(buffer, refusal);
+    if written.is_err() {
+        buffer.truncate(start);
+    }
+    written
+}
+
+// Appends the words of a refusal and a newline, or nothing.
+fn append_refusal_words(buffer: &mut Vec<u8>, refusal: Refusal) -> Result<(), NoRoom>
+    ensures written { OnOk result (buffer.new.items ≡ buffer.old.items ++ ended (refusal_words refusal)) }
+    ensures unchanged { OnErr result (buffer.new.items ≡ buffer.old.items) }
+{
     match refusal {
         Refusal::Clash { version } => append_clash(buffer, version),
-        _ => append_all(buffer, &[b"refused ", refusal_word(refusal), b"\n"]),
+        _ => append_all(buffer, &[refusal_word(refusal), b"\n"]),
     }
 }
 
-// Appends the line of a clash at a version, or nothing.
+// Appends the words of a clash at a version and a newline, or nothing.
 fn append_clash(buffer: &mut Vec<u8>, version: Version) -> Result<(), NoRoom>
-    ensures written { OnOk result (buffer.new.items ≡ buffer.old.items ++ ended (refused (Refusal.Clash version))) }
+    ensures written { OnOk result (buffer.new.items ≡ buffer.old.items ++ ended (refusal_words (Refusal.Clash version))) }
     ensures unchanged { OnErr result (buffer.new.items ≡ buffer.old.items) }
 {
     let mut epoch_digits = Buffer::new();
     let epoch = epoch_digits.format(version.epoch.number()).as_bytes();
     let mut seq_digits = Buffer::new();
     let seq = seq_digits.format(version.seq).as_bytes();
-    append_all(buffer, &[b"refused clash ", epoch, b".", seq, b"\n"])
+    append_all(buffer, &[b"clash ", epoch, b".", seq, b"\n"])
 }
 
 // The word of a refusal.

@@ -7,10 +7,15 @@ use ds_words::{ScriptCommand, write_reply};
 use std::alloc::Global;
 use std::process::Abort;
 
-// Stops the test unless the reply is printed so.
-fn prints(rt: &impl Abort, alloc: Global, reply: Reply, text: &[u8]) {
-    let written = write_reply(alloc, &ScriptCommand::Show, &reply);
+// Stops the test unless the reply to the command is printed so.
+fn printed(rt: &impl Abort, alloc: Global, command: ScriptCommand, reply: Reply, text: &[u8]) {
+    let written = write_reply(alloc, &command, &reply);
     assert!(rt; written.expect(rt, "memory").as_slice() == text);
+}
+
+// The same of a command that is no offer.
+fn prints(rt: &impl Abort, alloc: Global, reply: Reply, text: &[u8]) {
+    printed(rt, alloc, ScriptCommand::Show, reply, text);
 }
 
 fn name(rt: &impl Abort, text: &[u8]) -> Name {
@@ -55,23 +60,29 @@ fn merged(taken: usize, stale: usize, owed: u64) -> Reply {
     }
 }
 
+fn stopped(done: usize) -> Reply {
+    Reply::MergeStopped {
+        done,
+        fault: Refusal::NotOwner,
+        owed: 0,
+    }
+}
+
+// Stops the test unless the reply to an offer is printed so.
+fn offered(rt: &impl Abort, alloc: Global, reply: Reply, text: &[u8]) {
+    printed(rt, alloc, ScriptCommand::Offer(tombstone(rt)), reply, text);
+}
+
 #[test]
 fn merges_have_their_words(rt: HostRuntime) {
     let alloc = rt.alloc();
-    prints(
-        &rt,
-        alloc,
-        merged(1, 0, 0x20),
-        b"taken\nowed 0000000000000020\n",
-    );
-    prints(&rt, alloc, merged(0, 1, 0), b"stale\n");
-    prints(&rt, alloc, merged(0, 0, 0), b"known\n");
-    let stopped = Reply::MergeStopped {
-        done: 0,
-        fault: Refusal::NotOwner,
-        owed: 0,
-    };
-    prints(&rt, alloc, stopped, b"refused notowner\n");
+    let taken = b"taken\nowed 0000000000000020\n";
+    offered(&rt, alloc, merged(1, 0, 0x20), taken);
+    offered(&rt, alloc, merged(0, 1, 0), b"stale\n");
+    offered(&rt, alloc, merged(0, 0, 0), b"known\n");
+    offered(&rt, alloc, stopped(0), b"refused notowner\n");
+    prints(&rt, alloc, merged(1, 0, 0), b"merged 1 1 0\n");
+    prints(&rt, alloc, stopped(2), b"stopped 2 notowner\n");
 }
 
 #[test]

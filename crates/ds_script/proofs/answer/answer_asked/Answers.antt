@@ -1,8 +1,8 @@
-use Rattle.ds_words.specs.Reply.{reply_text}
+use Rattle.ds_words.specs.Reply.{reply_lines}
 use Rattle.ds_words.proofs.ResultLemmas.{on_ok}
 use Rattle.ds_script.proofs.SessionLemmas.{replied}
 use Rattle.ds_script.proofs.answer.answer_asked.Goals as goal
 
 pub returns-clause-answered : goal.returns-clause-answered
 returns-clause-answered c =
-    on_ok c.append_reply.result (λ same. (reply_text c.ask-reply.result, same, replied c.args.session.now c.ask-reply.new.self c.args.asked c.ask-reply.result c.ask-reply.ensures)) c.append_reply.ensures.written
+    on_ok c.append_reply.result (λ same. (reply_lines c.args.wording c.ask-reply.result, same, replied c.args.session.now c.ask-reply.new.self c.args.wording c.args.asked c.ask-reply.result c.ask-reply.ensures)) c.append_reply.ensures.written

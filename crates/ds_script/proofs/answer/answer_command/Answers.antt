@@ -11,7 +11,7 @@ pub returns-in-Ok-Some : goal.returns-in-Ok-Some
 returns-in-Ok-Some c =
     let is : store_command c.args.command ≡ Some c.in-Ok-Some.asked = sym c.in-Ok-Some.ensures.command ∙ c.in-Ok-Some.field-0-is in
     record {
-      answered = on_ok c.answer_asked.result (λ a. (a.0, a.1, asked_answers c.args.session.now c.answer_asked.new.session c.args.command c.in-Ok-Some.asked a.0 is a.2)) c.answer_asked.ensures.answered;
+      answered = on_ok c.answer_asked.result (λ a. (a.0, a.1, asked_answers c.args.session.now c.answer_asked.new.session c.args.command c.wording-wording.result c.in-Ok-Some.asked a.0 c.wording-wording.ensures is a.2)) c.answer_asked.ensures.answered;
       unanswered = c.answer_asked.ensures.unanswered;
     }
 

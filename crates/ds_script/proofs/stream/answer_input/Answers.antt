@@ -1,7 +1,7 @@
 use Rattle.std.proofs.Common.{◌≢◌, [], List, ℕ, length, sym, ap, subst, arith}
 use Rattle.std.proofs.lemmas.List.Elements.{All-nil}
 use Rattle.ds_words.specs.Lines.{IsUnbroken}
-use Rattle.ds_script.specs.Replay.{Goes}
+use Rattle.ds_script.specs.Progress.{Goes}
 use Rattle.ds_script.proofs.RunLemmas.{goes_none, turn_more, turn_last}
 use Rattle.ds_script.proofs.stream.answer_input.Goals as goal
 

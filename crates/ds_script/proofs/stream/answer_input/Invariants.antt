@@ -1,6 +1,6 @@
 use Rattle.std.proofs.Common.{◌≤◌, ◌*◌, [], vec_len}
 use Rattle.ds_words.specs.Lines.{IsUnbroken}
-use Rattle.ds_script.specs.Replay.{Goes}
+use Rattle.ds_script.specs.Progress.{Goes}
 use Rattle.ds_script.proofs.stream.answer_input.Given as goal
 
 abbrev pub invariant-loop-turn : goal.invariant-loop-turn

@@ -2,7 +2,7 @@ use Rattle.std.proofs.Common.{◌≡◌, ◌≢◌, [], length, ◌+◌, refl, s
 use Rattle.std.proofs.lemmas.Bool.{eqb-true, eqb-false}
 use Rattle.ds_line.specs.declared.fault.LineFault.{LineFault}
 use Rattle.ds_script.specs.declared.fault.ReplayFault.TheVariants.{BadLine, NoRoom}
-use Rattle.ds_script.specs.Replay.{IsFaultOf}
+use Rattle.ds_script.specs.Progress.{IsFaultOf}
 use Rattle.ds_script.proofs.EndLemmas.{nothing, something, finish_none, finish_line, finish_fault}
 use Rattle.ds_script.proofs.stream.finish.Goals as goal
 

@@ -1,6 +1,6 @@
 use Rattle.std.proofs.Common.{◌∷◌, [], ◌-◌, List, ℕ, length, drop, refl, sym, ap, ◌∙◌, subst, arith, length-append}
 use Rattle.ds_words.specs.Lines.{IsUnbroken}
-use Rattle.ds_script.specs.Replay.{AnswersText}
+use Rattle.ds_script.specs.Progress.{AnswersText}
 use Rattle.ds_script.proofs.RunLemmas.{answers_none, text_none, text_more, text_sent, text_rest, line_leaves}
 use Rattle.ds_script.proofs.turn.answer_lines.Goals as goal
 

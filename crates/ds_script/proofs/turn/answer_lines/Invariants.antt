@@ -1,5 +1,5 @@
 use Rattle.std.proofs.Common.{◌≤◌, ◌+◌, length}
-use Rattle.ds_script.specs.Replay.{AnswersText}
+use Rattle.ds_script.specs.Progress.{AnswersText}
 use Rattle.ds_script.proofs.turn.answer_lines.Given as goal
 
 abbrev pub invariant-loop-line : goal.invariant-loop-line

@@ -1,6 +1,6 @@
 use Rattle.std.proofs.Common.{◌≡◌, ◌<◌, List, ℕ, Option, None, length, drop, sym, ap, ◌∙◌, subst, arith}
-use Rattle.ds_script.specs.declared.turn.Stop.{Stop}
-use Rattle.ds_script.specs.Replay.{AnswersText, Leaves}
+use Rattle.ds_script.specs.declared.turn.Ending.{Ending}
+use Rattle.ds_script.specs.Progress.{AnswersText, Leaves}
 use Rattle.ds_words.proofs.ResultLemmas.{none_of}
 use Rattle.ds_script.proofs.RunLemmas.{overlong}
 use Rattle.ds_script.proofs.turn.answer_pending.Goals as goal
@@ -21,7 +21,7 @@ returns-then-len-gt-LONGEST_LINE-clause-answers g c =
       rest,
       subst (λ (t : List ℕ). AnswersText w v c.args.session.now c.args.output.now.items t r.lines a.0 a.1 rest) text a.2,
       λ to.
-          let l = subst (λ (s : Option Stop). Leaves s to c.answer_lines-answered.new.session c.answer_lines-answered.new.output.items rest a.0 a.1 rest) none (a.3 to) in
+          let l = subst (λ (s : Option Ending). Leaves s to c.answer_lines-answered.new.session c.answer_lines-answered.new.output.items rest a.0 a.1 rest) none (a.3 to) in
           (l.1, overlong to rest l.3 long),
     )
 

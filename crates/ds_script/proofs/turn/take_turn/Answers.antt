@@ -1,6 +1,6 @@
 use Rattle.std.proofs.Common.{◌++◌, List, ℕ, refl, sym, ap, ◌∙◌, subst, append-nil}
 use Rattle.ds_script.specs.declared.turn.Answered.{Answered}
-use Rattle.ds_script.specs.Replay.{AnswersText, Turns}
+use Rattle.ds_script.specs.Progress.{AnswersText, Turns}
 use Rattle.ds_script.proofs.RunLemmas.{goes_read, goes_idle, goes_unsent, goes_full}
 use Rattle.ds_script.proofs.turn.take_turn.Goals as goal
 

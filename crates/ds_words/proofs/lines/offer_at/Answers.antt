@@ -2,10 +2,14 @@ use Rattle.std.proofs.Common.{subst}
 use Rattle.ds_line.specs.FaultPlace.{IsFaultIn}
 use Rattle.ds_line.specs.declared.fault.LineFault.{LineFault}
 use Rattle.ds_words.proofs.OfferLemmas.{offer_no_space, offer_no_change, place_fits, offer_found, offer_no_room}
+use Rattle.ds_words.specs.Command.{offer_word}
+use Rattle.ds_words.proofs.PieceLemmas.{no_want}
+use Rattle.ds_words.proofs.LineLemmas.{takes_stop}
 use Rattle.ds_words.proofs.lines.offer_at.Goals as goal
 
 pub returns-in_default : goal.returns-in_default
-returns-in_default c = offer_no_space c.stop_at.result c.args.rest.now.bytes.now c.stop_at.ensures c.in_default.ensures.none
+returns-in_default c =
+    takes_stop offer_word c.args.rest.now.bytes.now c.stop_at.result (no_want c.stop_at.result _ c.stop_at.ensures) (offer_no_space c.stop_at.result c.args.rest.now.bytes.now c.stop_at.ensures c.in_default.ensures.none)
 
 pub returns-in-Ok : goal.returns-in-Ok
 returns-in-Ok c = (_, offer_found c.args.rest.now.bytes.now c.in-Some.text.now c.in-Ok.change c.in-Ok.field-0-1 c.in-Some.ensures.found c.in-Ok.ensures.line c.in-Ok.ensures.found)

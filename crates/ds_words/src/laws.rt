@@ -1,0 +1,10 @@
+//! What holds of the lines of commands, whoever reads or writes them.
+
+ghost use Rattle.std.specs.Prelude.{◌≡◌, ℕ, List};
+ghost use Rattle.ds_words.specs.declared.command.ScriptCommand.{ScriptCommand};
+ghost use Rattle.ds_words.specs.Command.{IsLineOf};
+
+/// The law of commands: a line is one command's only.
+pub fn lines_have_one_command()
+    ensures { (c d : ScriptCommand) (line : List ℕ) → IsLineOf c line → IsLineOf d line → c ≡ d }
+{}
