@@ -1,6 +1,6 @@
-//! Settings and their faults, worked out by hand, with ample memory.
+//! Settings, worked out by hand, with ample memory. Their faults are end-to-end cases.
 
-use crate::{Class, SettingsCause, read};
+use crate::{Class, read};
 use std::test::Fail;
 
 const TWO: &str =
@@ -23,55 +23,5 @@ fn settings_are_read_and_copied(rt: HostRuntime) -> Result<(), Fail> {
     let disk = settings.services().get(1).ok_or("no service")?;
     assert_eq!(rt; disk.period, 5);
     assert!(rt; settings.services().get(2).is_none());
-    Ok(())
-}
-
-#[test]
-fn faults_have_their_cause_and_index(rt: HostRuntime) -> Result<(), Fail> {
-    let alloc = rt.alloc();
-    let rows = [
-        ("[[service", SettingsCause::BadToml, None),
-        ("colour = 1\nslots = 0\n", SettingsCause::UnknownField, None),
-        ("slots = 0\n", SettingsCause::OutOfRange, None),
-        (
-            "service = [{colour = 1}]\n",
-            SettingsCause::UnknownField,
-            Some(0),
-        ),
-        (
-            "service = [{label = \"a\", class = \"disk\"}]\n",
-            SettingsCause::Missing,
-            Some(0),
-        ),
-        (
-            "service = [{label = \"a\", class = \"server\", unit = 1}]\n",
-            SettingsCause::OutOfRange,
-            Some(0),
-        ),
-        (
-            "service = [{label = \"a\", class = \"server\"}, {label = \"a\", class = \"server\"}]\n",
-            SettingsCause::TwoLabels,
-            Some(1),
-        ),
-        (
-            "service = [{label = \"a\", class = \"block\", unit = 1}, {label = \"b\", class = \"character\", unit = 1}]\n",
-            SettingsCause::TwoUnits,
-            Some(1),
-        ),
-        (
-            "service = [{label = \"a\", class = \"server\", publishes = [\"x\", \"x\"]}]\n",
-            SettingsCause::SharedName,
-            Some(0),
-        ),
-    ];
-    for (text, cause, index) in rows {
-        match read(alloc, text.as_bytes()) {
-            Ok(_) => assert!(rt; false, "{text}"),
-            Err(fault) => {
-                assert!(rt; fault.cause == cause, "{text}");
-                assert_eq!(rt; fault.index, index, "{text}");
-            }
-        }
-    }
     Ok(())
 }
