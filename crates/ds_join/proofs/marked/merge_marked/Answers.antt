@@ -1,7 +1,6 @@
 use Rattle.std.proofs.Common.{◌≡◌, true, false, Ok, length, vec_len, vec_capacity, refl, ap, subst, arith, rules}
 use Rattle.ds_names.specs.declared.key.Key.{Key}
 use Rattle.ds_join.specs.declared.merge.Merge.{Merge}
-use Rattle.ds_join.specs.declared.merge.Merge.TheVariants.{Taken}
 use Rattle.ds_join.specs.Held.{held_changes}
 use Rattle.ds_join.specs.Merge.{MergeAnswer}
 use Rattle.ds_join.specs.Kept.{IsPlace}
