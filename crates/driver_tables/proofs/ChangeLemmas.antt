@@ -1,5 +1,5 @@
 -- What a new state of a label leaves.
-use Rattle.std.proofs.Common.{◌≡◌, ℕ, ◌==◌, nat_lt, ◌||◌, ◌&&◌, Bool, true, false, not, cond, List, [], ◌∷◌, ◌++◌, map, filter, Option, Some, None, Result, Ok, Err, refl, sym, ap, ◌∙◌, subst, arith, append-nil, ◌⊎◌, inl, inr}
+use Rattle.std.proofs.Common.{◌≡◌, ℕ, ◌==◌, nat_lt, ◌&&◌, Bool, true, false, not, cond, List, [], ◌∷◌, ◌++◌, map, Option, Some, None, Result, Ok, Err, refl, sym, ap, ◌∙◌, subst, arith, append-nil, inl, inr}
 use Rattle.std.specs.Option.{option_map, option_map_or}
 use Rattle.std.specs.List.{retain_mut, filter_map, flat_map, find, cons_option, AllByRecursion}
 use Rattle.std.proofs.lemmas.Bool.Decides.{nat_tests}
@@ -7,7 +7,6 @@ use Rattle.std.proofs.lemmas.Grind.{flat_map-append}
 use Rattle.ds_names.specs.Endpoint.{EndpointRecord}
 use Rattle.driver_tables.specs.declared.moves.Ending.{Ending}
 use Rattle.driver_tables.specs.declared.moves.Move.{Move}
-use Rattle.driver_tables.specs.declared.moves.Move.TheVariants.{Start, Send, Answer, Held}
 use Rattle.driver_tables.specs.declared.fault.TableFault.{TableFault}
 use Rattle.driver_tables.specs.declared.fault.TableFault.TheVariants.{OldEndpoint}
 use Rattle.driver_tables.specs.declared.device.Class.{Class}
@@ -16,13 +15,13 @@ use Rattle.driver_tables.specs.declared.device.Device.{Device}
 use Rattle.driver_tables.specs.declared.request.Pending.{Pending}
 use Rattle.driver_tables.specs.Driver.{Driver, is_same_name, driver_of, has_label}
 use Rattle.driver_tables.specs.Label.{LabelState, endpoint_now, newest, newer, is_same_state, is_old}
-use Rattle.driver_tables.specs.DriverTable.{DriverTable, Request, values_of, is_pending, pending, is_for, is_asked}
+use Rattle.driver_tables.specs.DriverTable.{DriverTable, Request, values_of, is_pending, pending, is_asked}
 use Rattle.driver_tables.specs.Doing.{sent_by, answered_by, does}
-use Rattle.driver_tables.specs.Changed.{started, start, settled, settled_of, settle, all_moves, moves_of, notes, changing}
+use Rattle.driver_tables.specs.Changed.{started, start, settled, settled_of, settle, all_moves, notes, changing}
 use Rattle.driver_tables.specs.Reached.{IsServed, IsReached, IsAnsweredBy}
-use Rattle.driver_tables.specs.Stands.{TableRecord, Stands, device_of, unit_of, pending_of}
+use Rattle.driver_tables.specs.Stands.{TableRecord, Stands, unit_of, pending_of}
 use Rattle.driver_tables.specs.Devices.{is_of, noted, started_at}
-use Rattle.driver_tables.specs.Requests.{settled_in, stays_pending, kept_after, is_kept_in, kept_in}
+use Rattle.driver_tables.specs.Requests.{settled_in, is_kept_in, kept_in}
 use Rattle.driver_tables.proofs.TestLemmas.{equal_number, same_name, or_false, and_true}
 use Rattle.driver_tables.proofs.UnitLemmas.{now_after, newest_after, noted_all, starts_are, settles_as}
 use Rattle.driver_tables.proofs.MoveLemmas.{values-append, answered, sent, endings, targets, IsOf, answers_left, sends_left, parts, parts_are, none_left, each_left}

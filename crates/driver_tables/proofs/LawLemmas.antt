@@ -1,5 +1,5 @@
 -- The laws over runs.
-use Rattle.std.proofs.Common.{◌≡◌, ℕ, ◌≤◌, ◌==◌, nat_lt, ◌||◌, ◌&&◌, Bool, true, false, not, cond, List, [], ◌∷◌, ◌++◌, length, filter, Option, Some, None, is_some, Result, Ok, Err, refl, sym, ap, ◌∙◌, subst, arith, ◌⊎◌, inl, inr}
+use Rattle.std.proofs.Common.{◌≡◌, ℕ, ◌≤◌, ◌==◌, nat_lt, ◌||◌, Bool, true, false, cond, List, [], ◌∷◌, ◌++◌, length, filter, Option, Some, None, is_some, Result, Ok, Err, refl, sym, ap, ◌∙◌, subst, arith, inl, inr}
 use Rattle.std.specs.Option.{option_map_or}
 use Rattle.std.specs.List.{find, list_any, filter_map, cons_option, AllByRecursion, IsDistinct}
 use Rattle.std.proofs.lemmas.Bool.Decides.{nat_tests}
@@ -8,7 +8,7 @@ use Rattle.ds_names.specs.Endpoint.{EndpointRecord}
 use Rattle.driver_tables.specs.declared.moves.Ending.{Ending}
 use Rattle.driver_tables.specs.declared.moves.Ending.TheVariants.{Done, Fault}
 use Rattle.driver_tables.specs.declared.moves.Move.{Move}
-use Rattle.driver_tables.specs.declared.moves.Move.TheVariants.{Start, Send, Answer, Held}
+use Rattle.driver_tables.specs.declared.moves.Move.TheVariants.{Answer}
 use Rattle.driver_tables.specs.declared.fault.TableFault.{TableFault}
 use Rattle.driver_tables.specs.declared.device.Class.{Class}
 use Rattle.driver_tables.specs.declared.device.Class.TheVariants.{Block, Character, Network}
@@ -19,10 +19,10 @@ use Rattle.driver_tables.specs.Doing.{does}
 use Rattle.driver_tables.specs.Changed.{started, start, settled, settled_of, settle, all_moves, notes}
 use Rattle.driver_tables.specs.Submit.{submitted, move_of, accepts}
 use Rattle.driver_tables.specs.Reached.{IsAnsweredBy, IsServed, IsReached}
-use Rattle.driver_tables.specs.Run.{Call, Entry, Step, Run, outcome, no_moves, one_move}
+use Rattle.driver_tables.specs.Run.{Call, Step, outcome, no_moves, one_move}
 use Rattle.driver_tables.specs.Run.{Assign, Changed, Submit, Reply}
-use Rattle.driver_tables.specs.Laws.{ListsTell, AnswersOnce, is_done, DoneByItsDriver, IsLiving, GoesToLiving, NoneToOlder, NewestRises, IsKept, BlockRequestsAreKept}
-use Rattle.driver_tables.proofs.TestLemmas.{equal_number, equal_itself, same_name}
+use Rattle.driver_tables.specs.Laws.{ListsTell, AnswersOnce, is_done, DoneByItsDriver, GoesToLiving, NoneToOlder, NewestRises, IsKept, BlockRequestsAreKept}
+use Rattle.driver_tables.proofs.TestLemmas.{equal_number, equal_itself}
 use Rattle.driver_tables.proofs.UnitLemmas.{now_after, newest_after}
 use Rattle.driver_tables.proofs.SubmitLemmas.{other_ids}
 use Rattle.driver_tables.proofs.ChangeLemmas.{same_state}

@@ -1,12 +1,12 @@
 -- What moves leave for each id.
-use Rattle.std.proofs.Common.{◌≡◌, ℕ, ◌==◌, Bool, true, false, cond, List, [], ◌∷◌, ◌++◌, map, filter, Option, Some, None, refl, sym, ap, ◌∙◌, append-nil, append_assoc}
+use Rattle.std.proofs.Common.{◌≡◌, ℕ, ◌==◌, Bool, true, false, cond, List, [], ◌∷◌, ◌++◌, filter, Option, Some, None, refl, sym, ap, ◌∙◌, append-nil}
 use Rattle.std.specs.List.{filter_map, flat_map, cons_option, AllByRecursion, IsDistinct}
 use Rattle.std.proofs.lemmas.List.Elements.{filter_map-append}
 use Rattle.ds_names.specs.Endpoint.{EndpointRecord}
 use Rattle.driver_tables.specs.declared.moves.Ending.{Ending}
 use Rattle.driver_tables.specs.declared.moves.Move.{Move}
 use Rattle.driver_tables.specs.declared.moves.Move.TheVariants.{Start, Send, Answer, Held}
-use Rattle.driver_tables.specs.DriverTable.{DriverTable, Request, value_of, values_of}
+use Rattle.driver_tables.specs.DriverTable.{Request, value_of, values_of}
 use Rattle.driver_tables.specs.Doing.{sent_by, answered_by}
 use Rattle.driver_tables.proofs.TestLemmas.{equal_itself, equal_turned}
 

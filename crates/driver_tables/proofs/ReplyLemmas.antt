@@ -1,5 +1,5 @@
 -- What a reply leaves.
-use Rattle.std.proofs.Common.{◌≡◌, ℕ, ◌==◌, ◌||◌, Bool, true, false, not, cond, List, [], ◌∷◌, ◌++◌, map, filter, Option, Some, None, Result, Ok, Err, refl, sym, ap, ◌∙◌, subst, append-nil, ◌⊎◌, inl, inr}
+use Rattle.std.proofs.Common.{◌≡◌, ℕ, ◌==◌, ◌||◌, Bool, true, false, not, cond, List, [], ◌∷◌, ◌++◌, filter, Option, Some, None, Result, Ok, Err, refl, sym, ap, ◌∙◌, append-nil, inr}
 use Rattle.std.specs.Option.{option_map}
 use Rattle.std.specs.List.{retain_mut, find, AllByRecursion}
 use Rattle.ds_names.specs.Endpoint.{EndpointRecord}
@@ -13,12 +13,12 @@ use Rattle.driver_tables.specs.declared.device.Class.{Class}
 use Rattle.driver_tables.specs.declared.device.Class.TheVariants.{Block, Character, Network}
 use Rattle.driver_tables.specs.declared.request.Pending.{Pending}
 use Rattle.driver_tables.specs.Label.{is_same_state}
-use Rattle.driver_tables.specs.DriverTable.{DriverTable, Request, values_of, last_sent, is_empty, is_pending, pending, is_for, is_asked}
+use Rattle.driver_tables.specs.DriverTable.{DriverTable, Request, values_of, last_sent, is_empty, is_pending, pending, is_asked}
 use Rattle.driver_tables.specs.Reply.{finishes, replying}
 use Rattle.driver_tables.specs.Reached.{IsServed, IsReached, IsAnsweredBy}
-use Rattle.driver_tables.specs.Stands.{TableRecord, Stands, pending_of}
+use Rattle.driver_tables.specs.Stands.{TableRecord, Stands}
 use Rattle.driver_tables.specs.Requests.{stays_pending, kept_after}
-use Rattle.driver_tables.proofs.TestLemmas.{equal_number, equal_itself, equal_turned}
+use Rattle.driver_tables.proofs.TestLemmas.{equal_number, equal_turned}
 use Rattle.driver_tables.proofs.MoveLemmas.{values-append, endings, targets, answers_left}
 use Rattle.driver_tables.proofs.RequestLemmas.{Follows, pending_after, served_after}
 use Rattle.driver_tables.proofs.StandsLemmas.{sent_kept}

@@ -1,20 +1,18 @@
 -- What becomes of each request, where a call leaves it what a move of its own says.
-use Rattle.std.proofs.Common.{◌≡◌, ℕ, ◌==◌, Bool, true, false, not, cond, List, [], ◌∷◌, ◌++◌, map, filter, Option, Some, None, refl, sym, ap, ◌∙◌, subst, append-nil, ◌⊎◌, inl, inr}
+use Rattle.std.proofs.Common.{◌≡◌, ℕ, Bool, true, false, cond, List, [], ◌∷◌, ◌++◌, map, filter, Option, Some, None, refl, sym, ap, ◌∙◌, subst, append-nil, ◌⊎◌, inl, inr}
 use Rattle.std.specs.List.{retain_mut, last_or, AllByRecursion}
 use Rattle.ds_names.specs.Endpoint.{EndpointRecord}
 use Rattle.driver_tables.specs.declared.moves.Ending.{Ending}
-use Rattle.driver_tables.specs.declared.moves.Ending.TheVariants.{Done, Fault}
 use Rattle.driver_tables.specs.declared.moves.Move.{Move}
 use Rattle.driver_tables.specs.declared.moves.Move.TheVariants.{Start, Send, Answer, Held}
 use Rattle.driver_tables.specs.declared.device.Class.{Class}
-use Rattle.driver_tables.specs.declared.device.Class.TheVariants.{Block, Character, Network}
 use Rattle.driver_tables.specs.declared.request.Pending.{Pending}
-use Rattle.driver_tables.specs.Driver.{Driver, driver_of}
-use Rattle.driver_tables.specs.Label.{LabelState, endpoint_now}
+use Rattle.driver_tables.specs.Driver.{driver_of}
+use Rattle.driver_tables.specs.Label.{endpoint_now}
 use Rattle.driver_tables.specs.DriverTable.{DriverTable, Request, values_of, last_sent, is_empty, is_pending}
 use Rattle.driver_tables.specs.Reached.{IsServed, IsAnsweredBy}
 use Rattle.driver_tables.specs.Stands.{pending_of}
-use Rattle.driver_tables.specs.Requests.{is_ending, stays_pending, kept_after}
+use Rattle.driver_tables.specs.Requests.{stays_pending, kept_after}
 use Rattle.driver_tables.proofs.ListLemmas.{last_or-append}
 use Rattle.driver_tables.proofs.MoveLemmas.{values-append, endings, targets}
 

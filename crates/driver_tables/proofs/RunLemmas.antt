@@ -1,6 +1,6 @@
 -- Runs of a table keep what holds of every table that began empty.
 use Rattle.std.proofs.Common.{◌≡◌, ℕ, Bool, true, false, not, cond, List, [], ◌∷◌, ◌++◌, Option, Some, None, is_some, Result, Ok, Err, refl, sym, ap, ◌∙◌, subst, append-nil, append_assoc}
-use Rattle.std.specs.List.{flat_map, filter_map, cons_option}
+use Rattle.std.specs.List.{flat_map, cons_option}
 use Rattle.std.specs.Option.{option_to_list}
 use Rattle.std.proofs.lemmas.Grind.{flat_map-append}
 use Rattle.ds_names.specs.Endpoint.{EndpointRecord}
@@ -9,16 +9,15 @@ use Rattle.driver_tables.specs.declared.moves.Ending.TheVariants.{Done}
 use Rattle.driver_tables.specs.declared.moves.Move.{Move}
 use Rattle.driver_tables.specs.declared.moves.Move.TheVariants.{Answer}
 use Rattle.driver_tables.specs.declared.fault.TableFault.{TableFault}
-use Rattle.driver_tables.specs.declared.fault.TableFault.TheVariants.{Assigned, TwoIds, NoDevice, NotPending, OldEndpoint, NoRoom}
+use Rattle.driver_tables.specs.declared.fault.TableFault.TheVariants.{Assigned, TwoIds, NotPending, OldEndpoint}
 use Rattle.driver_tables.specs.Driver.{Driver, driver_of, has_label}
 use Rattle.driver_tables.specs.Label.{endpoint_now, newest, is_same_state, is_old}
 use Rattle.driver_tables.specs.DriverTable.{DriverTable, Request, opening, last_sent, pending, is_asked, is_above}
 use Rattle.driver_tables.specs.Doing.{sent_by, answered_by, does}
-use Rattle.driver_tables.specs.Answer.{IsAnswer}
 use Rattle.driver_tables.specs.Assign.{assigns, assigning}
-use Rattle.driver_tables.specs.Changed.{all_moves, notes, changing}
-use Rattle.driver_tables.specs.Submit.{move_of, accepts, submitting_to, submitting}
-use Rattle.driver_tables.specs.Reply.{finishes, replying}
+use Rattle.driver_tables.specs.Changed.{all_moves, notes}
+use Rattle.driver_tables.specs.Submit.{move_of, accepts, submitting_to}
+use Rattle.driver_tables.specs.Reply.{finishes}
 use Rattle.driver_tables.specs.Reached.{IsReached}
 use Rattle.driver_tables.specs.Run.{Call, Entry, Step, Run, outcome, no_moves, one_move, moves_in, all_moves_in, request_in, requests_in}
 use Rattle.driver_tables.specs.Run.{Assign, Changed, Submit, Reply}
@@ -27,7 +26,7 @@ use Rattle.driver_tables.proofs.StandsLemmas.{stands_opening}
 use Rattle.driver_tables.proofs.AssignLemmas.{assigning_at, reached_assigned}
 use Rattle.driver_tables.proofs.SubmitLemmas.{reached_taken}
 use Rattle.driver_tables.proofs.ReplyLemmas.{reached_finished}
-use Rattle.driver_tables.proofs.ChangeLemmas.{moved, does_is, notes_is, reached_moved, reached_noted}
+use Rattle.driver_tables.proofs.ChangeLemmas.{does_is, notes_is, reached_moved, reached_noted}
 
 -- ---- the outcomes, by what was judged
 abbrev pub assigned_so : DriverTable → ℕ → Driver → Bool → Result (Unit {0}) TableFault × DriverTable

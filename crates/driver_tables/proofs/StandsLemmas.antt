@@ -1,14 +1,14 @@
 -- What a table's value tells of the table that it stands for.
-use Rattle.std.proofs.Common.{◌≡◌, ℕ, ◌==◌, ◌||◌, Bool, true, false, not, cond, List, [], ◌∷◌, ◌++◌, map, filter, Option, Some, None, is_some, refl, sym, ap, ◌∙◌}
+use Rattle.std.proofs.Common.{◌≡◌, ℕ, ◌==◌, ◌||◌, Bool, true, false, cond, List, [], ◌∷◌, map, Option, Some, None, is_some, refl, sym, ap, ◌∙◌}
 use Rattle.std.specs.Option.{option_map}
-use Rattle.std.specs.List.{find, list_any, IsDistinct}
+use Rattle.std.specs.List.{find, IsDistinct}
 use Rattle.std.specs.Map.{lookup}
 use Rattle.ds_names.specs.Endpoint.{EndpointRecord}
 use Rattle.driver_tables.specs.declared.device.Device.{Device}
 use Rattle.driver_tables.specs.declared.request.Pending.{Pending}
 use Rattle.driver_tables.specs.Driver.{Driver, driver_of, has_label}
 use Rattle.driver_tables.specs.Label.{endpoint_now, newest}
-use Rattle.driver_tables.specs.DriverTable.{DriverTable, Request, opening, last_sent, pending, is_for, is_asked}
+use Rattle.driver_tables.specs.DriverTable.{DriverTable, Request, opening, last_sent, pending, is_asked}
 use Rattle.driver_tables.specs.Stands.{TableRecord, Stands, device_of, unit_of, pending_of}
 use Rattle.driver_tables.specs.Devices.{is_of, status_of}
 use Rattle.driver_tables.proofs.TestLemmas.{none_from, equal_number}

@@ -1,16 +1,14 @@
 -- What a submitted request leaves.
-use Rattle.std.proofs.Common.{◌≡◌, ℕ, ◌==◌, nat_lt, ◌||◌, ◌&&◌, Bool, true, false, not, cond, List, [], ◌∷◌, ◌++◌, map, filter, Option, Some, None, Result, Ok, Err, refl, sym, ap, ◌∙◌, subst, append-nil, ◌⊎◌, inl, inr}
+use Rattle.std.proofs.Common.{◌≡◌, ℕ, ◌==◌, nat_lt, ◌||◌, ◌&&◌, Bool, true, false, not, cond, List, [], ◌∷◌, ◌++◌, map, filter, Option, Some, None, Result, Ok, Err, refl, sym, ap, ◌∙◌, subst, append-nil, inr}
 use Rattle.std.specs.Option.{option_map}
-use Rattle.std.specs.List.{retain_mut, list_any, list_all, last_or, AllByRecursion, IsDistinct}
+use Rattle.std.specs.List.{retain_mut, last_or, AllByRecursion, IsDistinct}
 use Rattle.std.specs.Map.{lookup}
 use Rattle.std.proofs.lemmas.List.{map-append}
 use Rattle.std.proofs.lemmas.List.Elements.{filter-append}
 use Rattle.std.proofs.lemmas.List.Folds.{list_any-append, list_all-append}
 use Rattle.ds_names.specs.Endpoint.{EndpointRecord}
 use Rattle.driver_tables.specs.declared.moves.Ending.{Ending}
-use Rattle.driver_tables.specs.declared.moves.Ending.TheVariants.{Done, Fault}
 use Rattle.driver_tables.specs.declared.moves.Move.{Move}
-use Rattle.driver_tables.specs.declared.moves.Move.TheVariants.{Start, Send, Answer, Held}
 use Rattle.driver_tables.specs.declared.fault.TableFault.{TableFault}
 use Rattle.driver_tables.specs.declared.fault.TableFault.TheVariants.{TwoIds, NoDevice}
 use Rattle.driver_tables.specs.declared.device.Class.{Class}
@@ -25,8 +23,8 @@ use Rattle.driver_tables.specs.Submit.{submitted, move_of, accepts, submitting_t
 use Rattle.driver_tables.specs.Reached.{IsServed, IsReached, IsAnsweredBy}
 use Rattle.driver_tables.specs.Stands.{TableRecord, Stands, device_of, pending_of, is_above_last}
 use Rattle.driver_tables.specs.Requests.{is_ending}
-use Rattle.driver_tables.proofs.TestLemmas.{equal_itself, equal_turned, below_differs, below_trans, and_true, or_false}
-use Rattle.driver_tables.proofs.MoveLemmas.{values-append, answered, sent, endings, targets, IsOf, answers_left, sends_left}
+use Rattle.driver_tables.proofs.TestLemmas.{equal_turned, below_differs, below_trans, and_true, or_false}
+use Rattle.driver_tables.proofs.MoveLemmas.{values-append, endings, targets, IsOf, answers_left, sends_left}
 use Rattle.driver_tables.proofs.RequestLemmas.{Follows, pending_after, served_after}
 use Rattle.driver_tables.proofs.StandsLemmas.{driver_kept}
 

@@ -1,19 +1,18 @@
 -- What the devices tell of labels and units.
-use Rattle.std.proofs.Common.{◌≡◌, ℕ, ◌==◌, ◌||◌, Bool, true, false, cond, List, [], ◌∷◌, ◌++◌, map, Option, Some, None, is_some, refl, sym, ap, ◌∙◌, arith}
+use Rattle.std.proofs.Common.{◌≡◌, ℕ, ◌==◌, ◌||◌, Bool, true, false, cond, List, [], ◌∷◌, ◌++◌, map, Option, Some, None, is_some, refl, sym, ap, ◌∙◌}
 use Rattle.std.specs.Option.{option_map, option_map_or}
-use Rattle.std.specs.List.{filter_map, find, cons_option, fold}
+use Rattle.std.specs.List.{filter_map, find, cons_option}
 use Rattle.std.specs.Map.{lookup}
 use Rattle.std.proofs.lemmas.List.Sums.{fold-append}
 use Rattle.ds_names.specs.Endpoint.{EndpointRecord}
-use Rattle.driver_tables.specs.declared.moves.Move.{Move}
 use Rattle.driver_tables.specs.declared.device.Device.{Device}
 use Rattle.driver_tables.specs.declared.request.Pending.{Pending}
 use Rattle.driver_tables.specs.Driver.{Driver, is_same_name, driver_of, has_label}
 use Rattle.driver_tables.specs.Label.{LabelState, endpoint_now, newest, newer}
 use Rattle.driver_tables.specs.DriverTable.{Request}
-use Rattle.driver_tables.specs.Changed.{start, settled, settled_of, settle}
+use Rattle.driver_tables.specs.Changed.{start, settled_of, settle}
 use Rattle.driver_tables.specs.Stands.{device_of, unit_of}
-use Rattle.driver_tables.specs.Devices.{is_of, status_of, with_state, noted, started_at}
+use Rattle.driver_tables.specs.Devices.{is_of, status_of, noted, started_at}
 use Rattle.driver_tables.specs.Requests.{settled_by, settled_in}
 use Rattle.driver_tables.proofs.TestLemmas.{same_name}
 

@@ -1,5 +1,5 @@
 -- A unit is assigned.
-use Rattle.std.specs.Prelude.{if◌then◌else◌, ℕ, List, [], ◌∷◌, ◌++◌, is_some, Result, Ok, Err}
+use Rattle.std.specs.Prelude.{if◌then◌else◌, ℕ, [], ◌∷◌, ◌++◌, is_some, Result, Ok, Err}
 use Rattle.driver_tables.specs.declared.fault.TableFault.{TableFault}
 use Rattle.driver_tables.specs.declared.fault.TableFault.TheVariants.{Assigned}
 use Rattle.driver_tables.specs.Driver.{Driver, driver_of}

@@ -9,9 +9,9 @@ use Rattle.driver_tables.specs.declared.moves.Move.TheVariants.{Start, Send, Ans
 use Rattle.driver_tables.specs.declared.fault.TableFault.{TableFault}
 use Rattle.driver_tables.specs.declared.fault.TableFault.TheVariants.{OldEndpoint}
 use Rattle.driver_tables.specs.declared.device.Class.{Class}
-use Rattle.driver_tables.specs.declared.device.Class.TheVariants.{Block, Character, Network}
+use Rattle.driver_tables.specs.declared.device.Class.TheVariants.{Block, Network}
 use Rattle.driver_tables.specs.Driver.{Driver, is_same_name, driver_of, has_label}
-use Rattle.driver_tables.specs.Label.{LabelState, endpoint_now, newest, is_same_state, is_old}
+use Rattle.driver_tables.specs.Label.{endpoint_now, newest, is_same_state, is_old}
 use Rattle.driver_tables.specs.DriverTable.{DriverTable, Request, pending}
 use Rattle.driver_tables.specs.Doing.{does}
 

@@ -4,7 +4,7 @@ use Rattle.std.specs.List.{flat_map}
 use Rattle.ds_names.specs.Endpoint.{EndpointRecord}
 use Rattle.driver_tables.specs.declared.moves.Ending.{Ending}
 use Rattle.driver_tables.specs.declared.moves.Move.{Move}
-use Rattle.driver_tables.specs.declared.moves.Move.TheVariants.{Start, Send, Answer, Held}
+use Rattle.driver_tables.specs.declared.moves.Move.TheVariants.{Send, Answer}
 use Rattle.driver_tables.specs.DriverTable.{DriverTable}
 
 abbrev pub sent_by : Move → List (ℕ × EndpointRecord)

@@ -1,11 +1,10 @@
 -- What holds over every run of calls of a table that began empty.
-use Rattle.std.specs.Prelude.{◌≡◌, ◌≤◌, ℕ, ◌==◌, Bool, true, false, List, [], ◌∷◌, length, Option, Some, None, Result, Ok, ◌⊎◌}
+use Rattle.std.specs.Prelude.{◌≡◌, ◌≤◌, ℕ, ◌==◌, Bool, true, false, List, [], ◌∷◌, length, Some, Ok, ◌⊎◌}
 use Rattle.std.specs.List.{find, list_any, flat_map, AllByRecursion}
 use Rattle.ds_names.specs.Endpoint.{EndpointRecord}
 use Rattle.driver_tables.specs.declared.moves.Ending.TheVariants.{Done}
 use Rattle.driver_tables.specs.declared.moves.Move.{Move}
-use Rattle.driver_tables.specs.declared.moves.Move.TheVariants.{Start, Send, Answer, Held}
-use Rattle.driver_tables.specs.declared.fault.TableFault.{TableFault}
+use Rattle.driver_tables.specs.declared.moves.Move.TheVariants.{Start, Send, Answer}
 use Rattle.driver_tables.specs.declared.device.Class.TheVariants.{Block}
 use Rattle.driver_tables.specs.Driver.{Driver, driver_of}
 use Rattle.driver_tables.specs.Label.{endpoint_now, newest}

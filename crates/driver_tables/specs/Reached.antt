@@ -1,11 +1,11 @@
 -- What holds of every table that began empty.
-use Rattle.std.specs.Prelude.{◌≡◌, ◌≤◌, ℕ, ◌==◌, Bool, true, false, List, [], ◌∷◌, Option, Some, None, is_some, length}
+use Rattle.std.specs.Prelude.{◌≡◌, ℕ, ◌==◌, false, List, [], ◌∷◌, Some, None}
 use Rattle.std.specs.List.{AllByRecursion, IsDistinct}
 use Rattle.ds_names.specs.Endpoint.{EndpointRecord}
 use Rattle.driver_tables.specs.declared.moves.Ending.{Ending}
 use Rattle.driver_tables.specs.declared.moves.Ending.TheVariants.{Done, Fault}
 use Rattle.driver_tables.specs.declared.device.Class.{Class}
-use Rattle.driver_tables.specs.declared.device.Class.TheVariants.{Block, Character, Network}
+use Rattle.driver_tables.specs.declared.device.Class.TheVariants.{Block}
 use Rattle.driver_tables.specs.Driver.{Driver, driver_of, has_label}
 use Rattle.driver_tables.specs.Label.{endpoint_now, newest}
 use Rattle.driver_tables.specs.DriverTable.{DriverTable, Request, values_of, last_sent, is_asked}

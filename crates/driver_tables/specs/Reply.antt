@@ -1,5 +1,5 @@
 -- A driver replies.
-use Rattle.std.specs.Prelude.{if◌then◌else◌, ℕ, List, [], ◌∷◌, Some, Result, Ok, Err}
+use Rattle.std.specs.Prelude.{if◌then◌else◌, ℕ, [], ◌∷◌, Some, Result, Ok, Err}
 use Rattle.ds_names.specs.Endpoint.{EndpointRecord}
 use Rattle.driver_tables.specs.declared.moves.Ending.TheVariants.{Done}
 use Rattle.driver_tables.specs.declared.moves.Move.{Move}

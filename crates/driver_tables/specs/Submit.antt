@@ -1,5 +1,5 @@
 -- A request is submitted.
-use Rattle.std.specs.Prelude.{if◌then◌else◌, ℕ, List, [], ◌∷◌, ◌++◌, Option, Some, None, Result, Ok, Err}
+use Rattle.std.specs.Prelude.{if◌then◌else◌, ℕ, [], ◌∷◌, ◌++◌, Option, Some, None, Result, Ok, Err}
 use Rattle.ds_names.specs.Endpoint.{EndpointRecord}
 use Rattle.driver_tables.specs.declared.moves.Ending.TheVariants.{Fault}
 use Rattle.driver_tables.specs.declared.moves.Move.{Move}

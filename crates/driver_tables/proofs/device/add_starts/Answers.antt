@@ -1,4 +1,4 @@
-use Rattle.std.proofs.Common.{◌≡◌, ◌++◌, ◌+◌, List, Option, ap, sym, ◌∙◌, append_assoc, take}
+use Rattle.std.proofs.Common.{◌++◌, List, Option, ap, sym, ◌∙◌, append_assoc, take}
 use Rattle.std.specs.List.{filter_map}
 use Rattle.std.specs.Option.{option_to_list}
 use Rattle.driver_tables.specs.declared.moves.Move.{Move}

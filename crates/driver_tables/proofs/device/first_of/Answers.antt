@@ -1,4 +1,4 @@
-use Rattle.std.proofs.Common.{◌≡◌, ◌+◌, Some, Bool, true, false, ℕ, ap, sym, ◌∙◌}
+use Rattle.std.proofs.Common.{ℕ, ap, sym, ◌∙◌}
 use Rattle.std.specs.Option.{option_map}
 use Rattle.driver_tables.specs.declared.device.Device.{Device}
 use Rattle.driver_tables.specs.Devices.{is_of}

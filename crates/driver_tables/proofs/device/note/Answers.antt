@@ -1,4 +1,4 @@
-use Rattle.std.proofs.Common.{◌≡◌, ◌<◌, ◌≤◌, ◌+◌, ℕ, List, Some, length, cond, ap, sym, ◌∙◌, arith, Bool, true, false}
+use Rattle.std.proofs.Common.{◌≡◌, ℕ, List, Some, length, cond, ap, sym, ◌∙◌, arith, Bool}
 use Rattle.std.specs.List.{slice_get}
 use Rattle.indexmap.specs.IndexMap.{set_value_at}
 use Rattle.driver_tables.specs.declared.device.Device.{Device}

@@ -1,4 +1,4 @@
-use Rattle.std.proofs.Common.{◌≡◌, ◌==◌, not, Bool, ℕ, refl, rules}
+use Rattle.std.proofs.Common.{◌==◌, not, rules}
 use Rattle.std.proofs.lemmas.Fn.{filter_same}
 use Rattle.driver_tables.specs.declared.request.Pending.{Pending}
 use Rattle.driver_tables.proofs.request.end.Goals as goal

@@ -1,4 +1,4 @@
-use Rattle.std.proofs.Common.{rules, ◌≡◌}
+use Rattle.std.proofs.Common.{rules}
 use Rattle.driver_tables.specs.Requests.{is_kept_in, kept_in}
 use Rattle.driver_tables.proofs.ListLemmas.{retained}
 use Rattle.driver_tables.proofs.request.settle.Goals as goal

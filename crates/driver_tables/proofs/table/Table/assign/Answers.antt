@@ -1,10 +1,9 @@
-use Rattle.std.proofs.Common.{◌≡◌, ◌==◌, ◌++◌, ◌∷◌, [], ℕ, List, Bool, true, false, None, Some, Option, Ok, Err, is_some, refl, ap, sym, ◌∙◌, subst, rules}
+use Rattle.std.proofs.Common.{◌≡◌, ◌==◌, ℕ, List, true, false, Option, Ok, is_some, ap, sym, ◌∙◌, subst, rules}
 use Rattle.std.specs.Map.{lookup}
 use Rattle.ds_names.specs.Endpoint.{EndpointRecord}
 use Rattle.indexmap.proofs.CallerLemmas.{insert_entry-new}
 use Rattle.driver_tables.specs.declared.device.Device.{Device}
 use Rattle.driver_tables.specs.Driver.{Driver}
-use Rattle.driver_tables.specs.DriverTable.{DriverTable}
 use Rattle.driver_tables.specs.Assign.{assigns, assigning}
 use Rattle.driver_tables.specs.Stands.{TableRecord, Stands, device_of}
 use Rattle.driver_tables.specs.Value.{table_of}

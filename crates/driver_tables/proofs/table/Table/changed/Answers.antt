@@ -1,7 +1,6 @@
-use Rattle.std.proofs.Common.{◌≡◌, ◌++◌, [], ℕ, List, Bool, true, false, Some, None, Ok, Err, refl, ap, sym, ◌∙◌, subst, rules}
+use Rattle.std.proofs.Common.{◌≡◌, ◌++◌, List, true, false, Ok, refl, ap, sym, ◌∙◌, subst, rules}
 use Rattle.std.specs.List.{filter_map}
 use Rattle.driver_tables.specs.declared.moves.Move.{Move}
-use Rattle.driver_tables.specs.DriverTable.{DriverTable}
 use Rattle.driver_tables.specs.Changed.{changing}
 use Rattle.driver_tables.specs.Stands.{TableRecord, Stands}
 use Rattle.driver_tables.specs.Value.{table_of}

@@ -1,4 +1,4 @@
-use Rattle.std.proofs.Common.{◌≡◌, ap, sym, ◌∙◌, subst}
+use Rattle.std.proofs.Common.{ap, sym, ◌∙◌, subst}
 use Rattle.driver_tables.specs.Stands.{TableRecord, Stands}
 use Rattle.driver_tables.specs.Value.{table_of}
 use Rattle.driver_tables.proofs.StandsLemmas.{told}

@@ -1,5 +1,4 @@
-use Rattle.std.proofs.Common.{◌≡◌, ◌==◌, not, ℕ, List, Bool, true, false, cond, None, Some, Ok, Err, refl, ap, sym, ◌∙◌, subst}
-use Rattle.driver_tables.specs.DriverTable.{DriverTable}
+use Rattle.std.proofs.Common.{true, false, ap, sym, ◌∙◌, subst}
 use Rattle.driver_tables.specs.Stands.{TableRecord, Stands}
 use Rattle.driver_tables.specs.Value.{table_of}
 use Rattle.driver_tables.proofs.ReplyLemmas.{reply_missing, reply_there, reply_judged, stands_finished}

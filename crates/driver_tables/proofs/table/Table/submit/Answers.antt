@@ -1,9 +1,8 @@
-use Rattle.std.proofs.Common.{◌≡◌, ◌==◌, ◌++◌, ◌∷◌, [], ℕ, List, Bool, true, false, not, cond, None, Some, Ok, Err, refl, ap, sym, ◌∙◌, subst, rules, append-nil}
+use Rattle.std.proofs.Common.{◌≡◌, ◌++◌, ◌∷◌, [], List, Bool, true, not, cond, Some, Ok, ap, sym, ◌∙◌, subst, rules, append-nil}
 use Rattle.driver_tables.specs.declared.moves.Move.{Move}
 use Rattle.driver_tables.specs.declared.device.Device.{Device}
 use Rattle.driver_tables.specs.declared.request.Pending.{Pending}
 use Rattle.driver_tables.specs.declared.table.Table.TheInside.{Inside}
-use Rattle.driver_tables.specs.DriverTable.{DriverTable, Request}
 use Rattle.driver_tables.specs.Submit.{submitted, submitting}
 use Rattle.driver_tables.specs.Stands.{TableRecord, Stands, is_above_last}
 use Rattle.driver_tables.specs.Value.{table_of}
