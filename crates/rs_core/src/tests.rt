@@ -1,6 +1,6 @@
 //! Events and their answers, worked out by hand, with ample memory.
 
-use crate::{Action, Actions, Event, NewFault, Numberer, Rs, SeqSpent, State};
+use crate::{Action, Actions, Event, NewFault, Numberer, Rs, RsFault, SeqSpent, State};
 use ds_entry::{Body, Change, Value};
 use ds_names::{Endpoint, Generation, Name};
 use std::alloc::Global;
@@ -17,6 +17,11 @@ const PINGED: &str =
 fn rs_of(alloc: Global, text: &str, next: u32) -> Result<Rs, Fail> {
     let settings = rs_settings::read(alloc, text.as_bytes())?;
     Ok(Rs::new(alloc, settings, next)?)
+}
+
+fn endpoint(generation: u32, slot: u16) -> Result<Endpoint, Fail> {
+    let generation = Generation::of(generation).ok_or("no generation")?;
+    Ok(Endpoint::of(generation, slot).ok_or("no slot")?)
 }
 
 fn add_change(alloc: Global, text: &mut String, change: &Change) -> Result<(), Fail> {
@@ -103,154 +108,181 @@ fn answer(alloc: Global, rs: &mut Rs, event: Event, tick: u64) -> Result<String,
     Ok(format!(in alloc; "{done}{state}")?)
 }
 
-// The event of a word and what stands behind it, as `death` and `1/16 1`.
-fn event_of(word: &str, name: &str, cause: &str) -> Result<Event, Fail> {
-    Ok(match word {
-        "up" => Event::Up(Name::read(name.as_bytes())?),
-        "down" => Event::Stop(Name::read(name.as_bytes())?),
-        "refresh" => Event::Refresh(Name::read(name.as_bytes())?),
-        "restart" => Event::Restart(Name::read(name.as_bytes())?),
-        "death" => Event::Death(Endpoint::read(name.as_bytes())?, cause.parse()?),
-        "beat" => Event::Beat(Endpoint::read(name.as_bytes())?),
-        _ => Event::Tick,
-    })
-}
-
-// Gives RS an event a line, `TICK WORD NAME CAUSE`, and answers a line for each.
-fn answers(alloc: Global, rs: &mut Rs, events: &str) -> Result<String, Fail> {
-    let mut text = String::new(alloc);
-    for line in events.lines() {
-        let mut words = line.split_whitespace();
-        let tick = words.next().unwrap_or("").parse()?;
-        let word = words.next().unwrap_or("");
-        let name = words.next().unwrap_or("");
-        let event = event_of(word, name, words.next().unwrap_or(""))?;
-        text.push_str(answer(alloc, rs, event, tick)?.as_str())?;
-        text.push_str("\n")?;
-    }
-    Ok(text)
-}
-
-const FAILURES: &str = "\
-0 up eth0
-10 death 1/16 1
-10 tick
-11 tick
-20 death 2/16 1
-21 tick
-22 tick
-30 death 3/16 1
-33 tick
-34 tick
-35 refresh eth0
-36 death 4/16 1
-37 death 5/16 1
-37 up tty
-36 tick
-38 restart eth0
-";
-
-const FAILURE_ANSWERS: &str = "\
-start eth0 1/16, offer eth0 1.0 = 1/16, up 1/16 failures 0
-offer eth0 1.1 -, sweep eth0 1, waiting until 11
-waiting until 11
-start eth0 2/16, offer eth0 2.0 = 2/16, up 2/16 failures 1
-offer eth0 2.1 -, sweep eth0 2, waiting until 22
-waiting until 22
-start eth0 3/16, offer eth0 3.0 = 3/16, up 3/16 failures 2
-offer eth0 3.1 -, sweep eth0 3, waiting until 34
-waiting until 34
-start eth0 4/16, offer eth0 4.0 = 4/16, up 4/16 failures 3
-kill 4/16, offer eth0 4.1 -, sweep eth0 4, start eth0 5/16, offer eth0 5.0 = 5/16, up 5/16 failures 3
-no service is up with the endpoint; up 5/16 failures 3
-offer eth0 5.1 -, sweep eth0 5, gave up
-no service has the label; gave up
-the tick is below the last one; gave up
-start eth0 6/16, offer eth0 6.0 = 6/16, up 6/16 failures 0
-";
-
-// tty is killed first, and no ping of eth0, which is due too, comes before that.
-const PINGS: &str = "\
-0 up eth0
-0 up tty
-4 tick
-5 tick
-5 tick
-5 tick
-6 beat 1/16
-10 tick
-10 tick
-16 tick
-16 down eth0
-16 down eth0
-";
-
-const PING_ANSWERS: &str = "\
-start eth0 1/16, offer eth0 1.0 = 1/16, up 1/16 failures 0
-start tty 2/17, offer tty 2.0 = 2/17, up 1/16 failures 0
-up 1/16 failures 0
-ping 1/16, up 1/16 failures 0
-ping 2/17, up 1/16 failures 0
-up 1/16 failures 0
-up 1/16 failures 0
-kill 2/17, offer tty 2.1 -, sweep tty 2, up 1/16 failures 0
-ping 1/16, up 1/16 failures 0
-kill 1/16, offer eth0 1.1 -, sweep eth0 1, waiting until 17
-down
-the service isn't up; down
-";
-
-const ENDS: &str = "\
-0 up eth0
-0 up tty
-1 refresh eth0
-1 refresh eth0
-1 death 1/16 7
-4611686018427387905 tick
-1 up eth0
-";
-
-const END_ANSWERS: &str = "\
-start eth0 2097150/16, offer eth0 2097150.0 = 2097150/16, up 2097150/16 failures 0
-no slot is free; up 2097150/16 failures 0
-kill 2097150/16, offer eth0 2097150.1 -, sweep eth0 2097150, start eth0 2097151/16, offer eth0 2097151.0 = 2097151/16, up 2097151/16 failures 0
-all generations are spent; up 2097151/16 failures 0
-no cause of death has the number; up 2097151/16 failures 0
-the tick is too great; up 2097151/16 failures 0
-the service is up already; up 2097151/16 failures 0
-";
-
 #[test]
 fn waiting_and_giving_up(rt: HostRuntime) -> Result<(), Fail> {
     let alloc = rt.alloc();
-    let text = answers(alloc, &mut rs_of(alloc, ETH0, 1)?, FAILURES)?;
-    assert_eq!(rt; text.as_str(), FAILURE_ANSWERS);
+    let eth0 = Name::read(b"eth0")?;
+    let mut rs = rs_of(alloc, ETH0, 1)?;
+    let rows = [
+        (
+            Event::Up(eth0),
+            0,
+            "start eth0 1/16, offer eth0 1.0 = 1/16, up 1/16 failures 0",
+        ),
+        (
+            Event::Death(endpoint(1, 16)?, 1),
+            10,
+            "offer eth0 1.1 -, sweep eth0 1, waiting until 11",
+        ),
+        (Event::Tick, 10, "waiting until 11"),
+        (
+            Event::Tick,
+            11,
+            "start eth0 2/16, offer eth0 2.0 = 2/16, up 2/16 failures 1",
+        ),
+        (
+            Event::Death(endpoint(2, 16)?, 1),
+            20,
+            "offer eth0 2.1 -, sweep eth0 2, waiting until 22",
+        ),
+        (Event::Tick, 21, "waiting until 22"),
+        (
+            Event::Tick,
+            22,
+            "start eth0 3/16, offer eth0 3.0 = 3/16, up 3/16 failures 2",
+        ),
+        (
+            Event::Death(endpoint(3, 16)?, 1),
+            30,
+            "offer eth0 3.1 -, sweep eth0 3, waiting until 34",
+        ),
+        (Event::Tick, 33, "waiting until 34"),
+        (
+            Event::Tick,
+            34,
+            "start eth0 4/16, offer eth0 4.0 = 4/16, up 4/16 failures 3",
+        ),
+        (
+            Event::Refresh(eth0),
+            35,
+            "kill 4/16, offer eth0 4.1 -, sweep eth0 4, start eth0 5/16, offer eth0 5.0 = 5/16, up 5/16 failures 3",
+        ),
+        (
+            Event::Death(endpoint(4, 16)?, 1),
+            36,
+            "no service is up with the endpoint; up 5/16 failures 3",
+        ),
+        (
+            Event::Death(endpoint(5, 16)?, 1),
+            37,
+            "offer eth0 5.1 -, sweep eth0 5, gave up",
+        ),
+        (
+            Event::Up(Name::read(b"tty")?),
+            37,
+            "no service has the label; gave up",
+        ),
+        (Event::Tick, 36, "the tick is below the last one; gave up"),
+        (
+            Event::Restart(eth0),
+            38,
+            "start eth0 6/16, offer eth0 6.0 = 6/16, up 6/16 failures 0",
+        ),
+    ];
+    for (event, tick, wanted) in rows {
+        let text = answer(alloc, &mut rs, event, tick)?;
+        assert_eq!(rt; text.as_str(), wanted);
+    }
     Ok(())
 }
 
 #[test]
 fn pings_and_missed_heartbeats(rt: HostRuntime) -> Result<(), Fail> {
     let alloc = rt.alloc();
-    let text = answers(alloc, &mut rs_of(alloc, PINGED, 1)?, PINGS)?;
-    assert_eq!(rt; text.as_str(), PING_ANSWERS);
+    let eth0 = Name::read(b"eth0")?;
+    let mut rs = rs_of(alloc, PINGED, 1)?;
+    let rows = [
+        (
+            Event::Up(eth0),
+            0,
+            "start eth0 1/16, offer eth0 1.0 = 1/16, up 1/16 failures 0",
+        ),
+        (
+            Event::Up(Name::read(b"tty")?),
+            0,
+            "start tty 2/17, offer tty 2.0 = 2/17, up 1/16 failures 0",
+        ),
+        (Event::Tick, 4, "up 1/16 failures 0"),
+        (Event::Tick, 5, "ping 1/16, up 1/16 failures 0"),
+        (Event::Tick, 5, "ping 2/17, up 1/16 failures 0"),
+        (Event::Tick, 5, "up 1/16 failures 0"),
+        (Event::Beat(endpoint(1, 16)?), 6, "up 1/16 failures 0"),
+        // tty is killed first, and no ping of eth0, which is due too, comes before that.
+        (
+            Event::Tick,
+            10,
+            "kill 2/17, offer tty 2.1 -, sweep tty 2, up 1/16 failures 0",
+        ),
+        (Event::Tick, 10, "ping 1/16, up 1/16 failures 0"),
+        (
+            Event::Tick,
+            16,
+            "kill 1/16, offer eth0 1.1 -, sweep eth0 1, waiting until 17",
+        ),
+        (Event::Stop(eth0), 16, "down"),
+        (Event::Stop(eth0), 16, "the service isn't up; down"),
+    ];
+    for (event, tick, wanted) in rows {
+        let text = answer(alloc, &mut rs, event, tick)?;
+        assert_eq!(rt; text.as_str(), wanted);
+    }
     Ok(())
 }
 
 #[test]
 fn slots_and_generations_end(rt: HostRuntime) -> Result<(), Fail> {
     let alloc = rt.alloc();
-    let text = answers(alloc, &mut rs_of(alloc, ONE_SLOT, 2097150)?, ENDS)?;
-    assert_eq!(rt; text.as_str(), END_ANSWERS);
-    let settings = rs_settings::read(alloc, ETH0.as_bytes())?;
-    assert_eq!(rt;
-        Rs::new(alloc, settings, 0).err(),
-        Some(NewFault::OutOfRange)
-    );
-    let settings = rs_settings::read(alloc, ETH0.as_bytes())?;
-    assert_eq!(rt;
-        Rs::new(alloc, settings, 2097153).err(),
-        Some(NewFault::OutOfRange)
-    );
+    let eth0 = Name::read(b"eth0")?;
+    let tty = Name::read(b"tty")?;
+    let mut one = rs_of(alloc, ONE_SLOT, 2097150)?;
+    let rows = [
+        (
+            Event::Up(eth0),
+            0,
+            "start eth0 2097150/16, offer eth0 2097150.0 = 2097150/16, up 2097150/16 failures 0",
+        ),
+        (
+            Event::Up(tty),
+            0,
+            "no slot is free; up 2097150/16 failures 0",
+        ),
+        (
+            Event::Refresh(eth0),
+            1,
+            "kill 2097150/16, offer eth0 2097150.1 -, sweep eth0 2097150, start eth0 2097151/16, offer eth0 2097151.0 = 2097151/16, up 2097151/16 failures 0",
+        ),
+        (
+            Event::Refresh(eth0),
+            1,
+            "all generations are spent; up 2097151/16 failures 0",
+        ),
+        (
+            Event::Death(endpoint(1, 16)?, 7),
+            1,
+            "no cause of death has the number; up 2097151/16 failures 0",
+        ),
+        (
+            Event::Tick,
+            4611686018427387905,
+            "the tick is too great; up 2097151/16 failures 0",
+        ),
+        (
+            Event::Up(eth0),
+            1,
+            "the service is up already; up 2097151/16 failures 0",
+        ),
+    ];
+    for (event, tick, wanted) in rows {
+        let text = answer(alloc, &mut one, event, tick)?;
+        assert_eq!(rt; text.as_str(), wanted);
+    }
+    for next in [0, 2097153] {
+        let settings = rs_settings::read(alloc, ETH0.as_bytes())?;
+        assert_eq!(rt;
+            Rs::new(alloc, settings, next).err(),
+            Some(NewFault::OutOfRange)
+        );
+    }
     Ok(())
 }
 
@@ -260,10 +292,15 @@ fn readers_and_copies(rt: HostRuntime) -> Result<(), Fail> {
     let mut rs = rs_of(alloc, ETH0, 1)?;
     assert_eq!(rt; rs.next_key(), 0);
     assert_eq!(rt; rs.settings().slots(), 64);
+    assert!(rt; rs.state(&Name::read(b"tty")?).is_none());
     let actions = rs.event(Event::Up(Name::read(b"eth0")?), 0)?;
     assert_eq!(rt; rs.next_key(), 1);
     let text = actions_text(alloc, &actions.copy(alloc)?)?;
     assert_eq!(rt; text.as_str(), "start eth0 1/16, offer eth0 1.0 = 1/16, ");
+    assert_eq!(rt;
+        rs.event(Event::Tick, 4611686018427387905).err(),
+        Some(RsFault::Worn)
+    );
     Ok(())
 }
 
