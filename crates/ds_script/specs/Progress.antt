@@ -1,6 +1,6 @@
 -- How far a replay has come, as its private functions tell each other: of the reader, whose bytes to come are `from`
 -- before and `to` after, and of the writer, whose bytes are `had` before and `has` after, where these are known.
-use Rattle.std.specs.Prelude.{◌≡◌, ℕ, ◌+◌, ◌⊎◌, List, [], ◌∷◌, ◌++◌, length, Option, Some, None, Result, Ok, Err}
+use Rattle.std.specs.Prelude.{◌≡◌, ℕ, ◌+◌, ◌⊎◌, List, [], ◌++◌, length, Option, Some, None, Result, Ok, Err}
 use Rattle.std.specs.List.{All}
 use Rattle.std.specs.Io.KnownBytes.{Appends, Consumes, IsAtEnd}
 use Rattle.ds_line.specs.declared.fault.LineFault.{LineFault}

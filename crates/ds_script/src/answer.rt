@@ -19,7 +19,6 @@ use ds_words::{ScriptCommand, Wording, append_noroom, append_reply};
 use itoa::Buffer;
 use std::alloc::Global;
 
-
 /// Carries a command out, and puts its answer behind those that wait.
 ///
 /// A command that there is no memory for is refused by name, and changes nothing. `Err` says that there was

@@ -182,4 +182,3 @@ fn written<W: Write>(writer: &mut W, answers: &[u8], lines: u64) -> Result<u64, 
         Err(_) => Err(ReplayFault::WriteFault),
     }
 }
-

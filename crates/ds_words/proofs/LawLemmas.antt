@@ -10,7 +10,7 @@ use Rattle.ds_words.specs.declared.command.ScriptCommand.{ScriptCommand}
 use Rattle.ds_words.specs.declared.word.Word.{Word as CommandWord}
 use Rattle.ds_words.specs.declared.word.Word.TheVariants as words
 use Rattle.ds_words.specs.Lines.{ended}
-use Rattle.ds_words.specs.Command.{word_of, behind_word, IsLineOf}
+use Rattle.ds_words.specs.Command.{behind_word, IsLineOf}
 use Rattle.ds_words.specs.Pieces.{taken_by, text_of}
 use Rattle.ds_words.proofs.LineLemmas.{publish_one, delete_one, sweep_one, retrieve_one, nameof_one}
 use Rattle.ds_words.proofs.SubscriptionLemmas.{subscribe_one, check_one, map_one, entries_one}

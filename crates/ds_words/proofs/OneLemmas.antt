@@ -1,5 +1,5 @@
 -- Pieces of which two at one front are one.
-use Rattle.std.proofs.Common.{◌≡◌, ℕ, List, [], ◌∷◌, length, drop, refl, sym, ap, subst, ◌∙◌, length-append}
+use Rattle.std.proofs.Common.{◌≡◌, ℕ, List, length, drop, refl, sym, ap, subst, ◌∙◌, length-append}
 use Rattle.ds_names.specs.declared.kind.Kind.{Kind}
 use Rattle.ds_line.specs.Part.{Part}
 use Rattle.ds_line.specs.FaultPlace.{Stand}
