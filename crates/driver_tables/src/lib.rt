@@ -15,8 +15,6 @@ mod net_table;
 mod request;
 mod state;
 mod table;
-#[cfg(test)]
-mod tests;
 
 pub use fault::TableFault;
 pub use file_table::{FileClass, FileTable};

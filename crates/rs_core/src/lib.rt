@@ -16,8 +16,6 @@ mod law;
 mod numberer;
 mod rs;
 mod state;
-#[cfg(test)]
-mod tests;
 
 pub use action::{Action, Actions};
 pub use event::Event;

@@ -16,8 +16,6 @@ mod service;
 mod services;
 mod settings;
 mod shared;
-#[cfg(test)]
-mod tests;
 mod value;
 
 pub use class::Class;

@@ -1,6 +1,6 @@
 //! With ample memory each call on its happy path.
 
-use crate::{Ending, FileClass, FileTable, Move, Moves, NetTable};
+use driver_tables::{Ending, FileClass, FileTable, Move, Moves, NetTable};
 use ds_names::{Endpoint, Generation, Name};
 use std::test::Fail;
 

@@ -1,6 +1,6 @@
 //! Settings, worked out by hand, with ample memory. Their faults are end-to-end cases.
 
-use crate::{Class, read};
+use rs_settings::{Class, read};
 use std::test::Fail;
 
 const TWO: &str =

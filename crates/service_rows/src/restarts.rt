@@ -1,8 +1,8 @@
 //! Events and their answers, worked out by hand, with ample memory.
 
-use crate::{Action, Actions, Event, NewFault, Numberer, Rs, RsFault, SeqSpent, State};
 use ds_entry::{Body, Change, Value};
 use ds_names::{Endpoint, Generation, Name};
+use rs_core::{Action, Actions, Event, NewFault, Numberer, Rs, RsFault, SeqSpent, State};
 use std::alloc::Global;
 use std::test::Fail;
 
