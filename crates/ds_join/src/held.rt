@@ -23,7 +23,6 @@ use ds_names::{Endpoint, Key, Name, NoRoom};
 use std::alloc::Global;
 use std::marker::Model;
 
-
 /// For each key the change with the greatest version that came, tombstones too; at most 1024 keys.
 #[derive(Debug, Drop)]
 pub struct Held {

@@ -19,7 +19,6 @@ use ds_entry::{Body, Change, Value};
 use ds_names::{Endpoint, Generation, Key, Name, Version, read_byte, read_decimal, read_endpoint};
 use std::alloc::Global;
 
-
 /// Reads the change whose line stands at the front of the bytes, and gives it with the line's length, its
 /// newline included.
 ///

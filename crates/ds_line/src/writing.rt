@@ -12,7 +12,6 @@ use ds_names::NoRoom;
 use itoa::Buffer;
 use std::alloc::Global;
 
-
 /// Writes the line of a change, its newline included.
 pub fn write_change(alloc: Global, change: &Change) -> Result<Vec<u8>, NoRoom>
     ensures { IfOk result (λ line. line.items ≡ spelling change.now) }

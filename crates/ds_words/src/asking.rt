@@ -10,7 +10,6 @@ use ds_names::NoRoom;
 use ds_store::Command;
 use std::alloc::Global;
 
-
 impl ScriptCommand {
     /// The store's command of the line, with copies of what the line has. `None` for a line that asks nothing of a
     /// store: `show`, `all`, `map` and `entries`. An `offer` is a Merge of one item. NoRoom: out of memory for the

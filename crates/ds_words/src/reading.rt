@@ -16,7 +16,6 @@ use crate::word::{Word, word_of};
 use ds_line::{LineFault, PartFault, word_at};
 use std::alloc::Global;
 
-
 /// The most bytes of a line, its newline not counted.
 pub const LONGEST_LINE: usize = 4096;
 

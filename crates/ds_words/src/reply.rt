@@ -16,7 +16,6 @@ use ds_store::{Refusal, Reply};
 use itoa::Buffer;
 use std::alloc::Global;
 
-
 /// Writes the lines that answer a command to which a store gave the reply.
 ///
 /// A change that took effect is `taken`. An offer, which is a Merge of one item, is told by what became of that item, and
