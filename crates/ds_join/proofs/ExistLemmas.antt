@@ -12,8 +12,8 @@ use Rattle.ds_entry.specs.Covers.{change_cmp, covers}
 use Rattle.ds_entry.proofs.Members.{In, In-from_Contains, Contains-from_In, Contains-filter, Contains-from_filter, Contains-from_list_any, none_pass}
 use Rattle.ds_entry.proofs.CoversLemmas.{changes_total, covers-refl, covers-trans, covers-total}
 use Rattle.ds_names.proofs.OrderLemmas.{exact_keys}
-use Rattle.ds_join.specs.Top.{IsTop, IsPartOf, IsCoveredBy, HasOneOwner, inserted, held_after, tops, TopsIsTop}
-use Rattle.ds_join.specs.Join.{TopExists}
+use Rattle.ds_join.specs.Top.{IsTop, IsPartOf, CoversAll, HasOneOwner, inserted, held_after, tops, TopsIsTop}
+use Rattle.ds_join.specs.TopLaws.{TopExists}
 use Rattle.ds_join.proofs.TopLemmas.{top_of_nothing}
 
 inserted-among : (c : ChangeRecord) (xs : List ChangeRecord) (e : ChangeRecord) → In e (inserted c xs) → (e ≡ c) ⊎ In e xs
@@ -111,7 +111,7 @@ module _ (c : ChangeRecord) (held set : List ChangeRecord) (owners : HasOneOwner
         | inr k ↦ in_set d (kept_held d (Contains-from_In d (filter (λ d. not (covers c d)) held) k)).0
       ]
 
-  new_greatest : IsCoveredBy (set ++ c ∷ []) (inserted c (filter (λ d. not (covers c d)) held))
+  new_greatest : CoversAll (inserted c (filter (λ d. not (covers c d)) held)) (set ++ c ∷ [])
   new_greatest x h = elim (Contains-push_cases set c x h) [
     | inl k ↦ let d = t.greatest x k in over d.0 d.1 d.2 (covers c d.0) refl
     | inr q ↦ (c, new_has, subst (λ (z : ChangeRecord). covers c z ≡ true) q (covers-refl c))

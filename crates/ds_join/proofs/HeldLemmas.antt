@@ -24,11 +24,11 @@ Entry = Key × ChangeRecord
 abbrev values_of : List Entry → List ChangeRecord
 values_of es = map (λ (e : Entry). e.1) es
 
-both : (a b : Bool) → T (a && b) → T a × T b
+pub both : (a b : Bool) → T (a && b) → T a × T b
 both true b p = (tt, p)
 both false b p = absurd p
 
-less_from : (r : Ordering) → T (is_lt r) → r ≡ Less
+pub less_from : (r : Ordering) → T (is_lt r) → r ≡ Less
 less_from Less l = refl
 less_from Equal l = absurd l
 less_from Greater l = absurd l
@@ -56,7 +56,7 @@ In-from_find q v (e ∷ es) h =
     ] h
 
 -- a key that stands in a list isn't one below all of the list
-apart : (x q : Key) (v : ChangeRecord) (es : List Entry) → T (below_all key_cmp x es) → find key_cmp q es ≡ Some v → eq_by_cmp key_cmp q x ≡ false
+pub apart : (x q : Key) (v : ChangeRecord) (es : List Entry) → T (below_all key_cmp x es) → find key_cmp q es ≡ Some v → eq_by_cmp key_cmp q x ≡ false
 apart x q v [] below h = absurd (cc)
 apart x q v (e ∷ es) below h =
     elim (eq_by_cmp key_cmp q e.0) as (λ b. eq_by_cmp key_cmp q e.0 ≡ b → cond b (Some e.1) (find key_cmp q es) ≡ Some v → eq_by_cmp key_cmp q x ≡ false) [
@@ -64,7 +64,7 @@ apart x q v (e ∷ es) below h =
       | false ↦ λ _ s. apart x q v es (both _ _ below).1 s
     ] refl h
 
-find_first : (e : Entry) (es : List Entry) → find key_cmp e.0 (e ∷ es) ≡ Some e.1
+pub find_first : (e : Entry) (es : List Entry) → find key_cmp e.0 (e ∷ es) ≡ Some e.1
 find_first e es = ap (λ r. cond (is_eq r) (Some e.1) (find key_cmp e.0 es)) (tied_itself keys_total e.0)
 
 -- each value of a list in order is found at some key

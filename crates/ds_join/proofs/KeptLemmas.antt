@@ -1,27 +1,19 @@
--- A list of changes of different keys, and the same changes in the order of their keys.
-use Rattle.std.proofs.Common.{◌≡◌, suc, ◌≤◌, List, [], ◌∷◌, length, map, All, refl, ap, arith, Contains}
-use Rattle.std.proofs.lemmas.List.Elements.{All-contains, Contains-get_or}
-use Rattle.ds_names.specs.declared.key.Key.{Key}
-use Rattle.std.specs.FinMap.{entries, len-entries}
+-- What a list of changes whose keys rise has as a holding.
+use Rattle.std.proofs.Common.{◌≡◌, ◌≤◌, List, length, All, sym, ap, subst, arith}
+use Rattle.std.specs.List.Sorted.{IsStrictlySortedBy}
 use Rattle.ds_entry.specs.Change.{ChangeRecord, IsChange}
+use Rattle.ds_entry.specs.Covers.{change_cmp}
 use Rattle.ds_join.specs.Held.{held_changes}
-use Rattle.ds_join.specs.Kept.{holding_of, AreApart, IsKept}
-use Rattle.ds_join.proofs.PlaceLemmas.{count, own_list, held_from_Contains, Contains-from_held}
-use Rattle.ds_join.proofs.HeldLemmas.{Contains-held, held_at_key}
+use Rattle.ds_join.specs.Kept.{holding_of, IsKept}
+use Rattle.ds_join.proofs.PlaceLemmas.{AreRising, held_is, own_list}
+use Rattle.ds_join.proofs.HeldLemmas.{held_in_order}
 
-pub in_order_too : (xs : List ChangeRecord) (d : ChangeRecord) → AreApart xs → Contains xs d → Contains (held_changes (holding_of xs)) d
-in_order_too xs d a h = Contains-held (holding_of xs) d.key d (held_from_Contains xs d a h)
-
-pub in_list_too : (xs : List ChangeRecord) (d : ChangeRecord) → Contains (held_changes (holding_of xs)) d → Contains xs d
-in_list_too xs d h = Contains-from_held xs d.key d (held_at_key (holding_of xs) d (own_list xs) h)
+pub in_order : (xs : List ChangeRecord) → AreRising xs → IsStrictlySortedBy change_cmp xs
+in_order xs s = subst (IsStrictlySortedBy change_cmp) (held_is xs s) (held_in_order (holding_of xs) (own_list xs))
 
 pub valid_changes : (xs : List ChangeRecord) → IsKept xs → All IsChange (held_changes (holding_of xs))
-valid_changes xs kept = λ k d within. All-contains IsChange xs _ kept.valid (in_list_too xs _ (Contains-get_or (held_changes (holding_of xs)) k d within))
-
-length_values : (es : List (Key × ChangeRecord)) → length (map (λ (e : Key × ChangeRecord). e.1) es) ≡ length es
-length_values [] = refl
-length_values (e ∷ es) = ap suc (length_values es)
+valid_changes xs kept = subst (All IsChange) (sym (held_is xs kept.rising)) kept.valid
 
 -- as many changes in the order of the keys
 pub few_held : (xs : List ChangeRecord) → IsKept xs → length (held_changes (holding_of xs)) ≤ 1024
-few_held xs kept = omega (arith, length_values (entries (holding_of xs).changes), len-entries (holding_of xs).changes, count xs kept.apart, kept.few)
+few_held xs kept = subst (λ (l : List ChangeRecord). length l ≤ 1024) (sym (held_is xs kept.rising)) kept.few

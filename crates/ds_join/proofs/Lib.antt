@@ -6,3 +6,4 @@ pub mod KeptLemmas
 pub mod NextLemmas
 pub mod JoinLemmas
 pub mod ExistLemmas
+pub mod MarkLemmas

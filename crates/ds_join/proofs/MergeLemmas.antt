@@ -1,12 +1,13 @@
 -- What a merge leaves.
-use Rattle.std.proofs.Common.{◌≡◌, ℕ, List, [], ◌∷◌, ◌++◌, length, get_or, set, Bool, true, false, cond, inl, inr, Option, Some, None, Result, Ok, Err, refl, sym, ap, ◌∙◌, subst, arith, length-append, length-set, Contains}
+use Rattle.std.proofs.Common.{◌≡◌, ℕ, List, [], ◌∷◌, ◌++◌, length, get_or, set, Bool, true, false, cond, inl, inr, Option, Some, None, Result, Ok, Err, refl, sym, ap, ◌∙◌, subst, arith, length-set, Contains}
 use Rattle.std.specs.Result.{OnOk}
 use Rattle.std.specs.declared.cmp.Ordering.TheVariants.{Less, Greater}
 use Rattle.std.specs.Ordering.{is_le, eq_by_cmp, ordering_reverse}
-use Rattle.std.specs.List.{position_from}
+use Rattle.std.specs.List.{insert}
+use Rattle.std.proofs.lemmas.List.Edits.{length-insert}
 use Rattle.std.specs.FinMap.{get-insert}
-use Rattle.std.proofs.lemmas.Option.{same_Some}
-use Rattle.std.proofs.lemmas.List.Elements.{Contains-push, Contains-push_cases, Contains-append_left, All-set, All-push}
+use Rattle.std.proofs.lemmas.Option.{same_Some, slice_get-get_or}
+use Rattle.std.proofs.lemmas.List.Elements.{Contains-push, Contains-push_cases, Contains-append_left}
 use Rattle.ds_names.specs.declared.key.Key.{Key}
 use Rattle.ds_names.specs.Key.{key_cmp}
 use Rattle.ds_names.specs.Version.{version_cmp}
@@ -20,8 +21,8 @@ use Rattle.ds_join.specs.declared.merge.JoinFault.{JoinFault}
 use Rattle.ds_join.specs.Held.{Holding, held_changes, held_for, held_count, IsOwn}
 use Rattle.ds_join.specs.Top.{IsTop}
 use Rattle.ds_join.specs.Merge.{AnswersNew, AnswersHeld, AnswersFor, MergeAnswer, after_merge}
-use Rattle.ds_join.specs.Kept.{holding_of, IsKept, changes_after}
-use Rattle.ds_join.proofs.PlaceLemmas.{Placed, placed, missing, held_placed, holding_set, holding_push, count, apart-set, apart-push}
+use Rattle.ds_join.specs.Kept.{holding_of, IsKept, IsPlace, put_at, changes_after}
+use Rattle.ds_join.proofs.PlaceLemmas.{holding_with, held_there, not_held, still_rising, valid_with, count}
 use Rattle.ds_join.proofs.HeldLemmas.{held_in_order, Contains-held, held_at_key}
 
 module _ (old : Holding) (c : ChangeRecord) (own : IsOwn old) where
@@ -93,39 +94,30 @@ merge_joins_if_ok old after c (Ok r) own a e = merge_joins old after c (Ok r) ow
 merge_joins_if_ok old after c (Err fault) own a e = tt
 
 module _ (xs : List ChangeRecord) (kept : IsKept xs) (c : ChangeRecord) (valid : IsChange c) where
+  pub merged_after : (place : Result ℕ ℕ) → IsPlace xs c.key place → (r : Result Merge JoinFault) → holding_of (changes_after xs (put_at xs place c) r) ≡ after_merge (holding_of xs) c r
+  merged_after place p (Ok Taken) = holding_with xs c place kept.rising p
+  merged_after place p (Ok Known) = refl
+  merged_after place p (Ok Stale) = refl
+  merged_after place p (Err fault) = refl
+
   -- a change of a held key
-  module _ (i : ℕ) (at : position_from (λ (x : ChangeRecord). eq_by_cmp key_cmp c.key x.key) 0 xs ≡ Some i) where
-    here : Placed c.key xs i
-    here = placed c.key xs i at
-
-    pub replaced_answer : (r : Result Merge JoinFault) → AnswersHeld (get_or xs i c) c r → MergeAnswer (holding_of xs) c r
-    replaced_answer r a = subst (λ o. AnswersFor o (held_count (holding_of xs)) c r) (sym (held_placed c.key xs i c here)) a
-
-    pub replaced_after : (r : Result Merge JoinFault) → holding_of (changes_after xs (set xs i c) r) ≡ after_merge (holding_of xs) c r
-    replaced_after (Ok Taken) = holding_set c xs i here
-    replaced_after (Ok Known) = refl
-    replaced_after (Ok Stale) = refl
-    replaced_after (Err fault) = refl
+  module _ (i : ℕ) (here : IsPlace xs c.key (Ok i)) where
+    pub replaced_answer : (d : ChangeRecord) (r : Result Merge JoinFault) → AnswersHeld (get_or xs i d) c r → MergeAnswer (holding_of xs) c r
+    replaced_answer d r a = subst (λ o. AnswersFor o (held_count (holding_of xs)) c r) (sym (held_there xs c.key i kept.rising here ∙ slice_get-get_or xs i d here.0)) a
 
     pub replaced_kept : (r : Result Merge JoinFault) → IsKept (changes_after xs (set xs i c) r)
-    replaced_kept (Ok Taken) = record { apart = apart-set c xs i here.own kept.apart; few = omega (arith, length-set xs i c, kept.few); valid = All-set IsChange xs i c valid kept.valid }
+    replaced_kept (Ok Taken) = record { rising = still_rising xs c (Ok i) kept.rising here; few = omega (arith, length-set xs i c, kept.few); valid = valid_with xs c (Ok i) valid kept.valid }
     replaced_kept (Ok Known) = kept
     replaced_kept (Ok Stale) = kept
     replaced_kept (Err fault) = kept
 
   -- a change of another key
-  module _ (gone : position_from (λ (x : ChangeRecord). eq_by_cmp key_cmp c.key x.key) 0 xs ≡ None) where
+  module _ (i : ℕ) (gap : IsPlace xs c.key (Err i)) where
     pub added_answer : (r : Result Merge JoinFault) → AnswersNew (length xs) r → MergeAnswer (holding_of xs) c r
-    added_answer r a = subst (λ o. AnswersFor o (held_count (holding_of xs)) c r) (sym (missing c.key xs gone)) (subst (λ n. AnswersNew n r) (sym (count xs kept.apart)) a)
+    added_answer r a = subst (λ o. AnswersFor o (held_count (holding_of xs)) c r) (sym (not_held xs c.key i gap)) (subst (λ n. AnswersNew n r) (sym (count xs kept.rising)) a)
 
-    pub added_after : (r : Result Merge JoinFault) → holding_of (changes_after xs (xs ++ c ∷ []) r) ≡ after_merge (holding_of xs) c r
-    added_after (Ok Taken) = holding_push c xs (missing c.key xs gone)
-    added_after (Ok Known) = refl
-    added_after (Ok Stale) = refl
-    added_after (Err fault) = refl
-
-    pub added_kept : (r : Result Merge JoinFault) → AnswersNew (length xs) r → IsKept (changes_after xs (xs ++ c ∷ []) r)
-    added_kept (Ok Taken) a = record { apart = apart-push c xs (missing c.key xs gone) kept.apart; few = omega (arith, length-append xs (c ∷ []), a); valid = All-push IsChange xs c kept.valid valid }
+    pub added_kept : (r : Result Merge JoinFault) → AnswersNew (length xs) r → IsKept (changes_after xs (insert xs i c) r)
+    added_kept (Ok Taken) a = record { rising = still_rising xs c (Err i) kept.rising gap; few = omega (arith, length-insert xs i c gap.0, a); valid = valid_with xs c (Err i) valid kept.valid }
     added_kept (Ok Known) a = kept
     added_kept (Ok Stale) a = kept
     added_kept (Err fault) a = kept

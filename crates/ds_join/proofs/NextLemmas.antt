@@ -1,25 +1,21 @@
 -- One change after the other, in the order of the keys.
-use Rattle.std.proofs.Common.{◌≡◌, List, [], ◌∷◌, ◌++◌, filter, Bool, true, false, cond, Option, Some, None, refl, sym, ap, ◌∙◌, subst, inl, inr, Contains}
+use Rattle.std.proofs.Common.{◌≡◌, ℕ, zero, suc, ◌<◌, ◌≤◌, List, [], ◌∷◌, length, get_or, filter, Bool, true, false, cond, not, Option, Some, None, Result, Ok, Err, refl, sym, ap, ◌∙◌, subst, arith, Contains}
 use Rattle.std.proofs.lemmas.Option.{same_Some}
-use Rattle.std.proofs.lemmas.List.Elements.{Contains-push, Contains-push_cases, Contains-append_left}
 use Rattle.std.specs.declared.cmp.Ordering.{Ordering}
 use Rattle.std.specs.declared.cmp.Ordering.TheVariants.{Less, Equal, Greater}
-use Rattle.std.specs.Ordering.{is_lt, is_gt, ordering_reverse}
-use Rattle.std.specs.Cmp.{tied_itself, upto}
-use Rattle.std.specs.List.{find}
-use Rattle.std.specs.List.Sorted.{IsStrictlySortedBy}
+use Rattle.std.specs.Ordering.{is_lt, ordering_reverse, ordering_index}
+use Rattle.std.specs.Cmp.{tied_itself}
+use Rattle.std.specs.List.{find, slice_get, AllByRecursion}
+use Rattle.std.specs.List.Sorted.{IsStrictlySortedBy, IsPartitionedBy, IsPartitionPoint, IsNonDecreasingBy, IsSearchInRange, IsBinarySearchResult}
 use Rattle.ds_names.specs.declared.key.Key.{Key}
 use Rattle.ds_names.specs.Key.{key_cmp}
-use Rattle.ds_names.proofs.OrderLemmas.{keys_total}
+use Rattle.ds_names.proofs.OrderLemmas.{keys_total, exact_keys}
 use Rattle.ds_entry.specs.Change.{ChangeRecord}
 use Rattle.ds_entry.specs.Covers.{change_cmp}
-use Rattle.ds_entry.proofs.Members.{In-from_Contains, Contains-nil, Contains-head, Contains-tail, Contains-cons}
-use Rattle.ds_join.specs.Held.{held_changes}
+use Rattle.ds_entry.proofs.Members.{In-from_Contains, Contains-head, Contains-tail}
 use Rattle.ds_join.specs.Reading.{is_after, comes_after}
-use Rattle.ds_join.specs.Kept.{holding_of, AreApart, IsFirst, is_before}
-use Rattle.ds_join.proofs.PlaceLemmas.{own_list}
-use Rattle.ds_join.proofs.HeldLemmas.{held_in_order, from_along}
-use Rattle.ds_join.proofs.KeptLemmas.{in_order_too, in_list_too}
+use Rattle.ds_join.specs.Kept.{IsPlace}
+use Rattle.ds_join.proofs.HeldLemmas.{from_along}
 
 less_is : (r : Ordering) → is_lt r ≡ true → r ≡ Less
 less_is Less e = refl
@@ -29,12 +25,6 @@ less_is Greater e = absurd (cc)
 turned_less : (a b : Key) → key_cmp a b ≡ Less → key_cmp b a ≡ Greater
 turned_less a b h = keys_total.antisymm b a ∙ ap ordering_reverse h
 
-not_after_itself : (key : Key) → is_gt (key_cmp key key) ≡ false
-not_after_itself key = ap is_gt (tied_itself keys_total key)
-
-opposed : {A : Type 0} (b : Bool) → b ≡ true → b ≡ false → A
-opposed b t f = let no : true ≡ false = sym t ∙ f in absurd (cc)
-
 -- each of what follows comes after the first
 rest_after : (x : ChangeRecord) (xs : List ChangeRecord) → IsStrictlySortedBy change_cmp (x ∷ xs) → (d : ChangeRecord) → Contains xs d → key_cmp x.key d.key ≡ Less
 unfolding IsStrictlySortedBy
@@ -43,86 +33,6 @@ rest_after x xs s d h = from_along (λ (y : ChangeRecord). change_cmp x y ≡ Le
 rest_in_order : (x : ChangeRecord) (xs : List ChangeRecord) → IsStrictlySortedBy change_cmp (x ∷ xs) → IsStrictlySortedBy change_cmp xs
 unfolding IsStrictlySortedBy
 rest_in_order x xs s = s.1
-
--- ---- the first of a list in any order is the first in the order of the keys
-find_none : (p : ChangeRecord → Bool) (xs : List ChangeRecord) → ((d : ChangeRecord) → Contains xs d → p d ≡ false) → find p xs ≡ None
-find_none p [] h = refl
-find_none p (x ∷ xs) h = ap (λ b. cond b (Some x) (find p xs)) (h x (Contains-head x xs)) ∙ find_none p xs (λ d i. h d (Contains-tail x xs d i))
-
-find_least : (p : ChangeRecord → Bool) (xs : List ChangeRecord) (c : ChangeRecord) → IsStrictlySortedBy change_cmp xs → Contains xs c → p c ≡ true → ((d : ChangeRecord) → Contains xs d → p d ≡ true → is_gt (key_cmp c.key d.key) ≡ false) → find p xs ≡ Some c
-find_least p [] c sorted h pass least = absurd (Contains-nil c h)
-find_least p (x ∷ xs) c sorted h pass least =
-    elim (p x) as (λ b. p x ≡ b → cond b (Some x) (find p xs) ≡ Some c) [
-      | true ↦ λ t. elim (Contains-cons x xs c h) [
-        | inl here ↦ ap (λ y. Some y) (sym here)
-        | inr there ↦ opposed (is_gt (key_cmp c.key x.key)) (ap is_gt (turned_less x.key c.key (rest_after x xs sorted c there))) (least x (Contains-head x xs) t)
-      ]
-      | false ↦ λ t. elim (Contains-cons x xs c h) [
-        | inl here ↦ opposed (p x) (ap p (sym here) ∙ pass) t
-        | inr there ↦ find_least p xs c (rest_in_order x xs sorted) there pass (λ d i e. least d (Contains-tail x xs d i) e)
-      ]
-    ] refl
-
-pub first_found : (xs : List ChangeRecord) → AreApart xs → (test : ChangeRecord → Bool) (r : Option ChangeRecord) → IsFirst xs test r → r ≡ find test (held_changes (holding_of xs))
-first_found xs a test None h = sym (find_none test (held_changes (holding_of xs)) (λ d i. h d (in_list_too xs d i)))
-first_found xs a test (Some c) h =
-    sym (find_least test (held_changes (holding_of xs)) c (held_in_order (holding_of xs) (own_list xs)) (in_order_too xs c a h.0) h.1 (λ d i e. h.2 d (in_list_too xs d i) e))
-
--- ---- a scan of a list
-pub first_nothing : (test : ChangeRecord → Bool) → IsFirst [] test None
-first_nothing test = λ d h. absurd (Contains-nil d h)
-
-not_after : (r s : Ordering) → r ≡ ordering_reverse s → is_lt s ≡ false → is_gt r ≡ false
-not_after r Less e h = absurd (cc)
-not_after r Equal e h = ap is_gt e
-not_after r Greater e h = ap is_gt e
-
-less_not_after : (r : Ordering) → is_lt r ≡ true → is_gt r ≡ false
-less_not_after Less h = refl
-less_not_after Equal h = refl
-less_not_after Greater h = absurd (cc)
-
-pub first_taken : (xs : List ChangeRecord) (c : ChangeRecord) (test : ChangeRecord → Bool) (best : Option ChangeRecord) → IsFirst xs test best → test c ≡ true → is_before c.key best ≡ true → IsFirst (xs ++ c ∷ []) test (Some c)
-first_taken xs c test None h passes before = (
-  Contains-push xs c,
-  passes,
-  λ d i e. elim (Contains-push_cases xs c d i) [
-    | inl old ↦ opposed (test d) e (h d old)
-    | inr new ↦ subst (λ (y : ChangeRecord). is_gt (key_cmp c.key y.key) ≡ false) new (not_after_itself c.key)
-  ],
-)
-first_taken xs c test (Some x) h passes before = (
-  Contains-push xs c,
-  passes,
-  λ d i e. elim (Contains-push_cases xs c d i) [
-    | inl old ↦ upto keys_total c.key x.key d.key (less_not_after (key_cmp c.key x.key) before) (h.2 d old e)
-    | inr new ↦ subst (λ (y : ChangeRecord). is_gt (key_cmp c.key y.key) ≡ false) new (not_after_itself c.key)
-  ],
-)
-
--- a change that doesn't pass the test
-pub first_left_out : (xs : List ChangeRecord) (c : ChangeRecord) (test : ChangeRecord → Bool) (best : Option ChangeRecord) → IsFirst xs test best → test c ≡ false → IsFirst (xs ++ c ∷ []) test best
-first_left_out xs c test None h f = λ d i. elim (Contains-push_cases xs c d i) [ inl old ↦ h d old | inr new ↦ subst (λ (y : ChangeRecord). test y ≡ false) new f ]
-first_left_out xs c test (Some x) h f = (
-  Contains-append_left xs (c ∷ []) x h.0,
-  h.1,
-  λ d i e. elim (Contains-push_cases xs c d i) [
-    | inl old ↦ h.2 d old e
-    | inr new ↦ opposed (test d) e (subst (λ (y : ChangeRecord). test y ≡ false) new f)
-  ],
-)
-
--- a change whose key isn't less than that of the first
-pub first_left_high : (xs : List ChangeRecord) (c : ChangeRecord) (test : ChangeRecord → Bool) (best : Option ChangeRecord) → IsFirst xs test best → is_before c.key best ≡ false → IsFirst (xs ++ c ∷ []) test best
-first_left_high xs c test None h f = absurd (cc)
-first_left_high xs c test (Some x) h f = (
-  Contains-append_left xs (c ∷ []) x h.0,
-  h.1,
-  λ d i e. elim (Contains-push_cases xs c d i) [
-    | inl old ↦ h.2 d old e
-    | inr new ↦ subst (λ (y : ChangeRecord). is_gt (key_cmp x.key y.key) ≡ false) new (not_after (key_cmp x.key c.key) (key_cmp c.key x.key) (keys_total.antisymm x.key c.key) f)
-  ],
-)
 
 -- ---- what is left after each
 filter_all : (p : ChangeRecord → Bool) (xs : List ChangeRecord) → ((d : ChangeRecord) → Contains xs d → p d ≡ true) → filter p xs ≡ xs
@@ -144,7 +54,7 @@ found_among p (x ∷ xs) c h =
       | false ↦ λ s. Contains-tail x xs c (found_among p xs c s)
     ] h
 
-after_through : (low : Option Key) (a b : Key) → is_after low a ≡ true → key_cmp a b ≡ Less → is_after low b ≡ true
+after_through : (low : Option Key) (a b : Key) → is_after a low ≡ true → key_cmp a b ≡ Less → is_after b low ≡ true
 after_through None a b h less = refl
 after_through (Some low) a b h less = ap is_lt (keys_total.trans low a b (less_is (key_cmp low a) h) less)
 
@@ -160,3 +70,72 @@ left_after low (x ∷ xs) c sorted h =
           left_after low xs c (rest_in_order x xs sorted) s
           ∙ ap (λ l. c ∷ l) (sym (ap (λ r. cond (is_lt r) (x ∷ filter (comes_after (Some c.key)) xs) (filter (comes_after (Some c.key)) xs)) (turned_less x.key c.key (rest_after x xs sorted c (found_among (comes_after low) xs c s)))))
     ] refl h
+
+-- ---- the first that comes after a key
+opposed : {A : Type 0} (b : Bool) → b ≡ true → b ≡ false → A
+opposed b t f = let no : true ≡ false = sym t ∙ f in absurd (cc)
+
+-- what is before a key that doesn't come after another doesn't either
+not_after_down : (low : Option Key) (a b : Key) → key_cmp a b ≡ Less → not (is_after b low) ≡ true → not (is_after a low) ≡ true
+not_after_down low a b less h = by_test (is_after a low) refl
+  where
+    by_test : (t : Bool) → is_after a low ≡ t → not t ≡ true
+    by_test false e = refl
+    by_test true e = opposed (not (is_after b low)) h (ap not (after_through low a b e less))
+
+at : (P : ChangeRecord → Type 0) (xs : List ChangeRecord) (j : ℕ) (d : ChangeRecord) → AllByRecursion P xs → j < length xs → P (get_or xs j d)
+at P [] j d a l = absurd (omega (arith, l))
+at P (x ∷ xs) zero d a l = a.0
+at P (x ∷ xs) (suc j) d a l = at P xs j d a.1 (omega (arith, l))
+
+-- those that don't come after a key stand in front
+pub after_partitioned : (low : Option Key) (xs : List ChangeRecord) → IsStrictlySortedBy change_cmp xs → IsPartitionedBy (λ (c : ChangeRecord). not (comes_after low c)) xs
+unfolding IsStrictlySortedBy
+after_partitioned low [] s i j d l w h = absurd (omega (arith, w))
+after_partitioned low (x ∷ xs) s zero zero d l w h = h
+after_partitioned low (x ∷ xs) s zero (suc j) d l w h = not_after_down low x.key (get_or xs j d).key (at (λ (y : ChangeRecord). change_cmp x y ≡ Less) xs j d s.0 (omega (arith, w))) h
+after_partitioned low (x ∷ xs) s (suc i) zero d l w h = absurd (omega (arith, l))
+after_partitioned low (x ∷ xs) s (suc i) (suc j) d l w h = after_partitioned low xs s.1 i j d (omega (arith, l)) (omega (arith, w)) h
+
+-- behind those that fail a test stands the first that passes it
+pub first_behind : (p : ChangeRecord → Bool) (xs : List ChangeRecord) (i : ℕ) → IsPartitionPoint (λ y. not (p y) ≡ true) (λ y. not (p y) ≡ false) xs i → slice_get xs i ≡ find p xs
+first_behind p [] i h = refl
+first_behind p (x ∷ xs) zero h = by_test (p x) refl
+  where
+    by_test : (b : Bool) → p x ≡ b → Some x ≡ find p (x ∷ xs)
+    by_test true e = sym (ap (λ b. cond b (Some x) (find p xs)) e)
+    by_test false e = opposed (not (p x)) (ap not e) (h.1 0 x (omega arith) (omega arith))
+first_behind p (x ∷ xs) (suc i) h =
+    first_behind p xs i (λ k d l w. h.0 (suc k) d (omega (arith, l)) (omega (arith, w)), λ k d l w. h.1 (suc k) d (omega (arith, l)) (omega (arith, w)))
+    ∙ sym (ap (λ b. cond b (Some x) (find p xs)) (not_true (p x) (h.0 0 x (omega arith) (omega arith))))
+  where
+    not_true : (b : Bool) → not b ≡ true → b ≡ false
+    not_true true e = absurd (cc)
+    not_true false e = refl
+
+-- ---- the order of keys to one that is looked for
+orders_up : (key a b : Key) → key_cmp a b ≡ Less → ordering_index (key_cmp a key) ≤ ordering_index (key_cmp b key)
+orders_up key a b less = by_order (key_cmp b key) refl
+  where
+    few : (r : Ordering) → ordering_index r ≤ 2
+    few Less = omega arith
+    few Equal = omega arith
+    few Greater = omega arith
+
+    by_order : (r : Ordering) → key_cmp b key ≡ r → ordering_index (key_cmp a key) ≤ ordering_index r
+    by_order Less e = subst (λ r. ordering_index r ≤ 0) (sym (keys_total.trans a b key less e)) (omega arith)
+    by_order Equal e = subst (λ (k : Key). ordering_index (key_cmp a k) ≤ 1) (exact_keys b key e) (subst (λ r. ordering_index r ≤ 1) (sym less) (omega arith))
+    by_order Greater e = few (key_cmp a key)
+
+pub orders_rise : (key : Key) (xs : List ChangeRecord) → IsStrictlySortedBy change_cmp xs → IsNonDecreasingBy (λ (c : ChangeRecord). ordering_index (key_cmp c.key key)) xs
+unfolding IsStrictlySortedBy
+orders_rise key [] s i j d l w = absurd (omega (arith, w))
+orders_rise key (x ∷ xs) s zero zero d l w = omega arith
+orders_rise key (x ∷ xs) s zero (suc j) d l w = orders_up key x.key (get_or xs j d).key (at (λ (y : ChangeRecord). change_cmp x y ≡ Less) xs j d s.0 (omega (arith, w)))
+orders_rise key (x ∷ xs) s (suc i) zero d l w = absurd (omega (arith, l))
+orders_rise key (x ∷ xs) s (suc i) (suc j) d l w = orders_rise key xs s.1 i j d (omega (arith, l)) (omega (arith, w))
+
+-- what a binary search answers is a place
+pub place_from_search : (xs : List ChangeRecord) (key : Key) (r : Result ℕ ℕ) → IsStrictlySortedBy change_cmp xs → IsSearchInRange r (length xs) → IsBinarySearchResult (λ (c : ChangeRecord). key_cmp c.key key) xs r → IsPlace xs key r
+place_from_search xs key (Ok i) s w h = (w, h)
+place_from_search xs key (Err i) s w h = (w, h (orders_rise key xs s))

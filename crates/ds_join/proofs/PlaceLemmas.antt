@@ -1,101 +1,53 @@
--- The place of a key in a list of changes, and what a write there does to what is held.
-use Rattle.std.proofs.Common.{◌≡◌, ℕ, zero, suc, ◌+◌, ◌<◌, List, [], ◌∷◌, ◌++◌, length, get_or, set, map, Bool, true, false, cond, Option, Some, None, is_some, refl, sym, ap, ◌∙◌, subst, inl, inr, arith, Contains}
-use Rattle.std.proofs.lemmas.Option.{same_Some}
-use Rattle.std.specs.List.{position_from}
-use Rattle.std.specs.Ordering.{eq_by_cmp}
-use Rattle.std.specs.Cmp.{eq_by_cmp_equiv}
-use Rattle.std.specs.FinMap.{FinMap, insert, find, same_map, get-from_entries, get-insert, from_entries, from_entries_push, len-insert, len-empty, get-empty}
+-- The place of a key in a list of changes whose keys rise, and what a write there does to what is held.
+use Rattle.std.proofs.Common.{◌≡◌, ℕ, zero, suc, ◌+◌, ◌<◌, ◌≤◌, List, [], ◌∷◌, ◌++◌, length, get_or, set, map, take, drop, Bool, true, false, cond, Option, Some, None, Result, Ok, Err, refl, sym, ap, ◌∙◌, subst, inl, inr, arith, rules, length-set, Contains, All}
+use Rattle.std.proofs.lemmas.Option.{same_Some, slice_get-get_or}
+use Rattle.std.proofs.lemmas.List.Edits.{length-insert}
+use Rattle.std.proofs.lemmas.List.Elements.{All-set, All-append, All-take, All-drop, All-cons}
+use Rattle.std.specs.List.{insert, slice_get}
+use Rattle.std.specs.declared.cmp.Ordering.{Ordering}
+use Rattle.std.specs.declared.cmp.Ordering.TheVariants.{Less, Equal, Greater}
+use Rattle.std.specs.Ordering.{eq_by_cmp, is_lt, is_eq, ordering_reverse}
+use Rattle.std.specs.FinMap.{FinMap, find, put, from_entries, get-from_entries, get-entries, entries, entries_sorted, entries-insert, len-entries, same_entries_map, is_sorted}
+use Rattle.std.specs.FinMap as map
+use Rattle.std.specs.FinMap.Entries.{below_all, by_order, is_sorted-put, same_entries}
+use lib.Dec.{T}
 use Rattle.ds_names.specs.declared.key.Key.{Key}
 use Rattle.ds_names.specs.Key.{key_cmp}
 use Rattle.ds_names.proofs.OrderLemmas.{keys_total, exact_keys}
-use Rattle.ds_entry.specs.Change.{ChangeRecord}
-use Rattle.ds_entry.proofs.Members.{Contains-nil, Contains-head, Contains-tail, Contains-cons}
+use Rattle.ds_entry.specs.Change.{ChangeRecord, IsChange}
 use Rattle.ds_entry.proofs.CoversLemmas.{same_key, same_key-refl}
-use Rattle.ds_join.specs.Held.{Holding, held_for, held_count, IsOwn}
-use Rattle.ds_join.specs.Kept.{holding_of, AreApart}
+use Rattle.ds_join.specs.Held.{Holding, held_changes, held_for, held_count, IsOwn}
+use Rattle.ds_join.specs.Kept.{by_key, holding_of, IsPlace, put_at}
+use Rattle.ds_join.proofs.HeldLemmas.{both, less_from}
 
-abbrev pub pairs_of : List ChangeRecord → List (Key × ChangeRecord)
-pairs_of changes = map {B = Key × ChangeRecord} (λ (c : ChangeRecord). (c.key, c)) changes
+abbrev pub AreRising : List ChangeRecord → Type 0
+AreRising xs = T (is_sorted key_cmp (by_key xs))
 
-pub found_in : (xs : List ChangeRecord) (key : Key) → held_for (holding_of xs) key ≡ find key_cmp key (pairs_of xs)
-found_in xs key = get-from_entries keys_total (pairs_of xs) key
+values_by_key : (xs : List ChangeRecord) → map (λ (e : Key × ChangeRecord). e.1) (by_key xs) ≡ xs
+values_by_key [] = refl
+values_by_key (x ∷ xs) = ap (λ l. x ∷ l) (values_by_key xs)
 
--- a place at which the key stands first
-pub record Placed (key : Key) (xs : List ChangeRecord) (k : ℕ) : Type 0 where
-  pub within : k < length xs
-  pub here : (d : ChangeRecord) → find key_cmp key (pairs_of xs) ≡ Some (get_or xs k d)
-  pub own : (d : ChangeRecord) → (get_or xs k d).key ≡ key
-  pub written : (c : ChangeRecord) → c.key ≡ key → (other : Key) → find key_cmp other (pairs_of (set xs k c)) ≡ cond (eq_by_cmp key_cmp other key) (Some c) (find key_cmp other (pairs_of xs))
+length_by_key : (xs : List ChangeRecord) → length (by_key xs) ≡ length xs
+length_by_key [] = refl
+length_by_key (x ∷ xs) = ap suc (length_by_key xs)
 
-shadowed : {A : Type 0} (b : Bool) (x y z : A) → cond b x z ≡ cond b x (cond b y z)
-shadowed true x y z = refl
-shadowed false x y z = refl
+-- ---- what is held is the list
+entries_are : (es : List (Key × ChangeRecord)) → T (is_sorted key_cmp es) → entries (from_entries {R = key_cmp} es) ≡ es
+entries_are es s = same_entries key_cmp keys_total exact_keys (entries (from_entries es)) es (entries_sorted (from_entries es)) s (λ q. sym (get-entries (from_entries es) q) ∙ get-from_entries keys_total es q)
 
-swapped : {A : Type 0} (a b : Bool) (x y z : A) → (a ≡ true → b ≡ true → ⊥) → cond a x (cond b y z) ≡ cond b y (cond a x z)
-swapped true true x y z apart = absurd (apart refl refl)
-swapped true false x y z apart = refl
-swapped false b x y z apart = refl
+pub held_is : (xs : List ChangeRecord) → AreRising xs → held_changes (holding_of xs) ≡ xs
+held_is xs s = ap (λ es. map (λ (e : Key × ChangeRecord). e.1) es) (entries_are (by_key xs) s) ∙ values_by_key xs
 
-placed_first : (key : Key) (x : ChangeRecord) (xs : List ChangeRecord) → eq_by_cmp key_cmp key x.key ≡ true → Placed key (x ∷ xs) 0
-placed_first key x xs t =
-    let same : key ≡ x.key = same_key key x.key t in
-    record {
-      within = omega arith;
-      here = λ d. ap (λ b. cond b (Some x) (find key_cmp key (pairs_of xs))) t;
-      own = λ d. sym same;
-      written = λ c e p.
-          ap (λ k. cond (eq_by_cmp key_cmp p k) (Some c) (find key_cmp p (pairs_of xs))) e
-          ∙ shadowed (eq_by_cmp key_cmp p key) (Some c) (Some x) (find key_cmp p (pairs_of xs))
-          ∙ ap (λ k. cond (eq_by_cmp key_cmp p key) (Some c) (cond (eq_by_cmp key_cmp p k) (Some x) (find key_cmp p (pairs_of xs)))) same;
-    }
+pub count : (xs : List ChangeRecord) → AreRising xs → held_count (holding_of xs) ≡ length xs
+count xs s = len-entries (from_entries {R = key_cmp} (by_key xs)) ∙ ap length (entries_are (by_key xs) s) ∙ length_by_key xs
 
-placed_later : (key : Key) (x : ChangeRecord) (xs : List ChangeRecord) (k : ℕ) → eq_by_cmp key_cmp key x.key ≡ false → Placed key xs k → Placed key (x ∷ xs) (suc k)
-placed_later key x xs k t later =
-    record {
-      within = omega (arith, later.within);
-      here = λ d. ap (λ b. cond b (Some x) (find key_cmp key (pairs_of xs))) t ∙ later.here d;
-      own = λ d. later.own d;
-      written = λ c e p.
-          ap (cond (eq_by_cmp key_cmp p x.key) (Some x)) (later.written c e p)
-          ∙ swapped (eq_by_cmp key_cmp p x.key) (eq_by_cmp key_cmp p key) (Some x) (Some c) (find key_cmp p (pairs_of xs)) (λ a b.
-          let met : eq_by_cmp key_cmp key x.key ≡ true = same_key-refl key x.key (sym (same_key p key b) ∙ same_key p x.key a) in
-          let no : true ≡ false = sym met ∙ t in cc);
-    }
+pub found_in : (xs : List ChangeRecord) (key : Key) → held_for (holding_of xs) key ≡ find key_cmp key (by_key xs)
+found_in xs key = get-from_entries keys_total (by_key xs) key
 
-placed_from : (key : Key) (xs : List ChangeRecord) (n i : ℕ) → position_from (λ (c : ChangeRecord). eq_by_cmp key_cmp key c.key) n xs ≡ Some i → (k : ℕ) × (i ≡ n + k) × Placed key xs k
-placed_from key [] n i h = absurd (cc)
-placed_from key (x ∷ xs) n i h =
-    elim (eq_by_cmp key_cmp key x.key) as (λ b. eq_by_cmp key_cmp key x.key ≡ b → cond b (Some n) (position_from (λ (c : ChangeRecord). eq_by_cmp key_cmp key c.key) (n + 1) xs) ≡ Some i → (k : ℕ) × (i ≡ n + k) × Placed key (x ∷ xs) k) [
-      | true ↦ λ t s. (0, omega (arith, same_Some n i s), placed_first key x xs t)
-      | false ↦ λ t s. let later = placed_from key xs (n + 1) i s in (suc later.0, omega (arith, later.1), placed_later key x xs later.0 t later.2)
-    ] refl h
-
--- what a search finds
-pub placed : (key : Key) (xs : List ChangeRecord) (i : ℕ) → position_from (λ (c : ChangeRecord). eq_by_cmp key_cmp key c.key) 0 xs ≡ Some i → Placed key xs i
-placed key xs i h =
-    let found = placed_from key xs 0 i h in
-    let e : found.0 ≡ i = omega (arith, found.1) in
-    subst (Placed key xs) e found.2
-
-missing_from : (key : Key) (xs : List ChangeRecord) (n : ℕ) → position_from (λ (c : ChangeRecord). eq_by_cmp key_cmp key c.key) n xs ≡ None → find key_cmp key (pairs_of xs) ≡ None
-missing_from key [] n h = refl
-missing_from key (x ∷ xs) n h =
-    elim (eq_by_cmp key_cmp key x.key) as (λ b. cond b (Some n) (position_from (λ (c : ChangeRecord). eq_by_cmp key_cmp key c.key) (n + 1) xs) ≡ None → cond b (Some x) (find key_cmp key (pairs_of xs)) ≡ None) [
-      | true ↦ λ s. absurd (cc)
-      | false ↦ λ s. missing_from key xs (n + 1) s
-    ] h
-
--- a key that a search doesn't find isn't held
-pub missing : (key : Key) (xs : List ChangeRecord) → position_from (λ (c : ChangeRecord). eq_by_cmp key_cmp key c.key) 0 xs ≡ None → held_for (holding_of xs) key ≡ None
-missing key xs h = found_in xs key ∙ missing_from key xs 0 h
-
-pub held_placed : (key : Key) (xs : List ChangeRecord) (i : ℕ) (d : ChangeRecord) → Placed key xs i → held_for (holding_of xs) key ≡ Some (get_or xs i d)
-held_placed key xs i d at = found_in xs key ∙ at.here d
-
-found_own : (key : Key) (c : ChangeRecord) (xs : List ChangeRecord) → find key_cmp key (pairs_of xs) ≡ Some c → c.key ≡ key
+found_own : (key : Key) (c : ChangeRecord) (xs : List ChangeRecord) → find key_cmp key (by_key xs) ≡ Some c → c.key ≡ key
 found_own key c [] h = absurd (cc)
 found_own key c (x ∷ xs) h =
-    elim (eq_by_cmp key_cmp key x.key) as (λ b. eq_by_cmp key_cmp key x.key ≡ b → cond b (Some x) (find key_cmp key (pairs_of xs)) ≡ Some c → c.key ≡ key) [
+    elim (eq_by_cmp key_cmp key x.key) as (λ b. eq_by_cmp key_cmp key x.key ≡ b → cond b (Some x) (find key_cmp key (by_key xs)) ≡ Some c → c.key ≡ key) [
       | true ↦ λ t s. ap (λ (d : ChangeRecord). d.key) (sym (same_Some x c s)) ∙ sym (same_key key x.key t)
       | false ↦ λ _ s. found_own key c xs s
     ] refl h
@@ -103,87 +55,84 @@ found_own key c (x ∷ xs) h =
 pub own_list : (xs : List ChangeRecord) → IsOwn (holding_of xs)
 own_list xs = λ key c h. found_own key c xs (sym (found_in xs key) ∙ h)
 
+-- ---- the place of a key
+-- what is below all of a list is below each of its elements
+below_at : (key : Key) (xs : List ChangeRecord) (i : ℕ) (d : ChangeRecord) → T (below_all key_cmp key (by_key xs)) → i < length xs → key_cmp key (get_or xs i d).key ≡ Less
+below_at key [] i d b w = absurd (omega (arith, w))
+below_at key (x ∷ xs) zero d b w = less_from (key_cmp key x.key) (both _ _ b).0
+below_at key (x ∷ xs) (suc i) d b w = below_at key xs i d (both _ _ b).1 (omega (arith, w))
+
+pub turned_greater : (a b : Key) → key_cmp a b ≡ Less → key_cmp b a ≡ Greater
+turned_greater a b h = keys_total.antisymm b a ∙ ap ordering_reverse h
+
+pub turned_less : (a b : Key) → key_cmp a b ≡ Greater → key_cmp b a ≡ Less
+turned_less a b h = keys_total.antisymm b a ∙ ap ordering_reverse h
+
+-- the key of an element further on is greater than the first
+pub later : (x : ChangeRecord) (xs : List ChangeRecord) (key : Key) (i : ℕ) → AreRising (x ∷ xs) → IsPlace (x ∷ xs) key (Ok (suc i)) → key_cmp key x.key ≡ Greater
+later x xs key i s p =
+    let at : key_cmp x.key (get_or xs i x).key ≡ Less = below_at x.key xs i x (both _ _ s).0 (omega (arith, p.0)) in
+    turned_greater x.key key (ap (key_cmp x.key) (sym (exact_keys (get_or xs i x).key key (p.1 x))) ∙ at)
+
+pub rest_place : (x : ChangeRecord) (xs : List ChangeRecord) (key : Key) (i : ℕ) → IsPlace (x ∷ xs) key (Ok (suc i)) → IsPlace xs key (Ok i)
+rest_place x xs key i p = (omega (arith, p.0), λ d. p.1 d)
+
+pub rest_gap : (x : ChangeRecord) (xs : List ChangeRecord) (key : Key) (i : ℕ) → IsPlace (x ∷ xs) key (Err (suc i)) → IsPlace xs key (Err i)
+rest_gap x xs key i p = (omega (arith, p.0), (λ k d l w. p.1.0 (suc k) d (omega (arith, l)) (omega (arith, w)), λ k d l w. p.1.1 (suc k) d (omega (arith, l)) (omega (arith, w))))
+
+-- to write a change at its place is to put it into the map
+put_there : (xs : List ChangeRecord) (c : ChangeRecord) (place : Result ℕ ℕ) → AreRising xs → IsPlace xs c.key place → by_key (put_at xs place c) ≡ put key_cmp c.key c (by_key xs)
+put_there [] c (Ok i) s p = absurd (omega (arith, p.0))
+put_there (x ∷ xs) c (Ok zero) s p =
+    let same : x.key ≡ c.key = exact_keys x.key c.key (p.1 x) in
+    let tied : key_cmp c.key x.key ≡ Equal = keys_total.antisymm c.key x.key ∙ ap ordering_reverse (p.1 x) in
+    ap (λ (k : Key). (k, c) ∷ by_key xs) (sym same) ∙ sym (ap (λ r. by_order r ((c.key, c) ∷ (x.key, x) ∷ by_key xs) ((x.key, c) ∷ by_key xs) ((x.key, x) ∷ put key_cmp c.key c (by_key xs))) tied)
+put_there (x ∷ xs) c (Ok (suc i)) s p =
+    ap (λ l. (x.key, x) ∷ l) (put_there xs c (Ok i) (both _ _ s).1 (rest_place x xs c.key i p))
+    ∙ sym (ap (λ r. by_order r ((c.key, c) ∷ (x.key, x) ∷ by_key xs) ((x.key, c) ∷ by_key xs) ((x.key, x) ∷ put key_cmp c.key c (by_key xs))) (later x xs c.key i s p))
+put_there [] c (Err zero) s p = refl
+put_there [] c (Err (suc i)) s p = absurd (omega (arith, p.0))
+put_there (x ∷ xs) c (Err zero) s p =
+    sym (ap (λ r. by_order r ((c.key, c) ∷ (x.key, x) ∷ by_key xs) ((x.key, c) ∷ by_key xs) ((x.key, x) ∷ put key_cmp c.key c (by_key xs))) (turned_less x.key c.key (p.1.1 0 x (omega arith) (omega arith))))
+put_there (x ∷ xs) c (Err (suc i)) s p =
+    ap (λ l. (x.key, x) ∷ l) (put_there xs c (Err i) (both _ _ s).1 (rest_gap x xs c.key i p))
+    ∙ sym (ap (λ r. by_order r ((c.key, c) ∷ (x.key, x) ∷ by_key xs) ((x.key, c) ∷ by_key xs) ((x.key, x) ∷ put key_cmp c.key c (by_key xs))) (turned_greater x.key c.key (p.1.0 0 x (omega arith) (omega arith))))
+
+-- and what is found at a key stands there
+find_there : (xs : List ChangeRecord) (key : Key) (i : ℕ) → AreRising xs → IsPlace xs key (Ok i) → find key_cmp key (by_key xs) ≡ slice_get xs i
+find_there [] key i s p = absurd (omega (arith, p.0))
+find_there (x ∷ xs) key zero s p = ap (λ b. cond b (Some x) (find key_cmp key (by_key xs))) (same_key-refl key x.key (sym (exact_keys x.key key (p.1 x))))
+find_there (x ∷ xs) key (suc i) s p = ap (λ r. cond (is_eq r) (Some x) (find key_cmp key (by_key xs))) (later x xs key i s p) ∙ find_there xs key i (both _ _ s).1 (rest_place x xs key i p)
+
+find_none : (xs : List ChangeRecord) (key : Key) (i : ℕ) → IsPlace xs key (Err i) → find key_cmp key (by_key xs) ≡ None
+find_none [] key i p = refl
+find_none (x ∷ xs) key zero p =
+    ap (λ r. cond (is_eq r) (Some x) (find key_cmp key (by_key xs))) (turned_less x.key key (p.1.1 0 x (omega arith) (omega arith)))
+    ∙ find_none xs key 0 (omega arith, (λ k d l w. absurd (omega (arith, w)), λ k d l w. p.1.1 (suc k) d (omega arith) (omega (arith, w))))
+find_none (x ∷ xs) key (suc i) p =
+    ap (λ r. cond (is_eq r) (Some x) (find key_cmp key (by_key xs))) (turned_greater x.key key (p.1.0 0 x (omega arith) (omega arith)))
+    ∙ find_none xs key i (rest_gap x xs key i p)
+
+pub held_there : (xs : List ChangeRecord) (key : Key) (i : ℕ) → AreRising xs → IsPlace xs key (Ok i) → held_for (holding_of xs) key ≡ slice_get xs i
+held_there xs key i s p = found_in xs key ∙ find_there xs key i s p
+
+pub not_held : (xs : List ChangeRecord) (key : Key) (i : ℕ) → IsPlace xs key (Err i) → held_for (holding_of xs) key ≡ None
+not_held xs key i p = found_in xs key ∙ find_none xs key i p
+
 -- ---- writes
 abbrev of_map : FinMap key_cmp ChangeRecord → Holding
 of_map m = record { changes = m }
 
-pub holding_set : (c : ChangeRecord) (xs : List ChangeRecord) (k : ℕ) → Placed c.key xs k → holding_of (set xs k c) ≡ record { changes = insert (holding_of xs).changes c.key c }
-holding_set c xs k at =
-    ap of_map (same_map keys_total exact_keys _ _ (λ p.
-    found_in (set xs k c) p ∙ at.written c refl p
-    ∙ sym (get-insert keys_total (holding_of xs).changes c.key c p ∙ ap (cond (eq_by_cmp key_cmp p c.key) (Some c)) (found_in xs p))))
+module _ (xs : List ChangeRecord) (c : ChangeRecord) (place : Result ℕ ℕ) (s : AreRising xs) (p : IsPlace xs c.key place) where
+  pub still_rising : AreRising (put_at xs place c)
+  still_rising = subst (λ es. T (is_sorted key_cmp es)) (sym (put_there xs c place s p)) (is_sorted-put key_cmp keys_total c.key c (by_key xs) s)
 
-pairs-push : (xs : List ChangeRecord) (c : ChangeRecord) → pairs_of (xs ++ c ∷ []) ≡ pairs_of xs ++ (c.key, c) ∷ []
-pairs-push [] c = refl
-pairs-push (x ∷ xs) c = ap (λ es. (x.key, x) ∷ es) (pairs-push xs c)
+  pub holding_with : holding_of (put_at xs place c) ≡ record { changes = map.insert (holding_of xs).changes c.key c }
+  holding_with =
+      ap of_map (same_entries_map _ _ (
+      entries_are (by_key (put_at xs place c)) still_rising ∙ put_there xs c place s p
+      ∙ sym (entries-insert keys_total (holding_of xs).changes c.key c ∙ ap (put key_cmp c.key c) (entries_are (by_key xs) s))))
 
-pub holding_push : (c : ChangeRecord) (xs : List ChangeRecord) → held_for (holding_of xs) c.key ≡ None → holding_of (xs ++ c ∷ []) ≡ record { changes = insert (holding_of xs).changes c.key c }
-holding_push c xs none =
-    ap of_map (ap (λ es. from_entries {R = key_cmp} es) (pairs-push xs c) ∙ from_entries_push keys_total exact_keys (pairs_of xs) c.key c (sym (found_in xs c.key) ∙ none))
-
--- ---- lists of changes of different keys
--- as many keys as changes
-pub count : (xs : List ChangeRecord) → AreApart xs → held_count (holding_of xs) ≡ length xs
-count [] a = len-empty key_cmp ChangeRecord
-count (x ∷ xs) a =
-    len-insert keys_total (holding_of xs).changes x.key x
-    ∙ ap (λ o. cond (is_some o) (held_count (holding_of xs)) (held_count (holding_of xs) + 1)) a.0
-    ∙ omega (arith, count xs a.1)
-
-held-push : (c : ChangeRecord) (xs : List ChangeRecord) (key : Key) → held_for (holding_of xs) c.key ≡ None → held_for (holding_of (xs ++ c ∷ [])) key ≡ cond (eq_by_cmp key_cmp key c.key) (Some c) (held_for (holding_of xs) key)
-held-push c xs key none = ap (λ (h : Holding). held_for h key) (holding_push c xs none) ∙ get-insert keys_total (holding_of xs).changes c.key c key
-
-held-cons : (x : ChangeRecord) (xs : List ChangeRecord) (key : Key) → held_for (holding_of (x ∷ xs)) key ≡ cond (eq_by_cmp key_cmp key x.key) (Some x) (held_for (holding_of xs) key)
-held-cons x xs key = get-insert keys_total (holding_of xs).changes x.key x key
-
-none_first : (b : Bool) (x : ChangeRecord) (o : Option ChangeRecord) → cond b (Some x) o ≡ None → (b ≡ false) × (o ≡ None)
-none_first true x o e = absurd (cc)
-none_first false x o e = (refl, e)
-
-turned : (a b : Key) → eq_by_cmp key_cmp a b ≡ eq_by_cmp key_cmp b a
-turned a b = (eq_by_cmp_equiv keys_total).symm a b
-
-pub apart-push : (c : ChangeRecord) (xs : List ChangeRecord) → held_for (holding_of xs) c.key ≡ None → AreApart xs → AreApart (xs ++ c ∷ [])
-apart-push c [] none a = (get-empty key_cmp c.key, tt)
-apart-push c (x ∷ xs) none a =
-    let split = none_first _ x _ (sym (held-cons x xs c.key) ∙ none) in (
-      held-push c xs x.key split.1 ∙ ap (λ b. cond b (Some c) (held_for (holding_of xs) x.key)) (turned x.key c.key ∙ split.0) ∙ a.0,
-      apart-push c xs split.1 a.1,
-    )
-
-none-set : (c : ChangeRecord) (xs : List ChangeRecord) (k : ℕ) (key : Key) → ((d : ChangeRecord) → (get_or xs k d).key ≡ c.key) → held_for (holding_of xs) key ≡ None → held_for (holding_of (set xs k c)) key ≡ None
-none-set c [] k key own none = none
-none-set c (x ∷ xs) zero key own none =
-    let split = none_first _ x _ (sym (held-cons x xs key) ∙ none) in
-    held-cons c xs key ∙ ap (λ y. cond (eq_by_cmp key_cmp key y) (Some c) (held_for (holding_of xs) key)) (sym (own x)) ∙ ap (λ b. cond b (Some c) (held_for (holding_of xs) key)) split.0 ∙ split.1
-none-set c (x ∷ xs) (suc k) key own none =
-    let split = none_first _ x _ (sym (held-cons x xs key) ∙ none) in
-    held-cons x (set xs k c) key ∙ ap (λ b. cond b (Some x) (held_for (holding_of (set xs k c)) key)) split.0 ∙ none-set c xs k key own split.1
-
-pub apart-set : (c : ChangeRecord) (xs : List ChangeRecord) (k : ℕ) → ((d : ChangeRecord) → (get_or xs k d).key ≡ c.key) → AreApart xs → AreApart (set xs k c)
-apart-set c [] k own a = a
-apart-set c (x ∷ xs) zero own a = (ap (λ (key : Key). held_for (holding_of xs) key) (sym (own x)) ∙ a.0, a.1)
-apart-set c (x ∷ xs) (suc k) own a = (none-set c xs k x.key own a.0, apart-set c xs k own a.1)
-
--- each change of the list is held at its key
-pub held_from_Contains : (xs : List ChangeRecord) (d : ChangeRecord) → AreApart xs → Contains xs d → held_for (holding_of xs) d.key ≡ Some d
-held_from_Contains [] d a h = absurd (Contains-nil d h)
-held_from_Contains (x ∷ xs) d a h = held-cons x xs d.key ∙ elim (Contains-cons x xs d h) [
-  | inl here ↦ ap (λ b. cond b (Some x) (held_for (holding_of xs) d.key)) (same_key-refl d.key x.key (ap (λ (y : ChangeRecord). y.key) here)) ∙ ap (λ y. Some y) (sym here)
-  | inr there ↦ elim (eq_by_cmp key_cmp d.key x.key) as (λ b. eq_by_cmp key_cmp d.key x.key ≡ b → cond b (Some x) (held_for (holding_of xs) d.key) ≡ Some d) [
-    | true ↦ λ t. let gone : held_for (holding_of xs) d.key ≡ None = ap (λ (key : Key). held_for (holding_of xs) key) (same_key d.key x.key t) ∙ a.0 in
-        let held : held_for (holding_of xs) d.key ≡ Some d = held_from_Contains xs d a.1 there in
-        let no : None ≡ Some d = sym gone ∙ held in absurd (cc)
-    | false ↦ λ _. held_from_Contains xs d a.1 there
-  ] refl
-]
-
-found_among : (xs : List ChangeRecord) (key : Key) (d : ChangeRecord) → find key_cmp key (pairs_of xs) ≡ Some d → Contains xs d
-found_among [] key d h = absurd (cc)
-found_among (x ∷ xs) key d h = elim (eq_by_cmp key_cmp key x.key) as (λ b. cond b (Some x) (find key_cmp key (pairs_of xs)) ≡ Some d → Contains (x ∷ xs) d) [
-  | true ↦ λ s. subst (λ (y : ChangeRecord). Contains (x ∷ xs) y) (same_Some x d s) (Contains-head x xs)
-  | false ↦ λ s. Contains-tail x xs d (found_among xs key d s)
-] h
-
-pub Contains-from_held : (xs : List ChangeRecord) (key : Key) (d : ChangeRecord) → held_for (holding_of xs) key ≡ Some d → Contains xs d
-Contains-from_held xs key d h = found_among xs key d (sym (found_in xs key) ∙ h)
+pub valid_with : (xs : List ChangeRecord) (c : ChangeRecord) (place : Result ℕ ℕ) → IsChange c → All IsChange xs → All IsChange (put_at xs place c)
+valid_with xs c (Ok i) v a = All-set IsChange xs i c v a
+valid_with xs c (Err i) v a = All-append IsChange (take i xs) (c ∷ drop i xs) (All-take IsChange i xs a) (All-cons IsChange c (drop i xs) v (All-drop IsChange i xs a))

@@ -10,8 +10,9 @@ use Rattle.ds_entry.specs.Covers.{change_cmp, covers, covered_by}
 use Rattle.ds_entry.specs.SingleNumbered.{IsSingleNumbered}
 use Rattle.ds_entry.proofs.Members.{In, In-from_Contains, Contains-from_In, Contains-nil, Contains-single, Contains-head, Contains-filter, Contains-from_filter}
 use Rattle.ds_entry.proofs.CoversLemmas.{covers-refl, covers-trans, covers-same, single_part, changes_total, covers-tied}
-use Rattle.ds_join.specs.Top.{IsTop, IsPartOf, IsCoveredBy}
-use Rattle.ds_join.specs.Join.{TopIsUnique, HeldIsTop, TopOfTop, TopOfUnion, TopOfCovered, JoinIsCommutative, JoinIsAssociative, JoinIsIdempotent, JoinIsLeast}
+use Rattle.ds_join.specs.Top.{IsTop, IsPartOf, CoversAll}
+use Rattle.ds_join.specs.TopLaws.{TopIsUnique, HeldIsTop, TopOfTop, TopOfUnion, TopOfCovered}
+use Rattle.ds_join.specs.Join.{JoinIsCommutative, JoinIsAssociative, JoinIsIdempotent, JoinIsLeast}
 use Rattle.ds_join.proofs.HeldLemmas.{held_in_order, from_along}
 
 not_less : (x y : ChangeRecord) → change_cmp x y ≡ Equal → change_cmp x y ≡ Less → ⊥
@@ -71,16 +72,16 @@ top_is_unique set held other n t u =
     (λ c h. In-from_Contains c held (in_both set other held n u t c (Contains-from_In c other h)))
 
 -- ---- parts and covers
-covered_by_part : (xs ys : List ChangeRecord) → IsPartOf xs ys → IsCoveredBy xs ys
+covered_by_part : (xs ys : List ChangeRecord) → IsPartOf xs ys → CoversAll ys xs
 covered_by_part xs ys f c h = (c, f c h, covers-refl c)
 
-covered_through : (xs ys zs : List ChangeRecord) → IsCoveredBy xs ys → IsCoveredBy ys zs → IsCoveredBy xs zs
+covered_through : (xs ys zs : List ChangeRecord) → CoversAll ys xs → CoversAll zs ys → CoversAll zs xs
 covered_through xs ys zs f g c h =
     let d = f c h in
     let e = g d.0 d.1 in
     (e.0, e.1, covers-trans e.0 d.0 c e.2 d.2)
 
-covered_union : (xs ys zs : List ChangeRecord) → IsCoveredBy xs zs → IsCoveredBy ys zs → IsCoveredBy (xs ++ ys) zs
+covered_union : (xs ys zs : List ChangeRecord) → CoversAll zs xs → CoversAll zs ys → CoversAll zs (xs ++ ys)
 covered_union xs ys zs f g c h = elim (Contains-append_cases xs ys c h) [ inl k ↦ f c k | inr k ↦ g c k ]
 
 part_union : (xs ys zs : List ChangeRecord) → IsPartOf xs zs → IsPartOf ys zs → IsPartOf (xs ++ ys) zs
@@ -94,7 +95,7 @@ pub top_of_same : (held xs ys : List ChangeRecord) → IsPartOf xs ys → IsPart
 top_of_same held xs ys f g t = record { in_order = t.in_order; among = λ c h. f c (t.among c h); greatest = λ c h. t.greatest c (g c h) }
 
 -- the top of a part that covers the whole is one of the whole
-pub top_of_whole : (whole part held : List ChangeRecord) → IsPartOf part whole → IsCoveredBy whole part → IsTop held part → IsTop held whole
+pub top_of_whole : (whole part held : List ChangeRecord) → IsPartOf part whole → CoversAll part whole → IsTop held part → IsTop held whole
 top_of_whole whole part held f g t =
     record {
       in_order = t.in_order;
@@ -103,7 +104,7 @@ top_of_whole whole part held f g t =
     }
 
 -- and where the changes are single-numbered, the top of the whole is one of the part
-top_of_part : (whole part held : List ChangeRecord) → IsSingleNumbered whole → IsPartOf part whole → IsCoveredBy whole part → IsTop held whole → IsTop held part
+top_of_part : (whole part held : List ChangeRecord) → IsSingleNumbered whole → IsPartOf part whole → CoversAll part whole → IsTop held whole → IsTop held part
 top_of_part whole part held n f g t =
     record {
       in_order = t.in_order;
@@ -117,7 +118,7 @@ module _ (xs ys top : List ChangeRecord) (t : IsTop top xs) where
   top_part : IsPartOf (top ++ ys) (xs ++ ys)
   top_part = part_union top ys (xs ++ ys) (λ c h. Contains-append_left xs ys c (t.among c h)) (λ c h. Contains-append_right xs ys c h)
 
-  top_covers : IsCoveredBy (xs ++ ys) (top ++ ys)
+  top_covers : CoversAll (top ++ ys) (xs ++ ys)
   top_covers =
       covered_union xs ys (top ++ ys)
       (λ c h. let d = t.greatest c h in (d.0, Contains-append_left top ys d.0 d.1, d.2))

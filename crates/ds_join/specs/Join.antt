@@ -1,26 +1,12 @@
 -- The join of what two holders hold, and its laws.
-use Rattle.std.specs.Prelude.{◌≡◌, List, [], ◌∷◌, ◌++◌, Contains}
+use Rattle.std.specs.Prelude.{◌≡◌, List, ◌++◌}
 use Rattle.ds_entry.specs.Change.{ChangeRecord}
-use Rattle.ds_entry.specs.Covers.{covered_by}
 use Rattle.ds_entry.specs.SingleNumbered.{IsSingleNumbered}
-use Rattle.ds_join.specs.Held.{Holding, held_changes, IsOwn}
-use Rattle.ds_join.specs.Top.{IsTop, IsCoveredBy}
+use Rattle.ds_join.specs.Top.{IsTop, CoversAll}
 
 -- the top of all that is in either
 abbrev pub IsJoin : List ChangeRecord → List ChangeRecord → List ChangeRecord → Type 0
 IsJoin joined xs ys = IsTop joined (xs ++ ys)
-
--- a single-numbered set has a top
-abbrev pub TopExists : Type 0
-TopExists = (set : List ChangeRecord) → IsSingleNumbered set → (held : List ChangeRecord) × IsTop held set
-
--- and only one
-abbrev pub TopIsUnique : Type 0
-TopIsUnique = (set held other : List ChangeRecord) → IsSingleNumbered set → IsTop held set → IsTop other set → held ≡ other
-
--- what is held is its own top
-abbrev pub HeldIsTop : Type 0
-HeldIsTop = (h : Holding) → IsOwn h → IsTop (held_changes h) (held_changes h)
 
 abbrev pub JoinIsCommutative : Type 0
 JoinIsCommutative = (xs ys joined : List ChangeRecord) → IsJoin joined xs ys → IsJoin joined ys xs
@@ -34,21 +20,9 @@ JoinIsIdempotent = (xs : List ChangeRecord) → IsTop xs xs → IsJoin xs xs xs
 
 -- it has for each key at least the version of either side, and whatever has that has at least its version
 pub record IsLeastAbove (joined xs ys : List ChangeRecord) : Type 0 where
-  pub left : IsCoveredBy xs joined
-  pub right : IsCoveredBy ys joined
-  pub least : (other : List ChangeRecord) → IsCoveredBy xs other → IsCoveredBy ys other → IsCoveredBy joined other
+  pub left : CoversAll joined xs
+  pub right : CoversAll joined ys
+  pub least : (other : List ChangeRecord) → CoversAll other xs → CoversAll other ys → CoversAll other joined
 
 abbrev pub JoinIsLeast : Type 0
 JoinIsLeast = (xs ys joined : List ChangeRecord) → IsJoin joined xs ys → IsLeastAbove joined xs ys
-
--- the top of top(X) and Y is one of X and Y
-abbrev pub TopOfTop : Type 0
-TopOfTop = (xs ys top joined : List ChangeRecord) → IsTop top xs → IsTop joined (top ++ ys) → IsTop joined (xs ++ ys)
-
--- and where the changes are single-numbered, the top of X and Y is one of top(X) and Y
-abbrev pub TopOfUnion : Type 0
-TopOfUnion = (xs ys top joined : List ChangeRecord) → IsSingleNumbered (xs ++ ys) → IsTop top xs → IsTop joined (xs ++ ys) → IsTop joined (top ++ ys)
-
--- the top of all known changes that a known one covers is that one alone
-abbrev pub TopOfCovered : Type 0
-TopOfCovered = (c : ChangeRecord) (known : List ChangeRecord) → Contains known c → IsTop (c ∷ []) (covered_by c known)

@@ -2,7 +2,10 @@ pub mod Held
 pub mod Reading
 pub mod Label
 pub mod Top
+pub mod TopLaws
 pub mod Join
 pub mod Merge
 pub mod Stop
 pub mod Kept
+pub mod Marked
+pub mod Beside

@@ -18,10 +18,10 @@ abbrev pub value_of : ChangeRecord → Option Value
 value_of c = value_in c.body
 
 -- the key comes after another one; each comes after none
-abbrev pub is_after : Option Key → Key → Bool
-is_after None key = true
-is_after (Some low) key = is_lt (key_cmp low key)
+abbrev pub is_after : Key → Option Key → Bool
+is_after key None = true
+is_after key (Some low) = is_lt (key_cmp low key)
 
 -- the change's key does
 abbrev pub comes_after : Option Key → ChangeRecord → Bool
-comes_after low c = is_after low c.key
+comes_after low c = is_after c.key low

@@ -11,15 +11,15 @@ use Rattle.ds_join.specs.Reading.{value_of}
 abbrev pub IsPartOf : List ChangeRecord → List ChangeRecord → Type 0
 IsPartOf part whole = (c : ChangeRecord) → Contains part c → Contains whole c
 
--- each of the changes has one in `held` that covers it
-abbrev pub IsCoveredBy : List ChangeRecord → List ChangeRecord → Type 0
-IsCoveredBy changes held = (c : ChangeRecord) → Contains changes c → (d : ChangeRecord) × Contains held d × (covers d c ≡ true)
+-- each of the changes is covered by one that is in `held`
+abbrev pub CoversAll : List ChangeRecord → List ChangeRecord → Type 0
+CoversAll held changes = (c : ChangeRecord) → Contains changes c → (d : ChangeRecord) × Contains held d × (covers d c ≡ true)
 
 -- for each key of the set its change with the greatest version, tombstones too, in the order of the keys
 pub record IsTop (held set : List ChangeRecord) : Type 0 where
   pub in_order : IsStrictlySortedBy change_cmp held
   pub among : IsPartOf held set
-  pub greatest : IsCoveredBy set held
+  pub greatest : CoversAll held set
 
 -- the change leaves a value, and no tombstone
 abbrev pub is_put : ChangeRecord → Bool

@@ -1,6 +1,6 @@
 //! Holders of changes.
 
-ghost use Rattle.std.specs.Prelude.{◌≡◌, ◌≤◌, ◌++◌, ◌∷◌, [], All, IfOk, IfErr, IfSome, OnOk, option_and_then};
+ghost use Rattle.std.specs.Prelude.{◌≡◌, ◌≤◌, ◌++◌, ◌∷◌, [], All, IfOk, IfErr, IfSome, OnOk, option_and_then, slice_get};
 ghost use Rattle.std.specs.Option.{option_copied, option_map};
 ghost use Rattle.std.specs.List.{find};
 ghost use Rattle.ds_entry.specs.Change.{ChangeRecord, IsChange, IsValue};
@@ -12,11 +12,12 @@ ghost use Rattle.ds_join.specs.Top.{IsTop};
 ghost use Rattle.ds_join.specs.Join.{IsJoin};
 ghost use Rattle.ds_join.specs.Merge.{MergeAnswer, after_merge};
 ghost use Rattle.ds_join.specs.Stop.{IsRefused, IsStopped};
+ghost use Rattle.ds_join.specs.Kept.{IsPlace, put_at, changes_after};
 
 use crate::label::label_of;
-use crate::list::{change_at, join_into, merge_copy, merge_into};
+use crate::list::{change_at, join_into, merge_at, merge_copy, merge_into};
 use crate::merge::{JoinFault, Merge, Stop};
-use crate::order::{copy_all, first_of};
+use crate::order::{copy_all, first_of, nth, place_of};
 use ds_entry::{Body, Change, Items, Value};
 use ds_names::{Endpoint, Key, Name, NoRoom};
 use std::alloc::Global;
@@ -135,6 +136,8 @@ impl Held {
         ensures answer { MergeAnswer self.old change result }
         ensures after { self.new ≡ after_merge self.old change result }
         ensures joined { OnOk result (IsTop (held_changes self.new) (held_changes self.old ++ change ∷ [])) }
+        ensures single { OnOk result (IsSingleNumbered (held_changes self.old ++ change ∷ [])) }
+        ensures own { IsOwn self.new }
         ensures change { IsChange change }
     {
         merge_into(&mut self.changes, change)
@@ -147,6 +150,7 @@ impl Held {
         ensures refused { IfErr result (IsRefused self.old change.now) }
         ensures after { self.new ≡ after_merge self.old change.now result }
         ensures joined { OnOk result (IsTop (held_changes self.new) (held_changes self.old ++ change.now ∷ [])) }
+        ensures single { OnOk result (IsSingleNumbered (held_changes self.old ++ change.now ∷ [])) }
         ensures own { IsOwn self.new }
     {
         merge_copy(alloc, &mut self.changes, change)
@@ -160,7 +164,40 @@ impl Held {
         ensures joined { OnOk result (IsJoin (held_changes self.new) (held_changes self.old) (held_changes other.now)) }
         ensures single { OnOk result (IsSingleNumbered (held_changes self.old ++ held_changes other.now)) }
         ensures stopped { IfErr result (IsStopped self.old (held_changes other.now) self.new) }
+        ensures own { IsOwn self.new }
     {
         join_into(alloc, &mut self.changes, &other.changes)
+    }
+
+    // Where the change of a key stands, or else where it would.
+    pub(crate) fn place(&self, key: &Key) -> Result<usize, usize>
+        ensures { IsPlace (held_changes self.now) key.now result }
+    {
+        place_of(&self.changes, key)
+    }
+
+    // The change at an index, in the order of the keys.
+    pub(crate) fn at(&self, index: usize) -> Option<&Change>
+        ensures value { option_copied result ≡ slice_get (held_changes self.now) index }
+        ensures change { IfSome (option_copied result) IsChange }
+    {
+        nth(&self.changes, index)
+    }
+
+    // Merges a change at its place.
+    pub(crate) fn merge_at(
+        &mut self,
+        place: Result<usize, usize>,
+        change: Change,
+    ) -> Result<Merge, JoinFault>
+        requires { IsPlace (held_changes self.old) change.key place }
+        ensures answer { MergeAnswer self.old change result }
+        ensures after { self.new ≡ after_merge self.old change result }
+        ensures joined { OnOk result (IsTop (held_changes self.new) (held_changes self.old ++ change ∷ [])) }
+        ensures list { held_changes self.new ≡ changes_after (held_changes self.old) (put_at (held_changes self.old) place change) result }
+        ensures own { IsOwn self.new }
+        ensures change { IsChange change }
+    {
+        merge_at(&mut self.changes, place, change)
     }
 }

@@ -7,7 +7,6 @@ ghost use Rattle.ds_join.specs.Held.{held_changes};
 ghost use Rattle.ds_join.specs.Label.{names_endpoint};
 ghost use Rattle.ds_join.specs.Kept.{holding_of, IsKept};
 
-use crate::order::key_is_before;
 use ds_entry::{Body, Change, Value};
 use ds_names::Endpoint;
 
@@ -21,16 +20,17 @@ fn names_endpoint(change: &Change, endpoint: Endpoint) -> bool
     }
 }
 
+// The first change that does.
+fn first_named<'a>(changes: &'a [Change], endpoint: Endpoint) -> Option<&'a Change>
+    ensures { option_copied result ≡ find (names_endpoint endpoint) changes.now }
+{
+    changes.iter().find(|change| names_endpoint(change, endpoint))
+}
+
 // The live label that holds the endpoint, the one of the least key.
 pub(crate) fn label_of<'a>(changes: &'a [Change], endpoint: Endpoint) -> Option<&'a Change>
     requires { IsKept changes.now }
     ensures { option_copied result ≡ find (names_endpoint endpoint) (held_changes (holding_of changes.now)) }
 {
-    let mut best: Option<&Change> = None;
-    for change in changes {
-        if names_endpoint(change, endpoint) && key_is_before(change.key(), best) {
-            best = Some(change);
-        }
-    }
-    best
+    first_named(changes, endpoint)
 }

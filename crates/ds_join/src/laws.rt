@@ -1,7 +1,8 @@
 //! The laws of tops and joins, over their definitions alone.
 
 ghost use Rattle.ds_join.specs.Top.{TopsIsTop};
-ghost use Rattle.ds_join.specs.Join.{TopExists, TopIsUnique, HeldIsTop, TopOfTop, TopOfUnion, TopOfCovered, JoinIsCommutative, JoinIsAssociative, JoinIsIdempotent, JoinIsLeast};
+ghost use Rattle.ds_join.specs.TopLaws.{TopExists, TopIsUnique, HeldIsTop, TopOfTop, TopOfUnion, TopOfCovered};
+ghost use Rattle.ds_join.specs.Join.{JoinIsCommutative, JoinIsAssociative, JoinIsIdempotent, JoinIsLeast};
 
 /// The laws of tops: a single-numbered set has just one; what is held is its own; of a union it can be had
 /// from the top of one side; and what a change covers of what is known has that change alone as its top.

@@ -9,9 +9,11 @@ mod held;
 mod label;
 mod laws;
 mod list;
+mod marked;
 mod merge;
 mod order;
 
 pub use held::Held;
 pub use laws::{join_laws, top_laws};
+pub use marked::Marked;
 pub use merge::{JoinFault, Merge, Stop};

@@ -1,43 +1,25 @@
-//! Changes of different keys in a list, in the order in which their keys came.
+//! Merging into a list of changes in the order of their keys.
 
 ghost use Rattle.std.specs.Prelude.{◌≡◌, ◌<◌, ◌≤◌, ◌++◌, ◌∷◌, [], List, length, Some, None, IfErr, IfSome, OnOk, OnErr, take, vec_len, slice_index_or, slice_set};
 ghost use Rattle.std.specs.Option.{option_copied};
-ghost use Rattle.std.specs.List.{position_from};
-ghost use Rattle.std.specs.Ordering.{eq_by_cmp};
-ghost use Rattle.ds_names.specs.Key.{key_cmp};
+ghost use Rattle.std.specs.List.{insert};
 ghost use Rattle.ds_entry.specs.Change.{ChangeRecord, IsChange};
 ghost use Rattle.ds_entry.specs.SingleNumbered.{IsSingleNumbered};
 ghost use Rattle.ds_join.specs.Held.{held_changes, held_for};
 ghost use Rattle.ds_join.specs.Join.{IsJoin};
 ghost use Rattle.ds_join.specs.Merge.{AnswersHeld, AnswersNew, MergeAnswer, after_merge};
 ghost use Rattle.ds_join.specs.Stop.{IsStopped, IsRefused};
-ghost use Rattle.ds_join.specs.Kept.{holding_of, IsKept, changes_after};
+ghost use Rattle.ds_join.specs.Kept.{holding_of, IsKept, IsPlace, put_at, changes_after};
 
 use crate::merge::{JoinFault, Merge, Stop};
-use crate::order::first_of;
+use crate::order::{nth, place_of};
 use ds_entry::Change;
 use ds_names::{Key, NoRoom};
 use std::alloc::Global;
 use std::cmp::Ordering;
 
 // The most keys that are held, those of tombstones too.
-const MOST_KEYS: usize = 1024;
-
-// Whether two keys are one. Names of other lengths differ without a look at their bytes.
-fn is_same_key(a: &Key, b: &Key) -> bool
-    ensures { result ≡ eq_by_cmp key_cmp a.now b.now }
-{
-    a == b
-}
-
-// Where the change of a key stands.
-fn place_of(changes: &[Change], key: &Key) -> Option<usize>
-    ensures { result ≡ position_from (λ (c : ChangeRecord). eq_by_cmp key_cmp key.now c.key) 0 changes.now }
-{
-    changes
-        .iter()
-        .position(|change| is_same_key(key, change.key()))
-}
+pub(crate) const MOST_KEYS: usize = 1024;
 
 // The change of a key.
 pub(crate) fn change_at<'a>(changes: &'a [Change], key: &Key) -> Option<&'a Change>
@@ -46,8 +28,8 @@ pub(crate) fn change_at<'a>(changes: &'a [Change], key: &Key) -> Option<&'a Chan
     ensures change { IfSome (option_copied result) IsChange }
 {
     match place_of(changes, key) {
-        Some(i) => Some(&changes[i]),
-        None => None,
+        Ok(i) => nth(changes, i),
+        Err(_) => None,
     }
 }
 
@@ -82,18 +64,40 @@ fn replace(changes: &mut Vec<Change>, i: usize, change: Change) -> Result<Merge,
     Ok(answer)
 }
 
-// Merges the change of a key that isn't held.
-fn add(changes: &mut Vec<Change>, change: Change) -> Result<Merge, JoinFault>
-    requires { vec_len changes.old ≤ 1024 }
+// Merges the change of a key that isn't held, and belongs at an index.
+fn add(changes: &mut Vec<Change>, i: usize, change: Change) -> Result<Merge, JoinFault>
+    requires within { i ≤ vec_len changes.old }
+    requires few { vec_len changes.old ≤ 1024 }
     ensures answer { AnswersNew (length changes.old.items) result }
-    ensures items { changes.new.items ≡ changes_after changes.old.items (changes.old.items ++ change ∷ []) result }
+    ensures items { changes.new.items ≡ changes_after changes.old.items (insert changes.old.items i change) result }
 {
     if changes.len() >= MOST_KEYS {
         return Err(JoinFault::Full);
     }
-    match changes.push(change) {
+    match changes.insert(i, change) {
         Ok(()) => Ok(Merge::Taken),
         Err(_) => Err(JoinFault::NoRoom),
+    }
+}
+
+// Merges a change at its place.
+pub(crate) fn merge_at(
+    changes: &mut Vec<Change>,
+    place: Result<usize, usize>,
+    change: Change,
+) -> Result<Merge, JoinFault>
+    requires kept { IsKept changes.old.items }
+    requires place { IsPlace changes.old.items change.key place }
+    ensures answer { MergeAnswer (holding_of changes.old.items) change result }
+    ensures after { holding_of changes.new.items ≡ after_merge (holding_of changes.old.items) change result }
+    ensures items { changes.new.items ≡ changes_after changes.old.items (put_at changes.old.items place change) result }
+    ensures kept { IsKept changes.new.items }
+    ensures change { IsChange change }
+{
+    let _key = change.key();
+    match place {
+        Ok(i) => replace(changes, i, change),
+        Err(i) => add(changes, i, change),
     }
 }
 
@@ -105,21 +109,24 @@ pub(crate) fn merge_into(changes: &mut Vec<Change>, change: Change) -> Result<Me
     ensures kept { IsKept changes.new.items }
     ensures change { IsChange change }
 {
-    match place_of(changes, change.key()) {
-        Some(i) => replace(changes, i, change),
-        None => add(changes, change),
-    }
+    let place = place_of(changes, change.key());
+    merge_at(changes, place, change)
 }
 
-// What the merge of a change will be answered, where there is memory for it.
-fn outlook(changes: &[Change], change: &Change) -> Result<Merge, JoinFault>
-    requires { IsKept changes.now }
+// What the merge of a change at its place will be answered, where there is memory for it.
+fn outlook(
+    changes: &[Change],
+    place: Result<usize, usize>,
+    change: &Change,
+) -> Result<Merge, JoinFault>
+    requires kept { IsKept changes.now }
+    requires place { IsPlace changes.now change.now.key place }
     ensures { MergeAnswer (holding_of changes.now) change.now result }
 {
-    match change_at(changes, change.key()) {
-        Some(held) => judge(held, change),
-        None if changes.len() >= MOST_KEYS => Err(JoinFault::Full),
-        None => Ok(Merge::Taken),
+    match place {
+        Ok(i) => judge(&changes[i], change),
+        Err(_) if changes.len() >= MOST_KEYS => Err(JoinFault::Full),
+        Err(_) => Ok(Merge::Taken),
     }
 }
 
@@ -135,9 +142,10 @@ pub(crate) fn merge_copy(
     ensures after { holding_of changes.new.items ≡ after_merge (holding_of changes.old.items) change.now result }
     ensures kept { IsKept changes.new.items }
 {
-    match outlook(changes, change)? {
+    let place = place_of(changes, change.key());
+    match outlook(changes, place, change)? {
         Merge::Taken => match change.copy(alloc) {
-            Ok(copy) => merge_into(changes, copy),
+            Ok(copy) => merge_at(changes, place, copy),
             Err(NoRoom) => Err(JoinFault::NoRoom),
         },
         other => Ok(other),
@@ -158,13 +166,11 @@ pub(crate) fn join_into(
     ensures kept { IsKept changes.new.items }
 {
     let mut done = 0;
-    let mut last: Option<Key> = None;
-    while let Some(change) = first_of(other, last.as_ref()) {
+    for change in other {
         match merge_copy(alloc, changes, change) {
             Ok(_) => done += 1,
             Err(fault) => return Err(Stop { done, fault }),
         }
-        last = Some(*change.key());
     }
     Ok(())
 }

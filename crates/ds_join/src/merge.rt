@@ -26,7 +26,8 @@ pub enum JoinFault {
     /// Its key isn't held, and 1024 other keys are.
     #[error("1024 keys are held")]
     Full,
-    /// Its key isn't held, and there was no memory for it.
+    /// There was no memory for it: its key isn't held, or, where someone else keeps it, it would be taken
+    /// and couldn't be copied.
     #[error("out of memory")]
     NoRoom,
 }

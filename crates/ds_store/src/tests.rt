@@ -1,5 +1,5 @@
-//! Where stores, positions, stamps and merges end, which no script reaches, and each command once with ample
-//! memory, for each kind of value.
+//! Where stores, positions, stamps and merges end, which no script reaches, and with ample memory a Publish, a
+//! Retrieve and a Merge of each kind of value.
 
 use crate::{Command, Refusal, Reply, Store, run};
 use ds_entry::{Blob, Body, Change, Items, Text, Value};
@@ -7,111 +7,134 @@ use ds_names::{Endpoint, Generation, Key, Kind, Kinds, Name, Version};
 use ds_pattern::{PatternText, Query};
 use std::alloc::Global;
 use std::process::Abort;
-use std::test::Fail;
 
 // The greatest position and the greatest stamp.
 const LAST: u64 = 4611686018427387904;
 
-fn generation(number: u32) -> Result<Generation, Fail> {
-    Ok(Generation::of(number).ok_or("no generation")?)
+fn name(rt: &impl Abort, text: &str) -> Name {
+    Name::read(text.as_bytes()).expect(rt, "a name")
 }
 
-fn endpoint(number: u32, slot: u16) -> Result<Endpoint, Fail> {
-    Ok(Endpoint::of(generation(number)?, slot).ok_or("no endpoint")?)
+fn key(rt: &impl Abort, text: &str, kind: Kind) -> Key {
+    let name = name(rt, text);
+    Key { name, kind }
 }
 
-fn key(name: &str, kind: Kind) -> Result<Key, Fail> {
-    Ok(Key {
-        name: Name::read(name.as_bytes())?,
-        kind,
-    })
+// The third generation of all services.
+fn third(rt: &impl Abort) -> Generation {
+    Generation::of(3).expect(rt, "a generation")
 }
 
-// The version of a number in generation 3.
-fn version(seq: u32) -> Result<Version, Fail> {
-    Ok(Version {
-        epoch: generation(3)?,
-        seq,
-    })
+// The endpoint of eth0.
+fn eth0(rt: &impl Abort) -> Endpoint {
+    Endpoint::of(third(rt), 17).expect(rt, "an endpoint")
+}
+
+fn version(rt: &impl Abort, seq: u32) -> Version {
+    let epoch = third(rt);
+    Version { epoch, seq }
 }
 
 // A Publish of a key of the value's kind, over a live entry where `overwrite` is set.
 fn publish(
+    rt: &impl Abort,
     caller: Endpoint,
-    name: &str,
+    text: &str,
     seq: u32,
     value: Value,
     overwrite: bool,
-) -> Result<Command, Fail> {
-    Ok(Command::Publish {
+) -> Command {
+    Command::Publish {
         caller,
-        key: key(name, value.kind())?,
-        version: version(seq)?,
+        key: key(rt, text, value.kind()),
+        version: version(rt, seq),
         value,
         overwrite,
-    })
+    }
 }
 
-// RS publishes the label eth0 for the endpoint 3/17.
-fn up() -> Result<Command, Fail> {
-    let eth0 = Value::Label(endpoint(3, 17)?);
-    publish(Endpoint::rs(), "eth0", 0, eth0, false)
+// RS publishes the label eth0.
+fn up(rt: &impl Abort) -> Command {
+    publish(rt, Endpoint::rs(), "eth0", 0, Value::Label(eth0(rt)), false)
 }
 
 // eth0 publishes a number under a name.
-fn put(name: &str, seq: u32, number: u32, overwrite: bool) -> Result<Command, Fail> {
-    publish(endpoint(3, 17)?, name, seq, Value::U32(number), overwrite)
+fn put(rt: &impl Abort, text: &str, seq: u32, number: u32, overwrite: bool) -> Command {
+    publish(rt, eth0(rt), text, seq, Value::U32(number), overwrite)
 }
 
-// RS sweeps an owner up to generation 3.
-fn sweep(owner: &str) -> Result<Command, Fail> {
-    Ok(Command::Sweep {
+// eth0 deletes a number.
+fn delete(rt: &impl Abort, text: &str, seq: u32) -> Command {
+    Command::Delete {
+        caller: eth0(rt),
+        key: key(rt, text, Kind::U32),
+        version: version(rt, seq),
+    }
+}
+
+// RS sweeps an owner.
+fn sweep(rt: &impl Abort, owner: &str) -> Command {
+    Command::Sweep {
         caller: Endpoint::rs(),
-        owner: Name::read(owner.as_bytes())?,
-        generation: generation(3)?,
-    })
+        owner: name(rt, owner),
+        generation: third(rt),
+    }
 }
 
-// A Subscribe to all that is held.
-fn subscribe(alloc: Global, sub: u32, pattern: &[u8]) -> Result<Command, Fail> {
+// A Subscribe to the names that a pattern matches, of all kinds.
+fn subscribe(rt: &impl Abort, alloc: Global, sub: u32, pattern: &[u8]) -> Command {
     let query = Query {
-        text: PatternText::of(alloc, pattern)?,
-        kinds: Kinds::of(15).ok_or("no kinds")?,
+        text: PatternText::of(alloc, pattern).expect(rt, "memory"),
+        kinds: Kinds::of(15).expect(rt, "kinds"),
     };
-    Ok(Command::Subscribe {
+    Command::Subscribe {
         sub,
         query,
         initial: true,
         overwrite: false,
-    })
+    }
 }
 
-// The put of a number by an owner.
-fn change(name: &str, owner: &str, seq: u32) -> Result<Change, Fail> {
-    let owner = Name::read(owner.as_bytes())?;
-    let body = Body::Put(Value::U32(1500));
-    Ok(Change::make(key(name, Kind::U32)?, owner, version(seq)?, body)?)
+// The put of a value by an owner.
+fn change(rt: &impl Abort, text: &str, owner: &str, seq: u32, value: Value) -> Change {
+    let key = key(rt, text, value.kind());
+    let owner = name(rt, owner);
+    Change::make(key, owner, version(rt, seq), Body::Put(value)).expect(rt, "a change")
 }
 
-// A Merge of one change.
-fn offer(alloc: Global, change: Change) -> Result<Command, Fail> {
+// The put of a number is added to a list.
+fn add(rt: &impl Abort, items: &mut Items, text: &str, owner: &str, seq: u32) {
+    let change = change(rt, text, owner, seq, Value::U32(1500));
+    assert!(rt; items.push(change).is_ok());
+}
+
+// A Merge of the put of one number.
+fn offer(rt: &impl Abort, alloc: Global, text: &str) -> Command {
     let mut items = Items::new(alloc);
-    items.push(change)?;
-    Ok(Command::Merge { items })
+    add(rt, &mut items, text, "eth0", 0);
+    Command::Merge { items }
 }
 
 // A Merge of the keys that are numbered from `from` up to `to`, which is left out.
-fn offers(alloc: Global, from: u32, to: u32) -> Result<Command, Fail> {
+fn offers(rt: &impl Abort, alloc: Global, from: u32, to: u32) -> Command {
     let mut items = Items::new(alloc);
     for i in from..to {
-        let name = format!(in alloc; "k{i}")?;
-        items.push(change(&name, "eth0", 0)?)?;
+        let text = format!(in alloc; "k{i}").expect(rt, "memory");
+        add(rt, &mut items, &text, "eth0", 0);
     }
-    Ok(Command::Merge { items })
+    Command::Merge { items }
 }
 
-fn changed() -> Reply {
-    Reply::Changed { owed: 0 }
+fn opened(rt: &impl Abort, alloc: Global, first: u64) -> Store {
+    Store::open(alloc, 7, first, 256).expect(rt, "a store")
+}
+
+fn refused(refusal: Refusal) -> Reply {
+    Reply::Refused(refusal)
+}
+
+fn changed(owed: u64) -> Reply {
+    Reply::Changed { owed }
 }
 
 fn merged(done: usize, taken: usize) -> Reply {
@@ -132,74 +155,65 @@ fn answered(rt: &impl Abort, store: &mut Store, command: Command, wanted: Reply)
     assert_eq!(rt; store.apply(command), wanted);
 }
 
+// The value is published, found, and merged into another store.
+fn goes_round(rt: &impl Abort, alloc: Global, store: &mut Store, value: Value) {
+    let copy = value.copy(alloc).expect(rt, "memory");
+    let again = value.copy(alloc).expect(rt, "memory");
+    let key = key(rt, "mtu", value.kind());
+    answered(
+        rt,
+        store,
+        publish(rt, eth0(rt), "mtu", 0, value, false),
+        changed(0),
+    );
+    answered(rt, store, Command::Retrieve { key }, Reply::Found(copy));
+    let mut items = Items::new(alloc);
+    assert!(rt; items.push(change(rt, "mtu", "eth0", 0, again)).is_ok());
+    let mut other = opened(rt, alloc, 0);
+    answered(rt, &mut other, Command::Merge { items }, merged(1, 1));
+}
+
 #[test]
-fn stores_are_opened_within_their_limits(rt: HostRuntime) -> Result<(), Fail> {
+fn stores_are_opened_within_their_limits(rt: HostRuntime) {
     for (first, ring, refusal) in [
         (0, 0, Refusal::BadRing),
         (0, 4097, Refusal::BadRing),
         (LAST + 1, 0, Refusal::BadRing),
         (LAST + 1, 256, Refusal::BadFirst),
     ] {
-        assert_eq!(rt;
-            Store::open(rt.alloc(), 1, first, ring).err(),
-            Some(refusal)
-        );
+        let fault = Store::open(rt.alloc(), 1, first, ring).err();
+        assert_eq!(rt; fault, Some(refusal));
     }
     for (first, ring) in [(0, 1), (LAST, 4096)] {
-        let store = Store::open(rt.alloc(), 7, first, ring)?;
+        let store = Store::open(rt.alloc(), 7, first, ring).expect(&rt, "a store");
         assert_eq!(rt; store.position(), first);
         assert_eq!(rt; store.incarnation(), 7);
         assert_eq!(rt; store.held().len(), 0);
     }
-    Ok(())
 }
 
 #[test]
-fn each_kind_is_published_and_found(rt: HostRuntime) -> Result<(), Fail> {
+fn each_kind_goes_round(rt: HostRuntime) {
     let alloc = rt.alloc();
-    let mut store = Store::open(alloc, 1, 0, 256)?;
-    let rs = Endpoint::rs();
-    let values = [
-        Value::Label(endpoint(3, 17)?),
-        Value::U32(1500),
-        Value::Str(Text::read(alloc, b"up")?),
-        Value::Mem(Blob::read(alloc, &[0x00, 0xff])?),
-    ];
-    for value in values {
-        let kind = value.kind();
-        let caller = if kind == Kind::Label {
-            rs
-        } else {
-            endpoint(3, 17)?
-        };
-        let copy = value.copy(alloc)?;
-        answered(
-            &rt,
-            &mut store,
-            publish(caller, "eth0", 0, value, false)?,
-            changed(),
-        );
-        let key = key("eth0", kind)?;
-        answered(
-            &rt,
-            &mut store,
-            Command::Retrieve { key },
-            Reply::Found(copy),
-        );
-    }
-    Ok(())
+    let mut store = opened(&rt, alloc, 0);
+    answered(&rt, &mut store, up(&rt), changed(0));
+    goes_round(&rt, alloc, &mut store, Value::U32(1500));
+    let text = Text::read(alloc, b"up").expect(&rt, "a text");
+    goes_round(&rt, alloc, &mut store, Value::Str(text));
+    let blob = Blob::read(alloc, &[0x00, 0xff]).expect(&rt, "a blob");
+    goes_round(&rt, alloc, &mut store, Value::Mem(blob));
 }
 
 #[test]
-fn a_stopped_merge_keeps_its_first_items(rt: HostRuntime) -> Result<(), Fail> {
+fn a_stopped_merge_keeps_its_first_items(rt: HostRuntime) {
     let alloc = rt.alloc();
-    let mut store = Store::open(alloc, 1, 0, 256)?;
-    for (sub, pattern, stamp) in [(1, b"a", 1), (63, b"b", 2)] {
-        let made = Reply::Subscribed { stamp, owed: 0 };
-        answered(&rt, &mut store, subscribe(alloc, sub, pattern)?, made);
-    }
+    let mut store = opened(&rt, alloc, 0);
+    let made = Reply::Subscribed { stamp: 1, owed: 0 };
+    answered(&rt, &mut store, subscribe(&rt, alloc, 1, b"a"), made);
+    let made = Reply::Subscribed { stamp: 2, owed: 0 };
+    answered(&rt, &mut store, subscribe(&rt, alloc, 63, b"b"), made);
     let mut items = Items::new(alloc);
-    for (name, owner, seq) in [
+    for (text, owner, seq) in [
         ("a", "eth0", 1),
         ("a", "eth0", 1),
         ("a", "eth0", 0),
@@ -207,93 +221,96 @@ fn a_stopped_merge_keeps_its_first_items(rt: HostRuntime) -> Result<(), Fail> {
         ("a", "tty", 2),
         ("c", "eth0", 0),
     ] {
-        items.push(change(name, owner, seq)?)?;
+        add(&rt, &mut items, text, owner, seq);
     }
-    let both = (1 << 63) + 2;
-    let merge = Command::Merge { items };
-    answered(&rt, &mut store, merge, stopped(4, Refusal::NotOwner, both));
+    let wanted = stopped(4, Refusal::NotOwner, (1 << 63) + 2);
+    answered(&rt, &mut store, Command::Merge { items }, wanted);
     assert_eq!(rt; store.held().len(), 2);
-    Ok(())
 }
 
 #[test]
-fn a_full_store(rt: HostRuntime) -> Result<(), Fail> {
+fn a_full_store(rt: HostRuntime) {
     let alloc = rt.alloc();
-    let mut store = Store::open(alloc, 1, 0, 256)?;
-    let too_many = Reply::Refused(Refusal::TooMany);
-    answered(&rt, &mut store, offers(alloc, 0, 257)?, too_many);
+    let mut store = opened(&rt, alloc, 0);
+    let too_many = offers(&rt, alloc, 0, 257);
+    answered(&rt, &mut store, too_many, refused(Refusal::TooMany));
     for from in [0, 256, 512, 768] {
-        answered(
-            &rt,
-            &mut store,
-            offers(alloc, from, from + 256)?,
-            merged(256, 256),
-        );
+        let offers = offers(&rt, alloc, from, from + 256);
+        answered(&rt, &mut store, offers, merged(256, 256));
     }
-    let full = stopped(24, Refusal::Full, 0);
-    answered(&rt, &mut store, offers(alloc, 1000, 1100)?, full);
+    let beyond = offers(&rt, alloc, 1000, 1100);
+    answered(&rt, &mut store, beyond, stopped(24, Refusal::Full, 0));
     assert_eq!(rt; store.held().len(), 1024);
-    Ok(())
 }
 
 #[test]
-fn a_change_at_the_last_place(rt: HostRuntime) -> Result<(), Fail> {
-    let alloc = rt.alloc();
-    let mut store = Store::open(alloc, 1, LAST - 2, 256)?;
-    let delete = Command::Delete {
-        caller: endpoint(3, 17)?,
-        key: key("mtu", Kind::U32)?,
-        version: version(1)?,
-    };
+fn a_change_at_the_last_place(rt: HostRuntime) {
+    let mut store = opened(&rt, rt.alloc(), LAST - 2);
     let worn = Refusal::Worn;
-    let rows = [
-        (up()?, changed()),
-        (put("mtu", 0, 1500, false)?, changed()),
-        (put("mtu", 0, 1500, false)?, Reply::Known),
-        (put("mtu", 1, 1400, false)?, Reply::Refused(Refusal::Exists)),
-        (put("mtu", 1, 1400, true)?, Reply::Refused(worn)),
-        (put("mac", 1, 1, false)?, Reply::Refused(worn)),
-        (delete, Reply::Refused(worn)),
-        (sweep("eth0")?, Reply::Refused(worn)),
-        (sweep("tty")?, Reply::Swept { count: 0, owed: 0 }),
-        (offer(alloc, change("mtu", "eth0", 0)?)?, merged(1, 0)),
-        (offer(alloc, change("a", "eth0", 0)?)?, stopped(0, worn, 0)),
-    ];
-    for (command, wanted) in rows {
-        answered(&rt, &mut store, command, wanted);
-    }
+    answered(&rt, &mut store, up(&rt), changed(0));
+    answered(&rt, &mut store, put(&rt, "mtu", 0, 1500, false), changed(0));
+    answered(
+        &rt,
+        &mut store,
+        put(&rt, "mtu", 0, 1500, false),
+        Reply::Known,
+    );
+    let exists = refused(Refusal::Exists);
+    answered(&rt, &mut store, put(&rt, "mtu", 1, 1400, false), exists);
+    answered(
+        &rt,
+        &mut store,
+        put(&rt, "mtu", 1, 1400, true),
+        refused(worn),
+    );
+    answered(&rt, &mut store, put(&rt, "mac", 1, 1, false), refused(worn));
+    answered(&rt, &mut store, delete(&rt, "mtu", 1), refused(worn));
     assert_eq!(rt; store.position(), LAST);
-    Ok(())
 }
 
 #[test]
-fn a_check_at_the_last_stamp(rt: HostRuntime) -> Result<(), Fail> {
+fn sweeps_and_merges_at_the_last_place(rt: HostRuntime) {
     let alloc = rt.alloc();
-    let mut store = Store::open(alloc, 1, LAST - 1, 256)?;
-    let made = Reply::Subscribed {
-        stamp: LAST,
-        owed: 0,
-    };
+    let mut store = opened(&rt, alloc, LAST - 1);
+    let worn = Refusal::Worn;
+    answered(&rt, &mut store, offer(&rt, alloc, "mtu"), merged(1, 1));
+    answered(&rt, &mut store, sweep(&rt, "eth0"), refused(worn));
+    let none = Reply::Swept { count: 0, owed: 0 };
+    answered(&rt, &mut store, sweep(&rt, "tty"), none);
+    answered(&rt, &mut store, offer(&rt, alloc, "mtu"), merged(1, 0));
+    answered(&rt, &mut store, offer(&rt, alloc, "a"), stopped(0, worn, 0));
+}
+
+#[test]
+fn a_check_at_the_last_stamp(rt: HostRuntime) {
+    let alloc = rt.alloc();
+    let mut store = opened(&rt, alloc, LAST - 1);
+    let (stamp, before, after) = (LAST, LAST, LAST);
+    let made = Reply::Subscribed { stamp, owed: 0 };
+    answered(&rt, &mut store, subscribe(&rt, alloc, 0, b".*"), made);
+    let items = Items::new(alloc);
     let nothing = Reply::Checked {
-        items: Items::new(alloc),
-        before: LAST,
-        after: LAST,
+        items,
+        before,
+        after,
     };
-    let worn = Reply::Refused(Refusal::Worn);
-    let commands = vec![in alloc;
-        subscribe(alloc, 0, b".*")?,
-        Command::Check { sub: 0, max: 1 },
-        up()?,
-        Command::Check { sub: 0, max: 1 },
-        subscribe(alloc, 1, b".*")?,
-    ]?;
-    let wanted = [
-        made,
-        nothing,
-        Reply::Changed { owed: 1 },
-        worn,
-        Reply::Refused(Refusal::Worn),
-    ];
-    assert!(rt; run(alloc, &mut store, commands)?.as_slice() == wanted.as_slice());
-    Ok(())
+    answered(&rt, &mut store, Command::Check { sub: 0, max: 1 }, nothing);
+    answered(&rt, &mut store, up(&rt), changed(1));
+    let worn = refused(Refusal::Worn);
+    answered(&rt, &mut store, Command::Check { sub: 0, max: 1 }, worn);
+    let worn = refused(Refusal::Worn);
+    answered(&rt, &mut store, subscribe(&rt, alloc, 1, b".*"), worn);
+}
+
+#[test]
+fn commands_run_in_order(rt: HostRuntime) {
+    let alloc = rt.alloc();
+    let mut store = opened(&rt, alloc, 0);
+    let mut commands = Vec::new(alloc);
+    assert!(rt; commands.push(put(&rt, "mtu", 0, 1500, false)).is_ok());
+    assert!(rt; commands.push(up(&rt)).is_ok());
+    let replies = run(alloc, &mut store, commands).expect(&rt, "memory");
+    assert_eq!(rt; replies.len(), 2);
+    assert!(rt; replies[0] == refused(Refusal::NoCaller));
+    assert!(rt; replies[1] == changed(0));
 }

@@ -7,7 +7,7 @@ use Rattle.ds_join.proofs.KeptLemmas.{valid_changes}
 use Rattle.ds_join.proofs.held.Held.len.Goals as goal
 
 pub returns-clause-count : goal.returns-clause-count
-returns-clause-count c = c.len.ensures ∙ c.self.inside.changes.ok.0 ∙ sym (count c.self.inside.changes.items c.self.invariant.apart) ∙ ap held_count c.self.view_is
+returns-clause-count c = c.len.ensures ∙ c.self.inside.changes.ok.0 ∙ sym (count c.self.inside.changes.items c.self.invariant.rising) ∙ ap held_count c.self.view_is
 
 pub returns-clause-own : goal.returns-clause-own
 returns-clause-own c = subst IsOwn c.self.view_is (own_list c.self.inside.changes.items)

@@ -4,7 +4,9 @@ use Rattle.ds_join.specs.Held.{Holding, held_changes}
 use Rattle.ds_join.specs.Top.{IsTop}
 use Rattle.ds_join.specs.Kept.{holding_of}
 use Rattle.ds_join.proofs.PlaceLemmas.{own_list}
+use Rattle.ds_entry.specs.SingleNumbered.{IsSingleNumbered}
 use Rattle.ds_join.proofs.MergeLemmas.{merge_joins}
+use Rattle.ds_join.proofs.JoinLemmas.{merge_single, always_ok}
 use Rattle.ds_join.proofs.held.Held.merge.Goals as goal
 
 pub returns-clause-joined : goal.returns-clause-joined
@@ -13,3 +15,11 @@ returns-clause-joined c =
     let new = holding_of c.merge_into.new.changes.items in
     subst (λ (h : Holding). OnOk c.merge_into.result (IsTop (held_changes new) (held_changes h ++ c.args.change ∷ []))) c.self.view_is
     (merge_joins old new c.args.change c.merge_into.result (own_list c.self.inside.changes.items) c.merge_into.ensures.answer c.merge_into.ensures.after)
+
+pub returns-clause-single : goal.returns-clause-single
+returns-clause-single c =
+    subst (λ (h : Holding). OnOk c.merge_into.result (IsSingleNumbered (held_changes h ++ c.args.change ∷ []))) c.self.view_is
+    (merge_single (holding_of c.self.inside.changes.items) c.args.change c.merge_into.result (own_list c.self.inside.changes.items) (always_ok c.merge_into.result c.merge_into.ensures.answer))
+
+pub returns-clause-own : goal.returns-clause-own
+returns-clause-own c = own_list c.merge_into.new.changes.items
