@@ -1,5 +1,5 @@
 -- What a list of changes whose keys rise has as a holding.
-use Rattle.std.proofs.Common.{◌≡◌, ◌≤◌, List, length, All, sym, ap, subst, arith}
+use Rattle.std.proofs.Common.{◌≤◌, List, length, All, sym, subst}
 use Rattle.std.specs.List.Sorted.{IsStrictlySortedBy}
 use Rattle.ds_entry.specs.Change.{ChangeRecord, IsChange}
 use Rattle.ds_entry.specs.Covers.{change_cmp}

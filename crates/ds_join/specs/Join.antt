@@ -1,5 +1,5 @@
 -- The join of what two holders hold, and its laws.
-use Rattle.std.specs.Prelude.{◌≡◌, List, ◌++◌}
+use Rattle.std.specs.Prelude.{List, ◌++◌}
 use Rattle.ds_entry.specs.Change.{ChangeRecord}
 use Rattle.ds_entry.specs.SingleNumbered.{IsSingleNumbered}
 use Rattle.ds_join.specs.Top.{IsTop, CoversAll}

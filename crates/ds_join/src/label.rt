@@ -24,7 +24,9 @@ fn names_endpoint(change: &Change, endpoint: Endpoint) -> bool
 fn first_named<'a>(changes: &'a [Change], endpoint: Endpoint) -> Option<&'a Change>
     ensures { option_copied result ≡ find (names_endpoint endpoint) changes.now }
 {
-    changes.iter().find(|change| names_endpoint(change, endpoint))
+    changes
+        .iter()
+        .find(|change| names_endpoint(change, endpoint))
 }
 
 // The live label that holds the endpoint, the one of the least key.

@@ -1,6 +1,6 @@
 //! Outside values, and with ample memory each call on its happy path.
 
-use crate::{Held, JoinFault, Merge, Stop};
+use crate::{Held, JoinFault, Marked, Merge, Stop};
 use ds_entry::{Blob, Body, Change, Text, Value};
 use ds_names::{Endpoint, Generation, Key, Kind, Name, Version};
 use std::alloc::Global;
@@ -151,4 +151,31 @@ fn texts_and_blobs_are_copied(rt: HostRuntime) {
     is_copied(&rt, alloc, Value::Str(text));
     let blob = Blob::read(alloc, &[0x00, 0xff]).expect(&rt, "a blob");
     is_copied(&rt, alloc, Value::Mem(blob));
+}
+
+// The mark beside a label.
+fn mark_of(marked: &Marked<u32>, key: &Key) -> u32 {
+    match marked.get(key) {
+        Some((_, mark)) => *mark,
+        None => 0,
+    }
+}
+
+#[test]
+fn marks_stand_beside_their_changes(rt: HostRuntime) {
+    let mut marked: Marked<u32> = Marked::new(rt.alloc());
+    let eth0 = key(&rt, "eth0");
+    let tty = key(&rt, "tty");
+    assert!(rt; marked.merge(put(&rt, "tty", 1, 4), 7) == Ok(Merge::Taken));
+    assert!(rt; marked.merge(put(&rt, "eth0", 3, 17), 8) == Ok(Merge::Taken));
+    assert!(rt; marked.merge(put(&rt, "eth0", 2, 9), 9) == Ok(Merge::Stale));
+    assert_eq!(rt; mark_of(&marked, &tty), 7);
+    assert_eq!(rt; mark_of(&marked, &eth0), 8);
+    assert!(rt; marked.merge(gone(&rt, "eth0", 3), 10) == Ok(Merge::Taken));
+    assert_eq!(rt; mark_of(&marked, &eth0), 10);
+    marked.set_mark(1, 11);
+    assert_eq!(rt; mark_of(&marked, &tty), 11);
+    assert!(rt; marked.at(1).is_some_and(|(change, _)| *change.key() == tty));
+    assert!(rt; marked.at(2).is_none());
+    assert_eq!(rt; marked.held().len(), 2);
 }

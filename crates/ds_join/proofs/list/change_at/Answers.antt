@@ -1,4 +1,4 @@
-use Rattle.std.proofs.Common.{Ok, Err, sym, ◌∙◌}
+use Rattle.std.proofs.Common.{Ok, sym, ◌∙◌}
 use Rattle.ds_join.specs.Kept.{IsPlace}
 use Rattle.ds_join.proofs.PlaceLemmas.{held_there, not_held}
 use Rattle.ds_join.proofs.list.change_at.Goals as goal

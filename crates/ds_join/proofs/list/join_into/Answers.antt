@@ -1,9 +1,7 @@
-use Rattle.std.proofs.Common.{◌≡◌, ◌+◌, Some, refl, ap, ◌∙◌, sym, subst, arith}
-use Rattle.std.specs.List.{slice_get}
-use Rattle.ds_join.specs.Held.{held_changes}
+use Rattle.std.proofs.Common.{◌+◌, refl, ap}
 use Rattle.ds_join.specs.Kept.{holding_of}
 use Rattle.ds_join.proofs.PlaceLemmas.{own_list}
-use Rattle.ds_join.proofs.JoinLemmas.{Joining, next_of, all_walked, joining_starts, joining_goes_on, joining_stops, joining_ends}
+use Rattle.ds_join.proofs.JoinLemmas.{next_of, all_walked, joining_starts, joining_goes_on, joining_stops, joining_ends}
 use Rattle.ds_join.proofs.list.join_into.Goals as goal
 
 pub loop-change-init : goal.loop-change-init

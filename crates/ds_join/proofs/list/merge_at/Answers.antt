@@ -1,4 +1,4 @@
-use Rattle.std.proofs.Common.{◌≡◌, Ok, Err, ap, sym, ◌∙◌, subst, arith}
+use Rattle.std.proofs.Common.{Ok, Err, ap, sym, ◌∙◌, subst}
 use Rattle.ds_names.proofs.OrderLemmas.{exact_keys}
 use Rattle.ds_join.specs.Kept.{holding_of, IsKept, IsPlace}
 use Rattle.ds_join.proofs.MergeLemmas.{merged_after, replaced_answer, replaced_kept, added_answer, added_kept}

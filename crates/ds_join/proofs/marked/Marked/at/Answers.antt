@@ -1,7 +1,6 @@
-use Rattle.std.proofs.Common.{Some, ◌≡◌, sym, ap, ◌∙◌, subst}
+use Rattle.std.proofs.Common.{Some, ◌≡◌, ap, ◌∙◌, subst}
 use Rattle.std.specs.List.{slice_get}
 use Rattle.std.specs.Option.{IfSome}
-use Rattle.ds_join.specs.Held.{held_changes}
 use Rattle.ds_join.specs.Marked.{mark_for}
 use Rattle.ds_join.proofs.MarkLemmas.{beside_at}
 use Rattle.ds_join.proofs.marked.Marked.at.Goals as goal

@@ -1,4 +1,4 @@
-use Rattle.std.proofs.Common.{Ok, Err, sym, ap, ◌∙◌, subst}
+use Rattle.std.proofs.Common.{Ok, sym, ap, ◌∙◌}
 use Rattle.std.specs.List.{slice_get}
 use Rattle.ds_join.specs.Held.{held_changes, held_for}
 use Rattle.ds_join.specs.Kept.{IsPlace}
