@@ -173,23 +173,29 @@ fn goes_round(rt: &impl Abort, alloc: Global, store: &mut Store, value: Value) {
     answered(rt, &mut other, Command::Merge { items }, merged(1, 1));
 }
 
+// Stops the test unless no store is opened, for this reason.
+fn is_not_opened(rt: &impl Abort, alloc: Global, first: u64, ring: u32, refusal: Refusal) {
+    let fault = Store::open(alloc, 7, first, ring).err();
+    assert!(rt; fault == Some(refusal));
+}
+
+// Stops the test unless a store is opened, and has its first position and its incarnation.
+fn is_opened(rt: &impl Abort, alloc: Global, first: u64, ring: u32) {
+    let store = Store::open(alloc, 7, first, ring).expect(rt, "a store");
+    assert!(rt; store.position() == first);
+    assert!(rt; store.incarnation() == 7);
+    assert!(rt; store.held().len() == 0);
+}
+
 #[test]
 fn stores_are_opened_within_their_limits(rt: HostRuntime) {
-    for (first, ring, refusal) in [
-        (0, 0, Refusal::BadRing),
-        (0, 4097, Refusal::BadRing),
-        (LAST + 1, 0, Refusal::BadRing),
-        (LAST + 1, 256, Refusal::BadFirst),
-    ] {
-        let fault = Store::open(rt.alloc(), 1, first, ring).err();
-        assert_eq!(rt; fault, Some(refusal));
-    }
-    for (first, ring) in [(0, 1), (LAST, 4096)] {
-        let store = Store::open(rt.alloc(), 7, first, ring).expect(&rt, "a store");
-        assert_eq!(rt; store.position(), first);
-        assert_eq!(rt; store.incarnation(), 7);
-        assert_eq!(rt; store.held().len(), 0);
-    }
+    let alloc = rt.alloc();
+    is_not_opened(&rt, alloc, 0, 0, Refusal::BadRing);
+    is_not_opened(&rt, alloc, 0, 4097, Refusal::BadRing);
+    is_not_opened(&rt, alloc, LAST + 1, 0, Refusal::BadRing);
+    is_not_opened(&rt, alloc, LAST + 1, 256, Refusal::BadFirst);
+    is_opened(&rt, alloc, 0, 1);
+    is_opened(&rt, alloc, LAST, 4096);
 }
 
 #[test]
@@ -213,16 +219,12 @@ fn a_stopped_merge_keeps_its_first_items(rt: HostRuntime) {
     let made = Reply::Subscribed { stamp: 2, owed: 0 };
     answered(&rt, &mut store, subscribe(&rt, alloc, 63, b"b"), made);
     let mut items = Items::new(alloc);
-    for (text, owner, seq) in [
-        ("a", "eth0", 1),
-        ("a", "eth0", 1),
-        ("a", "eth0", 0),
-        ("b", "eth0", 0),
-        ("a", "tty", 2),
-        ("c", "eth0", 0),
-    ] {
-        add(&rt, &mut items, text, owner, seq);
-    }
+    add(&rt, &mut items, "a", "eth0", 1);
+    add(&rt, &mut items, "a", "eth0", 1);
+    add(&rt, &mut items, "a", "eth0", 0);
+    add(&rt, &mut items, "b", "eth0", 0);
+    add(&rt, &mut items, "a", "tty", 2);
+    add(&rt, &mut items, "c", "eth0", 0);
     let wanted = stopped(4, Refusal::NotOwner, (1 << 63) + 2);
     answered(&rt, &mut store, Command::Merge { items }, wanted);
     assert_eq!(rt; store.held().len(), 2);
@@ -234,8 +236,8 @@ fn a_full_store(rt: HostRuntime) {
     let mut store = opened(&rt, alloc, 0);
     let too_many = offers(&rt, alloc, 0, 257);
     answered(&rt, &mut store, too_many, refused(Refusal::TooMany));
-    for from in [0, 256, 512, 768] {
-        let offers = offers(&rt, alloc, from, from + 256);
+    for i in 0..4u32 {
+        let offers = offers(&rt, alloc, 256 * i, 256 * i + 256);
         answered(&rt, &mut store, offers, merged(256, 256));
     }
     let beyond = offers(&rt, alloc, 1000, 1100);
@@ -246,7 +248,6 @@ fn a_full_store(rt: HostRuntime) {
 #[test]
 fn a_change_at_the_last_place(rt: HostRuntime) {
     let mut store = opened(&rt, rt.alloc(), LAST - 2);
-    let worn = Refusal::Worn;
     answered(&rt, &mut store, up(&rt), changed(0));
     answered(&rt, &mut store, put(&rt, "mtu", 0, 1500, false), changed(0));
     answered(
@@ -261,10 +262,20 @@ fn a_change_at_the_last_place(rt: HostRuntime) {
         &rt,
         &mut store,
         put(&rt, "mtu", 1, 1400, true),
-        refused(worn),
+        refused(Refusal::Worn),
     );
-    answered(&rt, &mut store, put(&rt, "mac", 1, 1, false), refused(worn));
-    answered(&rt, &mut store, delete(&rt, "mtu", 1), refused(worn));
+    answered(
+        &rt,
+        &mut store,
+        put(&rt, "mac", 1, 1, false),
+        refused(Refusal::Worn),
+    );
+    answered(
+        &rt,
+        &mut store,
+        delete(&rt, "mtu", 1),
+        refused(Refusal::Worn),
+    );
     assert_eq!(rt; store.position(), LAST);
 }
 
@@ -272,13 +283,17 @@ fn a_change_at_the_last_place(rt: HostRuntime) {
 fn sweeps_and_merges_at_the_last_place(rt: HostRuntime) {
     let alloc = rt.alloc();
     let mut store = opened(&rt, alloc, LAST - 1);
-    let worn = Refusal::Worn;
     answered(&rt, &mut store, offer(&rt, alloc, "mtu"), merged(1, 1));
-    answered(&rt, &mut store, sweep(&rt, "eth0"), refused(worn));
+    answered(&rt, &mut store, sweep(&rt, "eth0"), refused(Refusal::Worn));
     let none = Reply::Swept { count: 0, owed: 0 };
     answered(&rt, &mut store, sweep(&rt, "tty"), none);
     answered(&rt, &mut store, offer(&rt, alloc, "mtu"), merged(1, 0));
-    answered(&rt, &mut store, offer(&rt, alloc, "a"), stopped(0, worn, 0));
+    answered(
+        &rt,
+        &mut store,
+        offer(&rt, alloc, "a"),
+        stopped(0, Refusal::Worn, 0),
+    );
 }
 
 #[test]
@@ -303,14 +318,10 @@ fn a_check_at_the_last_stamp(rt: HostRuntime) {
 }
 
 #[test]
-fn commands_run_in_order(rt: HostRuntime) {
+fn a_command_is_run(rt: HostRuntime) {
     let alloc = rt.alloc();
     let mut store = opened(&rt, alloc, 0);
-    let mut commands = Vec::new(alloc);
-    assert!(rt; commands.push(put(&rt, "mtu", 0, 1500, false)).is_ok());
-    assert!(rt; commands.push(up(&rt)).is_ok());
+    let commands = Vec::from_array(alloc, [up(&rt)]).expect(&rt, "memory");
     let replies = run(alloc, &mut store, commands).expect(&rt, "memory");
-    assert_eq!(rt; replies.len(), 2);
-    assert!(rt; replies[0] == refused(Refusal::NoCaller));
-    assert!(rt; replies[1] == changed(0));
+    assert!(rt; replies.first() == Some(&changed(0)));
 }

@@ -44,10 +44,53 @@ fn gone(rt: &impl Abort, text: &str, generation: u32) -> Change {
     change(rt, key(rt, text), generation, Body::Gone)
 }
 
+// Stops the test unless the merge of the change is answered so.
+fn answers(rt: &impl Abort, held: &mut Held, change: Change, wanted: Result<Merge, JoinFault>) {
+    assert!(rt; held.merge(change) == wanted);
+}
+
 // Stops the test unless the change is taken.
 fn takes(rt: &impl Abort, held: &mut Held, change: Change) {
-    let answer = held.merge(change);
-    assert!(rt; answer == Ok(Merge::Taken));
+    answers(rt, held, change, Ok(Merge::Taken));
+}
+
+// Stops the test unless the change is held, and its key has this value or none.
+fn holds(rt: &impl Abort, held: &Held, change: &Change, value: Option<Value>) {
+    assert!(rt; held.get(change.key()) == Some(change));
+    assert!(rt; held.live(change.key()) == value.as_ref());
+}
+
+// Stops the test unless so many keys are held.
+fn counts(rt: &impl Abort, held: &Held, count: usize) {
+    assert!(rt; held.len() == count);
+}
+
+fn forgets(held: &mut Held) {
+    held.clear();
+}
+
+// Stops the test unless this name is given for the endpoint, or none.
+fn names(rt: &impl Abort, held: &Held, endpoint: Endpoint, label: Option<Name>) {
+    assert!(rt; held.label_at(endpoint) == label.as_ref());
+}
+
+// Stops the test unless the join is answered so.
+fn joins(rt: &impl Abort, alloc: Global, held: &mut Held, other: &Held, wanted: Result<(), Stop>) {
+    assert!(rt; held.join(alloc, other) == wanted);
+}
+
+// Stops the test unless this change stands at the place of all that is held, and comes next after a key.
+fn stands(
+    rt: &impl Abort,
+    alloc: Global,
+    held: &Held,
+    place: usize,
+    after: Option<&Key>,
+    change: &Change,
+) {
+    let all = held.all(alloc).expect(rt, "memory");
+    assert!(rt; all.get(place) == Some(change));
+    assert!(rt; held.first_after(after) == Some(change));
 }
 
 // A holder of so many labels, whose names begin alike.
@@ -60,88 +103,95 @@ fn holder(rt: &impl Abort, alloc: Global, front: &str, count: u32) -> Held {
     held
 }
 
+// Stops the test unless a copy of the change is taken.
+fn copies(rt: &impl Abort, alloc: Global, held: &mut Held, change: &Change) {
+    assert!(rt; held.merge_copy(alloc, change) == Ok(Merge::Taken));
+    assert!(rt; held.get(change.key()) == Some(change));
+}
+
 // Stops the test unless a copy of the value is taken, and joined into another holder.
 fn is_copied(rt: &impl Abort, alloc: Global, value: Value) {
     let name = name(rt, "eth0");
     let kind = value.kind();
     let change = change(rt, Key { name, kind }, 3, Body::Put(value));
     let mut held = Held::new(alloc);
-    assert!(rt; held.merge_copy(alloc, &change) == Ok(Merge::Taken));
-    assert!(rt; held.merge_copy(alloc, &change) == Ok(Merge::Known));
+    copies(rt, alloc, &mut held, &change);
     let mut other = Held::new(alloc);
-    assert!(rt; other.join(alloc, &held).is_ok());
-    assert!(rt; other.get(change.key()) == Some(&change));
+    joins(rt, alloc, &mut other, &held, Ok(()));
+    stands(rt, alloc, &other, 0, None, &change);
 }
 
 #[test]
 fn the_greatest_version_stands(rt: HostRuntime) {
     let mut held = Held::new(rt.alloc());
-    let eth0 = key(&rt, "eth0");
     takes(&rt, &mut held, put(&rt, "eth0", 3, 17));
     let first = put(&rt, "eth0", 3, 17);
     let version = first.version();
-    assert!(rt; held.get(&eth0) == Some(&first));
-    assert!(rt; held.merge(first) == Ok(Merge::Known));
-    assert!(rt; held.merge(put(&rt, "eth0", 2, 9)) == Ok(Merge::Stale));
-    let clash = Err(JoinFault::Clash { version });
-    assert!(rt; held.merge(put(&rt, "eth0", 3, 18)) == clash);
-    assert!(rt; held.live(&eth0) == Some(&Value::Label(endpoint(&rt, 3, 17))));
+    let value = Value::Label(endpoint(&rt, 3, 17));
+    holds(&rt, &held, &first, Some(value));
+    answers(&rt, &mut held, first, Ok(Merge::Known));
+    answers(&rt, &mut held, put(&rt, "eth0", 2, 9), Ok(Merge::Stale));
+    let clash = JoinFault::Clash { version };
+    answers(&rt, &mut held, put(&rt, "eth0", 3, 18), Err(clash));
     takes(&rt, &mut held, gone(&rt, "eth0", 3));
-    assert!(rt; held.live(&eth0).is_none());
-    assert_eq!(rt; held.len(), 1);
-    held.clear();
-    assert_eq!(rt; held.len(), 0);
+    holds(&rt, &held, &gone(&rt, "eth0", 3), None);
+    counts(&rt, &held, 1);
+    forgets(&mut held);
+    counts(&rt, &held, 0);
 }
 
 #[test]
 fn a_full_holder(rt: HostRuntime) {
-    let mut held = holder(&rt, rt.alloc(), "a", 1024);
-    assert_eq!(rt; held.len(), 1024);
-    assert!(rt; held.merge(put(&rt, "b", 3, 17)) == Err(JoinFault::Full));
+    let alloc = rt.alloc();
+    let mut held = holder(&rt, alloc, "a", 1024);
+    counts(&rt, &held, 1024);
+    answers(&rt, &mut held, put(&rt, "b", 3, 17), Err(JoinFault::Full));
     takes(&rt, &mut held, put(&rt, "a7", 4, 17));
-    let mut left = holder(&rt, rt.alloc(), "a", 600);
-    let right = holder(&rt, rt.alloc(), "b", 600);
-    let stop = Stop {
-        done: 424,
-        fault: JoinFault::Full,
-    };
-    assert!(rt; left.join(rt.alloc(), &right) == Err(stop));
-    assert_eq!(rt; left.len(), 1024);
+    let mut left = holder(&rt, alloc, "a", 600);
+    let right = holder(&rt, alloc, "b", 600);
+    let fault = JoinFault::Full;
+    joins(
+        &rt,
+        alloc,
+        &mut left,
+        &right,
+        Err(Stop { done: 424, fault }),
+    );
+    counts(&rt, &left, 1024);
 }
 
 #[test]
 fn two_join_in_the_order_of_their_keys(rt: HostRuntime) {
-    let mut left = Held::new(rt.alloc());
+    let alloc = rt.alloc();
+    let mut left = Held::new(alloc);
     takes(&rt, &mut left, put(&rt, "tty", 1, 4));
     takes(&rt, &mut left, put(&rt, "eth0", 3, 17));
-    let mut right = Held::new(rt.alloc());
+    let mut right = Held::new(alloc);
     takes(&rt, &mut right, gone(&rt, "eth0", 2));
     takes(&rt, &mut right, put(&rt, "disk", 1, 5));
     takes(&rt, &mut right, gone(&rt, "tty", 1));
-    assert!(rt; left.join(rt.alloc(), &right).is_ok());
-    let all = left.all(rt.alloc()).expect(&rt, "memory");
-    assert_eq!(rt; all.len(), 3);
-    assert!(rt; all.get(0) == Some(&put(&rt, "disk", 1, 5)));
-    assert!(rt; all.get(1) == Some(&put(&rt, "eth0", 3, 17)));
-    assert!(rt; all.get(2) == Some(&gone(&rt, "tty", 1)));
-    let disk = key(&rt, "disk");
-    assert!(rt; left.first_after(Some(&disk)) == Some(&put(&rt, "eth0", 3, 17)));
+    joins(&rt, alloc, &mut left, &right, Ok(()));
+    counts(&rt, &left, 3);
+    let (disk, eth0) = (key(&rt, "disk"), key(&rt, "eth0"));
+    stands(&rt, alloc, &left, 0, None, &put(&rt, "disk", 1, 5));
+    stands(&rt, alloc, &left, 1, Some(&disk), &put(&rt, "eth0", 3, 17));
+    stands(&rt, alloc, &left, 2, Some(&eth0), &gone(&rt, "tty", 1));
 }
 
 #[test]
 fn the_least_live_label_names_an_endpoint(rt: HostRuntime) {
     let mut held = Held::new(rt.alloc());
     let end = endpoint(&rt, 3, 17);
-    assert!(rt; held.label_at(end).is_none());
-    for text in ["tty", "eth0", "vga", "boot"] {
-        takes(&rt, &mut held, put(&rt, text, 3, 17));
-    }
+    names(&rt, &held, end, None);
+    takes(&rt, &mut held, put(&rt, "tty", 3, 17));
+    takes(&rt, &mut held, put(&rt, "eth0", 3, 17));
+    takes(&rt, &mut held, put(&rt, "boot", 3, 17));
     takes(&rt, &mut held, put(&rt, "disk", 3, 18));
     takes(&rt, &mut held, put(&rt, "cdrom", 4, 17));
     takes(&rt, &mut held, gone(&rt, "boot", 3));
-    assert!(rt; held.label_at(end) == Some(&name(&rt, "eth0")));
+    names(&rt, &held, end, Some(name(&rt, "eth0")));
     takes(&rt, &mut held, put(&rt, "eth0", 4, 9));
-    assert!(rt; held.label_at(end) == Some(&name(&rt, "tty")));
+    names(&rt, &held, end, Some(name(&rt, "tty")));
 }
 
 #[test]
