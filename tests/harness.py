@@ -52,11 +52,10 @@ def read_case(folder):
 
 
 def all_cases():
-    """Reads every case of tests/cases, and every script and settings text of examples/ as a case of its own."""
+    """Reads every case of tests/cases, and every script of examples/ as a case of its own."""
     folders = sorted(path.parent for path in (TESTS / "cases").rglob("output"))
-    words = {".ds": [], ".toml": ["settings"]}
-    files = sorted(it for it in EXAMPLES.iterdir() if it.suffix in words)
-    told = [Case(f"examples/{it.name}", words[it.suffix], it, it.with_suffix(".out").read_bytes()) for it in files]
+    scripts = sorted(EXAMPLES.glob("*.ds"))
+    told = [Case(f"examples/{it.name}", [], it, it.with_suffix(".out").read_bytes()) for it in scripts]
     return [read_case(folder) for folder in folders] + told
 
 

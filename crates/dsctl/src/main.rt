@@ -1,11 +1,10 @@
 //! `dsctl`: the data store at the command line. It reads standard input and writes standard output.
 //!
-//! The program is thin: the words of the command line are `clap`'s, the work is `ds_script`'s and `rs_settings`'s, and
-//! what is left here is the printing of settings and the choice of the exit status. 0: done. 1: refused input. 2: usage. 3: memory, reading or
+//! The program is thin: the words of the command line are `clap`'s, the work is `ds_script`'s, and what is
+//! left here is the choice of the exit status. 0: done. 1: refused input. 2: usage. 3: memory, reading or
 //! writing failed, and standard error says which.
 #![tactic(auto)]
 
-mod settings;
 mod words;
 
 use ds_script::{ReplayFault, replay};
@@ -40,7 +39,6 @@ fn main(rt: HostRuntime) -> ExitCode {
 fn run(rt: &(impl Runtime + AllocGlobal)) -> Result<ExitCode, Failure> {
     match words::read(rt) {
         Words::Replay => replay_input(rt),
-        Words::Settings => settings::show_input(rt),
         Words::Shown => Ok(ExitCode::SUCCESS),
         Words::Usage => Ok(ExitCode::from(2)),
         Words::NoRoom => Err(Failure::NoRoom),

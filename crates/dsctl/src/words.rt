@@ -11,8 +11,6 @@ use std::rt::Runtime;
 pub enum Words {
     /// To answer a script.
     Replay,
-    /// To show what settings tell RS.
-    Settings,
     /// Help or the version was asked for, and stands on standard output.
     Shown,
     /// They are none of the program's, as standard error says.
@@ -54,8 +52,6 @@ Lines of a script:
   show               print the entries that stand, in order of their keys, then `shown N`
   all                the same with tombstones
 
-`dsctl settings` shows what a settings text tells RS; `dsctl settings --help` has its fields.
-
 The other answers are `taken`, `known` for a repeat, `stale`, and `refused` with a word. CALLER and
 ENDPOINT are GENERATION/SLOT; 0/2 is RS, which alone publishes labels and sweeps. An entry but a label
 has its caller's generation as its epoch.
@@ -88,45 +84,10 @@ Example session (lines behind `>` are typed, the others are printed):
   shown 2
 
 Exit status:
-  0  the whole script was answered, or the settings have no fault
-  1  a line can't be read: `badline LINE PLACE` is printed, lines counted from 1 and bytes from 0;
-     or the settings have a fault: `bad WORD INDEX` is printed
+  0  the whole script was answered
+  1  a line can't be read: `badline LINE PLACE` is printed, lines counted from 1 and bytes from 0
   2  the words of the command line are wrong
   3  memory, reading or writing failed: standard error has `noroom`, `readfault` or `writefault`";
-
-const SETTINGS_ABOUT: &str =
-    "Show what a settings text tells RS of its services, or its first fault";
-
-const SETTINGS_LONG_ABOUT: &str = "\
-Shows what a settings text tells the reincarnation server (RS) of its services, or the text's first fault.
-
-The text is a TOML document on standard input. Nothing is printed before all of it is judged. For each
-service there is a line `service LABEL CLASS UNIT period P limit L publishes N`, with `-` for the unit of a
-server, and then one line `services N slots S`. Where there is a fault, it is `bad WORD INDEX` alone, INDEX
-being that of the service, from 0, and left out where the fault is none of a service.
-
-At the top:
-  slots      process slots that RS may use, 1 to 1008; 64 where it isn't there
-  [[service]]  up to 64 services
-
-Of a service:
-  label      its name, 1 to 64 letters, digits, `.`, `_` and `-`; not `rs`
-  class      \"block\", \"character\", \"network\" or \"server\"
-  unit       0 to 255: its major number, or its port if it is a network service; a server has none
-  period     ticks from one ping to the next, 0 to 1000000; 0, for none, where it isn't there
-  limit      how many failures in a row RS answers by another start, 0 to 1000; 0 where it isn't there
-  publishes  the names that it may publish in the data store, 64 at most
-
-No two services have one label, no two block or character services one major number, no two network
-services one port, and no name is published twice.
-
-The words of faults, in the order in which they are judged:
-  toml          the text is no TOML document
-  unknownfield  a field has another name than these
-  missing       a service has no label, no class or no unit
-  outofrange    a value is of another type, or out of its range
-  twolabels, twounits, sharedname
-                two services have one label, one unit, one published name: INDEX is the second's";
 
 /// Reads the words that the program was started with. Answers a wrong word, or a wish for help, itself.
 pub(crate) fn read<R: Runtime + AllocGlobal>(rt: &R) -> Words {
@@ -146,19 +107,16 @@ pub(crate) fn read<R: Runtime + AllocGlobal>(rt: &R) -> Words {
         }
     }
     match parse(rt.alloc(), &words) {
-        Ok(words) => words,
+        Ok(()) => Words::Replay,
         Err(error) => answer(rt, &error),
     }
 }
 
-// What the words ask for, if they are the program's.
-fn parse<'a>(alloc: Global, words: &'a [String]) -> Result<Words, Error> {
+// Whether the words are the program's. The one subcommand is also what none means.
+fn parse<'a>(alloc: Global, words: &'a [String]) -> Result<(), Error> {
     let program: Command<'a> = command(alloc)?;
-    let matches: ArgMatches<'a> = program.try_get_matches_from(words)?;
-    Ok(match matches.subcommand_name() {
-        Some("settings") => Words::Settings,
-        _ => Words::Replay,
-    })
+    let _matches: ArgMatches<'a> = program.try_get_matches_from(words)?;
+    Ok(())
 }
 
 // The command line of the program.
@@ -166,17 +124,13 @@ fn command<'a>(alloc: Global) -> Result<Command<'a>, AllocError> {
     let replay = Command::new(alloc, "replay").about(
         "Answer a script; no subcommand means this one",
     );
-    let settings = Command::new(alloc, "settings")
-        .about(SETTINGS_ABOUT)
-        .long_about(SETTINGS_LONG_ABOUT);
     let program = Command::new(alloc, "dsctl")
         .version("0.1.0")
         .about(ABOUT)
         .long_about(LONG_ABOUT)
         .after_help(AFTER_HELP)
         .disable_help_subcommand(true)
-        .subcommand(replay)?
-        .subcommand(settings)?;
+        .subcommand(replay)?;
     Ok(program)
 }
 

@@ -1,4 +1,4 @@
-//! Settings, worked out by hand, with ample memory. Their faults are end-to-end cases.
+//! Settings, worked out by hand, with ample memory.
 
 use crate::{Class, read};
 use std::test::Fail;
