@@ -19,11 +19,18 @@ fn asked(rt: &impl Abort, alloc: Global, line: &[u8], copied: bool) -> Option<Co
     asked.expect(rt, "memory")
 }
 
+fn is_merge_of_one(command: &Option<Command>) -> bool {
+    match command {
+        Some(Command::Merge { items }) => items.len() == 1,
+        _ => false,
+    }
+}
+
 #[test]
 fn an_offer_is_a_merge_of_one_item(rt: HostRuntime) {
     for copied in [true, false] {
         let command = asked(&rt, rt.alloc(), b"offer eth0 label rs 3.0 = 3/17", copied);
-        assert!(rt; matches!(command, Some(Command::Merge { items }) if items.len() == 1));
+        assert!(rt; is_merge_of_one(&command));
     }
 }
 
