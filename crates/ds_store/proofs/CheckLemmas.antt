@@ -1,13 +1,11 @@
 -- What subscriptions are to be shown when they are made, and after a check.
-use Rattle.std.proofs.Common.{◌≡◌, ℕ, zero, suc, ◌+◌, ◌<◌, ◌≤◌, ◌⊎◌, Bool, true, false, not, cond, ◌&&◌, ◌||◌, List, [], ◌∷◌, ◌++◌, map, filter, length, take, get_or, set, Option, Some, None, is_some, refl, ap, ap₂, sym, ◌∙◌, subst, inl, inr, arith, Contains, Bor}
+use Rattle.std.proofs.Common.{◌≡◌, ℕ, zero, suc, ◌+◌, ◌<◌, ◌≤◌, ◌⊎◌, Bool, true, false, not, cond, ◌&&◌, ◌||◌, List, [], ◌∷◌, ◌++◌, map, filter, length, take, get_or, set, Option, Some, None, is_some, refl, ap, ap₂, sym, ◌∙◌, inl, inr, arith, Contains, Bor}
 use Rattle.std.proofs.lemmas.List.Folds.{list_any-append}
 use Rattle.std.specs.Prelude.{slice_get}
 use Rattle.std.specs.List.{AllByRecursion, list_any}
 use Rattle.std.specs.List.Sorted.{IsStrictlySortedBy}
 use Rattle.std.specs.Option.{option_map, option_copied}
-use Rattle.std.specs.Ordering.{eq_by_cmp}
 use Rattle.ds_names.specs.declared.key.Key.{Key}
-use Rattle.ds_names.specs.Key.{key_cmp}
 use Rattle.ds_entry.specs.Change.{ChangeRecord}
 use Rattle.ds_entry.specs.Covers.{covers, change_cmp}
 use Rattle.ds_entry.proofs.Members.{Contains-filter, Contains-from_filter, list_any-from_Contains, Contains-from_list_any}
@@ -20,7 +18,6 @@ use Rattle.ds_watch.specs.Watching.{Watching, watching, followed_by, followed_fr
 use Rattle.ds_store.proofs.FlagLemmas.{tests_at, flags_same, filter_same}
 use Rattle.ds_store.proofs.MarkLemmas.{followed_same}
 use Rattle.ds_store.proofs.PlaceLemmas.{index_of, index_among, index_in_take, among_take, apart}
-use Rattle.ds_store.proofs.SweepLemmas.{once}
 
 and_true : (b : Bool) → b && true ≡ b
 and_true true = refl

@@ -1,5 +1,5 @@
 -- What the masks beside what is held say, and after a change took effect.
-use Rattle.std.proofs.Common.{◌≡◌, ℕ, Bool, true, false, cond, List, [], ◌∷◌, ◌++◌, map, length, Option, Some, None, is_some, refl, ap, sym, ◌∙◌, inl, inr, Contains}
+use Rattle.std.proofs.Common.{◌≡◌, Bool, true, false, cond, List, [], ◌∷◌, ◌++◌, map, length, Option, Some, None, is_some, refl, ap, sym, ◌∙◌, inl, inr, Contains}
 use Rattle.std.proofs.lemmas.List.{length-map}
 use Rattle.std.proofs.lemmas.List.Elements.{Contains-push_cases}
 use Rattle.std.specs.FinMap.{FinMap, get, insert, get-insert}
@@ -10,7 +10,7 @@ use Rattle.ds_names.specs.Key.{key_cmp}
 use Rattle.ds_names.proofs.OrderLemmas.{keys_total}
 use Rattle.ds_entry.specs.Change.{ChangeRecord}
 use Rattle.ds_entry.proofs.CoversLemmas.{same_key, same_key-refl}
-use Rattle.ds_join.specs.Held.{Holding, held_changes, held_for, IsOwn}
+use Rattle.ds_join.specs.Held.{held_changes, held_for, IsOwn}
 use Rattle.ds_join.specs.Marked.{MarkedHolding, mark_for, HasMarks}
 use Rattle.ds_join.specs.Top.{IsTop}
 use Rattle.ds_join.proofs.HeldLemmas.{Contains-held}

@@ -1,7 +1,7 @@
 -- Other masks beside what is held, one index after the other.
 use Rattle.std.proofs.Common.{◌≡◌, ℕ, zero, suc, ◌+◌, ◌<◌, ◌≤◌, ◌⊎◌, Bool, true, false, cond, ◌&&◌, List, [], ◌∷◌, length, get_or, set, map, Option, Some, None, refl, ap, ap₂, sym, ◌∙◌, subst, inl, inr, arith, Contains}
 use Rattle.std.specs.Prelude.{slice_get}
-use Rattle.std.specs.FinMap.{FinMap, get, insert, get-insert}
+use Rattle.std.specs.FinMap.{FinMap, get, get-insert}
 use Rattle.std.specs.List.Sorted.{IsStrictlySortedBy}
 use Rattle.std.specs.Option.{option_map, option_map_or}
 use Rattle.std.specs.Ordering.{eq_by_cmp}
@@ -11,7 +11,7 @@ use Rattle.ds_names.specs.declared.key.Key.{Key}
 use Rattle.ds_names.specs.Key.{key_cmp}
 use Rattle.ds_entry.specs.Change.{ChangeRecord}
 use Rattle.ds_entry.specs.Covers.{change_cmp}
-use Rattle.ds_join.specs.Held.{Holding, held_changes}
+use Rattle.ds_join.specs.Held.{held_changes}
 use Rattle.ds_names.proofs.OrderLemmas.{keys_total}
 use Rattle.ds_entry.proofs.CoversLemmas.{same_key-refl}
 use Rattle.ds_join.specs.Marked.{MarkedHolding, mark_for, remarked}

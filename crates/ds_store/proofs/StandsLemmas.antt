@@ -23,7 +23,7 @@ use Rattle.ds_join.proofs.HeldLemmas.{Contains-held, held_at_key}
 use Rattle.ds_join.proofs.NextLemmas.{found_among, none_left}
 use Rattle.ds_join.proofs.TopLemmas.{top_is_unique, top_of_top, held_apart}
 use Rattle.ds_join.proofs.ExistLemmas.{tops_is_top}
-use Rattle.ds_watch.specs.Followed.{Followed, followed_of}
+use Rattle.ds_watch.specs.Followed.{followed_of}
 use Rattle.ds_store.specs.Judging.{held_at, TakesEffect}
 use Rattle.ds_watch.specs.declared.masks.Masks.{Masks}
 use Rattle.ds_watch.specs.Watching.{Watching, followed_from}

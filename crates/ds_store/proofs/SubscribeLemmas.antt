@@ -1,5 +1,5 @@
 -- What a Subscribe and a Check are answered, and what a store stands for then.
-use Rattle.std.proofs.Common.{◌≡◌, ℕ, zero, suc, ◌+◌, ◌^◌, ◌<◌, ◌≤◌, ◌⊎◌, Bool, true, false, cond, ◌&&◌, ◌||◌, nat_le, List, [], ◌∷◌, ◌++◌, map, filter, length, take, get_or, set, Option, Some, None, is_some, refl, ap, ap₂, sym, ◌∙◌, subst, inl, inr, arith, Contains, length-append}
+use Rattle.std.proofs.Common.{◌≡◌, ℕ, zero, suc, ◌+◌, ◌<◌, ◌≤◌, ◌⊎◌, Bool, true, false, cond, ◌&&◌, ◌||◌, nat_le, List, [], ◌∷◌, ◌++◌, map, filter, length, take, get_or, set, Option, Some, None, is_some, refl, ap, ap₂, sym, ◌∙◌, subst, inl, inr, arith, Contains, length-append}
 use Rattle.std.proofs.lemmas.List.{map-set}
 use Rattle.std.specs.List.{list_any}
 use Rattle.std.specs.Prelude.{slice_get}

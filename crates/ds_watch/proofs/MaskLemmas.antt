@@ -1,19 +1,17 @@
 -- Masks and their flags.
-use Rattle.std.proofs.Common.{◌≡◌, ◌≢◌, ℕ, zero, suc, ◌+◌, ◌*◌, ◌/◌, ◌%◌, ◌^◌, ◌<◌, ◌≤◌, ◌==◌, Bool, true, false, cond, ◌||◌, max, min, List, [], ◌∷◌, map, length, get_or, set, replicate, refl, ap, ap₂, sym, ◌∙◌, arith, inl, inr, ◌⊎◌}
+use Rattle.std.proofs.Common.{◌≡◌, ◌≢◌, ℕ, zero, suc, ◌*◌, ◌/◌, ◌%◌, ◌^◌, ◌<◌, ◌≤◌, ◌==◌, Bool, true, false, ◌||◌, max, min, List, [], ◌∷◌, length, get_or, set, replicate, refl, ap, ap₂, sym, ◌∙◌, arith, inl, inr, ◌⊎◌}
 use Rattle.std.proofs.lemmas.Bool.Decides.{nat_tests}
 use Rattle.std.proofs.Math.Nat.{pow-suc}
 use Rattle.std.specs.Int.{bit_at, bit_not}
 use Rattle.std.specs.Int.Bits.{bit_or}
 use Rattle.std.proofs.Common.{bit_and, not}
 use mir.Val.{bits}
-use Rattle.std.specs.List.{range_with_len}
-use Rattle.std.specs.Int.{Width, w128}
-use Rattle.std.proofs.lemmas.List.FromFn.{get_or-range_with_len, length-range_with_len, length-map-range_with_len}
-use Rattle.std.proofs.lemmas.List.{length-map, get_or-set_same, get_or-set_other, length-set, length-replicate, get_or-replicate}
-use Rattle.std.proofs.lemmas.Nat.Bits.{bit_at_set_same, bit_at_set_other, bit_at_clear_same, bit_at_clear_other, bit_at_and, and_pow, bit_at_lowest, bit_at-suc, bit_at-zero, bit_at-lt, bit_at_or, bit_at_above, same_from_bits, same_from_bits_below}
+use Rattle.std.specs.Int.{w128}
+use Rattle.std.proofs.lemmas.List.{get_or-set_same, get_or-set_other, length-set, length-replicate, get_or-replicate}
+use Rattle.std.proofs.lemmas.Nat.Bits.{bit_at_set_same, bit_at_set_other, bit_at_clear_same, bit_at_clear_other, bit_at_and, and_pow, bit_at-suc, bit_at-zero, bit_at-lt, bit_at_or, bit_at_above, same_from_bits}
 use Rattle.std.proofs.lemmas.Nat.{one_shl}
 use Rattle.std.proofs.Math.Pow.{pow_pos}
-use Rattle.ds_watch.specs.Mask.{mask, has_bit, flags, either}
+use Rattle.ds_watch.specs.Mask.{has_bit, flags, either}
 use Rattle.ds_watch.specs.MaskBits.{flags_long, flag_at}
 use Rattle.ds_watch.proofs.PlaceLemmas.{either_by_place}
 

@@ -1,5 +1,5 @@
 -- Lists by their places.
-use Rattle.std.proofs.Common.{◌≡◌, ℕ, zero, suc, ◌+◌, ◌<◌, Bool, false, ◌||◌, List, [], ◌∷◌, map, length, get_or, replicate, refl, ap₂, arith}
+use Rattle.std.proofs.Common.{◌≡◌, ℕ, zero, suc, ◌<◌, Bool, false, ◌||◌, List, [], ◌∷◌, map, length, get_or, replicate, refl, ap₂, arith}
 use Rattle.ds_watch.specs.Mask.{either}
 
 pub either_by_place : (ms ns rs : List Bool) → length ms ≡ length ns → length rs ≡ length ms → ((k : ℕ) → k < length ms → get_or rs k false ≡ get_or ms k false || get_or ns k false) → rs ≡ either ms ns

@@ -1,7 +1,6 @@
-use Rattle.std.proofs.Common.{◌≡◌, ◌≤◌, ◌+◌, ◌∷◌, ◌++◌, [], List, Bool, Option, None, Ok, map, length, refl, sym, ap, ◌∙◌, subst, arith}
+use Rattle.std.proofs.Common.{◌≡◌, ◌∷◌, ◌++◌, [], None, map, length, refl, sym, ap, ◌∙◌, subst, arith}
 use Rattle.std.specs.FinMap.{insert}
 use Rattle.std.specs.Result.{OnOk}
-use Rattle.ds_names.specs.declared.key.Key.{Key}
 use Rattle.ds_join.specs.Held.{held_changes}
 use Rattle.ds_join.specs.Marked.{marks_after}
 use Rattle.ds_join.specs.Top.{IsTop}

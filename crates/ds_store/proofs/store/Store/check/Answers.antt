@@ -4,7 +4,7 @@ use Rattle.std.specs.Option.{option_map}
 use Rattle.ds_entry.specs.Change.{ChangeRecord}
 use Rattle.ds_join.specs.Held.{Holding, held_changes}
 use Rattle.ds_join.proofs.HeldLemmas.{held_in_order}
-use Rattle.ds_watch.specs.Followed.{Followed, followed_of}
+use Rattle.ds_watch.specs.Followed.{followed_of}
 use Rattle.ds_watch.specs.Watching.{Watching, watching, stamped, followed_by, followed_from}
 use Rattle.ds_store.specs.State.{last_place, subscribes, subscription_at}
 use Rattle.ds_store.specs.Content.{Content}

@@ -1,4 +1,4 @@
-use Rattle.std.proofs.Common.{true, fold, is_some, ◌+◌, ◌≡◌, ◌<◌, List, Some, None, filter, length, ap, ap₂, sym, ◌∙◌, subst, arith}
+use Rattle.std.proofs.Common.{fold, is_some, ◌≡◌, ◌<◌, List, Some, None, filter, length, ap, ap₂, sym, ◌∙◌, subst, arith}
 use Rattle.std.specs.List.{find}
 use Rattle.ds_join.specs.Reading.{comes_after}
 use Rattle.ds_join.proofs.NextLemmas.{found_among}
@@ -9,7 +9,7 @@ use Rattle.ds_watch.specs.Followed.{owed_for, owed_each}
 use Rattle.ds_watch.specs.Mask.{either}
 use Rattle.ds_store.specs.Owed.{any_of}
 use Rattle.ds_store.proofs.OwedLemmas.{same_each}
-use Rattle.ds_store.specs.Judging.{held_at, is_swept, tombstones, TakesPlace}
+use Rattle.ds_store.specs.Judging.{held_at, tombstones, TakesPlace}
 use Rattle.ds_store.proofs.SweepLemmas.{Ending, left, left_at_first, left_at_last, held_here, next_left, ending_starts, ending_goes_on, ending_passes, ending_ends, takes_place, next_ended, fewer_after, same_after}
 use Rattle.ds_store.proofs.store.Store.end_all.Goals as goal
 use Rattle.ds_store.proofs.store.Store.end_all.Goals.{In-Some, In_default, then-is_swept, else-is_swept}

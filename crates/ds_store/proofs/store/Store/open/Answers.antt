@@ -1,4 +1,4 @@
-use Rattle.std.proofs.Common.{◌≡◌, ◌∙◌, ◌≤◌, List, Option, [], None, length, ap, add-zero, sym, refl, arith}
+use Rattle.std.proofs.Common.{◌∙◌, List, Option, [], None, length, ap, add-zero, sym, refl, arith}
 use Rattle.std.proofs.lemmas.List.{length-replicate}
 use Rattle.ds_join.specs.Held.{held_changes}
 use Rattle.ds_join.specs.Marked.{MarkedHolding}

@@ -1,4 +1,4 @@
-use Rattle.std.proofs.Common.{◌≡◌, ◌+◌, ◌<◌, List, Bool, Option, Some, None, length, map, get_or, set, cond, ◌&&◌, ◌^◌, is_some, refl, ap, ap₂, sym, ◌∙◌, subst, arith}
+use Rattle.std.proofs.Common.{◌≡◌, ◌+◌, List, Bool, Option, Some, None, length, map, get_or, set, cond, ◌&&◌, ◌^◌, is_some, refl, ap, sym, ◌∙◌, subst, arith}
 use Rattle.std.proofs.lemmas.List.{length-set}
 use Rattle.std.specs.List.{list_any}
 use Rattle.ds_entry.specs.Change.{ChangeRecord}

@@ -1,7 +1,6 @@
-use Rattle.std.proofs.Common.{◌≡◌, false, get_or, subst, arith}
+use Rattle.std.proofs.Common.{false, get_or}
 use Rattle.ds_join.proofs.HeldLemmas.{held_in_order}
 use Rattle.ds_watch.specs.Masks.{made_at}
-use Rattle.ds_store.specs.Remarked.{AreRemarked}
 use Rattle.ds_store.proofs.RemarkLemmas.{none_remarked, remarked_more}
 use Rattle.ds_store.proofs.store.marking.make_all.Goals as goal
 

@@ -1,7 +1,5 @@
-use Rattle.std.proofs.Common.{◌≡◌, subst, arith}
 use Rattle.ds_join.proofs.HeldLemmas.{held_in_order}
 use Rattle.ds_watch.specs.Masks.{shown_to}
-use Rattle.ds_store.specs.Remarked.{AreRemarked}
 use Rattle.ds_store.proofs.RemarkLemmas.{none_remarked, remarked_more}
 use Rattle.ds_store.proofs.store.marking.show_first.Goals as goal
 

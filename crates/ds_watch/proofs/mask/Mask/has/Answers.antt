@@ -1,5 +1,4 @@
-use Rattle.std.proofs.Common.{◌≡◌, ◌<◌, ◌==◌, false, not, get_or, List, Bool, ap, sym, ◌∙◌, arith}
-use Rattle.std.specs.Int.{w128}
+use Rattle.std.proofs.Common.{false, get_or, List, Bool, ap, sym, ◌∙◌}
 use Rattle.ds_watch.specs.MaskBits.{flag_at}
 use Rattle.ds_watch.proofs.MaskLemmas.{tested}
 use Rattle.ds_watch.proofs.mask.Mask.has.Goals as goal
