@@ -173,6 +173,10 @@ no_items zero fs l e = absurd (omega arith)
 no_items (suc n) [] l e = refl
 no_items (suc n) (x ∷ fs) l e = absurd (omega (arith, e))
 
+pub any_flags : (f : ChangeRecord → Bool) (hs : List ChangeRecord) → list_any (λ b. b) (map f hs) ≡ list_any f hs
+any_flags f [] = refl
+any_flags f (x ∷ hs) = ap (λ b. f x || b) (any_flags f hs)
+
 module _ (v : Content) (s : State) (stands : Stands v s) (sub max : ℕ) (u : Key → List Bool) (w : Watching) (t : Twin v s sub u w) (place : sub < 64) (low : 0 < max) (high : max ≤ 256) where
   -- what is to be shown
   abbrev pub to_show : List ChangeRecord
@@ -199,11 +203,17 @@ module _ (v : Content) (s : State) (stands : Stands v s) (sub max : ℕ) (u : Ke
       checking_is ∙ ap (λ b. outcome_at (cond (b && nat_le last_place s.stamp) (Some Worn) None)) nothing ∙ ap (shows s sub t.seer) items in
       inl (record { reply_is = ap₂ (λ a b. Checked [] a b) stamp_is stamp_is ∙ sym (ap (λ (x : Reply × State). x.0) now); state_is = sym (ap (λ (x : Reply × State). x.1) now) })
 
-  module _ (some : 0 < length (take max to_show)) where
+  pub flagged_any : list_any (λ (c : ChangeRecord). get_or (u c.key) sub false) v.held ≡ true → list_any (is_unseen t.seer.query t.seer.shown) v.held ≡ true
+  flagged_any e =
+      sym (any_flags (is_unseen t.seer.query t.seer.shown) v.held) ∙ ap (λ (f : Followed). list_any (λ b. b) f.unseen) (sym t.same)
+      ∙ any_flags (λ (c : ChangeRecord). get_or (u c.key) sub false) v.held ∙ e
+
+  pub taken_any : 0 < length (take max to_show) → list_any (is_unseen t.seer.query t.seer.shown) v.held ≡ true
+  taken_any some = some_taken max (is_unseen t.seer.query t.seer.shown) v.held some
+
+  module _ (any : list_any (is_unseen t.seer.query t.seer.shown) v.held ≡ true) where
     shows_any : has_unseen s t.seer ≡ true
-    shows_any =
-        ap (list_any (is_unseen t.seer.query t.seer.shown)) (sym stands.held)
-        ∙ some_taken max (is_unseen t.seer.query t.seer.shown) v.held some
+    shows_any = ap (list_any (is_unseen t.seer.query t.seer.shown)) (sym stands.held) ∙ any
 
     pub check_worn : last_place ≤ v.stamp → Answers s (checking s sub max) (Refused refusals.Worn) s
     check_worn l =
@@ -211,8 +221,8 @@ module _ (v : Content) (s : State) (stands : Stands v s) (sub max : ℕ) (u : Ke
         let now : checking s sub max ≡ (Refused refusals.Worn, s) = checking_is ∙ ap₂ (λ a b. outcome_at (cond (a && b) (Some Worn) None)) shows_any worn in
         inl (record { reply_is = sym (ap (λ (x : Reply × State). x.0) now); state_is = sym (ap (λ (x : Reply × State). x.1) now) })
 
-    pub check_done : (items : List ChangeRecord) → v.stamp < last_place → items ≡ take max to_show → Answers s (checking s sub max) (Checked items w.stamp (v.stamp + 1)) (subscribes s sub t.seer.query (t.seer.shown ++ items))
-    check_done items l e =
+    pub check_done : 0 < length (take max to_show) → (items : List ChangeRecord) → v.stamp < last_place → items ≡ take max to_show → Answers s (checking s sub max) (Checked items w.stamp (v.stamp + 1)) (subscribes s sub t.seer.query (t.seer.shown ++ items))
+    check_done some items l e =
         let fresh : nat_le last_place s.stamp ≡ false = fresh_stamp s.stamp (subst (λ n. n < last_place) stands.stamp l) in
         let now : checking s sub max ≡ (Checked (take max to_show) t.seer.stamp (s.stamp + 1), subscribes s sub t.seer.query (t.seer.shown ++ take max to_show)) =
         checking_is ∙ ap₂ (λ a b. outcome_at (cond (a && b) (Some Worn) None)) shows_any fresh ∙ ap (λ xs. shows s sub t.seer (take max xs)) unseen_is
@@ -231,10 +241,6 @@ module _ (v : Content) (s : State) (stands : Stands v s) (sub max : ℕ) (u : Ke
   ]
 
 -- ---- what is found for a Subscribe and a Check
-pub any_flags : (f : ChangeRecord → Bool) (hs : List ChangeRecord) → list_any (λ b. b) (map f hs) ≡ list_any f hs
-any_flags f [] = refl
-any_flags f (x ∷ hs) = ap (λ b. f x || b) (any_flags f hs)
-
 -- the first that are to be shown are the first `max`
 pub first_are : (h : MarkedHolding Masks) (sub max : ℕ) (items : List ChangeRecord) (passed : ℕ) → AreFirst h sub max items passed → items ≡ take max (filter (is_to_show h sub) (held_changes h.held))
 first_are h sub max items passed first = by_end first.enough

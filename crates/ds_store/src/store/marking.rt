@@ -1,12 +1,13 @@
 //! The masks beside what is held, for all subscriptions.
 
-ghost use Rattle.std.specs.Prelude.{◌≡◌, ◌<◌, ◌≤◌, ◌++◌, ◌&&◌, ◌∷◌, [], None, Some, cond, false, length, map, slice_get, slice_index_or, IfOk, IfSome};
+ghost use Rattle.std.specs.Prelude.{◌≡◌, ◌<◌, ◌≤◌, ◌++◌, ◌&&◌, ◌∷◌, [], None, Some, cond, true, false, length, map, slice_get, slice_index_or, IfOk, IfSome, OnErr};
+ghost use Rattle.std.specs.List.{list_any};
 ghost use Rattle.ds_entry.specs.Change.{ChangeRecord};
 ghost use Rattle.ds_join.specs.Held.{held_changes};
 ghost use Rattle.ds_join.specs.Marked.{mark_for};
 ghost use Rattle.ds_pattern.specs.Under.{is_under};
 ghost use Rattle.ds_watch.specs.Masks.{shown_to, made_at};
-ghost use Rattle.ds_store.specs.Remarked.{IsRemarked, AreRemarked, AreFirst};
+ghost use Rattle.ds_store.specs.Remarked.{IsRemarked, AreRemarked, AreFirst, is_to_show};
 
 use ds_entry::{Change, Items};
 use ds_join::Marked;
@@ -110,7 +111,8 @@ fn show_unseen(
     sub: usize,
 ) -> Result<(), NoRoom>
     requires { sub < 64 }
-    ensures { IfOk result (λ _. items.new ≡ items.old ++ cond (slice_index_or masks.now.unseen sub false) (change.now ∷ []) []) }
+    ensures shown { IfOk result (λ _. items.new ≡ items.old ++ cond (slice_index_or masks.now.unseen sub false) (change.now ∷ []) []) }
+    ensures refused { OnErr result (slice_index_or masks.now.unseen sub false ≡ true) }
 {
     if masks.is_unseen(sub) {
         items.push(change.copy(alloc)?)?;
@@ -119,7 +121,7 @@ fn show_unseen(
 }
 
 /// The first `max` changes that are to be shown to the subscription with this number. It takes memory for
-/// these alone.
+/// these alone, so want of it says that there are some.
 pub(super) fn first_unseen(
     alloc: Global,
     held: &Marked<Masks>,
@@ -127,7 +129,8 @@ pub(super) fn first_unseen(
     max: usize,
 ) -> Result<Shown, NoRoom>
     requires { sub < 64 }
-    ensures { IfOk result (λ shown. AreFirst held.now sub max shown.items shown.passed) }
+    ensures first { IfOk result (λ shown. AreFirst held.now sub max shown.items shown.passed) }
+    ensures refused { OnErr result (list_any (is_to_show held.now sub) (held_changes held.now.held) ≡ true) }
 {
     let _count = held.held().len();
     let mut items = Items::new(alloc);

@@ -12,6 +12,7 @@ use crate::judging::LAST_PLACE;
 use crate::refusal::Refusal;
 use crate::store::Store;
 use crate::store::marking::{first_unseen, flags_under, make_all, show_first};
+use ds_names::NoRoom;
 use ds_pattern::{Filter, PatternFault, Query};
 use ds_watch::Subscription;
 
@@ -110,8 +111,10 @@ impl Store {
         };
         let _held = self.held.held().len();
         let before = subscription.stamp();
-        let Ok(shown) = first_unseen(self.alloc, &self.held, sub as usize, max as usize) else {
-            return Reply::Refused(Refusal::NoRoom);
+        let shown = match first_unseen(self.alloc, &self.held, sub as usize, max as usize) {
+            Ok(shown) => shown,
+            Err(NoRoom) if self.stamp >= LAST_PLACE => return Reply::Refused(Refusal::Worn),
+            Err(NoRoom) => return Reply::Refused(Refusal::NoRoom),
         };
         let count = shown.items.len();
         if count == 0 {

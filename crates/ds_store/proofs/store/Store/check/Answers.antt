@@ -17,7 +17,7 @@ use Rattle.ds_store.proofs.CheckLemmas.{at_from, is_some-map, to_show_is, shown_
 use Rattle.ds_store.proofs.JudgeLemmas.{check_found}
 use Rattle.ds_store.proofs.RemarkLemmas.{check_others, check_first, check_rest, checked_marked}
 use Rattle.ds_store.proofs.StandsLemmas.{no_length}
-use Rattle.ds_store.proofs.SubscribeLemmas.{Twin, twin, taken_same, check_refused, check_empty, check_worn, check_done, stands_subscribed, shown_part, first_are, to_show}
+use Rattle.ds_store.proofs.SubscribeLemmas.{Twin, twin, taken_same, check_refused, check_empty, check_worn, check_done, taken_any, flagged_any, stands_subscribed, shown_part, first_are, to_show}
 use Rattle.ds_store.proofs.store.Store.check.Goals as goal
 use Rattle.ds_store.proofs.store.Store.check.Goals.{After-set_stamp}
 
@@ -49,7 +49,7 @@ returns-then-count-eq0 c = λ s stands.
     let low : 0 < c.args.max = omega (arith, c.if-max-eq0.false) in
     let high : c.args.max ≤ 256 = omega (arith, c.if-max-gt256.false) in
     let items : c.in-Ok.shown.items ≡ take c.args.max (to_show v s here c.args.sub c.args.max u w t place low high) =
-    first_are c.self.inside.held c.args.sub c.args.max c.in-Ok.shown.items c.in-Ok.shown.passed c.in-Ok.ensures ∙ ap (take c.args.max) (to_show_is v.held sorted u c.args.sub w t.seer t.same) in
+    first_are c.self.inside.held c.args.sub c.args.max c.in-Ok.shown.items c.in-Ok.shown.passed c.in-Ok.ensures.first ∙ ap (take c.args.max) (to_show_is v.held sorted u c.args.sub w t.seer t.same) in
     let nothing : length c.in-Ok.shown.items ≡ 0 = sym c.len-count.ensures ∙ c.if-count-eq0.true in
     let none : length (take c.args.max (to_show v s here c.args.sub c.args.max u w t place low high)) ≡ 0 = ap (λ (l : List ChangeRecord). length l) (sym items) ∙ nothing in (
       s,
@@ -58,8 +58,8 @@ returns-then-count-eq0 c = λ s stands.
       stands,
     )
 
-pub returns-then-self-ge-LAST_PLACE : goal.returns-then-self-ge-LAST_PLACE
-returns-then-self-ge-LAST_PLACE c = λ s stands.
+pub returns-then-self-ge-LAST_PLACE-2 : goal.returns-then-self-ge-LAST_PLACE-2
+returns-then-self-ge-LAST_PLACE-2 c = λ s stands.
     let v = content_of c.self.inside in
     let u = unseen_at c.self.inside.held.marks in
     let w = c.in-Some.subscription.now in
@@ -70,9 +70,22 @@ returns-then-self-ge-LAST_PLACE c = λ s stands.
     let low : 0 < c.args.max = omega (arith, c.if-max-eq0.false) in
     let high : c.args.max ≤ 256 = omega (arith, c.if-max-gt256.false) in
     let items : c.in-Ok.shown.items ≡ take c.args.max (to_show v s here c.args.sub c.args.max u w t place low high) =
-    first_are c.self.inside.held c.args.sub c.args.max c.in-Ok.shown.items c.in-Ok.shown.passed c.in-Ok.ensures ∙ ap (take c.args.max) (to_show_is v.held sorted u c.args.sub w t.seer t.same) in
+    first_are c.self.inside.held c.args.sub c.args.max c.in-Ok.shown.items c.in-Ok.shown.passed c.in-Ok.ensures.first ∙ ap (take c.args.max) (to_show_is v.held sorted u c.args.sub w t.seer t.same) in
     let some : 0 < length (take c.args.max (to_show v s here c.args.sub c.args.max u w t place low high)) = omega (arith, ap (λ (l : List ChangeRecord). length l) items, c.len-count.ensures, c.if-count-eq0.false) in
-    (s, check_worn v s here c.args.sub c.args.max u w t place low high some c.if-self-ge-LAST_PLACE.true, stands)
+    (s, check_worn v s here c.args.sub c.args.max u w t place low high (taken_any v s here c.args.sub c.args.max u w t place low high some) c.if-self-ge-LAST_PLACE-2.true, stands)
+
+-- what wants memory is to be shown, and takes a stamp
+pub returns-in-Err : goal.returns-in-Err
+returns-in-Err c = λ s stands.
+    let v = content_of c.self.inside in
+    let u = unseen_at c.self.inside.held.marks in
+    let w = c.in-Some.subscription.now in
+    let here : Stands v s = subst (λ (x : Content). Stands x s) (sym c.self.view_is) stands in
+    let t = twin v s c.args.sub u c.self.inside.subscriptions w here refl (sym c.in-Some.ensures) in
+    let place : c.args.sub < 64 = omega (arith, c.if-sub-ge64.false) in
+    let low : 0 < c.args.max = omega (arith, c.if-max-eq0.false) in
+    let high : c.args.max ≤ 256 = omega (arith, c.if-max-gt256.false) in
+    (s, check_worn v s here c.args.sub c.args.max u w t place low high (flagged_any v s here c.args.sub c.args.max u w t place low high c.in-Err.ensures.refused) c.if-self-ge-LAST_PLACE.true, stands)
 
 -- the places after the check
 places : (c : After-set_stamp) → c.set_stamp.new.self ≡ set c.self.inside.subscriptions c.args.sub (Some (watching c.in-Some.subscription.now.query (c.self.inside.stamp + 1)))
@@ -85,7 +98,7 @@ invariant_of-self c =
     let w = watching c.in-Some.subscription.now.query (c.self.inside.stamp + 1) in
     record {
       position = c.self.invariant.position;
-      stamp = omega (arith, c.if-self-ge-LAST_PLACE.false);
+      stamp = omega (arith, c.if-self-ge-LAST_PLACE-2.false);
       places = ap (λ (l : List (Option Watching)). length l) (places d) ∙ length-set c.self.inside.subscriptions c.args.sub (Some w) ∙ c.self.invariant.places;
       marked = subst (λ ws. AreMarked (held_changes c.show_first.new.held.held) c.show_first.new.held.marks ws) (sym (places d))
           (subst (λ (h : Holding). AreMarked (held_changes h) c.show_first.new.held.marks (set c.self.inside.subscriptions c.args.sub (Some w))) (sym c.show_first.ensures.held)
@@ -110,19 +123,19 @@ returns c = λ s stands.
     let low : 0 < max = omega (arith, c.if-max-eq0.false) in
     let high : max ≤ 256 = omega (arith, c.if-max-gt256.false) in
     let items : shown.items ≡ take max (to_show v s here sub max u w t place low high) =
-    first_are old sub max shown.items shown.passed c.in-Ok.ensures ∙ ap (take max) (to_show_is v.held sorted u sub w t.seer t.same) in
+    first_are old sub max shown.items shown.passed c.in-Ok.ensures.first ∙ ap (take max) (to_show_is v.held sorted u sub w t.seer t.same) in
     let some : 0 < length (take max (to_show v s here sub max u w t place low high)) = omega (arith, ap (λ (l : List ChangeRecord). length l) items, c.len-count.ensures, c.if-count-eq0.false) in
-    let fresh : v.stamp < last_place = omega (arith, c.if-self-ge-LAST_PLACE.false) in
+    let fresh : v.stamp < last_place = omega (arith, c.if-self-ge-LAST_PLACE-2.false) in
     let state = subscribes s sub t.seer.query (t.seer.shown ++ shown.items) in
     let same : followed_by v.held (unseen_at new.marks) sub (watching w.query (v.stamp + 1)) ≡ followed_of v.held (record { query = t.seer.query; stamp = v.stamp + 1; shown = t.seer.shown ++ shown.items }) =
     shown_so v.held sorted u sub w t.seer t.same shown.passed (v.stamp + 1) (unseen_at new.marks) (check_first old new shown.passed sub c.show_first.ensures) (check_rest old new shown.passed sub c.show_first.ensures)
-    ∙ ap (λ (l : List ChangeRecord). followed_of v.held (record { query = t.seer.query; stamp = v.stamp + 1; shown = t.seer.shown ++ l })) (sym c.in-Ok.ensures.shown) in
+    ∙ ap (λ (l : List ChangeRecord). followed_of v.held (record { query = t.seer.query; stamp = v.stamp + 1; shown = t.seer.shown ++ l })) (sym c.in-Ok.ensures.first.shown) in
     let stood : Stands (record v { stamp = v.stamp + 1; subscriptions = followed_from v.held (unseen_at new.marks) 0 (set c.self.inside.subscriptions sub (Some (watching w.query (v.stamp + 1)))) }) state =
     stands_subscribed v s sub t.seer.query (t.seer.shown ++ shown.items) u (unseen_at new.marks) c.self.inside.subscriptions (watching w.query (v.stamp + 1)) here refl
     (check_others old new shown.passed sub c.show_first.ensures) same (shown_part v s here sub max u w t place low high shown.items items) in (
       state,
       subst (λ n. Answers s (checking s sub max) (Checked shown.items n (v.stamp + 1)) state) (sym c.stamp-before.ensures)
-          (check_done v s here sub max u w t place low high some shown.items fresh items),
+          (check_done v s here sub max u w t place low high (taken_any v s here sub max u w t place low high some) some shown.items fresh items),
       subst (λ (h : Holding). Stands (record v { held = held_changes h; stamp = v.stamp + 1; subscriptions = followed_from (held_changes h) (unseen_at new.marks) 0 c.set_stamp.new.self }) state) (sym c.show_first.ensures.held)
           (subst (λ (ws : List (Option Watching)). Stands (record v { stamp = v.stamp + 1; subscriptions = followed_from v.held (unseen_at new.marks) 0 ws }) state) (sym (places d)) stood),
     )
