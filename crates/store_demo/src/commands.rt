@@ -17,7 +17,10 @@ pub(crate) struct Prepared {
 pub(crate) fn commands_of(alloc: Global, text: &[u8]) -> Result<Vec<Prepared>, Failure> {
     let mut commands = Vec::new(alloc);
     let mut rest = text;
-    while let Some((line, behind)) = split_line(rest) {
+    for _ in 0..text.len() {
+        let Some((line, behind)) = split_line(rest) else {
+            break;
+        };
         let command = match read_line(alloc, line) {
             Ok(command) => command,
             Err(LineFault::BadLine { .. }) => return Err(Failure::BadLine),
