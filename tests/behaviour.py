@@ -272,6 +272,30 @@ def a_writer_that_is_closed(program):
     expect(harness.run(words, b""), b"", 0)
 
 
+def a_reader_that_does_not_wait(program):
+    """Standard input that is set not to block, and has nothing yet, is a read that failed."""
+    reader, writer = os.pipe()
+    os.set_blocking(reader, False)
+    try:
+        ran = subprocess.run([program], stdin=reader, capture_output=True, timeout=harness.SECONDS)
+    finally:
+        os.close(reader)
+        os.close(writer)
+    assert (ran.stdout, ran.returncode, ran.stderr) == (b"", 3, b"readfault\n"), f"{ran}"
+
+
+def a_writer_that_does_not_wait(program):
+    """Standard output that is set not to block, and is full, is a write that failed."""
+    reader, writer = os.pipe()
+    os.set_blocking(writer, False)
+    try:
+        ran = subprocess.run([program], input=PUT + b"\nshow" * 100000, stdout=writer, stderr=subprocess.PIPE, timeout=harness.SECONDS)
+    finally:
+        os.close(reader)
+        os.close(writer)
+    assert (ran.returncode, ran.stderr) == (3, b"writefault\n"), f"{ran}"
+
+
 # ---- words of the command line ----
 
 
@@ -441,6 +465,8 @@ ALL = [
     a_writer_that_is_gone,
     a_writer_that_goes,
     a_writer_that_is_closed,
+    a_reader_that_does_not_wait,
+    a_writer_that_does_not_wait,
     tells_how_it_is_used,
     reminds_in_rows_of_eighty_columns,
     explains_each_refusal,
