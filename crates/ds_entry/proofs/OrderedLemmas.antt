@@ -1,12 +1,12 @@
 -- Lists that stand in a strict order: what ties is one, and two with the same members are the same.
-use Rattle.std.proofs.Common.{◌≡◌, List, [], ◌∷◌, refl, sym, ◌∙◌, subst, inl, inr, ◌⊎◌}
+use Rattle.std.proofs.Common.{◌≡◌, List, [], ◌∷◌, sym, ◌∙◌, subst, inl, inr}
 use Rattle.std.specs.declared.cmp.Ordering.{Ordering}
 use Rattle.std.specs.declared.cmp.Ordering.TheVariants.{Less, Equal}
 use Rattle.std.specs.Cmp.{IsTotalOrder}
 use Rattle.std.specs.List.{Contains, AllByRecursion}
 use Rattle.std.specs.List.Sorted.{IsStrictlySortedBy}
-use Rattle.std.proofs.lemmas.Cmp.{tied_itself, tied_back}
-use Rattle.ds_entry.proofs.Members.{In, In-from_Contains, Contains-from_In}
+use Rattle.std.proofs.lemmas.Cmp.{tied_back}
+use Rattle.ds_entry.proofs.Members.{In, In-from_Contains}
 
 from_along : {X : Type 0} (P : X → Type 0) (xs : List X) (x : X) → AllByRecursion P xs → In x xs → P x
 from_along P [] x a h = absurd h
