@@ -1,0 +1,2 @@
+pub mod FeedLemmas
+pub mod LawLemmas
