@@ -14,6 +14,6 @@ mod scope;
 pub use cursor::Cursor;
 pub use items::Items;
 pub use journal::{Journal, OpenFault, SinceFault};
-pub use laws::prefixes_are_shortest;
+pub use laws::{pages_go_on, prefixes_are_shortest};
 pub use reading::{Page, Since, Snapshot};
 pub use scope::{AllKeys, KeyScope};

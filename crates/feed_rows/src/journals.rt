@@ -79,6 +79,7 @@ fn a_ring_of_two(rt: HostRuntime) {
 }
 
 // The scope of no key, under which are floors alone.
+#[derive(Clone, Copy)]
 struct NoKeys;
 
 impl KeyScope for NoKeys {
@@ -123,7 +124,9 @@ fn a_restart_forgets_all_but_the_room(rt: HostRuntime) {
     assert!(rt; journal.first() == 7);
     assert!(rt; matches!(journal.since(alloc, at(7), 8), Err(SinceFault::OldCursor)));
     push(&rt, &mut journal, change(&rt, b"b", 1));
-    let all = journal.since(alloc, begun, 8).expect(&rt, "nothing against it");
+    let all = journal
+        .since(alloc, begun, 8)
+        .expect(&rt, "nothing against it");
     assert!(rt; all.items.len() == 1);
     assert!(rt; all.items.get(0) == Some(&change(&rt, b"b", 1)));
 }
@@ -134,6 +137,11 @@ fn journals_are_opened_within_their_limits(rt: HostRuntime) {
     let last = 4611686018427387904;
     assert!(rt; matches!(Journal::new(alloc, 1, last + 1, 0), Err(OpenFault::BadRing)));
     assert!(rt; matches!(Journal::new(alloc, 1, 0, 4097), Err(OpenFault::BadRing)));
-    assert!(rt; matches!(Journal::new(alloc, 1, last + 1, 4096), Err(OpenFault::BadFirst)));
+    assert!(rt;
+        matches!(
+            Journal::new(alloc, 1, last + 1, 4096),
+            Err(OpenFault::BadFirst)
+        )
+    );
     assert!(rt; journal(&rt, alloc, last, 4096).cursor() == at(last));
 }
