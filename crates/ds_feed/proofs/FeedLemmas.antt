@@ -1,11 +1,11 @@
 -- What a journal keeps of a feed, and what is given of it.
-use Rattle.std.proofs.Common.{◌≡◌, ℕ, zero, suc, ◌<◌, ◌≤◌, ◌+◌, ◌-◌, min, Bool, true, false, cond, List, [], ◌∷◌, ◌++◌, length, drop, take, filter, Some, None, refl, sym, ap, ◌∙◌, subst, arith, append_assoc, append-nil, length-append, length-drop}
+use Rattle.std.proofs.Common.{◌≡◌, ℕ, zero, suc, ◌<◌, ◌≤◌, ◌+◌, ◌-◌, min, Bool, true, false, cond, List, [], ◌∷◌, ◌++◌, length, drop, take, filter, Some, None, refl, sym, ap, ◌∙◌, arith, append_assoc, append-nil, length-append, length-drop}
 use Rattle.std.specs.List.{slice_get}
 use Rattle.std.proofs.lemmas.List.{drop-append-le, drop-drop}
 use Rattle.ds_entry.specs.declared.item.Item.{Item}
 use Rattle.ds_feed.specs.declared.cursor.Cursor.{Cursor}
 use Rattle.ds_feed.specs.declared.reading.Since.{Since}
-use Rattle.ds_feed.specs.Feed.{Feed, position, accepts, from}
+use Rattle.ds_feed.specs.Feed.{Feed, accepts, from}
 use Rattle.ds_feed.specs.Since.{prefix, piece, beyond, place_fault, fault_at, IsGiven}
 use Rattle.ds_feed.specs.Kept.{Kept, Keeps, last_items}
 

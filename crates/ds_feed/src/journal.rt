@@ -4,7 +4,7 @@ ghost use Rattle.std.specs.Prelude.{◌≡◌, ◌≤◌, ◌<◌, ◌+◌, ◌+
 ghost use Rattle.ds_entry.specs.Item.{passes};
 ghost use Rattle.ds_feed.specs.Feed.{Feed, opening, restarted, accepts, last_place, from, all_keys};
 ghost use Rattle.ds_feed.specs.Since.{place_fault, fault_at, IsGiven, IsRefused};
-ghost use Rattle.ds_feed.specs.Kept.{Kept, Keeps, IsJournal, cursor_of, IsRing, IsOpenFault};
+ghost use Rattle.ds_feed.specs.Kept.{Keeps, IsJournal, cursor_of, IsRing, IsOpenFault};
 
 use crate::cursor::Cursor;
 use crate::items::Items;

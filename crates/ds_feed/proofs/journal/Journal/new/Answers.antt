@@ -1,4 +1,4 @@
-use Rattle.std.proofs.Common.{rules, arith, ap, sym}
+use Rattle.std.proofs.Common.{rules}
 use Rattle.ds_feed.specs.Feed.{opening}
 use Rattle.ds_feed.proofs.journal.Journal.new.Goals as goal
 

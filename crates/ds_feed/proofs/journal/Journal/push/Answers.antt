@@ -1,8 +1,6 @@
-use Rattle.std.proofs.Common.{rules, arith, ap, sym, subst, ◌≡◌, ◌<◌, ◌+◌}
-use Rattle.circular_buffer.specs.Buffer.{Buffer}
-use Rattle.ds_entry.specs.declared.item.Item.{Item}
+use Rattle.std.proofs.Common.{arith, sym, subst, ◌<◌}
 use Rattle.ds_feed.specs.Feed.{accepts, last_place}
-use Rattle.ds_feed.specs.Kept.{Kept, Keeps, IsRing}
+use Rattle.ds_feed.specs.Kept.{Kept, Keeps}
 use Rattle.ds_feed.specs.Sound.{kept_of}
 use Rattle.ds_feed.proofs.FeedLemmas.{keeps_pushed}
 use Rattle.ds_feed.proofs.journal.Journal.push.Goals as goal

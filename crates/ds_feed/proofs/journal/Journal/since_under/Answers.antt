@@ -1,12 +1,12 @@
-use Rattle.std.proofs.Common.{rules, ◌≡◌, ◌≤◌, ◌<◌, ◌+◌, ◌++◌, ◌∷◌, ◌-◌, [], length, drop, filter, Some, None, List, Bool, true, false, cond, ℕ, ap, sym, ◌∙◌, subst, arith}
+use Rattle.std.proofs.Common.{◌≡◌, ◌+◌, ◌++◌, ◌∷◌, ◌-◌, [], length, drop, filter, Some, List, Bool, cond, ap, sym, ◌∙◌, subst, arith}
 use Rattle.std.specs.List.{slice_get}
 use Rattle.std.specs.Option.{option_copied}
 use Rattle.ds_names.specs.declared.key.Key.{Key}
 use Rattle.ds_entry.specs.declared.item.Item.{Item}
 use Rattle.ds_entry.specs.Item.{passes}
-use Rattle.ds_feed.specs.Since.{prefix, fault_at}
+use Rattle.ds_feed.specs.Since.{prefix}
 use Rattle.std.proofs.lemmas.Option.{slice_get_within}
-use Rattle.ds_feed.specs.Kept.{Kept, Keeps}
+use Rattle.ds_feed.specs.Kept.{Kept}
 use Rattle.ds_feed.proofs.FeedLemmas.{prefix_next, given_more, nothing_wanted, nothing_left, all_given}
 use Rattle.ds_feed.proofs.journal.Journal.since_under.Goals as goal
 use Rattle.ds_feed.proofs.journal.Journal.since_under.Goals.{then-branch, else-branch, else-loop-left-test, then-loop-left-test+in_default}
