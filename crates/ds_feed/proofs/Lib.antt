@@ -1,0 +1,3 @@
+pub mod FeedLemmas
+pub mod LawLemmas
+pub mod PageLemmas

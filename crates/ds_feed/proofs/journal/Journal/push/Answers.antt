@@ -1,0 +1,19 @@
+use Rattle.std.proofs.Common.{arith, sym, subst, ◌<◌}
+use Rattle.ds_feed.specs.Feed.{accepts, last_place}
+use Rattle.ds_feed.specs.Kept.{Kept, Keeps}
+use Rattle.ds_feed.specs.Sound.{kept_of}
+use Rattle.ds_feed.proofs.FeedLemmas.{keeps_pushed}
+use Rattle.ds_feed.proofs.journal.Journal.push.Goals as goal
+
+pub invariant_of-self : goal.invariant_of-self
+invariant_of-self c =
+    let before = c.self.invariant.feed in
+    let room : c.self.inside.position < last_place = subst (λ (j : Kept). j.position < last_place) (sym c.self.view_is) c.requires in
+    record {
+      feed = (accepts before.0 c.args.item, rw c.push_back-oldest.ensures.items (keeps_pushed (kept_of c.self.inside) before.0 c.args.item before.1));
+      ring = rw c.push_back-oldest.ensures.items c.self.invariant.ring;
+      limit = omega arith;
+    }
+
+pub returns : goal.returns
+returns c = λ f k. rw c.push_back-oldest.ensures.items (keeps_pushed (kept_of c.self.inside) f c.args.item (subst (λ (j : Kept). Keeps j f) (sym c.self.view_is) k))

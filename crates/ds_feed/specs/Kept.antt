@@ -1,0 +1,50 @@
+-- What a journal keeps of a feed.
+use Rattle.std.specs.Prelude.{◌≡◌, ℕ, ◌-◌, ◌<◌, ◌≤◌, List, length, drop}
+use Rattle.ds_entry.specs.declared.item.Item.{Item}
+use Rattle.ds_feed.specs.declared.cursor.Cursor.{Cursor}
+use Rattle.ds_feed.specs.declared.journal.OpenFault.{OpenFault}
+use Rattle.ds_feed.specs.declared.journal.OpenFault.TheVariants.{BadRing, BadFirst, NoRoom}
+use Rattle.ds_feed.specs.Feed.{Feed, position, last_place}
+
+-- what contracts see of a journal
+pub record Kept : Type 0 where
+  -- the last items that took effect, the oldest first
+  pub items : List Item
+  pub first : ℕ
+  -- the position of the next item
+  pub position : ℕ
+  pub ring : ℕ
+  pub incarnation : ℕ
+
+-- the last `n` of the items, or all
+abbrev pub last_items : ℕ → List Item → List Item
+last_items n items = drop (length items - n) items
+
+-- the journal is one of this feed
+pub record Keeps (j : Kept) (f : Feed) : Type 0 where
+  pub items : j.items ≡ last_items f.ring f.accepted
+  pub first : j.first ≡ f.first
+  pub position : j.position ≡ position f
+  pub ring : j.ring ≡ f.ring
+  pub incarnation : j.incarnation ≡ f.incarnation
+
+-- a ring keeps 1 to 4096 items
+pub record IsRing (ring : ℕ) : Type 0 where
+  pub some : 0 < ring
+  pub limit : ring ≤ 4096
+
+-- what every journal has: a feed whose last items it keeps, within the limits
+pub record IsJournal (j : Kept) : Type 0 where
+  pub feed : (f : Feed) × Keeps j f
+  pub ring : IsRing j.ring
+  pub limit : j.position ≤ last_place
+
+-- the cursor behind all items
+abbrev pub cursor_of : Kept → Cursor
+cursor_of j = record { incarnation = j.incarnation; position = j.position }
+
+-- why no journal is made: first for the ring, then for the first position; memory is wanting only where neither stands
+abbrev pub IsOpenFault : OpenFault → ℕ → ℕ → Type 0
+IsOpenFault BadRing first ring = ¬ IsRing ring
+IsOpenFault BadFirst first ring = IsRing ring × (last_place < first)
+IsOpenFault NoRoom first ring = IsRing ring × (first ≤ last_place)

@@ -1,0 +1,44 @@
+-- What is given of what is held: whole, and in pages.
+use Rattle.std.specs.Prelude.{ℕ, Bool, true, false, not, nat_le, List, ◌++◌, length, take, filter, Option, Some, None}
+use Rattle.std.specs.Ordering.{is_lt}
+use Rattle.ds_names.specs.declared.key.Key.{Key}
+use Rattle.ds_names.specs.Key.{key_cmp}
+use Rattle.ds_entry.specs.declared.item.Item.{Item}
+use Rattle.ds_feed.specs.declared.cursor.Cursor.{Cursor}
+use Rattle.ds_feed.specs.declared.reading.Snapshot.{Snapshot}
+use Rattle.ds_feed.specs.declared.reading.Page.{Page}
+use Rattle.ds_entry.specs.declared.item.Item.TheVariants.{Change as Changed, Floor as Floored}
+
+abbrev pub is_floor : Item → Bool
+is_floor (Changed c) = false
+is_floor (Floored f) = true
+
+-- the item is for a page behind this key, or for the first page where there is none: a change whose key is greater;
+-- floors stand before all keys, so they are for the first page alone
+abbrev pub is_behind : Option Key → Item → Bool
+is_behind None i = true
+is_behind (Some after) (Changed c) = is_lt (key_cmp after c.key)
+is_behind (Some after) (Floored f) = false
+
+-- a snapshot: all that is held and passes the test, and the cursor at that time
+abbrev pub snapshot_of : (Item → Bool) → List Item → Cursor → Snapshot
+snapshot_of test held cursor = record { items = filter test held; cursor = cursor }
+
+-- what a page behind the key and all further ones have to give
+abbrev pub still_to_come : (Item → Bool) → Option Key → List Item → List Item
+still_to_come test after held = filter (is_behind after) (filter test held)
+
+abbrev pub floors_of : List Item → List Item
+floors_of items = filter is_floor items
+
+abbrev pub changes_of : List Item → List Item
+changes_of items = filter (λ i. not (is_floor i)) items
+
+-- a page: the floors that are to come, and then the first `max` changes; it is the last one where no more changes were
+-- to come than these
+abbrev pub page_of : (Item → Bool) → Option Key → ℕ → List Item → Cursor → Page
+page_of test after max held cursor = record {
+  items = floors_of (still_to_come test after held) ++ take max (changes_of (still_to_come test after held));
+  last = nat_le (length (changes_of (still_to_come test after held))) max;
+  cursor = cursor;
+}

@@ -1,0 +1,255 @@
+//! Journals.
+
+ghost use Rattle.std.specs.Prelude.{◌≡◌, ◌≤◌, ◌<◌, ◌+◌, ◌++◌, ◌∷◌, [], length, drop, take, filter, IfOk, IfErr, OnOk, Some, None};
+ghost use Rattle.ds_entry.specs.Item.{passes};
+ghost use Rattle.ds_feed.specs.Feed.{Feed, opening, restarted, accepts, last_place, from, all_keys};
+ghost use Rattle.ds_feed.specs.Since.{place_fault, fault_at, IsGiven, IsRefused};
+ghost use Rattle.ds_feed.specs.Kept.{Keeps, IsJournal, cursor_of, IsRing, IsOpenFault};
+
+use crate::cursor::Cursor;
+use crate::items::Items;
+use crate::reading::Since;
+use crate::scope::{AllKeys, KeyScope};
+use circular_buffer::HeapCircularBuffer;
+use ds_entry::Item;
+use ds_names::NoRoom;
+use std::alloc::Global;
+use std::marker::Model;
+use thiserror::Error;
+
+// The most that positions reach.
+const LAST_PLACE: u64 = 1 << 62;
+
+/// Why no journal is made, in the order in which the causes are judged.
+#[derive(Clone, Copy, Debug, PartialEq, Eq, Error)]
+pub enum OpenFault {
+    /// The ring isn't 1 to 4096.
+    #[error("a ring keeps 1 to 4096 items")]
+    BadRing,
+    /// The first position is above 2^62.
+    #[error("positions end at 2^62")]
+    BadFirst,
+    /// There is no memory for the ring.
+    #[error("out of memory")]
+    NoRoom,
+}
+
+/// Why nothing is given from a cursor, in the order in which the causes are judged.
+#[derive(Clone, Copy, Debug, PartialEq, Eq, Error)]
+pub enum SinceFault {
+    /// The cursor is of another incarnation.
+    #[error("the cursor is of another incarnation")]
+    OldCursor,
+    /// The cursor stands behind the position of the next item.
+    #[error("the cursor is ahead")]
+    Ahead,
+    /// The ring doesn't reach back to the cursor.
+    #[error("the journal doesn't reach back to the cursor")]
+    Behind,
+    /// There is no memory for the items.
+    #[error("out of memory")]
+    NoRoom,
+}
+
+impl From<NoRoom> for SinceFault {
+    ghost use Rattle.std.specs.Prelude.{◌≡◌};
+    ghost use Rattle.ds_feed.specs.declared.journal.SinceFault.TheVariants.{NoRoom as no_room};
+
+    ghost from_gives = { λ _ fault. fault ≡ no_room };
+
+    fn from(_refused: NoRoom) -> SinceFault {
+        SinceFault::NoRoom
+    }
+}
+
+/// The last items that took effect in a store, and the position of the next one.
+///
+/// Positions begin at `first` and rise by one with each item. The ring's room is made once, so that to take in an
+/// item takes no memory.
+#[derive(Debug, Drop)]
+pub struct Journal {
+    incarnation: u64,
+    first: u64,
+    position: u64,
+    items: HeapCircularBuffer<Item>,
+}
+
+impl Model for Journal {
+    ghost use Rattle.ds_feed.specs.Kept.{Kept};
+    ghost use Rattle.ds_feed.specs.Sound.{kept_of, IsSound};
+
+    ghost Value = { Kept };
+
+    ghost view = { kept_of };
+
+    ghost invariant = { IsSound };
+}
+
+impl Journal {
+    /// A journal of this incarnation that keeps the last `ring` items, the first of which will have the position
+    /// `first`. BadRing unless the ring is 1 to 4096, then BadFirst above 2^62.
+    pub fn new(alloc: Global, incarnation: u64, first: u64, ring: u32) -> Result<Journal, OpenFault>
+        ensures opened { IfOk result (λ journal. Keeps journal (opening incarnation first ring)) }
+        ensures fits { OnOk result (IsRing ring × (first ≤ last_place)) }
+        ensures refused { IfErr result (λ fault. IsOpenFault fault first ring) }
+    {
+        if ring == 0 || ring > 4096 {
+            return Err(OpenFault::BadRing);
+        }
+        if first > LAST_PLACE {
+            return Err(OpenFault::BadFirst);
+        }
+        match HeapCircularBuffer::with_capacity(alloc, ring as usize) {
+            Ok(items) => Ok(Journal {
+                incarnation,
+                first,
+                position: first,
+                items,
+            }),
+            Err(_) => Err(OpenFault::NoRoom),
+        }
+    }
+
+    /// Begins again as another incarnation, with no items, the first position and the ring that it had. The ring's
+    /// room is kept, so this takes no memory.
+    pub fn restart(&mut self, incarnation: u64)
+        ensures { (f : Feed) → Keeps self.old f → Keeps self.new (restarted f incarnation) }
+    {
+        self.items.clear();
+        self.position = self.first;
+        self.incarnation = incarnation;
+    }
+
+    /// Takes in the next item; a full ring loses its oldest one. It takes no memory.
+    pub fn push(&mut self, item: Item)
+        requires { self.old.position < last_place }
+        ensures { (f : Feed) → Keeps self.old f → Keeps self.new (accepts f item) }
+    {
+        let _oldest = self.items.push_back(item);
+        self.position += 1;
+    }
+
+    /// The cursor behind all items.
+    pub fn cursor(&self) -> Cursor
+        ensures value { result ≡ cursor_of self.now }
+        ensures journal { IsJournal self.now }
+    {
+        Cursor {
+            incarnation: self.incarnation,
+            position: self.position,
+        }
+    }
+
+    /// The position of the first item of an incarnation.
+    pub fn first(&self) -> u64
+        ensures { result ≡ self.now.first }
+    {
+        self.first
+    }
+
+    /// The first `max` items from the cursor on, or all. OldCursor where the cursor is of another incarnation, Ahead
+    /// where it stands behind the position of the next item, Behind where the ring doesn't reach back to it.
+    pub fn since(&self, alloc: Global, cursor: Cursor, max: u32) -> Result<Since, SinceFault>
+        ensures given { (f : Feed) → Keeps self.now f → IfOk result (IsGiven f (passes all_keys) cursor max) }
+        ensures items { (f : Feed) → Keeps self.now f → IfOk result (λ since. since.items ≡ take max (from f cursor.position)) }
+        ensures refused { (f : Feed) → Keeps self.now f → IfErr result (λ fault. IsRefused f cursor fault) }
+    {
+        self.since_under(alloc, &mut AllKeys, cursor, max)
+    }
+
+    /// The same under a scope: the items under it of the shortest piece from the cursor on that has `max` of them, or
+    /// of all that took effect. A floor is under every scope.
+    ///
+    /// It looks at the items of that piece alone, and copies those that it gives.
+    pub fn since_under<S: KeyScope>(
+        &self,
+        alloc: Global,
+        scope: &mut S,
+        cursor: Cursor,
+        max: u32,
+    ) -> Result<Since, SinceFault>
+        ensures given { (f : Feed) → Keeps self.now f → IfOk result (IsGiven f (passes (S.keeps scope.old)) cursor max) }
+        ensures refused { (f : Feed) → Keeps self.now f → IfErr result (λ fault. IsRefused f cursor fault) }
+        ensures scope { S.keeps scope.new ≡ S.keeps scope.old }
+    {
+        let start = self.start(cursor)?;
+        let mut items = Items::new(alloc);
+        let mut left = max;
+        let mut next = start;
+        while left > 0 {
+            let Some(item) = self.items.get(next) else {
+                break;
+            };
+            if add(alloc, scope, item, &mut items)? {
+                left -= 1;
+            }
+            next += 1;
+        }
+        Ok(Since {
+            items,
+            cursor: Cursor {
+                incarnation: cursor.incarnation,
+                position: cursor.position + (next - start) as u64,
+            },
+        })
+    }
+
+    // The index in the ring of the item that the cursor stands before.
+    fn start(&self, cursor: Cursor) -> Result<usize, SinceFault>
+        ensures found { (f : Feed) → Keeps self.now f → IfOk result (λ i. (fault_at f cursor ≡ None) × (drop i self.now.items ≡ from f cursor.position)) }
+        ensures within { IfOk result (λ i. i ≤ length self.now.items) }
+        ensures room { IfOk result (λ i. cursor.position + length self.now.items ≤ last_place + i) }
+        ensures refused { (f : Feed) → Keeps self.now f → IfErr result (λ fault. IsRefused f cursor fault) }
+    {
+        place(self.incarnation, self.position, self.items.len(), cursor)
+    }
+}
+
+// Adds the item if it is under the scope, and tells whether it is.
+fn add<S: KeyScope>(
+    alloc: Global,
+    scope: &mut S,
+    item: &Item,
+    items: &mut Items,
+) -> Result<bool, NoRoom>
+    ensures told { IfOk result (λ yes. yes ≡ passes (S.keeps scope.old) item.now) }
+    ensures added { OnOk result (items.new ≡ items.old ++ filter (passes (S.keeps scope.old)) (item.now ∷ [])) }
+    ensures scope { S.keeps scope.new ≡ S.keeps scope.old }
+{
+    if !is_under(scope, item) {
+        return Ok(false);
+    }
+    items.push(item.copy(alloc)?)?;
+    Ok(true)
+}
+
+// Whether the item is under the scope, as every floor is.
+fn is_under<S: KeyScope>(scope: &mut S, item: &Item) -> bool
+    ensures told { result ≡ passes (S.keeps scope.old) item.now }
+    ensures scope { S.keeps scope.new ≡ S.keeps scope.old }
+{
+    match item {
+        Item::Change(change) => scope.admits(change.key()),
+        Item::Floor(_) => true,
+    }
+}
+
+// The index of the item that the cursor stands before, among the last ones that are kept.
+fn place(incarnation: u64, position: u64, kept: usize, cursor: Cursor) -> Result<usize, SinceFault>
+    requires { position ≤ last_place }
+    ensures found { IfOk result (λ i. (place_fault incarnation position kept cursor ≡ None) × (cursor.position + kept ≡ position + i)) }
+    ensures within { IfOk result (λ i. i ≤ kept) }
+    ensures refused { IfErr result (λ fault. place_fault incarnation position kept cursor ≡ Some fault) }
+{
+    if cursor.incarnation != incarnation {
+        return Err(SinceFault::OldCursor);
+    }
+    if cursor.position > position {
+        return Err(SinceFault::Ahead);
+    }
+    let missing = position - cursor.position;
+    if missing > kept as u64 {
+        return Err(SinceFault::Behind);
+    }
+    Ok(kept - missing as usize)
+}
