@@ -34,6 +34,20 @@ impl<P> PassesOf<P> {
         }
     }
 
+    /// The passes of a `Vec`. It takes no memory.
+    pub fn of(passes: Vec<P>) -> PassesOf<P>
+        ensures { result ≡ passes.items }
+    {
+        PassesOf { passes }
+    }
+
+    /// Gives the `Vec` back. It takes no memory.
+    pub fn into_vec(self) -> Vec<P>
+        ensures { result.items ≡ self }
+    {
+        self.passes
+    }
+
     /// Adds a pass at the end. Where there is no room, the error gives it back.
     pub fn push(&mut self, pass: P) -> Result<(), AllocFailed<P>>
         ensures added { OnOk result (self.new ≡ self.old ++ pass ∷ []) }
