@@ -92,4 +92,5 @@ module _ {M C R S : Type 0} {G : Ghosts (View M C R)} (stands : M → S → Type
         grown = posted.grown ∙ ap (λ l. l ++ posted.new) (turn_posts (Stepped stands steps) p.seat.me.0 v1 v2 place c r turn is);
         here = all_map _ _ (λ x e. e ∙ here) posted.new posted.here;
         exact = λ s b below. posted.done s b below;
+        no_others = λ s b beyond. posted.undone s b beyond;
       }

@@ -1,5 +1,5 @@
 -- What the calls of a desk say of a pass.
-use Rattle.std.specs.Prelude.{◌≡◌, ℕ, ◌+◌, ◌<◌, List, [], ◌∷◌, ◌++◌, length, Option, Some}
+use Rattle.std.specs.Prelude.{◌≡◌, ℕ, ◌+◌, ◌<◌, ◌≤◌, List, [], ◌∷◌, ◌++◌, length, Option, Some}
 use Rattle.std.specs.List.{AllByRecursion}
 use Rattle.std.specs.Int.{bit_at}
 use mathlib.Core.List.{IsPrefix}
@@ -55,6 +55,7 @@ module _ {M C R : Type 0} {G : Ghosts (View M C R)} where
     pub grown : posts q ≡ posts p ++ new
     pub here : AllByRecursion (λ (x : Post). x.place ≡ place) new
     pub exact : (s b : ℕ) → s < 16 → total_of (posted_at s b) new ≡ bit_at (bits_for owed s) b
+    pub no_others : (s b : ℕ) → 16 ≤ s → total_of (posted_at s b) new ≡ 0
 
   -- the first place that the history which the pass has seen leaves free
   abbrev pub next_place : Pass M C R G → ℕ

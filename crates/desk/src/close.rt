@@ -8,7 +8,7 @@ ghost use Rattle.desk_rule.specs.Seat.{IsAtTable};
 ghost use Rattle.desk.specs.Closing.{AllLearnt, gathered, IsAccount, IsCloseFault, IsHistory, Wraps};
 ghost use Rattle.desk.specs.Pass.{desk_of, notes_learnt, notes_made, posts, takes};
 
-use crate::account::{Account, add_rows, fill_rows};
+use crate::account::{Account, add_rows, fill_rows, sums_of};
 use crate::desk::{Desk, DeskOf};
 use crate::fault::DeskFault;
 use crate::pass::{Pass, PassOf};
@@ -136,10 +136,8 @@ impl<M: Machine> Desk<M> {
             raises,
             takes,
         } = last;
-        let mut raise_sums = [0u64; 128];
-        add_rows(&mut raise_sums, &raises);
-        let mut take_sums = [0u64; 128];
-        add_rows(&mut take_sums, &takes);
+        let mut raise_sums = sums_of(&raises);
+        let mut take_sums = sums_of(&takes);
         let DeskOf { table, made: _ } = self;
         gather(
             &table.shared,

@@ -4,7 +4,7 @@ use mathlib.Core.List.{IsPrefix}
 use mathlib.Core.Option.{some-injective}
 use Rattle.desk_rule.specs.declared.entry.Entry.{Entry}
 use Rattle.desk_rule.specs.History.{IsLegal, Run}
-use Rattle.desk_rule.specs.Laws.{BitsAreOwed, HistoriesAgree, NoticesBalance, OneSeatHolds}
+use Rattle.desk_rule.specs.Laws.{BitsAreOwed, HistoriesAgree, NoticesBalance, OneSeatHolds, PostsAreOwed}
 use Rattle.desk_rule.proofs.ListLemmas.{prefixes_agree}
 use Rattle.desk_rule.proofs.NoticeLemmas.{pending_owed}
 
@@ -29,3 +29,6 @@ module _ {M C R : Type 0} (steps : M → C → R → M → Type 0) where
 
   pub owed_bits : (owes : R → ℕ) → BitsAreOwed steps owes
   owed_bits owes opening first passes s r server bit below is = pending_owed steps owes opening first passes s r server bit below is
+
+  pub owed_posts : (owes : R → ℕ) → PostsAreOwed steps owes
+  owed_posts owes opening first passes s r j v at = (r.seated j v at).owed

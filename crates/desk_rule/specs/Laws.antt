@@ -1,5 +1,6 @@
 -- What follows of the rule.
 use Rattle.std.specs.Prelude.{◌≡◌, ◌⊎◌, ℕ, ◌+◌, ◌<◌, true, slice_index, Option}
+use Rattle.std.specs.List.{AllByRecursion}
 use Rattle.std.specs.Int.{bit_at}
 use mathlib.Core.Option.{some}
 use mathlib.Core.List.{IsPrefix}
@@ -8,7 +9,7 @@ use Rattle.atomic_table.specs.Table.{State}
 use Rattle.desk_rule.specs.declared.table.Home.{Home}
 use Rattle.desk_rule.specs.declared.view.View.{View}
 use Rattle.desk_rule.specs.History.{IsLegal}
-use Rattle.desk_rule.specs.Notices.{all_raised, all_taken, OwedIn}
+use Rattle.desk_rule.specs.Notices.{all_raised, all_taken, IsOwed, OwedIn}
 use Rattle.desk_rule.specs.Rule.{posts_of, RuleHolds, takes_of}
 
 module _ {M C R : Type 0} (steps : M → C → R → M → Type 0) (owes : R → ℕ) where
@@ -34,3 +35,8 @@ module _ {M C R : Type 0} (steps : M → C → R → M → Type 0) (owes : R →
   abbrev pub BitsAreOwed : Type 0
   BitsAreOwed = (opening : M) (first passes : ℕ) (s : TableState) → (r : RuleHolds steps owes opening first passes s) → (server bit : ℕ) → server < 16 → bit_at (slice_index s.words (server + 1)) bit ≡ 1
       → OwedIn owes server bit r.history
+
+  -- each post of each seat is of a call that is in the history and owes just its bits
+  abbrev pub PostsAreOwed : Type 0
+  PostsAreOwed = (opening : M) (first passes : ℕ) (s : TableState) → (r : RuleHolds steps owes opening first passes s) → (j : ℕ) (v : View M C R) → get_elem? s.views j ≡ some v
+      → AllByRecursion (IsOwed owes first r.history) v.posts

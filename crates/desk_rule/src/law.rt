@@ -1,7 +1,7 @@
 //! The laws of the rule, by its definitions alone.
 
 ghost use Rattle.desk_rule.specs.History.{Stepped};
-ghost use Rattle.desk_rule.specs.Laws.{BitsAreOwed, HistoriesAgree, NoticesBalance, OneSeatHolds};
+ghost use Rattle.desk_rule.specs.Laws.{BitsAreOwed, HistoriesAgree, NoticesBalance, OneSeatHolds, PostsAreOwed};
 
 use crate::machine::Machine;
 
@@ -23,4 +23,9 @@ pub fn notices_balance<M: Machine>()
 /// Each pending bit is owed by an entry of the history.
 pub fn bits_are_owed<M: Machine>()
     ensures { BitsAreOwed (Stepped M.stands M.steps) M.owes }
+{}
+
+/// Each post of each seat is of a call that is in the history and owes just its bits.
+pub fn posts_are_owed<M: Machine>()
+    ensures { PostsAreOwed (Stepped M.stands M.steps) M.owes }
 {}

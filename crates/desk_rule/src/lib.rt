@@ -18,7 +18,7 @@ mod turn;
 mod view;
 
 pub use entry::{Entry, PassCalls};
-pub use law::{bits_are_owed, histories_agree, notices_balance, one_seat_holds};
+pub use law::{bits_are_owed, histories_agree, notices_balance, one_seat_holds, posts_are_owed};
 pub use machine::Machine;
 pub use play::{EndTurn, Hold, JoinNote, JoinPass, Look, PostBits, SplitNote, SplitPass, TakeBits};
 pub use seat::{join_note, join_pass, split_note, split_pass};
