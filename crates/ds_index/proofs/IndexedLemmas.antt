@@ -3,8 +3,8 @@ use Rattle.std.proofs.Common.{◌≡◌, ℕ, ◌≤◌, ◌<◌, ◌⊎◌, ◌
 use Rattle.std.specs.declared.cmp.Ordering.{Ordering}
 use Rattle.std.specs.declared.cmp.Ordering.TheVariants.{Less, Equal, Greater}
 use Rattle.std.specs.Ordering.{nat_cmp, is_eq, eq_by_cmp, ordering_then, ordering_reverse}
-use Rattle.std.specs.Cmp.{IsTotalOrder, tied_itself}
-use Rattle.std.specs.FinMap.{get, insert, get-insert, get-empty}
+use Rattle.std.specs.Cmp.{tied_itself}
+use Rattle.std.specs.FinMap.{get-insert, get-empty}
 use Rattle.std.specs.List.{find}
 use Rattle.std.specs.List.Sorted.{IsStrictlySortedBy}
 use Rattle.std.specs.Option.{option_map}
@@ -31,9 +31,9 @@ use Rattle.ds_entry.proofs.CoversLemmas.{same_key, same_key-refl}
 use Rattle.ds_join.specs.declared.merge.Merge.{Merge}
 use Rattle.ds_join.specs.declared.merge.Merge.TheVariants.{Taken, Known, Stale}
 use Rattle.ds_join.specs.declared.merge.JoinFault.{JoinFault}
-use Rattle.ds_join.specs.declared.merge.JoinFault.TheVariants.{NotOwner, Clash, Full, NoRoom}
+use Rattle.ds_join.specs.declared.merge.JoinFault.TheVariants.{NoRoom}
 use Rattle.ds_join.specs.Held.{Holding, held_changes, held_for, held_count, nothing_held, IsOwn}
-use Rattle.ds_join.specs.Label.{is_same_endpoint, names_endpoint, is_label_of}
+use Rattle.ds_join.specs.Label.{names_endpoint, is_label_of}
 use Rattle.ds_join.specs.Merge.{MergeAnswer, AnswersNew, AnswersFor, after_merge}
 use Rattle.ds_join.specs.Reading.{value_of, value_in}
 use Rattle.ds_join.proofs.HeldLemmas.{held_in_order, Contains-held, held_at_key, from_along}

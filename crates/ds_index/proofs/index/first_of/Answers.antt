@@ -1,4 +1,4 @@
-use Rattle.std.proofs.Common.{◌≡◌, cond, Some, None, sym, ap, ◌∙◌}
+use Rattle.std.proofs.Common.{cond, Some, None, sym, ap, ◌∙◌}
 use Rattle.std.specs.Option.{option_copied}
 use Rattle.ds_index.proofs.NamedLemmas.{first_found, if_of}
 use Rattle.ds_index.proofs.index.first_of.Goals as goal

@@ -1,4 +1,4 @@
-use Rattle.std.proofs.Common.{◌≡◌, ◌≤◌, ◌+◌, List, length, ap, sym, ◌∙◌, subst, arith, rules}
+use Rattle.std.proofs.Common.{◌≡◌, List, ap, sym, ◌∙◌, subst, rules}
 use Rattle.std.specs.List.{remove}
 use Rattle.std.specs.List.Sorted.{IsStrictlySortedBy}
 use Rattle.ds_index.specs.declared.named.Named.{Named}

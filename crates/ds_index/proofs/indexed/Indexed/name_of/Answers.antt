@@ -1,4 +1,4 @@
-use Rattle.std.proofs.Common.{◌≡◌, ap, ◌∙◌, subst}
+use Rattle.std.proofs.Common.{ap, ◌∙◌, subst}
 use Rattle.std.specs.List.{find, All}
 use Rattle.std.specs.Option.{option_map}
 use Rattle.ds_entry.specs.Change.{ChangeRecord, IsChange}
