@@ -1,11 +1,8 @@
-//! Rows of calls and their answers, with ample memory: a reply that no line gets, and whole scripts whose reads and
-//! writes fail in turn.
+//! Whole scripts whose reads and writes fail in turn, by the reader and the writer that are made for it.
 //!
-//! A contract can't say that memory is there, so a body that always gives up would be proved; here each call is
-//! made and its answer compared. The rows stand in a crate of their own, since a crate with tests is proved twice.
+//! The rows stand in a crate of their own, since a crate with tests is proved twice. What a line reads as, and how it is
+//! answered, is compared by the cases of tests/cases.
 #![tactic(auto)]
 
-#[cfg(test)]
-mod replies;
 #[cfg(test)]
 mod scripts;

@@ -1,9 +1,11 @@
-//! Lines, given to a store.
+//! Lines, given to a store or to a map.
 
-use ds_entry::Items;
-use ds_names::NoRoom;
+use crate::map::{clear, make, print_entries, print_label, take};
+use ds_entry::{Items, Value};
+use ds_names::{Endpoint, Key, Kind, Name, NoRoom, Version};
 use ds_store::{Command, Refusal, Reply, Store, run};
-use ds_words::{ScriptCommand, Wording, append_reply, read_command, split_line};
+use ds_submap::SubMap;
+use ds_words::{ScriptCommand, Wording, append_reply, read_command, split_line, write_reply};
 use std::alloc::{AllocError, Global};
 use std::io::{self, Write};
 use std::rt::Runtime;
@@ -36,23 +38,27 @@ impl From<AllocError> for Failure {
 enum Block {
     /// `merge`: offers, which are the items of one Merge.
     Merge(Items),
+    /// `take`: offers, which are the items that the map takes.
+    Take(Items),
     /// `run`: commands, which are run as a list.
     Run(Vec<Command>),
 }
 
-/// A store, once one was opened, and the block whose lines are still read.
+/// A store and a map, once there is one, and the block whose lines are still read.
 #[derive(Drop)]
 pub(crate) struct Session {
-    alloc: Global,
+    pub(crate) alloc: Global,
+    pub(crate) map: Option<SubMap>,
     store: Option<Store>,
     block: Option<Block>,
 }
 
 impl Session {
-    /// Neither of them yet.
+    /// None of them yet.
     pub(crate) fn new(alloc: Global) -> Session {
         Session {
             alloc,
+            map: None,
             store: None,
             block: None,
         }
@@ -64,12 +70,19 @@ pub(crate) fn answer(rt: &impl Runtime, session: &mut Session, line: &str) -> Re
     if let Some(words) = line.strip_prefix("open ") {
         return open(rt, session, words);
     }
+    if let Some(name) = line.strip_prefix("label ") {
+        return print_label(rt, session, name);
+    }
     let alloc = session.alloc;
     match line {
+        "take" => session.block = Some(Block::Take(Items::new(alloc))),
         "merge" => session.block = Some(Block::Merge(Items::new(alloc))),
         "run" => session.block = Some(Block::Run(Vec::new(alloc))),
         "end" => return end(rt, session),
+        "mismatch" => return mismatch(rt, session),
         "held" => return print_held(rt, session),
+        "entries" => return print_entries(rt, session),
+        "clear" => return clear(rt, session),
         _ => {
             let command = read(alloc, line)?;
             return match &mut session.block {
@@ -91,12 +104,7 @@ fn open(rt: &impl Runtime, session: &mut Session, words: &str) -> Result<(), Fai
             session.store = Some(store);
             print_held(rt, session)
         }
-        Err(refusal) => print_reply(
-            rt,
-            session.alloc,
-            Wording::AsMerge,
-            &Reply::Refused(refusal),
-        ),
+        Err(refusal) => print_reply(rt, session.alloc, &Reply::Refused(refusal)),
     }
 }
 
@@ -118,7 +126,7 @@ fn read(alloc: Global, line: &str) -> Result<ScriptCommand, Failure> {
 
 fn add(alloc: Global, block: &mut Block, command: ScriptCommand) -> Result<(), Failure> {
     match block {
-        Block::Merge(items) => match command {
+        Block::Merge(items) | Block::Take(items) => match command {
             ScriptCommand::Offer(change) => items.push(change).map_err(|_| Failure::NoRoom),
             _ => Err(Failure::BadLine),
         },
@@ -129,44 +137,65 @@ fn add(alloc: Global, block: &mut Block, command: ScriptCommand) -> Result<(), F
     }
 }
 
-// Asks the store for one line.
+// Asks the store for one line, or makes a map.
 fn ask(rt: &impl Runtime, session: &mut Session, command: &ScriptCommand) -> Result<(), Failure> {
     let alloc = session.alloc;
+    if let ScriptCommand::Map { query } = command {
+        return make(rt, session, query);
+    }
     let store = session.store.as_mut().ok_or(Failure::BadLine)?;
     let asked = command.store_command(alloc)?.ok_or(Failure::BadLine)?;
     let reply = store.apply(asked);
-    print_reply(rt, alloc, command.wording(), &reply)
+    print(rt, write_reply(alloc, command, &reply)?.as_slice())
 }
 
-// Asks the store for a block.
+// RS publishes a number under a key of another kind, which no line of a script can ask.
+fn mismatch(rt: &impl Runtime, session: &mut Session) -> Result<(), Failure> {
+    let store = session.store.as_mut().ok_or(Failure::BadLine)?;
+    let name = Name::read(b"mtu").map_err(|_| Failure::BadLine)?;
+    let kind = Kind::Str;
+    let epoch = Endpoint::rs().generation();
+    let reply = store.apply(Command::Publish {
+        caller: Endpoint::rs(),
+        key: Key { name, kind },
+        version: Version { epoch, seq: 0 },
+        value: Value::U32(1500),
+        overwrite: false,
+    });
+    print_reply(rt, session.alloc, &reply)
+}
+
+// Asks the store, or the map, for a block.
 fn end(rt: &impl Runtime, session: &mut Session) -> Result<(), Failure> {
     let alloc = session.alloc;
-    let block = session.block.take().ok_or(Failure::BadLine)?;
-    let store = session.store.as_mut().ok_or(Failure::BadLine)?;
-    match block {
+    match session.block.take().ok_or(Failure::BadLine)? {
+        Block::Take(items) => take(rt, session, &items),
         Block::Merge(items) => {
+            let store = session.store.as_mut().ok_or(Failure::BadLine)?;
             let reply = store.apply(Command::Merge { items });
-            print_reply(rt, alloc, Wording::AsMerge, &reply)
+            print_reply(rt, alloc, &reply)
         }
         Block::Run(commands) => {
+            let store = session.store.as_mut().ok_or(Failure::BadLine)?;
             for reply in &run(alloc, store, commands)? {
-                print_reply(rt, alloc, Wording::AsMerge, reply)?;
+                print_reply(rt, alloc, reply)?;
             }
             Ok(())
         }
     }
 }
 
-fn print_reply(
-    rt: &impl Runtime,
-    alloc: Global,
-    wording: Wording,
-    reply: &Reply,
-) -> Result<(), Failure> {
+// What the store answers to what no line of a script asks.
+fn print_reply(rt: &impl Runtime, alloc: Global, reply: &Reply) -> Result<(), Failure> {
     let mut text = Vec::new(alloc);
-    append_reply(&mut text, wording, reply)?;
+    append_reply(&mut text, Wording::AsMerge, reply)?;
+    print(rt, text.as_slice())
+}
+
+/// Writes to standard output.
+pub(crate) fn print(rt: &impl Runtime, text: &[u8]) -> Result<(), Failure> {
     io::writer(rt)
-        .write_all(text.as_slice())
+        .write_all(text)
         .map_err(|_| Failure::WriteFault)
 }
 

@@ -1,0 +1,88 @@
+//! Lines, given to a subscriber's map.
+
+use crate::session::{Failure, Session, print};
+use ds_entry::{Change, Items};
+use ds_join::{JoinFault, Stop};
+use ds_line::{append_change, write_change};
+use ds_names::{Key, Kind, Name};
+use ds_pattern::{PatternFault, Query};
+use ds_submap::{Count, SubMap};
+use std::alloc::Global;
+use std::rt::Runtime;
+
+/// `map PATTERN KINDS`: an empty map of the query takes the place of the one that there was, unless it is refused.
+pub(crate) fn make(rt: &impl Runtime, session: &mut Session, query: &Query) -> Result<(), Failure> {
+    let printed = match SubMap::new(session.alloc, query) {
+        Ok(map) => {
+            session.map = Some(map);
+            println!(rt; "map")
+        }
+        Err(PatternFault::TooLong) => println!(rt; "refused toolong"),
+        Err(PatternFault::BadPattern) => println!(rt; "refused badpattern"),
+        Err(PatternFault::NoRoom) => println!(rt; "refused noroom"),
+    };
+    printed.map_err(|_| Failure::WriteFault)
+}
+
+/// `take`: the items of a block.
+pub(crate) fn take(rt: &impl Runtime, session: &mut Session, items: &Items) -> Result<(), Failure> {
+    let map = session.map.as_mut().ok_or(Failure::BadLine)?;
+    let printed = match map.take(session.alloc, items) {
+        Ok(Count { done, taken, stale }) => println!(rt; "taken {done} {taken} {stale}"),
+        Err(Stop { done, fault }) => {
+            let word = match fault {
+                JoinFault::NotOwner => "notowner",
+                JoinFault::Clash { .. } => "clash",
+                JoinFault::Full => "full",
+                JoinFault::NoRoom => "noroom",
+            };
+            println!(rt; "stopped {done} {word}")
+        }
+    };
+    printed.map_err(|_| Failure::WriteFault)
+}
+
+/// `entries`: the puts of the map, and how many changes it holds.
+pub(crate) fn print_entries(rt: &impl Runtime, session: &Session) -> Result<(), Failure> {
+    let map = session.map.as_ref().ok_or(Failure::BadLine)?;
+    let entries = map.entries(session.alloc)?;
+    let mut text = Vec::new(session.alloc);
+    for index in 0..entries.len() {
+        if let Some(change) = entries.get(index) {
+            append_change(&mut text, change)?;
+        }
+    }
+    print(rt, text.as_slice())?;
+    let (shown, held) = (entries.len(), map.held().len());
+    println!(rt; "entries {shown} of {held}").map_err(|_| Failure::WriteFault)
+}
+
+/// `label NAME`: the endpoint of a label, and the change that is held for it.
+pub(crate) fn print_label(rt: &impl Runtime, session: &Session, name: &str) -> Result<(), Failure> {
+    let map = session.map.as_ref().ok_or(Failure::BadLine)?;
+    let name = Name::read(name.as_bytes()).map_err(|_| Failure::BadLine)?;
+    let printed = match map.label(&name) {
+        Some(endpoint) => {
+            let (generation, slot) = (endpoint.generation().number(), endpoint.slot());
+            println!(rt; "label {generation}/{slot}")
+        }
+        None => println!(rt; "label -"),
+    };
+    printed.map_err(|_| Failure::WriteFault)?;
+    let kind = Kind::Label;
+    match map.get(&Key { name, kind }) {
+        Some(change) => print_change(rt, session.alloc, change),
+        None => Ok(()),
+    }
+}
+
+fn print_change(rt: &impl Runtime, alloc: Global, change: &Change) -> Result<(), Failure> {
+    let line = write_change(alloc, change)?;
+    print(rt, line.as_slice())
+}
+
+/// `clear`: the map is empty again.
+pub(crate) fn clear(rt: &impl Runtime, session: &mut Session) -> Result<(), Failure> {
+    session.map.as_mut().ok_or(Failure::BadLine)?.clear();
+    println!(rt; "cleared").map_err(|_| Failure::WriteFault)
+}
