@@ -1,22 +1,41 @@
 -- The laws of tops and joins of items.
-use Rattle.std.proofs.Common.{◌≡◌, true, List, [], ◌∷◌, ◌++◌, sym, ◌∙◌, subst, inl, inr, append_assoc}
+use Rattle.std.proofs.Common.{◌≡◌, ◌≤◌, Bool, true, false, List, [], ◌++◌, refl, sym, ◌∙◌, subst, inl, inr, append_assoc}
 use Rattle.std.specs.List.{Contains}
 use Rattle.std.specs.List.Sorted.{IsStrictlySortedBy}
 use Rattle.std.proofs.lemmas.List.Elements.{Contains-append_left, Contains-append_right, Contains-append_cases}
 use Rattle.ds_entry.specs.Item.{item_cmp}
 use Rattle.ds_entry.specs.ItemCovers.{covers, covered_by, AreSingleNumbered}
+use Rattle.ds_entry.specs.Void.{voids}
+use Rattle.ds_entry.specs.declared.floor.Floor.{Floor}
 use Rattle.ds_entry.specs.declared.item.Item.{Item}
 use Rattle.ds_entry.specs.declared.item.Item.TheVariants.{Change as Changed, Floor as Floored}
 use Rattle.ds_entry.proofs.Members.{Contains-nil, Contains-single, Contains-head, Contains-filter, Contains-from_filter}
 use Rattle.ds_entry.proofs.OrderedLemmas.{same_members}
-use Rattle.ds_entry.proofs.ItemLemmas.{covers-refl, covers-trans, covers-same, covers-apart, single_part, items_total}
+use Rattle.ds_entry.proofs.ItemLemmas.{below, covers-refl, covers-trans, covers-same, covers-apart, single_part, items_total}
 use Rattle.ds_join.specs.ItemTop.{IsTop, IsPartOf, CoversAll}
-use Rattle.ds_join.specs.ItemTopLaws.{TopIsUnique, HeldIsTop, TopOfTop, TopOfUnion, TopOfCovered}
+use Rattle.ds_join.specs.ItemTopLaws.{TopIsUnique, HeldIsTop, GreatestFloorIsHeld, NothingVoidIsHeld, TopOfTop, TopOfUnion, TopOfCovered}
 use Rattle.ds_join.specs.ItemJoin.{JoinIsCommutative, JoinIsAssociative, JoinIsIdempotent, JoinIsLeast}
 
 -- no held item covers another
 pub held_apart : (held set : List Item) → IsTop held set → (c d : Item) → Contains held c → Contains held d → covers d c ≡ true → d ≡ c
 held_apart held set t c d h k e = sym (covers-apart held t.in_order t.none_void c d h k e)
+
+-- the greatest floor of each owner is held
+pub greatest_floor : GreatestFloorIsHeld
+greatest_floor set held f t h = let j = t.greatest (Floored f) h in over j.0 j.1 j.2
+  where
+    over : (j : Item) → Contains held j → covers j (Floored f) ≡ true → (g : Floor) × Contains held (Floored g) × (g.owner ≡ f.owner) × (f.generation ≤ g.generation)
+    over (Changed d) k e = let n : false ≡ true = e in absurd (cc)
+    over (Floored g) k e = let b = below f.owner g.owner f.generation g.generation e in (g, k, sym b.0, b.1)
+
+-- nothing is held that a floor of the set makes void
+pub void_isnt_held : NothingVoidIsHeld
+void_isnt_held set held f c t h k = let j = t.greatest (Floored f) h in by_test j.0 j.1 j.2 (voids f c) refl
+  where
+    by_test : (j : Item) → Contains held j → covers j (Floored f) ≡ true → (b : Bool) → voids f c ≡ b → b ≡ false
+    by_test j l e false v = refl
+    by_test (Changed d) l e true v = let n : false ≡ true = e in absurd (cc)
+    by_test (Floored g) l e true v = let differ : true ≡ false = sym (covers-trans (Floored g) (Floored f) (Changed c) e v) ∙ t.none_void g c l k in absurd (cc)
 
 -- a held item that another one of the set covers is that one
 held_is : (set held : List Item) → AreSingleNumbered set → IsTop held set → (c d : Item) → Contains held c → Contains set d → covers d c ≡ true → c ≡ d

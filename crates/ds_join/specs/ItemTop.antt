@@ -1,5 +1,5 @@
 -- The top of a set of items: what of it is held. A set is a list, read up to membership. No holder holds items yet.
-use Rattle.std.specs.Prelude.{◌≡◌, Bool, true, false, not, if◌then◌else◌, List, [], ◌∷◌, ◌++◌, filter, fold, Contains}
+use Rattle.std.specs.Prelude.{◌≡◌, true, false, not, if◌then◌else◌, List, [], ◌∷◌, ◌++◌, filter, fold, Contains}
 use Rattle.std.specs.List.{list_any}
 use Rattle.std.specs.List.Sorted.{IsStrictlySortedBy}
 use Rattle.std.specs.Ordering.{is_lt}

@@ -1,7 +1,11 @@
 -- The laws of tops of items.
-use Rattle.std.specs.Prelude.{◌≡◌, List, [], ◌∷◌, ◌++◌, Contains}
+use Rattle.std.specs.Prelude.{◌≡◌, ◌≤◌, false, List, [], ◌∷◌, ◌++◌, Contains}
+use Rattle.ds_entry.specs.Change.{ChangeRecord}
 use Rattle.ds_entry.specs.ItemCovers.{covered_by, AreSingleNumbered}
+use Rattle.ds_entry.specs.Void.{voids}
+use Rattle.ds_entry.specs.declared.floor.Floor.{Floor}
 use Rattle.ds_entry.specs.declared.item.Item.{Item}
+use Rattle.ds_entry.specs.declared.item.Item.TheVariants.{Change as Changed, Floor as Floored}
 use Rattle.ds_join.specs.ItemTop.{IsTop, tops, HasOneOwnerInTurn}
 
 -- a single-numbered set has a top
@@ -15,6 +19,14 @@ TopIsUnique = (set held other : List Item) → AreSingleNumbered set → IsTop h
 -- what is held is its own top
 abbrev pub HeldIsTop : Type 0
 HeldIsTop = (held set : List Item) → IsTop held set → IsTop held held
+
+-- a floor of the owner is held that isn't below any of the set
+abbrev pub GreatestFloorIsHeld : Type 0
+GreatestFloorIsHeld = (set held : List Item) (f : Floor) → IsTop held set → Contains set (Floored f) → (g : Floor) × Contains held (Floored g) × (g.owner ≡ f.owner) × (f.generation ≤ g.generation)
+
+-- what a floor of the set makes void isn't held, early or late as it came
+abbrev pub NothingVoidIsHeld : Type 0
+NothingVoidIsHeld = (set held : List Item) (f : Floor) (c : ChangeRecord) → IsTop held set → Contains set (Floored f) → Contains held (Changed c) → voids f c ≡ false
 
 -- `tops` gives a top of every list in which the changes of a key that aren't void have one owner, as they come
 abbrev pub TopsIsTop : Type 0
