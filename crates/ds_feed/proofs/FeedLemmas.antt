@@ -21,17 +21,18 @@ last_pushed n items i =
     let same : k + (length (last_items n items ++ i ∷ []) - n) ≡ length (items ++ i ∷ []) - n = omega (arith, count, all) in
     ap (drop (length (last_items n items ++ i ∷ []) - n)) (sym (drop-append-le k items (i ∷ []) within)) ∙ (drop-drop (length (last_items n items ++ i ∷ []) - n) k (items ++ i ∷ []) ∙ ap (λ (m : ℕ). drop m (items ++ i ∷ [])) same)
 
--- the journal with one more item keeps the feed with one more
-pub keeps_pushed : (j : Kept) (f : Feed) (i : Item) → Keeps j f → Keeps (record j { items = last_items j.ring (j.items ++ i ∷ []); position = j.position + 1 }) (accepts f i)
-keeps_pushed j f i k = record {
-  items = ap (λ (n : ℕ). last_items n (j.items ++ i ∷ [])) k.ring ∙ (ap (λ (l : List Item). last_items f.ring (l ++ i ∷ [])) k.items ∙ last_pushed f.ring f.accepted i);
-  first = k.first;
+-- a journal with one more item keeps the feed with one more
+pub keeps_pushed : (old new : Kept) (f : Feed) (i : Item) → Keeps old f → new.items ≡ last_items old.ring (old.items ++ i ∷ []) → new.first ≡ old.first → new.position ≡ old.position + 1 → new.ring ≡ old.ring → new.incarnation ≡ old.incarnation →
+    Keeps new (accepts f i)
+keeps_pushed old new f i k items first next ring incarnation = record {
+  items = items ∙ (ap (λ (n : ℕ). last_items n (old.items ++ i ∷ [])) k.ring ∙ (ap (λ (l : List Item). last_items f.ring (l ++ i ∷ [])) k.items ∙ last_pushed f.ring f.accepted i));
+  first = first ∙ k.first;
   position =
       let p = k.position in
       let n : length (f.accepted ++ i ∷ []) ≡ length f.accepted + 1 = length-append f.accepted (i ∷ []) in
       omega arith;
-  ring = k.ring;
-  incarnation = k.incarnation;
+  ring = ring ∙ k.ring;
+  incarnation = incarnation ∙ k.incarnation;
 }
 
 -- the first position isn't behind the next one
@@ -78,21 +79,21 @@ nothing_left test max items next e = ap (prefix test max) (past items next e) �
     of_none (suc n) = refl
 
 -- the walk has come to its end: all is given, and the cursor stands behind it
-pub all_given : (f : Feed) (test : Item → Bool) (at : Cursor) (max : ℕ) (given : List Item) (start next : ℕ) (kept rest : List Item) → fault_at f at ≡ None → drop start kept ≡ from f at.position → rest ≡ [] →
-    given ++ filter test rest ≡ filter test (prefix test max (drop start kept)) → next + length rest ≡ start + length (prefix test max (drop start kept)) →
-    IsGiven f test at max (record { items = given; cursor = beyond at (next - start) })
-all_given f test at max given start next kept rest reached there none items reach =
+pub all_given : (f : Feed) (test : Item → Bool) (at : Cursor) (max : ℕ) (given : List Item) (cursor : Cursor) (start next : ℕ) (kept rest : List Item) → fault_at f at ≡ None → drop start kept ≡ from f at.position → rest ≡ [] →
+    given ++ filter test rest ≡ filter test (prefix test max (drop start kept)) → next + length rest ≡ start + length (prefix test max (drop start kept)) → cursor ≡ beyond at (next - start) →
+    IsGiven f test at max (record { items = given; cursor = cursor })
+all_given f test at max given cursor start next kept rest reached there none items reach place =
     let n : length rest ≡ 0 = ap length none in
     let p : length (prefix test max (drop start kept)) ≡ length (piece f test at max) = ap (λ (l : List Item). length (prefix test max l)) there in
     let d : next - start ≡ length (piece f test at max) = omega arith in
     let all : given ≡ filter test (piece f test at max) = sym (append-nil given) ∙ (ap (λ (l : List Item). given ++ filter test l) (sym none) ∙ (items ∙ ap (λ (l : List Item). filter test (prefix test max l)) there)) in
     record {
       reached = reached;
-      given = ap (λ (l : List Item). since_with l (next - start)) all ∙ ap (since_with (filter test (piece f test at max))) d;
+      given = ap (λ (l : List Item). since_with l cursor) all ∙ ap (since_with (filter test (piece f test at max))) (place ∙ ap (beyond at) d);
     }
   where
-    since_with : List Item → ℕ → Since
-    since_with items n = record { items = items; cursor = beyond at n }
+    since_with : List Item → Cursor → Since
+    since_with items cursor = record { items = items; cursor = cursor }
 
 -- where everything passes, the first ones are given
 pub prefix_of_all : (test : Item → Bool) → ((i : Item) → test i ≡ true) → (max : ℕ) (items : List Item) → filter test (prefix test max items) ≡ take max items

@@ -1,4 +1,4 @@
-use Rattle.std.proofs.Common.{arith, sym, subst, ◌<◌}
+use Rattle.std.proofs.Common.{rules, arith, sym, subst, ◌<◌}
 use Rattle.ds_feed.specs.Feed.{accepts, last_place}
 use Rattle.ds_feed.specs.Kept.{Kept, Keeps}
 use Rattle.ds_feed.specs.Sound.{kept_of}
@@ -10,10 +10,10 @@ invariant_of-self c =
     let before = c.self.invariant.feed in
     let room : c.self.inside.position < last_place = subst (λ (j : Kept). j.position < last_place) (sym c.self.view_is) c.requires in
     record {
-      feed = (accepts before.0 c.args.item, rw c.push_back-oldest.ensures.items (keeps_pushed (kept_of c.self.inside) before.0 c.args.item before.1));
-      ring = rw c.push_back-oldest.ensures.items c.self.invariant.ring;
+      feed = (accepts before.0 c.args.item, keeps_pushed (kept_of c.self.inside) _ before.0 c.args.item before.1 (search rules) (search rules) (search rules) (search rules) (search rules));
+      ring = let r = c.self.invariant.ring in search rules;
       limit = omega arith;
     }
 
 pub returns : goal.returns
-returns c = λ f k. rw c.push_back-oldest.ensures.items (keeps_pushed (kept_of c.self.inside) f c.args.item (subst (λ (j : Kept). Keeps j f) (sym c.self.view_is) k))
+returns c = λ f k. keeps_pushed (kept_of c.self.inside) _ f c.args.item (subst (λ (j : Kept). Keeps j f) (sym c.self.view_is) k) (search rules) (search rules) (search rules) (search rules) (search rules)

@@ -1,4 +1,4 @@
-use Rattle.std.proofs.Common.{◌≡◌, ◌+◌, ◌++◌, ◌∷◌, ◌-◌, [], length, drop, filter, Some, List, Bool, cond, ap, sym, ◌∙◌, subst, arith}
+use Rattle.std.proofs.Common.{rules, ◌≡◌, ◌+◌, ◌++◌, ◌∷◌, ◌-◌, [], length, drop, filter, Some, List, Bool, cond, ap, sym, ◌∙◌, subst, arith}
 use Rattle.std.specs.List.{slice_get}
 use Rattle.std.specs.Option.{option_copied}
 use Rattle.ds_names.specs.declared.key.Key.{Key}
@@ -53,4 +53,4 @@ returns-clause-given g c = λ f k.
       | else-loop-left-test w ↦ nothing_wanted test c.loop-left.left (drop next kept) w.loop-left-test.false
       | then-loop-left-test+in_default w ↦ nothing_left test c.loop-left.left kept next (sym w.get.ensures ∙ ap option_copied w.in_default.is)
     ] in
-    all_given f test c.args.cursor c.args.max c.loop-left.items c.in_ok-start.start next kept (prefix test c.loop-left.left (drop next kept)) found.0 there none c.loop-left.invariant.items c.loop-left.invariant.reach
+    all_given f test c.args.cursor c.args.max c.loop-left.items _ c.in_ok-start.start next kept (prefix test c.loop-left.left (drop next kept)) found.0 there none c.loop-left.invariant.items c.loop-left.invariant.reach (search rules)
