@@ -31,3 +31,27 @@ module _ {X : Type 0} (cmp : X → X → Ordering) (total : IsTotalOrder cmp) wh
   -- two members that tie are one
   pub tied_once : (xs : List X) (c d : X) → IsStrictlySortedBy cmp xs → Contains xs c → Contains xs d → cmp c d ≡ Equal → c ≡ d
   tied_once xs c d s h k e = In-once xs c d s (In-from_Contains c xs h) (In-from_Contains d xs k) e
+
+  -- two such lists with the same members are the same
+  same_list : (xs ys : List X) → IsStrictlySortedBy cmp xs → IsStrictlySortedBy cmp ys → ((x : X) → In x xs → In x ys) → ((x : X) → In x ys → In x xs) → xs ≡ ys
+  unfolding IsStrictlySortedBy
+  same_list [] [] s t f g = refl
+  same_list [] (y ∷ ys) s t f g = absurd (g y (inl refl))
+  same_list (x ∷ xs) [] s t f g = absurd (f x (inl refl))
+  same_list (x ∷ xs) (y ∷ ys) s t f g =
+      let e : x ≡ y = heads (f x (inl refl)) (g y (inl refl)) in
+      let r : xs ≡ ys = same_list xs ys s.1 t.1 (λ z h. in_rest x y z ys e (below x xs z s.0 h) (f z (inr h))) (λ z h. in_rest y x z xs (sym e) (below y ys z t.0 h) (g z (inr h))) in
+      cc
+    where
+      heads : In x (y ∷ ys) → In y (x ∷ xs) → x ≡ y
+      heads (inl e) k = e
+      heads (inr h) (inl e) = sym e
+      heads (inr h) (inr k) = absurd (not_less x x (tied_itself total x) (total.trans x y x (below x xs y s.0 k) (below y ys x t.0 h)))
+
+      in_rest : (v w z : X) (zs : List X) → v ≡ w → cmp v z ≡ Less → (z ≡ w) ⊎ In z zs → In z zs
+      in_rest v w z zs e l (inl q) = absurd (not_less v z (subst (λ (u : X). cmp v u ≡ Equal) (e ∙ sym q) (tied_itself total v)) l)
+      in_rest v w z zs e l (inr h) = h
+
+  pub same_members : (xs ys : List X) → IsStrictlySortedBy cmp xs → IsStrictlySortedBy cmp ys → ((x : X) → Contains xs x → Contains ys x) → ((x : X) → Contains ys x → Contains xs x) → xs ≡ ys
+  same_members xs ys s t f g =
+      same_list xs ys s t (λ x h. In-from_Contains x ys (f x (Contains-from_In x xs h))) (λ x h. In-from_Contains x xs (g x (Contains-from_In x ys h)))

@@ -7,3 +7,5 @@ pub mod NextLemmas
 pub mod JoinLemmas
 pub mod ExistLemmas
 pub mod MarkLemmas
+pub mod ItemTopLemmas
+pub mod ItemExistLemmas

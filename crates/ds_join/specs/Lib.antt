@@ -9,3 +9,6 @@ pub mod Stop
 pub mod Kept
 pub mod Marked
 pub mod Beside
+pub mod ItemTop
+pub mod ItemTopLaws
+pub mod ItemJoin

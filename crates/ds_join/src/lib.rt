@@ -6,6 +6,7 @@
 #![tactic(auto)]
 
 mod held;
+mod item_laws;
 mod label;
 mod laws;
 mod list;
@@ -14,6 +15,7 @@ mod merge;
 mod order;
 
 pub use held::Held;
+pub use item_laws::{item_join_laws, item_top_laws};
 pub use laws::{join_laws, top_laws};
 pub use marked::Marked;
 pub use merge::{JoinFault, Merge, Stop};

@@ -1,5 +1,5 @@
 -- Reading a floor: each part is missing where it has to stand, or is read there.
-use Rattle.std.proofs.Common.{◌≡◌, ◌≢◌, ℕ, zero, suc, ◌-◌, ◌<◌, ◌≤◌, ◌^◌, List, [], ◌∷◌, ◌++◌, length, take, drop, Result, Ok, Err, refl, sym, ap, subst, ◌∙◌, length-append, arith}
+use Rattle.std.proofs.Common.{◌≡◌, ◌≢◌, ℕ, zero, suc, ◌-◌, ◌<◌, ◌≤◌, List, [], ◌∷◌, ◌++◌, length, take, drop, Ok, Err, refl, sym, ap, subst, ◌∙◌, length-append, arith}
 use Rattle.std.specs.Char.{is_ascii_digit}
 use Rattle.std.specs.Fmt.{decimal}
 use Rattle.std.proofs.lemmas.List.{take_at}
@@ -8,8 +8,7 @@ use Rattle.ds_names.specs.Run.{Begins}
 use Rattle.ds_entry.specs.Change.{rs_name}
 use Rattle.ds_entry.specs.Floor.{floor_of, IsFloor}
 use Rattle.ds_entry.specs.declared.floor.Floor.{Floor}
-use Rattle.ds_line.specs.Part.{Name, Number, Part, part, byte, texts}
-use Rattle.ds_line.specs.Spelling.{space, newline}
+use Rattle.ds_line.specs.Part.{Part, texts}
 use Rattle.ds_line.specs.ItemSpelling.{floor_parts}
 use Rattle.ds_line.specs.FaultPlace.{Stand}
 use Rattle.ds_line.specs.Piece.{Found, Breaks}
@@ -21,7 +20,7 @@ use Rattle.ds_line.proofs.LabelLemmas.{rs_is_name}
 use Rattle.ds_line.proofs.LineLemmas.{stand_length}
 use Rattle.ds_line.proofs.PieceLemmas.{stand_texts}
 use Rattle.ds_line.proofs.ApartLemmas.{AllTexts, Alike}
-use Rattle.ds_line.proofs.PlaceLemmas.{Agree, alike_agree, same_rest, fewer}
+use Rattle.ds_line.proofs.PlaceLemmas.{alike_agree, same_rest, fewer}
 
 pub floor_texts : (f : Floor) → IsFloor f → AllTexts (floor_parts f)
 floor_texts f is = (refl, (refl, (is.owner.allowed, (refl, ((f.generation, omega (arith, is.generation), refl), (refl, tt))))))

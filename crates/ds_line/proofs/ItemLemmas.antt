@@ -1,5 +1,5 @@
 -- Items read and written: a line is a change's or a floor's by its first byte.
-use Rattle.std.proofs.Common.{◌≡◌, ◌≢◌, ℕ, zero, suc, ◌+◌, ◌≤◌, true, false, List, [], ◌∷◌, ◌++◌, length, get_or, refl, sym, ap, subst, ◌∙◌, arith}
+use Rattle.std.proofs.Common.{◌≡◌, ◌≢◌, ℕ, zero, suc, ◌+◌, true, false, List, [], ◌∷◌, ◌++◌, length, get_or, refl, sym, ap, subst, ◌∙◌, arith}
 use Rattle.std.specs.List.{list_all}
 use Rattle.std.specs.Fmt.{decimal}
 use Rattle.std.proofs.lemmas.Bool.{false≢true, and_parts}
@@ -11,10 +11,10 @@ use Rattle.ds_entry.specs.Item.{IsItem}
 use Rattle.ds_entry.specs.declared.floor.Floor.{Floor}
 use Rattle.ds_entry.specs.declared.item.Item.{Item}
 use Rattle.ds_entry.specs.declared.item.Item.TheVariants.{Change as Changed, Floor as Floored}
-use Rattle.ds_line.specs.Part.{Name, Number, Part, part, texts}
+use Rattle.ds_line.specs.Part.{Name, Number, Part, part}
 use Rattle.ds_line.specs.Spelling.{space, newline, change_parts, spelling}
 use Rattle.ds_line.specs.ItemSpelling.{floor_parts, item_parts, item_spelling}
-use Rattle.ds_line.specs.FaultPlace.{Stand, IsFaultPlace, IsLineFault}
+use Rattle.ds_line.specs.FaultPlace.{Stand, IsFaultPlace}
 use Rattle.ds_line.specs.Piece.{Breaks}
 use Rattle.ds_line.specs.FloorPiece.{a_floor}
 use Rattle.ds_line.specs.ItemFault.{HasNoItem, IsItemFault, IsItemFaultIn}
@@ -23,11 +23,11 @@ use Rattle.ds_line.specs.LastNewline.{EndsLine}
 use Rattle.ds_line.specs.declared.fault.LineFault.{LineFault}
 use Rattle.ds_line.specs.declared.fault.LineFault.TheVariants.{BadLine, NoRoom}
 use Rattle.ds_line.proofs.OpeningLemmas.{text_at}
-use Rattle.ds_line.proofs.LineLemmas.{AllStand, byte_stands, name_stands, part_stands, change_stands, line_stands}
-use Rattle.ds_line.proofs.ApartLemmas.{same_parts, change_texts, changes_alike, change_one, apart}
+use Rattle.ds_line.proofs.LineLemmas.{AllStand, byte_stands, name_stands, part_stands, line_stands}
+use Rattle.ds_line.proofs.ApartLemmas.{same_parts, change_texts, changes_alike, apart}
 use Rattle.ds_line.proofs.NewlineLemmas.{ends_behind, ends_behind_byte, ends_behind_space, newline_ends, unbroken_name, unbroken_decimal, line_ends}
 use Rattle.ds_line.proofs.PlaceLemmas.{alike_agree, same_rest, LeavesOne, one_place_by}
-use Rattle.ds_line.proofs.FloorLemmas.{floor_texts, floors_alike, floors_rest, break_left}
+use Rattle.ds_line.proofs.FloorLemmas.{floor_texts, floors_alike, floors_rest}
 
 -- ---- the first byte
 

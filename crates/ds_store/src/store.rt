@@ -16,7 +16,8 @@ use crate::refusal::Refusal;
 use crate::search::name_of;
 use asking::{deleted, published};
 use ds_entry::{Body, Change};
-use ds_join::{Held, JoinFault, Marked, Merge};
+use ds_index::Indexed;
+use ds_join::{Held, JoinFault, Merge};
 use ds_names::{Endpoint, Key, NoRoom};
 use ds_watch::{Mask, Masks, Subscriptions};
 use marking::masks_of;
@@ -33,7 +34,7 @@ mod sweeping;
 #[derive(Drop)]
 pub struct Store {
     alloc: Global,
-    held: Marked<Masks>,
+    held: Indexed<Masks>,
     first: u64,
     position: u64,
     ring: u32,
@@ -71,7 +72,7 @@ impl Store {
         }
         Ok(Store {
             alloc,
-            held: Marked::new(alloc),
+            held: Indexed::new(alloc),
             first,
             position: first,
             ring,

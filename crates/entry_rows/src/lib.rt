@@ -1,4 +1,4 @@
-//! Rows of calls and their answers, with ample memory: names, changes, and their lines.
+//! Rows of calls and their answers, with ample memory: names, changes, floors, and their lines.
 //!
 //! A contract can't say that memory is there, so a body that always gives up would be proved; here each call is
 //! made and its answer compared. The rows stand in a crate of their own, since a crate with tests is proved twice.
@@ -6,6 +6,8 @@
 
 #[cfg(test)]
 mod changes;
+#[cfg(test)]
+mod items;
 #[cfg(test)]
 mod lines;
 #[cfg(test)]

@@ -10,7 +10,7 @@ ghost use Rattle.ds_watch.specs.Masks.{shown_to, made_at};
 ghost use Rattle.ds_store.specs.Remarked.{IsRemarked, AreRemarked, AreFirst, is_to_show};
 
 use ds_entry::{Change, Items};
-use ds_join::Marked;
+use ds_index::Indexed;
 use ds_names::{Key, NoRoom};
 use ds_pattern::Filter;
 use ds_watch::Masks;
@@ -24,7 +24,7 @@ pub(super) struct Shown {
 }
 
 /// The masks beside what is held for the key.
-pub(super) fn masks_of(held: &Marked<Masks>, key: &Key) -> Option<Masks>
+pub(super) fn masks_of(held: &Indexed<Masks>, key: &Key) -> Option<Masks>
     ensures { result ≡ mark_for held.now key.now }
 {
     match held.get(key) {
@@ -34,7 +34,7 @@ pub(super) fn masks_of(held: &Marked<Masks>, key: &Key) -> Option<Masks>
 }
 
 // The masks beside the change at the index, in key order.
-fn masks_at(held: &Marked<Masks>, index: usize) -> Option<Masks>
+fn masks_at(held: &Indexed<Masks>, index: usize) -> Option<Masks>
     ensures here { (c : ChangeRecord) → slice_get (held_changes held.now.held) index ≡ Some c → result ≡ mark_for held.now c.key }
     ensures none { slice_get (held_changes held.now.held) index ≡ None → result ≡ None }
 {
@@ -45,7 +45,7 @@ fn masks_at(held: &Marked<Masks>, index: usize) -> Option<Masks>
 }
 
 // The change at the index was shown to the subscription with this number.
-fn show_one(held: &mut Marked<Masks>, index: usize, sub: usize)
+fn show_one(held: &mut Indexed<Masks>, index: usize, sub: usize)
     requires { sub < 64 }
     ensures { IsRemarked held.old held.new index (shown_to sub) }
 {
@@ -55,7 +55,7 @@ fn show_one(held: &mut Marked<Masks>, index: usize, sub: usize)
 }
 
 /// The first so many changes were shown to the subscription with this number. It takes no memory.
-pub(super) fn show_first(held: &mut Marked<Masks>, count: usize, sub: usize)
+pub(super) fn show_first(held: &mut Indexed<Masks>, count: usize, sub: usize)
     requires { sub < 64 }
     ensures { AreRemarked held.old held.new count (λ k. shown_to sub) }
 {
@@ -66,7 +66,7 @@ pub(super) fn show_first(held: &mut Marked<Masks>, count: usize, sub: usize)
 }
 
 // The subscription with this number was made, and the key at the index is under its query or not.
-fn make_one(held: &mut Marked<Masks>, index: usize, sub: usize, is_under: bool, initial: bool)
+fn make_one(held: &mut Indexed<Masks>, index: usize, sub: usize, is_under: bool, initial: bool)
     requires { sub < 64 }
     ensures { IsRemarked held.old held.new index (made_at sub is_under initial) }
 {
@@ -77,7 +77,7 @@ fn make_one(held: &mut Marked<Masks>, index: usize, sub: usize, is_under: bool, 
 
 /// The subscription with this number was made, where the flags say which held keys are under its query. It
 /// takes no memory.
-pub(super) fn make_all(held: &mut Marked<Masks>, sub: usize, flags: &[bool], initial: bool)
+pub(super) fn make_all(held: &mut Indexed<Masks>, sub: usize, flags: &[bool], initial: bool)
     requires { sub < 64 }
     ensures { AreRemarked held.old held.new (length flags.now) (λ k. made_at sub (slice_index_or flags.now k false) initial) }
 {
@@ -90,7 +90,7 @@ pub(super) fn make_all(held: &mut Marked<Masks>, sub: usize, flags: &[bool], ini
 /// Which of the held keys are under the query, in key order.
 pub(super) fn flags_under(
     alloc: Global,
-    held: &Marked<Masks>,
+    held: &Indexed<Masks>,
     filter: &Filter,
 ) -> Result<Vec<bool>, NoRoom>
     ensures { IfOk result (λ flags. flags.items ≡ map (λ (c : ChangeRecord). is_under filter.now c.key) (held_changes held.now.held)) }
@@ -124,7 +124,7 @@ fn show_unseen(
 /// these alone, so want of it says that there are some.
 pub(super) fn first_unseen(
     alloc: Global,
-    held: &Marked<Masks>,
+    held: &Indexed<Masks>,
     sub: usize,
     max: usize,
 ) -> Result<Shown, NoRoom>

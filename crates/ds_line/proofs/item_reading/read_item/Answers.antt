@@ -1,4 +1,4 @@
-use Rattle.std.proofs.Common.{◌≡◌, ℕ, ◌∷◌, List, Err, subst, arith}
+use Rattle.std.proofs.Common.{Err, subst, arith}
 use Rattle.ds_line.specs.FloorPiece.{ReadsFloor}
 use Rattle.ds_line.specs.declared.part_fault.PartFault.{PartFault}
 use Rattle.ds_line.proofs.FloorLemmas.{floor_taken, break_left}

@@ -1,0 +1,127 @@
+-- Passes that are gathered, and what a closed desk leaves.
+use Rattle.std.proofs.Common.{◌≡◌, ℕ, ◌+◌, ◌*◌, ◌/◌, ◌%◌, ◌^◌, ◌≤◌, ◌<◌, Bool, true, false, List, [], ◌∷◌, ◌++◌, length, refl, ap, sym, ◌∙◌, subst, arith, length-append}
+use Rattle.std.specs.Prelude.{slice_index}
+use Rattle.std.specs.List.{AllByRecursion}
+use Rattle.std.specs.Int.{bit_at}
+use Rattle.std.proofs.lemmas.Nat.Bits.{bit_at-lt}
+use mathlib.Core.Option.{some}
+use lib.ListN.{get_elem?}
+use Rattle.desk_rule.specs.declared.entry.Entry.{Entry}
+use Rattle.desk_rule.specs.declared.entry.PassCalls.{PassCalls}
+use Rattle.desk_rule.specs.declared.view.View.{View}
+use Rattle.desk_rule.specs.History.{calls_by, calls_of, number_of, OwnCalls, Stepped, total_of, weigh_all}
+use Rattle.desk_rule.specs.Kinds.{after_pass, Standing}
+use Rattle.desk_rule.specs.Notices.{raised_in, taken_in}
+use Rattle.desk_rule.specs.Seat.{IsClosed, SeatOf}
+use Rattle.desk_rule.proofs.ListLemmas.{all_split, only_of, total_append}
+use Rattle.desk.specs.declared.account.Row.{Row}
+use Rattle.desk.specs.declared.pass.Sight.{Ghosts}
+use Rattle.desk.specs.Closing.{gathered, IsAccount, IsHistory, IsRow, pending_bit, Sums, Wraps}
+use Rattle.desk.specs.Pass.{calls, number, Pass, posts, takes}
+use Rattle.desk.specs.Sight.{rests_of}
+use Rattle.desk.specs.Tally.{Tallies}
+use Rattle.desk.proofs.RowLemmas.{wraps_more}
+use Rattle.desk.proofs.SeeLemmas.{own_one}
+use Rattle.desk.proofs.SightLemmas.{rests_facts}
+use Rattle.desk.proofs.StateLemmas.{states_run}
+
+pub all_last : {A : Type 0} (P : A → Type 0) (xs ys : List A) (x : A) → ys ≡ xs ++ x ∷ [] → AllByRecursion P ys → AllByRecursion P xs × P x
+all_last P xs ys x e all = let both = all_split P xs (x ∷ []) (subst (λ l. AllByRecursion P l) e all) in (both.0, both.1.0)
+
+-- what passes say of rests is what the rule's view says
+abbrev pub Tells : {M C R : Type 0} → Ghosts (View M C R) → Type 0
+Tells {M} {C} {R} G = (v : View M C R) → G.rests v ≡ true → rests_of v ≡ true
+
+module _ {C R : Type 0} where
+  weigh_one : (weigh : Entry C R → ℕ) (l : List (PassCalls C R)) → length l ≡ 1 → weigh_all weigh l ≡ total_of weigh (calls_of l)
+  weigh_one weigh l one = let p = only_of l one in subst (λ (k : List (PassCalls C R)). weigh_all weigh k ≡ total_of weigh (calls_of k)) (sym p.1) (omega arith)
+
+module _ {M C R : Type 0} {G : Ghosts (View M C R)} where
+  pub gathered_last : (l : List (PassCalls C R)) (ps : List (Pass M C R G)) (p : Pass M C R G) → gathered l (ps ++ p ∷ []) ≡ gathered (l ++ p.seat.me.0.passes) ps
+  gathered_last l [] p = refl
+  gathered_last l (q ∷ qs) p = ap (λ m. m ++ q.seat.me.0.passes) (gathered_last l qs p)
+
+  -- the seat q is p0 with the passes of all that aren't among ps
+  pub record Gathers (p0 q : SeatOf M C R) (all ps : List (Pass M C R G)) (raises takes' : List ℕ) : Type 0 where
+    pub same_table : q.table_id ≡ p0.table_id
+    pub same_holding : q.me.0.holding ≡ p0.me.0.holding
+    pub passes : gathered q.me.0.passes ps ≡ gathered p0.me.0.passes all
+    pub raised : (s b : ℕ) → raised_in q.me.0.posts s b + total_of (λ (x : Pass M C R G). raised_in (posts x) s b) ps ≡ raised_in p0.me.0.posts s b + total_of (λ (x : Pass M C R G). raised_in (posts x) s b) all
+    pub taken : (s b : ℕ) → taken_in q.me.0.takes s b + total_of (λ (x : Pass M C R G). taken_in (takes x) s b) ps ≡ taken_in p0.me.0.takes s b + total_of (λ (x : Pass M C R G). taken_in (takes x) s b) all
+    pub rows_raised : Wraps raises (raised_in q.me.0.posts)
+    pub rows_taken : Wraps takes' (taken_in q.me.0.takes)
+
+  pub gathers_none : (p : SeatOf M C R) (all : List (Pass M C R G)) (raises takes' : List ℕ) → Wraps raises (raised_in p.me.0.posts) → Wraps takes' (taken_in p.me.0.takes) → Gathers p p all all raises takes'
+  gathers_none p all raises takes' r t = record { same_table = refl; same_holding = refl; passes = refl; raised = λ s b. refl; taken = λ s b. refl; rows_raised = r; rows_taken = t }
+
+  pub gathers_more : (p0 p q : SeatOf M C R) (all ps ps' : List (Pass M C R G)) (x : Pass M C R G) (raises raises' takes' takes'' more gone : List ℕ)
+      → Gathers p0 p all ps raises takes' → ps ≡ ps' ++ x ∷ [] → q.table_id ≡ p.table_id → q.me ≡ (after_pass p.me.0 x.seat.me.0, p.me.1)
+      → Tallies more (raised_in x.seat.me.0.posts) → Sums raises more raises' → Tallies gone (taken_in x.seat.me.0.takes) → Sums takes' gone takes'' → Gathers p0 q all ps' raises' takes''
+  gathers_more p0 p q all ps ps' x raises raises' takes' takes'' more gone g is same me tr sr tt' st =
+      let own_raised : (s b : ℕ) → raised_in q.me.0.posts s b ≡ raised_in p.me.0.posts s b + raised_in x.seat.me.0.posts s b = λ s b. ap (λ (m : Standing M C R). raised_in m.0.posts s b) me ∙ total_append _ p.me.0.posts x.seat.me.0.posts in
+      let own_taken : (s b : ℕ) → taken_in q.me.0.takes s b ≡ taken_in p.me.0.takes s b + taken_in x.seat.me.0.takes s b = λ s b. ap (λ (m : Standing M C R). taken_in m.0.takes s b) me ∙ total_append _ p.me.0.takes x.seat.me.0.takes in record {
+        same_table = same ∙ g.same_table;
+        same_holding = ap (λ (m : Standing M C R). m.0.holding) me ∙ g.same_holding;
+        passes = ap (λ (m : Standing M C R). gathered m.0.passes ps') me ∙ (sym (gathered_last p.me.0.passes ps' x) ∙ (ap (gathered p.me.0.passes) (sym is) ∙ g.passes));
+        raised = λ s b. (let a = g.raised s b in let o = own_raised s b in
+            let t : total_of (λ (y : Pass M C R G). raised_in (posts y) s b) ps ≡ total_of (λ (y : Pass M C R G). raised_in (posts y) s b) ps' + (raised_in x.seat.me.0.posts s b + 0) = ap (total_of _) is ∙ total_append _ ps' (x ∷ []) in omega arith);
+        taken = λ s b. (let a = g.taken s b in let o = own_taken s b in
+            let t : total_of (λ (y : Pass M C R G). taken_in (takes y) s b) ps ≡ total_of (λ (y : Pass M C R G). taken_in (takes y) s b) ps' + (taken_in x.seat.me.0.takes s b + 0) = ap (total_of _) is ∙ total_append _ ps' (x ∷ []) in omega arith);
+        rows_raised = wraps_more raises more raises' _ _ _ g.rows_raised tr sr own_raised;
+        rows_taken = wraps_more takes' gone takes'' _ _ _ g.rows_taken tt' st own_taken;
+      }
+
+  -- all passes sit at the seat of the last one
+  pub all_gathered : (all ps : List (Pass M C R G)) (p : Pass M C R G) (l : List (PassCalls C R)) → all ≡ ps ++ p ∷ [] → l ≡ gathered p.seat.me.0.passes ps → l ≡ gathered [] all
+  all_gathered all ps p l is e = e ∙ (sym (gathered_last [] ps p) ∙ ap (gathered []) (sym is))
+
+  pub length_gathered : Tells G → (l : List (PassCalls C R)) (ps : List (Pass M C R G)) → length (gathered l ps) ≡ length l + length ps
+  length_gathered tells l [] = omega arith
+  length_gathered tells l (p ∷ ps) = let rest = length_gathered tells l ps in let a = length-append (gathered l ps) p.seat.me.0.passes in
+      let one : length p.seat.me.0.passes ≡ 1 = (rests_facts p.seat.me.0 (tells p.seat.me.0 p.resting)).1 in omega arith
+
+  own_gathered : Tells G → (history : List (Entry C R)) (ps : List (Pass M C R G)) → OwnCalls history (gathered [] ps) → AllByRecursion (λ p. calls_by (number p) history ≡ calls p) ps
+  own_gathered tells history [] own = tt
+  own_gathered tells history (p ∷ ps) own = let s = all_split _ (gathered [] ps) p.seat.me.0.passes own in
+      (own_one history p.seat.me.0.passes (rests_facts p.seat.me.0 (tells p.seat.me.0 p.resting)).1 s.1, own_gathered tells history ps s.0)
+
+  weigh_gathered : Tells G → (weigh : Entry C R → ℕ) (ps : List (Pass M C R G)) → weigh_all weigh (gathered [] ps) ≡ total_of (λ p. total_of weigh (calls p)) ps
+  weigh_gathered tells weigh [] = refl
+  weigh_gathered tells weigh (p ∷ ps) =
+      let rest = weigh_gathered tells weigh ps in let a = total_append (λ (x : PassCalls C R). total_of weigh x.calls) (gathered [] ps) p.seat.me.0.passes in
+      let one = weigh_one weigh p.seat.me.0.passes (rests_facts p.seat.me.0 (tells p.seat.me.0 p.resting)).1 in omega arith
+
+  -- the history of a closed table is that of the passes
+  pub history_of : {S : Type 0} → Tells G → (stands : M → S → Type 0) (steps : S → C → R → S → Type 0) (opened m : M) (ps : List (Pass M C R G)) (v : View M C R) → IsClosed (Stepped stands steps) opened v m → v.passes ≡ gathered [] ps
+      → (log : List (Entry C R)) × IsHistory stands steps opened ps m log
+  history_of tells stands steps opened m ps v closed is = (
+    closed.history,
+    record {
+      leads = states_run stands steps opened closed.history m closed.legal;
+      own = own_gathered tells closed.history ps (subst (λ l. OwnCalls closed.history l) is closed.own);
+      no_others = λ weigh. closed.no_others weigh ∙ (ap (weigh_all weigh) is ∙ weigh_gathered tells weigh ps);
+    },
+  )
+
+  -- the rows are the account
+  pub account_of : (v u : View M C R) (all ps : List (Pass M C R G)) (p : Pass M C R G) (pending raises takes' : List ℕ) (rows : List Row) → all ≡ ps ++ p ∷ [] → u ≡ p.seat.me.0
+      → ((s b : ℕ) → s < 16 → raised_in v.posts s b ≡ taken_in v.takes s b + bit_at (slice_index pending s) b) → ((s b : ℕ) → s < 16 → raised_in v.posts s b ≤ 2 ^ 62)
+      → Wraps raises (raised_in v.posts) → Wraps takes' (taken_in v.takes)
+      → ((s b : ℕ) → raised_in v.posts s b ≡ raised_in u.posts s b + total_of (λ (x : Pass M C R G). raised_in (posts x) s b) ps)
+      → ((s b : ℕ) → taken_in v.takes s b ≡ taken_in u.takes s b + total_of (λ (x : Pass M C R G). taken_in (takes x) s b) ps)
+      → length rows ≡ 128 → ((k : ℕ) → k < 128 → IsRow pending raises takes' rows k) → IsAccount all rows
+  account_of v u all ps p pending raises takes' rows is same balance few wr wt raised taken long row = record {
+    long = long;
+    each = λ s b hs hb.
+        let r = row (8 * s + b) (omega arith) in
+        let f = balance s b hs in let most = few s b hs in let g = raised s b in let h = taken s b in let lt = bit_at-lt (slice_index pending s) b in
+        let rows_raised : slice_index raises (8 * s + b) ≡ raised_in v.posts s b % 2 ^ 64 = wr s b hs hb in
+        let rows_taken : slice_index takes' (8 * s + b) ≡ taken_in v.takes s b % 2 ^ 64 = wt s b hs hb in
+        let server : (8 * s + b) / 8 ≡ s = omega arith in let bit : (8 * s + b) % 8 ≡ b = omega arith in
+        let flag : pending_bit r.0 ≡ bit_at (slice_index pending s) b = r.4 ∙ (λ i. bit_at (slice_index pending (server i)) (bit i)) in
+        let own_raised : raised_in u.posts s b ≡ raised_in (posts p) s b = ap (λ (y : View M C R). raised_in y.posts s b) same in
+        let own_taken : taken_in u.takes s b ≡ taken_in (takes p) s b = ap (λ (y : View M C R). taken_in y.takes s b) same in
+        let all_raised : total_of (λ (x : Pass M C R G). raised_in (posts x) s b) all ≡ total_of (λ (x : Pass M C R G). raised_in (posts x) s b) ps + (raised_in (posts p) s b + 0) = ap (total_of _) is ∙ total_append _ ps (p ∷ []) in
+        let all_taken : total_of (λ (x : Pass M C R G). taken_in (takes x) s b) all ≡ total_of (λ (x : Pass M C R G). taken_in (takes x) s b) ps + (taken_in (takes p) s b + 0) = ap (total_of _) is ∙ total_append _ ps (p ∷ []) in
+        (r.0, r.1, r.2 ∙ (rows_raised ∙ omega arith), r.3 ∙ (rows_taken ∙ omega arith), (let a = r.2 in let c = r.3 in omega arith));
+  }

@@ -1,0 +1,10 @@
+pub mod SightLemmas
+pub mod TurnLemmas
+pub mod StateLemmas
+pub mod SeeLemmas
+pub mod TallyLemmas
+pub mod PostLemmas
+pub mod CallLemmas
+pub mod RowLemmas
+pub mod OpenLemmas
+pub mod CloseLemmas

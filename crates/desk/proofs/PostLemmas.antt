@@ -1,0 +1,172 @@
+-- Posts to one server after another, with the rows and the mask of what they raised.
+use Rattle.std.proofs.Common.{◌≡◌, ◌≢◌, ⊎_elim, ℕ, ◌+◌, ◌-◌, ◌*◌, ◌/◌, ◌%◌, ◌^◌, ◌≤◌, ◌<◌, ◌==◌, List, [], ◌∷◌, ◌++◌, length, cond, refl, ap, sym, ◌∙◌, subst, arith, append_assoc, eq-eqb, ne_eqb, bit_and, w64}
+use Rattle.std.specs.Int.{bit_at, bit_not}
+use Rattle.std.proofs.lemmas.Nat.{pow-add, and_le_l, and_le_r}
+use Rattle.std.proofs.Math.Nat.{eq-or-lt_of_le, lt_of_not-le, mod-eq_of_lt, mul-le-mul_right, pow-le-pow_right}
+use Rattle.std.proofs.lemmas.Nat.Bits.{bit_at-zero, bit_at_above, bit_at_cat_high, bit_at_cat_low}
+use Rattle.std.proofs.lemmas.List.{append-nil}
+use mathlib.Core.Logic.{dite}
+use native.Mathlib.Decide.{dec_le, ℕ_discrete}
+use Rattle.desk_rule.specs.declared.view.Post.{Post}
+use Rattle.desk_rule.specs.declared.view.View.{View}
+use Rattle.desk_rule.specs.History.{count_calls, total_of}
+use Rattle.desk_rule.specs.Kinds.{after_post, LastOwes}
+use Rattle.desk_rule.specs.Notices.{bits_for, posted_at, raised_at, raised_in}
+use Rattle.desk_rule.specs.Seat.{SeatOf}
+use Rattle.desk_rule.proofs.BalanceLemmas.{posted_elsewhere, posted_here, raised_elsewhere, raised_here}
+use Rattle.desk_rule.proofs.ListLemmas.{all_append, total_append}
+use Rattle.desk.specs.Tally.{CanPost, Counts, Posts, row_at, Tallies}
+use Rattle.desk.proofs.TallyLemmas.{fresh_bit}
+
+module _ {M C R : Type 0} where
+  posts_none : (v : View M C R) (owed : ℕ) → Posts v v 0 owed
+  posts_none v owed = record { opening = refl; first = refl; holding = refl; seen = refl; passes = refl; takes = refl; new = []; grown = sym (append-nil v.posts); here = tt; done = λ s b h. absurd (omega arith); undone = λ s b h. refl }
+
+  -- nothing is owed to the server k
+  posts_skip : (v u : View M C R) (k k' owed : ℕ) → k' ≡ k + 1 → bits_for owed k ≡ 0 → Posts v u k owed → Posts v u k' owed
+  posts_skip v u k k' owed next none p = record {
+    opening = p.opening;
+    first = p.first;
+    holding = p.holding;
+    seen = p.seen;
+    passes = p.passes;
+    takes = p.takes;
+    new = p.new;
+    grown = p.grown;
+    here = p.here;
+    done = λ s b h. dite (ℕ_discrete s k)
+        (λ e. p.undone s b (omega arith) ∙ sym (ap (λ n. bit_at (bits_for owed n) b) e ∙ (ap (λ n. bit_at n b) none ∙ bit_at-zero b)))
+        (λ ne. p.done s b (omega arith));
+    undone = λ s b h. p.undone s b (omega arith);
+  }
+
+  -- what is owed to the server k is posted
+  posts_more : (v u w : View M C R) (k k' owed found : ℕ) → k' ≡ k + 1 → w ≡ after_post u k (bits_for owed k) found → Posts v u k owed → Posts v w k' owed
+  posts_more v u w k k' owed found next is p =
+      let bits : ℕ = bits_for owed k in
+      let x : Post = record { server = k; bits = bits; found = found; place = (u.first + length u.seen) - 1 } in
+      let place : x.place ≡ (v.first + length v.seen) - 1 = λ i. (p.first i + length (p.seen i)) - 1 in record {
+        opening = ap (λ (y : View M C R). y.opening) is ∙ p.opening;
+        first = ap (λ (y : View M C R). y.first) is ∙ p.first;
+        holding = ap (λ (y : View M C R). y.holding) is ∙ p.holding;
+        seen = ap (λ (y : View M C R). y.seen) is ∙ p.seen;
+        passes = ap (λ (y : View M C R). y.passes) is ∙ p.passes;
+        takes = ap (λ (y : View M C R). y.takes) is ∙ p.takes;
+        new = p.new ++ x ∷ [];
+        grown = ap (λ (y : View M C R). y.posts) is ∙ (ap (λ l. l ++ x ∷ []) p.grown ∙ append_assoc v.posts p.new (x ∷ []));
+        here = all_append _ p.new (x ∷ []) p.here (place, tt);
+        done = λ s b h. total_append (posted_at s b) p.new (x ∷ []) ∙ dite (ℕ_discrete k s)
+            (λ e. let z = p.undone s b (omega arith) in let y = posted_here s b x e in
+            let g : bit_at (bits_for owed s) b ≡ bit_at bits b = ap (λ n. bit_at (bits_for owed n) b) (sym e) in omega arith)
+            (λ ne. let z = p.done s b (omega arith) in let y = posted_elsewhere s b x ne in omega arith);
+        undone = λ s b h. total_append (posted_at s b) p.new (x ∷ [])
+            ∙ (let z = p.undone s b (omega arith) in let y = posted_elsewhere s b x (λ e. omega arith) in omega arith);
+      }
+
+-- w is v after posts to the servers below k, with these rows and this mask of what they raised
+pub record Posted {M C R : Type 0} (v w : View M C R) (k owed : ℕ) (rows : List ℕ) (mask : ℕ) : Type 0 where
+  pub posts : Posts v w k owed
+  pub counted : Tallies rows (raised_in w.posts)
+  pub small : mask < 2 ^ (8 * k)
+  pub raised : (s b : ℕ) → s < 16 → b < 8 → raised_in w.posts s b ≡ raised_in v.posts s b + bit_at mask (8 * s + b)
+  pub same : (s b : ℕ) → k ≤ s → raised_in w.posts s b ≡ raised_in v.posts s b
+
+le_pow : (i j : ℕ) → i ≤ j → 2 ^ i ≤ 2 ^ j
+le_pow i j le = let p : 0 < 2 = omega arith in pow-le-pow_right p le
+
+above : (k s : ℕ) → k ≢ s → k ≤ s → k < s
+above k s apart le = ⊎_elim (λ e. absurd (apart e)) (λ lt. lt) (eq-or-lt_of_le le)
+
+-- the bits of the server k stand above the mask so far
+mask_more : (mask mask' fresh k k' : ℕ) → k < 16 → k' ≡ k + 1 → fresh < 256 → mask < 2 ^ (8 * k) → mask' ≡ mask + fresh * 2 ^ (8 * k) % 2 ^ 128 → (mask' ≡ fresh * 2 ^ (8 * k) + mask) × (mask' < 2 ^ (8 * k'))
+mask_more mask mask' fresh k k' low next small below is =
+    let p : ℕ = 2 ^ (8 * k) in
+    let more : 2 ^ (8 * k + 8) ≡ p * 256 = pow-add 2 (8 * k) 8 in
+    let here : 2 ^ (8 * k') ≡ 2 ^ (8 * k + 8) = ap (λ n. 2 ^ n) (omega arith) in
+    let top : 2 ^ (8 * k + 8) ≤ 2 ^ 128 = le_pow (8 * k + 8) 128 (omega arith) in
+    let part : fresh * p ≤ 255 * p = mul-le-mul_right p (omega arith) in
+    let whole : fresh * p % 2 ^ 128 ≡ fresh * p = mod-eq_of_lt (omega arith) in
+    let all : mask' ≡ fresh * p + mask = (let f : ℕ = fresh * p in let q : ℕ = fresh * p % 2 ^ 128 in is ∙ omega arith) in
+    (all, (let f : ℕ = fresh * p in omega arith))
+
+pub fresh_small : (owed k found : ℕ) → bit_and (bits_for owed k) (bit_not w64 found) < 256
+fresh_small owed k found = let l = and_le_l (bits_for owed k) (bit_not w64 found) in let m = and_le_r (owed / 2 ^ (8 * k)) 255 in omega arith
+
+module _ {M C R : Type 0} where
+  pub posted_none : (v : View M C R) (owed : ℕ) (rows : List ℕ) → Tallies rows (raised_in v.posts) → Posted v v 0 owed rows 0
+  posted_none v owed rows h = record { posts = posts_none v owed; counted = h; small = omega arith; raised = λ s b _ _. (let z = bit_at-zero (8 * s + b) in omega arith); same = λ s b _. refl }
+
+  pub posted_skip : (v u : View M C R) (k k' owed mask : ℕ) (rows : List ℕ) → k' ≡ k + 1 → bits_for owed k ≡ 0 → Posted v u k owed rows mask → Posted v u k' owed rows mask
+  posted_skip v u k k' owed mask rows next none p = record {
+    posts = posts_skip v u k k' owed next none p.posts;
+    counted = p.counted;
+    small = (let le : 2 ^ (8 * k) ≤ 2 ^ (8 * k') = le_pow (8 * k) (8 * k') (omega arith) in let h = p.small in omega arith);
+    raised = p.raised;
+    same = λ s b h. p.same s b (omega arith);
+  }
+
+  pub posted_more : (v u w : View M C R) (k k' owed found fresh mask mask' : ℕ) (rows rows' : List ℕ) → k < 16 → k' ≡ k + 1 → found < 2 ^ 64 → w ≡ after_post u k (bits_for owed k) found
+      → fresh ≡ bit_and (bits_for owed k) (bit_not w64 found) → Counts rows k fresh rows' → mask' ≡ mask + fresh * 2 ^ (8 * k) % 2 ^ 128 → Posted v u k owed rows mask → Posted v w k' owed rows' mask'
+  posted_more v u w k k' owed found fresh mask mask' rows rows' low next wide is fresh_is counts mask_is p =
+      let bits : ℕ = bits_for owed k in
+      let x : Post = record { server = k; bits = bits; found = found; place = (u.first + length u.seen) - 1 } in
+      let less : fresh < 256 = (let l = fresh_small owed k found in omega arith) in
+      let m = mask_more mask mask' fresh k k' low next less p.small mask_is in
+      let one_more : w.posts ≡ u.posts ++ x ∷ [] = ap (λ (y : View M C R). y.posts) is in
+      let grows : (s b : ℕ) → raised_in w.posts s b ≡ raised_in u.posts s b + (raised_at s b x + 0) = λ s b. ap (λ l. raised_in l s b) one_more ∙ total_append (raised_at s b) u.posts (x ∷ []) in
+      let here : (s b : ℕ) → k ≡ s → b < 8 → raised_at s b x ≡ bit_at fresh b = λ s b e hb. raised_here s b x e ∙ sym (ap (λ n. bit_at n b) fresh_is ∙ fresh_bit bits found b wide hb) in
+      let mask_at : (i : ℕ) → bit_at mask' i ≡ bit_at (fresh * 2 ^ (8 * k) + mask) i = λ i. ap (λ n. bit_at n i) m.0 in record {
+        posts = posts_more v u w k k' owed found next is p.posts;
+        counted = λ s b hs hb. counts s b hs hb ∙ dite (ℕ_discrete k s)
+            (λ e.
+            let c = p.counted s b hs hb in let g = grows s b in let r = here s b e hb in
+            let y : cond (s == k) (bit_at fresh b) 0 ≡ bit_at fresh b = ap (λ t. cond t (bit_at fresh b) 0) (eq-eqb s k (sym e)) in omega arith)
+            (λ other.
+            let c = p.counted s b hs hb in let g = grows s b in let r = raised_elsewhere s b x other in
+            let y : cond (s == k) (bit_at fresh b) 0 ≡ 0 = ap (λ t. cond t (bit_at fresh b) 0) (ne_eqb s k (λ e. other (sym e))) in omega arith);
+        small = m.1;
+        raised = λ s b hs hb. dite (ℕ_discrete k s)
+            (λ e.
+            let g = grows s b in let r = here s b e hb in let old = p.same s b (omega arith) in
+            let high : bit_at mask' (8 * s + b) ≡ bit_at fresh b = mask_at (8 * s + b) ∙ (bit_at_cat_high fresh (8 * k) mask (8 * s + b) p.small (omega arith) ∙ ap (bit_at fresh) (omega arith)) in omega arith)
+            (λ other.
+            let g = grows s b in let r = raised_elsewhere s b x other in let old = p.raised s b hs hb in
+            let same_bit : bit_at mask' (8 * s + b) ≡ bit_at mask (8 * s + b) = mask_at (8 * s + b) ∙ dite (dec_le k s)
+            (λ le. bit_at_cat_high fresh (8 * k) mask (8 * s + b) p.small (omega arith) ∙ (let over : k < s = above k s other le in bit_at_above fresh 8 ((8 * s + b) - 8 * k) (omega arith) (omega arith) ∙ sym (bit_at_above mask (8 * k) (8 * s + b) p.small (omega arith))))
+            (λ no. let below : s < k = lt_of_not-le no in bit_at_cat_low fresh (8 * k) mask (8 * s + b) (omega arith)) in
+            omega arith);
+        same = λ s b le. grows s b ∙ (let r = raised_elsewhere s b x (λ e. omega arith) in let old = p.same s b (omega arith) in omega arith);
+      }
+
+  -- what a post asks for
+  pub owes_still : (owes : R → ℕ) (v w : View M C R) (k owed : ℕ) → LastOwes owes v owed → Posts v w k owed → LastOwes owes w owed
+  owes_still owes v w k owed l p = (l.0, l.1, p.seen ∙ l.2, l.3)
+
+  pub few_still : (v w : View M C R) (k owed : ℕ) (rows : List ℕ) (mask : ℕ) → CanPost v → Posted v w k owed rows mask → (b : ℕ) → raised_in w.posts k b < count_calls w.passes
+  few_still v w k owed rows mask can p b =
+      let a : count_calls w.passes ≡ count_calls v.passes = ap count_calls p.posts.passes in let s = p.same k b (omega arith) in let f = can.1 k b in omega arith
+
+  -- the rows can be counted on
+  pub rows_small : (v w : View M C R) (k owed : ℕ) (rows : List ℕ) (mask : ℕ) → CanPost v → k < 16 → Posted v w k owed rows mask → (b : ℕ) → b < 8 → row_at rows k b < 2 ^ 63
+  rows_small v w k owed rows mask can low p b hb = let c = p.counted k b low hb in let s = p.same k b (omega arith) in let f = can.1 k b in let n = can.2 in omega arith
+
+  -- the mask can be added to
+  pub mask_fits : (v u : View M C R) (k owed found mask : ℕ) (rows : List ℕ) → k < 16 → Posted v u k owed rows mask
+      → mask + bit_and (bits_for owed k) (bit_not w64 found) * 2 ^ (8 * k) % 2 ^ 128 < 2 ^ 128
+  mask_fits v u k owed found mask rows low p =
+      let fresh : ℕ = bit_and (bits_for owed k) (bit_not w64 found) in
+      let m = mask_more mask (mask + fresh * 2 ^ (8 * k) % 2 ^ 128) fresh k (k + 1) low refl (fresh_small owed k found) p.small refl in
+      let top = le_pow (8 * (k + 1)) 128 (omega arith) in omega arith
+
+  -- the loop's seat, rows and mask
+  pub record Posting (p q : SeatOf M C R) (k owed : ℕ) (rows : List ℕ) (mask : ℕ) : Type 0 where
+    pub table : q.table_id ≡ p.table_id
+    pub id : q.id ≡ p.id
+    pub out : q.me.1 ≡ p.me.1
+    pub posted : Posted p.me.0 q.me.0 k owed rows mask
+
+  pub posting_none : (p : SeatOf M C R) (owed : ℕ) (rows : List ℕ) → Tallies rows (raised_in p.me.0.posts) → Posting p p 0 owed rows 0
+  posting_none p owed rows h = record { table = refl; id = refl; out = refl; posted = posted_none p.me.0 owed rows h }
+
+  pub posting_moved : (p q q' : SeatOf M C R) (k owed : ℕ) (rows rows' : List ℕ) (mask mask' : ℕ) → q' ≡ q → rows' ≡ rows → mask' ≡ mask → Posting p q k owed rows mask → Posting p q' k owed rows' mask'
+  posting_moved p q q' k owed rows rows' mask mask' e e' e'' w = subst (λ (x : SeatOf M C R × (List ℕ × ℕ)). Posting p x.0 k owed x.1.0 x.1.1) (λ i. (sym e i, (sym e' i, sym e'' i))) w

@@ -1,0 +1,37 @@
+use Rattle.std.proofs.Common.{◌≡◌, ◌++◌, [], ◌+◌, ◌≤◌, length, arith, ◌∙◌, ap, refl, sym}
+use Rattle.std.specs.Option.{option_to_list}
+use Rattle.desk.specs.Closing.{gathered}
+use Rattle.desk.specs.Pass.{desk_of}
+use Rattle.desk.proofs.CloseLemmas.{account_of, all_gathered, all_last, history_of, length_gathered}
+use Rattle.desk.proofs.RowLemmas.{wraps_first}
+use Rattle.desk.proofs.close.Desk+M.close.Goals as goal
+
+pub gather-requires-clause-counted : goal.gather-requires-clause-counted
+gather-requires-clause-counted g c = let p = c.unwrap-last.result in (wraps_first _ _ _ p.raises_counted c.sums_of-raise_sums.ensures, wraps_first _ _ _ p.takes_counted c.sums_of-take_sums.ensures)
+
+pub close_table-machine-requires-clause-at : goal.close_table-machine-requires-clause-at
+close_table-machine-requires-clause-at g c =
+    let items = sym c.passes.view_is ∙ (c.pop.ensures.items ∙ ap (λ o. c.pop.new.self.items ++ option_to_list o) c.unwrap-last.ensures) in
+    let last = all_last (λ p. desk_of p ≡ c.args.self.table.shared.table_id) c.pop.new.self.items c.args.passes c.unwrap-last.result items c.requires in
+    (c.gather.ensures.same.0 ∙ last.1, c.args.self.words, c.args.self.slots)
+
+pub close_table-machine-requires-clause-all : goal.close_table-machine-requires-clause-all
+close_table-machine-requires-clause-all g c =
+    let items = sym c.passes.view_is ∙ (c.pop.ensures.items ∙ ap (λ o. c.pop.new.self.items ++ option_to_list o) c.unwrap-last.ensures) in
+    let is = all_gathered c.args.passes c.pop.new.self.items c.unwrap-last.result _ items c.gather.ensures.passes in
+    let made : c.args.self.table.shared.key.passes ≡ c.args.self.made = c.args.self.counted in
+    let enough = c.in_default.ensures.closes.0 in
+    let same : length c.args.passes ≡ length c.passes.inside.passes.items = ap length (sym c.passes.view_is) in
+    let size : length c.gather.new.seat.me.0.passes ≡ length c.args.passes = ap length is ∙ (length_gathered (λ v e. e) [] c.args.passes ∙ omega arith) in omega arith
+
+pub returns-clause-history : goal.returns-clause-history
+returns-clause-history g c =
+    let items = sym c.passes.view_is ∙ (c.pop.ensures.items ∙ ap (λ o. c.pop.new.self.items ++ option_to_list o) c.unwrap-last.ensures) in
+    let is = all_gathered c.args.passes c.pop.new.self.items c.unwrap-last.result _ items c.gather.ensures.passes in
+    history_of (λ v e. e) g.M.Machine.stands g.M.Machine.steps _ _ c.args.passes c.gather.new.seat.me.0 c.close_table-machine.ensures.machine is
+
+pub returns-clause-account : goal.returns-clause-account
+returns-clause-account g c =
+    let items = sym c.passes.view_is ∙ (c.pop.ensures.items ∙ ap (λ o. c.pop.new.self.items ++ option_to_list o) c.unwrap-last.ensures) in
+    let t = c.close_table-machine.ensures in let n = c.gather.ensures in
+    account_of c.gather.new.seat.me.0 c.unwrap-last.result.seat.me.0 c.args.passes c.pop.new.self.items c.unwrap-last.result _ _ _ _ items refl t.balance t.few n.counted.0 n.counted.1 n.raised n.taken c.fill_rows.ensures.long c.fill_rows.ensures.rows

@@ -1,0 +1,62 @@
+-- What the calls of a desk say of a pass.
+use Rattle.std.specs.Prelude.{◌≡◌, ℕ, ◌+◌, ◌<◌, ◌≤◌, List, [], ◌∷◌, ◌++◌, length, Option, Some}
+use Rattle.std.specs.List.{AllByRecursion}
+use Rattle.std.specs.Int.{bit_at}
+use mathlib.Core.List.{IsPrefix}
+use Rattle.desk_rule.specs.declared.entry.Entry.{Entry}
+use Rattle.desk_rule.specs.declared.view.Post.{Post}
+use Rattle.desk_rule.specs.declared.view.View.{View}
+use Rattle.desk_rule.specs.History.{calls_by, entry, IsLegalFrom, total_of}
+use Rattle.desk_rule.specs.Notices.{bits_for, posted_at}
+use Rattle.desk.specs.declared.pass.Sight.{Ghosts}
+use Rattle.desk.specs.Pass.{calls, desk_of, first_place, history, notes_learnt, notes_made, number, opening, Pass, posts, takes}
+
+module _ {M C R : Type 0} {G : Ghosts (View M C R)} where
+  -- q is the pass p at another time
+  pub record IsSamePass (p q : Pass M C R G) : Type 0 where
+    pub same_desk : desk_of q ≡ desk_of p
+    pub same_number : number q ≡ number p
+    pub same_opening : opening q ≡ opening p
+    pub same_first : first_place q ≡ first_place p
+
+  abbrev pub SameNotes : Pass M C R G → Pass M C R G → Type 0
+  SameNotes p q = (notes_made q ≡ notes_made p) × (notes_learnt q ≡ notes_learnt p)
+
+  abbrev pub SameNotices : Pass M C R G → Pass M C R G → Type 0
+  SameNotices p q = (posts q ≡ posts p) × (takes q ≡ takes p)
+
+  -- the pass knows what it knew, and called nothing
+  pub record KnowsAsMuch (p q : Pass M C R G) : Type 0 where
+    pub same : IsSamePass p q
+    pub same_calls : calls q ≡ calls p
+    pub same_history : history q ≡ history p
+
+  -- the pass may have seen more and called nothing: the history that it has seen begins with what it had seen, is legal, and its entries of the pass are just the pass's calls
+  pub record Sees {S : Type 0} (stands : M → S → Type 0) (steps : S → C → R → S → Type 0) (p q : Pass M C R G) : Type 0 where
+    pub same : IsSamePass p q
+    pub same_calls : calls q ≡ calls p
+    pub begins : IsPrefix (history p) (history q)
+    pub legal : (m : M) → opening p ≡ Some m → IsLegalFrom stands steps m (history q)
+    pub own : calls_by (number p) (history q) ≡ calls q
+
+  -- the pass made one call: the history that it has seen begins with what it had seen, ends with the call, is legal, and its entries of the pass are just the pass's calls, of which there is one more
+  pub record Calls {S : Type 0} (stands : M → S → Type 0) (steps : S → C → R → S → Type 0) (p q : Pass M C R G) (command : C) (reply : R) (place : ℕ) : Type 0 where
+    pub same : IsSamePass p q
+    pub between : List (Entry C R)
+    pub ends : history q ≡ (history p ++ between) ++ entry (number p) command reply ∷ []
+    pub at : place ≡ first_place p + length (history p ++ between)
+    pub one_more : calls q ≡ calls p ++ entry (number p) command reply ∷ []
+    pub legal : (m : M) → opening p ≡ Some m → IsLegalFrom stands steps m (history q)
+    pub own : calls_by (number p) (history q) ≡ calls q
+
+  -- the posts of the pass are more by just the bits of the mask, each with this place
+  pub record PostsOwed (p q : Pass M C R G) (place owed : ℕ) : Type 0 where
+    pub new : List Post
+    pub grown : posts q ≡ posts p ++ new
+    pub here : AllByRecursion (λ (x : Post). x.place ≡ place) new
+    pub exact : (s b : ℕ) → s < 16 → total_of (posted_at s b) new ≡ bit_at (bits_for owed s) b
+    pub no_others : (s b : ℕ) → 16 ≤ s → total_of (posted_at s b) new ≡ 0
+
+  -- the first place that the history which the pass has seen leaves free
+  abbrev pub next_place : Pass M C R G → ℕ
+  next_place p = first_place p + length (history p)

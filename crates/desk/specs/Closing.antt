@@ -1,0 +1,63 @@
+-- What is left of a desk that is closed.
+use Rattle.std.specs.Prelude.{◌≡◌, ◌≢◌, ℕ, ◌+◌, ◌*◌, ◌/◌, ◌%◌, ◌^◌, ◌<◌, ◌≤◌, List, [], ◌∷◌, ◌++◌, length, if◌then◌else◌, slice_index}
+use Rattle.std.specs.List.{AllByRecursion}
+use Rattle.std.specs.Int.{bit_at}
+use mathlib.Core.Option.{some}
+use lib.ListN.{get_elem?}
+use Rattle.desk_rule.specs.declared.entry.Entry.{Entry}
+use Rattle.desk_rule.specs.declared.entry.PassCalls.{PassCalls}
+use Rattle.desk_rule.specs.declared.view.View.{View}
+use Rattle.desk_rule.specs.History.{calls_by, LeadsTo, total_of}
+use Rattle.desk_rule.specs.Notices.{raised_in, taken_in}
+use Rattle.desk.specs.declared.account.Row.{Row}
+use Rattle.desk.specs.declared.fault.DeskFault.{DeskFault}
+use Rattle.desk.specs.declared.fault.DeskFault.TheVariants.{PassesOut, Noted, NoRoom}
+use Rattle.desk.specs.declared.pass.Sight.{Ghosts}
+use Rattle.desk.specs.Pass.{calls, notes_learnt, notes_made, number, Pass, posts, takes}
+use Rattle.desk.specs.Tally.{row_at}
+
+-- rows, each with another added to it modulo 2^64
+abbrev pub Sums : List ℕ → List ℕ → List ℕ → Type 0
+Sums old rows new = (k : ℕ) → k < 128 → slice_index new k ≡ (slice_index old k + slice_index rows k) % 2 ^ 64
+
+-- each row is what f says of its server and bit, modulo 2^64
+abbrev pub Wraps : List ℕ → (ℕ → ℕ → ℕ) → Type 0
+Wraps rows f = (s b : ℕ) → s < 16 → b < 8 → row_at rows s b ≡ f s b % 2 ^ 64
+
+-- 1 for a bit that is pending
+abbrev pub pending_bit : Row → ℕ
+pending_bit r = if r.pending then 1 else 0
+
+-- the row k is that of the bit k % 8 of the server k / 8
+abbrev pub IsRow : List ℕ → List ℕ → List ℕ → List Row → ℕ → Type 0
+IsRow words raises takes rows k = (r : Row) × (get_elem? rows k ≡ some r) × (r.raises ≡ slice_index raises k) × (r.takes ≡ slice_index takes k)
+    × (pending_bit r ≡ bit_at (slice_index words (k / 8)) (k % 8))
+
+module _ {M C R : Type 0} {G : Ghosts (View M C R)} where
+  -- the passes' own calls, gathered at one seat from the last pass on
+  abbrev pub gathered : List (PassCalls C R) → List (Pass M C R G) → List (PassCalls C R)
+  gathered l [] = l
+  gathered l (p ∷ ps) = gathered l ps ++ p.seat.me.0.passes
+
+  -- the machine after one legal history, in which the entries of each pass are just its calls, and there are no others
+  pub record IsHistory {S : Type 0} (stands : M → S → Type 0) (steps : S → C → R → S → Type 0) (opened : M) (passes : List (Pass M C R G)) (machine : M) (history : List (Entry C R)) : Type 0 where
+    pub leads : LeadsTo stands steps opened history machine
+    pub own : AllByRecursion (λ p. calls_by (number p) history ≡ calls p) passes
+    pub no_others : (weigh : Entry C R → ℕ) → total_of weigh history ≡ total_of (λ p. total_of weigh (calls p)) passes
+
+  -- 128 rows, each with the sums of the passes' own posts and takes, and in each raises are takes and what is pending
+  pub record IsAccount (passes : List (Pass M C R G)) (rows : List Row) : Type 0 where
+    pub long : length rows ≡ 128
+    pub each : (s b : ℕ) → s < 16 → b < 8 → (r : Row) × (get_elem? rows (8 * s + b) ≡ some r)
+        × (r.raises ≡ total_of (λ p. raised_in (posts p) s b) passes) × (r.takes ≡ total_of (λ p. taken_in (takes p) s b) passes)
+        × (r.raises ≡ r.takes + pending_bit r)
+
+  abbrev pub AllLearnt : List (Pass M C R G) → Type 0
+  AllLearnt passes = total_of notes_made passes ≡ total_of notes_learnt passes
+
+  -- why a desk that was made with so many passes isn't closed with these, each cause where none before it stands
+  abbrev pub IsCloseFault : DeskFault → ℕ → List (Pass M C R G) → Type 0
+  IsCloseFault PassesOut made passes = length passes < made
+  IsCloseFault Noted made passes = (made ≤ length passes) × (total_of notes_made passes ≢ total_of notes_learnt passes)
+  IsCloseFault NoRoom made passes = (made ≤ length passes) × AllLearnt passes
+  IsCloseFault _ made passes = ⊥

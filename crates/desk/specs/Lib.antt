@@ -1,0 +1,6 @@
+pub mod Sight
+pub mod Tally
+pub mod Pass
+pub mod Calls
+pub mod Opening
+pub mod Closing

@@ -1,0 +1,34 @@
+-- The passes of a new desk.
+use Rattle.std.specs.Prelude.{◌≡◌, ◌⊎◌, ℕ, ◌<◌, ◌≤◌, ◌^◌, zero, suc, List, [], ◌∷◌, Option}
+use Rattle.atomic_table.specs.Seated.{TableId}
+use Rattle.desk_rule.specs.declared.view.View.{View}
+use Rattle.desk.specs.declared.fault.DeskFault.{DeskFault}
+use Rattle.desk.specs.declared.fault.DeskFault.TheVariants.{BadCount, BadFirst, NoRoom}
+use Rattle.desk.specs.declared.pass.Sight.{Ghosts}
+use Rattle.desk.specs.Pass.{calls, desk_of, first_place, history, notes_learnt, notes_made, number, opening, Pass, posts, takes}
+
+module _ {M C R : Type 0} {G : Ghosts (View M C R)} where
+  -- a pass of this number that has seen, called, posted, taken and noted nothing
+  pub record IsNewPass (id : TableId) (opened : Option M) (first n : ℕ) (p : Pass M C R G) : Type 0 where
+    pub desk : desk_of p ≡ id
+    pub opened_with : opening p ≡ opened
+    pub first_is : first_place p ≡ first
+    pub number_is : number p ≡ n
+    pub no_history : history p ≡ []
+    pub no_calls : calls p ≡ []
+    pub no_posts : posts p ≡ []
+    pub no_takes : takes p ≡ []
+    pub no_notes : (notes_made p ≡ 0) × (notes_learnt p ≡ 0)
+
+  -- new passes with the numbers below n from the greatest down, so that no two have the same
+  abbrev pub AreNewPasses : TableId → Option M → ℕ → ℕ → List (Pass M C R G) → Type 0
+  AreNewPasses id opened first zero passes = passes ≡ []
+  AreNewPasses id opened first (suc n) [] = ⊥
+  AreNewPasses id opened first (suc n) (p ∷ others) = IsNewPass id opened first n p × AreNewPasses id opened first n others
+
+-- why a desk of so many passes isn't opened at this place, each cause where none before it stands
+abbrev pub IsOpenFault : DeskFault → ℕ → ℕ → Type 0
+IsOpenFault BadCount passes first = (passes ≡ 0) ⊎ (64 < passes)
+IsOpenFault BadFirst passes first = (0 < passes) × (passes ≤ 64) × (2 ^ 62 < first)
+IsOpenFault NoRoom passes first = (0 < passes) × (passes ≤ 64) × (first ≤ 2 ^ 62)
+IsOpenFault _ passes first = ⊥

@@ -1,0 +1,63 @@
+-- Words for passes and notes.
+use Rattle.std.specs.Prelude.{◌≡◌, ℕ, List, Option}
+use Rattle.atomic_table.specs.Seated.{TableId}
+use Rattle.desk_rule.specs.declared.entry.Entry.{Entry}
+use Rattle.desk_rule.specs.declared.view.Post.{Post}
+use Rattle.desk_rule.specs.declared.view.Take.{Take}
+use Rattle.desk_rule.specs.declared.view.View.{View}
+use Rattle.desk_rule.specs.declared.table.Home.{Home}
+use Rattle.desk_rule.specs.History.{calls_of, number_of}
+use Rattle.desk.specs.declared.pass.Sight.{Ghosts}
+use Rattle.desk.specs.declared.pass.PassOf.{PassOf}
+use Rattle.desk.specs.declared.pass.NoteOf.{NoteOf}
+
+abbrev pub Pass : (M C R : Type 0) → Ghosts (View M C R) → Type 0
+Pass M C R G = PassOf (Option (Home M C R)) (View M C R) G
+
+abbrev pub Note : (M C R : Type 0) → Ghosts (View M C R) → Type 0
+Note M C R G = NoteOf (Option (Home M C R)) (View M C R) G
+
+module _ {M C R : Type 0} {G : Ghosts (View M C R)} where
+  -- the desk of a pass, and of a note, by its table
+  abbrev pub desk_of : Pass M C R G → TableId
+  desk_of p = p.seat.table_id
+
+  abbrev pub desk_of_note : Note M C R G → TableId
+  desk_of_note n = n.seat.table_id
+
+  -- the number of a pass
+  abbrev pub number : Pass M C R G → ℕ
+  number p = number_of p.seat.me.0.passes
+
+  -- the calls that it made
+  abbrev pub calls : Pass M C R G → List (Entry C R)
+  calls p = calls_of p.seat.me.0.passes
+
+  -- the history that it has seen
+  abbrev pub history : Pass M C R G → List (Entry C R)
+  history p = p.seat.me.0.seen
+
+  -- the history that the pass had seen when it made the note
+  abbrev pub told_by : Note M C R G → List (Entry C R)
+  told_by n = n.seat.me.0.seen
+
+  -- the bits that it posted, and those that it took
+  abbrev pub posts : Pass M C R G → List Post
+  posts p = p.seat.me.0.posts
+
+  abbrev pub takes : Pass M C R G → List Take
+  takes p = p.seat.me.0.takes
+
+  -- the machine that its desk was opened with, and the place of the first call
+  abbrev pub opening : Pass M C R G → Option M
+  opening p = p.seat.me.0.opening
+
+  abbrev pub first_place : Pass M C R G → ℕ
+  first_place p = p.seat.me.0.first
+
+  -- how many notes it made, and how many it learnt
+  abbrev pub notes_made : Pass M C R G → ℕ
+  notes_made p = p.made
+
+  abbrev pub notes_learnt : Pass M C R G → ℕ
+  notes_learnt p = p.learnt

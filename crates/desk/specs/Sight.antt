@@ -1,0 +1,29 @@
+-- What a pass or a note says of its view.
+use Rattle.std.specs.Prelude.{◌≡◌, ℕ, ◌*◌, ◌<◌, ◌^◌, ◌==◌, Bool, true, not, ◌&&◌, length, is_some}
+use Rattle.desk_rule.specs.declared.view.View.{View}
+use Rattle.desk_rule.specs.Kinds.{Looks}
+use Rattle.desk_rule.specs.Notices.{raised_in, taken_in}
+use Rattle.desk_rule.specs.Seat.{SeatOf}
+
+module _ {M C R : Type 0} where
+  -- one pass, between its calls
+  abbrev pub rests_of : View M C R → Bool
+  rests_of v = not v.holding && ((length v.passes == 1) && is_some v.opening)
+
+  -- a note
+  abbrev pub listens_of : View M C R → Bool
+  listens_of v = not v.holding && ((length v.passes == 0) && ((length v.posts == 0) && (length v.takes == 0)))
+
+  abbrev pub raised_of : View M C R → ℕ → ℕ → ℕ
+  raised_of v = raised_in v.posts
+
+  abbrev pub taken_of : View M C R → ℕ → ℕ → ℕ
+  taken_of v = taken_in v.takes
+
+  -- the seat of one pass between its calls, with nothing of the table out
+  abbrev pub Rests : SeatOf M C R → Type 0
+  Rests p = (length p.me.1 ≡ 0) × (rests_of p.me.0 ≡ true)
+
+  -- v became w when it took the turn at this place
+  abbrev pub TurnAt : (M → C → R → M → Type 0) → View M C R → ℕ → View M C R → Type 0
+  TurnAt steps v place w = Looks steps v (2 * place) true w × (place < 2 ^ 62)

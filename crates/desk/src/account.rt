@@ -1,0 +1,87 @@
+//! The account of notices that a closed desk leaves.
+
+ghost use Rattle.std.specs.Prelude.{◌≡◌, ◌≤◌, ◌<◌, ℕ, [], length, replicate, slice_get, vec_capacity};
+ghost use Rattle.std.specs.Option.{option_copied};
+ghost use Rattle.desk.specs.Closing.{IsRow, Sums};
+
+use std::marker::Model;
+
+/// What became of one bit of a server's pending word.
+#[derive(Clone, Copy, Debug, PartialEq, Eq)]
+pub struct Row {
+    /// How often a post found the bit 0 and set it.
+    pub raises: u64,
+    /// How often a take gave it.
+    pub takes: u64,
+    /// Whether it is set.
+    pub pending: bool,
+}
+
+/// The rows of an account, 128: that of subscription k of server s is at 8 s + k.
+#[derive(Debug, Drop)]
+pub struct Account {
+    pub(crate) rows: Vec<Row>,
+}
+
+impl Model for Account {
+    ghost use Rattle.std.specs.Prelude.{List};
+    ghost use Rattle.desk.specs.declared.account.Row.{Row};
+
+    ghost Value = { List Row };
+
+    ghost view = { λ a. a.rows.items };
+}
+
+impl Account {
+    /// How many rows there are.
+    pub fn len(&self) -> usize
+        ensures { result ≡ length self.now }
+    {
+        self.rows.len()
+    }
+
+    /// The row at an index from 0; `None` behind the last.
+    pub fn get(&self, index: usize) -> Option<&Row>
+        ensures { option_copied result ≡ slice_get self.now index }
+    {
+        self.rows.get(index)
+    }
+}
+
+/// Adds rows to the sums, modulo 2^64.
+pub(crate) fn add_rows(sums: &mut [u64; 128], rows: &[u64; 128])
+    ensures { Sums sums.old rows.now sums.new }
+{
+    for i in 0..128usize {
+        sums[i] = sums[i].wrapping_add(rows[i]);
+    }
+}
+
+/// The sums of these rows alone.
+pub(crate) fn sums_of(rows: &[u64; 128]) -> [u64; 128]
+    ensures { Sums (replicate 128 0) rows.now result }
+{
+    let mut sums = [0u64; 128];
+    add_rows(&mut sums, rows);
+    sums
+}
+
+/// A row for each bit of each pending word.
+pub(crate) fn fill_rows(
+    pending: &[u64; 16],
+    raises: &[u64; 128],
+    takes: &[u64; 128],
+    rows: &mut Vec<Row>,
+)
+    requires room { (rows.old.items ≡ []) × (128 ≤ vec_capacity rows.old) }
+    ensures long { length rows.new.items ≡ 128 }
+    ensures rows { (k : ℕ) → k < 128 → IsRow pending.now raises.now takes.now rows.new.items k }
+{
+    for i in 0..128usize {
+        rows.push_reserved(Row {
+            raises: raises[i],
+            takes: takes[i],
+            pending: (pending[i / 8] >> (i % 8)) & 1 == 1,
+        });
+    }
+}

@@ -1,0 +1,130 @@
+//! The calls of a desk.
+
+ghost use Rattle.std.specs.Prelude.{◌≡◌, ◌≤◌, ◌<◌, ◌+◌, ◌^◌, ℕ, [], ◌∷◌, ◌++◌, IfOk, OnOk, IfErr};
+ghost use Rattle.std.specs.Int.{bit_at};
+ghost use mathlib.Core.List.{IsPrefix};
+ghost use Rattle.desk_rule.specs.Notices.{OwedIn, raised_in};
+ghost use Rattle.desk.specs.Calls.{Calls, KnowsAsMuch, PostsOwed, SameNotes, SameNotices, Sees, next_place};
+ghost use Rattle.desk.specs.Pass.{desk_of, desk_of_note, history, notes_learnt, notes_made, posts, takes, told_by};
+ghost use Rattle.desk.specs.Tally.{RaisesMask};
+
+use crate::desk::{Answer, Desk, Taken};
+use crate::fault::{DeskFault, LearnStop};
+use crate::notice::{post_owed, tally};
+use crate::pass::{Note, NoteOf, Pass};
+use crate::turn::{run_turn, wait_turn};
+use desk_rule::{Machine, join_note, look, split_note, take};
+use std::sync::Wait;
+
+// The most notes that a pass makes, and the most that it learns.
+const MOST_NOTES: u64 = 1 << 62;
+
+impl<M: Machine> Desk<M> {
+    /// Waits for the turn, steps the machine once, and ends the turn; then posts what the reply owes. It takes no memory but
+    /// what the machine takes. Worn where the last place, 2^62 - 1, was used; then nothing is entered.
+    pub fn call<W: Wait>(
+        &self,
+        rt: &W,
+        pass: &mut Pass<M>,
+        command: M::Command,
+    ) -> Result<Answer<M::Reply>, DeskFault>
+    where
+        M::Command: Drop,
+        requires of_desk { desk_of pass.old ≡ self.now.table.shared.table_id }
+        ensures called { IfOk result (λ a. Calls M.stands M.steps pass.old pass.new command a.reply a.place) }
+        ensures place { IfOk result (λ a. a.place < 2 ^ 62) }
+        ensures posted { IfOk result (λ a. (a.owed ≡ M.owes a.reply) × PostsOwed pass.old pass.new a.place a.owed) }
+        ensures raised { IfOk result (λ a. RaisesMask (raised_in (posts pass.old)) (raised_in (posts pass.new)) a.raised) }
+        ensures same { SameNotes pass.old pass.new × (takes pass.new ≡ takes pass.old) }
+        ensures worn { IfErr result (λ fault. (fault ≡ DeskFault.Worn) × Sees M.stands M.steps pass.old pass.new × (posts pass.new ≡ posts pass.old) × (next_place pass.new ≡ 2 ^ 62)) }
+    {
+        let shared = &self.table.shared;
+        let Some(place) = wait_turn(rt, shared, &mut pass.seat) else {
+            return Err(DeskFault::Worn);
+        };
+        let reply = run_turn(shared, &mut pass.seat, command);
+        let owed = M::owed(&reply);
+        let raised = post_owed(shared, &mut pass.seat, &mut pass.raises, owed);
+        Ok(Answer {
+            reply,
+            place,
+            owed,
+            raised,
+        })
+    }
+
+    /// Takes every bit that is pending for a server, and then looks how far the history goes: each of the bits is owed by a
+    /// call below `floor`. It takes no memory and waits for nobody. BadServer from 16 on.
+    pub fn take(&self, pass: &mut Pass<M>, server: u32) -> Result<Taken, DeskFault>
+        requires { desk_of pass.old ≡ self.now.table.shared.table_id }
+        ensures sees { OnOk result ((server < 16) × Sees M.stands M.steps pass.old pass.new) }
+        ensures taken { IfOk result (λ t. takes pass.new ≡ takes pass.old ++ record { server = server; bits = t.bits } ∷ []) }
+        ensures floor { IfOk result (λ t. t.floor ≡ next_place pass.new) }
+        ensures owed { IfOk result (λ t. (b : ℕ) → bit_at t.bits b ≡ 1 → OwedIn M.owes server b (history pass.new)) }
+        ensures same { OnOk result (SameNotes pass.old pass.new × (posts pass.new ≡ posts pass.old)) }
+        ensures refused { IfErr result (λ fault. (fault ≡ DeskFault.BadServer) × (16 ≤ server) × (pass.new ≡ pass.old)) }
+    {
+        if server >= 16 {
+            return Err(DeskFault::BadServer);
+        }
+        let shared = &self.table.shared;
+        let bits = take(shared, &mut pass.seat, server as usize);
+        tally(&mut pass.takes, server, bits);
+        let floor = look(shared, &mut pass.seat) / 2;
+        Ok(Taken {
+            bits: bits as u8,
+            floor,
+        })
+    }
+
+    /// Looks how far the history goes: the first place that no call has entered. It takes no memory and waits for nobody.
+    pub fn front(&self, pass: &mut Pass<M>) -> u64
+        requires { desk_of pass.old ≡ self.now.table.shared.table_id }
+        ensures sees { Sees M.stands M.steps pass.old pass.new }
+        ensures front { result ≡ next_place pass.new }
+        ensures same { SameNotes pass.old pass.new × SameNotices pass.old pass.new }
+    {
+        look(&self.table.shared, &mut pass.seat) / 2
+    }
+
+    /// How far the pass has seen the history, for another pass to learn. It waits for nobody. Worn after 2^62 notes.
+    pub fn note(&self, pass: &mut Pass<M>) -> Result<Note<M>, DeskFault>
+        requires { desk_of pass.old ≡ self.now.table.shared.table_id }
+        ensures told { IfOk result (λ n. (desk_of_note n ≡ self.now.table.shared.table_id) × (told_by n ≡ history pass.old)) }
+        ensures made { OnOk result ((notes_made pass.new ≡ notes_made pass.old + 1) × (notes_learnt pass.new ≡ notes_learnt pass.old)) }
+        ensures same { KnowsAsMuch pass.old pass.new × SameNotices pass.old pass.new }
+        ensures worn { IfErr result (λ fault. (fault ≡ DeskFault.Worn) × (notes_made pass.old ≡ 2 ^ 62) × (pass.new ≡ pass.old)) }
+    {
+        if pass.made >= MOST_NOTES {
+            return Err(DeskFault::Worn);
+        }
+        pass.made += 1;
+        Ok(NoteOf {
+            seat: split_note(&self.table.shared, &mut pass.seat),
+        })
+    }
+
+    /// From now on the pass has seen all that the note says. It waits for nobody. Worn after 2^62 notes; the note then comes
+    /// back.
+    pub fn learn(&self, pass: &mut Pass<M>, note: Note<M>) -> Result<(), LearnStop<Note<M>>>
+        requires pass { desk_of pass.old ≡ self.now.table.shared.table_id }
+        requires note { desk_of_note note ≡ self.now.table.shared.table_id }
+        ensures learnt { OnOk result (Sees M.stands M.steps pass.old pass.new × IsPrefix (told_by note) (history pass.new)) }
+        ensures counted { OnOk result ((notes_learnt pass.new ≡ notes_learnt pass.old + 1) × (notes_made pass.new ≡ notes_made pass.old)) }
+        ensures same { SameNotices pass.old pass.new }
+        ensures worn { IfErr result (λ stop. (stop.fault ≡ DeskFault.Worn) × (stop.note ≡ note) × (notes_learnt pass.old ≡ 2 ^ 62) × (pass.new ≡ pass.old)) }
+    {
+        if pass.learnt >= MOST_NOTES {
+            return Err(LearnStop {
+                fault: DeskFault::Worn,
+                note,
+            });
+        }
+        pass.learnt += 1;
+        let NoteOf { seat } = note;
+        let shared = &self.table.shared;
+        join_note(shared, &mut pass.seat, seat);
+        look(shared, &mut pass.seat);
+        Ok(())
+    }
+}

@@ -1,0 +1,156 @@
+//! How a desk is closed.
+
+ghost use Rattle.std.specs.Prelude.{◌≡◌, ◌≤◌, ◌+◌, ℕ, length, IfSome, IfNone, IfOk, IfErr};
+ghost use Rattle.std.specs.List.{AllByRecursion};
+ghost use Rattle.desk_rule.specs.History.{total_of};
+ghost use Rattle.desk_rule.specs.Notices.{raised_in, taken_in};
+ghost use Rattle.desk_rule.specs.Seat.{IsAtTable};
+ghost use Rattle.desk.specs.Closing.{AllLearnt, gathered, IsAccount, IsCloseFault, IsHistory, Wraps};
+ghost use Rattle.desk.specs.Pass.{desk_of, notes_learnt, notes_made, posts, takes};
+
+use crate::account::{Account, add_rows, fill_rows, sums_of};
+use crate::desk::{Desk, DeskOf};
+use crate::fault::DeskFault;
+use crate::pass::{Pass, PassOf};
+use crate::passes::{Passes, PassesOf};
+use desk_rule::{DeskSeat, DeskShared, Machine, close_table, join_pass};
+use std::alloc::Global;
+
+/// What a closed desk leaves.
+#[derive(Drop)]
+pub struct Closed<M> {
+    /// The machine after every call.
+    pub machine: M,
+    /// What became of each notice.
+    pub account: Account,
+}
+
+/// Why a desk wasn't closed. The desk and the passes come back untouched.
+#[derive(Drop)]
+pub struct CloseStop<D, P> {
+    /// The cause.
+    pub fault: DeskFault,
+    /// The desk.
+    pub desk: D,
+    /// The passes.
+    pub passes: P,
+}
+
+// How many notes the passes made, and how many they learnt.
+fn count_notes<M: Machine>(passes: &Vec<Pass<M>>) -> (u128, u128)
+    ensures made { result.0 ≡ total_of notes_made passes.now.items }
+    ensures learnt { result.1 ≡ total_of notes_learnt passes.now.items }
+{
+    let mut made = 0u128;
+    let mut learnt = 0u128;
+    for i in 0..passes.len() {
+        let pass = &passes[i];
+        made += pass.made as u128;
+        learnt += pass.learnt as u128;
+    }
+    (made, learnt)
+}
+
+// Why the desk of so many passes stays open, if these are the passes that are back.
+fn stays_open<M: Machine>(made: u32, passes: &Vec<Pass<M>>) -> Option<DeskFault>
+    ensures stays { IfSome result (λ fault. IsCloseFault fault made passes.now.items) }
+    ensures closes { IfNone result ((made ≤ length passes.now.items) × AllLearnt passes.now.items) }
+{
+    if passes.len() < made as usize {
+        return Some(DeskFault::PassesOut);
+    }
+    let (made, learnt) = count_notes(passes);
+    if made != learnt {
+        return Some(DeskFault::Noted);
+    }
+    None
+}
+
+// One seat takes the passes of all others in, and their rows are added up.
+fn gather<M: Machine>(
+    shared: &DeskShared<M>,
+    seat: &mut DeskSeat<M>,
+    raise_sums: &mut [u64; 128],
+    take_sums: &mut [u64; 128],
+    mut others: Vec<Pass<M>>,
+)
+    requires at { IsAtTable shared.now.table_id seat.old }
+    requires others { AllByRecursion (λ p. desk_of p ≡ shared.now.table_id) others.items }
+    requires counted { Wraps raise_sums.old (raised_in seat.old.me.0.posts) × Wraps take_sums.old (taken_in seat.old.me.0.takes) }
+    ensures same { (seat.new.table_id ≡ seat.old.table_id) × (seat.new.me.0.holding ≡ seat.old.me.0.holding) }
+    ensures passes { seat.new.me.0.passes ≡ gathered seat.old.me.0.passes others.items }
+    ensures counted { Wraps raise_sums.new (raised_in seat.new.me.0.posts) × Wraps take_sums.new (taken_in seat.new.me.0.takes) }
+    ensures raised { (s b : ℕ) → raised_in seat.new.me.0.posts s b ≡ raised_in seat.old.me.0.posts s b + total_of (λ p. raised_in (posts p) s b) others.items }
+    ensures taken { (s b : ℕ) → taken_in seat.new.me.0.takes s b ≡ taken_in seat.old.me.0.takes s b + total_of (λ p. taken_in (takes p) s b) others.items }
+{
+    while let Some(pass) = others.pop() {
+        let PassOf {
+            seat: other,
+            made: _,
+            learnt: _,
+            raises,
+            takes,
+        } = pass;
+        add_rows(raise_sums, &raises);
+        add_rows(take_sums, &takes);
+        join_pass(shared, seat, other);
+    }
+}
+
+impl<M: Machine> Desk<M> {
+    /// Ends the desk: gives the machine after one legal history, whose entries are just the passes' calls, and the account
+    /// of the notices. Refused: PassesOut, where not all passes are back; Noted, where not as many notes were learnt as
+    /// were made; NoRoom.
+    pub fn close(
+        self,
+        alloc: Global,
+        passes: Passes<M>,
+    ) -> Result<Closed<M>, CloseStop<Desk<M>, Passes<M>>>
+        requires { AllByRecursion (λ p. desk_of p ≡ self.table.shared.table_id) passes }
+        ensures history { IfOk result (λ c. (log : _) × IsHistory M.stands M.steps self.table.shared.key.machine.value passes c.machine log) }
+        ensures account { IfOk result (λ c. IsAccount passes c.account) }
+        ensures notes { IfOk result (λ _. (self.table.shared.key.passes ≤ length passes) × AllLearnt passes) }
+        ensures refused { IfErr result (λ stop. IsCloseFault stop.fault self.table.shared.key.passes passes) }
+        ensures back { IfErr result (λ stop. (stop.desk ≡ self) × (stop.passes ≡ passes)) }
+    {
+        if let Some(fault) = stays_open(self.made, &passes.passes) {
+            return Err(CloseStop {
+                fault,
+                desk: self,
+                passes,
+            });
+        }
+        let Ok(mut rows) = Vec::with_capacity(alloc, 128) else {
+            return Err(CloseStop {
+                fault: DeskFault::NoRoom,
+                desk: self,
+                passes,
+            });
+        };
+        let PassesOf { passes: mut others } = passes;
+        let last = others.pop().unwrap();
+        let PassOf {
+            mut seat,
+            made: _,
+            learnt: _,
+            raises,
+            takes,
+        } = last;
+        let mut raise_sums = sums_of(&raises);
+        let mut take_sums = sums_of(&takes);
+        let DeskOf { table, made: _ } = self;
+        gather(
+            &table.shared,
+            &mut seat,
+            &mut raise_sums,
+            &mut take_sums,
+            others,
+        );
+        let (machine, pending) = close_table(table, seat);
+        fill_rows(&pending, &raise_sums, &take_sums, &mut rows);
+        Ok(Closed {
+            machine,
+            account: Account { rows },
+        })
+    }
+}

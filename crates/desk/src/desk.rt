@@ -1,0 +1,52 @@
+//! The desk, and what its calls answer.
+
+ghost use Rattle.std.specs.Prelude.{◌≡◌, ◌<◌, ℕ};
+
+use atomic_table::{Table, TableRule};
+use desk_rule::{DeskRule, DeskView, Opening, Slot};
+use std::alloc::Global;
+
+/// How many passes a table was made for.
+pub trait Made {
+    ghost passes: { Self → ℕ };
+}
+
+impl<M> Made for Opening<M> {
+    ghost passes = { λ opening. opening.passes };
+}
+
+/// A table of a desk, with the number of its passes.
+#[derive(Drop)]
+pub struct DeskOf<S, V, K: Made, Q: TableRule<S, V, K>> {
+    pub(crate) table: Table<S, V, K, Q, Global>,
+    pub(crate) made: u32,
+    ghost some_pass: { 0 < made },
+    ghost words: { table.shared.table_id.words ≡ 17 },
+    ghost slots: { table.shared.table_id.slots ≡ 1 },
+    ghost counted: { K.passes table.shared.key ≡ made },
+}
+
+/// A machine that threads call in turns.
+pub type Desk<M> = DeskOf<Slot<M>, DeskView<M>, Opening<M>, DeskRule<M>>;
+
+/// What a call answers.
+#[derive(Drop)]
+pub struct Answer<R> {
+    /// What the machine answered.
+    pub reply: R,
+    /// The place of the call in the history, counted from the desk's first place.
+    pub place: u64,
+    /// What the reply owes: bit 8 s + k is that of subscription k of server s.
+    pub owed: u128,
+    /// The bits of `owed` that weren't pending.
+    pub raised: u128,
+}
+
+/// What a take gives.
+#[derive(Clone, Copy, Debug, PartialEq, Eq)]
+pub struct Taken {
+    /// The bits that were pending, of which bit k is that of the server's subscription k.
+    pub bits: u8,
+    /// The first place that no call had entered when word 0 was loaded, after the bits were taken.
+    pub floor: u64,
+}

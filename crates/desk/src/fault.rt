@@ -1,0 +1,38 @@
+//! Why a desk refuses.
+
+use thiserror::Error;
+
+/// Why a call was refused.
+#[derive(Clone, Copy, Debug, PartialEq, Eq, Error)]
+pub enum DeskFault {
+    /// There are 1 to 64 passes.
+    #[error("not 1 to 64 passes")]
+    BadCount,
+    /// The first place is above 2^62.
+    #[error("the first place is above 2^62")]
+    BadFirst,
+    /// There are 16 servers.
+    #[error("no such server")]
+    BadServer,
+    /// The last place was used, or the pass made or learnt 2^62 notes.
+    #[error("worn out")]
+    Worn,
+    /// Not all passes are back.
+    #[error("a pass is out")]
+    PassesOut,
+    /// As many notes were learnt as were made on no desk that can be closed; here they differ.
+    #[error("a note was made and not learnt")]
+    Noted,
+    /// Memory is wanting.
+    #[error("out of memory")]
+    NoRoom,
+}
+
+/// A note that wasn't learnt, and comes back.
+#[derive(Drop)]
+pub struct LearnStop<N> {
+    /// Why.
+    pub fault: DeskFault,
+    /// The note.
+    pub note: N,
+}

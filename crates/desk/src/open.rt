@@ -1,0 +1,117 @@
+//! How a desk is opened.
+
+ghost use Rattle.std.specs.Prelude.{◌≡◌, ◌<◌, ◌≤◌, ◌^◌, [], length, vec_capacity, true, Some, IfOk, IfErr, OnOk};
+ghost use Rattle.std.specs.List.{AllByRecursion};
+ghost use Rattle.desk_rule.specs.Rule.{opening_view};
+ghost use Rattle.desk_rule.specs.Seat.{IsAtTable};
+ghost use Rattle.desk.specs.Opening.{AreNewPasses, IsOpenFault};
+ghost use Rattle.desk.specs.Pass.{desk_of};
+ghost use Rattle.desk.specs.Sight.{rests_of};
+
+use crate::desk::{Desk, DeskOf};
+use crate::fault::DeskFault;
+use crate::pass::{Pass, PassOf};
+use crate::passes::{Passes, PassesOf};
+use desk_rule::{DeskSeat, DeskShared, Machine, new_table, split_pass};
+use std::alloc::Global;
+use std::snapshot::Snapshot;
+
+/// Why a desk wasn't opened. The machine comes back.
+#[derive(Drop)]
+pub struct OpenStop<M> {
+    /// The cause.
+    pub fault: DeskFault,
+    /// The machine.
+    pub machine: M,
+}
+
+// A pass between its calls, which has counted nothing yet.
+fn new_pass<M: Machine>(seat: DeskSeat<M>) -> Pass<M>
+    requires nothing_out { seat.me.1 ≡ [] }
+    requires resting { rests_of seat.me.0 ≡ true }
+    requires counted { (seat.me.0.posts ≡ []) × (seat.me.0.takes ≡ []) }
+    ensures { (result.seat ≡ seat) × (result.made ≡ 0) × (result.learnt ≡ 0) }
+{
+    PassOf {
+        seat,
+        made: 0,
+        learnt: 0,
+        raises: [0; 128],
+        takes: [0; 128],
+    }
+}
+
+// A pass for each of those that sit at the seat, which has room in the list.
+fn deal<M: Machine>(
+    shared: &DeskShared<M>,
+    mut seat: DeskSeat<M>,
+    machine: &Snapshot<M>,
+    first: u64,
+    count: u32,
+    passes: &mut Vec<Pass<M>>,
+)
+    requires at { IsAtTable shared.now.table_id seat }
+    requires seat { seat.me ≡ (opening_view machine.now.value first count, []) }
+    requires room { (0 < count) × (passes.old.items ≡ []) × (count ≤ vec_capacity passes.old) }
+    ensures { AreNewPasses shared.now.table_id (Some machine.now.value) first count passes.new.items }
+{
+    let mut left = count;
+    while left > 1 {
+        let one = split_pass(shared, &mut seat);
+        passes.push_reserved(new_pass(one));
+        left -= 1;
+    }
+    passes.push_reserved(new_pass(seat));
+}
+
+impl<M: Machine> Desk<M> {
+    /// A desk over the machine, whose first call gets the place `first`, and 1 to 64 passes to call it with, whose numbers
+    /// differ. Refused: BadCount, BadFirst above 2^62, NoRoom.
+    pub fn open(
+        alloc: Global,
+        machine: M,
+        passes: u32,
+        first: u64,
+    ) -> Result<(Desk<M>, Passes<M>), OpenStop<M>>
+        ensures desk { IfOk result (λ d. (d.0.table.shared.key.machine.value ≡ machine) × (d.0.table.shared.key.passes ≡ passes) × (d.0.table.shared.key.first ≡ first)) }
+        ensures passes { IfOk result (λ d. AreNewPasses d.0.table.shared.table_id (Some machine) first passes d.1 × (length d.1 ≡ passes)) }
+        ensures of_desk { IfOk result (λ d. AllByRecursion (λ p. desk_of p ≡ d.0.table.shared.table_id) d.1) }
+        ensures accepted { OnOk result ((0 < passes) × (passes ≤ 64) × (first ≤ 2 ^ 62)) }
+        ensures refused { IfErr result (λ stop. IsOpenFault stop.fault passes first) }
+        ensures back { IfErr result (λ stop. stop.machine ≡ machine) }
+    {
+        if passes == 0 || passes > 64 {
+            return Err(OpenStop {
+                fault: DeskFault::BadCount,
+                machine,
+            });
+        }
+        if first > 1 << 62 {
+            return Err(OpenStop {
+                fault: DeskFault::BadFirst,
+                machine,
+            });
+        }
+        let Ok(mut dealt) = Vec::with_capacity(alloc, passes as usize) else {
+            return Err(OpenStop {
+                fault: DeskFault::NoRoom,
+                machine,
+            });
+        };
+        let opened = Snapshot::of(&machine);
+        match new_table(alloc, machine, passes, first) {
+            Ok((table, seat)) => {
+                deal(&table.shared, seat, &opened, first, passes, &mut dealt);
+                let desk = DeskOf {
+                    table,
+                    made: passes,
+                };
+                Ok((desk, PassesOf { passes: dealt }))
+            }
+            Err(machine) => Err(OpenStop {
+                fault: DeskFault::NoRoom,
+                machine,
+            }),
+        }
+    }
+}

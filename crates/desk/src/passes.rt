@@ -1,0 +1,73 @@
+//! A list of passes.
+
+ghost use Rattle.std.specs.Prelude.{◌≡◌, ◌++◌, ◌∷◌, [], length, IsSome, IfSome, IfNone, OnOk, OnErr, IfErr};
+ghost use Rattle.std.specs.Option.{option_to_list};
+
+use crate::pass::Pass;
+use std::alloc::{AllocFailed, Global};
+use std::marker::Model;
+
+/// Passes in their order, or whatever a list of them holds.
+#[derive(Drop)]
+pub struct PassesOf<P> {
+    pub(crate) passes: Vec<P>,
+}
+
+impl<P> Model for PassesOf<P> {
+    ghost use Rattle.std.specs.Prelude.{List};
+
+    ghost Value = { List P };
+
+    ghost view = { λ p. p.passes.items };
+}
+
+/// The passes of a desk.
+pub type Passes<M> = PassesOf<Pass<M>>;
+
+impl<P> PassesOf<P> {
+    /// No passes. It takes no memory.
+    pub fn new(alloc: Global) -> PassesOf<P>
+        ensures { result ≡ [] }
+    {
+        PassesOf {
+            passes: Vec::new(alloc),
+        }
+    }
+
+    /// The passes of a `Vec`. It takes no memory.
+    pub fn of(passes: Vec<P>) -> PassesOf<P>
+        ensures { result ≡ passes.items }
+    {
+        PassesOf { passes }
+    }
+
+    /// Gives the `Vec` back. It takes no memory.
+    pub fn into_vec(self) -> Vec<P>
+        ensures { result.items ≡ self }
+    {
+        self.passes
+    }
+
+    /// Adds a pass at the end. Where there is no room, the error gives it back.
+    pub fn push(&mut self, pass: P) -> Result<(), AllocFailed<P>>
+        ensures added { OnOk result (self.new ≡ self.old ++ pass ∷ []) }
+        ensures unchanged { OnErr result (self.new ≡ self.old) }
+        ensures back { IfErr result (λ back. back.value ≡ pass) }
+    {
+        self.passes.push(pass)
+    }
+
+    /// Takes the last pass out; `None` where there is none.
+    pub fn pop(&mut self) -> Option<P>
+        ensures { self.old ≡ self.new ++ option_to_list result }
+    {
+        self.passes.pop()
+    }
+
+    /// How many passes they are.
+    pub fn len(&self) -> usize
+        ensures { result ≡ length self.now }
+    {
+        self.passes.len()
+    }
+}

@@ -1,0 +1,90 @@
+//! The counter.
+
+ghost use Rattle.std.specs.Prelude.{◌≡◌};
+
+use desk_rule::Machine;
+
+/// What a counter is asked.
+#[derive(Clone, Copy, Debug, PartialEq, Eq)]
+pub enum Count {
+    /// Tell these subscriptions, and no others, from now on: bit 8 s + k is that of subscription k of server s.
+    Watch(u128),
+    /// Add this to the sum, modulo 2^64.
+    Add(u64),
+    /// Say the sum.
+    Read,
+}
+
+/// What it answers.
+#[derive(Clone, Copy, Debug, PartialEq, Eq)]
+pub struct Counted {
+    /// The sum.
+    pub total: u64,
+    /// Who is owed a notice.
+    pub owed: u128,
+}
+
+/// A sum, and the subscriptions that are told when it is added to.
+#[derive(Clone, Copy, Debug, PartialEq, Eq)]
+pub struct Counter {
+    /// The sum.
+    pub total: u64,
+    /// The subscriptions.
+    pub watchers: u128,
+}
+
+impl Counter {
+    /// A sum that nobody watches.
+    pub fn new(total: u64) -> Counter
+        ensures { (result.total ≡ total) × (result.watchers ≡ 0) }
+    {
+        Counter { total, watchers: 0 }
+    }
+}
+
+impl Machine for Counter {
+    ghost use Rattle.desk_counter.specs.Counting.{Step, owes_of};
+    ghost use Rattle.desk_counter.specs.declared.counter.Counter.{Counter};
+
+    type Command = Count;
+
+    type Reply = Counted;
+
+    ghost State = { Counter };
+
+    ghost stands = { λ m s. m ≡ s };
+
+    ghost steps = { Step };
+
+    ghost owes = { owes_of };
+
+    fn step(&mut self, command: Count) -> Counted {
+        match command {
+            Count::Watch(watchers) => {
+                self.watchers = watchers;
+                self.answer(0)
+            }
+            Count::Add(amount) => {
+                self.total = self.total.wrapping_add(amount);
+                self.answer(self.watchers)
+            }
+            Count::Read => self.answer(0),
+        }
+    }
+
+    fn owed(reply: &Counted) -> u128 {
+        reply.owed
+    }
+}
+
+impl Counter {
+    // The sum, with who is owed a notice.
+    fn answer(&self, owed: u128) -> Counted
+        ensures { (result.total ≡ self.now.total) × (result.owed ≡ owed) }
+    {
+        Counted {
+            total: self.total,
+            owed,
+        }
+    }
+}

@@ -1,0 +1,34 @@
+-- The laws of the rule.
+use Rattle.std.proofs.Common.{ℕ, List, [], ◌∷◌, ◌++◌, refl, sym, ◌∙◌, subst}
+use mathlib.Core.List.{IsPrefix}
+use mathlib.Core.Option.{some-injective}
+use Rattle.desk_rule.specs.declared.entry.Entry.{Entry}
+use Rattle.desk_rule.specs.History.{IsLegal, Run}
+use Rattle.desk_rule.specs.Laws.{BitsAreOwed, HistoriesAgree, NoticesBalance, OneSeatHolds, PostsAreOwed}
+use Rattle.desk_rule.proofs.ListLemmas.{prefixes_agree}
+use Rattle.desk_rule.proofs.NoticeLemmas.{pending_owed}
+
+module _ {M C R : Type 0} (steps : M → C → R → M → Type 0) where
+  -- a beginning of a run is a run
+  pub run_front : (m n : M) (es more : List (Entry C R)) → Run steps m (es ++ more) n → IsLegal steps m es
+  run_front m n [] more run = (m, refl)
+  run_front m n (e ∷ es) more run = let rest = run_front run.0 n es more run.2 in (rest.0, (run.0, run.1, rest.1))
+
+  legal_front : (m n : M) (es history : List (Entry C R)) → IsPrefix es history → Run steps m history n → IsLegal steps m es
+  legal_front m n es history p run = run_front m n es p.0 (subst (λ l. Run steps m l n) (sym p.1) run)
+
+  pub agree : (owes : R → ℕ) → HistoriesAgree steps owes
+  agree owes opening first passes s r i j v w at_i at_j = let f = r.seated i v at_i in let g = r.seated j w at_j in
+      (prefixes_agree v.seen w.seen r.history f.seen g.seen, legal_front opening r.machine v.seen r.history f.seen r.legal, legal_front opening r.machine w.seen r.history g.seen r.legal)
+
+  pub one_holds : (owes : R → ℕ) → OneSeatHolds steps owes
+  one_holds owes opening first passes s r i j v w at_i at_j held_i held_j = some-injective i j (sym ((r.seated i v at_i).holds held_i).0 ∙ ((r.seated j w at_j).holds held_j).0)
+
+  pub balances : (owes : R → ℕ) → NoticesBalance steps owes
+  balances owes opening first passes s r server bit below = r.balance server bit below
+
+  pub owed_bits : (owes : R → ℕ) → BitsAreOwed steps owes
+  owed_bits owes opening first passes s r server bit below is = pending_owed steps owes opening first passes s r server bit below is
+
+  pub owed_posts : (owes : R → ℕ) → PostsAreOwed steps owes
+  owed_posts owes opening first passes s r j v at = (r.seated j v at).owed

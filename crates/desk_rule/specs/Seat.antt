@@ -1,0 +1,50 @@
+-- A seat at the table.
+use Rattle.std.specs.Prelude.{◌≡◌, ℕ, ◌≤◌, ◌<◌, ◌^◌, true, List, [], ◌∷◌, ◌++◌, length, Option, Some, is_some}
+use Rattle.atomic_table.specs.Seated.{TableId}
+use Rattle.atomic_table.specs.declared.shared.Seat.{Seat}
+use Rattle.desk_rule.specs.declared.entry.Entry.{Entry}
+use Rattle.desk_rule.specs.declared.table.Home.{Home}
+use Rattle.desk_rule.specs.declared.table.LastCall.{LastCall}
+use Rattle.desk_rule.specs.declared.view.View.{View}
+use Rattle.desk_rule.specs.History.{count_calls, entry, number_of, OwnCalls, Run, total_of, weigh_all}
+use Rattle.desk_rule.specs.Notices.{raised_in}
+
+abbrev pub SeatOf : Type 0 → Type 0 → Type 0 → Type 0
+SeatOf M C R = Seat (Option (Home M C R)) (View M C R)
+
+module _ {M C R : Type 0} where
+  -- the seat is at this table, which has 17 words and one slot
+  abbrev pub IsAtTable : TableId → SeatOf M C R → Type 0
+  IsAtTable id p = (p.table_id ≡ id) × (id.words ≡ 17) × (id.slots ≡ 1)
+
+  abbrev pub SameSeat : SeatOf M C R → SeatOf M C R → Type 0
+  SameSeat p q = (q.table_id ≡ p.table_id) × (q.id ≡ p.id)
+
+-- the seat of one pass holds the turn, and has the machine as it is after all that it has seen
+pub record HoldsTurn {M C R : Type 0} (steps : M → C → R → M → Type 0) (p : SeatOf M C R) : Type 0 where
+  pub holding : p.me.0.holding ≡ true
+  pub one_pass : length p.me.0.passes ≡ 1
+  pub opened : is_some p.me.0.opening ≡ true
+  pub home : Home M C R
+  pub out : p.me.1 ≡ (0, Some home) ∷ []
+  pub machine : (m : M) → p.me.0.opening ≡ Some m → Run steps m p.me.0.seen home.machine
+  pub few : (s b : ℕ) → raised_in p.me.0.posts s b ≤ count_calls p.me.0.passes
+  pub short : count_calls p.me.0.passes < 2 ^ 62
+
+-- the machine is back in the slot, as its last call left it, and the turn is still held
+pub record EndsTurn {M C R : Type 0} (steps : M → C → R → M → Type 0) (p : SeatOf M C R) : Type 0 where
+  pub holding : p.me.0.holding ≡ true
+  pub one_pass : length p.me.0.passes ≡ 1
+  pub opened : is_some p.me.0.opening ≡ true
+  pub home : Home M C R
+  pub last : LastCall C R
+  pub back : p.me.1 ≡ (0, Some home) ∷ []
+  pub said : home.last ≡ Some last
+  pub machine : (m : M) → p.me.0.opening ≡ Some m → Run steps m (p.me.0.seen ++ entry (number_of p.me.0.passes) last.command.value last.reply.value ∷ []) home.machine
+
+-- what is left of a table where all passes sat at one seat: the machine after one legal history, which has their entries and no others
+pub record IsClosed {M C R : Type 0} (steps : M → C → R → M → Type 0) (opening : M) (v : View M C R) (machine : M) : Type 0 where
+  pub history : List (Entry C R)
+  pub legal : Run steps opening history machine
+  pub own : OwnCalls history v.passes
+  pub no_others : (weigh : Entry C R → ℕ) → total_of weigh history ≡ weigh_all weigh v.passes

@@ -1,0 +1,31 @@
+//! What threads that share one machine may rely on between any two steps of theirs.
+//!
+//! A desk keeps a machine in the one slot of a table of atomic words. Word 0 tells whose turn it is, as the sequence
+//! number of a sequence lock does, and each of 16 servers has a word of pending notices, as MINIX 3 keeps pending
+//! notifications as bits of a bitmap of the receiver. The rule here relates the words, the slot and what each thread
+//! knows; each kind of step is a function, whose contract says what it tells and that it keeps the rule. The rule and
+//! its kinds of step are of this project.
+#![tactic(auto)]
+
+mod entry;
+mod law;
+mod machine;
+mod play;
+mod seat;
+mod step;
+mod table;
+mod turn;
+mod view;
+
+pub use entry::{Entry, PassCalls};
+pub use law::{bits_are_owed, histories_agree, notices_balance, one_seat_holds, posts_are_owed};
+pub use machine::Machine;
+pub use play::{EndTurn, Hold, JoinNote, JoinPass, Look, PostBits, SplitNote, SplitPass, TakeBits};
+pub use seat::{join_note, join_pass, split_note, split_pass};
+pub use step::{look, post, take};
+pub use table::{
+    DeskRule, DeskSeat, DeskShared, DeskTable, DeskView, Home, LastCall, Opening, Slot,
+    close_table, new_table,
+};
+pub use turn::{end_turn, hold, machine_back, machine_out};
+pub use view::{Post, Take, View};

@@ -1,0 +1,53 @@
+//! Seats that are split, and seats that are joined.
+
+ghost use Rattle.std.specs.Prelude.{◌≡◌, ℕ, ◌+◌, ◌<◌, [], false};
+ghost use Rattle.desk_rule.specs.History.{fresh};
+ghost use Rattle.desk_rule.specs.Kinds.{after_note, after_pass, note_view, one_pass, other_passes};
+ghost use Rattle.desk_rule.specs.Seat.{IsAtTable, SameSeat};
+
+use crate::machine::Machine;
+use crate::play::{JoinNote, JoinPass, SplitNote, SplitPass};
+use crate::table::{DeskSeat, DeskShared};
+
+/// A seat for one of the passes that sit here, of which none has called anything; at least one stays.
+pub fn split_pass<M: Machine>(shared: &DeskShared<M>, seat: &mut DeskSeat<M>) -> DeskSeat<M>
+    requires at { IsAtTable shared.now.table_id seat.old }
+    requires fresh { (n : ℕ) × (seat.old.me.0.passes ≡ fresh (n + 2)) }
+    requires resting { seat.old.me.0.holding ≡ false }
+    ensures same { SameSeat seat.old seat.new }
+    ensures left { seat.new.me ≡ (other_passes seat.old.me.0, seat.old.me.1) }
+    ensures right { (result.table_id ≡ seat.old.table_id) × (result.me ≡ (one_pass seat.old.me.0, [])) }
+{
+    shared.split_seat::<SplitPass>(seat)
+}
+
+/// A seat that knows what this one has seen, and is no pass.
+pub fn split_note<M: Machine>(shared: &DeskShared<M>, seat: &mut DeskSeat<M>) -> DeskSeat<M>
+    requires { IsAtTable shared.now.table_id seat.old }
+    ensures same { SameSeat seat.old seat.new × (seat.new.me ≡ seat.old.me) }
+    ensures note { (result.table_id ≡ seat.old.table_id) × (result.me ≡ (note_view seat.old.me.0, [])) }
+{
+    shared.split_seat::<SplitNote>(seat)
+}
+
+/// The seat is told what a note has seen, and the note's view is spent.
+pub fn join_note<M: Machine>(shared: &DeskShared<M>, seat: &mut DeskSeat<M>, note: DeskSeat<M>)
+    requires at { IsAtTable shared.now.table_id seat.old }
+    requires note { IsAtTable shared.now.table_id note × (note.me.1 ≡ []) }
+    requires no_pass { (note.me.0.passes ≡ []) × (note.me.0.posts ≡ []) × (note.me.0.takes ≡ []) × (note.me.0.holding ≡ false) }
+    ensures same { SameSeat seat.old seat.new }
+    ensures told { seat.new.me ≡ (after_note seat.old.me.0 note.me.0, seat.old.me.1) }
+{
+    shared.join_seat::<JoinNote>(seat, note);
+}
+
+/// The passes of the other seat, with their posts and takes, sit here from now on, and its view is spent.
+pub fn join_pass<M: Machine>(shared: &DeskShared<M>, seat: &mut DeskSeat<M>, other: DeskSeat<M>)
+    requires at { IsAtTable shared.now.table_id seat.old }
+    requires other { IsAtTable shared.now.table_id other × (other.me.1 ≡ []) }
+    requires resting { other.me.0.holding ≡ false }
+    ensures same { SameSeat seat.old seat.new }
+    ensures both { seat.new.me ≡ (after_pass seat.old.me.0 other.me.0, seat.old.me.1) }
+{
+    shared.join_seat::<JoinPass>(seat, other);
+}

@@ -1,0 +1,53 @@
+//! Steps on the words that a seat makes at any time.
+
+ghost use Rattle.std.specs.Prelude.{◌≡◌, ℕ, ◌^◌, ◌<◌, ◌≤◌, true, length, is_some};
+ghost use Rattle.desk_rule.specs.History.{Stepped, count_calls};
+ghost use Rattle.desk_rule.specs.Kinds.{LastOwes, Looks, Takes, after_post};
+ghost use Rattle.desk_rule.specs.Notices.{bits_for, raised_in};
+ghost use Rattle.desk_rule.specs.Seat.{IsAtTable, SameSeat};
+
+use crate::machine::Machine;
+use crate::play::{Look, PostBits, TakeBits};
+use crate::table::{DeskSeat, DeskShared};
+
+/// Loads word 0: twice the place of the next call, and one more while a turn is held. The seat has seen the history as it
+/// is then.
+pub fn look<M: Machine>(shared: &DeskShared<M>, seat: &mut DeskSeat<M>) -> u64
+    requires { IsAtTable shared.now.table_id seat.old }
+    ensures same { SameSeat seat.old seat.new × (seat.new.me.1 ≡ seat.old.me.1) }
+    ensures looks { Looks (Stepped M.stands M.steps) seat.old.me.0 result seat.old.me.0.holding seat.new.me.0 }
+    ensures below { result ≤ 2 ^ 63 }
+{
+    shared.load::<Look>(seat, 0)
+}
+
+/// Sets bits of a server's pending word, which the call that ends what the seat has seen owes. Gives the word as it was.
+pub fn post<M: Machine>(
+    shared: &DeskShared<M>,
+    seat: &mut DeskSeat<M>,
+    server: usize,
+    bits: u64,
+) -> u64
+    requires at { IsAtTable shared.now.table_id seat.old }
+    requires server { server < 16 }
+    requires opened { is_some seat.old.me.0.opening ≡ true }
+    requires owed { (owed : ℕ) × LastOwes M.owes seat.old.me.0 owed × (bits ≡ bits_for owed server) × (bits < 256) }
+    requires few { (b : ℕ) → raised_in seat.old.me.0.posts server b < count_calls seat.old.me.0.passes }
+    ensures same { SameSeat seat.old seat.new }
+    ensures word { result < 2 ^ 64 }
+    ensures posted { seat.new.me ≡ (after_post seat.old.me.0 server bits result, seat.old.me.1) }
+{
+    shared.fetch_or::<PostBits>(seat, server + 1, bits)
+}
+
+/// Swaps a server's pending word for 0. Gives the word as it was; for each of its bits the seat has then seen a call that
+/// owes it.
+pub fn take<M: Machine>(shared: &DeskShared<M>, seat: &mut DeskSeat<M>, server: usize) -> u64
+    requires at { IsAtTable shared.now.table_id seat.old }
+    requires server { server < 16 }
+    requires some_pass { 0 < length seat.old.me.0.passes }
+    ensures same { SameSeat seat.old seat.new × (seat.new.me.1 ≡ seat.old.me.1) }
+    ensures taken { Takes M.owes seat.old.me.0 server result seat.new.me.0 }
+{
+    shared.swap::<TakeBits>(seat, server + 1, 0)
+}

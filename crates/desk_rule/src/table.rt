@@ -1,0 +1,152 @@
+//! The table that threads share: word 0, one pending word for each server, and a slot with the machine.
+
+ghost use Rattle.std.specs.Prelude.{◌≡◌, ◌≤◌, ◌<◌, ◌+◌, ◌^◌, ℕ, [], true, false, length, is_some, slice_index, IfSome, IfOk, IfErr};
+ghost use Rattle.std.specs.Int.{bit_at};
+ghost use Rattle.std.specs.Mem.Slots.{slots_items, slots_len, IsFull};
+ghost use Rattle.desk_rule.specs.History.{Stepped};
+ghost use Rattle.desk_rule.specs.Notices.{raised_in, taken_in};
+ghost use Rattle.desk_rule.specs.Rule.{opening_view};
+ghost use Rattle.desk_rule.specs.Seat.{IsAtTable, IsClosed};
+
+use crate::machine::Machine;
+use crate::view::View;
+use atomic_table::{Closed, Refused, Seat, Shared, Table, TableRule};
+use std::alloc::{AllocFailed, Global};
+use std::marker::PhantomData;
+use std::snapshot::Snapshot;
+
+/// The call that the turn was held for. It has no bytes: it hands the call to the step that ends the turn.
+#[derive(Drop)]
+pub struct LastCall<C, R> {
+    /// What was asked.
+    pub command: Snapshot<C>,
+    /// What the machine answered.
+    pub reply: Snapshot<R>,
+}
+
+/// What the slot holds while no turn is held.
+#[derive(Drop)]
+pub struct Home<M, C, R> {
+    /// The machine after every call so far.
+    pub machine: M,
+    /// The last of them, if there was one.
+    pub last: Option<LastCall<C, R>>,
+}
+
+/// What the table is told when it is made.
+#[derive(Drop)]
+pub struct Opening<M> {
+    /// The place of the first call.
+    pub first: u64,
+    /// How many passes there are.
+    pub passes: u32,
+    /// The machine as it is then.
+    pub machine: Snapshot<M>,
+}
+
+/// The slot: `None` while a turn is held.
+pub type Slot<M> = Option<Home<M, <M as Machine>::Command, <M as Machine>::Reply>>;
+
+/// What a seat at a desk's table knows.
+pub type DeskView<M> = View<M, <M as Machine>::Command, <M as Machine>::Reply>;
+
+/// The rule of the table: what holds between any two steps.
+pub struct DeskRule<M> {
+    marker: PhantomData<M>,
+}
+
+impl<M: Machine> TableRule<Slot<M>, DeskView<M>, Opening<M>> for DeskRule<M> {
+    ghost use Rattle.desk_rule.specs.History.{Stepped};
+    ghost use Rattle.desk_rule.specs.Rule.{RuleHolds, opening_view};
+
+    ghost holds = { λ k. RuleHolds (Stepped M.stands M.steps) M.owes k.machine.value k.first k.passes };
+
+    ghost first = { λ k. opening_view k.machine.value k.first k.passes };
+}
+
+/// The table with its memory.
+pub type DeskTable<M> = Table<Slot<M>, DeskView<M>, Opening<M>, DeskRule<M>, Global>;
+
+/// The table as threads see it.
+pub type DeskShared<M> = Shared<Slot<M>, DeskView<M>, Opening<M>, DeskRule<M>>;
+
+/// A seat at the table. It has no bytes.
+pub type DeskSeat<M> = Seat<Slot<M>, DeskView<M>>;
+
+/// A table with the machine in its slot and no notice pending, and the one seat, where all passes sit. Where there is no
+/// room, the machine comes back.
+pub fn new_table<M: Machine>(
+    alloc: Global,
+    machine: M,
+    passes: u32,
+    first: u64,
+) -> Result<(DeskTable<M>, DeskSeat<M>), M>
+    requires { first ≤ 2 ^ 62 }
+    ensures table { IfOk result (λ t. (t.0.shared.key.machine.value ≡ machine) × (t.0.shared.key.passes ≡ passes) × (t.0.shared.key.first ≡ first)) }
+    ensures seat { IfOk result (λ t. IsAtTable t.0.shared.table_id t.1 × (t.1.me ≡ (opening_view machine first passes, []))) }
+    ensures back { IfErr result (λ m. m ≡ machine) }
+{
+    let opening = Opening {
+        first,
+        passes,
+        machine: Snapshot::of(&machine),
+    };
+    let mut slots = Vec::new(alloc);
+    let home = Home {
+        machine,
+        last: None,
+    };
+    if let Err(AllocFailed { value }) = slots.push(Some(home)) {
+        slots.destroy_empty();
+        return Err(machine_of(value));
+    }
+    let mut words = [0u64; 17];
+    words[0] = 2 * first;
+    match Table::new(alloc, &words, slots, &opening) {
+        Ok(made) => Ok(made),
+        Err(Refused { mut slots }) => {
+            let slot = slots.pop().unwrap();
+            slots.destroy_empty();
+            Err(machine_of(slot))
+        }
+    }
+}
+
+// The machine of a slot that has it.
+fn machine_of<M: Machine>(slot: Slot<M>) -> M
+    requires { is_some slot ≡ true }
+    ensures { IfSome slot (λ home. result ≡ home.machine) }
+{
+    match slot {
+        Some(Home { machine, last: _ }) => machine,
+        None => unreachable!(),
+    }
+}
+
+// The pending word of each server.
+fn pending_words<S>(closed: &Closed<S, Global>) -> [u64; 16]
+    requires { IsFull closed.now.words × (slots_len closed.now.words ≡ 17) }
+    ensures { (s : ℕ) → s < 16 → slice_index result s ≡ slice_index (slots_items closed.now.words) (s + 1) }
+{
+    let mut pending = [0u64; 16];
+    for server in 0..16usize {
+        pending[server] = closed.word(server + 1);
+    }
+    pending
+}
+
+/// Ends the table with the seat where all passes sit: gives the machine after the history, and the pending words.
+pub fn close_table<M: Machine>(table: DeskTable<M>, seat: DeskSeat<M>) -> (M, [u64; 16])
+    requires at { IsAtTable table.shared.table_id seat }
+    requires resting { seat.me.0.holding ≡ false }
+    requires all { table.shared.key.passes ≤ length seat.me.0.passes }
+    ensures machine { IsClosed (Stepped M.stands M.steps) table.shared.key.machine.value seat.me.0 result.0 }
+    ensures balance { (server bit : ℕ) → server < 16 → raised_in seat.me.0.posts server bit ≡ taken_in seat.me.0.takes server bit + bit_at (slice_index result.1 server) bit }
+    ensures few { (server bit : ℕ) → server < 16 → raised_in seat.me.0.posts server bit ≤ 2 ^ 62 }
+{
+    let mut closed = table.close_with(seat);
+    let slot = closed.take(0);
+    let pending = pending_words(&closed);
+    closed.free();
+    (machine_of(slot), pending)
+}

@@ -1,0 +1,67 @@
+//! A turn: it is held, the machine comes out of the slot and goes back, and the turn ends.
+
+ghost use Rattle.std.specs.Prelude.{◌≡◌, ℕ, ◌+◌, ◌*◌, ◌^◌, ◌<◌, [], ◌∷◌, length, is_some, Some, None, true};
+ghost use Rattle.desk_rule.specs.History.{OwnCalls, Run, Stepped};
+ghost use Rattle.desk_rule.specs.Kinds.{GetsMachine, Looks, after_turn};
+ghost use Rattle.desk_rule.specs.Seat.{EndsTurn, HoldsTurn, IsAtTable, SameSeat};
+
+use crate::machine::Machine;
+use crate::play::{EndTurn, Hold};
+use crate::table::{DeskSeat, DeskShared, Home};
+
+/// Takes the turn if word 0 still is `word`, which says that it is free. Gives the word as it was; another one tells as
+/// much as a look, and no more.
+pub fn hold<M: Machine>(shared: &DeskShared<M>, seat: &mut DeskSeat<M>, word: u64) -> u64
+    requires at { IsAtTable shared.now.table_id seat.old }
+    requires some_pass { 0 < length seat.old.me.0.passes }
+    requires free { (n : ℕ) × (word ≡ 2 * n) × (n < 2 ^ 62) }
+    ensures same { SameSeat seat.old seat.new }
+    ensures held { result ≡ word → Looks (Stepped M.stands M.steps) seat.old.me.0 result true seat.new.me.0 × GetsMachine (Stepped M.stands M.steps) seat.old.me.0 seat.old.me.1 seat.new.me.0 seat.new.me.1 }
+    ensures missed { (result ≡ word → ⊥) → Looks (Stepped M.stands M.steps) seat.old.me.0 result seat.old.me.0.holding seat.new.me.0 × (seat.new.me.1 ≡ seat.old.me.1) }
+{
+    shared.compare_exchange::<Hold>(seat, 0, word, word + 1)
+}
+
+/// Takes the machine out of the slot: it is as the history that the seat has seen left it.
+pub fn machine_out<M: Machine>(
+    shared: &DeskShared<M>,
+    seat: &mut DeskSeat<M>,
+) -> Home<M, M::Command, M::Reply>
+    requires at { IsAtTable shared.now.table_id seat.old }
+    requires holds { HoldsTurn (Stepped M.stands M.steps) seat.old }
+    ensures same { SameSeat seat.old seat.new }
+    ensures out { seat.new.me ≡ (seat.old.me.0, (0, None) ∷ []) }
+    ensures machine { (m : M) → seat.old.me.0.opening ≡ Some m → Run (Stepped M.stands M.steps) m seat.old.me.0.seen result.machine }
+{
+    match shared.exchange(seat, 0, None) {
+        Some(home) => home,
+        None => unreachable!(),
+    }
+}
+
+/// Puts the machine back, with the call that it answered.
+pub fn machine_back<M: Machine>(
+    shared: &DeskShared<M>,
+    seat: &mut DeskSeat<M>,
+    home: Home<M, M::Command, M::Reply>,
+)
+    requires at { IsAtTable shared.now.table_id seat.old }
+    requires out { seat.old.me.1 ≡ (0, None) ∷ [] }
+    ensures same { SameSeat seat.old seat.new }
+    ensures back { seat.new.me ≡ (seat.old.me.0, (0, Some home) ∷ []) }
+{
+    match shared.exchange(seat, 0, Some(home)) {
+        None => {}
+        Some(_) => unreachable!(),
+    }
+}
+
+/// Ends the turn: the call joins the history and the calls of its pass.
+pub fn end_turn<M: Machine>(shared: &DeskShared<M>, seat: &mut DeskSeat<M>)
+    requires at { IsAtTable shared.now.table_id seat.old }
+    requires ends { EndsTurn (Stepped M.stands M.steps) seat.old }
+    ensures same { SameSeat seat.old seat.new }
+    ensures ended { (h : _) (l : _) → seat.old.me.1 ≡ (0, Some h) ∷ [] → h.last ≡ Some l → (seat.new.me ≡ (after_turn seat.old.me.0 l.command.value l.reply.value, [])) × OwnCalls seat.new.me.0.seen seat.new.me.0.passes }
+{
+    shared.fetch_add::<EndTurn>(seat, 0, 1);
+}

@@ -1,0 +1,304 @@
+-- Labels in the order of their endpoints: where one belongs, and what an edit leaves.
+use Rattle.std.proofs.Common.{◌≡◌, ℕ, zero, suc, ◌+◌, ◌<◌, ◌≤◌, ◌⊎◌, not, Bool, true, false, cond, List, [], ◌∷◌, ◌++◌, take, drop, length, get_or, set, Option, Some, None, refl, sym, ap, ◌∙◌, subst, arith, inl, inr, Contains}
+use Rattle.std.specs.declared.cmp.Ordering.{Ordering}
+use Rattle.std.specs.declared.cmp.Ordering.TheVariants.{Less, Equal, Greater}
+use Rattle.std.specs.Ordering.{nat_cmp, ordering_then, is_eq, is_lt, ordering_reverse}
+use Rattle.std.specs.Cmp.{IsTotalOrder, tied_itself}
+use Rattle.std.specs.List.{find, slice_get, insert, remove, AllByRecursion, AllWithin}
+use Rattle.std.specs.List.Sorted.{IsStrictlySortedBy, IsPartitionedBy, IsPartitionPoint}
+use Rattle.std.proofs.lemmas.Cmp.{on_total, then_total, nat_cmp_total, nat_list_cmp_total}
+use Rattle.std.proofs.lemmas.Map.Lookups.{exact_pairs, exact_unsigned, exact_bytes}
+use Rattle.std.proofs.lemmas.Option.{same_Some, slice_get_within}
+use Rattle.ds_entry.proofs.Members.{In, In-from_Contains, Contains-from_In}
+use Rattle.ds_names.specs.Endpoint.{EndpointRecord}
+use Rattle.ds_names.specs.Key.{name_cmp}
+use Rattle.ds_join.proofs.HeldLemmas.{from_along}
+use Rattle.ds_index.specs.declared.named.Named.{Named}
+use Rattle.ds_index.specs.Named.{slot_of, generation_of, holder_cmp, named_cmp, is_before, is_under, is_of, inserted}
+use Rattle.ds_index.specs.Index.{IsAdded, IsReplaced}
+
+-- ---- the orders are total, and what compares alike is one
+pub holders_total : IsTotalOrder holder_cmp
+holders_total = then_total (on_total slot_of nat_cmp_total) (on_total generation_of nat_cmp_total)
+
+pub names_total : IsTotalOrder named_cmp
+names_total = then_total (on_total (λ (p : Named). p.endpoint) holders_total) (on_total (λ (p : Named). p.name) nat_list_cmp_total)
+
+-- the endpoint of these numbers
+abbrev holder_at : ℕ × ℕ → Option EndpointRecord
+holder_at (zero, g) = None
+holder_at (suc s, g) = Some (record { generation = g; slot = s })
+
+holder_at-numbers : (o : Option EndpointRecord) → holder_at (slot_of o, generation_of o) ≡ o
+holder_at-numbers None = holder_at-none (generation_of None)
+  where
+    holder_at-none : (g : ℕ) → holder_at (0, g) ≡ None
+    holder_at-none g = refl
+holder_at-numbers (Some e) = refl
+
+pub same_holder : (a b : Option EndpointRecord) → holder_cmp a b ≡ Equal → a ≡ b
+same_holder a b h = sym (holder_at-numbers a) ∙ ap holder_at (exact_pairs nat_cmp nat_cmp exact_unsigned exact_unsigned (slot_of a, generation_of a) (slot_of b, generation_of b) h) ∙ holder_at-numbers b
+
+not_itself : (p : Named) → named_cmp p p ≡ Less → ⊥
+not_itself p l = let no : Equal ≡ Less = sym (tied_itself names_total p) ∙ l in absurd (cc)
+
+pub less_is : (o : Ordering) → is_lt o ≡ true → o ≡ Less
+less_is Less e = refl
+less_is Equal e = absurd (cc)
+less_is Greater e = absurd (cc)
+
+opposed : {A : Type 0} (b : Bool) → b ≡ true → b ≡ false → A
+opposed b t f = let no : true ≡ false = sym t ∙ f in absurd (cc)
+
+-- ---- where a label belongs
+at : {X : Type 0} (P : X → Type 0) (xs : List X) (j : ℕ) (d : X) → AllByRecursion P xs → j < length xs → P (get_or xs j d)
+at P [] j d a l = absurd (omega (arith, l))
+at P (x ∷ xs) zero d a l = a.0
+at P (x ∷ xs) (suc j) d a l = at P xs j d a.1 (omega (arith, l))
+
+before_down : (p x y : Named) → named_cmp x y ≡ Less → is_before p y ≡ true → is_before p x ≡ true
+before_down p x y l u = ap is_lt (names_total.trans x y p l (less_is (named_cmp y p) u))
+
+pub before_partitioned : (p : Named) (xs : List Named) → IsStrictlySortedBy named_cmp xs → IsPartitionedBy (is_before p) xs
+unfolding IsStrictlySortedBy
+before_partitioned p [] s i j d l w h = absurd (omega (arith, w))
+before_partitioned p (x ∷ xs) s zero zero d l w h = h
+before_partitioned p (x ∷ xs) s zero (suc j) d l w h = before_down p x (get_or xs j d) (at (λ y. named_cmp x y ≡ Less) xs j d s.0 (omega (arith, w))) h
+before_partitioned p (x ∷ xs) s (suc i) zero d l w h = absurd (omega (arith, l))
+before_partitioned p (x ∷ xs) s (suc i) (suc j) d l w h = before_partitioned p xs s.1 i j d (omega (arith, l)) (omega (arith, w)) h
+
+abbrev pub IsPlaceOf : Named → List Named → ℕ → Type 0
+IsPlaceOf p xs i = IsPartitionPoint (λ q. is_before p q ≡ true) (λ q. is_before p q ≡ false) xs i
+
+place_within : (p x : Named) (xs : List Named) (i : ℕ) → IsPlaceOf p (x ∷ xs) (suc i) → IsPlaceOf p xs i
+place_within p x xs i h = (λ k d l w. h.0 (suc k) d (omega (arith, l)) (omega (arith, w)), λ k d l w. h.1 (suc k) d (omega (arith, l)) (omega (arith, w)))
+
+-- a label that is listed stands at its place
+pub place_is : (b : Named) (xs : List Named) (i : ℕ) → IsStrictlySortedBy named_cmp xs → In b xs → IsPlaceOf b xs i → slice_get xs i ≡ Some b
+unfolding IsStrictlySortedBy
+place_is b [] i s h p = absurd h
+place_is b (x ∷ xs) zero s (inl e) p = ap (λ y. Some y) (sym e)
+place_is b (x ∷ xs) zero s (inr h) p =
+    opposed (is_before b x) (ap is_lt (from_along (λ y. named_cmp x y ≡ Less) xs b s.0 h)) (p.1 0 x (omega arith) (omega arith))
+place_is b (x ∷ xs) (suc i) s (inl e) p =
+    let before : is_before b x ≡ true = p.0 0 x (omega arith) (omega arith) in
+    absurd (not_itself b (subst (λ (y : Named). named_cmp y b ≡ Less) (sym e) (less_is (named_cmp x b) before)))
+place_is b (x ∷ xs) (suc i) s (inr h) p = place_is b xs i s.1 h (place_within b x xs i p)
+
+pub stands_at : (b : Named) (xs ys : List Named) (i : ℕ) → IsStrictlySortedBy named_cmp xs → Contains xs b → ys ≡ xs → IsPlaceOf b ys i → slice_get xs i ≡ Some b
+stands_at b xs ys i s h e p = place_is b xs i s (In-from_Contains b xs h) (subst (λ (l : List Named). IsPlaceOf b l i) e p)
+
+pub stands_within : (b : Named) (xs ys : List Named) (i n : ℕ) → IsStrictlySortedBy named_cmp xs → Contains xs b → ys ≡ xs → IsPlaceOf b ys i → n ≡ length xs → i < n
+stands_within b xs ys i n s h e p long = subst (λ m. i < m) (sym long) (slice_get_within xs i b (stands_at b xs ys i s h e p))
+
+-- one more label goes to its place
+pub inserted_there : (p : Named) (xs : List Named) (i : ℕ) → i ≤ length xs → IsPlaceOf p xs i → insert xs i p ≡ inserted p xs
+inserted_there p [] zero w h = refl
+inserted_there p [] (suc i) w h = absurd (omega (arith, w))
+inserted_there p (x ∷ xs) zero w h = sym (ap (λ b. cond b (x ∷ inserted p xs) (p ∷ x ∷ xs)) (h.1 0 x (omega arith) (omega arith)))
+inserted_there p (x ∷ xs) (suc i) w h =
+    ap (λ l. x ∷ l) (inserted_there p xs i (omega (arith, w)) (place_within p x xs i h))
+    ∙ sym (ap (λ b. cond b (x ∷ inserted p xs) (p ∷ x ∷ xs)) (h.0 0 x (omega arith) (omega arith)))
+
+-- a label that belongs where another one stands takes its place
+pub set_there : (a b : Named) (xs : List Named) (i j : ℕ) → slice_get xs i ≡ Some b → IsPlaceOf a xs j → i ≤ j → j ≤ i + 1 → set xs i a ≡ inserted a (remove xs i)
+set_there a b [] i j e p l m = absurd (cc)
+set_there a b (x ∷ []) zero j e p l m = refl
+set_there a b (x ∷ y ∷ ys) zero j e p l m = sym (ap (λ t. cond t (y ∷ inserted a ys) (a ∷ y ∷ ys)) (p.1 1 y (omega (arith, m)) (omega arith)))
+set_there a b (x ∷ xs) (suc i) zero e p l m = absurd (omega (arith, l))
+set_there a b (x ∷ xs) (suc i) (suc j) e p l m =
+    ap (λ l. x ∷ l) (set_there a b xs i j e (place_within a x xs j p) (omega (arith, l)) (omega (arith, m)))
+    ∙ sym (ap (λ t. cond t (x ∷ inserted a (remove xs i)) (a ∷ x ∷ remove xs i)) (p.0 0 x (omega arith) (omega arith)))
+
+-- ---- the order stays
+abbrev IsBelow : Named → List Named → Type 0
+IsBelow x xs = AllByRecursion (λ y. named_cmp x y ≡ Less) xs
+
+below_further : (x y : Named) (ds : List Named) → named_cmp x y ≡ Less → IsBelow y ds → IsBelow x ds
+below_further x y [] h a = tt
+below_further x y (d ∷ ds) h a = (names_total.trans x y d h a.0, below_further x y ds h a.1)
+
+below_inserted : (x c : Named) (xs : List Named) → named_cmp x c ≡ Less → IsBelow x xs → IsBelow x (inserted c xs)
+below_inserted x c [] h a = (h, tt)
+below_inserted x c (d ∷ ds) h a =
+    elim (is_before c d) as (λ b. IsBelow x (cond b (d ∷ inserted c ds) (c ∷ d ∷ ds))) [ true ↦ (a.0, below_inserted x c ds h a.1) | false ↦ (h, a) ]
+
+turned : (o : Ordering) → is_lt o ≡ false → (o ≡ Equal → ⊥) → ordering_reverse o ≡ Less
+turned Less e n = absurd (cc)
+turned Equal e n = absurd (n refl)
+turned Greater e n = refl
+
+pub inserted_sorted : (c : Named) (xs : List Named) → IsStrictlySortedBy named_cmp xs → ((d : Named) → In d xs → named_cmp d c ≡ Equal → ⊥) → IsStrictlySortedBy named_cmp (inserted c xs)
+unfolding IsStrictlySortedBy
+inserted_sorted c [] s n = (tt, tt)
+inserted_sorted c (d ∷ ds) s n = by_test (is_before c d) refl (inserted_sorted c ds s.1 (λ e h. n e (inr h)))
+  where
+    by_test : (b : Bool) → is_before c d ≡ b → IsStrictlySortedBy named_cmp (inserted c ds) → IsStrictlySortedBy named_cmp (cond b (d ∷ inserted c ds) (c ∷ d ∷ ds))
+    by_test true e rest = (below_inserted d c ds (less_is (named_cmp d c) e) s.0, rest)
+    by_test false e rest =
+        let l : named_cmp c d ≡ Less = names_total.antisymm c d ∙ turned (named_cmp d c) e (n d (inl refl)) in
+        ((l, below_further c d ds l s.0), s)
+
+below_removed : (x : Named) (xs : List Named) (i : ℕ) → IsBelow x xs → IsBelow x (remove xs i)
+below_removed x [] zero a = tt
+below_removed x [] (suc i) a = tt
+below_removed x (d ∷ ds) zero a = a.1
+below_removed x (d ∷ ds) (suc i) a = (a.0, below_removed x ds i a.1)
+
+pub removed_sorted : (xs : List Named) (i : ℕ) → IsStrictlySortedBy named_cmp xs → IsStrictlySortedBy named_cmp (remove xs i)
+unfolding IsStrictlySortedBy
+removed_sorted [] zero s = tt
+removed_sorted [] (suc i) s = tt
+removed_sorted (d ∷ ds) zero s = s.1
+removed_sorted (d ∷ ds) (suc i) s = (below_removed d ds i s.0, removed_sorted ds i s.1)
+
+-- ---- what is listed then
+In-inserted : (p : Named) (xs : List Named) → In p (inserted p xs)
+In-inserted p [] = inl refl
+In-inserted p (x ∷ xs) = elim (is_before p x) as (λ b. In p (cond b (x ∷ inserted p xs) (p ∷ x ∷ xs))) [ true ↦ inr (In-inserted p xs) | false ↦ inl refl ]
+
+In-still : (p q : Named) (xs : List Named) → In q xs → In q (inserted p xs)
+In-still p q [] h = absurd h
+In-still p q (x ∷ xs) (inl e) = elim (is_before p x) as (λ b. In q (cond b (x ∷ inserted p xs) (p ∷ x ∷ xs))) [ true ↦ inl e | false ↦ inr (inl e) ]
+In-still p q (x ∷ xs) (inr h) = elim (is_before p x) as (λ b. In q (cond b (x ∷ inserted p xs) (p ∷ x ∷ xs))) [ true ↦ inr (In-still p q xs h) | false ↦ inr (inr h) ]
+
+In-from_inserted : (p q : Named) (xs : List Named) → In q (inserted p xs) → (q ≡ p) ⊎ In q xs
+In-from_inserted p q [] (inl e) = inl e
+In-from_inserted p q [] (inr h) = absurd h
+In-from_inserted p q (x ∷ xs) h = by_test (is_before p x) h (In-from_inserted p q xs)
+  where
+    by_test : (b : Bool) → In q (cond b (x ∷ inserted p xs) (p ∷ x ∷ xs)) → (In q (inserted p xs) → (q ≡ p) ⊎ In q xs) → (q ≡ p) ⊎ In q (x ∷ xs)
+    by_test true (inl e) rest = inr (inl e)
+    by_test true (inr k) rest = elim (rest k) [ inl e ↦ inl e | inr i ↦ inr (inr i) ]
+    by_test false (inl e) rest = inl e
+    by_test false (inr k) rest = inr k
+
+In-at : (xs : List Named) (i : ℕ) (b : Named) → slice_get xs i ≡ Some b → In b xs
+In-at [] i b e = absurd (cc)
+In-at (x ∷ xs) zero b e = inl (sym (same_Some x b e))
+In-at (x ∷ xs) (suc i) b e = inr (In-at xs i b e)
+
+In-removed : (xs : List Named) (i : ℕ) (b q : Named) → slice_get xs i ≡ Some b → In q xs → (q ≡ b → ⊥) → In q (remove xs i)
+In-removed [] i b q e h n = absurd (cc)
+In-removed (x ∷ xs) zero b q e (inl s) n = absurd (n (s ∙ same_Some x b e))
+In-removed (x ∷ xs) zero b q e (inr h) n = h
+In-removed (x ∷ xs) (suc i) b q e (inl s) n = inl s
+In-removed (x ∷ xs) (suc i) b q e (inr h) n = inr (In-removed xs i b q e h n)
+
+In-from_removed : (xs : List Named) (i : ℕ) (b q : Named) → IsStrictlySortedBy named_cmp xs → slice_get xs i ≡ Some b → In q (remove xs i) → In q xs × (q ≡ b → ⊥)
+unfolding IsStrictlySortedBy
+In-from_removed [] i b q s e h = absurd (cc)
+In-from_removed (x ∷ xs) zero b q s e h =
+    (inr h, λ r. not_itself b (subst (λ (y : Named). named_cmp y b ≡ Less) (same_Some x b e) (subst (λ (y : Named). named_cmp x y ≡ Less) r (from_along (λ y. named_cmp x y ≡ Less) xs q s.0 h))))
+In-from_removed (x ∷ xs) (suc i) b q s e (inl r) =
+    (inl r, λ t. not_itself b (subst (λ (y : Named). named_cmp y b ≡ Less) (sym r ∙ t) (from_along (λ y. named_cmp x y ≡ Less) xs b s.0 (In-at xs i b e))))
+In-from_removed (x ∷ xs) (suc i) b q s e (inr h) = let rest = In-from_removed xs i b q s.1 e h in (inr rest.0, rest.1)
+
+pub is_added : (p : Named) (xs : List Named) → IsAdded xs (inserted p xs) p
+is_added p xs = record {
+  keeps = λ q h. Contains-from_In q (inserted p xs) (In-still p q xs (In-from_Contains q xs h));
+  here = Contains-from_In p (inserted p xs) (In-inserted p xs);
+  only = λ q h. elim (In-from_inserted p q xs (In-from_Contains q (inserted p xs) h)) [ inl e ↦ inl e | inr i ↦ inr (Contains-from_In q xs i) ];
+}
+
+-- nothing that is listed compares alike with a label that isn't
+pub no_other : (c : Named) (xs : List Named) → (Contains xs c → ⊥) → (d : Named) → In d xs → named_cmp d c ≡ Equal → ⊥
+no_other c xs n d h e = n (Contains-from_In c xs (subst (λ (y : Named). In y xs) (same_named d c e) h))
+  where
+    same_named : (a b : Named) → named_cmp a b ≡ Equal → a ≡ b
+    same_named a b h =
+        let parts = exact_pairs (λ (x y : ℕ × ℕ). ordering_then (nat_cmp x.0 y.0) (nat_cmp x.1 y.1)) name_cmp (λ x y k. exact_pairs nat_cmp nat_cmp exact_unsigned exact_unsigned x y k) exact_bytes ((slot_of a.endpoint, generation_of a.endpoint), a.name) ((slot_of b.endpoint, generation_of b.endpoint), b.name) h in
+        let endpoint : a.endpoint ≡ b.endpoint = sym (holder_at-numbers a.endpoint) ∙ ap (λ (r : (ℕ × ℕ) × List ℕ). holder_at r.0) parts ∙ holder_at-numbers b.endpoint in
+        let name : a.name ≡ b.name = ap (λ (r : (ℕ × ℕ) × List ℕ). r.1) parts in
+        ap (λ (o : Option EndpointRecord). record { endpoint = o; name = a.name }) endpoint ∙ ap (λ (n : List ℕ). record { endpoint = b.endpoint; name = n }) name
+
+module _ (xs : List Named) (i : ℕ) (b a : Named) (s : IsStrictlySortedBy named_cmp xs) (e : slice_get xs i ≡ Some b) where
+  pub is_replaced : IsReplaced xs (inserted a (remove xs i)) b a
+  is_replaced = record {
+    keeps = λ q h n. Contains-from_In q (inserted a (remove xs i)) (In-still a q (remove xs i) (In-removed xs i b q e (In-from_Contains q xs h) n));
+    here = Contains-from_In a (inserted a (remove xs i)) (In-inserted a (remove xs i));
+    only = λ q h.
+        elim (In-from_inserted a q (remove xs i) (In-from_Contains q (inserted a (remove xs i)) h)) [
+          | inl r ↦ inl r
+          | inr k ↦ (let rest = In-from_removed xs i b q s e k in inr (Contains-from_In q xs rest.0, rest.1))
+        ];
+  }
+
+  pub replaced_sorted : (Contains xs a → a ≡ b) → IsStrictlySortedBy named_cmp (inserted a (remove xs i))
+  replaced_sorted lone =
+      inserted_sorted a (remove xs i) (removed_sorted xs i s) (no_other a (remove xs i) (λ h.
+      (let rest = In-from_removed xs i b a s e (In-from_Contains a (remove xs i) h) in
+      rest.1 (lone (Contains-from_In a xs rest.0)))))
+
+-- ---- the first of an endpoint
+-- what is before a name under the endpoint is under it
+under_down : (e : EndpointRecord) (x y : Named) → named_cmp x y ≡ Less → is_under e y ≡ true → is_under e x ≡ true
+under_down e x y l u = by_order (holder_cmp x.endpoint y.endpoint) refl l
+  where
+    by_order : (o : Ordering) → holder_cmp x.endpoint y.endpoint ≡ o → ordering_then o (name_cmp x.name y.name) ≡ Less → is_under e x ≡ true
+    by_order Less q l = ap is_lt (holders_total.trans x.endpoint y.endpoint (Some e) q (less_is (holder_cmp y.endpoint (Some e)) u))
+    by_order Equal q l = ap is_lt (holders_total.congr x.endpoint y.endpoint (Some e) q) ∙ u
+    by_order Greater q l = absurd (cc)
+
+-- and what is behind one above the endpoint isn't of it
+of_up : (e : EndpointRecord) (x y : Named) → named_cmp x y ≡ Less → holder_cmp x.endpoint (Some e) ≡ Greater → is_of e y ≡ false
+of_up e x y l g = by_order (is_of e y) refl
+  where
+    tied : (o : Ordering) → is_eq o ≡ true → o ≡ Equal
+    tied Less q = absurd (cc)
+    tied Equal q = refl
+    tied Greater q = absurd (cc)
+
+    not_greater : (o : Ordering) → o ≡ Greater → ordering_then o (name_cmp x.name y.name) ≡ Less → ⊥
+    not_greater Less q l = absurd (cc)
+    not_greater Equal q l = absurd (cc)
+    not_greater Greater q l = absurd (cc)
+
+    by_order : (b : Bool) → is_of e y ≡ b → b ≡ false
+    by_order false q = refl
+    by_order true q =
+        let back : holder_cmp (Some e) y.endpoint ≡ Equal = holders_total.antisymm (Some e) y.endpoint ∙ ap ordering_reverse (tied (holder_cmp y.endpoint (Some e)) q) in
+        let other : holder_cmp (Some e) x.endpoint ≡ Less = holders_total.antisymm (Some e) x.endpoint ∙ ap ordering_reverse g in
+        let above : holder_cmp y.endpoint x.endpoint ≡ Less = sym (holders_total.congr (Some e) y.endpoint x.endpoint back) ∙ other in
+        absurd (not_greater (holder_cmp x.endpoint y.endpoint) (holders_total.antisymm x.endpoint y.endpoint ∙ ap ordering_reverse above) l)
+
+pub under_partitioned : (e : EndpointRecord) (xs : List Named) → IsStrictlySortedBy named_cmp xs → IsPartitionedBy (is_under e) xs
+unfolding IsStrictlySortedBy
+under_partitioned e [] s i j d l w h = absurd (omega (arith, w))
+under_partitioned e (x ∷ xs) s zero zero d l w h = h
+under_partitioned e (x ∷ xs) s zero (suc j) d l w h = under_down e x (get_or xs j d) (at (λ y. named_cmp x y ≡ Less) xs j d s.0 (omega (arith, w))) h
+under_partitioned e (x ∷ xs) s (suc i) zero d l w h = absurd (omega (arith, l))
+under_partitioned e (x ∷ xs) s (suc i) (suc j) d l w h = under_partitioned e xs s.1 i j d (omega (arith, l)) (omega (arith, w)) h
+
+-- the element at the partition point is the first that fails the test
+pub first_behind : (p : Named → Bool) (xs : List Named) (i : ℕ) → IsPartitionPoint (λ y. p y ≡ true) (λ y. p y ≡ false) xs i → slice_get xs i ≡ find (λ y. not (p y)) xs
+first_behind p [] i h = refl
+first_behind p (x ∷ xs) zero h = sym (ap (λ b. cond (not b) (Some x) (find (λ y. not (p y)) xs)) (h.1 0 x (omega arith) (omega arith)))
+first_behind p (x ∷ xs) (suc i) h =
+    first_behind p xs i (λ k d l w. h.0 (suc k) d (omega (arith, l)) (omega (arith, w)), λ k d l w. h.1 (suc k) d (omega (arith, l)) (omega (arith, w)))
+    ∙ sym (ap (λ b. cond (not b) (Some x) (find (λ y. not (p y)) xs)) (h.0 0 x (omega arith) (omega arith)))
+
+none_of : (e : EndpointRecord) (x : Named) (xs : List Named) → IsBelow x xs → holder_cmp x.endpoint (Some e) ≡ Greater → find (is_of e) xs ≡ None
+none_of e x [] a g = refl
+none_of e x (y ∷ ys) a g = ap (λ b. cond b (Some y) (find (is_of e) ys)) (of_up e x y a.0 g) ∙ none_of e x ys a.1 g
+
+abbrev pub if_of : EndpointRecord → Option Named → Option Named
+if_of e None = None
+if_of e (Some p) = cond (is_of e p) (Some p) None
+
+-- the first that isn't under the endpoint is the first of it, or there is none
+pub first_found : (e : EndpointRecord) (xs : List Named) → IsStrictlySortedBy named_cmp xs → if_of e (find (λ (p : Named). not (is_under e p)) xs) ≡ find (is_of e) xs
+unfolding IsStrictlySortedBy
+first_found e [] s = refl
+first_found e (x ∷ xs) s = by_order (holder_cmp x.endpoint (Some e)) refl (first_found e xs s.1)
+  where
+    by_order : (o : Ordering) → holder_cmp x.endpoint (Some e) ≡ o → if_of e (find (λ (p : Named). not (is_under e p)) xs) ≡ find (is_of e) xs → if_of e (find (λ (p : Named). not (is_under e p)) (x ∷ xs)) ≡ find (is_of e) (x ∷ xs)
+    by_order Less q rest = ap (λ o. if_of e (cond (not (is_lt o)) (Some x) (find (λ (p : Named). not (is_under e p)) xs))) q ∙ rest ∙ sym (ap (λ o. cond (is_eq o) (Some x) (find (is_of e) xs)) q)
+    by_order Equal q rest = ap (λ o. if_of e (cond (not (is_lt o)) (Some x) (find (λ (p : Named). not (is_under e p)) xs))) q ∙ ap (λ o. cond (is_eq o) (Some x) None) q ∙ sym (ap (λ o. cond (is_eq o) (Some x) (find (is_of e) xs)) q)
+    by_order Greater q rest =
+        ap (λ o. if_of e (cond (not (is_lt o)) (Some x) (find (λ (p : Named). not (is_under e p)) xs))) q ∙ ap (λ o. cond (is_eq o) (Some x) None) q
+        ∙ sym (ap (λ o. cond (is_eq o) (Some x) (find (is_of e) xs)) q ∙ none_of e x xs s.0 q)
+
+pub sorted_nil : IsStrictlySortedBy named_cmp []
+unfolding IsStrictlySortedBy
+sorted_nil = tt

@@ -1,0 +1,37 @@
+use Rattle.std.proofs.Common.{◌≡◌, ◌≤◌, ◌+◌, List, length, ap, sym, ◌∙◌, subst, arith, rules}
+use Rattle.std.specs.List.{remove}
+use Rattle.std.specs.List.Sorted.{IsStrictlySortedBy}
+use Rattle.ds_index.specs.declared.named.Named.{Named}
+use Rattle.ds_index.specs.Named.{named_cmp, inserted}
+use Rattle.ds_index.proofs.NamedLemmas.{IsPlaceOf, stands_at, stands_within, set_there, removed_sorted}
+use Rattle.ds_index.proofs.index.replace.Goals as goal
+
+pub index_mut-requires : goal.index_mut-requires
+index_mut-requires c =
+    stands_within c.args.before.now c.args.names.now.items c.deref.result.now c.place_of-old.result _ c.requires.sorted c.requires.listed c.deref.ensures.value c.place_of-old.ensures.place (c.args.names.now.ok.0)
+
+pub remove-requires : goal.remove-requires
+remove-requires c =
+    stands_within c.args.before.now c.args.names.now.items c.deref.result.now c.place_of-old.result _ c.requires.sorted c.requires.listed c.deref.ensures.value c.place_of-old.ensures.place (c.args.names.now.ok.0)
+
+pub add-requires-clause-sorted : goal.add-requires-clause-sorted
+add-requires-clause-sorted c =
+    let left : c.remove.new.self.items ≡ remove c.args.names.now.items c.place_of-old.result = search rules in
+    subst (IsStrictlySortedBy named_cmp) (sym left) (removed_sorted c.args.names.now.items c.place_of-old.result c.requires.sorted)
+
+pub returns-then-stays : goal.returns-then-stays
+returns-then-stays c =
+    let here = stands_at c.args.before.now c.args.names.now.items c.deref.result.now c.place_of-old.result c.requires.sorted c.requires.listed c.deref.ensures.value c.place_of-old.ensures.place in
+    let near = c.stays.ensures c.if-stays.true in (
+      c.place_of-old.result,
+      here,
+      set_there c.args.after c.args.before.now c.args.names.now.items c.place_of-old.result c.place_of-new.result here (subst (λ (l : List Named). IsPlaceOf c.args.after l c.place_of-new.result) c.deref-2.ensures.value c.place_of-new.ensures.place) near.0 near.1,
+    )
+
+pub returns-else-stays : goal.returns-else-stays
+returns-else-stays c =
+    let left : c.remove.new.self.items ≡ remove c.args.names.now.items c.place_of-old.result = search rules in (
+      c.place_of-old.result,
+      stands_at c.args.before.now c.args.names.now.items c.deref.result.now c.place_of-old.result c.requires.sorted c.requires.listed c.deref.ensures.value c.place_of-old.ensures.place,
+      c.add.ensures ∙ ap (inserted c.args.after) left,
+    )

@@ -1,0 +1,23 @@
+-- What an index lists, and how that changes.
+use Rattle.std.specs.Prelude.{◌≡◌, ◌≢◌, ℕ, ◌⊎◌, List, Contains}
+use Rattle.ds_index.specs.declared.named.Named.{Named}
+
+-- the labels in their order, and for how many there is room
+pub record Listing : Type 0 where
+  pub names : List Named
+  pub room : ℕ
+
+abbrev pub listing : List Named → ℕ → Listing
+listing names room = record { names = names; room = room }
+
+-- one label more is listed, and otherwise the same
+pub record IsAdded (old new : List Named) (p : Named) : Type 0 where
+  pub keeps : (q : Named) → Contains old q → Contains new q
+  pub here : Contains new p
+  pub only : (q : Named) → Contains new q → (q ≡ p) ⊎ Contains old q
+
+-- the one is listed in place of the other, and otherwise the same
+pub record IsReplaced (old new : List Named) (before after : Named) : Type 0 where
+  pub keeps : (q : Named) → Contains old q → q ≢ before → Contains new q
+  pub here : Contains new after
+  pub only : (q : Named) → Contains new q → (q ≡ after) ⊎ (Contains old q × (q ≢ before))

@@ -1,0 +1,3 @@
+pub mod Named
+pub mod Index
+pub mod Indexed

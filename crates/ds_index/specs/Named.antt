@@ -1,0 +1,46 @@
+-- Labels in the order of their endpoints.
+use Rattle.std.specs.Prelude.{ℕ, suc, Bool, cond, List, [], ◌∷◌, Option, Some, None}
+use Rattle.std.specs.declared.cmp.Ordering.{Ordering}
+use Rattle.std.specs.Ordering.{nat_cmp, ordering_then, is_eq, is_lt}
+use Rattle.ds_names.specs.Endpoint.{EndpointRecord}
+use Rattle.ds_names.specs.Key.{name_cmp}
+use Rattle.ds_index.specs.declared.named.Named.{Named}
+
+-- the slot and one more, or 0 without an endpoint
+abbrev pub slot_of : Option EndpointRecord → ℕ
+slot_of None = 0
+slot_of (Some e) = suc e.slot
+
+-- the generation, or 0 without an endpoint
+abbrev pub generation_of : Option EndpointRecord → ℕ
+generation_of None = 0
+generation_of (Some e) = e.generation
+
+-- by slot, then by generation; before all endpoints comes none
+abbrev pub holder_cmp : Option EndpointRecord → Option EndpointRecord → Ordering
+holder_cmp a b = ordering_then (nat_cmp (slot_of a) (slot_of b)) (nat_cmp (generation_of a) (generation_of b))
+
+-- by endpoint, then by name
+abbrev pub named_cmp : Named → Named → Ordering
+named_cmp p q = ordering_then (holder_cmp p.endpoint q.endpoint) (name_cmp p.name q.name)
+
+-- the name with this endpoint
+abbrev pub named_at : Option EndpointRecord → List ℕ → Named
+named_at endpoint name = record { endpoint = endpoint; name = name }
+
+-- the other one stands before this one
+abbrev pub is_before : Named → Named → Bool
+is_before p q = is_lt (named_cmp q p)
+
+-- the label stands before all of the endpoint
+abbrev pub is_under : EndpointRecord → Named → Bool
+is_under e p = is_lt (holder_cmp p.endpoint (Some e))
+
+-- the label holds the endpoint
+abbrev pub is_of : EndpointRecord → Named → Bool
+is_of e p = is_eq (holder_cmp p.endpoint (Some e))
+
+-- the labels with one more, behind all that stand before it
+abbrev pub inserted : Named → List Named → List Named
+inserted p [] = p ∷ []
+inserted p (q ∷ qs) = cond (is_before p q) (q ∷ inserted p qs) (p ∷ q ∷ qs)

@@ -1,0 +1,83 @@
+//! Labels with their endpoints, and their order.
+
+ghost use Rattle.std.specs.Prelude.{◌≡◌};
+ghost use Rattle.ds_index.specs.Named.{slot_of, generation_of, holder_cmp, named_cmp, is_before, is_under, is_of};
+
+use ds_names::{Endpoint, Name};
+use std::cmp::Ordering;
+
+/// A label's name with the endpoint that it holds, if it is live.
+#[derive(Clone, Copy, Debug)]
+pub(crate) struct Named {
+    pub endpoint: Option<Endpoint>,
+    pub name: Name,
+}
+
+// The slot and one more, or 0 without an endpoint.
+fn slot_of(endpoint: &Option<Endpoint>) -> u16
+    ensures { result ≡ slot_of endpoint.now }
+{
+    match endpoint {
+        Some(endpoint) => endpoint.slot() + 1,
+        None => 0,
+    }
+}
+
+// The generation, or 0 without an endpoint.
+fn generation_of(endpoint: &Option<Endpoint>) -> u32
+    ensures { result ≡ generation_of endpoint.now }
+{
+    match endpoint {
+        Some(endpoint) => endpoint.generation().number(),
+        None => 0,
+    }
+}
+
+// By slot, then by generation; before all endpoints comes none.
+fn compare_endpoints(a: &Option<Endpoint>, b: &Option<Endpoint>) -> Ordering
+    ensures { result ≡ holder_cmp a.now b.now }
+{
+    match slot_of(a).cmp(&slot_of(b)) {
+        Ordering::Less => Ordering::Less,
+        Ordering::Greater => Ordering::Greater,
+        Ordering::Equal => generation_of(a).cmp(&generation_of(b)),
+    }
+}
+
+// By endpoint, then by name.
+fn compare(a: &Named, b: &Named) -> Ordering
+    ensures { result ≡ named_cmp a.now b.now }
+{
+    match compare_endpoints(&a.endpoint, &b.endpoint) {
+        Ordering::Less => Ordering::Less,
+        Ordering::Greater => Ordering::Greater,
+        Ordering::Equal => a.name.cmp(&b.name),
+    }
+}
+
+/// Whether the other one stands before this one.
+pub(crate) fn is_before(named: &Named, other: &Named) -> bool
+    ensures { result ≡ is_before named.now other.now }
+{
+    matches!(compare(other, named), Ordering::Less)
+}
+
+/// Whether the label stands before all of the endpoint.
+pub(crate) fn is_under(endpoint: Endpoint, named: &Named) -> bool
+    ensures { result ≡ is_under endpoint named.now }
+{
+    matches!(
+        compare_endpoints(&named.endpoint, &Some(endpoint)),
+        Ordering::Less
+    )
+}
+
+/// Whether the label holds the endpoint.
+pub(crate) fn is_of(endpoint: Endpoint, named: &Named) -> bool
+    ensures { result ≡ is_of endpoint named.now }
+{
+    matches!(
+        compare_endpoints(&named.endpoint, &Some(endpoint)),
+        Ordering::Equal
+    )
+}

@@ -1,0 +1,33 @@
+-- The laws of tops of items.
+use Rattle.std.specs.Prelude.{◌≡◌, List, [], ◌∷◌, ◌++◌, Contains}
+use Rattle.ds_entry.specs.ItemCovers.{covered_by, AreSingleNumbered}
+use Rattle.ds_entry.specs.declared.item.Item.{Item}
+use Rattle.ds_join.specs.ItemTop.{IsTop, tops, HasOneOwnerInTurn}
+
+-- a single-numbered set has a top
+abbrev pub TopExists : Type 0
+TopExists = (set : List Item) → AreSingleNumbered set → (held : List Item) × IsTop held set
+
+-- and only one
+abbrev pub TopIsUnique : Type 0
+TopIsUnique = (set held other : List Item) → AreSingleNumbered set → IsTop held set → IsTop other set → held ≡ other
+
+-- what is held is its own top
+abbrev pub HeldIsTop : Type 0
+HeldIsTop = (held set : List Item) → IsTop held set → IsTop held held
+
+-- `tops` gives a top of every list in which the changes of a key that aren't void have one owner, as they come
+abbrev pub TopsIsTop : Type 0
+TopsIsTop = (items : List Item) → HasOneOwnerInTurn items → IsTop (tops items) items
+
+-- the top of top(X) and Y is one of X and Y
+abbrev pub TopOfTop : Type 0
+TopOfTop = (xs ys top joined : List Item) → IsTop top xs → IsTop joined (top ++ ys) → IsTop joined (xs ++ ys)
+
+-- and where the items are single-numbered, the top of X and Y is one of top(X) and Y
+abbrev pub TopOfUnion : Type 0
+TopOfUnion = (xs ys top joined : List Item) → AreSingleNumbered (xs ++ ys) → IsTop top xs → IsTop joined (xs ++ ys) → IsTop joined (top ++ ys)
+
+-- the top of all known items that a known one covers is that one alone
+abbrev pub TopOfCovered : Type 0
+TopOfCovered = (i : Item) (known : List Item) → Contains known i → IsTop (i ∷ []) (covered_by i known)
