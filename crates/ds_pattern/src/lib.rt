@@ -6,10 +6,13 @@
 //! this project.
 #![tactic(auto)]
 
+mod asker;
 mod filter;
+mod parts;
 mod pattern;
 mod query;
 
+pub use asker::Asker;
 pub use filter::Filter;
-pub use pattern::{Pattern, PatternFault};
+pub use pattern::{MOST_PARTS, Pattern, PatternFault, SIZE_LIMIT};
 pub use query::{PatternText, Query};
