@@ -2,6 +2,7 @@
 import multiprocessing
 import os
 import pathlib
+import re
 import subprocess
 import sys
 from concurrent.futures import ProcessPoolExecutor
@@ -10,6 +11,8 @@ from typing import List, Optional
 
 TESTS = pathlib.Path(__file__).resolve().parent
 EXAMPLES = TESTS.parent / "examples"
+DOCUMENTS = TESTS.parent / "docs"
+SESSION = re.compile(r"^    > .*\n(?:    .*\n)*", re.MULTILINE)  # within a document
 SECONDS = 120  # the longest that one run may take, on a busy machine too
 
 
@@ -23,6 +26,15 @@ class Case:
     output: bytes
     status: int = 0
     error: Optional[bytes] = None  # None: any text where the status is above 1, no text otherwise
+
+
+@dataclass
+class Session:
+    """What somebody types and is answered, as a document shows it."""
+
+    name: str
+    typed: bytes
+    answered: bytes
 
 
 @dataclass
@@ -58,6 +70,19 @@ def all_cases():
     files = sorted(it for it in EXAMPLES.iterdir() if it.suffix in words)
     told = [Case(f"examples/{it.name}", words[it.suffix], it, it.with_suffix(".out").read_bytes()) for it in files]
     return [read_case(folder) for folder in folders] + told
+
+
+def all_sessions():
+    """Reads each session of the documents: a block of indented lines, of which those that are typed stand behind `>`."""
+    sessions = []
+    for document in sorted(DOCUMENTS.glob("*.md")):
+        blocks = [it.group().splitlines() for it in SESSION.finditer(document.read_text())]
+        for number, block in enumerate(blocks, 1):
+            lines = [it[4:].encode() for it in block]
+            typed = b"".join(it[2:] + b"\n" for it in lines if it.startswith(b"> "))
+            answered = b"".join(it + b"\n" for it in lines if not it.startswith(b"> "))
+            sessions.append(Session(f"docs/{document.name}: session {number}", typed, answered))
+    return sessions
 
 
 def run(words, given, environment=None):
@@ -101,6 +126,15 @@ def fault(case, ran):
         return wrong and f"standard error: {wrong}"
     if bool(ran.error) != (case.status > 1):
         return f"standard error is {ran.error[:200]!r} at status {ran.status}"
+    return None
+
+
+def session_fault(program, session):
+    """Says what is wrong with the answers to a session, or answers None."""
+    ran = run([program], session.typed)
+    wrong = difference(ran.output, session.answered)
+    if wrong or ran.status or ran.error:
+        return wrong or f"status {ran.status}; standard error: {ran.error[-200:]!r}"
     return None
 
 
