@@ -1,7 +1,8 @@
 //! Lists of changes.
 
-ghost use Rattle.std.specs.Prelude.{◌≡◌, ◌++◌, ◌∷◌, [], List, length, slice_get, OnOk, IfErr, OnErr, IfOk};
+ghost use Rattle.std.specs.Prelude.{◌≡◌, ◌++◌, ◌∷◌, [], All, List, length, slice_get, OnOk, IfErr, OnErr, IfOk};
 ghost use Rattle.std.specs.Option.{option_copied};
+ghost use Rattle.ds_entry.specs.Change.{IsChange};
 
 use crate::change::Change;
 use ds_names::NoRoom;
@@ -15,12 +16,14 @@ pub struct Items {
 }
 
 impl Model for Items {
-    ghost use Rattle.std.specs.Prelude.{List};
-    ghost use Rattle.ds_entry.specs.Change.{ChangeRecord};
+    ghost use Rattle.std.specs.Prelude.{All, List};
+    ghost use Rattle.ds_entry.specs.Change.{ChangeRecord, IsChange};
 
     ghost Value = { List ChangeRecord };
 
     ghost view = { λ a. a.changes.items };
+
+    ghost invariant = { λ a. All IsChange a.changes.items };
 }
 
 impl Items {
@@ -40,12 +43,14 @@ impl Items {
         ensures err { OnErr result (self.new ≡ self.old) }
         ensures back { IfErr result (λ back. back.value ≡ change) }
     {
+        let _key = change.key();
         self.changes.push(change)
     }
 
     /// How many changes it has.
     pub fn len(&self) -> usize
-        ensures { result ≡ length self.now }
+        ensures count { result ≡ length self.now }
+        ensures changes { All IsChange self.now }
     {
         self.changes.len()
     }

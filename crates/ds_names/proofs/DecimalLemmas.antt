@@ -1,5 +1,5 @@
 -- Runs, and the decimals among the runs of digits.
-use Rattle.std.proofs.Common.{inl, inr, ◌≡◌, ℕ, suc, ◌+◌, ◌-◌, ◌*◌, ◌^◌, ◌<◌, ◌≤◌, Bool, true, false, ◌&&◌, cond, List, [], ◌∷◌, ◌++◌, length, get_or, take, drop, append_assoc, refl, sym, ap, ◌∙◌, arith, rules}
+use Rattle.std.proofs.Common.{inl, inr, ◌≡◌, ℕ, suc, ◌+◌, ◌-◌, ◌*◌, ◌^◌, ◌<◌, ◌≤◌, Bool, true, false, ◌&&◌, cond, List, [], ◌∷◌, ◌++◌, length, get_or, take, drop, append_assoc, append-nil, refl, sym, ap, ◌∙◌, arith, rules}
 use Rattle.std.specs.List.{prefix_len, list_all}
 use Rattle.std.specs.Char.{is_ascii_digit, digit_value}
 use Rattle.std.specs.Fmt.{decimal}
@@ -119,6 +119,13 @@ endpoint_one bytes a b r s va vb ha hb =
     let behind : decimal a.slot ++ r ≡ decimal b.slot ++ s = ap (drop 1) first.1 in
     let second = decimal_one (decimal b.slot ++ s) a.slot b.slot r s (omega (arith, va.slot)) (omega (arith, vb.slot)) (record { parts = sym behind; ends = ha.ends }) pb.1 in
     (ap (λ (p : ℕ × ℕ). record { generation = p.0; slot = p.1 }) (let e : (a.generation, a.slot) ≡ (b.generation, b.slot) = rw (first.0, second.0) refl in e), second.1)
+
+-- endpoints with one text are one
+pub endpoint_text_one : (a b : EndpointRecord) → IsEndpoint a → IsEndpoint b → endpoint_text a ≡ endpoint_text b → a ≡ b
+endpoint_text_one a b va vb same =
+    let begins : Begins is_ascii_digit (endpoint_text a) (endpoint_text a) [] = record { parts = sym (append-nil (endpoint_text a)); ends = tt } in
+    let other : Begins is_ascii_digit (endpoint_text a) (endpoint_text b) [] = record { parts = same ∙ sym (append-nil (endpoint_text b)); ends = tt } in
+    (endpoint_one (endpoint_text a) a b [] [] va vb begins other).0
 
 -- where the number is read, what has to follow it
 pub endpoint_after : (bytes : List ℕ) (n : ℕ) (after : List ℕ) (a : EndpointRecord) (rest : List ℕ) → n ≤ 2097151 → Begins is_ascii_digit bytes (decimal n) after → IsEndpoint a → Begins is_ascii_digit bytes (endpoint_text a) rest

@@ -156,3 +156,8 @@ pub fn read_endpoint(bytes: &[u8]) -> Option<(u32, u16, &[u8])>
     let (slot, rest) = read_decimal(rest, 1023)?;
     Some((generation as u32, slot as u16, rest))
 }
+
+/// The law of endpoints' texts: no two endpoints have the same one.
+pub fn endpoints_have_one_text()
+    ensures { (a b : EndpointRecord) → IsEndpoint a → IsEndpoint b → endpoint_text a ≡ endpoint_text b → a ≡ b }
+{}

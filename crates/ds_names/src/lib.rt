@@ -14,7 +14,7 @@ mod room;
 mod version;
 
 pub use decimal::{read_byte, read_decimal};
-pub use endpoint::{BadEndpoint, Endpoint, Generation, read_endpoint};
+pub use endpoint::{BadEndpoint, Endpoint, Generation, endpoints_have_one_text, read_endpoint};
 pub use key::{Key, keys_are_ordered};
 pub use kind::{Kind, Kinds};
 pub use name::{Name, NameFault, is_name_byte};

@@ -1,4 +1,4 @@
-use Rattle.std.proofs.Common.{arith}
+use Rattle.std.proofs.Common.{◌≡◌, ℕ, List, ◌++◌, Result, Ok, Err, OnErr, ◌∙◌, arith}
 use Rattle.ds_script.proofs.PickLemmas.{lines_more, count_more}
 use Rattle.ds_script.proofs.shown.append_lines.Goals as goal
 
@@ -12,3 +12,11 @@ loop-index-preserved c =
       count = n.0;
       few = omega (arith, n.1, i.few);
     }
+
+-- where nothing was appended to what stands behind the old bytes, that stands there still
+some_behind : {X E : Type 0} (result : Result X E) (old part now new : List ℕ) → now ≡ old ++ part → OnErr result (new ≡ now) → OnErr result ((more : List ℕ) × (new ≡ old ++ more))
+some_behind (Ok x) old part now new behind same = tt
+some_behind (Err e) old part now new behind same = (part, same ∙ behind)
+
+pub returns-clause-some : goal.returns-clause-some
+returns-clause-some c = some_behind c.append_all.result c.args.output.now.items _ c.loop-index.output.items c.append_all.new.buffer.items c.loop-index.invariant.lines c.append_all.ensures.unchanged

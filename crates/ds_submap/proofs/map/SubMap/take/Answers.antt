@@ -30,7 +30,7 @@ unreachable-requires c =
     let none : None ≡ slice_get c.args.items.now c.loop-i.i = subst (λ o. option_copied o ≡ slice_get c.args.items.now c.loop-i.i) c.in_default.is c.get.ensures in
     elim (slice_get_cases c.args.items.now c.loop-i.i).1 [
       | inl h ↦ (let no : None ≡ Some h.0 = none ∙ h.2 in absurd (cc))
-      | inr h ↦ omega (arith, h.0, c.loop-i-test.true, c.len-i-end.ensures)
+      | inr h ↦ omega (arith, h.0, c.loop-i-test.true, c.len-i-end.ensures.count)
     ]
 
 pub take_one-requires : goal.take_one-requires
@@ -66,7 +66,7 @@ loop-i-preserved c =
     let taken = subst (λ (q : Query). IsItemTaken q mid c.in-Some.item.now c.in-Ok.answer c.take_one.new.held) c.loop-i.invariant.query c.in-Ok.ensures.taken in
     record {
       taking = taking_goes_on now.query now.held c.args.items.now c.loop-i.i mid c.loop-i.count c.in-Some.item.now c.take_one.new.held c.loop-i.invariant.taking (at (goal.at.loop-i-preserved c).In-Some) c.in-Ok.answer c.add.new.self
-          (omega (arith, c.loop-i-test.true, c.len-i-end.ensures)) taken c.in-Ok.ensures.own c.add.ensures;
+          (omega (arith, c.loop-i-test.true, c.len-i-end.ensures.count)) taken c.in-Ok.ensures.own c.add.ensures;
       query = c.loop-i.invariant.query;
     }
 
@@ -74,13 +74,13 @@ pub returns-clause-joined : goal.returns-clause-joined
 returns-clause-joined c =
     let now = c.args.self.now in
     let own : IsOwn now.held = subst (λ (m : SubMapRecord). IsOwn m.held) c.self.view_is c.self.invariant in
-    (taking_ends now.query now.held c.args.items.now c.loop-i.i c.loop-i.self-inside.held c.loop-i.count c.loop-i.invariant.taking own (omega (arith, c.loop-i-test.false, c.len-i-end.ensures))).1
+    (taking_ends now.query now.held c.args.items.now c.loop-i.i c.loop-i.self-inside.held c.loop-i.count c.loop-i.invariant.taking own (omega (arith, c.loop-i-test.false, c.len-i-end.ensures.count))).1
 
 pub returns-clause-counted : goal.returns-clause-counted
 returns-clause-counted c =
     let now = c.args.self.now in
     let own : IsOwn now.held = subst (λ (m : SubMapRecord). IsOwn m.held) c.self.view_is c.self.invariant in
-    (taking_ends now.query now.held c.args.items.now c.loop-i.i c.loop-i.self-inside.held c.loop-i.count c.loop-i.invariant.taking own (omega (arith, c.loop-i-test.false, c.len-i-end.ensures))).0
+    (taking_ends now.query now.held c.args.items.now c.loop-i.i c.loop-i.self-inside.held c.loop-i.count c.loop-i.invariant.taking own (omega (arith, c.loop-i-test.false, c.len-i-end.ensures.count))).0
 
 pub returns-clause-query : goal.returns-clause-query
 returns-clause-query c = c.loop-i.invariant.query
