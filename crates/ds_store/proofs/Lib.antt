@@ -1,6 +1,8 @@
-pub mod UnderLemmas
+pub mod PlaceLemmas
+pub mod RemarkLemmas
 pub mod FlagLemmas
 pub mod StandsLemmas
+pub mod KnownLemmas
 pub mod FaultLemmas
 pub mod AnswerLemmas
 pub mod MergeLemmas

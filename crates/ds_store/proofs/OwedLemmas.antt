@@ -1,5 +1,5 @@
 -- To whom several changes are owed.
-use Rattle.std.proofs.Common.{◌≡◌, ℕ, zero, suc, ◌+◌, ◌<◌, Bool, false, List, [], ◌∷◌, ◌++◌, map, fold, length, replicate, drop, get_or, Option, Some, None, Ok, refl, ap, ap₂, sym, ◌∙◌, append_assoc, append-nil, arith}
+use Rattle.std.proofs.Common.{◌≡◌, Bool, false, List, [], ◌∷◌, ◌++◌, map, fold, length, replicate, Option, Some, None, Ok, refl, ap, ap₂, sym, ◌∙◌, append_assoc, append-nil}
 use Rattle.std.proofs.lemmas.List.Folds.{list_any-append}
 use Rattle.std.proofs.lemmas.List.{length-map}
 use Rattle.std.specs.Option.{option_map}
@@ -15,9 +15,8 @@ use Rattle.ds_store.specs.Content.{Content}
 use Rattle.ds_watch.specs.Followed.{Followed, followed_of, owed_for, owed_each}
 use Rattle.ds_store.specs.Machine.{Course, item_merged, MergesItem}
 use Rattle.ds_store.specs.Stands.{Stands}
-use Rattle.ds_watch.specs.Owed.{either, any_of, flags_of}
-use Rattle.ds_store.specs.Owed.{owed_after}
-use Rattle.ds_watch.specs.declared.subscriptions.Owed.{Owed}
+use Rattle.ds_watch.specs.Mask.{either}
+use Rattle.ds_store.specs.Owed.{any_of, owed_after}
 use Rattle.ds_store.specs.declared.judging.Cause.TheVariants as causes
 use Rattle.ds_store.proofs.MarkLemmas.{owed_as}
 use Rattle.ds_store.proofs.MergeLemmas.{judged}
@@ -68,27 +67,3 @@ all_owed v s changes long stands =
 pub same_each : (u v : List (Option Followed)) (changes : List ChangeRecord) → ((key : Key) → owed_for key u ≡ owed_for key v) → owed_each u changes ≡ owed_each v changes
 same_each u v [] e = refl
 same_each u v (c ∷ changes) e = ap₂ ◌∷◌ (e c.key) (same_each u v changes e)
-
--- one flag list more, of the first of what is left
-pub each_added : (subs : List (Option Followed)) (done whole : List (List Bool)) (flags : List Bool) (t : ChangeRecord) (before after : List ChangeRecord) → before ≡ t ∷ after → flags ≡ owed_for t.key subs
-    → done ++ owed_each subs before ≡ whole → (done ++ flags ∷ []) ++ owed_each subs after ≡ whole
-each_added subs done whole flags t before after next is so_far =
-    append_assoc done (flags ∷ []) (owed_each subs after) ∙ ap (λ (f : List Bool). done ++ f ∷ owed_each subs after) is ∙ ap (λ (l : List ChangeRecord). done ++ owed_each subs l) (sym next) ∙ so_far
-
--- the flags of the next, and those left behind it
-pub record NextFlags (owed : List Owed) (i : ℕ) (flags : List Bool) (rest : List (List Bool)) : Type 0 where
-  pub within : i < length owed
-  pub here : (d : Owed) → flags_of (get_or owed i d) ≡ flags
-  pub left : map flags_of (drop (i + 1) owed) ≡ rest
-
-pub next_flags : (owed : List Owed) (i : ℕ) (flags : List Bool) (rest : List (List Bool)) → map flags_of (drop i owed) ≡ flags ∷ rest → NextFlags owed i flags rest
-next_flags [] zero flags rest e = absurd (cc)
-next_flags [] (suc i) flags rest e = absurd (cc)
-next_flags (o ∷ owed) zero flags rest e =
-    let first : flags_of o ≡ flags = cc in
-    let others : map flags_of owed ≡ rest = cc in
-    record { within = omega arith; here = λ d. first; left = others }
-next_flags (o ∷ owed) (suc i) flags rest e =
-    let more = next_flags owed i flags rest e in
-    let next : suc i + 1 ≡ suc (i + 1) = omega arith in
-    record { within = omega (arith, more.within); here = more.here; left = ap (λ n. map flags_of (drop n (o ∷ owed))) next ∙ more.left }

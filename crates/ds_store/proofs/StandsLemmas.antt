@@ -6,7 +6,7 @@ use Rattle.std.specs.declared.cmp.Ordering.TheVariants.{Less, Greater}
 use Rattle.std.specs.List.{AllByRecursion, find}
 use Rattle.std.specs.Option.{option_map}
 use Rattle.std.specs.Ordering.{eq_by_cmp, is_le, ordering_reverse}
-use Rattle.std.specs.FinMap.{entries, len-entries, len-empty}
+use Rattle.std.specs.FinMap.{FinMap, entries, len-entries, len-empty}
 use Rattle.ds_names.specs.declared.key.Key.{Key}
 use Rattle.ds_names.specs.declared.version.Version.{Version}
 use Rattle.ds_names.specs.Key.{key_cmp}
@@ -23,10 +23,11 @@ use Rattle.ds_join.proofs.HeldLemmas.{Contains-held, held_at_key}
 use Rattle.ds_join.proofs.NextLemmas.{found_among, none_left}
 use Rattle.ds_join.proofs.TopLemmas.{top_is_unique, top_of_top, held_apart}
 use Rattle.ds_join.proofs.ExistLemmas.{tops_is_top}
-use Rattle.ds_watch.specs.Followed.{Followed, followed_of}
+use Rattle.ds_watch.specs.Followed.{followed_of}
 use Rattle.ds_store.specs.Judging.{held_at, TakesEffect}
-use Rattle.ds_store.specs.Kept.{IsWatching}
-use Rattle.ds_watch.specs.Watching.{Watching}
+use Rattle.ds_watch.specs.declared.masks.Masks.{Masks}
+use Rattle.ds_watch.specs.Watching.{Watching, followed_from}
+use Rattle.ds_store.specs.Kept.{AreMarked}
 use Rattle.ds_store.specs.Stands.{WasAccepted}
 
 -- ---- what is held for a key, in the list and in the holding
@@ -136,7 +137,7 @@ tops_more accepted held c n m t =
     (tops_is_top (accepted ++ c ∷ []) m.one_owner)
 
 -- ---- a new store
-no_length : (xs : List ChangeRecord) → length xs ≡ 0 → xs ≡ []
+pub no_length : (xs : List ChangeRecord) → length xs ≡ 0 → xs ≡ []
 no_length [] e = refl
 no_length (x ∷ xs) e = absurd (omega (arith, e))
 
@@ -146,16 +147,19 @@ none_held = no_length (held_changes nothing_held) (count_held nothing_held ∙ l
 pub single_nothing : IsSingleNumbered []
 single_nothing = record { one_change = λ c d h. absurd (Contains-nil c h); one_owner = λ c d h. absurd (Contains-nil c h) }
 
-pub none_alike : {A B C : Type 0} (f : A → C) (g : B → C) (n : ℕ) → map (option_map f) (replicate n None) ≡ map (option_map g) (replicate n None)
-none_alike f g zero = refl
-none_alike f g (suc n) = ap (λ fs. None ∷ fs) (none_alike f g n)
+none_from : (hs gs : List ChangeRecord) (u : Key → List Bool) (place n : ℕ) → followed_from hs u place (replicate n None) ≡ map (option_map (followed_of gs)) (replicate n None)
+none_from hs gs u place zero = refl
+none_from hs gs u place (suc n) = ap (λ fs. None ∷ fs) (none_from hs gs u (suc place) n)
 
-pub none_followed : (hs : List ChangeRecord) (f : Watching → Followed) (ws : List (Option Watching)) → ws ≡ replicate 64 None → map (option_map f) ws ≡ map (option_map (followed_of hs)) (replicate 64 None)
-none_followed hs f ws e = ap (map (option_map f)) e ∙ none_alike f (followed_of hs) 64
+pub none_followed : (hs gs : List ChangeRecord) (u : Key → List Bool) (ws : List (Option Watching)) → ws ≡ replicate 64 None → followed_from hs u 0 ws ≡ map (option_map (followed_of gs)) (replicate 64 None)
+none_followed hs gs u ws e = ap (followed_from hs u 0) e ∙ none_from hs gs u 0 64
 
-pub none_watching : (held : List ChangeRecord) (n : ℕ) → AllByRecursion (IsWatching held) (replicate n None)
-none_watching held zero = tt
-none_watching held (suc n) = (tt, none_watching held n)
+-- nothing is marked where nothing is held
+pub none_marked : (hs : List ChangeRecord) (marks : FinMap key_cmp Masks) (ws : List (Option Watching)) → hs ≡ [] → AreMarked hs marks ws
+none_marked hs marks ws e = record {
+  under = λ c h. absurd (Contains-nil c (subst (λ (l : List ChangeRecord). Contains l c) e h));
+  long = λ c h. absurd (Contains-nil c (subst (λ (l : List ChangeRecord). Contains l c) e h));
+}
 
 none_shown : (accepted : List ChangeRecord) (n : ℕ) → AllByRecursion (WasAccepted accepted) (replicate n None)
 none_shown accepted zero = tt

@@ -5,3 +5,4 @@ pub mod Machine
 pub mod Owed
 pub mod Stands
 pub mod Kept
+pub mod Remarked

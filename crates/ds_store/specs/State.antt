@@ -4,7 +4,7 @@ use Rattle.ds_entry.specs.Change.{ChangeRecord}
 use Rattle.ds_join.specs.Top.{tops}
 use Rattle.ds_pattern.specs.declared.query.Query.{Query}
 use Rattle.ds_watch.specs.Subscription.{Subscription, is_unseen, is_owed}
-use Rattle.ds_watch.specs.Owed.{mask}
+use Rattle.ds_watch.specs.Mask.{mask}
 
 pub record State : Type 0 where
   -- the changes that took effect, in order; the one at index i has the position `first` + i

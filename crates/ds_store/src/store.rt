@@ -16,13 +16,15 @@ use crate::refusal::Refusal;
 use crate::search::name_of;
 use asking::{deleted, published};
 use ds_entry::{Body, Change};
-use ds_join::{Held, JoinFault, Merge};
+use ds_join::{Held, JoinFault, Marked, Merge};
 use ds_names::{Endpoint, Key, NoRoom};
-use ds_watch::{Owed, Subscriptions};
+use ds_watch::{Mask, Masks, Subscriptions};
+use marking::masks_of;
 use std::alloc::Global;
 use std::marker::Model;
 
 mod asking;
+mod marking;
 mod merging;
 mod subscribing;
 mod sweeping;
@@ -31,7 +33,7 @@ mod sweeping;
 #[derive(Drop)]
 pub struct Store {
     alloc: Global,
-    held: Held,
+    held: Marked<Masks>,
     first: u64,
     position: u64,
     ring: u32,
@@ -69,7 +71,7 @@ impl Store {
         }
         Ok(Store {
             alloc,
-            held: Held::new(alloc),
+            held: Marked::new(alloc),
             first,
             position: first,
             ring,
@@ -126,7 +128,7 @@ impl Store {
     pub fn held(&self) -> &Held
         ensures value { held_changes result.now ≡ self.now.held }
     {
-        &self.held
+        self.held.held()
     }
 
     /// The position of the next change: the first one's, and one more for each change that took effect.
@@ -144,9 +146,10 @@ impl Store {
         self.incarnation
     }
 
-    // A change against which nothing stands takes effect.
-    fn accept(&mut self, change: Change, owed: &Owed) -> Result<(), NoRoom>
-        requires owed { owed.now.flags ≡ owed_for change.key self.old.subscriptions }
+    // A change against which nothing stands takes effect, and is to be shown to all to which it is owed. That
+    // of a held key takes no memory.
+    fn accept(&mut self, change: Change, owed: Mask) -> Result<(), NoRoom>
+        requires owed { owed ≡ owed_for change.key self.old.subscriptions }
         requires taken { TakesEffect (held_at self.old.held change.key) (length self.old.held) change }
         requires room { self.old.position < last_place }
         ensures ok { OnOk result ((s : State) → Stands self.old s → Stands self.new (accepts s (change ∷ []))) }
@@ -156,28 +159,31 @@ impl Store {
         ensures err { OnErr result (self.new ≡ self.old) }
         ensures new_key { OnErr result (held_at self.old.held change.key ≡ None) }
     {
-        let _before = self.held.len();
-        let key = *change.key();
-        taken(self.held.merge(change))?;
-        let _after = self.held.len();
+        let _before = self.held.held();
+        taken(self.held.merge(change, Masks::fresh(owed)))?;
         self.position += 1;
-        self.subscriptions.mark(owed, &key);
         Ok(())
     }
 
-    // The subscriptions to which a change of the key is owed.
-    fn owed(&self, key: &Key) -> Result<Owed, NoRoom>
-        ensures { IfOk result (λ owed. owed.flags ≡ owed_for key.now self.now.subscriptions) }
+    // The subscriptions to which a change of the key is owed. For a held key it asks no pattern, and takes no
+    // memory.
+    fn owed(&self, key: &Key) -> Result<Mask, NoRoom>
+        ensures owed { IfOk result (λ owed. owed ≡ owed_for key.now self.now.subscriptions) }
+        ensures held { OnErr result (held_at self.now.held key.now ≡ None) }
     {
-        self.subscriptions.owed(self.alloc, key)
+        let _held = self.held.held();
+        match masks_of(&self.held, key) {
+            Some(masks) => Ok(masks.under()),
+            None => self.subscriptions.owed(self.alloc, key),
+        }
     }
 
     // To none of the subscriptions.
-    fn owed_to_none(&self) -> Owed
-        ensures { (s : State) → Stands self.now s → result.flags ≡ map (is_owed []) s.subscriptions }
+    fn owed_to_none(&self) -> Mask
+        ensures { (s : State) → Stands self.now s → result ≡ map (is_owed []) s.subscriptions }
     {
         let _places = &self.subscriptions;
-        Owed::none()
+        Mask::none()
     }
 
     // The value of a live entry. It takes memory only to copy a string or memory.
@@ -185,7 +191,8 @@ impl Store {
         ensures answer { (s : State) → Stands self.now s → Answers s (retrieving s key) result s }
         ensures in_place { IsKindInPlace key.kind → result ≢ Reply.Refused Refusal.NoRoom }
     {
-        let Some(change) = self.held.get(&key) else {
+        let held = self.held.held();
+        let Some(change) = held.get(&key) else {
             return Reply::Refused(Refusal::NotFound);
         };
         let Body::Put(value) = change.body() else {

@@ -1,4 +1,6 @@
 pub mod Subscription
 pub mod Followed
 pub mod Watching
-pub mod Owed
+pub mod Mask
+pub mod MaskBits
+pub mod Masks

@@ -5,8 +5,12 @@
 //! That there are 64 at most, and that stamps tell one check from another, is of this project.
 #![tactic(auto)]
 
+mod mask;
+mod masks;
 mod subscription;
 mod subscriptions;
 
-pub use subscription::{MOST_KEYS, Subscription};
-pub use subscriptions::{Owed, Subscriptions};
+pub use mask::Mask;
+pub use masks::Masks;
+pub use subscription::Subscription;
+pub use subscriptions::Subscriptions;

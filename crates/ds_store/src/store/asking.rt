@@ -202,8 +202,9 @@ impl Store {
         ensures taken { IfNone result (TakesEffect (held_at self.now.held asked.now.key) (length self.now.held) (change_asked caller.now asked.now body.now)) }
         ensures room { IfNone result (self.now.position < last_place) }
     {
-        let count = self.held.len();
-        let held = self.held.get(&asked.key);
+        let held = self.held.held();
+        let count = held.len();
+        let held = held.get(&asked.key);
         judge(asked, body, caller, held, count, self.position)
     }
 
@@ -226,8 +227,10 @@ impl Store {
             return Reply::Refused(Refusal::NoRoom);
         };
         let change = change_asked(asked, body, caller);
-        match self.accept(change, &owed) {
-            Ok(()) => Reply::Changed { owed: owed.mask() },
+        match self.accept(change, owed) {
+            Ok(()) => Reply::Changed {
+                owed: owed.number(),
+            },
             Err(NoRoom) => Reply::Refused(Refusal::NoRoom),
         }
     }

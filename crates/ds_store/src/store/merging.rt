@@ -15,7 +15,7 @@ use crate::store::Store;
 use ds_entry::{Change, Items};
 use ds_join::Merge;
 use ds_names::{Key, NoRoom};
-use ds_watch::Owed;
+use ds_watch::Mask;
 
 impl Store {
     // The first cause against a change that another holder gave.
@@ -24,14 +24,15 @@ impl Store {
         ensures taken { IfNone result (TakesEffect (held_at self.now.held change.now.key) (length self.now.held) change.now) }
         ensures room { IfNone result (self.now.position < last_place) }
     {
-        let count = self.held.len();
-        let held = self.held.get(change.key());
+        let held = self.held.held();
+        let count = held.len();
+        let held = held.get(change.key());
         judge_change(held, count, self.position, change)
     }
 
     // One item of a merge: it takes effect, is passed over, or is refused. Those to which it is owed are added.
-    fn merge_item(&mut self, item: &Change, total: &mut Owed) -> Result<Merge, Refusal>
-        ensures owed { total.new.flags ≡ owed_after result total.old.flags (owed_for item.now.key self.old.subscriptions) }
+    fn merge_item(&mut self, item: &Change, total: &mut Mask) -> Result<Merge, Refusal>
+        ensures owed { total.new ≡ owed_after result total.old (owed_for item.now.key self.old.subscriptions) }
         ensures queries { (key : Key) → owed_for key self.new.subscriptions ≡ owed_for key self.old.subscriptions }
         ensures step { (s : State) → Stands self.old s → (t : State) × MergesItem s item.now result t × Stands self.new t }
     {
@@ -47,9 +48,9 @@ impl Store {
         let Ok(change) = item.copy(self.alloc) else {
             return Err(Refusal::NoRoom);
         };
-        match self.accept(change, &owed) {
+        match self.accept(change, owed) {
             Ok(()) => {
-                total.add(&owed);
+                total.add(owed);
                 Ok(Merge::Taken)
             }
             Err(NoRoom) => Err(Refusal::NoRoom),
@@ -74,7 +75,7 @@ impl Store {
                     return Reply::MergeStopped {
                         done,
                         fault,
-                        owed: owed.mask(),
+                        owed: owed.number(),
                     };
                 }
             };
@@ -86,7 +87,7 @@ impl Store {
             done,
             taken,
             stale,
-            owed: owed.mask(),
+            owed: owed.number(),
         }
     }
 }

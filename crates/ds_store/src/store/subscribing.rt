@@ -1,27 +1,20 @@
 //! Subscriptions and their checks.
 
-ghost use Rattle.std.specs.Prelude.{◌≡◌, ◌<◌, ◌≤◌, ◌^◌, [], cond, None, is_some, slice_index_or, filter_map, IfOk, IfErr, OnOk};
-ghost use Rattle.std.specs.List.Sorted.{IsStrictlySortedBy};
-ghost use Rattle.std.specs.Vec.{vec_capacity};
-ghost use Rattle.ds_names.specs.Key.{key_cmp};
-ghost use Rattle.ds_join.specs.Held.{held_changes, held_for};
+ghost use Rattle.std.specs.Prelude.{◌≡◌, ◌<◌, ◌^◌, ◌&&◌, cond, None, is_some, slice_index_or, IfOk, IfErr, OnOk};
+ghost use Rattle.std.specs.List.{list_any};
 ghost use Rattle.ds_store.specs.State.{State, last_place};
 ghost use Rattle.ds_store.specs.Judging.{first_cause, against_subscribe};
-ghost use Rattle.ds_store.specs.Machine.{Answers, subscribing, checking, IsRefusedFor, owed_at_first, refusal_of};
-ghost use Rattle.ds_store.specs.Kept.{AreKept, keys_under};
-ghost use Rattle.ds_watch.specs.Watching.{watching};
+ghost use Rattle.ds_store.specs.Machine.{Answers, subscribing, checking, IsRefusedFor, refusal_of};
 ghost use Rattle.ds_store.specs.Stands.{Stands};
 
 use crate::command::Reply;
 use crate::judging::LAST_PLACE;
 use crate::refusal::Refusal;
 use crate::store::Store;
-use ds_entry::Items;
-use ds_join::Held;
-use ds_names::{Key, NoRoom};
+use crate::store::marking::{first_unseen, flags_under, make_all, show_first};
+use ds_names::NoRoom;
 use ds_pattern::{Filter, PatternFault, Query};
-use ds_watch::{MOST_KEYS, Subscription};
-use std::alloc::Global;
+use ds_watch::Subscription;
 
 // The refusal of a query whose pattern isn't read.
 fn refusal_of(fault: PatternFault) -> Refusal
@@ -34,44 +27,19 @@ fn refusal_of(fault: PatternFault) -> Refusal
     }
 }
 
-// The keys of what is held under the query, in their order, with room for those of a full store.
-fn keys_under(alloc: Global, filter: &Filter, held: &Held) -> Result<Vec<Key>, NoRoom>
-    ensures keys { IfOk result (λ keys. keys.items ≡ keys_under filter.now (held_changes held.now)) }
-    ensures in_order { OnOk result (IsStrictlySortedBy key_cmp (keys_under filter.now (held_changes held.now))) }
-    ensures room { IfOk result (λ keys. 1024 ≤ vec_capacity keys) }
+// Whether any of the flags is set.
+fn has_any(flags: &[bool]) -> bool
+    ensures { result ≡ list_any (λ b. b) flags.now }
 {
-    let _count = held.len();
-    let mut keys = Vec::with_capacity(alloc, MOST_KEYS)?;
-    let mut last: Option<Key> = None;
-    while let Some(change) = held.first_after(last.as_ref()) {
-        let key = *change.key();
-        if filter.admits(alloc, &key)? {
-            keys.push(key)?;
-        }
-        last = Some(key);
-    }
-    Ok(keys)
+    flags.iter().any(|flag| *flag)
 }
 
-// The changes that are held for the keys.
-fn changes_of(alloc: Global, held: &Held, keys: &[Key]) -> Result<Items, NoRoom>
-    ensures { IfOk result (λ items. items ≡ filter_map (held_for held.now) keys.now) }
-{
-    let mut items = Items::new(alloc);
-    for key in keys {
-        if let Some(change) = held.get(key) {
-            items.push(change.copy(alloc)?)?;
-        }
-    }
-    Ok(items)
-}
-
-// The bit of the subscription, where something is to be shown to it.
-fn own_bit(sub: u32, some: bool) -> u64
+// The bit of the subscription, where with INITIAL something is to be shown to it.
+fn own_bit(sub: u32, initial: bool, some: bool) -> u64
     requires { sub < 64 }
-    ensures { result ≡ cond some (2 ^ sub) 0 }
+    ensures { result ≡ cond (initial && some) (2 ^ sub) 0 }
 {
-    if some { 1 << sub } else { 0 }
+    if initial && some { 1 << sub } else { 0 }
 }
 
 impl Store {
@@ -99,19 +67,6 @@ impl Store {
         Ok(filter)
     }
 
-    // The subscription to a query at a stamp.
-    fn start(&self, filter: Filter, initial: bool, stamp: u64) -> Result<Subscription, NoRoom>
-        ensures made { IfOk result (λ made. made ≡ watching filter stamp (cond initial (keys_under filter self.now.held) [])) }
-        ensures kept { IfOk result (λ made. AreKept self.now.held made.unseen) }
-    {
-        let _count = self.held.len();
-        if !initial {
-            return Subscription::later(self.alloc, filter, stamp);
-        }
-        let unseen = keys_under(self.alloc, &filter, &self.held)?;
-        Ok(Subscription::initial(filter, stamp, unseen))
-    }
-
     // A subscription is made at the place, over another one only with `overwrite`.
     pub(super) fn subscribe(
         &mut self,
@@ -126,14 +81,19 @@ impl Store {
             Ok(filter) => filter,
             Err(refusal) => return Reply::Refused(refusal),
         };
-        let stamp = self.stamp + 1;
-        let Ok(subscription) = self.start(filter, initial, stamp) else {
+        let Ok(flags) = flags_under(self.alloc, &self.held, &filter) else {
             return Reply::Refused(Refusal::NoRoom);
         };
-        let owed = own_bit(sub, subscription.len() > 0);
-        self.stamp = stamp;
-        self.subscriptions.put(sub as usize, subscription);
-        Reply::Subscribed { stamp, owed }
+        let is_any = has_any(&flags);
+        let owed = own_bit(sub, initial, is_any);
+        self.stamp += 1;
+        make_all(&mut self.held, sub as usize, &flags, initial);
+        self.subscriptions
+            .put(sub as usize, Subscription::new(filter, self.stamp));
+        Reply::Subscribed {
+            stamp: self.stamp,
+            owed,
+        }
     }
 
     // The first `max` changes that are to be shown to the subscription at the place are shown.
@@ -149,13 +109,17 @@ impl Store {
         let Some(subscription) = self.subscriptions.get(sub as usize) else {
             return Reply::Refused(Refusal::NotFound);
         };
-        let _held = self.held.len();
+        let _held = self.held.held().len();
         let before = subscription.stamp();
-        let keys = subscription.first(max as usize);
-        let count = keys.len();
+        let shown = match first_unseen(self.alloc, &self.held, sub as usize, max as usize) {
+            Ok(shown) => shown,
+            Err(NoRoom) if self.stamp >= LAST_PLACE => return Reply::Refused(Refusal::Worn),
+            Err(NoRoom) => return Reply::Refused(Refusal::NoRoom),
+        };
+        let count = shown.items.len();
         if count == 0 {
             return Reply::Checked {
-                items: Items::new(self.alloc),
+                items: shown.items,
                 before,
                 after: before,
             };
@@ -163,13 +127,11 @@ impl Store {
         if self.stamp >= LAST_PLACE {
             return Reply::Refused(Refusal::Worn);
         }
-        let Ok(items) = changes_of(self.alloc, &self.held, keys) else {
-            return Reply::Refused(Refusal::NoRoom);
-        };
+        show_first(&mut self.held, shown.passed, sub as usize);
         self.stamp += 1;
-        self.subscriptions.show(sub as usize, count, self.stamp);
+        self.subscriptions.set_stamp(sub as usize, self.stamp);
         Reply::Checked {
-            items,
+            items: shown.items,
             before,
             after: self.stamp,
         }

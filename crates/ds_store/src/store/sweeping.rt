@@ -1,6 +1,6 @@
 //! Sweeps, which end the entries of an owner that is dead.
 
-ghost use Rattle.std.specs.Prelude.{◌≡◌, ◌<◌, ◌≤◌, ◌+◌, ◌++◌, ◌∷◌, [], length, map, is_some, true, IfOk, IfSome};
+ghost use Rattle.std.specs.Prelude.{◌≡◌, ◌<◌, ◌≤◌, ◌+◌, ◌++◌, ◌∷◌, [], length, is_some, true, IfSome};
 ghost use Rattle.std.specs.Option.{option_copied};
 ghost use Rattle.std.specs.List.{find};
 ghost use Rattle.std.specs.List.Sorted.{IsStrictlySortedBy};
@@ -9,7 +9,7 @@ ghost use Rattle.ds_entry.specs.Covers.{change_cmp};
 ghost use Rattle.ds_join.specs.Reading.{comes_after};
 ghost use Rattle.ds_join.specs.Top.{IsTop};
 ghost use Rattle.ds_store.specs.State.{State, accepts, last_place};
-ghost use Rattle.ds_watch.specs.Owed.{mask, any_of, flags_of};
+ghost use Rattle.ds_store.specs.Owed.{any_of};
 ghost use Rattle.ds_watch.specs.Followed.{owed_for, owed_each};
 ghost use Rattle.ds_store.specs.Judging.{held_at, is_swept, tombstone, tombstones, TakesPlace};
 ghost use Rattle.ds_store.specs.Machine.{Step};
@@ -21,7 +21,7 @@ use crate::refusal::Refusal;
 use crate::store::Store;
 use ds_entry::{Body, Change};
 use ds_names::{Endpoint, Generation, Key, Name, NoRoom, Version};
-use ds_watch::Owed;
+use ds_watch::Mask;
 
 // Whether a sweep ends the entry.
 fn is_swept(change: &Change, owner: &Name, generation: Generation) -> bool
@@ -56,8 +56,9 @@ impl Store {
         ensures in_order { IsStrictlySortedBy change_cmp self.now.held }
         ensures few { length self.now.held ≤ 1024 }
     {
-        let _count = self.held.len();
-        self.held.first_after(last)
+        let held = self.held.held();
+        let _count = held.len();
+        held.first_after(last)
     }
 
     // How many entries a sweep ends.
@@ -76,9 +77,20 @@ impl Store {
         count
     }
 
+    // The subscriptions to which a change of a held key is owed. It takes no memory.
+    fn owed_held(&self, key: &Key) -> Mask
+        requires { is_some (held_at self.now.held key.now) ≡ true }
+        ensures { result ≡ owed_for key.now self.now.subscriptions }
+    {
+        match self.owed(key) {
+            Ok(owed) => owed,
+            Err(NoRoom) => unreachable!(),
+        }
+    }
+
     // A change takes the place of a held one, which takes no memory.
-    fn replace(&mut self, change: Change, owed: &Owed)
-        requires owed { owed.now.flags ≡ owed_for change.key self.old.subscriptions }
+    fn replace(&mut self, change: Change, owed: Mask)
+        requires owed { owed ≡ owed_for change.key self.old.subscriptions }
         requires place { TakesPlace (held_at self.old.held change.key) change }
         requires room { self.old.position < last_place }
         ensures stands { (s : State) → Stands self.old s → Stands self.new (accepts s (change ∷ [])) }
@@ -92,40 +104,25 @@ impl Store {
         }
     }
 
-    // To which subscriptions each tombstone of a sweep is owed, in key order.
-    fn owed_swept(&self, owner: &Name, generation: Generation) -> Result<Vec<Owed>, NoRoom>
-        ensures { IfOk result (λ all. map flags_of all.items ≡ owed_each self.now.subscriptions (tombstones self.now.held owner.now generation)) }
+    // The tombstones of a sweep take effect in key order. It gives the subscriptions to which any is owed.
+    fn end_all(&mut self, owner: &Name, generation: Generation) -> Mask
+        requires { self.old.position + length (tombstones self.old.held owner.now generation) ≤ last_place }
+        ensures stands { (s : State) → Stands self.old s → Stands self.new (accepts s (tombstones self.old.held owner.now generation)) }
+        ensures owed { result ≡ any_of (owed_each self.old.subscriptions (tombstones self.old.held owner.now generation)) }
     {
-        let mut all = Vec::new(self.alloc);
-        let mut last: Option<Key> = None;
-        while let Some(change) = self.next(last.as_ref()) {
-            let key = *change.key();
-            if is_swept(change, owner, generation) {
-                all.push(self.owed(&key)?)?;
-            }
-            last = Some(key);
-        }
-        Ok(all)
-    }
-
-    // The tombstones of a sweep take effect in key order.
-    fn end_all(&mut self, owner: &Name, generation: Generation, owed: &[Owed])
-        requires owed { map flags_of owed.now ≡ owed_each self.old.subscriptions (tombstones self.old.held owner.now generation) }
-        requires few { length owed.now ≤ 1024 }
-        requires room { self.old.position + length (tombstones self.old.held owner.now generation) ≤ last_place }
-        ensures { (s : State) → Stands self.old s → Stands self.new (accepts s (tombstones self.old.held owner.now generation)) }
-    {
-        let mut done = 0;
+        let mut total = Mask::none();
         let mut last: Option<Key> = None;
         while let Some(change) = self.next(last.as_ref()) {
             let key = *change.key();
             if is_swept(change, owner, generation) {
                 let tombstone = tombstone(change, owner, generation);
-                self.replace(tombstone, &owed[done]);
-                done += 1;
+                let owed = self.owed_held(&key);
+                self.replace(tombstone, owed);
+                total.add(owed);
             }
             last = Some(key);
         }
+        total
     }
 
     // RS ends all live entries of an owner, labels aside, up to a generation.
@@ -139,24 +136,10 @@ impl Store {
         if count as u64 > LAST_PLACE - self.position {
             return Reply::Refused(Refusal::Worn);
         }
-        let Ok(owed) = self.owed_swept(owner, generation) else {
-            return Reply::Refused(Refusal::NoRoom);
-        };
-        self.end_all(owner, generation, &owed);
+        let owed = self.end_all(owner, generation);
         Reply::Swept {
             count,
-            owed: mask_of_all(&owed),
+            owed: owed.number(),
         }
     }
-}
-
-// The mask of the subscriptions to which any of the changes is owed.
-fn mask_of_all(all: &[Owed]) -> u64
-    ensures { result ≡ mask (any_of (map flags_of all.now)) }
-{
-    let mut total = Owed::none();
-    for owed in all {
-        total.add(owed);
-    }
-    total.mask()
 }

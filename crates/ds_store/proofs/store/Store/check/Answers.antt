@@ -1,119 +1,141 @@
-use Rattle.std.proofs.Common.{◌≡◌, ◌<◌, ◌≤◌, ◌+◌, ◌++◌, List, Option, Some, None, false, is_some, length, map, set, get_or, take, [], refl, ap, sym, ◌∙◌, subst, arith}
+use Rattle.std.proofs.Common.{◌≡◌, ◌<◌, ◌≤◌, ◌+◌, ◌++◌, List, Option, Some, None, false, is_some, length, set, get_or, take, [], refl, ap, sym, ◌∙◌, subst, arith}
 use Rattle.std.proofs.lemmas.List.{length-set}
-use Rattle.std.specs.List.{AllByRecursion, filter_map}
 use Rattle.std.specs.Option.{option_map}
-use Rattle.ds_names.specs.declared.key.Key.{Key}
 use Rattle.ds_entry.specs.Change.{ChangeRecord}
-use Rattle.ds_join.specs.Held.{held_changes, held_for}
+use Rattle.ds_join.specs.Held.{Holding, held_changes}
 use Rattle.ds_join.proofs.HeldLemmas.{held_in_order}
+use Rattle.ds_watch.specs.Followed.{followed_of}
+use Rattle.ds_watch.specs.Watching.{Watching, watching, stamped, followed_by, followed_from}
 use Rattle.ds_store.specs.State.{last_place, subscribes, subscription_at}
 use Rattle.ds_store.specs.Content.{Content}
-use Rattle.ds_store.specs.Kept.{AreKept, IsWatching, followed_by, content_of}
+use Rattle.ds_store.specs.Kept.{AreMarked, unseen_at, content_of}
 use Rattle.ds_store.specs.Machine.{Answers, checking}
 use Rattle.ds_store.specs.Stands.{Stands}
-use Rattle.ds_watch.specs.Watching.{Watching, shown}
 use Rattle.ds_store.specs.declared.judging.Cause.TheVariants.{NotFound}
 use Rattle.ds_store.specs.declared.command.Reply.TheVariants.{Checked}
-use Rattle.ds_store.proofs.CheckLemmas.{all_set, all_at, at_map, is_some-map, kept_drop}
+use Rattle.ds_store.proofs.CheckLemmas.{at_from, is_some-map, to_show_is, shown_so}
 use Rattle.ds_store.proofs.JudgeLemmas.{check_found}
-use Rattle.ds_store.proofs.SubscribeLemmas.{twin, taken_same, check_refused, check_empty, check_worn, check_done, checked_stands, items_are, to_show}
+use Rattle.ds_store.proofs.RemarkLemmas.{check_others, check_first, check_rest, checked_marked}
+use Rattle.ds_store.proofs.StandsLemmas.{no_length}
+use Rattle.ds_store.proofs.SubscribeLemmas.{Twin, twin, taken_same, check_refused, check_empty, check_worn, check_done, taken_any, flagged_any, stands_subscribed, shown_part, first_are, to_show}
 use Rattle.ds_store.proofs.store.Store.check.Goals as goal
-use Rattle.ds_store.proofs.store.Store.check.Goals.{In-Some, After-show}
+use Rattle.ds_store.proofs.store.Store.check.Goals.{After-set_stamp}
 
 pub returns-in_default : goal.returns-in_default
 returns-in_default c = λ s stands.
     let v = content_of c.self.inside in
+    let u = unseen_at c.self.inside.held.marks in
     let here : Stands v s = subst (λ (x : Content). Stands x s) (sym c.self.view_is) stands in
     let place : c.args.sub < 64 = omega (arith, c.if-sub-ge64.false) in
     let low : 0 < c.args.max = omega (arith, c.if-max-eq0.false) in
     let high : c.args.max ≤ 256 = omega (arith, c.if-max-gt256.false) in
     let none : is_some (subscription_at s c.args.sub) ≡ false =
-    sym (taken_same v s here c.args.sub) ∙ ap is_some (at_map (followed_by v.held) c.self.inside.subscriptions c.args.sub) ∙ is_some-map (followed_by v.held) (get_or c.self.inside.subscriptions c.args.sub None)
+    sym (taken_same v s here c.args.sub) ∙ ap is_some (at_from v.held u 0 c.self.inside.subscriptions c.args.sub c.args.sub (omega arith)) ∙ is_some-map (followed_by v.held u c.args.sub) (get_or c.self.inside.subscriptions c.args.sub None)
     ∙ ap is_some (sym c.in_default.ensures) in (
       s,
       check_refused s c.args.sub c.args.max NotFound (λ some stamp. check_found (is_some (subscription_at s c.args.sub)) some stamp c.args.sub c.args.max place low high none),
       stands,
     )
 
--- the subscription is one of those that are kept
-kept_at : (c : In-Some) → AreKept (held_changes c.self.inside.held) c.in-Some.subscription.now.unseen
-kept_at c = subst (IsWatching (held_changes c.self.inside.held)) (sym c.in-Some.ensures) (all_at (IsWatching (held_changes c.self.inside.held)) c.self.inside.subscriptions c.args.sub tt c.self.invariant.watching)
-
 pub returns-then-count-eq0 : goal.returns-then-count-eq0
 returns-then-count-eq0 c = λ s stands.
     let v = content_of c.self.inside in
+    let u = unseen_at c.self.inside.held.marks in
     let w = c.in-Some.subscription.now in
     let here : Stands v s = subst (λ (x : Content). Stands x s) (sym c.self.view_is) stands in
-    let t = twin v s c.args.sub c.self.inside.subscriptions w here refl (sym c.in-Some.ensures) in
-    let sorted = held_in_order c.self.inside.held c.len-held.ensures.own in
-    let kept = kept_at (goal.at.returns-then-count-eq0 c).In-Some in
+    let t = twin v s c.args.sub u c.self.inside.subscriptions w here refl (sym c.in-Some.ensures) in
+    let sorted = held_in_order c.self.inside.held.held c.held.ensures.own in
     let place : c.args.sub < 64 = omega (arith, c.if-sub-ge64.false) in
     let low : 0 < c.args.max = omega (arith, c.if-max-eq0.false) in
     let high : c.args.max ≤ 256 = omega (arith, c.if-max-gt256.false) in
-    let none : length (take c.args.max w.unseen) ≡ 0 = ap (λ (l : List Key). length l) (sym c.first-keys.ensures.first) ∙ c.if-count-eq0.true in (
+    let items : c.in-Ok.shown.items ≡ take c.args.max (to_show v s here c.args.sub c.args.max u w t place low high) =
+    first_are c.self.inside.held c.args.sub c.args.max c.in-Ok.shown.items c.in-Ok.shown.passed c.in-Ok.ensures.first ∙ ap (take c.args.max) (to_show_is v.held sorted u c.args.sub w t.seer t.same) in
+    let nothing : length c.in-Ok.shown.items ≡ 0 = sym c.len-count.ensures ∙ c.if-count-eq0.true in
+    let none : length (take c.args.max (to_show v s here c.args.sub c.args.max u w t place low high)) ≡ 0 = ap (λ (l : List ChangeRecord). length l) (sym items) ∙ nothing in (
       s,
-      subst (λ (l : List ChangeRecord). Answers s (checking s c.args.sub c.args.max) (Checked l c.stamp-before.result c.stamp-before.result) s) (sym c.new.ensures)
-          (subst (λ n. Answers s (checking s c.args.sub c.args.max) (Checked [] n n) s) (sym c.stamp-before.ensures) (check_empty v s here c.args.sub c.args.max w t sorted kept place low high none)),
+      subst (λ (l : List ChangeRecord). Answers s (checking s c.args.sub c.args.max) (Checked l c.stamp-before.result c.stamp-before.result) s) (sym (no_length c.in-Ok.shown.items nothing))
+          (subst (λ n. Answers s (checking s c.args.sub c.args.max) (Checked [] n n) s) (sym c.stamp-before.ensures) (check_empty v s here c.args.sub c.args.max u w t place low high none)),
       stands,
     )
 
-pub returns-then-self-ge-LAST_PLACE : goal.returns-then-self-ge-LAST_PLACE
-returns-then-self-ge-LAST_PLACE c = λ s stands.
+pub returns-then-self-ge-LAST_PLACE-2 : goal.returns-then-self-ge-LAST_PLACE-2
+returns-then-self-ge-LAST_PLACE-2 c = λ s stands.
     let v = content_of c.self.inside in
+    let u = unseen_at c.self.inside.held.marks in
     let w = c.in-Some.subscription.now in
     let here : Stands v s = subst (λ (x : Content). Stands x s) (sym c.self.view_is) stands in
-    let t = twin v s c.args.sub c.self.inside.subscriptions w here refl (sym c.in-Some.ensures) in
-    let sorted = held_in_order c.self.inside.held c.len-held.ensures.own in
-    let kept = kept_at (goal.at.returns-then-self-ge-LAST_PLACE c).In-Some in
+    let t = twin v s c.args.sub u c.self.inside.subscriptions w here refl (sym c.in-Some.ensures) in
+    let sorted = held_in_order c.self.inside.held.held c.held.ensures.own in
     let place : c.args.sub < 64 = omega (arith, c.if-sub-ge64.false) in
     let low : 0 < c.args.max = omega (arith, c.if-max-eq0.false) in
     let high : c.args.max ≤ 256 = omega (arith, c.if-max-gt256.false) in
-    let some : 0 < length (take c.args.max w.unseen) = omega (arith, ap (λ (l : List Key). length l) c.first-keys.ensures.first, c.if-count-eq0.false) in
-    (s, check_worn v s here c.args.sub c.args.max w t sorted kept place low high some c.if-self-ge-LAST_PLACE.true, stands)
+    let items : c.in-Ok.shown.items ≡ take c.args.max (to_show v s here c.args.sub c.args.max u w t place low high) =
+    first_are c.self.inside.held c.args.sub c.args.max c.in-Ok.shown.items c.in-Ok.shown.passed c.in-Ok.ensures.first ∙ ap (take c.args.max) (to_show_is v.held sorted u c.args.sub w t.seer t.same) in
+    let some : 0 < length (take c.args.max (to_show v s here c.args.sub c.args.max u w t place low high)) = omega (arith, ap (λ (l : List ChangeRecord). length l) items, c.len-count.ensures, c.if-count-eq0.false) in
+    (s, check_worn v s here c.args.sub c.args.max u w t place low high (taken_any v s here c.args.sub c.args.max u w t place low high some) c.if-self-ge-LAST_PLACE-2.true, stands)
+
+-- what wants memory is to be shown, and takes a stamp
+pub returns-in-Err : goal.returns-in-Err
+returns-in-Err c = λ s stands.
+    let v = content_of c.self.inside in
+    let u = unseen_at c.self.inside.held.marks in
+    let w = c.in-Some.subscription.now in
+    let here : Stands v s = subst (λ (x : Content). Stands x s) (sym c.self.view_is) stands in
+    let t = twin v s c.args.sub u c.self.inside.subscriptions w here refl (sym c.in-Some.ensures) in
+    let place : c.args.sub < 64 = omega (arith, c.if-sub-ge64.false) in
+    let low : 0 < c.args.max = omega (arith, c.if-max-eq0.false) in
+    let high : c.args.max ≤ 256 = omega (arith, c.if-max-gt256.false) in
+    (s, check_worn v s here c.args.sub c.args.max u w t place low high (flagged_any v s here c.args.sub c.args.max u w t place low high c.in-Err.ensures.refused) c.if-self-ge-LAST_PLACE.true, stands)
 
 -- the places after the check
-places : (c : After-show) → c.show.new.self ≡ set c.self.inside.subscriptions c.args.sub (Some (shown (length c.first-keys.result.now) (c.self.inside.stamp + 1) c.in-Some.subscription.now))
+places : (c : After-set_stamp) → c.set_stamp.new.self ≡ set c.self.inside.subscriptions c.args.sub (Some (watching c.in-Some.subscription.now.query (c.self.inside.stamp + 1)))
 places c =
-    c.show.ensures ∙ ap (λ o. set c.self.inside.subscriptions c.args.sub (option_map (shown (length c.first-keys.result.now) (c.self.inside.stamp + 1)) o)) (sym c.in-Some.ensures)
+    c.set_stamp.ensures ∙ ap (λ o. set c.self.inside.subscriptions c.args.sub (option_map (stamped (c.self.inside.stamp + 1)) o)) (sym c.in-Some.ensures)
 
 pub invariant_of-self : goal.invariant_of-self
 invariant_of-self c =
-    let hs = held_changes c.self.inside.held in
-    let w = c.in-Some.subscription.now in
-    let n = length c.first-keys.result.now in
+    let d = (goal.at.invariant_of-self c).After-set_stamp in
+    let w = watching c.in-Some.subscription.now.query (c.self.inside.stamp + 1) in
     record {
       position = c.self.invariant.position;
-      stamp = omega (arith, c.if-self-ge-LAST_PLACE.false);
-      places = ap (λ (l : List (Option Watching)). length l) (places (goal.at.invariant_of-self c).After-show) ∙ length-set c.self.inside.subscriptions c.args.sub (Some (shown n (c.self.inside.stamp + 1) w)) ∙ c.self.invariant.places;
-      watching = subst (AllByRecursion (IsWatching hs)) (sym (places (goal.at.invariant_of-self c).After-show))
-          (all_set (IsWatching hs) c.self.inside.subscriptions c.args.sub (Some (shown n (c.self.inside.stamp + 1) w)) (kept_drop n hs w.unseen (kept_at (goal.at.invariant_of-self c).In-Some)) c.self.invariant.watching);
+      stamp = omega (arith, c.if-self-ge-LAST_PLACE-2.false);
+      places = ap (λ (l : List (Option Watching)). length l) (places d) ∙ length-set c.self.inside.subscriptions c.args.sub (Some w) ∙ c.self.invariant.places;
+      marked = subst (λ ws. AreMarked (held_changes c.show_first.new.held.held) c.show_first.new.held.marks ws) (sym (places d))
+          (subst (λ (h : Holding). AreMarked (held_changes h) c.show_first.new.held.marks (set c.self.inside.subscriptions c.args.sub (Some w))) (sym c.show_first.ensures.held)
+          (checked_marked c.self.inside.held c.show_first.new.held c.in-Ok.shown.passed c.args.sub c.show_first.ensures c.self.inside.subscriptions c.in-Some.subscription.now (c.self.inside.stamp + 1) (sym c.in-Some.ensures) c.self.invariant.marked));
     }
 
 pub returns : goal.returns
 returns c = λ s stands.
+    let d = (goal.at.returns c).After-set_stamp in
     let v = content_of c.self.inside in
+    let old = c.self.inside.held in
+    let new = c.show_first.new.held in
+    let u = unseen_at old.marks in
     let w = c.in-Some.subscription.now in
     let sub = c.args.sub in
     let max = c.args.max in
+    let shown = c.in-Ok.shown in
     let here : Stands v s = subst (λ (x : Content). Stands x s) (sym c.self.view_is) stands in
-    let t = twin v s sub c.self.inside.subscriptions w here refl (sym c.in-Some.ensures) in
-    let sorted = held_in_order c.self.inside.held c.len-held.ensures.own in
-    let kept = kept_at (goal.at.returns c).In-Some in
+    let t : Twin v s sub u w = twin v s sub u c.self.inside.subscriptions w here refl (sym c.in-Some.ensures) in
+    let sorted = held_in_order old.held c.held.ensures.own in
     let place : sub < 64 = omega (arith, c.if-sub-ge64.false) in
     let low : 0 < max = omega (arith, c.if-max-eq0.false) in
     let high : max ≤ 256 = omega (arith, c.if-max-gt256.false) in
-    let keys = c.first-keys.ensures.first in
-    let count : length c.first-keys.result.now ≡ length (take max w.unseen) = ap (λ (l : List Key). length l) keys in
-    let some : 0 < length (take max w.unseen) = omega (arith, count, c.if-count-eq0.false) in
-    let fresh : v.stamp < last_place = omega (arith, c.if-self-ge-LAST_PLACE.false) in
-    let items : c.in-Ok.items ≡ take max (to_show v s here sub max w t sorted kept place low high) =
-    c.in-Ok.ensures ∙ ap (filter_map (held_for c.self.inside.held)) keys ∙ items_are v s here sub max w t sorted kept place low high c.self.inside.held c.len-held.ensures.own refl in
-    let state = subscribes s sub t.seer.query (t.seer.shown ++ take (length (take max w.unseen)) (to_show v s here sub max w t sorted kept place low high)) in
-    let after : c.show.new.self ≡ set c.self.inside.subscriptions sub (Some (shown (length (take max w.unseen)) (v.stamp + 1) w)) =
-    places (goal.at.returns c).After-show ∙ ap (λ n. set c.self.inside.subscriptions sub (Some (shown n (v.stamp + 1) w))) count in (
+    let items : shown.items ≡ take max (to_show v s here sub max u w t place low high) =
+    first_are old sub max shown.items shown.passed c.in-Ok.ensures.first ∙ ap (take max) (to_show_is v.held sorted u sub w t.seer t.same) in
+    let some : 0 < length (take max (to_show v s here sub max u w t place low high)) = omega (arith, ap (λ (l : List ChangeRecord). length l) items, c.len-count.ensures, c.if-count-eq0.false) in
+    let fresh : v.stamp < last_place = omega (arith, c.if-self-ge-LAST_PLACE-2.false) in
+    let state = subscribes s sub t.seer.query (t.seer.shown ++ shown.items) in
+    let same : followed_by v.held (unseen_at new.marks) sub (watching w.query (v.stamp + 1)) ≡ followed_of v.held (record { query = t.seer.query; stamp = v.stamp + 1; shown = t.seer.shown ++ shown.items }) =
+    shown_so v.held sorted u sub w t.seer t.same shown.passed (v.stamp + 1) (unseen_at new.marks) (check_first old new shown.passed sub c.show_first.ensures) (check_rest old new shown.passed sub c.show_first.ensures)
+    ∙ ap (λ (l : List ChangeRecord). followed_of v.held (record { query = t.seer.query; stamp = v.stamp + 1; shown = t.seer.shown ++ l })) (sym c.in-Ok.ensures.first.shown) in
+    let stood : Stands (record v { stamp = v.stamp + 1; subscriptions = followed_from v.held (unseen_at new.marks) 0 (set c.self.inside.subscriptions sub (Some (watching w.query (v.stamp + 1)))) }) state =
+    stands_subscribed v s sub t.seer.query (t.seer.shown ++ shown.items) u (unseen_at new.marks) c.self.inside.subscriptions (watching w.query (v.stamp + 1)) here refl
+    (check_others old new shown.passed sub c.show_first.ensures) same (shown_part v s here sub max u w t place low high shown.items items) in (
       state,
-      subst (λ n. Answers s (checking s sub max) (Checked c.in-Ok.items n (v.stamp + 1)) state) (sym c.stamp-before.ensures)
-          (check_done v s here sub max w t sorted kept place low high some c.in-Ok.items fresh items),
-      subst (λ (ws : List (Option Watching)). Stands (record v { stamp = v.stamp + 1; subscriptions = map (option_map (followed_by v.held)) ws }) state) (sym after)
-          (checked_stands v s here sub max w t sorted kept place low high c.self.inside.subscriptions (length (take max w.unseen)) refl),
+      subst (λ n. Answers s (checking s sub max) (Checked shown.items n (v.stamp + 1)) state) (sym c.stamp-before.ensures)
+          (check_done v s here sub max u w t place low high (taken_any v s here sub max u w t place low high some) some shown.items fresh items),
+      subst (λ (h : Holding). Stands (record v { held = held_changes h; stamp = v.stamp + 1; subscriptions = followed_from (held_changes h) (unseen_at new.marks) 0 c.set_stamp.new.self }) state) (sym c.show_first.ensures.held)
+          (subst (λ (ws : List (Option Watching)). Stands (record v { stamp = v.stamp + 1; subscriptions = followed_from v.held (unseen_at new.marks) 0 ws }) state) (sym (places d)) stood),
     )

@@ -4,7 +4,7 @@ use Rattle.std.specs.Option.{option_copied}
 use Rattle.std.proofs.lemmas.Option.{slice_get_within}
 use Rattle.ds_store.specs.State.{State}
 use Rattle.ds_watch.specs.Subscription.{is_owed}
-use Rattle.ds_watch.specs.Owed.{mask}
+use Rattle.ds_watch.specs.Mask.{mask}
 use Rattle.ds_store.specs.Stands.{Stands}
 use Rattle.ds_store.specs.Machine.{Course, course}
 use Rattle.ds_store.proofs.MergeLemmas.{next_course, next_reached, merge_stopped, merge_done, taken_within, stale_within}
@@ -18,7 +18,7 @@ returns-in-Err c = λ s stands.
     let next = c.in-Err.ensures.step (course s (take c.loop-item.done c.args.items.now)).state at.1 in
     let item : slice_get c.args.items.now c.loop-item.done ≡ Some c.in-Some.item.now = sym (subst (λ o. option_copied o ≡ slice_get c.args.items.now c.loop-item.done) c.in-Some.is c.get.ensures) in (
       next.0,
-      merge_stopped s c.args.items.now c.loop-item.done c.in-Some.item.now c.in-Err.fault next.0 c.loop-item.taken c.loop-item.stale c.mask.result (c.mask.ensures ∙ ap mask (c.in-Err.ensures.owed ∙ c.loop-item.invariant.owed s stands)) c.loop-item.invariant.few item at.0 next.1,
+      merge_stopped s c.args.items.now c.loop-item.done c.in-Some.item.now c.in-Err.fault next.0 c.loop-item.taken c.loop-item.stale c.number.result (c.number.ensures ∙ ap mask (c.in-Err.ensures.owed ∙ c.loop-item.invariant.owed s stands)) c.loop-item.invariant.few item at.0 next.1,
       next.2,
     )
 
@@ -59,6 +59,6 @@ returns c = λ s stands.
     let at = c.loop-item.invariant.reached s stands in
     let gone : slice_get c.args.items.now c.loop-item.done ≡ None = sym (subst (λ o. option_copied o ≡ slice_get c.args.items.now c.loop-item.done) c.in_default.is c.get.ensures) in (
       (course s (take c.loop-item.done c.args.items.now)).state,
-      merge_done s c.args.items.now c.loop-item.done c.loop-item.taken c.loop-item.stale c.mask-2.result (c.mask-2.ensures ∙ ap mask (c.loop-item.invariant.owed s stands)) c.loop-item.invariant.few gone c.loop-item.invariant.within at.0,
+      merge_done s c.args.items.now c.loop-item.done c.loop-item.taken c.loop-item.stale c.number-2.result (c.number-2.ensures ∙ ap mask (c.loop-item.invariant.owed s stands)) c.loop-item.invariant.few gone c.loop-item.invariant.within at.0,
       at.1,
     )

@@ -16,7 +16,7 @@ invariant-loop-item l = record {
   taken : l.taken ≤ l.done;
   stale : l.stale ≤ l.done;
   queries : (key : Key) → owed_for key l.self.subscriptions ≡ owed_for key l.fn.self.subscriptions;
-  owed : (s : State) → Stands l.fn.self s → l.owed.flags ≡ map (is_owed (course s (take l.done l.items)).taken) s.subscriptions;
+  owed : (s : State) → Stands l.fn.self s → l.owed ≡ map (is_owed (course s (take l.done l.items)).taken) s.subscriptions;
   reached : (s : State) → Stands l.fn.self s → Reached (course s (take l.done l.items)) l.done l.taken l.stale × Stands l.self (course s (take l.done l.items)).state;
 }
 

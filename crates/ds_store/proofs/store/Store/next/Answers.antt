@@ -1,4 +1,5 @@
-use Rattle.std.proofs.Common.{◌≤◌, length, subst, arith}
+use Rattle.std.proofs.Common.{◌≤◌, List, length, ap, ◌∙◌, subst, arith}
+use Rattle.ds_entry.specs.Change.{ChangeRecord}
 use Rattle.std.specs.List.Sorted.{IsStrictlySortedBy}
 use Rattle.ds_entry.specs.Covers.{change_cmp}
 use Rattle.ds_join.specs.Held.{held_changes}
@@ -8,9 +9,9 @@ use Rattle.ds_store.proofs.StandsLemmas.{count_held}
 use Rattle.ds_store.proofs.store.Store.next.Goals as goal
 
 pub returns-clause-in_order : goal.returns-clause-in_order
-returns-clause-in_order c = subst (λ (v : Content). IsStrictlySortedBy change_cmp v.held) c.self.view_is (held_in_order c.self.inside.held c.len-count.ensures.own)
+returns-clause-in_order c = subst (λ (hs : List ChangeRecord). IsStrictlySortedBy change_cmp hs) (ap held_changes c.held-held.ensures.value ∙ ap (λ (v : Content). v.held) c.self.view_is) (held_in_order c.held-held.result.now c.len-count.ensures.own)
 
 pub returns-clause-few : goal.returns-clause-few
 returns-clause-few c =
-    let few : length (held_changes c.self.inside.held) ≤ 1024 = omega (arith, count_held c.self.inside.held, c.len-count.ensures.count, c.len-count.ensures.few) in
-    subst (λ (v : Content). length v.held ≤ 1024) c.self.view_is few
+    let few : length (held_changes c.held-held.result.now) ≤ 1024 = omega (arith, count_held c.held-held.result.now, c.len-count.ensures.count, c.len-count.ensures.few) in
+    subst (λ (hs : List ChangeRecord). length hs ≤ 1024) (ap held_changes c.held-held.ensures.value ∙ ap (λ (v : Content). v.held) c.self.view_is) few

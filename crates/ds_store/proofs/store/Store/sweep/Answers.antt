@@ -1,16 +1,14 @@
-use Rattle.std.proofs.Common.{◌≡◌, ◌+◌, ◌≤◌, true, List, map, length, ap, sym, ◌∙◌, arith}
-use Rattle.std.proofs.lemmas.List.{length-map}
-use Rattle.std.specs.Option.{option_map}
+use Rattle.std.proofs.Common.{◌≡◌, ◌+◌, ◌≤◌, true, List, length, ap, sym, ◌∙◌, arith}
 use Rattle.ds_entry.specs.Change.{ChangeRecord}
 use Rattle.ds_join.specs.Held.{held_changes}
 use Rattle.ds_join.specs.Top.{tops}
-use Rattle.ds_store.specs.Kept.{followed_by}
-use Rattle.ds_watch.specs.Owed.{any_of, flags_of, mask}
-use Rattle.ds_watch.specs.declared.subscriptions.Owed.{Owed}
+use Rattle.ds_watch.specs.Mask.{mask}
 use Rattle.ds_store.proofs.OwedLemmas.{all_owed}
 use Rattle.ds_store.specs.Content.{Content}
+use Rattle.ds_store.specs.Kept.{unseen_at}
 use Rattle.ds_store.specs.State.{accepts, owed, last_place}
 use Rattle.ds_store.specs.Judging.{is_rs, tombstones}
+use Rattle.ds_store.proofs.CheckLemmas.{length_from}
 use Rattle.ds_store.proofs.SweepLemmas.{sweep_done}
 use Rattle.ds_store.proofs.store.Store.sweep.Goals as goal
 
@@ -22,11 +20,10 @@ returns c = λ s stands.
     let fits : v.position + length (tombstones v.held c.args.owner.now c.args.generation) ≤ last_place = omega (arith, at, c.if-count-self.false, c.count_swept-count.ensures.count, c.self.invariant.position) in
     let all = tombstones v.held c.args.owner.now c.args.generation in
     let long : length v.subscriptions ≡ 64 =
-    ap (λ (x : Content). length x.subscriptions) (sym c.self.view_is) ∙ length-map c.self.inside.subscriptions (option_map (followed_by (held_changes c.self.inside.held))) ∙ c.self.invariant.places in
-    let bits : c.mask_of_all.result ≡ owed s (tombstones (tops s.accepted) c.args.owner.now c.args.generation) =
-    c.mask_of_all.ensures ∙ ap (λ (l : List Owed). mask (any_of (map flags_of l))) c.deref-2.ensures.value ∙ ap (λ l. mask (any_of l)) c.in-Ok.ensures
-    ∙ ap mask (all_owed v s all long stands) ∙ ap (λ (hs : List ChangeRecord). owed s (tombstones hs c.args.owner.now c.args.generation)) stands.held in (
+    ap (λ (x : Content). length x.subscriptions) (sym c.self.view_is) ∙ length_from (held_changes c.self.inside.held.held) (unseen_at c.self.inside.held.marks) 0 c.self.inside.subscriptions ∙ c.self.invariant.places in
+    let bits : c.number.result ≡ owed s (tombstones (tops s.accepted) c.args.owner.now c.args.generation) =
+    c.number.ensures ∙ ap mask (c.end_all-owed.ensures.owed ∙ all_owed v s all long stands) ∙ ap (λ (hs : List ChangeRecord). owed s (tombstones hs c.args.owner.now c.args.generation)) stands.held in (
       accepts s (tombstones v.held c.args.owner.now c.args.generation),
-      sweep_done v s c.args.caller c.args.owner.now c.args.generation stands c.count_swept-count.result c.mask_of_all.result rs fits c.count_swept-count.ensures.count bits,
-      c.end_all.ensures s stands,
+      sweep_done v s c.args.caller c.args.owner.now c.args.generation stands c.count_swept-count.result c.number.result rs fits c.count_swept-count.ensures.count bits,
+      c.end_all-owed.ensures.stands s stands,
     )

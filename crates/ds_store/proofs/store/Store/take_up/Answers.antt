@@ -1,15 +1,16 @@
-use Rattle.std.proofs.Common.{◌≡◌, ◌≤◌, inl, inr, false, not, ◌&&◌, is_some, None, get_or, ap, ap₂, sym, ◌∙◌, subst}
+use Rattle.std.proofs.Common.{◌≡◌, ◌<◌, ◌≤◌, inl, inr, false, not, ◌&&◌, is_some, None, get_or, ap, ap₂, sym, ◌∙◌, subst, arith}
 use Rattle.ds_join.specs.Held.{held_changes}
 use Rattle.ds_pattern.specs.Patterns.{IsPattern}
 use Rattle.ds_pattern.specs.declared.query.Query.{Query}
 use Rattle.ds_store.specs.State.{last_place}
 use Rattle.ds_store.specs.Content.{Content}
-use Rattle.ds_store.specs.Kept.{followed_by}
+use Rattle.ds_watch.specs.Watching.{followed_by}
+use Rattle.ds_store.specs.Kept.{unseen_at}
 use Rattle.ds_store.specs.Machine.{IsRefusedFor}
 use Rattle.ds_store.specs.declared.refusal.Refusal.{Refusal}
 use Rattle.ds_store.specs.Judging.{first_cause, against_subscribe}
-use Rattle.ds_store.proofs.JudgeLemmas.{no_place, no_pattern, is_there, no_stamp}
-use Rattle.ds_store.proofs.CheckLemmas.{at_map, is_some-map, copied_some}
+use Rattle.ds_store.proofs.JudgeLemmas.{no_place, no_pattern, is_there, no_stamp, none_stands}
+use Rattle.ds_store.proofs.CheckLemmas.{at_from, is_some-map, copied_some}
 use Rattle.ds_store.proofs.store.Store.take_up.Goals as goal
 
 pub returns-then-sub-ge64-clause-refused : goal.returns-then-sub-ge64-clause-refused
@@ -25,10 +26,11 @@ pub returns-then-not-overwrite-clause-refused : goal.returns-then-not-overwrite-
 returns-then-not-overwrite-clause-refused c =
     let v = c.args.self.now in
     let text = c.args.query.now.text in
-    let hs = held_changes c.self.inside.held in
+    let hs = held_changes c.self.inside.held.held in
+    let u = unseen_at c.self.inside.held.marks in
     let ws = c.self.inside.subscriptions in
     let there : is_some (get_or v.subscriptions c.args.sub None) ≡ c.is_some.result =
-    ap (λ (x : Content). is_some (get_or x.subscriptions c.args.sub None)) (sym c.self.view_is) ∙ ap is_some (at_map (followed_by hs) ws c.args.sub) ∙ is_some-map (followed_by hs) (get_or ws c.args.sub None)
+    ap (λ (x : Content). is_some (get_or x.subscriptions c.args.sub None)) (sym c.self.view_is) ∙ ap is_some (at_from hs u 0 ws c.args.sub c.args.sub (omega arith)) ∙ is_some-map (followed_by hs u c.args.sub) (get_or ws c.args.sub None)
     ∙ ap is_some (sym c.get.ensures) ∙ copied_some c.get.result ∙ sym c.is_some.ensures in
     let pattern : IsPattern text = subst (λ (q : Query). IsPattern q.text) c.in-Ok.ensures.read c.in-Ok.ensures.pattern in
     is_there (is_some (get_or v.subscriptions c.args.sub None)) v.stamp c.args.sub text c.args.overwrite c.if-sub-ge64.false pattern
@@ -38,10 +40,11 @@ pub returns-then-self-ge-LAST_PLACE-clause-refused : goal.returns-then-self-ge-L
 returns-then-self-ge-LAST_PLACE-clause-refused c =
     let v = c.args.self.now in
     let text = c.args.query.now.text in
-    let hs = held_changes c.self.inside.held in
+    let hs = held_changes c.self.inside.held.held in
+    let u = unseen_at c.self.inside.held.marks in
     let ws = c.self.inside.subscriptions in
     let there : is_some (get_or v.subscriptions c.args.sub None) ≡ c.is_some.result =
-    ap (λ (x : Content). is_some (get_or x.subscriptions c.args.sub None)) (sym c.self.view_is) ∙ ap is_some (at_map (followed_by hs) ws c.args.sub) ∙ is_some-map (followed_by hs) (get_or ws c.args.sub None)
+    ap (λ (x : Content). is_some (get_or x.subscriptions c.args.sub None)) (sym c.self.view_is) ∙ ap is_some (at_from hs u 0 ws c.args.sub c.args.sub (omega arith)) ∙ is_some-map (followed_by hs u c.args.sub) (get_or ws c.args.sub None)
     ∙ ap is_some (sym c.get.ensures) ∙ copied_some c.get.result ∙ sym c.is_some.ensures in
     let pattern : IsPattern text = subst (λ (q : Query). IsPattern q.text) c.in-Ok.ensures.read c.in-Ok.ensures.pattern in
     let free : is_some (get_or v.subscriptions c.args.sub None) && not c.args.overwrite ≡ false =
@@ -51,3 +54,22 @@ returns-then-self-ge-LAST_PLACE-clause-refused c =
     ] in
     let stamp : c.self.inside.stamp ≡ v.stamp = ap (λ (x : Content). x.stamp) c.self.view_is in
     no_stamp (is_some (get_or v.subscriptions c.args.sub None)) v.stamp c.args.sub text c.args.overwrite c.if-sub-ge64.false pattern free (subst (λ n. last_place ≤ n) stamp c.if-self-ge-LAST_PLACE.true)
+
+pub returns-clause-none : goal.returns-clause-none
+returns-clause-none c =
+    let v = c.args.self.now in
+    let text = c.args.query.now.text in
+    let hs = held_changes c.self.inside.held.held in
+    let u = unseen_at c.self.inside.held.marks in
+    let ws = c.self.inside.subscriptions in
+    let there : is_some (get_or v.subscriptions c.args.sub None) ≡ c.is_some.result =
+    ap (λ (x : Content). is_some (get_or x.subscriptions c.args.sub None)) (sym c.self.view_is) ∙ ap is_some (at_from hs u 0 ws c.args.sub c.args.sub (omega arith)) ∙ is_some-map (followed_by hs u c.args.sub) (get_or ws c.args.sub None)
+    ∙ ap is_some (sym c.get.ensures) ∙ copied_some c.get.result ∙ sym c.is_some.ensures in
+    let pattern : IsPattern text = subst (λ (q : Query). IsPattern q.text) c.in-Ok.ensures.read c.in-Ok.ensures.pattern in
+    let free : is_some (get_or v.subscriptions c.args.sub None) && not c.args.overwrite ≡ false =
+    elim c.else-is_some.either [
+      | inl w ↦ ap₂ (λ a b. a && not b) (there ∙ w.0) w.1
+      | inr w ↦ ap (λ a. a && not c.args.overwrite) (there ∙ w)
+    ] in
+    let stamp : c.self.inside.stamp ≡ v.stamp = ap (λ (x : Content). x.stamp) c.self.view_is in
+    none_stands (is_some (get_or v.subscriptions c.args.sub None)) v.stamp c.args.sub text c.args.overwrite c.if-sub-ge64.false pattern free (subst (λ n. n < last_place) stamp c.if-self-ge-LAST_PLACE.false)

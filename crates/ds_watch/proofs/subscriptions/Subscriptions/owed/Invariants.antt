@@ -5,7 +5,7 @@ use Rattle.ds_watch.proofs.subscriptions.Subscriptions.owed.Given as goal
 -- the flags so far are those of the places
 abbrev pub invariant-loop-i : goal.invariant-loop-i
 invariant-loop-i l = record {
-  long : length l.owed.flags ≡ 64;
+  long : length l.owed ≡ 64;
   places : length l.self-inside.places ≡ 64;
-  done : (k : ℕ) → k < l.i → get_or l.owed.flags k false ≡ watches l.key (get_or l.self-inside.places k None);
+  done : (k : ℕ) → k < l.i → get_or l.owed k false ≡ watches l.key (get_or l.self-inside.places k None);
 }

@@ -1,0 +1,22 @@
+-- Masks of subscriptions, in which the bit of a subscription is its number.
+use Rattle.std.specs.Prelude.{ℕ, ◌+◌, ◌*◌, ◌==◌, Bool, ◌||◌, cond, List, [], ◌∷◌, map}
+use Rattle.std.specs.Int.{bit_at}
+use Rattle.std.specs.List.{range_with_len}
+
+-- the number whose bits these are, the lowest first
+abbrev pub mask : List Bool → ℕ
+mask [] = 0
+mask (bit ∷ bits) = cond bit 1 0 + 2 * mask bits
+
+-- the bit at the place is set
+abbrev pub has_bit : ℕ → ℕ → Bool
+has_bit n place = bit_at n place == 1
+
+-- the flags of the 64 places of a mask
+unfoldable pub flags : ℕ → List Bool
+flags n = map (has_bit n) (range_with_len 0 64)
+
+-- the flags of either list
+abbrev pub either : List Bool → List Bool → List Bool
+either (a ∷ these) (b ∷ those) = (a || b) ∷ either these those
+either _ _ = []

@@ -1,0 +1,94 @@
+//! Masks of subscriptions.
+
+ghost use Rattle.std.specs.Prelude.{◌≡◌, ◌<◌, false, true, replicate, slice_index_or, slice_set};
+ghost use Rattle.ds_watch.specs.Mask.{mask, either};
+
+use std::marker::Model;
+
+/// Some of the subscriptions, each by the bit of its number. Of the 128 bits 64 are used.
+#[derive(Clone, Copy, Debug)]
+pub struct Mask {
+    bits: u128,
+}
+
+impl Model for Mask {
+    ghost use Rattle.std.specs.Prelude.{◌<◌, ◌^◌, Bool, List};
+    ghost use Rattle.ds_watch.specs.Mask.{mask, flags};
+    ghost use Rattle.ds_watch.specs.MaskBits.{mask_flags};
+
+    ghost Value = { List Bool };
+
+    ghost view = { λ m. flags m.bits };
+
+    ghost invariant = { λ m. m.bits < 2 ^ 64 };
+
+    ghost inverse = { λ fs. record { bits = mask fs } };
+
+    ghost inverse_ok = { λ m small i. record { bits = mask_flags m.bits small i } };
+}
+
+impl Mask {
+    /// None of the subscriptions.
+    pub fn none() -> Mask
+        ensures { result ≡ replicate 64 false }
+    {
+        Mask { bits: 0 }
+    }
+
+    /// Whether the subscription with this number is one of them.
+    pub fn has(self, sub: usize) -> bool
+        requires { sub < 64 }
+        ensures { result ≡ slice_index_or self sub false }
+    {
+        self.bits & (1 << sub) != 0
+    }
+
+    /// These with or without the subscription with this number.
+    pub fn put(self, sub: usize, is_in: bool) -> Mask
+        requires { sub < 64 }
+        ensures value { result ≡ slice_set self sub is_in }
+        ensures here { slice_index_or result sub false ≡ is_in }
+    {
+        if is_in {
+            self.with(sub)
+        } else {
+            self.without(sub)
+        }
+    }
+
+    // These and the subscription with this number.
+    fn with(self, sub: usize) -> Mask
+        requires { sub < 64 }
+        ensures value { result ≡ slice_set self sub true }
+        ensures here { slice_index_or result sub false ≡ true }
+    {
+        Mask {
+            bits: self.bits | (1 << sub),
+        }
+    }
+
+    // These without the subscription with this number.
+    fn without(self, sub: usize) -> Mask
+        requires { sub < 64 }
+        ensures value { result ≡ slice_set self sub false }
+        ensures here { slice_index_or result sub false ≡ false }
+    {
+        Mask {
+            bits: self.bits & !(1 << sub),
+        }
+    }
+
+    /// Those of the other mask are added.
+    pub fn add(&mut self, other: Mask)
+        ensures { self.new ≡ either self.old other }
+    {
+        self.bits |= other.bits;
+    }
+
+    /// The mask as a number, in which the bit of a subscription is its number.
+    pub fn number(self) -> u64
+        ensures { result ≡ mask self }
+    {
+        self.bits as u64
+    }
+}

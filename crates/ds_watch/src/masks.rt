@@ -1,0 +1,64 @@
+//! What stands beside a held change.
+
+ghost use Rattle.std.specs.Prelude.{◌≡◌, ◌<◌, ◌&&◌, false, slice_index_or};
+ghost use Rattle.ds_watch.specs.Masks.{fresh, shown_to, made_at};
+
+use crate::mask::Mask;
+
+/// Of a held change: the subscriptions under whose query its key is, and those that it is still to be shown to.
+#[derive(Clone, Copy, Debug)]
+pub struct Masks {
+    under: Mask,
+    unseen: Mask,
+}
+
+impl Masks {
+    /// Of a change that just took effect: it is to be shown to all under whose query its key is.
+    pub fn fresh(under: Mask) -> Masks
+        ensures { result ≡ fresh under }
+    {
+        Masks {
+            under,
+            unseen: under,
+        }
+    }
+
+    /// The subscriptions under whose query its key is.
+    pub fn under(self) -> Mask
+        ensures { result ≡ self.under }
+    {
+        self.under
+    }
+
+    /// Whether it is to be shown to the subscription with this number.
+    pub fn is_unseen(self, sub: usize) -> bool
+        requires { sub < 64 }
+        ensures { result ≡ slice_index_or self.unseen sub false }
+    {
+        self.unseen.has(sub)
+    }
+
+    /// After it was shown to the subscription with this number.
+    pub fn shown_to(self, sub: usize) -> Masks
+        requires { sub < 64 }
+        ensures { result ≡ shown_to sub self }
+    {
+        Masks {
+            under: self.under,
+            unseen: self.unseen.put(sub, false),
+        }
+    }
+
+    /// After the subscription with this number was made, where its key is under the query or not. It is then
+    /// to be shown to it with `initial` alone.
+    pub fn made_at(self, sub: usize, is_under: bool, initial: bool) -> Masks
+        requires { sub < 64 }
+        ensures made { result ≡ made_at sub is_under initial self }
+        ensures here { slice_index_or result.unseen sub false ≡ is_under && initial }
+    {
+        Masks {
+            under: self.under.put(sub, is_under),
+            unseen: self.unseen.put(sub, is_under && initial),
+        }
+    }
+}
