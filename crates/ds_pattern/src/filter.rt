@@ -8,7 +8,7 @@ ghost use Rattle.ds_pattern.specs.Patterns.{IsPattern, IsPatternFault};
 use crate::asker::Asker;
 use crate::pattern::{Pattern, PatternFault};
 use crate::query::Query;
-use ds_names::{Key, Kinds, NoRoom};
+use ds_names::{Key, Kind, Kinds, NoRoom};
 use std::alloc::Global;
 use std::marker::Model;
 
@@ -41,6 +41,13 @@ impl Filter {
         })
     }
 
+    /// Whether the query names the kind. For a key of another kind no pattern need be asked.
+    pub fn names(&self, kind: Kind) -> bool
+        ensures { result ≡ names_kind self.now.kinds kind }
+    {
+        self.kinds.has(kind)
+    }
+
     /// What asks the query about many keys.
     pub fn asker(&self, alloc: Global) -> Result<Asker<'_>, NoRoom>
         ensures { IfOk result (λ asker. asker ≡ self.now) }
@@ -54,7 +61,7 @@ impl Filter {
         ensures under { IfOk result (λ yes. yes ≡ is_under self.now key.now) }
         ensures other_kind { IsFalse (names_kind self.now.kinds key.now.kind) → result ≡ Ok false }
     {
-        if !self.kinds.has(key.kind) {
+        if !self.names(key.kind) {
             return Ok(false);
         }
         self.pattern.matches(alloc, &key.name)

@@ -8,11 +8,13 @@
 
 mod asker;
 mod filter;
-mod parts;
 mod pattern;
 mod query;
+mod threads;
+mod work;
 
 pub use asker::Asker;
 pub use filter::Filter;
-pub use pattern::{MOST_PARTS, Pattern, PatternFault, SIZE_LIMIT};
+pub use pattern::{MOST_STEPS, Pattern, PatternFault, SIZE_LIMIT};
 pub use query::{PatternText, Query};
+pub use threads::filters_cross_threads;

@@ -5,8 +5,8 @@ ghost use Rattle.regex.specs.Strings.{matcher_pattern, regex_pattern, regex_size
 ghost use Rattle.ds_pattern.specs.Under.{anchored, is_printable, is_regex, matches_whole, FindsWhole};
 ghost use Rattle.ds_pattern.specs.Patterns.{IsPattern, IsPatternFault, IsSyntaxFault};
 
-use crate::parts::parts;
 use crate::query::PatternText;
+use crate::work::steps;
 use ds_names::{Name, NoRoom};
 use regex::{Matcher, Regex, RegexBuilder};
 use regex_syntax::{Config, ErrorKind};
@@ -60,9 +60,9 @@ impl From<regex::Error> for PatternFault {
 /// range of bytes that leads from one to another. `bench/README.md` has what is measured beside it.
 pub const SIZE_LIMIT: usize = 1 << 16;
 
-/// How many parts a pattern may have where its counts are written out. What it takes to ask a new name rises with
+/// How many steps a search for a pattern may take in the longest name. What it takes to ask a new name rises with
 /// them. `bench/README.md` has what was measured.
-pub const MOST_PARTS: usize = 160;
+pub const MOST_STEPS: usize = 3000;
 
 /// A pattern over names: a text of at most 128 bytes of printable ASCII that `regex` reads, by itself and
 /// within `^(?:` and `)$`, and whose compiled table keeps within the limit.
@@ -150,7 +150,7 @@ fn anchored(alloc: Global, text: &str) -> Result<String, AllocError>
     Ok(whole)
 }
 
-// Asks `regex` whether the text is a pattern, and refuses one that has too many parts.
+// Asks `regex` whether the text is a pattern, and refuses one that takes too many steps.
 fn judge(alloc: Global, text: &str) -> Result<(), PatternFault>
     requires { IsTrue (is_printable text.now) }
     ensures ok { OnOk result (IsTrue (is_regex text.now)) }
@@ -161,7 +161,7 @@ fn judge(alloc: Global, text: &str) -> Result<(), PatternFault>
         Err(error) if error.kind == ErrorKind::OutOfMemory => return Err(PatternFault::NoRoom),
         Err(_) => return Err(PatternFault::BadPattern),
     };
-    if parts(&parsed.hir) > MOST_PARTS {
+    if steps(&parsed.hir, MOST_STEPS) > MOST_STEPS {
         return Err(PatternFault::NoRoom);
     }
     Ok(())

@@ -117,6 +117,7 @@ fn a_key_is_under_a_query_by_name_and_kind(rt: HostRuntime) -> Result<(), Fail> 
     assert!(rt; again == query);
     assert_eq!(rt; again.text.bytes(), b"eth.*".as_slice());
     let filter = Filter::read(alloc, &query)?;
+    let mut asker = filter.asker(alloc)?;
     let rows = [
         ("eth0", Kind::Label, true),
         ("eth0", Kind::U32, false),
@@ -126,7 +127,39 @@ fn a_key_is_under_a_query_by_name_and_kind(rt: HostRuntime) -> Result<(), Fail> 
     ];
     for (name, kind, under) in rows {
         let name = Name::read(name.as_bytes())?;
-        assert_eq!(rt; filter.admits(alloc, &Key { name, kind })?, under);
+        let key = Key { name, kind };
+        assert_eq!(rt; filter.admits(alloc, &key)?, under);
+        assert_eq!(rt; asker.admits(&key), under);
+    }
+    Ok(())
+}
+
+// Patterns that are taken up, and such as are too costly to ask: more than 3000 steps, or a table above 64 KiB.
+const TAKEN: [&str; 6] = [
+    "\\w+",
+    "\\w+\\.\\w+",
+    "[a-z0-9._-]{1,64}",
+    "at_wini|audio|dpeth|e1000|fbd|floppy|hello|lance|log|memory|mmc|orinoco|printer|pty|random|rtl8139|tty|virtio|vbox",
+    ".*eth[0-9]{1,3}\\..*",
+    "(?:[0-9]{1,3}\\.){3}[0-9]{1,3}",
+];
+const COSTLY: [&str; 5] = [
+    "\\w{1,64}",
+    "\\pL{600}",
+    "(?:a?){64}",
+    "(?:[a-z]*\\.?){20}",
+    "(?:(?:a{0,9}){0,9}){0,9}",
+];
+
+#[test]
+fn patterns_are_bounded(rt: HostRuntime) -> Result<(), Fail> {
+    let alloc = rt.alloc();
+    for text in TAKEN {
+        assert!(rt; read(alloc, text.as_bytes())?.is_ok(), "{text}");
+    }
+    for text in COSTLY {
+        let fault = read(alloc, text.as_bytes())?.err();
+        assert_eq!(rt; fault, Some(PatternFault::NoRoom), "{text}");
     }
     Ok(())
 }

@@ -325,3 +325,15 @@ fn a_command_is_run(rt: HostRuntime) {
     let replies = run(alloc, &mut store, commands).expect(&rt, "memory");
     assert!(rt; replies.first() == Some(&changed(0)));
 }
+
+// Takes what threads may be given and may share.
+fn may_cross<T: Send + Sync>(_shared: &T) {}
+
+#[test]
+fn threads_may_share_a_store(rt: HostRuntime) {
+    let alloc = rt.alloc();
+    let mut store = opened(&rt, alloc, 0);
+    let subscribed = Reply::Subscribed { stamp: 1, owed: 0 };
+    answered(&rt, &mut store, subscribe(&rt, alloc, 3, b"eth.*"), subscribed);
+    may_cross(&store);
+}
