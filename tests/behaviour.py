@@ -4,6 +4,7 @@ A run that doesn't end in time fails its behaviour.
 """
 import os
 import random
+import re
 import select
 import subprocess
 import tempfile
@@ -299,6 +300,30 @@ def a_writer_that_is_closed(program):
     expect(harness.run(words, b""), b"", 0)
 
 
+def a_reader_that_does_not_wait(program):
+    """Standard input that is set not to block, and has nothing yet, is a read that failed."""
+    reader, writer = os.pipe()
+    os.set_blocking(reader, False)
+    try:
+        ran = subprocess.run([program], stdin=reader, capture_output=True, timeout=harness.SECONDS)
+    finally:
+        os.close(reader)
+        os.close(writer)
+    assert (ran.stdout, ran.returncode, ran.stderr) == (b"", 3, b"readfault\n"), f"{ran}"
+
+
+def a_writer_that_does_not_wait(program):
+    """Standard output that is set not to block, and is full, is a write that failed."""
+    reader, writer = os.pipe()
+    os.set_blocking(writer, False)
+    try:
+        ran = subprocess.run([program], input=PUT + b"\nshow" * 100000, stdout=writer, stderr=subprocess.PIPE, timeout=harness.SECONDS)
+    finally:
+        os.close(reader)
+        os.close(writer)
+    assert (ran.returncode, ran.stderr) == (3, b"writefault\n"), f"{ran}"
+
+
 # ---- words of the command line ----
 
 
@@ -309,6 +334,32 @@ def tells_how_it_is_used(program):
         assert (ran.status, ran.error) == (0, b""), f"{word}: status {ran.status}, standard error {ran.error[:200]!r}"
         missing = [it for it in wanted if it not in ran.output]
         assert not missing, f"{word} doesn't name {missing}: {ran.output[:300]!r}"
+
+
+def reminds_in_rows_of_eighty_columns(program):
+    """`-h` and `replay --help` have each line of a script in one row, no longer than a terminal's."""
+    forms = {line.split()[0].decode() for line in GOOD}
+    for words in (["-h"], ["replay", "-h"], ["replay", "--help"]):
+        ran = harness.run([program, *words], b"")
+        rows = ran.output.decode().splitlines()
+        assert (ran.status, ran.error) == (0, b""), f"{words}: status {ran.status}, standard error {ran.error[:200]!r}"
+        assert forms <= {row.split()[0] for row in rows if row.startswith("  ")}, f"{words}: {ran.output!r}"
+        assert max(map(len, rows)) <= 80, f"{words}: a row of {max(map(len, rows))} columns"
+
+
+def explains_each_refusal(program):
+    """`--help` has a row for each word that stands behind `refused`."""
+    document = (harness.DOCUMENTS / "refusals.md").read_text()
+    told = re.findall(r"`(\w+)`", "".join(re.findall("^## .*$", document, re.MULTILINE)))
+    help_ = harness.run([program, "--help"], b"").output.decode()
+    missing = [word for word in told if not re.search(rf"^  {word} ", help_, re.MULTILINE)]
+    assert len(told) == 17 and not missing, f"{len(told)} words; not explained: {missing}"
+
+
+def points_at_standard_input(program):
+    """Who names a script as a word is told how it is given."""
+    ran = harness.run([program, "script.ds"], b"")
+    assert (ran.status, ran.output) == (2, b"") and b"dsctl < SCRIPT" in ran.error, f"{ran}"
 
 
 # ---- against the second opinion ----
@@ -444,7 +495,12 @@ ALL = [
     a_writer_that_is_gone,
     a_writer_that_goes,
     a_writer_that_is_closed,
+    a_reader_that_does_not_wait,
+    a_writer_that_does_not_wait,
     tells_how_it_is_used,
+    reminds_in_rows_of_eighty_columns,
+    explains_each_refusal,
+    points_at_standard_input,
     every_front_of_a_line,
     every_byte_changed,
     every_byte_dropped_or_doubled,

@@ -27,10 +27,10 @@ same_key a b e = exact_keys a b (is_eq-equal (key_cmp a b) e)
 pub same_key-refl : (a b : Key) → a ≡ b → eq_by_cmp key_cmp a b ≡ true
 same_key-refl a b e = subst (λ (k : Key). eq_by_cmp key_cmp a k ≡ true) e (ap is_eq (tied_itself keys_total a))
 
-same_name : (m n : List ℕ) → eq_by_cmp name_cmp m n ≡ true → m ≡ n
+pub same_name : (m n : List ℕ) → eq_by_cmp name_cmp m n ≡ true → m ≡ n
 same_name m n e = exact_bytes m n (is_eq-equal (name_cmp m n) e)
 
-same_name-refl : (m n : List ℕ) → m ≡ n → eq_by_cmp name_cmp m n ≡ true
+pub same_name-refl : (m n : List ℕ) → m ≡ n → eq_by_cmp name_cmp m n ≡ true
 same_name-refl m n e = subst (λ (k : List ℕ). eq_by_cmp name_cmp m k ≡ true) e (ap is_eq (tied_itself nat_list_cmp_total m))
 
 -- ---- versions

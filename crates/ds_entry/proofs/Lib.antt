@@ -1,2 +1,4 @@
 pub mod Members
 pub mod CoversLemmas
+pub mod OrderedLemmas
+pub mod ItemLemmas

@@ -5,3 +5,7 @@ pub mod ChangeFault
 pub mod Covers
 pub mod SingleNumbered
 pub mod Floor
+pub mod Item
+pub mod Void
+pub mod ItemCovers
+pub mod CoverLaws

@@ -1,6 +1,14 @@
 //! Floors.
 
-use ds_names::{Generation, Name};
+ghost use Rattle.std.specs.Prelude.{◌≡◌};
+ghost use Rattle.std.specs.Ordering.{eq_by_cmp};
+ghost use Rattle.ds_names.specs.Key.{name_cmp};
+ghost use Rattle.ds_entry.specs.Floor.{IsFloor};
+ghost use Rattle.ds_entry.specs.Void.{is_label, voids};
+
+use crate::change::Change;
+use ds_names::{Generation, Kind, Name};
+use std::cmp::Ordering;
 
 /// A floor under an owner's entries (of this project): those of the owner's generations up to this one are void,
 /// labels aside.
@@ -12,4 +20,45 @@ pub struct Floor {
     pub owner: Name,
     /// The greatest generation that is void.
     pub generation: Generation,
+}
+
+impl Floor {
+    /// Whether it makes a change void: one of its owner, of a kind other than label, with an epoch that isn't above its
+    /// generation.
+    pub fn voids(&self, change: &Change) -> bool
+        ensures { result ≡ voids self.now change.now }
+    {
+        let epoch = change.version().epoch.number();
+        let generation = self.generation.number();
+        !is_label(change.key().kind)
+            && is_same_name(change.owner(), &self.owner)
+            && epoch <= generation
+    }
+
+    // The same floor, whose parts are in their ranges.
+    pub(crate) fn in_range(&self) -> Floor
+        ensures same { result ≡ self.now }
+        ensures floor { IsFloor self.now }
+    {
+        let _owner = self.owner.bytes();
+        let _generation = self.generation.number();
+        *self
+    }
+}
+
+// Whether the kind is a label's.
+fn is_label(kind: Kind) -> bool
+    ensures { result ≡ is_label kind }
+{
+    match kind {
+        Kind::Label => true,
+        Kind::U32 | Kind::Str | Kind::Mem => false,
+    }
+}
+
+// Whether two names are one.
+pub(crate) fn is_same_name(name: &Name, other: &Name) -> bool
+    ensures { result ≡ eq_by_cmp name_cmp name.now other.now }
+{
+    matches!(name.cmp(other), Ordering::Equal)
 }

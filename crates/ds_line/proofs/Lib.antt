@@ -15,3 +15,5 @@ pub mod NewlineLemmas
 pub mod PieceLemmas
 pub mod LastValueLemmas
 pub mod OtherLemmas
+pub mod FloorLemmas
+pub mod ItemLemmas

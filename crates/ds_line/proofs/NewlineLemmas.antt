@@ -25,17 +25,17 @@ use Rattle.ds_line.proofs.DigitLemmas.{hex_run}
 use Rattle.ds_line.proofs.OpeningLemmas.{word_is_word}
 
 -- no byte is a newline
-abbrev Unbroken : List ℕ → Type 0
+abbrev pub Unbroken : List ℕ → Type 0
 Unbroken bytes = All (λ (b : ℕ). b ≢ 10) bytes
 
 unbroken_run : (run : ℕ → Bool) → run 10 ≡ false → (bytes : List ℕ) → list_all run bytes ≡ true → Unbroken bytes
 unbroken_run run not_one bytes all k d lt = λ same. false≢true (sym not_one ∙ ap run (sym same) ∙ AllPass-from_list_all run bytes all k d lt)
 
-unbroken_name : (n : List ℕ) → list_all is_name_byte n ≡ true → Unbroken n
+pub unbroken_name : (n : List ℕ) → list_all is_name_byte n ≡ true → Unbroken n
 unfolding is_name_byte
 unbroken_name n all = unbroken_run is_name_byte refl n all
 
-unbroken_decimal : (n : ℕ) → n < 2 ^ 64 → Unbroken (decimal n)
+pub unbroken_decimal : (n : ℕ) → n < 2 ^ 64 → Unbroken (decimal n)
 unbroken_decimal n lt = unbroken_run is_ascii_digit refl (decimal n) (digits_decimal own n lt)
 
 unbroken_endpoint : (a : EndpointRecord) → IsEndpoint a → Unbroken (endpoint_text a)
@@ -74,7 +74,7 @@ unbroken_value (values.Mem b) is = unbroken_run is_hex_byte refl (encode_lower b
 
 -- ---- part by part
 
-ends_behind : (p : Part) (parts : List Part) → Unbroken p.text → EndsLine (texts parts) → EndsLine (texts (p ∷ parts))
+pub ends_behind : (p : Part) (parts : List Part) → Unbroken p.text → EndsLine (texts parts) → EndsLine (texts (p ∷ parts))
 ends_behind p parts unbroken e =
     record {
       front = p.text ++ e.front;
@@ -82,13 +82,13 @@ ends_behind p parts unbroken e =
       none = All-append (λ (b : ℕ). b ≢ 10) p.text e.front unbroken e.none;
     }
 
-ends_behind_byte : (b : ℕ) (parts : List Part) → b ≢ 10 → EndsLine (texts parts) → EndsLine (texts (byte b ∷ parts))
+pub ends_behind_byte : (b : ℕ) (parts : List Part) → b ≢ 10 → EndsLine (texts parts) → EndsLine (texts (byte b ∷ parts))
 ends_behind_byte b parts other e = ends_behind (byte b) parts (All-cons (λ (x : ℕ). x ≢ 10) b [] other (All-nil (λ (x : ℕ). x ≢ 10))) e
 
-ends_behind_space : (parts : List Part) → EndsLine (texts parts) → EndsLine (texts (space ∷ parts))
+pub ends_behind_space : (parts : List Part) → EndsLine (texts parts) → EndsLine (texts (space ∷ parts))
 ends_behind_space parts e = ends_behind_byte 32 parts (λ same. omega (arith, same)) e
 
-newline_ends : EndsLine (texts (newline ∷ []))
+pub newline_ends : EndsLine (texts (newline ∷ []))
 newline_ends = record { front = []; parts = refl; none = All-nil (λ (x : ℕ). x ≢ 10) }
 
 body_ends : (b : Body) → IsBody b → EndsLine (texts (body_parts b))

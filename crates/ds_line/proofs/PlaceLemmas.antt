@@ -15,13 +15,13 @@ Agree [] qs = Unit {0}
 Agree (p ∷ ps) [] = Unit {0}
 Agree (p ∷ ps) (q ∷ qs) = (p.class ≡ q.class) × (p.text ≡ q.text → Agree ps qs)
 
-alike_agree : (ps qs : List Part) → Alike ps qs → Agree ps qs
+pub alike_agree : (ps qs : List Part) → Alike ps qs → Agree ps qs
 alike_agree [] qs alike = tt
 alike_agree (p ∷ ps) [] alike = tt
 alike_agree (p ∷ ps) (q ∷ qs) alike = (alike.0, λ same. alike_agree ps qs (alike.1 same))
 
 -- as many parts that stand at one front leave one rest
-same_rest : (count : ℕ) (ps qs : List Part) (bytes r s : List ℕ) → AllTexts ps → AllTexts qs → Agree ps qs → Stand count ps bytes r → Stand count qs bytes s → r ≡ s
+pub same_rest : (count : ℕ) (ps qs : List Part) (bytes r s : List ℕ) → AllTexts ps → AllTexts qs → Agree ps qs → Stand count ps bytes r → Stand count qs bytes s → r ≡ s
 same_rest zero ps qs bytes r s texts_p texts_q agree stand_p stand_q = sym stand_p ∙ stand_q
 same_rest (suc count) [] qs bytes r s texts_p texts_q agree stand_p stand_q = absurd stand_p
 same_rest (suc count) (p ∷ ps) [] bytes r s texts_p texts_q agree stand_p stand_q = absurd stand_q
@@ -30,7 +30,7 @@ same_rest (suc count) (p ∷ ps) (q ∷ qs) bytes r s texts_p texts_q agree stan
     same_rest count ps qs stand_q.0 r s texts_p.1 texts_q.1 (agree.1 one.0) (subst (λ (x : List ℕ). Stand count ps x r) one.1 stand_p.2) stand_q.2
 
 -- fewer parts stand there too
-fewer : (j k : ℕ) (parts : List Part) (bytes rest : List ℕ) → j ≤ k → Stand k parts bytes rest → (after : List ℕ) × Stand j parts bytes after
+pub fewer : (j k : ℕ) (parts : List Part) (bytes rest : List ℕ) → j ≤ k → Stand k parts bytes rest → (after : List ℕ) × Stand j parts bytes after
 fewer zero k parts bytes rest le h = (bytes, refl)
 fewer (suc j) zero parts bytes rest le h = absurd (omega arith)
 fewer (suc j) (suc k) [] bytes rest le h = absurd h
@@ -41,27 +41,34 @@ no_more IsMember parts bytes r s a b lt =
     let f = fewer (suc a.count) b.count (parts b.read.member) bytes s (omega arith) b.read.front in
     a.most f.0 (record { member = b.read.member; is = b.read.is; front = f.1 })
 
--- what can be read ends at one place, where members agree
-same_stop : {T : Type 0} (IsMember : T → Type 0) (parts : T → List Part) → ((m : T) → IsMember m → AllTexts (parts m)) → ((m n : T) → IsMember m → IsMember n → Agree (parts m) (parts n))
-    → (bytes r s : List ℕ) (a : StopsAt IsMember parts bytes r) (b : StopsAt IsMember parts bytes s) → r ≡ s
-same_stop IsMember parts all agree bytes r s a b =
+-- as many parts of two members that stand at one front leave one rest
+abbrev pub LeavesOne : {T : Type 0} → (T → Type 0) → (T → List Part) → Type 0
+LeavesOne {T} IsMember parts = (m n : T) (count : ℕ) (bytes r s : List ℕ) → IsMember m → IsMember n → Stand count (parts m) bytes r → Stand count (parts n) bytes s → r ≡ s
+
+-- what can be read ends at one place, then
+same_stop : {T : Type 0} (IsMember : T → Type 0) (parts : T → List Part) → LeavesOne IsMember parts → (bytes r s : List ℕ) (a : StopsAt IsMember parts bytes r) (b : StopsAt IsMember parts bytes s) → r ≡ s
+same_stop IsMember parts leaves bytes r s a b =
     elim (cases_lt a.count b.count) [
       | inl lt ↦ absurd (no_more IsMember parts bytes r s a b lt)
       | inr le ↦ (elim (cases_lt b.count a.count) [
         | inl gt ↦ absurd (no_more IsMember parts bytes s r b a gt)
         | inr ge ↦
             (let one : a.count ≡ b.count = omega arith in
-            same_rest b.count (parts a.read.member) (parts b.read.member) bytes r s (all a.read.member a.read.is) (all b.read.member b.read.is) (agree a.read.member b.read.member a.read.is b.read.is)
-            (subst (λ (k : ℕ). Stand k (parts a.read.member) bytes r) one a.read.front) b.read.front)
+            leaves a.read.member b.read.member b.count bytes r s a.read.is b.read.is (subst (λ (k : ℕ). Stand k (parts a.read.member) bytes r) one a.read.front) b.read.front)
       ])
     ]
 
--- a fault has one place, where members agree
+-- so a fault has one place
+pub one_place_by : {T : Type 0} (IsMember : T → Type 0) (parts : T → List Part) → LeavesOne IsMember parts → (bytes : List ℕ) (p q : ℕ) → IsFaultPlace IsMember parts bytes p → IsFaultPlace IsMember parts bytes q → p ≡ q
+one_place_by IsMember parts leaves bytes p q a b =
+    let same : a.rest ≡ b.rest = same_stop IsMember parts leaves bytes a.rest b.rest a.stops b.stops in
+    omega (arith, a.begins, b.begins, ap length same)
+
+-- and where members agree
 pub one_place : {T : Type 0} (IsMember : T → Type 0) (parts : T → List Part) → ((m : T) → IsMember m → AllTexts (parts m)) → ((m n : T) → IsMember m → IsMember n → Agree (parts m) (parts n))
     → (bytes : List ℕ) (p q : ℕ) → IsFaultPlace IsMember parts bytes p → IsFaultPlace IsMember parts bytes q → p ≡ q
-one_place IsMember parts all agree bytes p q a b =
-    let same : a.rest ≡ b.rest = same_stop IsMember parts all agree bytes a.rest b.rest a.stops b.stops in
-    omega (arith, a.begins, b.begins, ap length same)
+one_place IsMember parts all agree =
+    one_place_by IsMember parts (λ m n count bytes r s is_m is_n a b. same_rest count (parts m) (parts n) bytes r s (all m is_m) (all n is_n) (agree m n is_m is_n) a b)
 
 pub one_change_place : (bytes : List ℕ) (p q : ℕ) → IsFaultPlace IsChange change_parts bytes p → IsFaultPlace IsChange change_parts bytes q → p ≡ q
 one_change_place = one_place IsChange change_parts change_texts (λ c d is_c is_d. alike_agree (change_parts c) (change_parts d) (changes_alike c d is_c is_d))

@@ -4,3 +4,6 @@ pub mod FaultPlace
 pub mod LastNewline
 pub mod Reading
 pub mod Piece
+pub mod ItemSpelling
+pub mod ItemFault
+pub mod FloorPiece

@@ -1,10 +1,14 @@
-//! Change lines: the one spelling of each change, read and written.
+//! The lines of changes and floors: the one spelling of each, read and written.
 //!
-//! A line is `NAME KIND OWNER EPOCH.SEQ = VALUE`, or `-` for a tombstone, and ends with a newline. Bytes that
-//! begin with no line fault where the first part of one that can't be read begins. The format is of this project.
+//! A change's line is `NAME KIND OWNER EPOCH.SEQ = VALUE`, or `-` for a tombstone, a floor's is `! OWNER GENERATION`, and
+//! each ends with a newline. Bytes that begin with no line fault where the first part of one that can't be read begins.
+//! The format is of this project.
 #![tactic(auto)]
 
 mod fault;
+mod item_laws;
+mod item_reading;
+mod item_writing;
 mod last_value;
 mod laws;
 mod part_fault;
@@ -15,6 +19,11 @@ mod values;
 mod writing;
 
 pub use fault::LineFault;
+pub use item_laws::{
+    item_faults_have_one_place, item_lines_are_apart, items_have_one_line, newlines_end_item_lines,
+};
+pub use item_reading::read_item;
+pub use item_writing::{append_item, write_item};
 pub use last_value::last_value_at;
 pub use laws::{changes_have_one_line, faults_have_one_place, lines_are_apart, newlines_end_lines};
 pub use part_fault::{PartFault, stop_at};

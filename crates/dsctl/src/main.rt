@@ -5,6 +5,7 @@
 //! writing failed, and standard error says which.
 #![tactic(auto)]
 
+mod help;
 mod settings;
 mod words;
 

@@ -1,5 +1,6 @@
 //! The words of the command line.
 
+use crate::help::{ABOUT, AFTER_HELP, LINES, LONG_ABOUT, SETTINGS_ABOUT, SETTINGS_LONG_ABOUT};
 use clap::error::ErrorKind;
 use clap::{ArgMatches, Command, Error};
 use std::alloc::{AllocError, Global};
@@ -22,111 +23,6 @@ pub enum Words {
     /// Help or the version could not be written.
     WriteFault,
 }
-
-const ABOUT: &str =
-    "Replays a script against a data store in the manner of MINIX 3's DS, and prints each answer";
-
-const LONG_ABOUT: &str = "\
-Replays a script against a data store in the manner of MINIX 3's DS, and prints each answer.
-
-The script is read from standard input, one command a line, and each answer is printed before the next
-line is waited for. The store keeps, for each name and kind, the change with the greatest version: a
-late or repeated message never brings a dead driver's endpoint back.
-
-Lines of a script:
-  publish CALLER new NAME KIND EPOCH.SEQ = VALUE
-                     put a value in the caller's name; over a live entry with `over` for `new`
-  delete CALLER NAME KIND EPOCH.SEQ
-                     end a live entry of the caller's
-  sweep CALLER OWNER GENERATION
-                     end what a dead owner left, labels aside; the answer is `swept N`
-  retrieve NAME KIND ask for a value: `found VALUE`
-  nameof ENDPOINT    ask which label holds an endpoint: `named NAME`
-  subscribe SUB PATTERN KINDS first new
-                     follow what is under a query: all that is held and all that changes, or with
-                     `later` for `first` what changes alone; in the place of another subscription
-                     with `over` for `new`. The answer is `subscribed STAMP`
-  check SUB MAX      print the first MAX changes that weren't shown to the subscription, then
-                     `checked N BEFORE AFTER`, its stamp before and after
-  map PATTERN KINDS  make a map of what is under a query: `map J`; nothing is delivered to it yet
-  entries J          print the entries of a map, then `shown N`
-  offer CHANGE       merge one change, whoever made it
-  show               print the entries that stand, in order of their keys, then `shown N`
-  all                the same with tombstones
-
-`dsctl settings` shows what a settings text tells RS; `dsctl settings --help` has its fields.
-
-The other answers are `taken`, `known` for a repeat, `stale`, and `refused` with a word. CALLER and
-ENDPOINT are GENERATION/SLOT; 0/2 is RS, which alone publishes labels and sweeps. An entry but a label
-has its caller's generation as its epoch.
-
-SUB is 0 to 63, four for each of 16 servers; MAX is 1 to 256. PATTERN is a regular expression in quotes that
-matches a whole name, with \\\" and \\\\ for a quote and a backslash; KINDS is the sum of 1 for label, 2 for
-u32, 4 for str and 8 for mem; J counts maps from 0, 64 at most. Behind an answer stands `owed MASK` where
-something came under the queries of some subscriptions: in hex, with the bit of each SUB.
-
-A change is a line `NAME KIND OWNER EPOCH.SEQ = VALUE`, which puts a value, or `NAME KIND OWNER EPOCH.SEQ -`,
-which says that the entry is gone. Of two changes of one name and kind the one with the greater version
-EPOCH.SEQ stands. The kinds and their values:
-  label  GENERATION/SLOT, the endpoint of a driver; the owner is rs, the epoch its generation,
-         the sequence number 0 for a put and 1 for a tombstone
-  u32    a number up to 4294967295
-  str    \"text\" of up to 256 printable characters; \\\" and \\\\ stand for a quote and a backslash
-  mem    up to 1024 bytes in lower-case hex";
-
-const AFTER_HELP: &str = "\
-Example session (lines behind `>` are typed, the others are printed):
-  > publish 0/2 new eth0 label 3.0 = 3/17
-  taken
-  > publish 3/17 new mtu u32 3.0 = 1500
-  taken
-  > offer eth0 label rs 2.0 = 2/9
-  stale
-  > show
-  eth0 label rs 3.0 = 3/17
-  mtu u32 eth0 3.0 = 1500
-  shown 2
-
-Exit status:
-  0  the whole script was answered, or the settings have no fault
-  1  a line can't be read: `badline LINE PLACE` is printed, lines counted from 1 and bytes from 0;
-     or the settings have a fault: `bad WORD INDEX` is printed
-  2  the words of the command line are wrong
-  3  memory, reading or writing failed: standard error has `noroom`, `readfault` or `writefault`";
-
-const SETTINGS_ABOUT: &str =
-    "Show what a settings text tells RS of its services, or its first fault";
-
-const SETTINGS_LONG_ABOUT: &str = "\
-Shows what a settings text tells the reincarnation server (RS) of its services, or the text's first fault.
-
-The text is a TOML document on standard input. Nothing is printed before all of it is judged. For each
-service there is a line `service LABEL CLASS UNIT period P limit L publishes N`, with `-` for the unit of a
-server, and then one line `services N slots S`. Where there is a fault, it is `bad WORD INDEX` alone, INDEX
-being that of the service, from 0, and left out where the fault is none of a service.
-
-At the top:
-  slots      process slots that RS may use, 1 to 1008; 64 where it isn't there
-  [[service]]  up to 64 services
-
-Of a service:
-  label      its name, 1 to 64 letters, digits, `.`, `_` and `-`; not `rs`
-  class      \"block\", \"character\", \"network\" or \"server\"
-  unit       0 to 255: its major number, or its port if it is a network service; a server has none
-  period     ticks from one ping to the next, 0 to 1000000; 0, for none, where it isn't there
-  limit      how many failures in a row RS answers by another start, 0 to 1000; 0 where it isn't there
-  publishes  the names that it may publish in the data store, 64 at most
-
-No two services have one label, no two block or character services one major number, no two network
-services one port, and no name is published twice.
-
-The words of faults, in the order in which they are judged:
-  toml          the text is no TOML document
-  unknownfield  a field has another name than these
-  missing       a service has no label, no class or no unit
-  outofrange    a value is of another type, or out of its range
-  twolabels, twounits, sharedname
-                two services have one label, one unit, one published name: INDEX is the second's";
 
 /// Reads the words that the program was started with. Answers a wrong word, or a wish for help, itself.
 pub(crate) fn read<R: Runtime + AllocGlobal>(rt: &R) -> Words {
@@ -163,9 +59,9 @@ fn parse<'a>(alloc: Global, words: &'a [String]) -> Result<Words, Error> {
 
 // The command line of the program.
 fn command<'a>(alloc: Global) -> Result<Command<'a>, AllocError> {
-    let replay = Command::new(alloc, "replay").about(
-        "Answer a script; no subcommand means this one",
-    );
+    let replay = Command::new(alloc, "replay")
+        .about("Answer a script; no subcommand means this one")
+        .after_help(LINES);
     let settings = Command::new(alloc, "settings")
         .about(SETTINGS_ABOUT)
         .long_about(SETTINGS_LONG_ABOUT);
@@ -173,12 +69,17 @@ fn command<'a>(alloc: Global) -> Result<Command<'a>, AllocError> {
         .version("0.1.0")
         .about(ABOUT)
         .long_about(LONG_ABOUT)
-        .after_help(AFTER_HELP)
+        .after_help(LINES)
+        .after_long_help(AFTER_HELP)
         .disable_help_subcommand(true)
         .subcommand(replay)?
         .subcommand(settings)?;
     Ok(program)
 }
+
+// What somebody is told who may have named a file.
+const STANDARD_INPUT: &str =
+    "A script is read from standard input, and not by its name: dsctl < SCRIPT";
 
 // Prints what `clap` has to say: a usage fault on standard error, help or the version on standard output.
 fn answer(rt: &impl Runtime, error: &Error) -> Words {
@@ -186,6 +87,12 @@ fn answer(rt: &impl Runtime, error: &Error) -> Words {
         return Words::NoRoom;
     }
     let printed = error.print(rt);
+    if matches!(
+        error.kind(),
+        ErrorKind::InvalidSubcommand | ErrorKind::UnknownArgument
+    ) {
+        let _ = eprintln!(rt; "{STANDARD_INPUT}");
+    }
     match (error.use_stderr(), printed) {
         (true, _) => Words::Usage,
         (false, Ok(())) => Words::Shown,

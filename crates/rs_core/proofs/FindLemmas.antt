@@ -1,8 +1,8 @@
 -- One step of the search for a service, and the service at an index.
-use Rattle.std.proofs.Common.{◌≡◌, ℕ, ◌<◌, ◌+◌, cond, List, get_or, length, drop, Some, None, sym, ◌∙◌, ap, arith}
+use Rattle.std.proofs.Common.{◌≡◌, ℕ, ◌<◌, ◌+◌, cond, List, get_or, length, drop, Some, ◌∙◌}
 use Rattle.std.specs.List.{slice_get}
-use Rattle.std.proofs.Common.{Option, Bool, true, false, subst}
-use Rattle.std.proofs.lemmas.Option.{get_or_from_slice_get, slice_get_cases}
+use Rattle.std.proofs.Common.{Bool, true, false}
+use Rattle.std.proofs.lemmas.Option.{get_or_from_slice_get}
 use Rattle.std.proofs.lemmas.List.{drop_more}
 use Rattle.rs_settings.specs.declared.service.Service.{Service}
 use Rattle.rs_core.specs.declared.state.State.{State}

@@ -1,5 +1,5 @@
 -- What holds over each run of the restart machine, and over the calls of a numberer.
-use Rattle.std.proofs.Common.{◌≡◌, ℕ, ◌<◌, ◌+◌, ◌≤◌, Bool, true, false, List, [], ◌∷◌, ◌++◌, Option, Some, None, refl, sym, ap, ◌∙◌, subst, arith, inl, inr, ◌⊎◌, zero, suc}
+use Rattle.std.proofs.Common.{◌≡◌, ℕ, ◌+◌, ◌≤◌, Bool, true, false, List, [], ◌∷◌, ◌++◌, Option, Some, None, refl, sym, ap, ◌∙◌, subst, arith, inl, inr, ◌⊎◌}
 use Rattle.std.specs.List.{flat_map, Contains}
 use Rattle.ds_names.specs.Endpoint.{EndpointRecord}
 use Rattle.ds_names.specs.declared.key.Key.{Key}
@@ -11,15 +11,14 @@ use Rattle.rs_core.specs.declared.action.Action.{Action}
 use Rattle.rs_core.specs.declared.state.State.{State}
 use Rattle.rs_core.specs.declared.state.State.TheVariants.{Down, Up, Waiting, GaveUp}
 use Rattle.rs_core.specs.declared.deed.Deed.{Deed}
-use Rattle.rs_core.specs.declared.deed.Deed.TheVariants.{Begin, Resume, Halt, Replace, Lose, Forget, Hear, Ping}
+use Rattle.rs_core.specs.declared.deed.Deed.TheVariants.{Begin, Resume, Halt, Replace, Lose, Ping}
 use Rattle.rs_core.specs.declared.deed.Plan.{Plan}
-use Rattle.rs_core.specs.declared.numberer.Numberer.{Numberer}
-use Rattle.rs_core.specs.Action.{label_put, label_gone, label_key, version, start_actions, stop_actions}
+use Rattle.rs_core.specs.Action.{label_put, label_gone, start_actions, stop_actions}
 use Rattle.rs_core.specs.State.{RsRecord, state_at, service_at}
 use Rattle.rs_core.specs.Machine.{actions_of, next_after, new_endpoint, same_slot}
-use Rattle.rs_core.specs.Step.{Follows, Step}
+use Rattle.rs_core.specs.Step.{Follows}
 use Rattle.rs_core.specs.Run.{Run, starts, offers, AreRising, StartsRise, LabelsAreSingleNumbered}
-use Rattle.rs_core.specs.Numbering.{Gives, GiveAll, AreNumbered, NumbersRise}
+use Rattle.rs_core.specs.Numbering.{NumbererRecord, AreNumbered, NumbersRise}
 
 -- ---- starts
 
@@ -176,8 +175,8 @@ pub numbers_rise : NumbersRise
 numbers_rise old new [] h = tt
 numbers_rise old new (v ∷ vs) (between, g, rest) =
     let epoch : v.epoch ≡ old.generation = ap (λ (z : Version). z.epoch) g.value in
-    let seq : v.seq ≡ old.seq = ap (λ (z : Version). z.seq) g.value in
-    let left : old.seq ≤ 4294967294 = g.left in
-    let later : AreNumbered between.generation between.seq vs = numbers_rise between new vs rest in
-    let after : AreNumbered old.generation (old.seq + 1) vs = subst (λ (z : Numberer). AreNumbered z.generation z.seq vs) g.after later in
+    let seq : v.seq ≡ old.next = ap (λ (z : Version). z.seq) g.value in
+    let left : old.next ≤ 4294967294 = g.left in
+    let later : AreNumbered between.generation between.next vs = numbers_rise between new vs rest in
+    let after : AreNumbered old.generation (old.next + 1) vs = subst (λ (z : NumbererRecord). AreNumbered z.generation z.next vs) g.after later in
     (epoch, omega arith, omega arith, subst (λ (n : ℕ). AreNumbered old.generation (n + 1) vs) (sym seq) after)

@@ -1,10 +1,10 @@
 -- Which service an event means.
-use Rattle.std.specs.Prelude.{ℕ, ◌+◌, ◌-◌, ◌*◌, ◌==◌, Bool, false, ◌&&◌, nat_le, nat_lt, List, [], ◌∷◌, Option, Some, None, if◌then◌else◌}
+use Rattle.std.specs.Prelude.{ℕ, ◌+◌, ◌-◌, ◌*◌, ◌==◌, Bool, false, ◌&&◌, nat_le, nat_lt, List, ◌∷◌, Option, Some, None, if◌then◌else◌}
 use Rattle.ds_names.specs.Endpoint.{EndpointRecord}
 use Rattle.rs_settings.specs.Values.{is_same}
 use Rattle.rs_settings.specs.declared.service.Service.{Service}
 use Rattle.rs_core.specs.declared.state.State.{State}
-use Rattle.rs_core.specs.declared.state.State.TheVariants.{Down, Up, Waiting, GaveUp}
+use Rattle.rs_core.specs.declared.state.State.TheVariants.{Up, Waiting}
 use Rattle.rs_core.specs.declared.state.Running.{Running}
 use Rattle.rs_core.specs.declared.state.Pause.{Pause}
 use Rattle.rs_core.specs.declared.finding.Sought.{Sought}
@@ -15,10 +15,12 @@ use Rattle.rs_core.specs.State.{RsRecord}
 abbrev pub is_same_endpoint : EndpointRecord → EndpointRecord → Bool
 is_same_endpoint a b = a.generation == b.generation && a.slot == b.slot
 
+-- an instance runs and passes the test
 abbrev pub when_up : (Running → Bool) → State → Bool
 when_up test (Up r) = test r
 when_up test _ = false
 
+-- the service waits, and its wait passes the test
 abbrev pub when_waiting : (Pause → Bool) → State → Bool
 when_waiting test (Waiting p) = test p
 when_waiting test _ = false

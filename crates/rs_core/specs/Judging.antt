@@ -6,7 +6,7 @@ use Rattle.rs_core.specs.declared.event.Event.TheVariants as events
 use Rattle.rs_core.specs.declared.fault.RsFault.{RsFault}
 use Rattle.rs_core.specs.declared.fault.RsFault.TheVariants.{TickBack, Worn, UnknownLabel, BadCause, AlreadyUp, NotUp, OldEndpoint, GenerationsSpent, NoSlot, NoRoom}
 use Rattle.rs_core.specs.declared.deed.Deed.{Deed}
-use Rattle.rs_core.specs.declared.deed.Deed.TheVariants.{Begin, Resume, Replace}
+use Rattle.rs_core.specs.declared.deed.Deed.TheVariants.{Begin, Resume, Replace, Forget, Hear}
 use Rattle.rs_core.specs.declared.deed.Plan.{Plan}
 use Rattle.rs_core.specs.State.{RsRecord}
 use Rattle.rs_core.specs.Machine.{asked}
@@ -32,6 +32,12 @@ abbrev pub takes_slot : Deed → Bool
 takes_slot Begin = true
 takes_slot Resume = true
 takes_slot _ = false
+
+-- the deed has actions, and so takes memory for their list
+abbrev pub has_actions : Deed → Bool
+has_actions Forget = false
+has_actions Hear = false
+has_actions _ = true
 
 -- a deed of this sort is asked
 abbrev pub asks : (Deed → Bool) → Result (Option Plan) RsFault → Bool

@@ -16,12 +16,14 @@ pub record IsRunning (next : ℕ) (slots : Slab ℕ) (i : ℕ) (r : Running) : T
   pub holds : get slots (r.endpoint.slot - 16) ≡ Some i
   pub failures : r.failures ≤ 1000
 
+-- the state of service i: what runs keeps its slot, and failures never pass a limit
 abbrev pub IsState : ℕ → Slab ℕ → ℕ → State → Type 0
 IsState next slots i (Up r) = IsRunning next slots i r
 IsState next slots i (Waiting p) = p.failures ≤ 1000
 IsState next slots i Down = Unit {0}
 IsState next slots i GaveUp = Unit {0}
 
+-- settings in their ranges, a state for each service, the tick and the next generation in their ranges, and each state so
 pub record IsRs (settings : SettingsRecord) (states : List State) (tick next : ℕ) (slots : Slab ℕ) : Type 0 where
   pub checked : IsSettings settings
   pub count : length states ≡ length settings.services

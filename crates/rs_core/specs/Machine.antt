@@ -1,5 +1,5 @@
 -- The restart machine: what an event asks, what is then done, and the state that it leaves.
-use Rattle.std.specs.Prelude.{ℕ, ◌+◌, ◌-◌, ◌^◌, min, Bool, true, nat_lt, List, [], ◌∷◌, ◌++◌, Option, Some, None, option_map, Result, Ok, Err, if◌then◌else◌}
+use Rattle.std.specs.Prelude.{◌≡◌, ℕ, ◌+◌, ◌-◌, ◌^◌, min, true, nat_lt, List, [], ◌∷◌, ◌++◌, Option, Some, None, option_map, Result, Ok, Err, if◌then◌else◌}
 use Rattle.std.specs.Option.{option_or}
 use Rattle.ds_names.specs.Endpoint.{EndpointRecord, endpoint_of}
 use Rattle.rs_settings.specs.declared.service.Service.{Service}
@@ -27,6 +27,7 @@ use Rattle.rs_core.specs.Finding.{place_of}
 abbrev pub plan : Deed → ℕ → Plan
 plan deed place = record { place = place; deed = deed }
 
+-- what the table asks, of the service with this index
 abbrev pub planned : ℕ → Result Deed RsFault → Result (Option Plan) RsFault
 planned i (Ok deed) = Ok (Some (plan deed i))
 planned i (Err fault) = Err fault
@@ -68,6 +69,7 @@ pause k = min (2 ^ (k - 1)) 32
 abbrev pub failed : ℕ → ℕ → ℕ → State
 failed limit tick k = if nat_lt limit k then GaveUp else Waiting (record { until = tick + pause k; failures = k })
 
+-- the failures in a row; none of a service that is down or was given up
 abbrev pub failures_of : State → ℕ
 failures_of (Up r) = r.failures
 failures_of (Waiting p) = p.failures
@@ -114,3 +116,12 @@ next_after s state Begin = s.next + 1
 next_after s state Resume = s.next + 1
 next_after s (Up r) Replace = s.next + 1
 next_after s state _ = s.next
+
+-- the key of the slot that is free next: behind a stop that of the slot which it freed, else the same one; behind a start, any
+abbrev pub IsFreeAfter : RsRecord → State → Deed → ℕ → Type 0
+IsFreeAfter s state Begin key = Unit {0}
+IsFreeAfter s state Resume key = Unit {0}
+IsFreeAfter s (Up r) Replace key = Unit {0}
+IsFreeAfter s (Up r) (Lose kill) key = 16 + key ≡ r.endpoint.slot
+IsFreeAfter s (Up r) Halt key = 16 + key ≡ r.endpoint.slot
+IsFreeAfter s state _ key = key ≡ s.key

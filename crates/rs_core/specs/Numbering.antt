@@ -1,19 +1,27 @@
 -- The numbers that a numberer gives.
 use Rattle.std.specs.Prelude.{◌≡◌, ℕ, ◌+◌, ◌<◌, ◌≤◌, List, [], ◌∷◌}
 use Rattle.ds_names.specs.declared.version.Version.{Version}
-use Rattle.rs_core.specs.declared.numberer.Numberer.{Numberer}
 use Rattle.rs_core.specs.Action.{version}
 
--- a call of `next` that isn't refused: what it gives, and what it leaves
-pub record Gives (old new : Numberer) (given : Version) : Type 0 where
-  pub value : given ≡ version old.generation old.seq
-  pub left : old.seq ≤ 4294967294
-  pub after : new ≡ record old { seq = old.seq + 1 }
+-- what a numberer knows: its generation, and the sequence number that it gives next
+pub record NumbererRecord : Type 0 where
+  pub generation : ℕ
+  pub next : ℕ
+
+-- the numberer of a generation that gives this number next
+abbrev pub numberer : ℕ → ℕ → NumbererRecord
+numberer generation next = record { generation = generation; next = next }
+
+-- a call of `next` that isn't refused: it gives the next number of the generation, and the one above it is then next
+pub record Gives (old new : NumbererRecord) (given : Version) : Type 0 where
+  pub value : given ≡ version old.generation old.next
+  pub left : old.next ≤ 4294967294
+  pub after : new ≡ numberer old.generation (old.next + 1)
 
 -- such calls one after another
-abbrev pub GiveAll : Numberer → List Version → Numberer → Type 0
+abbrev pub GiveAll : NumbererRecord → List Version → NumbererRecord → Type 0
 GiveAll old [] new = old ≡ new
-GiveAll old (v ∷ vs) new = (between : Numberer) × Gives old between v × GiveAll between vs new
+GiveAll old (v ∷ vs) new = (between : NumbererRecord) × Gives old between v × GiveAll between vs new
 
 -- each version is of the generation, and its number above those before it
 abbrev pub AreNumbered : ℕ → ℕ → List Version → Type 0
@@ -22,4 +30,4 @@ AreNumbered generation low (v ∷ vs) = (v.epoch ≡ generation) × (low ≤ v.s
 
 -- no number is given twice
 abbrev pub NumbersRise : Type 0
-NumbersRise = (old new : Numberer) (vs : List Version) → GiveAll old vs new → AreNumbered old.generation old.seq vs
+NumbersRise = (old new : NumbererRecord) (vs : List Version) → GiveAll old vs new → AreNumbered old.generation old.next vs

@@ -15,6 +15,7 @@ abbrev pub Run : RsRecord → List (List Action) → RsRecord → Type 0
 Run s [] t = s ≡ t
 Run s (actions ∷ rest) t = (event : Event) × (tick : ℕ) × (m : RsRecord) × Step s event tick actions m × Run m rest t
 
+-- the endpoint, of a start
 abbrev pub start_of : Action → Option EndpointRecord
 start_of (Start label endpoint) = Some endpoint
 start_of _ = None
@@ -23,6 +24,7 @@ start_of _ = None
 abbrev pub starts : List Action → List EndpointRecord
 starts = filter_map start_of
 
+-- the change, of an offer
 abbrev pub offer_of : Action → Option ChangeRecord
 offer_of (Offer change) = Some change
 offer_of _ = None

@@ -14,6 +14,7 @@ pub record RsRecord : Type 0 where
   pub next : ℕ
   pub key : ℕ
 
+-- the record of these parts
 abbrev pub rs_of : SettingsRecord → List State → ℕ → ℕ → ℕ → RsRecord
 rs_of settings states tick next key = record { settings = settings; states = states; tick = tick; next = next; key = key }
 

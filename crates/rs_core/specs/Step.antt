@@ -4,19 +4,21 @@ use Rattle.rs_core.specs.declared.action.Action.{Action}
 use Rattle.rs_core.specs.declared.event.Event.{Event}
 use Rattle.rs_core.specs.declared.deed.Plan.{Plan}
 use Rattle.rs_core.specs.State.{RsRecord, rs_of, state_at, service_at}
-use Rattle.rs_core.specs.Machine.{asked, state_after, actions_of, next_after}
+use Rattle.rs_core.specs.Machine.{asked, state_after, actions_of, next_after, IsFreeAfter}
 use Rattle.rs_core.specs.Judging.{refusal}
 
--- the deed is done to the service that is meant, and to no other; which slot is free next is left open
+-- the deed is done to the service that is meant, and to no other; which slot is free next behind a start is left open
 pub record IsDone (s : RsRecord) (tick : ℕ) (p : Plan) (actions : List Action) (t : RsRecord) : Type 0 where
   pub done : actions ≡ actions_of s (service_at s p.place) (state_at s p.place) p.deed
   pub after : t ≡ rs_of s.settings (slice_set s.states p.place (state_after s tick (service_at s p.place) (state_at s p.place) p.deed)) tick (next_after s (state_at s p.place) p.deed) t.key
+  pub free : IsFreeAfter s (state_at s p.place) p.deed t.key
 
 -- nothing is due: the tick is kept
 pub record IsIdle (s : RsRecord) (tick : ℕ) (actions : List Action) (t : RsRecord) : Type 0 where
   pub done : actions ≡ []
   pub after : t ≡ record s { tick = tick }
 
+-- what is planned is done, and where nothing is due, nothing
 abbrev pub Follows : RsRecord → ℕ → Option Plan → List Action → RsRecord → Type 0
 Follows s tick None actions t = IsIdle s tick actions t
 Follows s tick (Some p) actions t = IsDone s tick p actions t

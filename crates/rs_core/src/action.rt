@@ -1,9 +1,9 @@
 //! What RS does.
 
-ghost use Rattle.std.specs.Prelude.{◌≡◌, ◌<◌, ◌≢◌, ◌++◌, ◌∷◌, [], length, slice_get, OnOk, IfErr, OnErr, IfOk};
+ghost use Rattle.std.specs.Prelude.{◌≡◌, ◌<◌, ◌≢◌, ◌++◌, ◌∷◌, [], length, slice_get, OnOk, IfErr, OnErr, IfOk, IsOk};
 ghost use Rattle.std.specs.Option.{option_copied};
 ghost use Rattle.ds_entry.specs.Change.{rs_name, IsChange};
-ghost use Rattle.rs_core.specs.Action.{label_put, label_gone, start_actions, stop_actions};
+ghost use Rattle.rs_core.specs.Action.{IsActionInPlace, label_put, label_gone, start_actions, stop_actions};
 
 use ds_entry::{Body, Change, Floor, Value};
 use ds_names::{Endpoint, Generation, Key, Kind, Name, NoRoom, Version};
@@ -26,9 +26,10 @@ pub enum Action {
 }
 
 impl Action {
-    /// The same action again.
+    /// The same action again. The copy takes memory only for an offer of a text or of bytes, which RS never makes.
     pub fn copy(&self, alloc: Global) -> Result<Action, NoRoom>
-        ensures { IfOk result (λ action. action ≡ self.now) }
+        ensures same { IfOk result (λ action. action ≡ self.now) }
+        ensures in_place { IsActionInPlace self.now → IsOk result }
     {
         match self {
             Action::Kill(endpoint) => Ok(Action::Kill(*endpoint)),

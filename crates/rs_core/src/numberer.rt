@@ -1,9 +1,10 @@
 //! Numbers of a process's changes.
 
 ghost use Rattle.std.specs.Prelude.{◌≡◌, ◌≤◌, ◌<◌, ◌+◌, IfOk, OnErr};
-ghost use Rattle.rs_core.specs.Numbering.{Gives};
+ghost use Rattle.rs_core.specs.Numbering.{numberer, Gives};
 
 use ds_names::{Generation, Version};
+use std::marker::Model;
 use thiserror::Error;
 
 /// All sequence numbers of the generation are given.
@@ -18,10 +19,22 @@ pub struct Numberer {
     seq: u32,
 }
 
+impl Model for Numberer {
+    ghost use Rattle.std.specs.Prelude.{ℕ};
+    ghost use Rattle.std.specs.Coded.{code_by, coded×, coded_ℕ};
+    ghost use Rattle.rs_core.specs.Numbering.{NumbererRecord, numberer};
+
+    ghost Value = { NumbererRecord };
+
+    ghost coded = { code_by (ℕ × ℕ) (coded× coded_ℕ coded_ℕ) (λ n. (n.generation, n.next)) (λ p. numberer p.0 p.1) (λ n i. n) };
+
+    ghost view = { λ n. numberer n.generation n.seq };
+}
+
 impl Numberer {
     /// Numbers of a generation, from `seq` on.
     pub fn of(generation: Generation, seq: u32) -> Numberer
-        ensures { result ≡ record { generation = generation; seq = seq } }
+        ensures { result ≡ numberer generation seq }
     {
         Numberer { generation, seq }
     }
@@ -29,7 +42,7 @@ impl Numberer {
     /// The next version. SeqSpent behind number 4294967294, since no put has the greatest number. It takes no memory.
     pub fn next(&mut self) -> Result<Version, SeqSpent>
         ensures given { IfOk result (Gives self.old self.new) }
-        ensures spent { OnErr result (4294967294 < self.old.seq) }
+        ensures spent { OnErr result (4294967294 < self.old.next) }
         ensures unchanged { OnErr result (self.new ≡ self.old) }
     {
         if self.seq > 4294967294 {

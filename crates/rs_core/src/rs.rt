@@ -1,11 +1,11 @@
 //! RS itself.
 
-ghost use Rattle.std.specs.Prelude.{◌≡◌, ◌≢◌, ℕ, ◌<◌, ◌≤◌, option_map, ◌↔◌, ◌⊎◌, IsErrOf, length, replicate, None, Some, IfOk, IfErr, IfSome, OnErr};
+ghost use Rattle.std.specs.Prelude.{◌≡◌, ◌≢◌, ℕ, ◌<◌, ◌≤◌, option_map, ◌↔◌, ◌⊎◌, IsErrOf, length, replicate, None, Some, true, IfOk, IfErr, IfSome, OnErr};
 ghost use Rattle.rs_settings.specs.Settings.{IsService, IsSettings};
 ghost use Rattle.rs_core.specs.State.{rs_of, state_at, service_at};
 ghost use Rattle.rs_core.specs.Finding.{place_of};
-ghost use Rattle.rs_core.specs.Machine.{failures_of};
-ghost use Rattle.rs_core.specs.Judging.{refusal};
+ghost use Rattle.rs_core.specs.Machine.{asked, failures_of};
+ghost use Rattle.rs_core.specs.Judging.{refusal, asks, has_actions};
 ghost use Rattle.rs_core.specs.Step.{Step};
 ghost use Rattle.rs_core.specs.Kept.{IsNotAt, HaveTwoSlots};
 
@@ -80,10 +80,14 @@ impl Rs {
     }
 
     /// One event at a tick: what RS does then, in order. A refused event changes nothing, the tick included.
+    ///
+    /// NoRoom comes behind every other fault, and only for an event that has actions: not for a heartbeat, the end of a
+    /// wait by `Stop`, or a tick at which nothing is due.
     pub fn event(&mut self, event: Event, tick: u64) -> Result<Actions, RsFault>
         ensures step { IfOk result (λ actions. Step self.old event tick actions self.new) }
         ensures refused { IfErr result (λ fault. fault ≢ RsFault.NoRoom → refusal self.old event tick ≡ Some fault) }
         ensures last { IfErr result (λ fault. fault ≡ RsFault.NoRoom → refusal self.old event tick ≡ None) }
+        ensures room { IfErr result (λ fault. fault ≡ RsFault.NoRoom → asks has_actions (asked self.old event tick) ≡ true) }
         ensures unchanged { OnErr result (self.new ≡ self.old) }
     {
         match self.judge(&event, tick) {

@@ -1,6 +1,6 @@
 -- A text among texts in ascending order: where it is, or where it goes.
-use Rattle.std.proofs.Common.{◌≡◌, ℕ, ◌<◌, ◌≤◌, ◌||◌, ◌&&◌, ◌+◌, ◌==◌, Bool, true, false, List, [], ◌∷◌, ◌++◌, length, get_or, take, drop, map, Ordering, Less, Equal, Greater, nat_cmp, is_eq, refl, sym, subst, ap, ◌∙◌, arith, inl, inr, zero, suc, ◌⊎◌}
-use Rattle.std.specs.List.{list_any, insert, AllWithin}
+use Rattle.std.proofs.Common.{◌≡◌, ℕ, ◌<◌, ◌≤◌, ◌||◌, ◌+◌, Bool, true, false, List, [], ◌∷◌, ◌++◌, length, get_or, take, drop, map, Ordering, Less, Equal, Greater, nat_cmp, is_eq, refl, sym, subst, ap, ◌∙◌, arith, inl, inr, zero, suc, ◌⊎◌}
+use Rattle.std.specs.List.{list_any, insert}
 use Rattle.std.specs.List.Sorted.{IsNonDecreasingBy, IsPartitionPoint}
 use Rattle.std.specs.Ordering.{ordering_index, ordering_reverse}
 use Rattle.std.specs.Cmp.Lexicographic.{slice_cmp}

@@ -1,5 +1,5 @@
 -- The tables of a document, one after the other.
-use Rattle.std.proofs.Common.{◌≡◌, ℕ, ◌<◌, ◌≤◌, ◌&&◌, Bool, true, false, nat_le, cond, List, [], ◌∷◌, ◌++◌, length, get_or, take, drop, ◌+◌, map, Option, Some, None, refl, sym, subst, ap, ◌∙◌, arith, inl, inr, zero, suc, length-append}
+use Rattle.std.proofs.Common.{◌≡◌, ℕ, ◌<◌, ◌≤◌, ◌&&◌, true, false, nat_le, List, [], ◌∷◌, ◌++◌, length, get_or, drop, ◌+◌, map, Some, None, refl, sym, subst, ap, ◌∙◌, arith, inl, inr, zero, suc, length-append}
 use Rattle.std.specs.List.{All, list_all}
 use Rattle.std.proofs.lemmas.List.Elements.{All-append}
 use Rattle.std.proofs.lemmas.List.{drop_all, map-append}
@@ -19,7 +19,7 @@ use Rattle.rs_settings.specs.declared.fault.SettingsFault.{SettingsFault}
 use Rattle.rs_settings.specs.declared.service.Service.{Service}
 use Rattle.rs_settings.specs.Values.{item_count}
 use Rattle.rs_settings.specs.Service.{service_at, services_in, go_on}
-use Rattle.rs_settings.specs.Settings.{tables_of, document}
+use Rattle.rs_settings.specs.Settings.{document}
 use Rattle.rs_settings.proofs.ValueLemmas.{item_count-view}
 
 services_in-step : (before : List Service) (vs : List Value) (i : ℕ) (d : Value) → i < length vs → services_in before (items_view (drop i vs)) ≡ go_on (λ s. services_in (before ++ s ∷ []) (items_view (drop (i + 1) vs))) (service_at (length before) (as_table (view (get_or vs i d))))

@@ -1,5 +1,5 @@
 -- What a table of the settings says of a service, or the first thing that is wrong with it.
-use Rattle.std.specs.Prelude.{ℕ, Bool, true, false, not, ◌&&◌, ◌||◌, is_none, List, [], ◌∷◌, ◌++◌, length, codes, Option, Some, None, option_and_then, ok_or, Result, Ok, Err, if◌then◌else◌}
+use Rattle.std.specs.Prelude.{ℕ, Bool, false, not, ◌&&◌, ◌||◌, is_none, List, [], ◌∷◌, ◌++◌, length, codes, Option, Some, None, option_and_then, ok_or, Result, Ok, Err, if◌then◌else◌}
 use Rattle.toml.specs.Data.{Data, Items, no_items, item, Members, get_member, as_table}
 use Rattle.rs_settings.specs.declared.class.Class.{Class}
 use Rattle.rs_settings.specs.declared.service.Service.{Service}
@@ -13,6 +13,7 @@ use Rattle.rs_settings.specs.Values.{is_same, keys_pass, number_or, label_in, na
 abbrev pub is_service_field : List ℕ → Bool
 is_service_field key = is_same key (codes "label") || is_same key (codes "class") || is_same key (codes "unit") || is_same key (codes "period") || is_same key (codes "limit") || is_same key (codes "publishes")
 
+-- a class that could be read, and is `server`
 abbrev pub is_server_class : Option Class → Bool
 is_server_class None = false
 is_server_class (Some class) = is_server class
@@ -55,11 +56,12 @@ abbrev pub indexed : ℕ → Result Service SettingsCause → Result Service Set
 indexed index (Ok service) = Ok service
 indexed index (Err cause) = Err (at_service cause index)
 
--- the service of an item of the array, which has to be a table
+-- the service of an item of the array; that each item is a table is judged at the top
 abbrev pub service_at : ℕ → Option Members → Result Service SettingsFault
 service_at index None = Err (at_top OutOfRange)
 service_at index (Some fields) = indexed index (service_in fields)
 
+-- the rest is read only behind a service that has no fault
 abbrev pub go_on : (Service → Result (List Service) SettingsFault) → Result Service SettingsFault → Result (List Service) SettingsFault
 go_on rest (Ok service) = rest service
 go_on rest (Err fault) = Err fault

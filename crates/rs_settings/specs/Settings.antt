@@ -18,6 +18,7 @@ pub record SettingsRecord : Type 0 where
   pub slots : ℕ
   pub services : List Service
 
+-- the settings of so many slots and these services
 abbrev pub settings : ℕ → List Service → SettingsRecord
 settings slots services = record { slots = slots; services = services }
 
@@ -43,10 +44,12 @@ abbrev pub unless_shared : ℕ → List Service → Option SettingsFault → Res
 unless_shared slots services None = Ok (settings slots services)
 unless_shared slots services (Some fault) = Err fault
 
+-- a fault of one service comes before those that services have together
 abbrev pub with_services : ℕ → Result (List Service) SettingsFault → Result SettingsRecord SettingsFault
 with_services slots (Ok services) = unless_shared slots services (shared_fault services)
 with_services slots (Err fault) = Err fault
 
+-- both values at the top are judged before any service
 abbrev pub with_top : Option ℕ → Option Items → Result SettingsRecord SettingsFault
 with_top (Some slots) (Some tables) = with_services slots (services_in [] tables)
 with_top (Some slots) None = Err (at_top OutOfRange)
@@ -58,6 +61,7 @@ settings_in doc =
     if not (keys_pass is_top_field doc) then Err (at_top UnknownField)
     else with_top (number_or 64 1 1008 (get_member (codes "slots") doc)) (tables_or (get_member (codes "service") doc))
 
+-- no document is the first fault of all
 abbrev pub settings_of_document : Option Members → Result SettingsRecord SettingsFault
 settings_of_document None = Err (at_top BadToml)
 settings_of_document (Some doc) = settings_in doc

@@ -17,10 +17,12 @@ is_network Block = false
 is_network Character = false
 is_network Server = false
 
+-- both are numbers, and one number; a server has none
 abbrev pub is_same_number : Option ℕ → Option ℕ → Bool
 is_same_number (Some m) (Some n) = m == n
 is_same_number _ _ = false
 
+-- both hold or neither does
 abbrev pub is_same_bool : Bool → Bool → Bool
 is_same_bool true b = b
 is_same_bool false true = false

@@ -166,6 +166,7 @@ fn of_tables(alloc: Global, slots: u32, tables: &[Value]) -> Result<Settings, Se
     ensures read { IfOk result (λ settings. with_services slots (services_in [] (items_view tables.now)) ≡ Ok settings) }
     ensures refused { IfErr result (λ fault. fault.cause ≢ SettingsCause.NoRoom → with_services slots (services_in [] (items_view tables.now)) ≡ Err fault) }
     ensures last { IfErr result (λ fault. fault.cause ≡ SettingsCause.NoRoom → IsOk (with_services slots (services_in [] (items_view tables.now)))) }
+    ensures room { IfErr result (λ fault. fault.cause ≡ SettingsCause.NoRoom → fault ≡ no_room) }
     ensures settings { IfOk result IsSettings }
 {
     let drafts = drafts(tables)?;
@@ -178,11 +179,12 @@ fn of_tables(alloc: Global, slots: u32, tables: &[Value]) -> Result<Settings, Se
     }
 }
 
-/// Reads the settings of a TOML document. NoRoom comes only where the document has no fault.
+/// Reads the settings of a TOML document. NoRoom comes only where the document has no fault, and has no index.
 pub fn read_table(alloc: Global, table: &Table) -> Result<Settings, SettingsFault>
     ensures read { IfOk result (λ settings. settings_in (table_view table.now) ≡ Ok settings) }
     ensures refused { IfErr result (λ fault. fault.cause ≢ SettingsCause.NoRoom → settings_in (table_view table.now) ≡ Err fault) }
     ensures last { IfErr result (λ fault. fault.cause ≡ SettingsCause.NoRoom → IsOk (settings_in (table_view table.now))) }
+    ensures room { IfErr result (λ fault. fault.cause ≡ SettingsCause.NoRoom → fault ≡ no_room) }
     ensures settings { IfOk result IsSettings }
 {
     if !has_top_fields(table) {
@@ -203,10 +205,12 @@ pub fn read_table(alloc: Global, table: &Table) -> Result<Settings, SettingsFaul
 /// Reads the settings of a text, or finds its first fault.
 ///
 /// What is read is a function of the text, which has to be one TOML document in UTF-8. NoRoom may come in the place of
-/// BadToml, for want of memory to read the TOML; what the settings take comes last, behind every other fault.
+/// BadToml, for want of memory to read the TOML; what the settings take comes last, behind every other fault. NoRoom has
+/// no index.
 pub fn read(alloc: Global, text: &[u8]) -> Result<Settings, SettingsFault>
     ensures read { IfOk result (λ settings. settings_of text.now ≡ Ok settings) }
     ensures refused { IfErr result (λ fault. fault.cause ≢ SettingsCause.NoRoom → settings_of text.now ≡ Err fault) }
+    ensures room { IfErr result (λ fault. fault.cause ≡ SettingsCause.NoRoom → fault ≡ no_room) }
     ensures settings { IfOk result IsSettings }
 {
     match toml::table_from_slice(alloc, text) {

@@ -1,5 +1,5 @@
-//! Rows of calls and their answers, with ample memory: the lines of scripts, and whole scripts whose reads and
-//! writes fail in turn.
+//! Rows of calls and their answers, with ample memory: what no script asks and no line answers yet, and whole scripts
+//! whose reads and writes fail in turn.
 //!
 //! A contract can't say that memory is there, so a body that always gives up would be proved; here each call is
 //! made and its answer compared. The rows stand in a crate of their own, since a crate with tests is proved twice.
@@ -7,8 +7,6 @@
 
 #[cfg(test)]
 mod asking;
-#[cfg(test)]
-mod reading;
 #[cfg(test)]
 mod replies;
 #[cfg(test)]

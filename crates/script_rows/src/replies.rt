@@ -1,7 +1,7 @@
-//! The lines that answer each reply.
+//! The lines that answer merges and refusals; those of other replies are printed by scripts.
 
-use ds_entry::{Blob, Body, Change, Items, Text, Value};
-use ds_names::{Endpoint, Generation, Key, Kind, Name, Version};
+use ds_entry::{Body, Change};
+use ds_names::{Generation, Key, Kind, Name, Version};
 use ds_store::{Refusal, Reply};
 use ds_words::{ScriptCommand, write_reply};
 use std::alloc::Global;
@@ -37,20 +37,6 @@ fn tombstone(rt: &impl Abort) -> Change {
     made.expect(rt, "a change")
 }
 
-#[test]
-fn a_check_prints_its_changes_and_stamps(rt: HostRuntime) {
-    let mut items = Items::new(rt.alloc());
-    let pushed = items.push(tombstone(&rt));
-    assert!(rt; pushed.is_ok());
-    let reply = Reply::Checked {
-        items,
-        before: 1,
-        after: 4611686018427387904,
-    };
-    let text = b"eth0 label rs 3.1 -\nchecked 1 1 4611686018427387904\n";
-    prints(&rt, rt.alloc(), reply, text);
-}
-
 fn merged(taken: usize, stale: usize, owed: u64) -> Reply {
     Reply::Merged {
         done: 1,
@@ -83,49 +69,6 @@ fn merges_have_their_words(rt: HostRuntime) {
     offered(&rt, alloc, stopped(0), b"refused notowner\n");
     prints(&rt, alloc, merged(1, 0, 0), b"merged 1 1 0\n");
     prints(&rt, alloc, stopped(2), b"stopped 2 notowner\n");
-}
-
-#[test]
-fn replies_have_their_words(rt: HostRuntime) {
-    let alloc = rt.alloc();
-    prints(&rt, alloc, Reply::Known, b"known\n");
-    let swept = Reply::Swept { count: 12, owed: 1 };
-    prints(&rt, alloc, swept, b"swept 12\nowed 0000000000000001\n");
-    prints(
-        &rt,
-        alloc,
-        Reply::Named(name(&rt, b"eth0")),
-        b"named eth0\n",
-    );
-    prints(
-        &rt,
-        alloc,
-        Reply::Subscribed { stamp: 2, owed: 0 },
-        b"subscribed 2\n",
-    );
-    let changed = Reply::Changed {
-        owed: 0x8123_4567_89ab_cdef,
-    };
-    prints(&rt, alloc, changed, b"taken\nowed 8123456789abcdef\n");
-}
-
-fn found(rt: &impl Abort, alloc: Global, value: Value, text: &[u8]) {
-    prints(rt, alloc, Reply::Found(value), text);
-}
-
-#[test]
-fn what_is_found_is_printed(rt: HostRuntime) {
-    let alloc = rt.alloc();
-    let generation = Generation::of(3).expect(&rt, "a generation");
-    let endpoint = Endpoint::of(generation, 17).expect(&rt, "an endpoint");
-    found(&rt, alloc, Value::Label(endpoint), b"found 3/17\n");
-    found(&rt, alloc, Value::U32(1400), b"found 1400\n");
-    let text = Text::read(alloc, b"a\"b").expect(&rt, "a text");
-    found(&rt, alloc, Value::Str(text), b"found \"a\\\"b\"\n");
-    let blob = Blob::read(alloc, b"\x00\xff").expect(&rt, "a blob");
-    found(&rt, alloc, Value::Mem(blob), b"found 00ff\n");
-    let empty = Blob::read(alloc, b"").expect(&rt, "a blob");
-    found(&rt, alloc, Value::Mem(empty), b"found \n");
 }
 
 #[test]

@@ -1,12 +1,8 @@
-//! Rows of calls and their answers, with ample memory: settings, the restart machine, and driver tables.
+//! Calls of settings, of RS and of the driver tables that no program makes, with ample memory.
 //!
-//! A contract can't say that memory is there, so a body that always gives up would be proved; here each call is
-//! made and its answer compared. The rows stand in a crate of their own, since a crate with tests is proved twice.
+//! A contract can't say that memory is there, so a body that always gives up would be proved; here each such call is
+//! made and its answer compared. What `dsctl settings`, `rs_demo` and `tables_demo` call is compared with what they print.
 #![tactic(auto)]
 
 #[cfg(test)]
-mod restarts;
-#[cfg(test)]
-mod settings;
-#[cfg(test)]
-mod tables;
+mod copies;

@@ -1,7 +1,6 @@
-//! Where stores, positions, stamps and merges end, which no script reaches, and with ample memory a Publish, a
-//! Retrieve and a Merge of each kind of value.
+//! Where stores, positions, stamps and merges of many items end, which no script reaches.
 
-use ds_entry::{Blob, Body, Change, Items, Text, Value};
+use ds_entry::{Body, Change, Items, Value};
 use ds_names::{Endpoint, Generation, Key, Kind, Kinds, Name, Version};
 use ds_pattern::{PatternText, Query};
 use ds_store::{Command, Refusal, Reply, Store, run};
@@ -152,25 +151,7 @@ fn stopped(done: usize, fault: Refusal, owed: u64) -> Reply {
 
 // Stops the test unless the command is answered as is wanted.
 fn answered(rt: &impl Abort, store: &mut Store, command: Command, wanted: Reply) {
-    assert_eq!(rt; store.apply(command), wanted);
-}
-
-// The value is published, found, and merged into another store.
-fn goes_round(rt: &impl Abort, alloc: Global, store: &mut Store, value: Value) {
-    let copy = value.copy(alloc).expect(rt, "memory");
-    let again = value.copy(alloc).expect(rt, "memory");
-    let key = key(rt, "mtu", value.kind());
-    answered(
-        rt,
-        store,
-        publish(rt, eth0(rt), "mtu", 0, value, false),
-        changed(0),
-    );
-    answered(rt, store, Command::Retrieve { key }, Reply::Found(copy));
-    let mut items = Items::new(alloc);
-    assert!(rt; items.push(change(rt, "mtu", "eth0", 0, again)).is_ok());
-    let mut other = opened(rt, alloc, 0);
-    answered(rt, &mut other, Command::Merge { items }, merged(1, 1));
+    assert!(rt; store.apply(command) == wanted);
 }
 
 // Stops the test unless no store is opened, for this reason.
@@ -199,18 +180,6 @@ fn stores_are_opened_within_their_limits(rt: HostRuntime) {
 }
 
 #[test]
-fn each_kind_goes_round(rt: HostRuntime) {
-    let alloc = rt.alloc();
-    let mut store = opened(&rt, alloc, 0);
-    answered(&rt, &mut store, up(&rt), changed(0));
-    goes_round(&rt, alloc, &mut store, Value::U32(1500));
-    let text = Text::read(alloc, b"up").expect(&rt, "a text");
-    goes_round(&rt, alloc, &mut store, Value::Str(text));
-    let blob = Blob::read(alloc, &[0x00, 0xff]).expect(&rt, "a blob");
-    goes_round(&rt, alloc, &mut store, Value::Mem(blob));
-}
-
-#[test]
 fn a_stopped_merge_keeps_its_first_items(rt: HostRuntime) {
     let alloc = rt.alloc();
     let mut store = opened(&rt, alloc, 0);
@@ -227,7 +196,7 @@ fn a_stopped_merge_keeps_its_first_items(rt: HostRuntime) {
     add(&rt, &mut items, "c", "eth0", 0);
     let wanted = stopped(4, Refusal::NotOwner, (1 << 63) + 2);
     answered(&rt, &mut store, Command::Merge { items }, wanted);
-    assert_eq!(rt; store.held().len(), 2);
+    assert!(rt; store.held().len() == 2);
 }
 
 #[test]
@@ -242,7 +211,7 @@ fn a_full_store(rt: HostRuntime) {
     }
     let beyond = offers(&rt, alloc, 1000, 1100);
     answered(&rt, &mut store, beyond, stopped(24, Refusal::Full, 0));
-    assert_eq!(rt; store.held().len(), 1024);
+    assert!(rt; store.held().len() == 1024);
 }
 
 #[test]
@@ -276,7 +245,7 @@ fn a_change_at_the_last_place(rt: HostRuntime) {
         delete(&rt, "mtu", 1),
         refused(Refusal::Worn),
     );
-    assert_eq!(rt; store.position(), LAST);
+    assert!(rt; store.position() == LAST);
 }
 
 #[test]

@@ -4,7 +4,7 @@ ghost use Rattle.std.specs.Prelude.{◌≡◌, ◌<◌, ◌≤◌, ◌+◌, ◌^
 ghost use Rattle.rs_core.specs.Action.{start_actions, stop_actions};
 ghost use Rattle.rs_core.specs.State.{rs_of, state_at, service_at};
 ghost use Rattle.rs_core.specs.Machine.{started_at, failed, new_endpoint, same_slot};
-ghost use Rattle.rs_core.specs.Judging.{lack_for};
+ghost use Rattle.rs_core.specs.Judging.{lack_for, has_actions};
 ghost use Rattle.rs_core.specs.Step.{IsDone};
 ghost use Rattle.rs_core.specs.Kept.{IsAtRest};
 
@@ -32,6 +32,7 @@ impl Rs {
         requires room { lack_for self.old plan.deed ≡ None }
         ensures done { IfOk result (λ actions. IsDone self.old tick plan actions self.new) }
         ensures err { IfErr result (λ fault. fault ≡ RsFault.NoRoom) }
+        ensures room { OnErr result (has_actions plan.deed ≡ true) }
         ensures unchanged { OnErr result (self.new ≡ self.old) }
     {
         let place = plan.place;
@@ -180,6 +181,7 @@ impl Rs {
         requires failures { running.failures ≤ 1000 }
         ensures done { IfOk result (λ actions. actions ≡ stop_actions kill (service_at self.old place).label running.endpoint) }
         ensures after { OnOk result (self.new ≡ rs_of self.old.settings (slice_set self.old.states place (failed (service_at self.old place).limit tick (running.failures + 1))) tick self.old.next self.new.key) }
+        ensures freed { OnOk result (self.new.key + 16 ≡ running.endpoint.slot) }
         ensures err { IfErr result (λ fault. fault ≡ RsFault.NoRoom) }
         ensures unchanged { OnErr result (self.new ≡ self.old) }
     {

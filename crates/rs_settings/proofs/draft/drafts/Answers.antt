@@ -1,4 +1,4 @@
-use Rattle.std.proofs.Common.{◌≡◌, ◌≤◌, ◌+◌, ◌∷◌, ◌++◌, [], List, ℕ, Ok, Err, get_or, drop, length, map, ap, sym, subst, ◌∙◌, arith}
+use Rattle.std.proofs.Common.{◌≡◌, ◌+◌, ◌∷◌, ◌++◌, [], List, ℕ, Ok, Err, get_or, drop, length, map, sym, subst, ◌∙◌, arith}
 use Rattle.toml.specs.View.{view, items_view}
 use Rattle.toml.specs.Data.{as_table}
 use Rattle.toml.specs.declared.value.Value.{Value}

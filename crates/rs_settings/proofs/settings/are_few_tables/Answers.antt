@@ -1,4 +1,4 @@
-use Rattle.std.proofs.Common.{◌≡◌, ◌∙◌, sym, arith, nat_le, false}
+use Rattle.std.proofs.Common.{◌≡◌, arith, nat_le, false}
 use Rattle.std.proofs.lemmas.Bool.Decides.{nat_tests}
 use Rattle.rs_settings.proofs.TableLemmas.{few-yes, few-no}
 use Rattle.rs_settings.proofs.settings.are_few_tables.Goals as goal

@@ -1,9 +1,9 @@
-use Rattle.std.proofs.Common.{◌≡◌, Option, Some, None, Ok, Err, IfOk, IfErr, subst, sym, ap, ◌∙◌}
+use Rattle.std.proofs.Common.{◌≡◌, Option, Ok, Err, IfOk, IfErr, subst, sym, ap, ◌∙◌}
 use Rattle.std.proofs.lemmas.Bool.{false≢true}
 use Rattle.rs_settings.specs.declared.fault.SettingsFault.{SettingsFault}
 use Rattle.toml.specs.Data.{Members}
 use Rattle.toml.specs.View.{table_view}
-use Rattle.rs_settings.specs.Settings.{settings_of_document, document}
+use Rattle.rs_settings.specs.Settings.{settings_of_document}
 use Rattle.rs_settings.proofs.TableLemmas.{document-read, document-refused}
 use Rattle.rs_settings.specs.declared.fault.SettingsCause.TheVariants.{NoRoom}
 use Rattle.rs_settings.proofs.settings.read.Goals as goal

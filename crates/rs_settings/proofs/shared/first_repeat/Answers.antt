@@ -1,4 +1,4 @@
-use Rattle.std.proofs.Common.{◌≡◌, ◌≤◌, ◌<◌, ◌++◌, ℕ, List, length, map, get_or, true, false, sym, subst, ◌∙◌, arith}
+use Rattle.std.proofs.Common.{◌≡◌, ◌≤◌, ◌<◌, ◌++◌, length, map, true, false, sym, subst, ◌∙◌, arith}
 use Rattle.rs_settings.specs.declared.draft.Draft.{Draft}
 use Rattle.rs_settings.specs.Shared.{has_name, repeats}
 use Rattle.rs_settings.specs.Settings.{IsService}

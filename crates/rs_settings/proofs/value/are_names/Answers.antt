@@ -2,11 +2,10 @@ use Rattle.std.proofs.Common.{◌∙◌, sym, rules, tests}
 use Rattle.std.specs.Option.{is_some}
 use Rattle.std.proofs.lemmas.Iterator.Search.{all_from_yields_List}
 use Rattle.std.proofs.lemmas.Iterator.{YieldsList-from_slice}
-use Rattle.std.proofs.Common.{◌≡◌, Bool, List, map, cond, Some, None}
+use Rattle.std.proofs.Common.{◌≡◌}
 use Rattle.std.specs.List.{list_all}
 use Rattle.toml.specs.View.{view}
 use Rattle.rs_settings.specs.Values.{name_in}
-use Rattle.rs_settings.specs.Draft.{text_of}
 use Rattle.rs_settings.proofs.ValueLemmas.{each_of-names, all-names}
 use Rattle.rs_settings.proofs.value.are_names.Goals as goal
 

@@ -1,6 +1,5 @@
-use Rattle.std.proofs.Common.{◌≡◌, List, ℕ, Some, None, sym, ◌∙◌, ap, subst}
+use Rattle.std.proofs.Common.{◌≡◌, List, ℕ, Some, sym, ◌∙◌, ap, subst}
 use Rattle.ds_names.specs.Name.{IsName}
-use Rattle.rs_settings.specs.Values.{name_of}
 use Rattle.rs_settings.proofs.ValueLemmas.{name_of-name, name_of-none}
 use Rattle.rs_settings.proofs.value.name_of.Goals as goal
 

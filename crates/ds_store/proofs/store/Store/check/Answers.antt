@@ -50,7 +50,7 @@ returns-then-count-eq0 c = λ s stands.
     let high : c.args.max ≤ 256 = omega (arith, c.if-max-gt256.false) in
     let items : c.in-Ok.shown.items ≡ take c.args.max (to_show v s here c.args.sub c.args.max u w t place low high) =
     first_are c.self.inside.held c.args.sub c.args.max c.in-Ok.shown.items c.in-Ok.shown.passed c.in-Ok.ensures.first ∙ ap (take c.args.max) (to_show_is v.held sorted u c.args.sub w t.seer t.same) in
-    let nothing : length c.in-Ok.shown.items ≡ 0 = sym c.len-count.ensures ∙ c.if-count-eq0.true in
+    let nothing : length c.in-Ok.shown.items ≡ 0 = sym c.len-count.ensures.count ∙ c.if-count-eq0.true in
     let none : length (take c.args.max (to_show v s here c.args.sub c.args.max u w t place low high)) ≡ 0 = ap (λ (l : List ChangeRecord). length l) (sym items) ∙ nothing in (
       s,
       subst (λ (l : List ChangeRecord). Answers s (checking s c.args.sub c.args.max) (Checked l c.stamp-before.result c.stamp-before.result) s) (sym (no_length c.in-Ok.shown.items nothing))
@@ -71,7 +71,7 @@ returns-then-self-ge-LAST_PLACE-2 c = λ s stands.
     let high : c.args.max ≤ 256 = omega (arith, c.if-max-gt256.false) in
     let items : c.in-Ok.shown.items ≡ take c.args.max (to_show v s here c.args.sub c.args.max u w t place low high) =
     first_are c.self.inside.held c.args.sub c.args.max c.in-Ok.shown.items c.in-Ok.shown.passed c.in-Ok.ensures.first ∙ ap (take c.args.max) (to_show_is v.held sorted u c.args.sub w t.seer t.same) in
-    let some : 0 < length (take c.args.max (to_show v s here c.args.sub c.args.max u w t place low high)) = omega (arith, ap (λ (l : List ChangeRecord). length l) items, c.len-count.ensures, c.if-count-eq0.false) in
+    let some : 0 < length (take c.args.max (to_show v s here c.args.sub c.args.max u w t place low high)) = omega (arith, ap (λ (l : List ChangeRecord). length l) items, c.len-count.ensures.count, c.if-count-eq0.false) in
     (s, check_worn v s here c.args.sub c.args.max u w t place low high (taken_any v s here c.args.sub c.args.max u w t place low high some) c.if-self-ge-LAST_PLACE-2.true, stands)
 
 -- what wants memory is to be shown, and takes a stamp
@@ -124,7 +124,7 @@ returns c = λ s stands.
     let high : max ≤ 256 = omega (arith, c.if-max-gt256.false) in
     let items : shown.items ≡ take max (to_show v s here sub max u w t place low high) =
     first_are old sub max shown.items shown.passed c.in-Ok.ensures.first ∙ ap (take max) (to_show_is v.held sorted u sub w t.seer t.same) in
-    let some : 0 < length (take max (to_show v s here sub max u w t place low high)) = omega (arith, ap (λ (l : List ChangeRecord). length l) items, c.len-count.ensures, c.if-count-eq0.false) in
+    let some : 0 < length (take max (to_show v s here sub max u w t place low high)) = omega (arith, ap (λ (l : List ChangeRecord). length l) items, c.len-count.ensures.count, c.if-count-eq0.false) in
     let fresh : v.stamp < last_place = omega (arith, c.if-self-ge-LAST_PLACE-2.false) in
     let state = subscribes s sub t.seer.query (t.seer.shown ++ shown.items) in
     let same : followed_by v.held (unseen_at new.marks) sub (watching w.query (v.stamp + 1)) ≡ followed_of v.held (record { query = t.seer.query; stamp = v.stamp + 1; shown = t.seer.shown ++ shown.items }) =

@@ -1,5 +1,5 @@
-use Rattle.std.proofs.Common.{◌≡◌, ◌<◌, ◌≤◌, ◌-◌, ◌∙◌, Some, None, sym, subst, ap, arith, length, get_or, refl}
-use Rattle.slab.specs.Slab.{get, Updates}
+use Rattle.std.proofs.Common.{◌≡◌, ◌<◌, ◌-◌, ◌∙◌, None, sym, subst, ap, arith, length, get_or}
+use Rattle.slab.specs.Slab.{Updates}
 use Rattle.rs_core.specs.declared.state.State.TheVariants.{Down, Up}
 use Rattle.rs_core.specs.State.{RsRecord, state_at}
 use Rattle.rs_core.proofs.KeptLemmas.{at_rest, replaced, up_keeps}

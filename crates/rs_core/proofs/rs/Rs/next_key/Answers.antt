@@ -1,4 +1,4 @@
-use Rattle.std.proofs.Common.{◌≡◌, ◌<◌, length, get_or, subst, arith}
+use Rattle.std.proofs.Common.{◌<◌, length, get_or, subst, arith}
 use Rattle.rs_core.specs.declared.state.State.TheVariants.{Down}
 use Rattle.rs_core.specs.State.{RsRecord, state_at}
 use Rattle.rs_core.specs.Kept.{HaveTwoSlots}

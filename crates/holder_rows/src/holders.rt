@@ -1,6 +1,6 @@
-//! Outside values, and with ample memory each call on its happy path.
+//! Holders that are joined, full or cleared, and marks beside changes.
 
-use ds_entry::{Blob, Body, Change, Text, Value};
+use ds_entry::{Blob, Body, Change, Items, Text, Value};
 use ds_join::{Held, JoinFault, Marked, Merge, Stop};
 use ds_names::{Endpoint, Generation, Key, Kind, Name, Version};
 use std::alloc::Global;
@@ -60,6 +60,11 @@ fn holder(rt: &impl Abort, alloc: Global, front: &str, count: u32) -> Held {
     held
 }
 
+// Stops the test unless the other holder is joined.
+fn joins(rt: &impl Abort, alloc: Global, held: &mut Held, other: &Held) {
+    assert!(rt; held.join(alloc, other).is_ok());
+}
+
 // Stops the test unless a copy of the value is taken, and joined into another holder.
 fn is_copied(rt: &impl Abort, alloc: Global, value: Value) {
     let name = name(rt, "eth0");
@@ -67,36 +72,14 @@ fn is_copied(rt: &impl Abort, alloc: Global, value: Value) {
     let change = change(rt, Key { name, kind }, 3, Body::Put(value));
     let mut held = Held::new(alloc);
     assert!(rt; held.merge_copy(alloc, &change) == Ok(Merge::Taken));
-    assert!(rt; held.merge_copy(alloc, &change) == Ok(Merge::Known));
     let mut other = Held::new(alloc);
-    assert!(rt; other.join(alloc, &held).is_ok());
+    joins(rt, alloc, &mut other, &held);
     assert!(rt; other.get(change.key()) == Some(&change));
-}
-
-#[test]
-fn the_greatest_version_stands(rt: HostRuntime) {
-    let mut held = Held::new(rt.alloc());
-    let eth0 = key(&rt, "eth0");
-    takes(&rt, &mut held, put(&rt, "eth0", 3, 17));
-    let first = put(&rt, "eth0", 3, 17);
-    let version = first.version();
-    assert!(rt; held.get(&eth0) == Some(&first));
-    assert!(rt; held.merge(first) == Ok(Merge::Known));
-    assert!(rt; held.merge(put(&rt, "eth0", 2, 9)) == Ok(Merge::Stale));
-    let clash = Err(JoinFault::Clash { version });
-    assert!(rt; held.merge(put(&rt, "eth0", 3, 18)) == clash);
-    assert!(rt; held.live(&eth0) == Some(&Value::Label(endpoint(&rt, 3, 17))));
-    takes(&rt, &mut held, gone(&rt, "eth0", 3));
-    assert!(rt; held.live(&eth0).is_none());
-    assert_eq!(rt; held.len(), 1);
-    held.clear();
-    assert_eq!(rt; held.len(), 0);
 }
 
 #[test]
 fn a_full_holder(rt: HostRuntime) {
     let mut held = holder(&rt, rt.alloc(), "a", 1024);
-    assert_eq!(rt; held.len(), 1024);
     assert!(rt; held.merge(put(&rt, "b", 3, 17)) == Err(JoinFault::Full));
     takes(&rt, &mut held, put(&rt, "a7", 4, 17));
     let mut left = holder(&rt, rt.alloc(), "a", 600);
@@ -106,42 +89,32 @@ fn a_full_holder(rt: HostRuntime) {
         fault: JoinFault::Full,
     };
     assert!(rt; left.join(rt.alloc(), &right) == Err(stop));
-    assert_eq!(rt; left.len(), 1024);
+    assert!(rt; left.len() == 1024);
+    left.clear();
+    assert!(rt; left.len() == 0);
+}
+
+// Stops the test unless the change stands at the index.
+fn is_at(rt: &impl Abort, items: &Items, index: usize, change: Change) {
+    assert!(rt; items.get(index) == Some(&change));
 }
 
 #[test]
 fn two_join_in_the_order_of_their_keys(rt: HostRuntime) {
-    let mut left = Held::new(rt.alloc());
+    let alloc = rt.alloc();
+    let mut left = Held::new(alloc);
     takes(&rt, &mut left, put(&rt, "tty", 1, 4));
     takes(&rt, &mut left, put(&rt, "eth0", 3, 17));
-    let mut right = Held::new(rt.alloc());
+    let mut right = Held::new(alloc);
     takes(&rt, &mut right, gone(&rt, "eth0", 2));
     takes(&rt, &mut right, put(&rt, "disk", 1, 5));
     takes(&rt, &mut right, gone(&rt, "tty", 1));
-    assert!(rt; left.join(rt.alloc(), &right).is_ok());
-    let all = left.all(rt.alloc()).expect(&rt, "memory");
-    assert_eq!(rt; all.len(), 3);
-    assert!(rt; all.get(0) == Some(&put(&rt, "disk", 1, 5)));
-    assert!(rt; all.get(1) == Some(&put(&rt, "eth0", 3, 17)));
-    assert!(rt; all.get(2) == Some(&gone(&rt, "tty", 1)));
-    let disk = key(&rt, "disk");
-    assert!(rt; left.first_after(Some(&disk)) == Some(&put(&rt, "eth0", 3, 17)));
-}
-
-#[test]
-fn the_least_live_label_names_an_endpoint(rt: HostRuntime) {
-    let mut held = Held::new(rt.alloc());
-    let end = endpoint(&rt, 3, 17);
-    assert!(rt; held.label_at(end).is_none());
-    for text in ["tty", "eth0", "vga", "boot"] {
-        takes(&rt, &mut held, put(&rt, text, 3, 17));
-    }
-    takes(&rt, &mut held, put(&rt, "disk", 3, 18));
-    takes(&rt, &mut held, put(&rt, "cdrom", 4, 17));
-    takes(&rt, &mut held, gone(&rt, "boot", 3));
-    assert!(rt; held.label_at(end) == Some(&name(&rt, "eth0")));
-    takes(&rt, &mut held, put(&rt, "eth0", 4, 9));
-    assert!(rt; held.label_at(end) == Some(&name(&rt, "tty")));
+    joins(&rt, alloc, &mut left, &right);
+    let all = left.all(alloc).expect(&rt, "memory");
+    assert!(rt; all.len() == 3);
+    is_at(&rt, &all, 0, put(&rt, "disk", 1, 5));
+    is_at(&rt, &all, 1, put(&rt, "eth0", 3, 17));
+    is_at(&rt, &all, 2, gone(&rt, "tty", 1));
 }
 
 #[test]
@@ -153,29 +126,32 @@ fn texts_and_blobs_are_copied(rt: HostRuntime) {
     is_copied(&rt, alloc, Value::Mem(blob));
 }
 
-// The mark beside a label.
-fn mark_of(marked: &Marked<u32>, key: &Key) -> u32 {
-    match marked.get(key) {
+// Stops the test unless the merge of the change, with the mark beside it, is answered so.
+fn merges(rt: &impl Abort, marked: &mut Marked<u32>, change: Change, mark: u32, answer: Merge) {
+    assert!(rt; marked.merge(change, mark) == Ok(answer));
+}
+
+// Stops the test unless the mark stands beside the label.
+fn has_mark(rt: &impl Abort, marked: &Marked<u32>, label: &str, wanted: u32) {
+    let mark = match marked.get(&key(rt, label)) {
         Some((_, mark)) => *mark,
         None => 0,
-    }
+    };
+    assert!(rt; mark == wanted);
 }
 
 #[test]
 fn marks_stand_beside_their_changes(rt: HostRuntime) {
     let mut marked: Marked<u32> = Marked::new(rt.alloc());
-    let eth0 = key(&rt, "eth0");
-    let tty = key(&rt, "tty");
-    assert!(rt; marked.merge(put(&rt, "tty", 1, 4), 7) == Ok(Merge::Taken));
-    assert!(rt; marked.merge(put(&rt, "eth0", 3, 17), 8) == Ok(Merge::Taken));
-    assert!(rt; marked.merge(put(&rt, "eth0", 2, 9), 9) == Ok(Merge::Stale));
-    assert_eq!(rt; mark_of(&marked, &tty), 7);
-    assert_eq!(rt; mark_of(&marked, &eth0), 8);
-    assert!(rt; marked.merge(gone(&rt, "eth0", 3), 10) == Ok(Merge::Taken));
-    assert_eq!(rt; mark_of(&marked, &eth0), 10);
+    merges(&rt, &mut marked, put(&rt, "tty", 1, 4), 7, Merge::Taken);
+    merges(&rt, &mut marked, put(&rt, "eth0", 3, 17), 8, Merge::Taken);
+    merges(&rt, &mut marked, put(&rt, "eth0", 2, 9), 9, Merge::Stale);
+    has_mark(&rt, &marked, "tty", 7);
+    has_mark(&rt, &marked, "eth0", 8);
+    merges(&rt, &mut marked, gone(&rt, "eth0", 3), 10, Merge::Taken);
     marked.set_mark(1, 11);
-    assert_eq!(rt; mark_of(&marked, &tty), 11);
-    assert!(rt; marked.at(1).is_some_and(|(change, _)| *change.key() == tty));
+    has_mark(&rt, &marked, "eth0", 10);
+    has_mark(&rt, &marked, "tty", 11);
     assert!(rt; marked.at(2).is_none());
-    assert_eq!(rt; marked.held().len(), 2);
+    assert!(rt; marked.held().len() == 2);
 }

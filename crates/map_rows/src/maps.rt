@@ -186,5 +186,6 @@ fn is_refused(rt: &impl Abort, alloc: Global, pattern: &[u8], fault: PatternFaul
 fn a_map_is_refused_as_its_pattern(rt: HostRuntime) {
     let alloc = rt.alloc();
     is_refused(&rt, alloc, b"a)(?:b", PatternFault::BadPattern);
+    is_refused(&rt, alloc, b"a\n", PatternFault::BadPattern);
     is_refused(&rt, alloc, &[b'a'; 129], PatternFault::TooLong);
 }

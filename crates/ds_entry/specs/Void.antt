@@ -1,0 +1,35 @@
+-- When a floor makes a change void.
+use Rattle.std.specs.Prelude.{◌≡◌, Bool, true, false, not, ◌&&◌, nat_le, List, Contains}
+use Rattle.std.specs.List.{list_any}
+use Rattle.std.specs.Ordering.{eq_by_cmp}
+use Rattle.ds_names.specs.declared.kind.Kind.{Kind}
+use Rattle.ds_names.specs.declared.kind.Kind.TheVariants.{Label, U32, Str, Mem}
+use Rattle.ds_names.specs.Key.{name_cmp}
+use Rattle.ds_entry.specs.Change.{ChangeRecord}
+use Rattle.ds_entry.specs.declared.floor.Floor.{Floor}
+use Rattle.ds_entry.specs.declared.item.Item.{Item}
+use Rattle.ds_entry.specs.declared.item.Item.TheVariants.{Change as Changed, Floor as Floored}
+
+-- the kind is a label's
+abbrev pub is_label : Kind → Bool
+is_label Label = true
+is_label U32 = false
+is_label Str = false
+is_label Mem = false
+
+-- the change is none of a label, is of the floor's owner, and its epoch isn't above the floor's generation
+abbrev pub voids : Floor → ChangeRecord → Bool
+voids f c = not (is_label c.key.kind) && (eq_by_cmp name_cmp c.owner f.owner && nat_le c.version.epoch f.generation)
+
+-- the item is a floor that makes the change void
+abbrev pub voids_it : ChangeRecord → Item → Bool
+voids_it c (Changed d) = false
+voids_it c (Floored f) = voids f c
+
+-- a floor among the items makes the change void
+abbrev pub is_void : List Item → ChangeRecord → Bool
+is_void items c = list_any (voids_it c) items
+
+-- no floor among the items makes a change among them void
+abbrev pub NoneVoid : List Item → Type 0
+NoneVoid items = (f : Floor) (c : ChangeRecord) → Contains items (Floored f) → Contains items (Changed c) → voids f c ≡ false

@@ -1,0 +1,80 @@
+//! Items.
+
+ghost use Rattle.std.specs.Prelude.{◌≡◌, IfOk, IsOk};
+ghost use Rattle.std.specs.Ordering.{eq_by_cmp};
+ghost use Rattle.ds_names.specs.Key.{key_cmp};
+ghost use Rattle.ds_entry.specs.Covers.{covers as change_covers};
+ghost use Rattle.ds_entry.specs.Item.{IsItem, IsItemInPlace, item_cmp};
+ghost use Rattle.ds_entry.specs.ItemCovers.{covers};
+
+use crate::change::Change;
+use crate::floor::{Floor, is_same_name};
+use ds_names::{Key, NoRoom};
+use std::alloc::Global;
+use std::cmp::Ordering;
+
+/// What replicas give one another (of this project): a change of one entry, or a floor under all entries of an owner.
+#[derive(Debug, PartialEq, Eq, Drop)]
+pub enum Item {
+    Change(Change),
+    Floor(Floor),
+}
+
+impl Item {
+    /// Whether it makes the other needless: a change of the same key and owner, of at most its version; what a floor
+    /// makes void; a floor of the same owner that isn't above it. A change covers no floor.
+    pub fn covers(&self, other: &Item) -> bool
+        ensures { result ≡ covers self.now other.now }
+    {
+        match (self, other) {
+            (Item::Change(change), Item::Change(other)) => is_newer(change, other),
+            (Item::Change(_), Item::Floor(_)) => false,
+            (Item::Floor(floor), Item::Change(change)) => floor.voids(change),
+            (Item::Floor(floor), Item::Floor(other)) => {
+                let most = floor.generation.number();
+                is_same_name(&other.owner, &floor.owner) && other.generation.number() <= most
+            }
+        }
+    }
+
+    /// Where it stands to another: floors before all changes, by the names of their owners, and changes by their keys.
+    pub fn compare(&self, other: &Item) -> Ordering
+        ensures { result ≡ item_cmp self.now other.now }
+    {
+        match (self, other) {
+            (Item::Change(change), Item::Change(other)) => change.key().compare(other.key()),
+            (Item::Change(_), Item::Floor(_)) => Ordering::Greater,
+            (Item::Floor(_), Item::Change(_)) => Ordering::Less,
+            (Item::Floor(floor), Item::Floor(other)) => floor.owner.cmp(&other.owner),
+        }
+    }
+
+    /// The same item again. The copy takes memory only for the value of a put, and only for a text or a blob.
+    pub fn copy(&self, alloc: Global) -> Result<Item, NoRoom>
+        ensures same { IfOk result (λ item. item ≡ self.now) }
+        ensures in_place { IsItemInPlace self.now → IsOk result }
+        ensures item { IsItem self.now }
+    {
+        match self {
+            Item::Change(change) => Ok(Item::Change(change.copy(alloc)?)),
+            Item::Floor(floor) => Ok(Item::Floor(floor.in_range())),
+        }
+    }
+}
+
+// Whether two keys are one.
+fn is_same_key(key: &Key, other: &Key) -> bool
+    ensures { result ≡ eq_by_cmp key_cmp key.now other.now }
+{
+    matches!(key.compare(other), Ordering::Equal)
+}
+
+// Whether the change is of the key and the owner of the other, in at least its version.
+fn is_newer(change: &Change, other: &Change) -> bool
+    ensures { result ≡ change_covers change.now other.now }
+{
+    let version = change.version();
+    is_same_key(other.key(), change.key())
+        && is_same_name(other.owner(), change.owner())
+        && !matches!(other.version().compare(&version), Ordering::Greater)
+}

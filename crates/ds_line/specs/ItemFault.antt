@@ -1,0 +1,22 @@
+-- Why no item is read, and where it can't be.
+use Rattle.std.specs.Prelude.{◌≢◌, ℕ, List, ◌++◌}
+use Rattle.ds_entry.specs.Item.{IsItem}
+use Rattle.ds_entry.specs.declared.item.Item.{Item}
+use Rattle.ds_line.specs.FaultPlace.{IsFaultPlace, TakesRoom}
+use Rattle.ds_line.specs.ItemSpelling.{item_parts, item_spelling}
+use Rattle.ds_line.specs.declared.fault.LineFault.{LineFault}
+use Rattle.ds_line.specs.declared.fault.LineFault.TheVariants.{BadLine, NoRoom}
+
+-- no item's line stands at the front
+abbrev pub HasNoItem : List ℕ → Type 0
+HasNoItem bytes = (i : Item) (rest : List ℕ) → IsItem i → bytes ≢ item_spelling i ++ rest
+
+-- no item's line stands at the front, and the first part of an item that can't be read begins at the place
+pub record IsItemFault (bytes : List ℕ) (place : ℕ) : Type 0 where
+  pub none : HasNoItem bytes
+  pub first : IsFaultPlace IsItem item_parts bytes place
+
+-- what a fault says of the bytes: there is no room for puts of texts and blobs alone
+abbrev pub IsItemFaultIn : LineFault → List ℕ → Type 0
+IsItemFaultIn (BadLine place) bytes = IsItemFault bytes place
+IsItemFaultIn NoRoom bytes = TakesRoom bytes

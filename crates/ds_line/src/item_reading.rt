@@ -1,0 +1,74 @@
+//! Reading the line of an item.
+
+ghost use Rattle.std.specs.Prelude.{◌≡◌, length, take, IfOk, IfErr};
+ghost use Rattle.ds_entry.specs.Item.{IsItem};
+ghost use Rattle.ds_line.specs.FloorPiece.{ReadsFloor};
+ghost use Rattle.ds_line.specs.ItemFault.{IsItemFaultIn};
+ghost use Rattle.ds_line.specs.ItemSpelling.{item_spelling};
+
+use crate::fault::LineFault;
+use crate::part_fault::{PartFault, stop_at};
+use crate::parts::{behind_name, name_at};
+use crate::reading::read_change;
+use ds_entry::{Floor, Item};
+use ds_names::{Generation, read_byte, read_decimal};
+use std::alloc::Global;
+
+/// Reads the item whose line stands at the front of the bytes, and gives it with the line's length, its newline
+/// included. A line that begins with `!` is a floor's, any other is read as a change's.
+///
+/// Where no item's line stands at the front it gives BadLine, with the place where the first part that can't be read
+/// begins. NoRoom comes only where the whole line of a put of a text or a blob stands there.
+pub fn read_item(alloc: Global, bytes: &[u8]) -> Result<(Item, usize), LineFault>
+    ensures line { IfOk result (λ r. IsItem r.0) }
+    ensures found { IfOk result (λ r. take r.1 bytes.now ≡ item_spelling r.0) }
+    ensures length { IfOk result (λ r. r.1 ≡ length (item_spelling r.0)) }
+    ensures fault { IfErr result (λ fault. IsItemFaultIn fault bytes.now) }
+{
+    let Some(_behind) = read_byte(bytes, b'!') else {
+        return match read_change(alloc, bytes) {
+            Ok((change, length)) => Ok((Item::Change(change), length)),
+            Err(fault) => Err(fault),
+        };
+    };
+    match floor_at(bytes) {
+        Ok((floor, left)) => {
+            let length = bytes.len() - left;
+            Ok((Item::Floor(floor), length))
+        }
+        Err(PartFault::BadPart { left }) => {
+            let place = bytes.len() - left;
+            Err(LineFault::BadLine { place })
+        }
+        Err(PartFault::NoRoom) => Err(LineFault::NoRoom),
+    }
+}
+
+// Reads a floor from its mark on, and gives how many bytes are left behind its line.
+fn floor_at(bytes: &[u8]) -> Result<(Floor, usize), PartFault>
+    ensures { ReadsFloor bytes.now result }
+{
+    let Some(rest) = read_byte(bytes, b'!') else {
+        return Err(stop_at(bytes));
+    };
+    let Some(at) = read_byte(rest, b' ') else {
+        return Err(stop_at(rest));
+    };
+    let Some(owner) = name_at(at) else {
+        return Err(stop_at(at));
+    };
+    let rest = behind_name(at, &owner);
+    let Some(at) = read_byte(rest, b' ') else {
+        return Err(stop_at(rest));
+    };
+    let Some((number, rest)) = read_decimal(at, 2097151) else {
+        return Err(stop_at(at));
+    };
+    let Some(generation) = Generation::of(number as u32) else {
+        return Err(stop_at(at));
+    };
+    let Some(rest) = read_byte(rest, b'\n') else {
+        return Err(stop_at(rest));
+    };
+    Ok((Floor { owner, generation }, rest.len()))
+}

@@ -1,0 +1,48 @@
+//! `rs_demo`: the reincarnation server, line by line, for tests that compare it with a model outside.
+//!
+//! It reads lines of standard input: settings with which RS begins, events, and questions about what RS knows; and it
+//! prints what RS answers. Nothing is decided here. Status 0: done. 1: a line that can't be read. 3: memory, reading or
+//! writing failed, and standard error says which.
+#![tactic(auto)]
+
+mod answer;
+mod printing;
+mod words;
+
+use answer::{Failure, Session, answer};
+use std::io;
+use std::io::{BufRead, BufReader};
+use std::process::ExitCode;
+use std::rt::Runtime;
+
+fn main(rt: HostRuntime) -> ExitCode {
+    let word = match run(&rt) {
+        Ok(()) => return ExitCode::SUCCESS,
+        Err(Failure::BadLine) => return ExitCode::from(1),
+        Err(Failure::NoRoom) => "noroom",
+        Err(Failure::ReadFault) => "readfault",
+        Err(Failure::WriteFault) => "writefault",
+    };
+    let _ = eprintln!(rt; "{word}");
+    ExitCode::from(3)
+}
+
+// Answers the lines in turn, up to the first that can't be read.
+fn run(rt: &(impl Runtime + AllocGlobal)) -> Result<(), Failure> {
+    let mut session = Session::new(rt.alloc());
+    let Ok(reader) = BufReader::new(rt.alloc(), rt.reader()) else {
+        return Err(Failure::NoRoom);
+    };
+    for line in reader.lines(rt.alloc()) {
+        let line = line.map_err(read_failure)?;
+        answer(rt, &mut session, line.as_str())?;
+    }
+    Ok(())
+}
+
+fn read_failure(error: io::Error) -> Failure {
+    match error.kind() {
+        io::ErrorKind::OutOfMemory => Failure::NoRoom,
+        _ => Failure::ReadFault,
+    }
+}

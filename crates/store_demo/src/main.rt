@@ -1,0 +1,81 @@
+//! `store_demo`: one store, and commands that are made before it is given them, for tests that refuse it memory.
+//!
+//! It reads the lines of a script, all of them first, makes the store's command of each, prints `ready`, and only then gives
+//! them to a store and prints the replies, as a script's are printed. So a growth of memory behind `ready` is one of the
+//! store's calls. Status 0: done. 1: a line that is no command for a store, or has no newline. 3: memory, reading or
+//! writing failed, and standard error says which.
+#![tactic(auto)]
+
+mod commands;
+
+use commands::{Prepared, commands_of};
+use ds_store::Store;
+use ds_words::append_reply;
+use std::io::{self, ErrorKind, Read, Write};
+use std::process::ExitCode;
+use std::rt::Runtime;
+
+// Bytes of the answer to one command for which there is room before the first is given to the store.
+const ANSWER: usize = 1 << 16;
+
+/// What ends the program without all its answers.
+pub(crate) enum Failure {
+    BadLine,
+    NoRoom,
+    ReadFault,
+    WriteFault,
+}
+
+fn main(rt: HostRuntime) -> ExitCode {
+    let word = match run(&rt) {
+        Ok(()) => return ExitCode::SUCCESS,
+        Err(Failure::BadLine) => return ExitCode::from(1),
+        Err(Failure::NoRoom) => "noroom",
+        Err(Failure::ReadFault) => "readfault",
+        Err(Failure::WriteFault) => "writefault",
+    };
+    let _ = eprintln!(rt; "{word}");
+    ExitCode::from(3)
+}
+
+// Makes all commands, and then has them answered.
+fn run(rt: &(impl Runtime + AllocGlobal)) -> Result<(), Failure> {
+    let mut text = Vec::new(rt.alloc());
+    if let Err(error) = rt.reader().read_to_end(&mut text) {
+        return Err(match error.kind() {
+            ErrorKind::OutOfMemory => Failure::NoRoom,
+            _ => Failure::ReadFault,
+        });
+    }
+    let commands = commands_of(rt.alloc(), text.as_slice())?;
+    let Ok(store) = Store::open(rt.alloc(), 1, 0, 256) else {
+        return Err(Failure::NoRoom);
+    };
+    let Ok(answer) = Vec::with_capacity(rt.alloc(), ANSWER) else {
+        return Err(Failure::NoRoom);
+    };
+    if println!(rt; "ready").is_err() {
+        return Err(Failure::WriteFault);
+    }
+    answer_all(&mut io::writer(rt), store, commands, answer)
+}
+
+// Gives the commands to the store, and prints each reply.
+fn answer_all<W: Write>(
+    writer: &mut W,
+    mut store: Store,
+    commands: Vec<Prepared>,
+    mut answer: Vec<u8>,
+) -> Result<(), Failure> {
+    for Prepared { command, wording } in commands {
+        let reply = store.apply(command);
+        answer.clear();
+        if append_reply(&mut answer, wording, &reply).is_err() {
+            return Err(Failure::NoRoom);
+        }
+        if writer.write_all(answer.as_slice()).is_err() {
+            return Err(Failure::WriteFault);
+        }
+    }
+    Ok(())
+}

@@ -1,0 +1,97 @@
+"""What tests/tables and tests/services share: seeded scripts for a small program, which a model answers too."""
+import importlib.machinery
+import importlib.util
+import pathlib
+import random
+import tempfile
+
+import harness
+
+loader = importlib.machinery.SourceFileLoader("refusals", str(harness.TESTS / "refusals"))
+refusals = importlib.util.module_from_spec(importlib.util.spec_from_loader("refusals", loader))
+loader.exec_module(refusals)
+
+
+class Script:
+    """Commands drawn by a seed, with the answers of a model so far, to draw sensible ones."""
+
+    def __init__(self, seed, model):
+        self.random = random.Random(seed)
+        self.new_model = model
+        self.model = model()
+        self.lines, self.answers, self.kinds = [], [], []
+
+    def ask(self, *command):
+        line, answers = self.model.answer(*command)
+        self.lines.append(line)
+        self.answers.append(answers)
+        self.kinds.append(command)
+        return answers
+
+    def may_lack_room(self, command, ample):
+        """Whether the command, which has this answer with ample memory, may be refused memory."""
+        raise NotImplementedError
+
+    def text(self):
+        return "".join(line + "\n" for line in self.lines).encode()
+
+    def wanted(self):
+        return "".join(line + "\n" for answers in self.answers for line in answers).encode()
+
+
+def agreement(program, script):
+    """Says how the program's answers differ from the model's, or answers None."""
+    ran = harness.run([program], script.text())
+    wrong = harness.difference(ran.output, script.wanted())
+    return wrong or (None if (ran.status, ran.error) == (0, b"") else f"status {ran.status}, standard error {ran.error[:200]!r}")
+
+
+def growths(refuser, room, name, script):
+    """Refuses each growth of a script in turn. Says what was wrong with the first bad answer, or answers None."""
+    given = pathlib.Path(room) / name.replace(" ", "_")
+    given.write_bytes(script.text())
+    case = harness.Case(name, [], given, script.wanted())
+    ample, counts = refuser.run(case)
+    wrong = harness.fault(case, ample)
+    if wrong or not counts["growth"]:
+        return wrong or "no growth of memory was counted at all"
+    for n in range(1, counts["growth"] + 1):
+        ran, _ = refuser.run(case, growth=n)
+        wrong = refused(script, ran)
+        if wrong:
+            return f"growth {n}: {wrong}"
+    return None
+
+
+def refused(script, ran):
+    """A refused growth ends the program by name, or is answered so by one call, which then did nothing."""
+    lines = ran.output.decode().splitlines()
+    if ran.status == 3:
+        whole = [it for answers in script.answers for it in answers]
+        return None if ran.error == b"noroom\n" and lines == whole[: len(lines)] else f"it ended with {lines[-1:]}, {ran.error!r}"
+    if (ran.status, ran.error) != (0, b""):
+        return f"status {ran.status}, standard error {ran.error[:200]!r}"
+    if lines.count("refused noroom") != 1:
+        return f"{lines.count('refused noroom')} answers are noroom"
+    model, wanted = script.new_model(), []
+    for command, ample in zip(script.kinds, script.answers):
+        if lines[len(wanted) : len(wanted) + 1] == ["refused noroom"]:
+            if not script.may_lack_room(command, ample):
+                return f"{command} was answered noroom in place of {ample}"
+            wanted.append("refused noroom")
+        else:
+            wanted += model.answer(*command)[1]
+    return harness.difference(ran.output, "".join(it + "\n" for it in wanted).encode())
+
+
+def report(program, long, short):
+    """Compares the long scripts and the short ones, each with its name, refuses the short ones memory, and reports."""
+    compared = long + short
+    named = list(zip([name for name, _ in compared], harness.at_once(lambda it: agreement(program, it[1]), compared)))
+    with tempfile.TemporaryDirectory() as room:
+        refuser = refusals.Refuser(program, room)
+        found = harness.at_once(lambda it: growths(refuser, room, *it), short)
+        passed_by = refuser.names_passed_by()
+    named += [(f"growths of {name}", wrong) for (name, _), wrong in zip(short, found)]
+    named.append(("names", f"tests/refuse.c doesn't take over {passed_by}" if passed_by else None))
+    return harness.report(named)
