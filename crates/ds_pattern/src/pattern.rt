@@ -62,7 +62,7 @@ pub const SIZE_LIMIT: usize = 1 << 16;
 
 /// How many steps a search for a pattern may take in the longest name. What it takes to ask a new name rises with
 /// them. `bench/README.md` has what was measured.
-pub const MOST_STEPS: usize = 3000;
+pub const MOST_STEPS: usize = 2500;
 
 /// A pattern over names: a text of at most 128 bytes of printable ASCII that `regex` reads, by itself and
 /// within `^(?:` and `)$`, and whose compiled table keeps within the limit.
