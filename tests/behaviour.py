@@ -220,6 +220,34 @@ def a_pattern_that_is_too_large(program):
     expect(end(begin(program, limit=MEMORY), script), b"refused noroom\nrefused noroom\nmap 0\n", 0)
 
 
+def costly_subscriptions(program):
+    """Subscriptions at all places to patterns that are just not too costly: each answer to others is as without them."""
+    patterns = [b"(?:a?){39}=", b"(?:(?:a?){19}){2}=", b"(?:[ab]{0,25}){0,2}=", rb"\\w{4}=", rb"\\d{60}=", b"[ab]*a[ab]{20}="]
+    names = [b"a" * 54 + format(at, "010b").encode().translate(bytes.maketrans(b"01", b"ab")) for at in range(1023)]
+    subscribes = [b'subscribe %d "%s" 15 first new\n' % (at, patterns[at % len(patterns)]) for at in range(64)]
+    others = [b"publish 0/2 new driver label 3.0 = 3/16\n"]
+    others += [b"publish 3/16 new %s u32 3.1 = %d\n" % (name, at) for at, name in enumerate(names)]
+    others += [b"sweep 0/2 driver 3\n", b"check 63 256\n", b"all\n"]
+    answers_alone, status = model.replay(b"".join(others))
+    lines = answers_alone.split(b"\n")
+    assert lines[1024:1026] == [b"swept 1023", b"refused notfound"] and status == 0
+    lines[1025] = b"checked 0 64 64"
+    subscribed = [b"subscribed %d" % stamp for stamp in range(1, 65)]
+    expect(end(begin(program, limit=MEMORY), b"".join(subscribes + others)), b"\n".join(subscribed + lines), 0)
+
+
+def hostile_patterns(program):
+    """The patterns of bench/hostile_patterns are taken up or refused for want of room, and the store goes on."""
+    patterns = (harness.TESTS.parent / "bench" / "hostile_patterns").read_bytes().splitlines()
+    quoted = [pattern.replace(b"\\", b"\\\\").replace(b'"', b'\\"') for pattern in patterns]
+    subscribes = b"".join(b'subscribe %d "%s" 15 later new\n' % (at, pattern) for at, pattern in enumerate(quoted))
+    ran = end(begin(program, limit=MEMORY), subscribes + b"offer %s u32 o 1.0 = 1\n" % (b"a" * 64))
+    told = ran.output.split(b"\n")
+    taken = [line for line in told[: len(patterns)] if line != b"refused noroom"]
+    assert taken == [b"subscribed %d" % stamp for stamp in range(1, len(taken) + 1)], told
+    assert told[len(patterns)] == b"taken" and 20 < len(taken) < len(patterns), told
+
+
 # ---- reading and writing that fails ----
 
 
@@ -459,6 +487,8 @@ ALL = [
     a_hundred_thousand_checks,
     a_long_show,
     a_pattern_that_is_too_large,
+    costly_subscriptions,
+    hostile_patterns,
     a_reader_that_fails,
     a_reader_that_is_closed,
     a_writer_that_is_full,

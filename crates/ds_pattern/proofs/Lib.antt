@@ -1,2 +1,3 @@
+pub mod CrossingLemmas
 pub mod PrintableLemmas
 pub mod RegexLemmas

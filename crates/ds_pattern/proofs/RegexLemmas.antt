@@ -11,6 +11,7 @@ use Rattle.regex.specs.declared.error.Error.{Error}
 use Rattle.regex.specs.declared.error.Error.TheVariants.{Syntax, CompiledTooBig, Internal, OutOfMemory}
 use Rattle.regex.specs.declared.string.regex.Regex.{Regex}
 use Rattle.regex.proofs.ForCallers.{is_match_alike}
+use Rattle.regex_hir.specs.declared.hir.Hir.{Hir}
 use Rattle.regex_syntax.specs.Brackets.{Nested}
 use Rattle.regex_syntax.specs.Grammar.{Names, group_count}
 use Rattle.regex_syntax.specs.declared.error.ErrorKind.{ErrorKind}
@@ -18,7 +19,7 @@ use Rattle.regex_syntax.specs.declared.error.ErrorKind.TheVariants as kind
 use Rattle.ds_names.specs.Name.{IsName}
 use Rattle.ds_pattern.specs.declared.pattern.PatternFault.{PatternFault}
 use Rattle.ds_pattern.specs.declared.pattern.PatternFault.TheVariants as fault
-use Rattle.ds_pattern.specs.Under.{anchored, is_printable, is_read_as, is_regex, matches_whole}
+use Rattle.ds_pattern.specs.Under.{anchored, is_printable, is_read_as, is_regex, matches_whole, FindsWhole}
 use Rattle.ds_pattern.specs.Patterns.{is_pattern, IsPatternFault, IsSyntaxFault, fault_of}
 use Rattle.ds_pattern.proofs.PrintableLemmas.{both, ascii_of_printable, chars_of_printable, printable_anchored, printable_of_name}
 
@@ -36,18 +37,22 @@ alike : (o : Option (Nested Re × Names)) (limit : ℕ) (re : Re) (names : Names
 alike None limit re names hay bytes h = absurd h
 alike (Some x) limit re names hay bytes h = is_match_alike h.1 hay bytes true 0
 
--- a text that was built is a pattern
-pub regex_of_built : (r : Regex) (text : List ℕ) → regex_source r ≡ text → regex_config r ≡ default_config → IsReadFromSource r → is_printable text ≡ true → is_regex text ≡ true
+-- a text that is read is a pattern
+pub regex_of_read : (text : List ℕ) (hir : Hir) (names : Names) → Reads default_config text hir names → is_printable text ≡ true → is_regex text ≡ true
 unfolding is_regex Reads
+regex_of_read text hir names reads printable = within _ _ _ _ (rw (chars_of_printable text printable) at reads)
+
+-- and so is one that was built
+pub regex_of_built : (r : Regex) (text : List ℕ) → regex_source r ≡ text → regex_config r ≡ default_config → IsReadFromSource r → is_printable text ≡ true → is_regex text ≡ true
+unfolding Reads
 regex_of_built r text source config was_read printable =
     let reads : Reads default_config text r.pattern.program.hir (names_of r.pattern.names.items) = rw (source, config) at was_read in
-    within _ _ _ _ (rw (chars_of_printable text printable) at reads)
+    regex_of_read text r.pattern.program.hir (names_of r.pattern.names.items) reads printable
 
--- a pattern that was built of `^(?:P)$` matches the names that P matches whole
-pub matches_of_built : (r : Regex) (p name : List ℕ) → regex_source r ≡ anchored p → regex_config r ≡ default_config → IsReadFromSource r → is_printable p ≡ true → IsName name →
-    is_some (find_str (regex_pattern r) name 0) ≡ matches_whole p name
-unfolding matches_whole Reads
-matches_of_built r p name source config was_read printable is_name =
+-- a pattern that was built of `^(?:P)$` is found in just the names that P matches whole
+pub finds_of_built : (r : Regex) (p : List ℕ) → regex_source r ≡ anchored p → regex_config r ≡ default_config → IsReadFromSource r → is_printable p ≡ true → FindsWhole (regex_pattern r) p
+unfolding FindsWhole matches_whole Reads
+finds_of_built r p source config was_read printable name is_name =
     let reads : Reads default_config (anchored p) r.pattern.program.hir (names_of r.pattern.names.items) = rw (source, config) at was_read in
     let ascii = ascii_of_printable name (printable_of_name name is_name) in
     let bytes : (k : ℕ) → get_or name k 0 < 256 = λ k. let small : get_or name k 0 < 128 = ascii k in omega arith in

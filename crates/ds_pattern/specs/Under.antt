@@ -1,10 +1,11 @@
 -- When a key is under a query: the query names its kind, and its pattern matches its name whole.
-use Rattle.std.specs.Prelude.{ℕ, Bool, false, ◌&&◌, List, ◌++◌, Option, None, Some, is_some, codes, nat_le}
+use Rattle.std.specs.Prelude.{◌≡◌, ℕ, Bool, false, ◌&&◌, List, ◌++◌, Option, None, Some, is_some, codes, nat_le}
 use Rattle.std.specs.List.{list_all}
 use Rattle.regex.specs.Patterns.{Re, find_str, default_config}
 use Rattle.regex_syntax.specs.Brackets.{Nested}
 use Rattle.regex_syntax.specs.Grammar.{Names, read}
 use Rattle.ds_names.specs.Kind.{names_kind}
+use Rattle.ds_names.specs.Name.{IsName}
 use Rattle.ds_names.specs.declared.key.Key.{Key}
 use Rattle.ds_pattern.specs.declared.query.Query.{Query}
 
@@ -40,3 +41,7 @@ is_printable = list_all is_printable_byte
 -- `regex` reads the text as a pattern by its default options, nested no deeper than it allows
 unfoldable pub is_regex : List ℕ → Bool
 is_regex text = is_read_as (read default_config text) (λ re. nat_le re.depth default_config.nest_limit)
+
+-- a search for the pattern finds it in a name just where P matches the name whole
+unfoldable pub FindsWhole : Re → List ℕ → Type 0
+FindsWhole re p = (name : List ℕ) → IsName name → is_some (find_str re name 0) ≡ matches_whole p name

@@ -5,9 +5,10 @@ ghost use Rattle.ds_names.specs.Kind.{names_kind};
 ghost use Rattle.ds_pattern.specs.Under.{is_under};
 ghost use Rattle.ds_pattern.specs.Patterns.{IsPattern, IsPatternFault};
 
+use crate::asker::Asker;
 use crate::pattern::{Pattern, PatternFault};
 use crate::query::Query;
-use ds_names::{Key, Kinds, NoRoom};
+use ds_names::{Key, Kind, Kinds, NoRoom};
 use std::alloc::Global;
 use std::marker::Model;
 
@@ -40,13 +41,27 @@ impl Filter {
         })
     }
 
+    /// Whether the query names the kind. For a key of another kind no pattern need be asked.
+    pub fn names(&self, kind: Kind) -> bool
+        ensures { result ≡ names_kind self.now.kinds kind }
+    {
+        self.kinds.has(kind)
+    }
+
+    /// What asks the query about many keys.
+    pub fn asker(&self, alloc: Global) -> Result<Asker<'_>, NoRoom>
+        ensures { IfOk result (λ asker. asker ≡ self.now) }
+    {
+        Asker::new(alloc, &self.pattern, self.kinds)
+    }
+
     /// Whether a key is under the query: it is of a kind that the query names, and the pattern matches its
-    /// name whole. For a key of another kind no pattern is built.
+    /// name whole. For a key of another kind no pattern is asked, and no memory taken.
     pub fn admits(&self, alloc: Global, key: &Key) -> Result<bool, NoRoom>
         ensures under { IfOk result (λ yes. yes ≡ is_under self.now key.now) }
         ensures other_kind { IsFalse (names_kind self.now.kinds key.now.kind) → result ≡ Ok false }
     {
-        if !self.kinds.has(key.kind) {
+        if !self.names(key.kind) {
             return Ok(false);
         }
         self.pattern.matches(alloc, &key.name)

@@ -6,10 +6,15 @@
 //! this project.
 #![tactic(auto)]
 
+mod asker;
 mod filter;
 mod pattern;
 mod query;
+mod threads;
+mod work;
 
+pub use asker::Asker;
 pub use filter::Filter;
-pub use pattern::{Pattern, PatternFault};
+pub use pattern::{MOST_STEPS, Pattern, PatternFault, SIZE_LIMIT};
 pub use query::{PatternText, Query};
+pub use threads::filters_cross_threads;

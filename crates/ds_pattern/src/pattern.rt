@@ -1,12 +1,15 @@
 //! Patterns that were read, and what they match.
 
-ghost use Rattle.std.specs.Prelude.{◌≡◌, IsTrue, IfOk, OnOk, IfErr, string_bytes};
-ghost use Rattle.ds_pattern.specs.Under.{anchored, is_printable, is_regex, matches_whole};
+ghost use Rattle.std.specs.Prelude.{◌≡◌, ◌≤◌, ◌+◌, IsTrue, IfOk, OnOk, IfErr, string_bytes};
+ghost use Rattle.regex.specs.Strings.{matcher_pattern, regex_pattern, regex_size};
+ghost use Rattle.ds_pattern.specs.Under.{anchored, is_printable, is_regex, matches_whole, FindsWhole};
 ghost use Rattle.ds_pattern.specs.Patterns.{IsPattern, IsPatternFault, IsSyntaxFault};
 
 use crate::query::PatternText;
+use crate::work::steps;
 use ds_names::{Name, NoRoom};
-use regex::Regex;
+use regex::{Matcher, Regex, RegexBuilder};
+use regex_syntax::{Config, ErrorKind};
 use std::alloc::{AllocError, Global};
 use std::marker::Model;
 use thiserror::Error;
@@ -53,28 +56,37 @@ impl From<regex::Error> for PatternFault {
     }
 }
 
+/// How many bytes the table of a compiled pattern may take: 12 for each state of its automaton and 8 for each
+/// range of bytes that leads from one to another. `bench/README.md` has what is measured beside it.
+pub const SIZE_LIMIT: usize = 1 << 16;
+
+/// How many steps a search for a pattern may take in the longest name. What it takes to ask a new name rises with
+/// them. `bench/README.md` has what was measured.
+pub const MOST_STEPS: usize = 2500;
+
 /// A pattern over names: a text of at most 128 bytes of printable ASCII that `regex` reads, by itself and
-/// within `^(?:` and `)$`.
-///
-/// It holds its text alone, and is built for each name that it is asked about.
+/// within `^(?:` and `)$`, and whose compiled table keeps within the limit.
 #[derive(Debug, Drop)]
 pub struct Pattern {
     text: String,
+    whole: Regex,
 }
 
 impl Model for Pattern {
-    ghost use Rattle.std.specs.Prelude.{ℕ, List, string_bytes};
+    ghost use Rattle.std.specs.Prelude.{◌≤◌, ℕ, List, string_bytes};
+    ghost use Rattle.regex.specs.Strings.{regex_pattern, regex_size};
+    ghost use Rattle.ds_pattern.specs.Under.{FindsWhole};
     ghost use Rattle.ds_pattern.specs.Patterns.{IsPattern};
 
     ghost Value = { List ℕ };
 
     ghost view = { λ p. string_bytes p.text };
 
-    ghost invariant = { λ p. IsPattern (string_bytes p.text) };
+    ghost invariant = { λ p. IsPattern (string_bytes p.text) × FindsWhole (regex_pattern p.whole) (string_bytes p.text) × (regex_size p.whole ≤ 0x10018) };
 }
 
 impl Pattern {
-    /// Reads the pattern that the text is, or gives the first fault that it has.
+    /// Reads the pattern that the text is, or gives the first fault that it has, and compiles it.
     #[tactic(auto, using(crate::proofs::RegexLemmas::accepted_of_parts, crate::proofs::RegexLemmas::refused_unprintable))]
     pub fn read(alloc: Global, text: &PatternText) -> Result<Pattern, PatternFault>
         ensures read { IfOk result (λ pattern. pattern ≡ text.now) }
@@ -90,9 +102,10 @@ impl Pattern {
         }
         let text = text_of(bytes);
         judge(alloc, text)?;
-        judge(alloc, anchored(alloc, text)?.as_str())?;
+        let whole = compile(alloc, text)?;
         Ok(Pattern {
             text: String::from_str(alloc, text)?,
+            whole,
         })
     }
 
@@ -100,15 +113,14 @@ impl Pattern {
     pub fn matches(&self, alloc: Global, name: &Name) -> Result<bool, NoRoom>
         ensures { IfOk result (λ yes. yes ≡ matches_whole self.now name.now) }
     {
-        let whole = anchored(alloc, self.text.as_str())?;
-        let regex = match Regex::new(alloc, whole.as_str()) {
-            Ok(regex) => regex,
-            // It was read before, so the cause is another than its syntax.
-            Err(regex::Error::Syntax(_)) => unreachable!(),
-            Err(_) => return Err(NoRoom),
-        };
-        let mut matcher = regex.matcher(alloc)?;
-        Ok(matcher.is_match(text_of(name.bytes())))
+        Ok(self.matcher(alloc)?.is_match(text_of(name.bytes())))
+    }
+
+    // What finds the pattern in just the names that it matches whole.
+    pub(crate) fn matcher(&self, alloc: Global) -> Result<Matcher<'_>, NoRoom>
+        ensures { IfOk result (λ matcher. FindsWhole (matcher_pattern matcher) self.now) }
+    {
+        Ok(self.whole.matcher(alloc)?)
     }
 }
 
@@ -121,7 +133,7 @@ fn is_printable(bytes: &[u8]) -> bool
 
 // The text of printable bytes.
 #[tactic(auto, using(crate::proofs::PrintableLemmas::utf8_of_printable))]
-fn text_of(bytes: &[u8]) -> &str
+pub(crate) fn text_of(bytes: &[u8]) -> &str
     requires { IsTrue (is_printable bytes.now) }
     ensures { result.now ≡ bytes.now }
 {
@@ -138,12 +150,35 @@ fn anchored(alloc: Global, text: &str) -> Result<String, AllocError>
     Ok(whole)
 }
 
-// Asks `regex` whether the text is a pattern.
+// Asks `regex` whether the text is a pattern, and refuses one that takes too many steps.
 fn judge(alloc: Global, text: &str) -> Result<(), PatternFault>
     requires { IsTrue (is_printable text.now) }
     ensures ok { OnOk result (IsTrue (is_regex text.now)) }
     ensures refused { IfErr result (λ fault. IsSyntaxFault fault text.now) }
 {
-    Regex::new(alloc, text)?;
+    let parsed = match regex_syntax::parse(alloc, text, &Config::default()) {
+        Ok(parsed) => parsed,
+        Err(error) if error.kind == ErrorKind::OutOfMemory => return Err(PatternFault::NoRoom),
+        Err(_) => return Err(PatternFault::BadPattern),
+    };
+    if steps(&parsed.hir, MOST_STEPS) > MOST_STEPS {
+        return Err(PatternFault::NoRoom);
+    }
     Ok(())
+}
+
+// Compiles `^(?:P)$`, for the pattern P.
+fn compile(alloc: Global, text: &str) -> Result<Regex, PatternFault>
+    requires { IsTrue (is_printable text.now) }
+    ensures finds { IfOk result (λ whole. FindsWhole (regex_pattern whole) text.now) }
+    ensures small { IfOk result (λ whole. regex_size whole ≤ 0x10018) }
+    ensures ok { OnOk result (IsTrue (is_regex (anchored text.now))) }
+    ensures refused { IfErr result (λ fault. IsSyntaxFault fault (anchored text.now)) }
+{
+    let whole = anchored(alloc, text)?;
+    Ok(
+        RegexBuilder::new(whole.as_str())
+            .size_limit(SIZE_LIMIT)
+            .build(alloc)?,
+    )
 }

@@ -13,3 +13,4 @@ pub mod OwedLemmas
 pub mod CheckLemmas
 pub mod JudgeLemmas
 pub mod SubscribeLemmas
+pub mod CrossingLemmas

@@ -16,8 +16,10 @@ mod laws;
 mod refusal;
 mod search;
 mod store;
+mod threads;
 
 pub use command::{Command, Reply};
 pub use laws::run;
 pub use refusal::Refusal;
 pub use store::Store;
+pub use threads::stores_cross_threads;

@@ -1,9 +1,10 @@
 -- Taking items in turn.
 use Rattle.std.proofs.Common.{◌≡◌, ℕ, ◌+◌, ◌<◌, ◌≤◌, Bool, true, false, cond, List, [], ◌∷◌, ◌++◌, length, filter, take, Option, Some, None, Ok, refl, sym, ap, ◌∙◌, subst, append_assoc, append-nil, length-append, arith}
-use Rattle.std.proofs.lemmas.List.{take_more, take_all}
+use Rattle.std.proofs.lemmas.List.{take_more, take_all, length-take-le}
 use Rattle.std.proofs.lemmas.List.Elements.{filter-append}
-use Rattle.std.proofs.lemmas.Option.{get_or_from_slice_get}
+use Rattle.std.proofs.lemmas.Option.{get_or_from_slice_get, slice_get_within}
 use Rattle.std.specs.List.{slice_get}
+use Rattle.ds_names.specs.Kind.{names_kind}
 use Rattle.ds_entry.specs.Change.{ChangeRecord}
 use Rattle.ds_join.specs.declared.merge.Merge.{Merge}
 use Rattle.ds_join.specs.declared.merge.Merge.TheVariants.{Taken, Known, Stale}
@@ -17,7 +18,7 @@ use Rattle.ds_pattern.specs.declared.query.Query.{Query}
 use Rattle.ds_pattern.specs.Under.{is_under}
 use Rattle.ds_submap.specs.declared.count.Count.{Count}
 use Rattle.ds_submap.specs.Map.{under}
-use Rattle.ds_submap.specs.Count.{none_counted, counted}
+use Rattle.ds_submap.specs.Count.{all_passed, counted}
 use Rattle.ds_submap.specs.Take.{AreMerged, AreCounted, IsItemTaken, IsItemRefused, IsTakeStopped, is_taken, is_stale}
 
 -- what merges leave has each change at its own key
@@ -46,6 +47,13 @@ merged_push old mid (d ∷ cs) (q ∷ rs) c r new m a n = (m.0, merged_push (aft
 -- ---- what is under a query
 under_push : (q : Query) (xs : List ChangeRecord) (c : ChangeRecord) (b : Bool) → is_under q c.key ≡ b → under q (xs ++ c ∷ []) ≡ under q xs ++ cond b (c ∷ []) []
 under_push q xs c b e = filter-append (λ (d : ChangeRecord). is_under q d.key) xs (c ∷ []) ∙ ap (λ t. under q xs ++ cond t (c ∷ []) []) e
+
+-- one more item of a kind that the query doesn't name isn't under it
+pub passes_one : (q : Query) (items : List ChangeRecord) (i : ℕ) (c : ChangeRecord) → slice_get items i ≡ Some c → names_kind q.kinds c.key.kind ≡ false → under q (take i items) ≡ [] → under q (take (i + 1) items) ≡ []
+passes_one q items i c at other none =
+    let one : take (i + 1) items ≡ take i items ++ c ∷ [] = take_more items i c (slice_get_within items i c at) ∙ ap (λ (y : ChangeRecord). take i items ++ y ∷ []) (get_or_from_slice_get items i c c at) in
+    let no : is_under q c.key ≡ false = rw other refl in
+    ap (under q) one ∙ under_push q (take i items) c false no ∙ append-nil (under q (take i items)) ∙ none
 
 -- ---- counting
 one_more : (p : Merge → Bool) (rs : List Merge) (r : Merge) → length (filter p (rs ++ r ∷ [])) ≡ length (filter p rs) + cond (p r) 1 0
@@ -103,10 +111,11 @@ few_after n (Some Stale) i d t s = (omega (arith, d), omega (arith, t), omega (a
 few_after n None i d t s = (omega (arith, d), omega (arith, t), omega (arith, s))
 
 module _ (q : Query) (old : Holding) (items : List ChangeRecord) where
-  pub taking_starts : IsOwn old → Taking q old items 0 old none_counted
-  taking_starts own =
+  -- what isn't under the query was passed over
+  pub taking_passed : (n : ℕ) → n ≤ length items → under q (take n items) ≡ [] → IsOwn old → Taking q old items n old (all_passed n)
+  taking_passed n few none own =
       record {
-        counted_so = record { all = record { answers = []; merged = refl }; done = refl; taken = refl; stale = refl };
+        counted_so = record { all = record { answers = []; merged = rw none refl }; done = sym (length-take-le n items few); taken = refl; stale = refl };
         own = own;
         done = refl;
         taken = omega arith;

@@ -1,12 +1,12 @@
 -- How items are counted.
-use Rattle.std.specs.Prelude.{◌+◌, ◌≤◌, ◌<◌, ◌^◌, Option, Some, None}
+use Rattle.std.specs.Prelude.{ℕ, ◌+◌, ◌≤◌, ◌<◌, ◌^◌, Option, Some, None}
 use Rattle.ds_join.specs.declared.merge.Merge.{Merge}
 use Rattle.ds_join.specs.declared.merge.Merge.TheVariants.{Taken, Known, Stale}
 use Rattle.ds_submap.specs.declared.count.Count.{Count}
 
--- nothing was counted
-abbrev pub none_counted : Count
-none_counted = record { done = 0; taken = 0; stale = 0 }
+-- so many items were passed over
+abbrev pub all_passed : ℕ → Count
+all_passed n = record { done = n; taken = 0; stale = 0 }
 
 -- one more item is done, and it was taken, or stale, or neither
 abbrev pub counted : Count → Option Merge → Count

@@ -1,7 +1,7 @@
 //! How items that came are counted.
 
 ghost use Rattle.std.specs.Prelude.{◌≡◌};
-ghost use Rattle.ds_submap.specs.Count.{none_counted, counted, HasRoom};
+ghost use Rattle.ds_submap.specs.Count.{all_passed, counted, HasRoom};
 
 use ds_join::Merge;
 
@@ -17,12 +17,12 @@ pub struct Count {
 }
 
 impl Count {
-    // Of no items.
-    pub(crate) fn zero() -> Count
-        ensures { result ≡ none_counted }
+    // Of so many items that were passed over.
+    pub(crate) fn passed(done: usize) -> Count
+        ensures { result ≡ all_passed done }
     {
         Count {
-            done: 0,
+            done,
             taken: 0,
             stale: 0,
         }

@@ -11,9 +11,9 @@ ghost use Rattle.ds_submap.specs.Map.{empty_map, under, endpoint_of_label};
 ghost use Rattle.ds_submap.specs.Take.{AreCounted, IsTakeStopped};
 
 use crate::count::Count;
-use crate::take::take_one;
+use crate::take::{count_of_other_kinds, take_rest};
 use ds_entry::{Body, Change, Items, Value};
-use ds_join::{Held, Stop};
+use ds_join::{Held, JoinFault, Stop};
 use ds_names::{Endpoint, Key, Kind, Name, NoRoom};
 use ds_pattern::{Filter, PatternFault, Query};
 use std::alloc::Global;
@@ -58,30 +58,25 @@ impl SubMap {
 
     /// Merges the items under its query, in their order, and passes over the others.
     ///
-    /// Known and stale items count as done, and so do those that are passed over. An item is copied only where
-    /// it is taken. It stops at the first item that is refused, and those before it stand.
+    /// Known and stale items count as done, and so do those that are passed over. At the first item of a kind that
+    /// the query names it takes memory to ask for the names of all; an item is copied only where it is taken. It stops at the first item that is refused, and those before it stand.
     pub fn take(&mut self, alloc: Global, items: &Items) -> Result<Count, Stop>
         ensures joined { OnOk result (IsTop (held_changes self.new.held) (held_changes self.old.held ++ under self.old.query items.now)) }
         ensures counted { IfOk result (AreCounted self.old.query self.old.held items.now self.new.held) }
         ensures stopped { IfErr result (IsTakeStopped self.old.query self.old.held items.now self.new.held) }
         ensures query { self.new.query ≡ self.old.query }
     {
-        let mut count = Count::zero();
-        for i in 0..items.len() {
-            let Some(item) = items.get(i) else {
-                unreachable!()
-            };
-            match take_one(alloc, &self.filter, &mut self.held, item) {
-                Ok(answer) => count.add(answer),
-                Err(fault) => {
-                    return Err(Stop {
-                        done: count.done,
-                        fault,
-                    });
-                }
-            }
+        let passed = count_of_other_kinds(&self.filter, items);
+        if passed >= items.len() {
+            return Ok(Count::passed(passed));
         }
-        Ok(count)
+        let Ok(mut asker) = self.filter.asker(alloc) else {
+            return Err(Stop {
+                done: passed,
+                fault: JoinFault::NoRoom,
+            });
+        };
+        take_rest(alloc, &mut asker, &mut self.held, items, passed)
     }
 
     /// The change that is held for a key. It takes no memory.

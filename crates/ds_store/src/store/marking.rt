@@ -96,8 +96,9 @@ pub(super) fn flags_under(
     ensures { IfOk result (λ flags. flags.items ≡ map (λ (c : ChangeRecord). is_under filter.now c.key) (held_changes held.now.held)) }
 {
     let mut flags = Vec::with_capacity(alloc, held.held().len())?;
+    let mut asker = filter.asker(alloc)?;
     while let Some((change, _)) = held.at(flags.len()) {
-        flags.push(filter.admits(alloc, change.key())?)?;
+        flags.push(asker.admits(change.key()))?;
     }
     Ok(flags)
 }

@@ -1,14 +1,17 @@
-use Rattle.std.proofs.lemmas.Result.{err_from_is_err_and}
-use Rattle.ds_pattern.proofs.RegexLemmas.{regex_of_built, syntax_fault}
+use Rattle.std.proofs.Common.{◌≡◌, ◌≢◌}
+use Rattle.std.proofs.lemmas.Bool.{false≢true}
+use Rattle.regex_syntax.specs.Verdict.{default_config}
+use Rattle.regex_syntax.specs.declared.error.ErrorKind.TheVariants as kind
+use Rattle.ds_pattern.proofs.RegexLemmas.{regex_of_read, no_regex_of_refused}
 use Rattle.ds_pattern.proofs.pattern.judge.Goals as goal
 
-pub returns-in_err-new-clause-refused : goal.returns-in_err-new-clause-refused
-returns-in_err-new-clause-refused c =
-    let exit = err_from_is_err_and c.from_residual.result c.from_residual.ensures.1 in
-    let said = c.in_err-new.ensures in
-    rw exit.1 (syntax_fault c.args.text.now _ _ exit.2 said.by_grammar said.kind c.requires)
+pub returns-in-Err-2-clause-refused : goal.returns-in-Err-2-clause-refused
+returns-in-Err-2-clause-refused c =
+    let config : c.default.result ≡ default_config = c.default.ensures in
+    let other : c.in-Err.error.kind ≢ kind.OutOfMemory = λ same. false≢true (rw same at c.if-eq.ensures) in
+    no_regex_of_refused c.args.text.now c.in-Err.error.kind (rw config at c.in-Err.ensures.err) other c.requires
 
 pub returns-clause-ok : goal.returns-clause-ok
 returns-clause-ok c =
-    let said = c.in_ok-new.ensures in
-    regex_of_built c.in_ok-new.field-0 c.args.text.now said.source said.config said.read c.requires
+    let config : c.default.result ≡ default_config = c.default.ensures in
+    regex_of_read c.args.text.now c.in-Ok.parsed.hir _ (rw config at c.in-Ok.ensures.ok) c.requires

@@ -4,6 +4,7 @@ use Rattle.std.proofs.lemmas.Option.{slice_get_within}
 use Rattle.ds_names.specs.declared.key.Key.{Key}
 use Rattle.ds_entry.specs.Change.{ChangeRecord}
 use Rattle.ds_join.specs.Held.{held_changes}
+use Rattle.ds_pattern.specs.declared.query.Query.{Query}
 use Rattle.ds_pattern.specs.Under.{is_under}
 use Rattle.ds_store.proofs.PlaceLemmas.{flags_more, flags_all}
 use Rattle.ds_store.proofs.store.marking.flags_under.Goals as goal
@@ -17,7 +18,7 @@ here c =
 -- its flag
 pushed : (c : In_ok-push) → c.push.new.self.items ≡ c.loop-change.flags.items ++ is_under c.args.filter.now c.in-Some.change.now.key ∷ []
 pushed c =
-    c.in_ok-push.ensures.items ∙ ap (λ b. c.loop-change.flags.items ++ b ∷ []) (c.in_ok-admits.ensures.under ∙ ap (λ (k : Key). is_under c.args.filter.now k) c.key.ensures.value)
+    c.in_ok-push.ensures.items ∙ ap (λ b. c.loop-change.flags.items ++ b ∷ []) (c.admits.ensures.under ∙ ap (λ (q : Query). is_under q c.key.result.now) c.loop-change.invariant.asker ∙ ap (λ (k : Key). is_under c.args.filter.now k) c.key.ensures.value)
 
 longer : (c : In_ok-push) → length c.push.new.self.items ≡ length c.loop-change.flags.items + 1
 longer c = ap (λ (l : List Bool). length l) (pushed c) ∙ length-append c.loop-change.flags.items (is_under c.args.filter.now c.in-Some.change.now.key ∷ [])
@@ -36,6 +37,7 @@ loop-change-preserved c =
     record {
       flags = flags_more (λ (x : ChangeRecord). is_under c.args.filter.now x.key) (held_changes c.args.held.now.held) c.loop-change.flags.items c.push.new.self.items c.in-Some.change.now c.loop-change.invariant.flags (here d) (pushed d);
       within = omega (arith, longer d, within d);
+      asker = c.admits.ensures.same ∙ c.loop-change.invariant.asker;
     }
 
 pub returns : goal.returns

@@ -9,6 +9,7 @@ abbrev pub invariant-loop-change : goal.invariant-loop-change
 invariant-loop-change l = record {
   flags : l.flags.items ≡ map (λ (c : ChangeRecord). is_under l.filter c.key) (take (length l.flags.items) (held_changes l.held.held));
   within : length l.flags.items ≤ length (held_changes l.held.held);
+  asker : l.asker ≡ l.filter;
 }
 
 abbrev pub decreases-loop-change : goal.decreases-loop-change
