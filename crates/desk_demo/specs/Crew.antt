@@ -1,8 +1,8 @@
 -- What a thread brings back.
-use Rattle.std.specs.Prelude.{◌≡◌, IfSome, Option}
+use Rattle.std.specs.Prelude.{◌≡◌}
 use Rattle.atomic_table.specs.Seated.{TableId}
 use Rattle.desk_demo.specs.declared.worker.Worker.{Worker}
 
--- a thread that brings its pass back brings one of this desk
-abbrev pub IsOfDesk : TableId → Option Worker → Type 0
-IsOfDesk id w = IfSome w (λ x. x.pass.seat.table_id ≡ id)
+-- its pass is of this desk
+abbrev pub IsOfDesk : TableId → Worker → Type 0
+IsOfDesk id w = w.pass.seat.table_id ≡ id

@@ -2,12 +2,11 @@
 
 ghost use Rattle.std.specs.Prelude.{◌≡◌, IfSome};
 ghost use Rattle.std.specs.List.{AllByRecursion};
-ghost use Rattle.atomic_table.specs.Seated.{TableId};
 ghost use Rattle.desk.specs.Pass.{desk_of};
 ghost use Rattle.desk_demo.specs.Crew.{IsOfDesk};
 
-use crate::worker::{Said, Worker, work};
-use desk::{Account, Closed, Desk, Pass, Passes};
+use crate::worker::{Said, Worker};
+use desk::{Account, Desk, Pass, Passes};
 use desk_counter::Counter;
 use std::alloc::Global;
 use std::sync::Wait;
@@ -16,25 +15,18 @@ use std::thread::{Threads, map_vec};
 /// What the threads were answered and counted, and what the desk left.
 #[derive(Drop)]
 pub(crate) struct Crew {
-    /// What the threads counted.
-    pub counts: Counts,
+    /// Every call.
+    pub said: Vec<Said>,
+    /// How many bits the threads counted as raised.
+    pub raises: u64,
+    /// How many bits they counted as taken.
+    pub takes: u64,
     /// The account of the desk.
     pub account: Account,
 }
 
-/// What the threads counted.
-#[derive(Drop)]
-pub(crate) struct Counts {
-    /// Every call.
-    pub said: Vec<Said>,
-    /// How many bits were raised.
-    pub raises: u64,
-    /// How many bits were taken.
-    pub takes: u64,
-}
-
-/// Opens a desk over a new counter, has the threads call it, and closes it. `None` where memory is wanting, or where there
-/// are not 1 to 64 threads.
+/// Opens a desk over a new counter, has that many threads call it, and closes it. `None` where memory is wanting, or where
+/// there are not 1 to 64 threads.
 pub(crate) fn run_crew<R: Threads + Wait + Sync>(
     rt: &R,
     alloc: Global,
@@ -45,64 +37,53 @@ pub(crate) fn run_crew<R: Threads + Wait + Sync>(
         return None;
     };
     let workers = run_threads(rt, alloc, &desk, passes, calls)?;
-    let mut counts = Counts {
-        said: Vec::new(alloc),
-        raises: 0,
-        takes: 0,
-    };
-    let passes = gather(alloc, workers, &mut counts)?;
-    let Ok(
-        Closed {
-            machine: _,
-            account,
-        },
-    ) = desk.close(alloc, passes)
-    else {
-        return None;
-    };
-    Some(Crew { counts, account })
+    close_crew(alloc, desk, workers)
 }
 
-// Has each pass call the desk from a thread of its own.
+// Has each pass call the desk from a thread of its own, where one can be made.
 fn run_threads<R: Threads + Wait + Sync>(
     rt: &R,
     alloc: Global,
     desk: &Desk<Counter>,
     passes: Passes<Counter>,
     calls: u32,
-) -> Option<Vec<Option<Worker>>>
+) -> Option<Vec<Worker>>
     requires { AllByRecursion (λ p. desk_of p ≡ desk.now.table.shared.table_id) passes }
     ensures { IfSome result (λ ws. AllByRecursion (IsOfDesk desk.now.table.shared.table_id) ws.items) }
 {
-    let each = move |pass: Pass<Counter>| -> Option<Worker>
+    let each = move |pass: Pass<Counter>| -> Worker
         requires { desk_of pass ≡ desk.now.table.shared.table_id }
-        ensures { IfSome result (λ w. desk_of w.pass ≡ desk.entry.now.table.shared.table_id) }
-    { work(rt, alloc, desk, pass, calls) };
+        ensures { desk_of result.pass ≡ desk.entry.now.table.shared.table_id }
+    {
+        let mut worker = Worker::new(alloc, pass);
+        worker.work(rt, desk, calls);
+        worker
+    };
     map_vec(rt, passes.into_vec(), &each).ok()
 }
 
-// The passes of the threads, and what they counted together. `None` where one of them was in want.
-fn gather(
-    alloc: Global,
-    mut workers: Vec<Option<Worker>>,
-    counts: &mut Counts,
-) -> Option<Passes<Counter>>
-    ghost id: { TableId }
-    requires { AllByRecursion (IsOfDesk id) workers.items }
-    ensures { IfSome result (λ passes. AllByRecursion (λ p. desk_of p ≡ id) passes) }
+// Takes the passes back, adds up what the threads counted, and closes the desk.
+fn close_crew(alloc: Global, desk: Desk<Counter>, mut workers: Vec<Worker>) -> Option<Crew>
+    requires { AllByRecursion (IsOfDesk desk.table.shared.table_id) workers.items }
 {
     let mut passes = Passes::<Counter>::new(alloc);
+    let mut said = Vec::new(alloc);
+    let mut raises = 0u64;
+    let mut takes = 0u64;
     while let Some(worker) = workers.pop() {
-        let Worker {
-            pass,
-            said,
-            raises,
-            takes,
-        } = worker?;
-        passes.push(pass).ok()?;
-        counts.said.extend_from_slice(&said).ok()?;
-        counts.raises = counts.raises.wrapping_add(raises);
-        counts.takes = counts.takes.wrapping_add(takes);
+        if !worker.done {
+            return None;
+        }
+        passes.push(worker.pass).ok()?;
+        said.extend_from_slice(&worker.said).ok()?;
+        raises = raises.wrapping_add(worker.raises);
+        takes = takes.wrapping_add(worker.takes);
     }
-    Some(passes)
+    let closed = desk.close(alloc, passes).ok()?;
+    Some(Crew {
+        said,
+        raises,
+        takes,
+        account: closed.account,
+    })
 }

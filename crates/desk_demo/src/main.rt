@@ -81,8 +81,8 @@ fn share_counter<R: Print + Threads + Wait + Sync>(
     let Some(crew) = run_crew(rt, alloc, threads, calls) else {
         return Err(Failure::NoRoom);
     };
-    let entries = crew.counts.said.len();
-    let Some(replies) = replies_are_those_of_one(alloc, &crew.counts.said) else {
+    let entries = crew.said.len();
+    let Some(replies) = replies_are_those_of_one(alloc, &crew.said) else {
         return Err(Failure::NoRoom);
     };
     let replies = if replies { "legal" } else { "not legal" };

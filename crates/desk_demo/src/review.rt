@@ -49,5 +49,5 @@ pub(crate) fn account_is_exact(crew: &Crew) -> bool {
         raises = raises.wrapping_add(row.raises);
         takes = takes.wrapping_add(row.takes);
     }
-    raises == crew.counts.raises && takes == crew.counts.takes
+    raises == crew.raises && takes == crew.takes
 }

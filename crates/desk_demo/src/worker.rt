@@ -1,6 +1,6 @@
 //! What one thread does at the desk.
 
-ghost use Rattle.std.specs.Prelude.{◌≡◌, IfSome};
+ghost use Rattle.std.specs.Prelude.{◌≡◌};
 ghost use Rattle.desk.specs.Pass.{desk_of};
 
 use desk::{Desk, Pass};
@@ -29,9 +29,11 @@ pub(crate) struct Worker {
     pub raises: u64,
     /// How many bits its takes gave.
     pub takes: u64,
+    /// Whether it made all its calls, and had room for them.
+    pub done: bool,
 }
 
-// The commands of a thread: it watches now and then, and else adds or reads.
+// The commands of a thread: now and then it says who is to be told, or reads, and else it adds.
 fn command_of(turn: u32) -> Count {
     match turn % 8 {
         0 => Count::Watch((1u128 << (turn % 128)) | 1),
@@ -40,45 +42,65 @@ fn command_of(turn: u32) -> Count {
     }
 }
 
-/// Makes that many calls; every fourth is followed by a take of a server. `None` where memory or a place is wanting.
-pub(crate) fn work<R: Wait>(
-    rt: &R,
-    alloc: Global,
-    desk: &Desk<Counter>,
-    mut pass: Pass<Counter>,
-    calls: u32,
-) -> Option<Worker>
-    requires { desk_of pass ≡ desk.now.table.shared.table_id }
-    ensures { IfSome result (λ w. desk_of w.pass ≡ desk.entry.now.table.shared.table_id) }
-{
-    let mut said = Vec::new(alloc);
-    let mut raises = 0u64;
-    let mut takes = 0u64;
-    for turn in 0..calls {
-        let command = command_of(turn);
-        let Ok(answer) = desk.call(rt, &mut pass, command) else {
-            return None;
+impl Worker {
+    /// A thread that has called nothing.
+    pub(crate) fn new(alloc: Global, pass: Pass<Counter>) -> Worker
+        ensures { desk_of result.pass ≡ desk_of pass }
+    {
+        Worker {
+            pass,
+            said: Vec::new(alloc),
+            raises: 0,
+            takes: 0,
+            done: false,
+        }
+    }
+
+    /// Makes that many calls; every fourth is followed by a take of a server. It ends early where memory or a place is
+    /// wanting.
+    pub(crate) fn work<R: Wait>(&mut self, rt: &R, desk: &Desk<Counter>, calls: u32)
+        requires { desk_of self.old.pass ≡ desk.now.table.shared.table_id }
+        ensures { desk_of self.new.pass ≡ desk_of self.old.pass }
+    {
+        for turn in 0..calls {
+            if !self.call(rt, desk, command_of(turn)) {
+                return;
+            }
+            if turn % 4 == 3 && !self.take(desk, turn / 4 % 16) {
+                return;
+            }
+        }
+        self.done = true;
+    }
+
+    // Makes one call, and keeps what was answered. False where memory or a place is wanting.
+    fn call<R: Wait>(&mut self, rt: &R, desk: &Desk<Counter>, command: Count) -> bool
+        requires { desk_of self.old.pass ≡ desk.now.table.shared.table_id }
+        ensures { desk_of self.new.pass ≡ desk_of self.old.pass }
+    {
+        let Ok(answer) = desk.call(rt, &mut self.pass, command) else {
+            return false;
         };
-        raises = raises.wrapping_add(u64::from(answer.raised.count_ones()));
-        let one = Said {
+        self.raises = self
+            .raises
+            .wrapping_add(u64::from(answer.raised.count_ones()));
+        let said = Said {
             place: answer.place,
             command,
             reply: answer.reply,
         };
-        if said.push(one).is_err() {
-            return None;
-        }
-        if turn % 4 == 3 {
-            let Ok(taken) = desk.take(&mut pass, turn / 4 % 16) else {
-                return None;
-            };
-            takes = takes.wrapping_add(u64::from(taken.bits.count_ones()));
-        }
+        self.said.push(said).is_ok()
     }
-    Some(Worker {
-        pass,
-        said,
-        raises,
-        takes,
-    })
+
+    // Takes the notices of a server, and counts them.
+    fn take(&mut self, desk: &Desk<Counter>, server: u32) -> bool
+        requires { desk_of self.old.pass ≡ desk.now.table.shared.table_id }
+        ensures { desk_of self.new.pass ≡ desk_of self.old.pass }
+    {
+        let Ok(taken) = desk.take(&mut self.pass, server) else {
+            return false;
+        };
+        self.takes = self.takes.wrapping_add(u64::from(taken.bits.count_ones()));
+        true
+    }
 }
