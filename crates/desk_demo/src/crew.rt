@@ -1,9 +1,8 @@
 //! Threads at one desk.
 
-ghost use Rattle.std.specs.Prelude.{◌≡◌, IfSome};
+ghost use Rattle.std.specs.Prelude.{All, ◌≡◌, IfSome};
 ghost use Rattle.std.specs.List.{AllByRecursion};
 ghost use Rattle.desk.specs.Pass.{desk_of};
-ghost use Rattle.desk_demo.specs.Crew.{IsOfDesk};
 
 use crate::worker::{Said, Worker};
 use desk::{Account, Desk, Pass, Passes};
@@ -11,6 +10,8 @@ use desk_counter::Counter;
 use std::alloc::Global;
 use std::sync::Wait;
 use std::thread::{Threads, map_vec};
+
+type CounterWorker = Worker<Pass<Counter>>;
 
 /// What the threads were answered and counted, and what the desk left.
 #[derive(Drop)]
@@ -47,11 +48,11 @@ fn run_threads<R: Threads + Wait + Sync>(
     desk: &Desk<Counter>,
     passes: Passes<Counter>,
     calls: u32,
-) -> Option<Vec<Worker>>
+) -> Option<Vec<CounterWorker>>
     requires { AllByRecursion (λ p. desk_of p ≡ desk.now.table.shared.table_id) passes }
-    ensures { IfSome result (λ ws. AllByRecursion (IsOfDesk desk.now.table.shared.table_id) ws.items) }
+    ensures { IfSome result (λ ws. All (λ w. desk_of w.pass ≡ desk.now.table.shared.table_id) ws.items) }
 {
-    let each = move |pass: Pass<Counter>| -> Worker
+    let each = move |pass: Pass<Counter>| -> CounterWorker
         requires { desk_of pass ≡ desk.now.table.shared.table_id }
         ensures { desk_of result.pass ≡ desk.entry.now.table.shared.table_id }
     {
@@ -59,12 +60,15 @@ fn run_threads<R: Threads + Wait + Sync>(
         worker.work(rt, desk, calls);
         worker
     };
-    map_vec(rt, passes.into_vec(), &each).ok()
+    match map_vec(rt, passes.into_vec(), &each) {
+        Ok(workers) => Some(workers),
+        Err(_) => None,
+    }
 }
 
 // Takes the passes back, adds up what the threads counted, and closes the desk.
-fn close_crew(alloc: Global, desk: Desk<Counter>, mut workers: Vec<Worker>) -> Option<Crew>
-    requires { AllByRecursion (IsOfDesk desk.table.shared.table_id) workers.items }
+fn close_crew(alloc: Global, desk: Desk<Counter>, mut workers: Vec<CounterWorker>) -> Option<Crew>
+    requires { All (λ w. desk_of w.pass ≡ desk.table.shared.table_id) workers.items }
 {
     let mut passes = Passes::<Counter>::new(alloc);
     let mut said = Vec::new(alloc);
@@ -74,10 +78,11 @@ fn close_crew(alloc: Global, desk: Desk<Counter>, mut workers: Vec<Worker>) -> O
         if !worker.done {
             return None;
         }
-        passes.push(worker.pass).ok()?;
-        said.extend_from_slice(&worker.said).ok()?;
         raises = raises.wrapping_add(worker.raises);
         takes = takes.wrapping_add(worker.takes);
+        if said.extend_from_slice(&worker.said).is_err() || passes.push(worker.pass).is_err() {
+            return None;
+        }
     }
     let closed = desk.close(alloc, passes).ok()?;
     Some(Crew {

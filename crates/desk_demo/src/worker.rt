@@ -19,10 +19,11 @@ pub(crate) struct Said {
     pub reply: Counted,
 }
 
-/// A thread's pass, with what it was answered and what it counted.
+/// A thread's pass, with what it was answered and what it counted. The pass is a plain parameter, so that a worker is found
+/// to cross threads.
 #[derive(Drop)]
-pub(crate) struct Worker {
-    pub pass: Pass<Counter>,
+pub(crate) struct Worker<P> {
+    pub pass: P,
     /// Its calls, in their order.
     pub said: Vec<Said>,
     /// How many bits its calls raised.
@@ -42,9 +43,9 @@ fn command_of(turn: u32) -> Count {
     }
 }
 
-impl Worker {
+impl Worker<Pass<Counter>> {
     /// A thread that has called nothing.
-    pub(crate) fn new(alloc: Global, pass: Pass<Counter>) -> Worker
+    pub(crate) fn new(alloc: Global, pass: Pass<Counter>) -> Worker<Pass<Counter>>
         ensures { desk_of result.pass ≡ desk_of pass }
     {
         Worker {
