@@ -75,14 +75,21 @@ fn close_crew(alloc: Global, desk: Desk<Counter>, mut workers: Vec<CounterWorker
     let mut raises = 0u64;
     let mut takes = 0u64;
     while let Some(worker) = workers.pop() {
-        if !worker.done {
+        let Worker {
+            pass,
+            said: calls,
+            raises: raised,
+            takes: taken,
+            done,
+        } = worker;
+        if !done || said.extend_from_slice(&calls).is_err() {
             return None;
         }
-        raises = raises.wrapping_add(worker.raises);
-        takes = takes.wrapping_add(worker.takes);
-        if said.extend_from_slice(&worker.said).is_err() || passes.push(worker.pass).is_err() {
+        raises = raises.wrapping_add(raised);
+        takes = takes.wrapping_add(taken);
+        let Ok(()) = passes.push(pass) else {
             return None;
-        }
+        };
     }
     let closed = desk.close(alloc, passes).ok()?;
     Some(Crew {
