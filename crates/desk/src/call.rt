@@ -31,6 +31,7 @@ impl<M: Machine> Desk<M> {
     where
         M::Command: Drop,
         requires of_desk { desk_of pass.old ≡ self.now.table.shared.table_id }
+        ensures stays { desk_of pass.new ≡ desk_of pass.old }
         ensures called { IfOk result (λ a. Calls M.stands M.steps pass.old pass.new command a.reply a.place) }
         ensures place { IfOk result (λ a. a.place < 2 ^ 62) }
         ensures posted { IfOk result (λ a. (a.owed ≡ M.owes a.reply) × PostsOwed pass.old pass.new a.place a.owed) }
@@ -57,6 +58,7 @@ impl<M: Machine> Desk<M> {
     /// call below `floor`. It takes no memory and waits for nobody. BadServer from 16 on.
     pub fn take(&self, pass: &mut Pass<M>, server: u32) -> Result<Taken, DeskFault>
         requires { desk_of pass.old ≡ self.now.table.shared.table_id }
+        ensures stays { desk_of pass.new ≡ desk_of pass.old }
         ensures sees { OnOk result ((server < 16) × Sees M.stands M.steps pass.old pass.new) }
         ensures taken { IfOk result (λ t. takes pass.new ≡ takes pass.old ++ record { server = server; bits = t.bits } ∷ []) }
         ensures floor { IfOk result (λ t. t.floor ≡ next_place pass.new) }
@@ -80,6 +82,7 @@ impl<M: Machine> Desk<M> {
     /// Looks how far the history goes: the first place that no call has entered. It takes no memory and waits for nobody.
     pub fn front(&self, pass: &mut Pass<M>) -> u64
         requires { desk_of pass.old ≡ self.now.table.shared.table_id }
+        ensures stays { desk_of pass.new ≡ desk_of pass.old }
         ensures sees { Sees M.stands M.steps pass.old pass.new }
         ensures front { result ≡ next_place pass.new }
         ensures same { SameNotes pass.old pass.new × SameNotices pass.old pass.new }
@@ -90,6 +93,7 @@ impl<M: Machine> Desk<M> {
     /// How far the pass has seen the history, for another pass to learn. It waits for nobody. Worn after 2^62 notes.
     pub fn note(&self, pass: &mut Pass<M>) -> Result<Note<M>, DeskFault>
         requires { desk_of pass.old ≡ self.now.table.shared.table_id }
+        ensures stays { desk_of pass.new ≡ desk_of pass.old }
         ensures told { IfOk result (λ n. (desk_of_note n ≡ self.now.table.shared.table_id) × (told_by n ≡ history pass.old)) }
         ensures made { OnOk result ((notes_made pass.new ≡ notes_made pass.old + 1) × (notes_learnt pass.new ≡ notes_learnt pass.old)) }
         ensures same { KnowsAsMuch pass.old pass.new × SameNotices pass.old pass.new }
@@ -109,6 +113,7 @@ impl<M: Machine> Desk<M> {
     pub fn learn(&self, pass: &mut Pass<M>, note: Note<M>) -> Result<(), LearnStop<Note<M>>>
         requires pass { desk_of pass.old ≡ self.now.table.shared.table_id }
         requires note { desk_of_note note ≡ self.now.table.shared.table_id }
+        ensures stays { desk_of pass.new ≡ desk_of pass.old }
         ensures learnt { OnOk result (Sees M.stands M.steps pass.old pass.new × IsPrefix (told_by note) (history pass.new)) }
         ensures counted { OnOk result ((notes_learnt pass.new ≡ notes_learnt pass.old + 1) × (notes_made pass.new ≡ notes_made pass.old)) }
         ensures same { SameNotices pass.old pass.new }

@@ -20,8 +20,8 @@ pub enum DeskFault {
     /// Not all passes are back.
     #[error("a pass is out")]
     PassesOut,
-    /// As many notes were learnt as were made on no desk that can be closed; here they differ.
-    #[error("a note was made and not learnt")]
+    /// Not as many notes were learnt as were made, over all passes.
+    #[error("a note is out")]
     Noted,
     /// Memory is wanting.
     #[error("out of memory")]

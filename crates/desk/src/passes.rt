@@ -1,7 +1,6 @@
 //! A list of passes.
 
-ghost use Rattle.std.specs.Prelude.{◌≡◌, ◌++◌, ◌∷◌, [], length, IsSome, IfSome, IfNone, OnOk, OnErr, IfErr};
-ghost use Rattle.std.specs.Option.{option_to_list};
+ghost use Rattle.std.specs.Prelude.{◌≡◌, ◌++◌, ◌∷◌, [], length, IfSome, IfNone, OnOk, OnErr, IfErr};
 
 use crate::pass::Pass;
 use std::alloc::{AllocFailed, Global};
@@ -59,7 +58,8 @@ impl<P> PassesOf<P> {
 
     /// Takes the last pass out; `None` where there is none.
     pub fn pop(&mut self) -> Option<P>
-        ensures { self.old ≡ self.new ++ option_to_list result }
+        ensures taken { IfSome result (λ pass. self.old ≡ self.new ++ pass ∷ []) }
+        ensures none { IfNone result ((self.old ≡ []) × (self.new ≡ [])) }
     {
         self.passes.pop()
     }
