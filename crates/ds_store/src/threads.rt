@@ -8,5 +8,4 @@ ghost use Rattle.ds_store.specs.contracts.store.Store.{the_row as store_row};
 pub fn stores_cross_threads()
     ensures send { IsSend store_row }
     ensures sync { IsSync store_row }
-{
-}
+{}
