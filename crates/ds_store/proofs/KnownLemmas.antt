@@ -1,9 +1,9 @@
 -- What the masks beside what is held say, and after a change took effect.
-use Rattle.std.proofs.Common.{◌≡◌, Bool, true, false, cond, List, [], ◌∷◌, ◌++◌, map, length, Option, Some, None, is_some, refl, ap, sym, ◌∙◌, inl, inr, Contains}
+use Rattle.std.proofs.Common.{◌≡◌, Bool, true, false, cond, List, [], ◌∷◌, ◌++◌, map, length, Option, Some, None, is_some, refl, ap, sym, ◌∙◌, subst, inl, inr, Contains}
 use Rattle.std.proofs.lemmas.List.{length-map}
 use Rattle.std.proofs.lemmas.List.Elements.{Contains-push_cases}
 use Rattle.std.specs.FinMap.{FinMap, get, insert, get-insert}
-use Rattle.std.specs.Option.{option_map_or}
+use Rattle.std.specs.Option.{option_map, option_map_or}
 use Rattle.std.specs.Ordering.{eq_by_cmp}
 use Rattle.ds_names.specs.declared.key.Key.{Key}
 use Rattle.ds_names.specs.Key.{key_cmp}
@@ -19,6 +19,7 @@ use Rattle.ds_watch.specs.Masks.{fresh}
 use Rattle.ds_watch.specs.Watching.{Watching, watches}
 use Rattle.ds_store.specs.Judging.{held_at}
 use Rattle.ds_store.specs.Kept.{AreMarked, under_at, unseen_at}
+use Rattle.ds_store.specs.Owed.{IsOwedIfHeld}
 use Rattle.ds_store.proofs.StandsLemmas.{held_at-is}
 
 -- ---- a held key
@@ -41,6 +42,16 @@ module _ (h : MarkedHolding Masks) (marked : HasMarks h) (own : IsOwn h.held) wh
       by_held : (o : Option ChangeRecord) → held_for h.held key ≡ o → held_for h.held key ≡ None
       by_held None q = q
       by_held (Some c) q = absurd (let no : false ≡ true = sym (ap is_some e) ∙ marked key ∙ ap is_some q in cc)
+
+  -- so what is found for a key says to whom its change is owed, or that it isn't held
+  pub owed_if_held : (ws : List (Option Watching)) → AreMarked (held_changes h.held) h.marks ws → (key : Key) (o : Option (List Bool)) → o ≡ option_map (λ (m : Masks). m.under) (mark_for h key)
+      → IsOwedIfHeld (held_at (held_changes h.held) key) (map (watches key) ws) o
+  owed_if_held ws are key o e = by_mark (mark_for h key) refl
+    where
+      by_mark : (p : Option Masks) → mark_for h key ≡ p → IsOwedIfHeld (held_at (held_changes h.held) key) (map (watches key) ws) o
+      by_mark None q = subst (λ r. IsOwedIfHeld (held_at (held_changes h.held) key) (map (watches key) ws) r) (sym (e ∙ ap (option_map (λ (m : Masks). m.under)) q)) (not_known key q)
+      by_mark (Some m) q =
+          subst (λ r. IsOwedIfHeld (held_at (held_changes h.held) key) (map (watches key) ws) r) (sym (e ∙ ap (option_map (λ (m : Masks). m.under)) q)) (known_owed ws are key m q)
 
 -- ---- a change that took effect
 module _ (old new : FinMap key_cmp Masks) (c : ChangeRecord) (owed : List Bool) (is : new ≡ insert old c.key (fresh owed)) where

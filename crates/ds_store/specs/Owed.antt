@@ -1,5 +1,6 @@
 -- To whom several changes are owed.
-use Rattle.std.specs.Prelude.{Bool, false, List, fold, replicate, Result, Ok, Err}
+use Rattle.std.specs.Prelude.{◌≡◌, Bool, false, List, fold, replicate, Result, Ok, Err, Option, Some, None}
+use Rattle.ds_entry.specs.Change.{ChangeRecord}
 use Rattle.ds_join.specs.declared.merge.Merge.{Merge}
 use Rattle.ds_join.specs.declared.merge.Merge.TheVariants.{Taken, Known, Stale}
 use Rattle.ds_watch.specs.Mask.{either}
@@ -15,3 +16,8 @@ owed_after (Ok Taken) total more = either total more
 owed_after (Ok Known) total more = total
 owed_after (Ok Stale) total more = total
 owed_after (Err fault) total more = total
+
+-- to whom the change of a held key is owed is known, and of another key nothing is
+abbrev pub IsOwedIfHeld : Option ChangeRecord → List Bool → Option (List Bool) → Type 0
+IsOwedIfHeld held owed (Some known) = known ≡ owed
+IsOwedIfHeld held owed None = held ≡ None

@@ -8,6 +8,7 @@ ghost use Rattle.ds_watch.specs.Subscription.{is_owed};
 ghost use Rattle.ds_watch.specs.Followed.{owed_for};
 ghost use Rattle.ds_store.specs.Judging.{held_at, TakesEffect};
 ghost use Rattle.ds_store.specs.Kept.{IsTakenOrNoRoom};
+ghost use Rattle.ds_store.specs.Owed.{IsOwedIfHeld};
 ghost use Rattle.ds_store.specs.Stands.{Stands, IsOpenFault, IsRing};
 
 use crate::command::{Command, Reply};
@@ -20,7 +21,6 @@ use ds_index::Indexed;
 use ds_join::{Held, JoinFault, Merge};
 use ds_names::{Endpoint, Key, NoRoom};
 use ds_watch::{Mask, Masks, Subscriptions};
-use marking::masks_of;
 use std::alloc::Global;
 use std::marker::Model;
 
@@ -166,15 +166,15 @@ impl Store {
         Ok(())
     }
 
-    // The subscriptions to which a change of the key is owed. For a held key it asks no pattern, and takes no
-    // memory.
-    fn owed(&self, key: &Key) -> Result<Mask, NoRoom>
+    // The subscriptions to which a change of the key is owed, which is known of a held one. For such a key it
+    // asks no pattern, and takes no memory.
+    fn owed(&self, key: &Key, known: Option<Mask>) -> Result<Mask, NoRoom>
+        requires { IsOwedIfHeld (held_at self.now.held key.now) (owed_for key.now self.now.subscriptions) known }
         ensures owed { IfOk result (λ owed. owed ≡ owed_for key.now self.now.subscriptions) }
         ensures held { OnErr result (held_at self.now.held key.now ≡ None) }
     {
-        let _held = self.held.held();
-        match masks_of(&self.held, key) {
-            Some(masks) => Ok(masks.under()),
+        match known {
+            Some(owed) => Ok(owed),
             None => self.subscriptions.owed(self.alloc, key),
         }
     }

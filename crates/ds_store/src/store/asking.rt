@@ -7,15 +7,19 @@ ghost use Rattle.ds_store.specs.State.{State, last_place};
 ghost use Rattle.ds_entry.specs.ChangeFault.{IsFaultOf};
 ghost use Rattle.ds_store.specs.Machine.{Answers, asking, answer_for};
 ghost use Rattle.ds_store.specs.Judging.{first_cause, by_held, standing, standing_of, held_at, name_of, is_of_kind, is_label_body, is_label_change, is_callers_version, against_asked, TakesEffect, change_asked, published, deleted};
+ghost use Rattle.ds_store.specs.Owed.{IsOwedIfHeld};
 ghost use Rattle.ds_store.specs.Stands.{Stands};
+ghost use Rattle.ds_watch.specs.Followed.{owed_for};
 
 use crate::command::Reply;
 use crate::judging::{Cause, LAST_PLACE, is_label, is_put, is_rs, refusal_for};
 use crate::refusal::Refusal;
 use crate::search::{name_of, rs_name};
 use crate::store::Store;
+use crate::store::marking::found_at;
 use ds_entry::{Body, Change, EntryFault, Value};
 use ds_names::{Endpoint, Key, Kind, Name, NoRoom, Version};
+use ds_watch::Mask;
 use std::cmp::Ordering;
 
 /// What the entry has to be before a change: not live, anything, or live.
@@ -196,16 +200,23 @@ fn judge(
 }
 
 impl Store {
-    // The first cause against what a caller of this name asks for.
-    fn cause_against(&self, asked: &Asked, body: &Body, caller: &Option<Name>) -> Option<Cause>
-        ensures first { result ≡ first_cause (against_asked (standing_of self.now.held self.now.position asked.now.key) caller.now asked.now body.now) }
-        ensures taken { IfNone result (TakesEffect (held_at self.now.held asked.now.key) (length self.now.held) (change_asked caller.now asked.now body.now)) }
-        ensures room { IfNone result (self.now.position < last_place) }
+    // The first cause against what a caller of this name asks for, and the subscriptions to which the change is
+    // owed where its key is held.
+    fn cause_against(
+        &self,
+        asked: &Asked,
+        body: &Body,
+        caller: &Option<Name>,
+    ) -> (Option<Cause>, Option<Mask>)
+        ensures first { result.0 ≡ first_cause (against_asked (standing_of self.now.held self.now.position asked.now.key) caller.now asked.now body.now) }
+        ensures taken { IfNone result.0 (TakesEffect (held_at self.now.held asked.now.key) (length self.now.held) (change_asked caller.now asked.now body.now)) }
+        ensures room { IfNone result.0 (self.now.position < last_place) }
+        ensures owed { IsOwedIfHeld (held_at self.now.held asked.now.key) (owed_for asked.now.key self.now.subscriptions) result.1 }
     {
-        let held = self.held.held();
-        let count = held.len();
-        let held = held.get(&asked.key);
-        judge(asked, body, caller, held, count, self.position)
+        let count = self.held.held().len();
+        let (held, owed) = found_at(&self.held, &asked.key);
+        let cause = judge(asked, body, caller, held, count, self.position);
+        (cause, owed)
     }
 
     // The name of the one who asks.
@@ -220,10 +231,11 @@ impl Store {
         ensures { (s : State) → Stands self.old s → (t : State) × Answers s (asking s asked.now body) result t × Stands self.new t }
     {
         let caller = self.caller_of(asked);
-        if let Some(cause) = self.cause_against(asked, &body, &caller) {
+        let (cause, known) = self.cause_against(asked, &body, &caller);
+        if let Some(cause) = cause {
             return answer_to(asked, cause);
         }
-        let Ok(owed) = self.owed(&asked.key) else {
+        let Ok(owed) = self.owed(&asked.key, known) else {
             return Reply::Refused(Refusal::NoRoom);
         };
         let change = change_asked(asked, body, caller);

@@ -1,9 +1,11 @@
 //! The masks beside what is held, for all subscriptions.
 
 ghost use Rattle.std.specs.Prelude.{◌≡◌, ◌<◌, ◌≤◌, ◌++◌, ◌&&◌, ◌∷◌, [], None, Some, cond, true, false, length, map, slice_get, slice_index_or, IfOk, IfSome, OnErr};
+ghost use Rattle.std.specs.Option.{option_copied, option_map};
 ghost use Rattle.std.specs.List.{list_any};
+ghost use Rattle.ds_watch.specs.declared.masks.Masks.{Masks};
 ghost use Rattle.ds_entry.specs.Change.{ChangeRecord};
-ghost use Rattle.ds_join.specs.Held.{held_changes};
+ghost use Rattle.ds_join.specs.Held.{held_changes, held_for};
 ghost use Rattle.ds_join.specs.Marked.{mark_for};
 ghost use Rattle.ds_pattern.specs.Under.{is_under};
 ghost use Rattle.ds_watch.specs.Masks.{shown_to, made_at};
@@ -13,7 +15,7 @@ use ds_entry::{Change, Items};
 use ds_index::Indexed;
 use ds_names::{Key, NoRoom};
 use ds_pattern::Filter;
-use ds_watch::Masks;
+use ds_watch::{Mask, Masks};
 use std::alloc::Global;
 
 /// What a check shows, and how many changes it passed for that, from the first on.
@@ -21,6 +23,20 @@ use std::alloc::Global;
 pub(super) struct Shown {
     pub items: Items,
     pub passed: usize,
+}
+
+/// What is held for the key, and the subscriptions under whose query that is.
+pub(super) fn found_at<'a>(
+    held: &'a Indexed<Masks>,
+    key: &Key,
+) -> (Option<&'a Change>, Option<Mask>)
+    ensures change { option_copied result.0 ≡ held_for held.now.held key.now }
+    ensures under { result.1 ≡ option_map (λ (m : Masks). m.under) (mark_for held.now key.now) }
+{
+    match held.get(key) {
+        Some((change, masks)) => (Some(change), Some(masks.under())),
+        None => (None, None),
+    }
 }
 
 /// The masks beside what is held for the key.

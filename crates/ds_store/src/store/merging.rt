@@ -4,7 +4,7 @@ ghost use Rattle.std.specs.Prelude.{◌≡◌, ◌<◌, length, IfNone};
 ghost use Rattle.ds_store.specs.State.{State, last_place};
 ghost use Rattle.ds_watch.specs.Followed.{owed_for};
 ghost use Rattle.ds_store.specs.Machine.{Step, MergesItem, taken_by, stale_by, passed_as};
-ghost use Rattle.ds_store.specs.Owed.{owed_after};
+ghost use Rattle.ds_store.specs.Owed.{owed_after, IsOwedIfHeld};
 ghost use Rattle.ds_store.specs.Judging.{first_cause, standing_of, held_at, against_change, TakesEffect};
 ghost use Rattle.ds_store.specs.Stands.{Stands};
 
@@ -12,22 +12,25 @@ use crate::command::{Command, Reply};
 use crate::judging::{Cause, judge_change, refusal_for};
 use crate::refusal::Refusal;
 use crate::store::Store;
+use crate::store::marking::found_at;
 use ds_entry::{Change, Items};
 use ds_join::Merge;
 use ds_names::{Key, NoRoom};
 use ds_watch::Mask;
 
 impl Store {
-    // The first cause against a change that another holder gave.
-    fn cause_of(&self, change: &Change) -> Option<Cause>
-        ensures first { result ≡ first_cause (against_change (standing_of self.now.held self.now.position change.now.key) change.now) }
-        ensures taken { IfNone result (TakesEffect (held_at self.now.held change.now.key) (length self.now.held) change.now) }
-        ensures room { IfNone result (self.now.position < last_place) }
+    // The first cause against a change that another holder gave, and the subscriptions to which it is owed where
+    // its key is held.
+    fn cause_of(&self, change: &Change) -> (Option<Cause>, Option<Mask>)
+        ensures first { result.0 ≡ first_cause (against_change (standing_of self.now.held self.now.position change.now.key) change.now) }
+        ensures taken { IfNone result.0 (TakesEffect (held_at self.now.held change.now.key) (length self.now.held) change.now) }
+        ensures room { IfNone result.0 (self.now.position < last_place) }
+        ensures owed { IsOwedIfHeld (held_at self.now.held change.now.key) (owed_for change.now.key self.now.subscriptions) result.1 }
     {
-        let held = self.held.held();
-        let count = held.len();
-        let held = held.get(change.key());
-        judge_change(held, count, self.position, change)
+        let count = self.held.held().len();
+        let (held, owed) = found_at(&self.held, change.key());
+        let cause = judge_change(held, count, self.position, change);
+        (cause, owed)
     }
 
     // One item of a merge: it takes effect, is passed over, or is refused. Those to which it is owed are added.
@@ -36,13 +39,14 @@ impl Store {
         ensures queries { (key : Key) → owed_for key self.new.subscriptions ≡ owed_for key self.old.subscriptions }
         ensures step { (s : State) → Stands self.old s → (t : State) × MergesItem s item.now result t × Stands self.new t }
     {
-        if let Some(cause) = self.cause_of(item) {
+        let (cause, known) = self.cause_of(item);
+        if let Some(cause) = cause {
             return match passed_as(cause) {
                 Some(passed) => Ok(passed),
                 None => Err(refusal_for(item.version(), cause)),
             };
         }
-        let Ok(owed) = self.owed(item.key()) else {
+        let Ok(owed) = self.owed(item.key(), known) else {
             return Err(Refusal::NoRoom);
         };
         let Ok(change) = item.copy(self.alloc) else {

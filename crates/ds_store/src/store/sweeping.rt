@@ -19,6 +19,7 @@ use crate::command::{Command, Reply};
 use crate::judging::{LAST_PLACE, is_label, is_put, is_rs};
 use crate::refusal::Refusal;
 use crate::store::Store;
+use crate::store::marking::masks_of;
 use ds_entry::{Body, Change};
 use ds_names::{Endpoint, Generation, Key, Name, NoRoom, Version};
 use ds_watch::Mask;
@@ -82,9 +83,10 @@ impl Store {
         requires { is_some (held_at self.now.held key.now) ≡ true }
         ensures { result ≡ owed_for key.now self.now.subscriptions }
     {
-        match self.owed(key) {
-            Ok(owed) => owed,
-            Err(NoRoom) => unreachable!(),
+        let _held = self.held.held();
+        match masks_of(&self.held, key) {
+            Some(masks) => masks.under(),
+            None => unreachable!(),
         }
     }
 
