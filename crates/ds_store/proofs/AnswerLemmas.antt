@@ -20,11 +20,10 @@ use Rattle.ds_join.specs.Reading.{value_of}
 use Rattle.ds_join.specs.Top.{tops}
 use Rattle.ds_store.specs.State.{State, accepts, owed}
 use Rattle.ds_store.specs.Content.{Content}
-use Rattle.ds_store.specs.Judging.{standing, standing_of, held_at, first_cause, against_asked, against_change, change_asked, name_of, TakesEffect}
+use Rattle.ds_store.specs.Judging.{Request, standing, standing_of, held_at, first_cause, against_asked, against_change, change_asked, name_of, TakesEffect}
 use Rattle.ds_store.specs.Machine.{Answers, asking, answer_for, cause_against, cause_of, retrieving, found_or}
 use Rattle.ds_store.specs.Stands.{Stands}
 use Rattle.ds_store.specs.Kept.{IsTakenOrNoRoom}
-use Rattle.ds_store.specs.declared.store.asking.Asked.{Asked}
 use Rattle.ds_store.specs.declared.judging.Cause.{Cause}
 use Rattle.ds_store.specs.declared.command.Reply.TheVariants.{Changed, Found}
 use Rattle.ds_store.proofs.StandsLemmas.{held_at-is, count_held}
@@ -38,13 +37,13 @@ standing_held h v key o n p own is q e f =
     standing_is o (held_at v.held key) n (length v.held) p v.position (e ∙ sym (held_at-is h own key) ∙ ap (λ hs. held_at hs key) is) (f ∙ sym (count_held h) ∙ ap (λ (hs : List ChangeRecord). length hs) is) q
 
 -- ---- what a caller asks for
-module _ (v : Content) (s : State) (a : Asked) (body : Body) (caller : Option (List ℕ)) (o : Option Cause) (stands : Stands v s) (is : caller ≡ name_of v.held a.caller) (first : o ≡ first_cause (against_asked (standing_of v.held v.position a.key) caller a body)) where
+module _ (v : Content) (s : State) (a : Request) (body : Body) (caller : Option (List ℕ)) (o : Option Cause) (stands : Stands v s) (is : caller ≡ name_of v.held a.caller) (first : o ≡ first_cause a.version (against_asked (standing_of v.held v.position a.key) caller a body)) where
   cause_is : o ≡ cause_against s a body
   cause_is =
-      first ∙ ap (λ m. first_cause (against_asked (standing_of v.held v.position a.key) m a body)) is
-      ∙ ap₂ (λ hs p. first_cause (against_asked (standing_of hs p a.key) (name_of hs a.caller) a body)) stands.held stands.position
+      first ∙ ap (λ m. first_cause a.version (against_asked (standing_of v.held v.position a.key) m a body)) is
+      ∙ ap₂ (λ hs p. first_cause a.version (against_asked (standing_of hs p a.key) (name_of hs a.caller) a body)) stands.held stands.position
 
-  pub asked_refused : (cause : Cause) → o ≡ Some cause → Answers s (asking s a body) (answer_for a.version cause) s
+  pub asked_refused : (cause : Cause) → o ≡ Some cause → Answers s (asking s a body) (answer_for cause) s
   asked_refused cause e =
       let now : cause_against s a body ≡ Some cause = sym cause_is ∙ e in
       inl (record { reply_is = rw now refl; state_is = rw now refl })
@@ -60,9 +59,9 @@ module _ (v : Content) (s : State) (a : Asked) (body : Body) (caller : Option (L
       })
 
 -- ---- an item
-pub item_cause : (v : Content) (s : State) (c : ChangeRecord) (o : Option Cause) → Stands v s → o ≡ first_cause (against_change (standing_of v.held v.position c.key) c) → cause_of s c ≡ o
+pub item_cause : (v : Content) (s : State) (c : ChangeRecord) (o : Option Cause) → Stands v s → o ≡ first_cause c.version (against_change (standing_of v.held v.position c.key) c) → cause_of s c ≡ o
 item_cause v s c o stands first =
-    sym (first ∙ ap₂ (λ hs p. first_cause (against_change (standing_of hs p c.key) c)) stands.held stands.position)
+    sym (first ∙ ap₂ (λ hs p. first_cause c.version (against_change (standing_of hs p c.key) c)) stands.held stands.position)
 
 -- ---- a value
 pub retrieved : (h : Holding) (v : Content) (s : State) (key : Key) (o : Option ChangeRecord) → IsOwn h → Stands v s → v.held ≡ held_changes h → o ≡ held_for h key → Answers s (retrieving s key) (found_or (option_map Found (option_and_then value_of o))) s

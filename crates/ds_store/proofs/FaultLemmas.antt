@@ -15,9 +15,8 @@ use Rattle.ds_entry.specs.declared.change.EntryFault.{EntryFault}
 use Rattle.ds_entry.specs.declared.change.EntryFault.TheVariants as faults
 use Rattle.ds_entry.specs.Change.{ChangeRecord, kind_of, rs_name, IsOfKind, IsLabelBody, IsBelowSweeps}
 use Rattle.ds_entry.specs.ChangeFault.{IsFaultOf}
-use Rattle.ds_store.specs.Judging.{Standing, first_cause, against_asked, change_asked, name_of, is_label, is_of_kind, is_label_body, is_label_change, is_callers_version, is_same_name, is_rs}
+use Rattle.ds_store.specs.Judging.{Request, Standing, first_cause, against_asked, change_asked, name_of, is_label, is_of_kind, is_label_body, is_label_change, is_callers_version, is_same_name, is_rs}
 use Rattle.ds_join.specs.Label.{names_endpoint}
-use Rattle.ds_store.specs.declared.store.asking.Asked.{Asked}
 use Rattle.ds_store.specs.declared.judging.Cause.{Cause}
 
 first_false : (b : Bool) (x : Cause) (rest : Option Cause) → cond b (Some x) rest ≡ None → (b ≡ false) × (rest ≡ None)
@@ -88,7 +87,7 @@ below_sweeps : (version : Version) (body : Body) → version.seq < 4294967295 �
 below_sweeps version (Put value) l = l
 below_sweeps version Gone l = tt
 
-pub no_fault : (t : Standing) (held : List ChangeRecord) (a : Asked) (body : Body) → first_cause (against_asked t (name_of held a.caller) a body) ≡ None → (fault : EntryFault) → IsFaultOf fault (change_asked (name_of held a.caller) a body) → ⊥
+pub no_fault : (t : Standing) (held : List ChangeRecord) (a : Request) (body : Body) → first_cause a.version (against_asked t (name_of held a.caller) a body) ≡ None → (fault : EntryFault) → IsFaultOf fault (change_asked (name_of held a.caller) a body) → ⊥
 no_fault t held a body e fault is =
     let kind = first_false _ _ _ e in
     let label = first_false _ _ _ kind.1 in

@@ -9,12 +9,13 @@ use Rattle.std.specs.Option.{option_map_or}
 use Rattle.ds_entry.specs.Change.{ChangeRecord}
 use Rattle.ds_join.specs.declared.merge.Merge.{Merge}
 use Rattle.ds_join.specs.declared.merge.Merge.TheVariants.{Taken, Known, Stale}
+use Rattle.ds_store.specs.Limits.{most_items}
 use Rattle.ds_store.specs.State.{State, owed}
-use Rattle.ds_store.specs.Judging.{first_cause, against_merge}
+use Rattle.ds_store.specs.Judging.{first_refusal, against_merge}
 use Rattle.ds_store.specs.declared.command.Command.TheVariants.{Merge as Merges}
 use Rattle.ds_store.specs.declared.command.Reply.TheVariants.{Merged, MergeStopped}
 use Rattle.ds_store.specs.declared.refusal.Refusal.TheVariants as refusals
-use Rattle.ds_store.specs.Machine.{Course, begun, course, item_merged, item_judged, cause_of, MergesItem, IsStopped, passed_as, refusal_for, taken_by, stale_by, merging, merge_reply, Step}
+use Rattle.ds_store.specs.Machine.{Course, begun, course, item_merged, item_judged, cause_of, MergesItem, IsStopped, passed_as, taken_by, stale_by, merging, merge_reply, Step}
 use Rattle.ds_store.specs.declared.judging.Cause.{Cause}
 use Rattle.ds_store.specs.declared.judging.Cause.TheVariants as causes
 use Rattle.ds_store.specs.declared.refusal.Refusal.{Refusal}
@@ -44,7 +45,7 @@ item_done k c Known t d n m r is =
       sym is.1,
     )
 item_done k c Stale t d n m r is =
-    subst (λ (x : Course). Reached x (d + 1) (n + 0) (m + 1) × (x.state ≡ t)) (sym (judged k c (Some causes.Stale) r.stop is.0)) (
+    subst (λ (x : Course). Reached x (d + 1) (n + 0) (m + 1) × (x.state ≡ t)) (sym (judged k c (Some (causes.Refused refusals.Stale)) r.stop is.0)) (
       record { stop = r.stop; done = ap (λ x. x + 1) r.done; taken = omega (arith, r.taken); stale = omega (arith, r.stale) },
       sym is.1,
     )
@@ -53,9 +54,8 @@ pub course_more : (s : State) (items : List ChangeRecord) (i : ℕ) (d : ChangeR
 course_more s items i d l = fold_more item_merged (begun s) items i d l
 
 -- ---- a merge that is stopped
-stopped_by : (k : Course) (c : ChangeRecord) (cause : Cause) → passed_as cause ≡ None → item_judged k c (Some cause) ≡ record k { stop = Some (refusal_for c.version cause) }
-stopped_by k c causes.Known e = absurd (cc)
-stopped_by k c causes.Stale e = absurd (cc)
+stopped_by : (k : Course) (c : ChangeRecord) (fault : Refusal) → passed_as (causes.Refused fault) ≡ Err fault → item_judged k c (Some (causes.Refused fault)) ≡ record k { stop = Some fault }
+stopped_by k c refusals.Stale e = absurd (cc)
 stopped_by k c _ e = refl
 
 stays : (k : Course) (r : Refusal) (items : List ChangeRecord) → k.stop ≡ Some r → fold item_merged k items ≡ k
@@ -64,13 +64,13 @@ stays k r (c ∷ items) e =
     let same : item_merged k c ≡ k = ap (λ stop. option_map_or (λ (x : Refusal). k) stop (item_judged k c (cause_of k.state c))) e in
     ap (λ (x : Course). fold item_merged x items) same ∙ stays k r items e
 
-pub course_stopped : (s : State) (items : List ChangeRecord) (i : ℕ) (d : ChangeRecord) (fault : Refusal) (cause : Cause) → i < length items → (course s (take i items)).stop ≡ None → IsStopped (course s (take i items)).state (get_or items i d) fault cause
+pub course_stopped : (s : State) (items : List ChangeRecord) (i : ℕ) (d : ChangeRecord) (fault : Refusal) → i < length items → (course s (take i items)).stop ≡ None → IsStopped (course s (take i items)).state (get_or items i d) fault
     → course s items ≡ record (course s (take i items)) { stop = Some fault }
-course_stopped s items i d fault cause l e is =
+course_stopped s items i d fault l e is =
     let k = course s (take i items) in
     let c = get_or items i d in
     let there : item_merged k c ≡ record k { stop = Some fault } =
-    judged k c (Some cause) e is.stands ∙ stopped_by k c cause is.not_passed ∙ ap (λ (x : Refusal). record k { stop = Some x }) (sym is.fault_is) in
+    judged k c (Some (causes.Refused fault)) e is.stands ∙ stopped_by k c fault is.refuses in
     ap (course s) (sym (take-append-drop (i + 1) items)) ∙ fold-append item_merged (begun s) (take (i + 1) items) (drop (i + 1) items)
     ∙ ap (λ (x : Course). fold item_merged x (drop (i + 1) items)) (course_more s items i d l ∙ there) ∙ stays (record k { stop = Some fault }) fault (drop (i + 1) items) refl
 
@@ -88,13 +88,13 @@ next_reached s items i c join t n m x y at r is e f =
       sym done.1 ∙ ap (λ (k : Course). k.state) (sym same),
     )
 
-none_against : (n : ℕ) → n ≤ 256 → first_cause (against_merge n) ≡ None
+none_against : (n : ℕ) → n ≤ most_items → first_refusal (against_merge n) ≡ None
 none_against n few =
-    let e : nat_le n 256 ≡ true = grind (arith, nat_tests) in
-    ap (λ b. cond (not b) (Some causes.TooMany) None) e
+    let e : nat_le n most_items ≡ true = grind (arith, nat_tests) in
+    ap (λ b. cond (not b) (Some refusals.TooMany) None) e
 
 -- ---- the answers
-pub merge_stopped : (s : State) (items : List ChangeRecord) (i : ℕ) (c : ChangeRecord) (fault : Refusal) (t : State) (n m o : ℕ) → o ≡ owed s (course s (take i items)).taken → length items ≤ 256 → slice_get items i ≡ Some c
+pub merge_stopped : (s : State) (items : List ChangeRecord) (i : ℕ) (c : ChangeRecord) (fault : Refusal) (t : State) (n m o : ℕ) → o ≡ owed s (course s (take i items)).taken → length items ≤ most_items → slice_get items i ≡ Some c
     → Reached (course s (take i items)) i n m → MergesItem (course s (take i items)).state c (Err fault) t → Step s (Merges items) (MergeStopped i fault o) t
 merge_stopped s items i c fault t n m o owes few at r is = by_fault is.1
   where
@@ -104,7 +104,7 @@ merge_stopped s items i c fault t n m o owes few at r is = by_fault is.1
     nothing : o ≡ owed s k.taken
     nothing = owes
 
-    by_fault : (fault ≡ refusals.NoRoom) ⊎ ((cause : Cause) × IsStopped k.state c fault cause) → Step s (Merges items) (MergeStopped i fault o) t
+    by_fault : (fault ≡ refusals.NoRoom) ⊎ IsStopped k.state c fault → Step s (Merges items) (MergeStopped i fault o) t
     by_fault (inl e) = inr (
       i,
       record {
@@ -118,14 +118,14 @@ merge_stopped s items i c fault t n m o owes few at r is = by_fault is.1
     by_fault (inr stop) =
         let this : get_or items i c ≡ c = get_or_from_slice_get items i c c at in
         let there : course s items ≡ record k { stop = Some fault } =
-        course_stopped s items i c fault stop.0 (slice_get_within items i c at) r.stop (subst (λ (x : ChangeRecord). IsStopped k.state x fault stop.0) (sym this) stop.1) in
-        let reply : (merging s items (first_cause (against_merge (length items)))).0 ≡ MergeStopped i fault o =
+        course_stopped s items i c fault (slice_get_within items i c at) r.stop (subst (λ (x : ChangeRecord). IsStopped k.state x fault) (sym this) stop) in
+        let reply : (merging s items (first_refusal (against_merge (length items)))).0 ≡ MergeStopped i fault o =
         ap (λ x. (merging s items x).0) (none_against (length items) few) ∙ ap (merge_reply s) there ∙ ap₂ (λ d b. MergeStopped d fault b) r.done (sym nothing) in
-        let state : (merging s items (first_cause (against_merge (length items)))).1 ≡ k.state =
+        let state : (merging s items (first_refusal (against_merge (length items)))).1 ≡ k.state =
         ap (λ x. (merging s items x).1) (none_against (length items) few) ∙ ap (λ (x : Course). x.state) there in
         inl (inl (record { reply_is = sym reply; state_is = is.0 ∙ sym state }))
 
-pub merge_done : (s : State) (items : List ChangeRecord) (i n m o : ℕ) → o ≡ owed s (course s (take i items)).taken → length items ≤ 256 → slice_get items i ≡ None → i ≤ length items
+pub merge_done : (s : State) (items : List ChangeRecord) (i n m o : ℕ) → o ≡ owed s (course s (take i items)).taken → length items ≤ most_items → slice_get items i ≡ None → i ≤ length items
     → Reached (course s (take i items)) i n m → Step s (Merges items) (Merged i n m o) (course s (take i items)).state
 merge_done s items i n m o owes few gone within r =
     let k = course s (take i items) in
@@ -135,9 +135,9 @@ merge_done s items i n m o owes few gone within r =
     let counts : merge_reply s k ≡ Merged i n m o =
     ap (λ stop. option_map_or (λ (fault : Refusal). MergeStopped k.done fault (owed s k.taken)) stop (Merged k.done (length k.taken) k.stale (owed s k.taken))) r.stop
     ∙ ap₂ (λ d l. Merged d l k.stale (owed s k.taken)) r.done r.taken ∙ ap₂ (λ l b. Merged i n l b) r.stale nothing in
-    let reply : (merging s items (first_cause (against_merge (length items)))).0 ≡ Merged i n m o =
+    let reply : (merging s items (first_refusal (against_merge (length items)))).0 ≡ Merged i n m o =
     ap (λ x. (merging s items x).0) (none_against (length items) few) ∙ ap (merge_reply s) whole ∙ counts in
-    let state : (merging s items (first_cause (against_merge (length items)))).1 ≡ k.state =
+    let state : (merging s items (first_refusal (against_merge (length items)))).1 ≡ k.state =
     ap (λ x. (merging s items x).1) (none_against (length items) few) ∙ ap (λ (x : Course). x.state) whole in
     inl (inl (record { reply_is = sym reply; state_is = sym state }))
   where

@@ -18,6 +18,7 @@ use Rattle.ds_store.specs.Stands.{Stands}
 use Rattle.ds_watch.specs.Mask.{either}
 use Rattle.ds_store.specs.Owed.{any_of, owed_after}
 use Rattle.ds_store.specs.declared.judging.Cause.TheVariants as causes
+use Rattle.ds_store.specs.declared.refusal.Refusal.TheVariants as refusals
 use Rattle.ds_store.proofs.MarkLemmas.{owed_as}
 use Rattle.ds_store.proofs.MergeLemmas.{judged}
 
@@ -46,7 +47,7 @@ pub item_owed : (k : Course) (c : ChangeRecord) (join : Merge) (t : State) (subs
 item_owed k c Taken t subs flags more stop is e f =
     ap₂ either e f ∙ sym (either_owed k.taken (c ∷ []) subs) ∙ ap (λ (x : Course). map (is_owed x.taken) subs) (sym (judged k c None stop is.0))
 item_owed k c Known t subs flags more stop is e f = e ∙ ap (λ (x : Course). map (is_owed x.taken) subs) (sym (judged k c (Some causes.Known) stop is.0))
-item_owed k c Stale t subs flags more stop is e f = e ∙ ap (λ (x : Course). map (is_owed x.taken) subs) (sym (judged k c (Some causes.Stale) stop is.0))
+item_owed k c Stale t subs flags more stop is e f = e ∙ ap (λ (x : Course). map (is_owed x.taken) subs) (sym (judged k c (Some (causes.Refused refusals.Stale)) stop is.0))
 
 -- ---- all changes of a sweep
 each_as : (v : Content) (s : State) (changes : List ChangeRecord) → Stands v s → owed_each v.subscriptions changes ≡ map (λ (c : ChangeRecord). map (is_owed (c ∷ [])) s.subscriptions) changes

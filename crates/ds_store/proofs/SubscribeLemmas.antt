@@ -18,13 +18,13 @@ use Rattle.ds_watch.specs.Subscription.{Subscription, is_unseen}
 use Rattle.ds_watch.specs.Followed.{Followed, followed_of}
 use Rattle.ds_watch.specs.declared.masks.Masks.{Masks}
 use Rattle.ds_watch.specs.Watching.{Watching, watching, followed_by, followed_from}
-use Rattle.ds_store.specs.State.{State, unseen, subscription_at, subscribes, last_place}
+use Rattle.ds_store.specs.Limits.{places, most_items, last_place}
+use Rattle.ds_store.specs.Kept.{subscribe_case_at}
+use Rattle.ds_store.specs.State.{State, unseen, subscription_at, subscribes}
 use Rattle.ds_store.specs.Content.{Content}
-use Rattle.ds_store.specs.Judging.{first_cause, against_subscribe, against_check}
-use Rattle.ds_store.specs.Machine.{Answers, IsRefusedFor, refusal_for, refused, subscribing, cause_against_subscribe, owed_at_first, shown_at_first, checking, checking_at, shows, has_unseen, held}
+use Rattle.ds_store.specs.Judging.{CheckCase, first_refusal, against_subscribe, against_check}
+use Rattle.ds_store.specs.Machine.{Answers, IsRefusedFor, subscribing, subscribe_case, owed_at_first, shown_at_first, checking, checking_at, check_case, shows, has_unseen, held}
 use Rattle.ds_store.specs.Stands.{Stands, WasAccepted}
-use Rattle.ds_store.specs.declared.judging.Cause.{Cause}
-use Rattle.ds_store.specs.declared.judging.Cause.TheVariants.{NotFound, Worn}
 use Rattle.ds_store.specs.declared.refusal.Refusal.{Refusal}
 use Rattle.ds_store.specs.declared.refusal.Refusal.TheVariants as refusals
 use Rattle.ds_store.specs.declared.command.Reply.{Reply}
@@ -71,24 +71,27 @@ stands_subscribed x s sub query seen u v ws w stands is others same part =
 
 -- ---- a Subscribe
 module _ (v : Content) (s : State) (stands : Stands v s) (sub : ℕ) (query : Query) (initial overwrite : Bool) where
-  abbrev judged : Option Cause
-  judged = first_cause (against_subscribe (is_some (get_or v.subscriptions sub None)) v.stamp sub query.text overwrite)
+  abbrev judged : Option Refusal
+  judged = first_refusal (against_subscribe (subscribe_case_at v sub query overwrite))
 
-  cause_same : judged ≡ cause_against_subscribe s sub query overwrite
-  cause_same = ap₂ (λ t n. first_cause (against_subscribe t n sub query.text overwrite)) (taken_same v s stands sub) stands.stamp
+  abbrev stood : Option Refusal
+  stood = first_refusal (against_subscribe (subscribe_case s sub query overwrite))
 
-  abbrev result : Option Cause → Reply × State
-  result o = option_map_or (λ cause. (refused cause, s)) o (Subscribed (s.stamp + 1) (owed_at_first (held s) sub query initial), subscribes s sub query (shown_at_first (held s) initial))
+  cause_same : judged ≡ stood
+  cause_same = ap₂ (λ t n. first_refusal (against_subscribe (record { taken = t; stamp = n; sub = sub; text = query.text; overwrite = overwrite }))) (taken_same v s stands sub) stands.stamp
+
+  abbrev result : Option Refusal → Reply × State
+  result o = option_map_or (λ r. (Refused r, s)) o (Subscribed (s.stamp + 1) (owed_at_first (held s) sub query initial), subscribes s sub query (shown_at_first (held s) initial))
 
   pub subscribe_refused : (refusal : Refusal) → IsRefusedFor judged refusal → Answers s (subscribing s sub query initial overwrite) (Refused refusal) s
   subscribe_refused refusal (inl e) = inr (record { reply_is = ap Refused e; state_is = refl })
-  subscribe_refused refusal (inr cause) =
-      let now : cause_against_subscribe s sub query overwrite ≡ Some cause.0 = sym cause_same ∙ cause.1 in
-      inl (record { reply_is = ap Refused cause.2 ∙ sym (ap (λ o. (result o).0) now); state_is = sym (ap (λ o. (result o).1) now) })
+  subscribe_refused refusal (inr e) =
+      let now : stood ≡ Some refusal = sym cause_same ∙ e in
+      inl (record { reply_is = sym (ap (λ o. (result o).0) now); state_is = sym (ap (λ o. (result o).1) now) })
 
   pub subscribe_made : (bits : ℕ) → judged ≡ None → bits ≡ owed_at_first v.held sub query initial → Answers s (subscribing s sub query initial overwrite) (Subscribed (v.stamp + 1) bits) (subscribes s sub query (shown_at_first v.held initial))
   subscribe_made bits none owes =
-      let now : cause_against_subscribe s sub query overwrite ≡ None = sym cause_same ∙ none in
+      let now : stood ≡ None = sym cause_same ∙ none in
       inl (record {
         reply_is = ap₂ (λ n b. Subscribed (n + 1) b) stands.stamp (owes ∙ ap (λ hs. owed_at_first hs sub query initial) stands.held) ∙ sym (ap (λ o. (result o).0) now);
         state_is = ap (λ hs. subscribes s sub query (shown_at_first hs initial)) stands.held ∙ sym (ap (λ o. (result o).1) now);
@@ -126,14 +129,13 @@ twin v s sub u ws w stands is at = by_place (subscription_at s sub) refl
         let one : followed_by v.held u sub w ≡ followed_of (tops s.accepted) seer = cc in
         record { seer = seer; here = e; same = one ∙ ap (λ hs. followed_of hs seer) (sym stands.held) }
 
--- a cause stands, whatever is to be shown
-pub check_refused : (s : State) (sub max : ℕ) (cause : Cause) → ((some : Bool) (stamp : ℕ) → first_cause (against_check (is_some (subscription_at s sub)) some stamp sub max) ≡ Some cause)
-    → Answers s (checking s sub max) (Refused (refusal_for (record { epoch = 0; seq = 0 }) cause)) s
-check_refused s sub max cause e =
+-- a refusal stands, whatever is to be shown
+pub check_refused : (s : State) (sub max : ℕ) (refusal : Refusal) → ((x : CheckCase) → x.taken ≡ is_some (subscription_at s sub) → x.sub ≡ sub → x.max ≡ max → first_refusal (against_check x) ≡ Some refusal) → Answers s (checking s sub max) (Refused refusal) s
+check_refused s sub max refusal e =
     let o = subscription_at s sub in
-    let now = e (option_map_or (has_unseen s) o false) s.stamp in
-    let rest = option_map_or (λ f. shows s sub f (take max (unseen s f))) o (refused NotFound, s) in
-    inl (record { reply_is = sym (ap (λ x. (option_map_or (λ c. (refused c, s)) x rest).0) now); state_is = sym (ap (λ x. (option_map_or (λ c. (refused c, s)) x rest).1) now) })
+    let now = e (check_case s sub max o) refl refl refl in
+    let rest = option_map_or (λ f. shows s sub f (take max (unseen s f))) o (Refused refusals.NotFound, s) in
+    inl (record { reply_is = sym (ap (λ x. (option_map_or (λ r. (Refused r, s)) x rest).0) now); state_is = sym (ap (λ x. (option_map_or (λ r. (Refused r, s)) x rest).1) now) })
 
 none_pass : (p : ChangeRecord → Bool) (hs : List ChangeRecord) → filter p hs ≡ [] → list_any p hs ≡ false
 none_pass p [] e = refl
@@ -177,7 +179,7 @@ pub any_flags : (f : ChangeRecord → Bool) (hs : List ChangeRecord) → list_an
 any_flags f [] = refl
 any_flags f (x ∷ hs) = ap (λ b. f x || b) (any_flags f hs)
 
-module _ (v : Content) (s : State) (stands : Stands v s) (sub max : ℕ) (u : Key → List Bool) (w : Watching) (t : Twin v s sub u w) (place : sub < 64) (low : 0 < max) (high : max ≤ 256) where
+module _ (v : Content) (s : State) (stands : Stands v s) (sub max : ℕ) (u : Key → List Bool) (w : Watching) (t : Twin v s sub u w) (place : sub < places) (low : 0 < max) (high : max ≤ most_items) where
   -- what is to be shown
   abbrev pub to_show : List ChangeRecord
   to_show = filter (is_unseen t.seer.query t.seer.shown) v.held
@@ -185,11 +187,11 @@ module _ (v : Content) (s : State) (stands : Stands v s) (sub max : ℕ) (u : Ke
   unseen_is : unseen s t.seer ≡ to_show
   unseen_is = ap (λ hs. filter (is_unseen t.seer.query t.seer.shown) hs) (sym stands.held)
 
-  abbrev outcome_at : Option Cause → Reply × State
-  outcome_at o = option_map_or (λ cause. (refused cause, s)) o (shows s sub t.seer (take max (unseen s t.seer)))
+  abbrev outcome_at : Option Refusal → Reply × State
+  outcome_at o = option_map_or (λ r. (Refused r, s)) o (shows s sub t.seer (take max (unseen s t.seer)))
 
-  checking_is : checking s sub max ≡ outcome_at (cond (has_unseen s t.seer && nat_le last_place s.stamp) (Some Worn) None)
-  checking_is = ap (checking_at s sub max) t.here ∙ ap outcome_at (check_left true (has_unseen s t.seer) s.stamp sub max place low high refl)
+  checking_is : checking s sub max ≡ outcome_at (cond (has_unseen s t.seer && nat_le last_place s.stamp) (Some refusals.Worn) None)
+  checking_is = ap (checking_at s sub max) t.here ∙ ap outcome_at (check_left (check_case s sub max (Some t.seer)) place low high refl)
 
   stamp_is : w.stamp ≡ t.seer.stamp
   stamp_is = ap (λ (f : Followed). f.stamp) t.same
@@ -200,7 +202,7 @@ module _ (v : Content) (s : State) (stands : Stands v s) (sub max : ℕ) (u : Ke
       let nothing : has_unseen s t.seer ≡ false = ap (list_any (is_unseen t.seer.query t.seer.shown)) (sym stands.held) ∙ none_pass (is_unseen t.seer.query t.seer.shown) v.held empty in
       let items : take max (unseen s t.seer) ≡ [] = take_nil max (unseen s t.seer) (unseen_is ∙ empty) in
       let now : checking s sub max ≡ (Checked [] t.seer.stamp t.seer.stamp, s) =
-      checking_is ∙ ap (λ b. outcome_at (cond (b && nat_le last_place s.stamp) (Some Worn) None)) nothing ∙ ap (shows s sub t.seer) items in
+      checking_is ∙ ap (λ b. outcome_at (cond (b && nat_le last_place s.stamp) (Some refusals.Worn) None)) nothing ∙ ap (shows s sub t.seer) items in
       inl (record { reply_is = ap₂ (λ a b. Checked [] a b) stamp_is stamp_is ∙ sym (ap (λ (x : Reply × State). x.0) now); state_is = sym (ap (λ (x : Reply × State). x.1) now) })
 
   pub flagged_any : list_any (λ (c : ChangeRecord). get_or (u c.key) sub false) v.held ≡ true → list_any (is_unseen t.seer.query t.seer.shown) v.held ≡ true
@@ -218,14 +220,14 @@ module _ (v : Content) (s : State) (stands : Stands v s) (sub max : ℕ) (u : Ke
     pub check_worn : last_place ≤ v.stamp → Answers s (checking s sub max) (Refused refusals.Worn) s
     check_worn l =
         let worn : nat_le last_place s.stamp ≡ true = worn_stamp s.stamp (subst (λ n. last_place ≤ n) stands.stamp l) in
-        let now : checking s sub max ≡ (Refused refusals.Worn, s) = checking_is ∙ ap₂ (λ a b. outcome_at (cond (a && b) (Some Worn) None)) shows_any worn in
+        let now : checking s sub max ≡ (Refused refusals.Worn, s) = checking_is ∙ ap₂ (λ a b. outcome_at (cond (a && b) (Some refusals.Worn) None)) shows_any worn in
         inl (record { reply_is = sym (ap (λ (x : Reply × State). x.0) now); state_is = sym (ap (λ (x : Reply × State). x.1) now) })
 
     pub check_done : 0 < length (take max to_show) → (items : List ChangeRecord) → v.stamp < last_place → items ≡ take max to_show → Answers s (checking s sub max) (Checked items w.stamp (v.stamp + 1)) (subscribes s sub t.seer.query (t.seer.shown ++ items))
     check_done some items l e =
         let fresh : nat_le last_place s.stamp ≡ false = fresh_stamp s.stamp (subst (λ n. n < last_place) stands.stamp l) in
         let now : checking s sub max ≡ (Checked (take max to_show) t.seer.stamp (s.stamp + 1), subscribes s sub t.seer.query (t.seer.shown ++ take max to_show)) =
-        checking_is ∙ ap₂ (λ a b. outcome_at (cond (a && b) (Some Worn) None)) shows_any fresh ∙ ap (λ xs. shows s sub t.seer (take max xs)) unseen_is
+        checking_is ∙ ap₂ (λ a b. outcome_at (cond (a && b) (Some refusals.Worn) None)) shows_any fresh ∙ ap (λ xs. shows s sub t.seer (take max xs)) unseen_is
         ∙ shows_some s sub t.seer (take max to_show) some in
         inl (record {
           reply_is = ap (λ xs. Checked xs w.stamp (v.stamp + 1)) e ∙ ap₂ (λ a b. Checked (take max to_show) a (b + 1)) stamp_is stands.stamp ∙ sym (ap (λ (x : Reply × State). x.0) now);

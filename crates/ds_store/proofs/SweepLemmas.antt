@@ -33,12 +33,13 @@ use Rattle.ds_join.specs.Top.{IsTop, tops}
 use Rattle.ds_join.proofs.HeldLemmas.{from_along}
 use Rattle.ds_join.proofs.NextLemmas.{all_after_none, left_after, none_left}
 use Rattle.ds_join.proofs.TopLemmas.{top_is_unique}
-use Rattle.ds_store.specs.State.{State, accepts, owed, position, last_place}
+use Rattle.ds_store.specs.Limits.{last_place}
+use Rattle.ds_store.specs.State.{State, accepts, owed, position}
 use Rattle.ds_store.specs.Content.{Content}
 use Rattle.ds_store.specs.Stands.{Stands}
-use Rattle.ds_store.specs.Judging.{first_cause, held_at, is_rs, is_label, is_same_name, is_swept, tombstone, tombstones, against_sweep, TakesPlace}
+use Rattle.ds_store.specs.Judging.{first_refusal, held_at, is_rs, is_label, is_same_name, is_swept, tombstone, tombstones, against_sweep, TakesPlace}
 use Rattle.ds_store.specs.Machine.{Step, sweeping}
-use Rattle.ds_store.specs.declared.judging.Cause.TheVariants as causes
+use Rattle.ds_store.specs.declared.refusal.Refusal.TheVariants as refusals
 use Rattle.ds_store.specs.declared.command.Command.TheVariants.{Sweep}
 use Rattle.ds_store.specs.declared.command.Reply.TheVariants.{Swept}
 use Rattle.ds_store.proofs.StandsLemmas.{key_found, key_missing}
@@ -265,9 +266,9 @@ module _ (v : Content) (s : State) (caller : EndpointRecord) (owner : List ℕ) 
   made_is : tombstones v.held owner generation ≡ made
   made_is = ap (λ hs. tombstones hs owner generation) stands.held
 
-  none_against : is_rs caller ≡ true → position s + length made ≤ last_place → first_cause (against_sweep (position s) (length made) caller) ≡ None
+  none_against : is_rs caller ≡ true → position s + length made ≤ last_place → first_refusal (against_sweep (position s) (length made) caller) ≡ None
   none_against rs within =
-      ap₂ (λ a f. cond (not a) (Some causes.NotAllowed) (cond (not f) (Some causes.Worn) None)) rs (at_most_too (position s + length made) last_place within)
+      ap₂ (λ a f. cond (not a) (Some refusals.NotAllowed) (cond (not f) (Some refusals.Worn) None)) rs (at_most_too (position s + length made) last_place within)
 
   pub sweep_done : (count bits : ℕ) → is_rs caller ≡ true → v.position + length (tombstones v.held owner generation) ≤ last_place → count ≡ length (tombstones v.held owner generation) → bits ≡ owed s made
       → Step s (Sweep caller owner generation) (Swept count bits) (accepts s (tombstones v.held owner generation))

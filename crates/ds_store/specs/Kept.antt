@@ -1,5 +1,5 @@
 -- How a store's fields are seen as its content.
-use Rattle.std.specs.Prelude.{◌≡◌, ◌≤◌, List, Bool, [], Option, length, map, Contains, Result, Ok, Err}
+use Rattle.std.specs.Prelude.{◌≡◌, ◌≤◌, ℕ, List, Bool, [], Option, None, is_some, length, map, slice_index_or, Contains, Result, Ok, Err}
 use Rattle.std.specs.FinMap.{FinMap, get}
 use Rattle.std.specs.Option.{option_map_or}
 use Rattle.ds_names.specs.Key.{key_cmp}
@@ -12,8 +12,10 @@ use Rattle.ds_join.specs.declared.merge.JoinFault.TheVariants.{NotOwner, Clash, 
 use Rattle.ds_join.specs.Held.{held_changes}
 use Rattle.ds_watch.specs.declared.masks.Masks.{Masks}
 use Rattle.ds_watch.specs.Watching.{Watching, watches, followed_from}
-use Rattle.ds_store.specs.State.{last_place}
+use Rattle.ds_store.specs.Limits.{places, last_place}
+use Rattle.ds_pattern.specs.declared.query.Query.{Query}
 use Rattle.ds_store.specs.Content.{Content}
+use Rattle.ds_store.specs.Judging.{SubscribeCase}
 use Rattle.ds_store.specs.declared.store.Store.TheInside.{Inside}
 
 -- the flags of those under whose query the held key is
@@ -35,16 +37,20 @@ content_of s = record {
   subscriptions = followed_from (held_changes s.held.held) (unseen_at s.held.marks) 0 s.subscriptions;
 }
 
--- beside each held change stand the flags of those under whose query it is, and 64 flags of those that it is to be shown to
+-- a Subscribe, with what it meets in the content
+abbrev pub subscribe_case_at : Content → ℕ → Query → Bool → SubscribeCase
+subscribe_case_at v sub query overwrite = record { taken = is_some (slice_index_or v.subscriptions sub None); stamp = v.stamp; sub = sub; text = query.text; overwrite = overwrite }
+
+-- beside each held change stand the flags of those under whose query it is, and the flags of those that it is to be shown to
 pub record AreMarked (held : List ChangeRecord) (marks : FinMap key_cmp Masks) (ws : List (Option Watching)) : Type 0 where
   pub under : (c : ChangeRecord) → Contains held c → under_at marks c.key ≡ map (watches c.key) ws
-  pub long : (c : ChangeRecord) → Contains held c → length (unseen_at marks c.key) ≡ 64
+  pub long : (c : ChangeRecord) → Contains held c → length (unseen_at marks c.key) ≡ places
 
--- positions and stamps stay within their limit, and there are 64 places of subscriptions, by which what is held is marked
+-- positions and stamps stay within their limit, and each subscription has its place, by which what is held is marked
 pub record IsSound (s : Inside) : Type 0 where
   pub position : s.position ≤ last_place
   pub stamp : s.stamp ≤ last_place
-  pub places : length s.subscriptions ≡ 64
+  pub places : length s.subscriptions ≡ places
   pub marked : AreMarked (held_changes s.held.held) s.held.marks s.subscriptions
 
 -- the answer of what is held to a change against which nothing that is held stands

@@ -4,7 +4,6 @@ use Rattle.std.specs.Option.{option_map, option_map_or, option_and_then}
 use Rattle.ds_names.specs.declared.kind.Kind.{Kind}
 use Rattle.ds_names.specs.declared.kind.Kind.TheVariants as kinds
 use Rattle.ds_names.specs.declared.key.Key.{Key}
-use Rattle.ds_names.specs.declared.version.Version.{Version}
 use Rattle.ds_names.specs.Endpoint.{EndpointRecord}
 use Rattle.ds_entry.specs.declared.body.Value.{Value}
 use Rattle.ds_entry.specs.declared.body.Body.{Body}
@@ -21,8 +20,8 @@ use Rattle.ds_pattern.specs.declared.pattern.PatternFault.{PatternFault}
 use Rattle.ds_pattern.specs.declared.pattern.PatternFault.TheVariants as faults
 use Rattle.ds_store.specs.State.{State, accepts, position, owed, unseen, subscription_at, subscribes}
 use Rattle.ds_watch.specs.Subscription.{Subscription, is_unseen}
-use Rattle.ds_store.specs.Judging.{first_cause, held_at, standing_of, against_change, against_asked, against_sweep, against_merge, against_subscribe, against_check, change_asked, published, deleted, name_of, tombstones}
-use Rattle.ds_store.specs.declared.store.asking.Asked.{Asked}
+use Rattle.ds_store.specs.Limits.{most_items}
+use Rattle.ds_store.specs.Judging.{Request, SubscribeCase, CheckCase, first_cause, first_refusal, held_at, standing_of, against_change, against_asked, against_sweep, against_merge, against_subscribe, against_check, change_asked, published, deleted, name_of, tombstones}
 use Rattle.ds_store.specs.declared.judging.Cause.{Cause}
 use Rattle.ds_store.specs.declared.judging.Cause.TheVariants as causes
 use Rattle.ds_store.specs.declared.refusal.Refusal.{Refusal}
@@ -32,27 +31,6 @@ use Rattle.ds_store.specs.declared.command.Command.TheVariants.{Publish, Delete,
 use Rattle.ds_store.specs.declared.command.Reply.{Reply}
 use Rattle.ds_store.specs.declared.command.Reply.TheVariants.{Changed, Known, Swept, Found, Named, Subscribed, Checked, Merged, MergeStopped, Refused}
 
--- the refusal for a cause, at a change of this version
--- (nobody is given the one at Known: a repeat is no refusal)
-abbrev pub refusal_for : Version → Cause → Refusal
-refusal_for v causes.BadSub = refusals.BadSub
-refusal_for v causes.TooMany = refusals.TooMany
-refusal_for v causes.TooLong = refusals.TooLong
-refusal_for v causes.BadPattern = refusals.BadPattern
-refusal_for v causes.BadKind = refusals.BadKind
-refusal_for v causes.BadLabel = refusals.BadLabel
-refusal_for v causes.BadVersion = refusals.BadVersion
-refusal_for v causes.NoCaller = refusals.NoCaller
-refusal_for v causes.NotAllowed = refusals.NotAllowed
-refusal_for v causes.NotOwner = refusals.NotOwner
-refusal_for v causes.Clash = refusals.Clash v
-refusal_for v causes.Stale = refusals.Stale
-refusal_for v causes.Known = refusals.Stale
-refusal_for v causes.Exists = refusals.Exists
-refusal_for v causes.NotFound = refusals.NotFound
-refusal_for v causes.Full = refusals.Full
-refusal_for v causes.Worn = refusals.Worn
-
 -- the refusal of a query whose pattern isn't read
 abbrev pub refusal_of : PatternFault → Refusal
 refusal_of faults.TooLong = refusals.TooLong
@@ -60,27 +38,27 @@ refusal_of faults.BadPattern = refusals.BadPattern
 refusal_of faults.NoRoom = refusals.NoRoom
 
 -- a repeat is known, and every other cause refuses
-abbrev pub answer_for : Version → Cause → Reply
-answer_for v causes.Known = Known
-answer_for v cause = Refused (refusal_for v cause)
+abbrev pub answer_for : Cause → Reply
+answer_for causes.Known = Known
+answer_for (causes.Refused refusal) = Refused refusal
 
 -- what is held: of each key the change with the greatest version, in key order
 abbrev pub held : State → List ChangeRecord
 held s = tops s.accepted
 
 -- ---- a Publish or a Delete
-abbrev pub cause_against : State → Asked → Body → Option Cause
-cause_against s a body = first_cause (against_asked (standing_of (held s) (position s) a.key) (name_of (held s) a.caller) a body)
+abbrev pub cause_against : State → Request → Body → Option Cause
+cause_against s a body = first_cause a.version (against_asked (standing_of (held s) (position s) a.key) (name_of (held s) a.caller) a body)
 
 -- it takes effect unless a cause stands against it
-abbrev pub asking : State → Asked → Body → Reply × State
+abbrev pub asking : State → Request → Body → Reply × State
 asking s a body =
-    option_map_or (λ cause. (answer_for a.version cause, s)) (cause_against s a body)
+    option_map_or (λ cause. (answer_for cause, s)) (cause_against s a body)
     (Changed (owed s (change_asked (name_of (held s) a.caller) a body ∷ [])), accepts s (change_asked (name_of (held s) a.caller) a body ∷ []))
 
 -- ---- a Sweep
-abbrev pub sweeping : State → List ChangeRecord → Option Cause → Reply × State
-sweeping s made cause = option_map_or (λ c. (Refused (refusal_for (record { epoch = 0; seq = 0 }) c), s)) cause (Swept (length made) (owed s made), accepts s made)
+abbrev pub sweeping : State → List ChangeRecord → Option Refusal → Reply × State
+sweeping s made refusal = option_map_or (λ r. (Refused r, s)) refusal (Swept (length made) (owed s made), accepts s made)
 
 -- ---- a Merge
 
@@ -95,21 +73,21 @@ pub record Course : Type 0 where
 abbrev pub begun : State → Course
 begun s = record { state = s; done = 0; taken = []; stale = 0; stop = None }
 
--- a merge passes over what is known or stale
-abbrev pub passed_as : Cause → Option Join
-passed_as causes.Known = Some joins.Known
-passed_as causes.Stale = Some joins.Stale
-passed_as _ = None
+-- what becomes of an item against which this stands: a merge passes over what is known or stale
+abbrev pub passed_as : Cause → Result Join Refusal
+passed_as causes.Known = Ok joins.Known
+passed_as (causes.Refused refusals.Stale) = Ok joins.Stale
+passed_as (causes.Refused refusal) = Err refusal
 
 -- an item takes effect, is known or stale, or stops the merge
 abbrev pub item_judged : Course → ChangeRecord → Option Cause → Course
 item_judged k c None = record k { state = accepts k.state (c ∷ []); done = k.done + 1; taken = k.taken ++ c ∷ [] }
 item_judged k c (Some causes.Known) = record k { done = k.done + 1 }
-item_judged k c (Some causes.Stale) = record k { done = k.done + 1; stale = k.stale + 1 }
-item_judged k c (Some cause) = record k { stop = Some (refusal_for c.version cause) }
+item_judged k c (Some (causes.Refused refusals.Stale)) = record k { done = k.done + 1; stale = k.stale + 1 }
+item_judged k c (Some (causes.Refused refusal)) = record k { stop = Some refusal }
 
 abbrev pub cause_of : State → ChangeRecord → Option Cause
-cause_of s c = first_cause (against_change (standing_of (held s) (position s) c.key) c)
+cause_of s c = first_cause c.version (against_change (standing_of (held s) (position s) c.key) c)
 
 -- one more item, unless the merge was stopped
 abbrev pub item_merged : Course → ChangeRecord → Course
@@ -123,21 +101,20 @@ course s items = fold item_merged (begun s) items
 abbrev pub merge_reply : State → Course → Reply
 merge_reply s k = option_map_or (λ fault. MergeStopped k.done fault (owed s k.taken)) k.stop (Merged k.done (length k.taken) k.stale (owed s k.taken))
 
-abbrev pub merging : State → List ChangeRecord → Option Cause → Reply × State
-merging s items cause = option_map_or (λ c. (Refused (refusal_for (record { epoch = 0; seq = 0 }) c), s)) cause (merge_reply s (course s items), (course s items).state)
+abbrev pub merging : State → List ChangeRecord → Option Refusal → Reply × State
+merging s items refusal = option_map_or (λ r. (Refused r, s)) refusal (merge_reply s (course s items), (course s items).state)
 
--- an item is refused for this cause, and the merge stops
-pub record IsStopped (s : State) (c : ChangeRecord) (fault : Refusal) (cause : Cause) : Type 0 where
-  pub stands : cause_of s c ≡ Some cause
-  pub not_passed : passed_as cause ≡ None
-  pub fault_is : fault ≡ refusal_for c.version cause
+-- an item is refused for a cause that stands, and the merge stops
+pub record IsStopped (s : State) (c : ChangeRecord) (fault : Refusal) : Type 0 where
+  pub stands : cause_of s c ≡ Some (causes.Refused fault)
+  pub refuses : passed_as (causes.Refused fault) ≡ Err fault
 
 -- what becomes of one item: it takes effect, is passed over, or is refused, also for want of memory
 abbrev pub MergesItem : State → ChangeRecord → Result Join Refusal → State → Type 0
 MergesItem s c (Ok joins.Taken) t = (cause_of s c ≡ None) × (t ≡ accepts s (c ∷ []))
 MergesItem s c (Ok joins.Known) t = (cause_of s c ≡ Some causes.Known) × (t ≡ s)
-MergesItem s c (Ok joins.Stale) t = (cause_of s c ≡ Some causes.Stale) × (t ≡ s)
-MergesItem s c (Err fault) t = (t ≡ s) × ((fault ≡ refusals.NoRoom) ⊎ ((cause : Cause) × IsStopped s c fault cause))
+MergesItem s c (Ok joins.Stale) t = (cause_of s c ≡ Some (causes.Refused refusals.Stale)) × (t ≡ s)
+MergesItem s c (Err fault) t = (t ≡ s) × ((fault ≡ refusals.NoRoom) ⊎ IsStopped s c fault)
 
 -- how many are taken by this, and how many stale
 abbrev pub taken_by : Join → ℕ
@@ -152,10 +129,6 @@ stale_by joins.Stale = 1
 
 -- ---- a Subscribe and a Check
 
--- the refusal for a cause at no change
-abbrev pub refused : Cause → Reply
-refused cause = Refused (refusal_for (record { epoch = 0; seq = 0 }) cause)
-
 -- the bit of the subscription, where with INITIAL some held key, of a tombstone too, is under the query
 abbrev pub owed_at_first : List ChangeRecord → ℕ → Query → Bool → ℕ
 owed_at_first held sub query initial = cond (initial && list_any (λ (c : ChangeRecord). is_under query c.key) held) (2 ^ sub) 0
@@ -164,17 +137,17 @@ owed_at_first held sub query initial = cond (initial && list_any (λ (c : Change
 abbrev pub shown_at_first : List ChangeRecord → Bool → List ChangeRecord
 shown_at_first held initial = cond initial [] held
 
-abbrev pub cause_against_subscribe : State → ℕ → Query → Bool → Option Cause
-cause_against_subscribe s sub query overwrite = first_cause (against_subscribe (is_some (subscription_at s sub)) s.stamp sub query.text overwrite)
+abbrev pub subscribe_case : State → ℕ → Query → Bool → SubscribeCase
+subscribe_case s sub query overwrite = record { taken = is_some (subscription_at s sub); stamp = s.stamp; sub = sub; text = query.text; overwrite = overwrite }
 
 abbrev pub subscribing : State → ℕ → Query → Bool → Bool → Reply × State
 subscribing s sub query initial overwrite =
-    option_map_or (λ cause. (refused cause, s)) (cause_against_subscribe s sub query overwrite)
+    option_map_or (λ refusal. (Refused refusal, s)) (first_refusal (against_subscribe (subscribe_case s sub query overwrite)))
     (Subscribed (s.stamp + 1) (owed_at_first (held s) sub query initial), subscribes s sub query (shown_at_first (held s) initial))
 
--- memory was wanted, or a cause stands and this is its refusal
-abbrev pub IsRefusedFor : Option Cause → Refusal → Type 0
-IsRefusedFor cause refusal = (refusal ≡ refusals.NoRoom) ⊎ ((c : Cause) × (cause ≡ Some c) × (refusal ≡ refusal_for (record { epoch = 0; seq = 0 }) c))
+-- memory was wanted, or this refusal stands
+abbrev pub IsRefusedFor : Option Refusal → Refusal → Type 0
+IsRefusedFor stands refusal = (refusal ≡ refusals.NoRoom) ⊎ (stands ≡ Some refusal)
 
 -- the subscription is shown these, and takes the next stamp; nothing to show leaves all as it was
 abbrev pub shows : State → ℕ → Subscription → List ChangeRecord → Reply × State
@@ -185,11 +158,14 @@ shows s sub seer (c ∷ items) = (Checked (c ∷ items) seer.stamp (s.stamp + 1)
 abbrev pub has_unseen : State → Subscription → Bool
 has_unseen s seer = list_any (is_unseen seer.query seer.shown) (held s)
 
+abbrev pub check_case : State → ℕ → ℕ → Option Subscription → CheckCase
+check_case s sub max seer = record { taken = is_some seer; some = option_map_or (has_unseen s) seer false; stamp = s.stamp; sub = sub; max = max }
+
 -- the first `max` unseen tops in key order are shown
 abbrev pub checking_at : State → ℕ → ℕ → Option Subscription → Reply × State
 checking_at s sub max seer =
-    option_map_or (λ cause. (refused cause, s)) (first_cause (against_check (is_some seer) (option_map_or (has_unseen s) seer false) s.stamp sub max))
-    (option_map_or (λ f. shows s sub f (take max (unseen s f))) seer (refused causes.NotFound, s))
+    option_map_or (λ refusal. (Refused refusal, s)) (first_refusal (against_check (check_case s sub max seer)))
+    (option_map_or (λ f. shows s sub f (take max (unseen s f))) seer (Refused refusals.NotFound, s))
 
 abbrev pub checking : State → ℕ → ℕ → Reply × State
 checking s sub max = checking_at s sub max (subscription_at s sub)
@@ -216,12 +192,12 @@ abbrev pub outcome : State → Command → Reply × State
 outcome s (Publish caller key version value overwrite) = asking s (published caller key version overwrite) (Put value)
 outcome s (Delete caller key version) = asking s (deleted caller key version) Gone
 outcome s (Sweep caller owner generation) =
-    sweeping s (tombstones (held s) owner generation) (first_cause (against_sweep (position s) (length (tombstones (held s) owner generation)) caller))
+    sweeping s (tombstones (held s) owner generation) (first_refusal (against_sweep (position s) (length (tombstones (held s) owner generation)) caller))
 outcome s (Retrieve key) = retrieving s key
 outcome s (NameOf endpoint) = naming s endpoint
 outcome s (Subscribe sub query initial overwrite) = subscribing s sub query initial overwrite
 outcome s (Check sub max) = checking s sub max
-outcome s (Merge items) = merging s items (first_cause (against_merge (length items)))
+outcome s (Merge items) = merging s items (first_refusal (against_merge (length items)))
 
 -- the reply and the state are these
 pub record IsOutcome (out : Reply × State) (reply : Reply) (new : State) : Type 0 where
@@ -238,7 +214,7 @@ Answers old out reply new = IsOutcome out reply new ⊎ WantsRoom old reply new
 
 -- memory was wanted after so many items of a merge, none of which was refused, and those stand
 pub record StopsForRoom (old : State) (items : List ChangeRecord) (reply : Reply) (new : State) (done : ℕ) : Type 0 where
-  pub few : length items ≤ 256
+  pub few : length items ≤ most_items
   pub some_left : done < length items
   pub not_refused : (course old (take done items)).stop ≡ None
   pub reply_is : reply ≡ MergeStopped done refusals.NoRoom (owed old (course old (take done items)).taken)

@@ -5,7 +5,8 @@ use Rattle.std.specs.List.{AllByRecursion}
 use Rattle.ds_entry.specs.Change.{ChangeRecord}
 use Rattle.ds_entry.specs.SingleNumbered.{IsSingleNumbered}
 use Rattle.ds_join.specs.Top.{IsPartOf, tops}
-use Rattle.ds_store.specs.State.{State, position, last_place}
+use Rattle.ds_store.specs.Limits.{longest_ring, last_place}
+use Rattle.ds_store.specs.State.{State, position}
 use Rattle.ds_watch.specs.Subscription.{Subscription}
 use Rattle.ds_store.specs.declared.refusal.Refusal.{Refusal}
 use Rattle.ds_store.specs.declared.refusal.Refusal.TheVariants.{BadRing, BadFirst}
@@ -15,7 +16,7 @@ use Rattle.ds_watch.specs.Followed.{followed_of}
 -- a journal keeps 1 to 4096 changes
 pub record IsRing (ring : ℕ) : Type 0 where
   pub some : 0 < ring
-  pub limit : ring ≤ 4096
+  pub limit : ring ≤ longest_ring
 
 -- what the subscription was shown had been accepted
 abbrev pub WasAccepted : List ChangeRecord → Option Subscription → Type 0

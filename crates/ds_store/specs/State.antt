@@ -1,10 +1,11 @@
 -- The state of the store's machine, which keeps every change that took effect.
-use Rattle.std.specs.Prelude.{ℕ, ◌+◌, ◌^◌, List, [], ◌++◌, map, filter, replicate, length, slice_set, slice_index_or, Option, None, Some}
+use Rattle.std.specs.Prelude.{ℕ, ◌+◌, List, [], ◌++◌, map, filter, replicate, length, slice_set, slice_index_or, Option, None, Some}
 use Rattle.ds_entry.specs.Change.{ChangeRecord}
 use Rattle.ds_join.specs.Top.{tops}
 use Rattle.ds_pattern.specs.declared.query.Query.{Query}
 use Rattle.ds_watch.specs.Subscription.{Subscription, is_unseen, is_owed}
 use Rattle.ds_watch.specs.Mask.{mask}
+use Rattle.ds_store.specs.Limits.{places}
 
 pub record State : Type 0 where
   -- the changes that took effect, in order; the one at index i has the position `first` + i
@@ -15,12 +16,8 @@ pub record State : Type 0 where
   pub incarnation : ℕ
   -- the last stamp that was given
   pub stamp : ℕ
-  -- a place for each of 64 subscriptions
+  -- a place for each subscription
   pub subscriptions : List (Option Subscription)
-
--- the most that positions and stamps reach
-abbrev pub last_place : ℕ
-last_place = 2 ^ 62
 
 -- the position of the next change
 abbrev pub position : State → ℕ
@@ -57,5 +54,5 @@ opening incarnation first ring = record {
   ring = ring;
   incarnation = incarnation;
   stamp = first;
-  subscriptions = replicate 64 None;
+  subscriptions = replicate places None;
 }

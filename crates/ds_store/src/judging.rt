@@ -1,40 +1,22 @@
 //! What stands against a command, judged in the one order.
 
-ghost use Rattle.std.specs.Prelude.{◌≡◌, ◌<◌, ◌^◌, Option, None, IfNone, is_some};
+ghost use Rattle.std.specs.Prelude.{◌≡◌, ◌<◌, Option, None, IfNone, is_some};
 ghost use Rattle.std.specs.Option.{option_copied};
 ghost use Rattle.ds_join.specs.Reading.{value_of};
-ghost use Rattle.ds_store.specs.State.{last_place};
-ghost use Rattle.ds_store.specs.Machine.{refusal_for};
+ghost use Rattle.ds_store.specs.Limits.{last_place};
 ghost use Rattle.ds_store.specs.Judging.{first_cause, standing, is_rs, is_label, against_change, TakesEffect};
 
+use crate::limits::{LAST_PLACE, MOST_KEYS};
 use crate::refusal::Refusal;
 use ds_entry::{Body, Change};
-use ds_names::{Endpoint, Key, Kind, Version};
+use ds_names::{Endpoint, Key, Kind};
 use std::cmp::Ordering;
 
-/// Where positions end.
-pub(crate) const LAST_PLACE: u64 = 1 << 62;
-
-/// What can stand against a command, in the order in which it is judged.
+/// What stands against a command with a change, or against an item: it is held already, or it is refused.
 #[derive(Clone, Copy, Debug)]
-pub(crate) enum Cause {
-    BadSub,
-    TooMany,
-    TooLong,
-    BadPattern,
-    BadKind,
-    BadLabel,
-    BadVersion,
-    NoCaller,
-    NotAllowed,
-    NotOwner,
-    Clash,
-    Stale,
+pub enum Cause {
     Known,
-    Exists,
-    NotFound,
-    Full,
-    Worn,
+    Refused(Refusal),
 }
 
 /// Whether the endpoint is that of RS.
@@ -51,28 +33,29 @@ pub(crate) fn judge_change(
     position: u64,
     change: &Change,
 ) -> Option<Cause>
-    ensures first { result ≡ first_cause (against_change (standing (option_copied held.entry) count position) change.now) }
+    ensures first { result ≡ first_cause change.now.version (against_change (standing (option_copied held.entry) count position) change.now) }
     ensures taken { IfNone result (TakesEffect (option_copied held.entry) count change.now) }
     ensures room { IfNone result (position < last_place) }
 {
     let Some(held) = held else {
-        return if count >= 1024 {
-            Some(Cause::Full)
+        return if count >= MOST_KEYS {
+            Some(Cause::Refused(Refusal::Full))
         } else if position >= LAST_PLACE {
-            Some(Cause::Worn)
+            Some(Cause::Refused(Refusal::Worn))
         } else {
             None
         };
     };
     if held.owner() != change.owner() {
-        return Some(Cause::NotOwner);
+        return Some(Cause::Refused(Refusal::NotOwner));
     }
-    match held.version().compare(&change.version()) {
-        Ordering::Less if position >= LAST_PLACE => Some(Cause::Worn),
+    let version = change.version();
+    match held.version().compare(&version) {
+        Ordering::Less if position >= LAST_PLACE => Some(Cause::Refused(Refusal::Worn)),
         Ordering::Less => None,
-        Ordering::Greater => Some(Cause::Stale),
+        Ordering::Greater => Some(Cause::Refused(Refusal::Stale)),
         Ordering::Equal if held.body() == change.body() => Some(Cause::Known),
-        Ordering::Equal => Some(Cause::Clash),
+        Ordering::Equal => Some(Cause::Refused(Refusal::Clash { version })),
     }
 }
 
@@ -93,29 +76,5 @@ pub(crate) fn is_put(change: &Change) -> bool
     match change.body() {
         Body::Put(_) => true,
         Body::Gone => false,
-    }
-}
-
-/// The refusal for a cause, at a change of this version.
-pub(crate) fn refusal_for(version: Version, cause: Cause) -> Refusal
-    ensures { result ≡ refusal_for version cause }
-{
-    match cause {
-        Cause::BadSub => Refusal::BadSub,
-        Cause::TooMany => Refusal::TooMany,
-        Cause::TooLong => Refusal::TooLong,
-        Cause::BadPattern => Refusal::BadPattern,
-        Cause::BadKind => Refusal::BadKind,
-        Cause::BadLabel => Refusal::BadLabel,
-        Cause::BadVersion => Refusal::BadVersion,
-        Cause::NoCaller => Refusal::NoCaller,
-        Cause::NotAllowed => Refusal::NotAllowed,
-        Cause::NotOwner => Refusal::NotOwner,
-        Cause::Clash => Refusal::Clash { version },
-        Cause::Stale | Cause::Known => Refusal::Stale,
-        Cause::Exists => Refusal::Exists,
-        Cause::NotFound => Refusal::NotFound,
-        Cause::Full => Refusal::Full,
-        Cause::Worn => Refusal::Worn,
     }
 }

@@ -13,6 +13,7 @@
 mod command;
 mod judging;
 mod laws;
+mod limits;
 mod refusal;
 mod search;
 mod store;

@@ -3,7 +3,8 @@
 ghost use Rattle.std.specs.Prelude.{◌≡◌, ◌≢◌, ◌<◌, ◌≤◌, ◌+◌, List, [], ◌∷◌, ◌++◌, length, map, None, IfOk, IfErr, OnOk, OnErr};
 ghost use Rattle.ds_join.specs.Held.{held_changes};
 ghost use Rattle.ds_join.specs.Top.{IsTop};
-ghost use Rattle.ds_store.specs.State.{State, opening, accepts, last_place};
+ghost use Rattle.ds_store.specs.Limits.{last_place};
+ghost use Rattle.ds_store.specs.State.{State, opening, accepts};
 ghost use Rattle.ds_watch.specs.Subscription.{is_owed};
 ghost use Rattle.ds_watch.specs.Followed.{owed_for};
 ghost use Rattle.ds_store.specs.Judging.{held_at, TakesEffect};
@@ -11,7 +12,7 @@ ghost use Rattle.ds_store.specs.Kept.{IsTakenOrNoRoom};
 ghost use Rattle.ds_store.specs.Stands.{Stands, IsOpenFault, IsRing};
 
 use crate::command::{Command, Reply};
-use crate::judging::LAST_PLACE;
+use crate::limits::{LAST_PLACE, LONGEST_RING};
 use crate::refusal::Refusal;
 use crate::search::name_of;
 use asking::{deleted, published};
@@ -64,7 +65,7 @@ impl Store {
         ensures fits { OnOk result (IsRing ring × (first ≤ last_place)) }
         ensures refused { IfErr result (λ refusal. IsOpenFault refusal first ring) }
     {
-        if ring == 0 || ring > 4096 {
+        if ring == 0 || ring > LONGEST_RING {
             return Err(Refusal::BadRing);
         }
         if first > LAST_PLACE {

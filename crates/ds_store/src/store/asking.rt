@@ -1,16 +1,19 @@
 //! What callers ask: publishing and deleting.
 
-ghost use Rattle.std.specs.Prelude.{◌≡◌, ◌<◌, ◌^◌, length, Option, Some, None, IfNone};
+ghost use Rattle.std.specs.Prelude.{◌≡◌, ◌<◌, length, Option, Some, None, IfNone};
 ghost use Rattle.std.specs.Option.{option_copied};
 ghost use Rattle.std.specs.List.{find};
-ghost use Rattle.ds_store.specs.State.{State, last_place};
+ghost use Rattle.ds_store.specs.Asked.{request_of};
+ghost use Rattle.ds_store.specs.Limits.{last_place};
+ghost use Rattle.ds_store.specs.State.{State};
 ghost use Rattle.ds_entry.specs.ChangeFault.{IsFaultOf};
 ghost use Rattle.ds_store.specs.Machine.{Answers, asking, answer_for};
 ghost use Rattle.ds_store.specs.Judging.{first_cause, by_held, standing, standing_of, held_at, name_of, is_of_kind, is_label_body, is_label_change, is_callers_version, against_asked, TakesEffect, change_asked, published, deleted};
 ghost use Rattle.ds_store.specs.Stands.{Stands};
 
 use crate::command::Reply;
-use crate::judging::{Cause, LAST_PLACE, is_label, is_put, is_rs, refusal_for};
+use crate::judging::{Cause, is_label, is_put, is_rs};
+use crate::limits::{LAST_PLACE, MOST_KEYS, SWEEPS_SEQ};
 use crate::refusal::Refusal;
 use crate::search::{name_of, rs_name};
 use crate::store::Store;
@@ -36,19 +39,19 @@ pub(super) struct Asked {
 }
 
 // The answer for a cause: a repeat is known, and every other cause refuses.
-fn answer_to(asked: &Asked, cause: Cause) -> Reply
-    ensures { result ≡ answer_for asked.now.version cause }
+fn answer_to(cause: Cause) -> Reply
+    ensures { result ≡ answer_for cause }
 {
     match cause {
         Cause::Known => Reply::Known,
-        other => Reply::Refused(refusal_for(asked.version, other)),
+        Cause::Refused(refusal) => Reply::Refused(refusal),
     }
 }
 
 // The change that is asked for, in the name of the caller.
 fn change_asked(asked: &Asked, body: Body, caller: Option<Name>) -> Change
-    requires { (fault : EntryFault) → ¬ IsFaultOf fault (change_asked caller asked.now body) }
-    ensures { result ≡ change_asked caller asked.now body }
+    requires { (fault : EntryFault) → ¬ IsFaultOf fault (change_asked caller (request_of asked.now) body) }
+    ensures { result ≡ change_asked caller (request_of asked.now) body }
 {
     let owner = match caller {
         Some(name) => name,
@@ -62,7 +65,7 @@ fn change_asked(asked: &Asked, body: Body, caller: Option<Name>) -> Change
 
 /// What a Publish asks, beside its put.
 pub(super) fn published(caller: Endpoint, key: Key, version: Version, overwrite: bool) -> Asked
-    ensures { result ≡ published caller key version overwrite }
+    ensures { request_of result ≡ published caller key version overwrite }
 {
     Asked {
         caller,
@@ -74,7 +77,7 @@ pub(super) fn published(caller: Endpoint, key: Key, version: Version, overwrite:
 
 /// What a Delete asks, beside its tombstone.
 pub(super) fn deleted(caller: Endpoint, key: Key, version: Version) -> Asked
-    ensures { result ≡ deleted caller key version }
+    ensures { request_of result ≡ deleted caller key version }
 {
     Asked {
         caller,
@@ -109,7 +112,7 @@ fn is_label_body(version: &Version, body: &Body) -> bool
 
 // Whether what is asked for keeps the rule of labels.
 fn is_label_change(asked: &Asked, body: &Body) -> bool
-    ensures { result ≡ is_label_change asked.now body.now }
+    ensures { result ≡ is_label_change (request_of asked.now) body.now }
 {
     let rs = b"rs".as_slice();
     let name = asked.key.name.bytes();
@@ -119,9 +122,9 @@ fn is_label_change(asked: &Asked, body: &Body) -> bool
 
 // Whether the version is one that the caller gives.
 fn is_callers_version(asked: &Asked) -> bool
-    ensures { result ≡ is_callers_version asked.now }
+    ensures { result ≡ is_callers_version (request_of asked.now) }
 {
-    asked.version.epoch == asked.caller.generation() && asked.version.seq < u32::MAX
+    asked.version.epoch == asked.caller.generation() && asked.version.seq < SWEEPS_SEQ
 }
 
 // The first cause by what is held for the key, where the owner is the one who asks.
@@ -133,32 +136,33 @@ fn judge_held(
     count: usize,
     position: u64,
 ) -> Option<Cause>
-    ensures first { result ≡ find (against_asked (standing (option_copied held.entry) count position) (Some owner.now) asked.now body.now) by_held }
-    ensures taken { IfNone result (TakesEffect (option_copied held.entry) count (change_asked (Some owner.now) asked.now body.now)) }
+    ensures first { result ≡ find (against_asked (standing (option_copied held.entry) count position) (Some owner.now) (request_of asked.now) body.now) (by_held asked.now.version) }
+    ensures taken { IfNone result (TakesEffect (option_copied held.entry) count (change_asked (Some owner.now) (request_of asked.now) body.now)) }
     ensures room { IfNone result (position < last_place) }
 {
     let Some(held) = held else {
         return match asked.need {
-            Need::Live => Some(Cause::NotFound),
-            _ if count >= 1024 => Some(Cause::Full),
-            _ if position >= LAST_PLACE => Some(Cause::Worn),
+            Need::Live => Some(Cause::Refused(Refusal::NotFound)),
+            _ if count >= MOST_KEYS => Some(Cause::Refused(Refusal::Full)),
+            _ if position >= LAST_PLACE => Some(Cause::Refused(Refusal::Worn)),
             _ => None,
         };
     };
     if held.owner() != owner {
-        return Some(Cause::NotOwner);
+        return Some(Cause::Refused(Refusal::NotOwner));
     }
-    match held.version().compare(&asked.version) {
-        Ordering::Greater => return Some(Cause::Stale),
+    let version = asked.version;
+    match held.version().compare(&version) {
+        Ordering::Greater => return Some(Cause::Refused(Refusal::Stale)),
         Ordering::Equal if held.body() == body => return Some(Cause::Known),
-        Ordering::Equal => return Some(Cause::Clash),
+        Ordering::Equal => return Some(Cause::Refused(Refusal::Clash { version })),
         Ordering::Less => {}
     }
     let is_live = is_put(held);
     match asked.need {
-        Need::NotLive if is_live => Some(Cause::Exists),
-        Need::Live if !is_live => Some(Cause::NotFound),
-        _ if position >= LAST_PLACE => Some(Cause::Worn),
+        Need::NotLive if is_live => Some(Cause::Refused(Refusal::Exists)),
+        Need::Live if !is_live => Some(Cause::Refused(Refusal::NotFound)),
+        _ if position >= LAST_PLACE => Some(Cause::Refused(Refusal::Worn)),
         _ => None,
     }
 }
@@ -172,25 +176,25 @@ fn judge(
     count: usize,
     position: u64,
 ) -> Option<Cause>
-    ensures first { result ≡ first_cause (against_asked (standing (option_copied held.entry) count position) caller.now asked.now body.now) }
-    ensures taken { IfNone result (TakesEffect (option_copied held.entry) count (change_asked caller.now asked.now body.now)) }
+    ensures first { result ≡ first_cause asked.now.version (against_asked (standing (option_copied held.entry) count position) caller.now (request_of asked.now) body.now) }
+    ensures taken { IfNone result (TakesEffect (option_copied held.entry) count (change_asked caller.now (request_of asked.now) body.now)) }
     ensures room { IfNone result (position < last_place) }
 {
     let is_label = is_label(&asked.key);
     if !is_of_kind(asked.key.kind, body) {
-        return Some(Cause::BadKind);
+        return Some(Cause::Refused(Refusal::BadKind));
     }
     if is_label && !is_label_change(asked, body) {
-        return Some(Cause::BadLabel);
+        return Some(Cause::Refused(Refusal::BadLabel));
     }
     if !is_label && !is_callers_version(asked) {
-        return Some(Cause::BadVersion);
+        return Some(Cause::Refused(Refusal::BadVersion));
     }
     let Some(owner) = caller else {
-        return Some(Cause::NoCaller);
+        return Some(Cause::Refused(Refusal::NoCaller));
     };
     if is_label && !is_rs(asked.caller) {
-        return Some(Cause::NotAllowed);
+        return Some(Cause::Refused(Refusal::NotAllowed));
     }
     judge_held(asked, body, owner, held, count, position)
 }
@@ -198,8 +202,8 @@ fn judge(
 impl Store {
     // The first cause against what a caller of this name asks for.
     fn cause_against(&self, asked: &Asked, body: &Body, caller: &Option<Name>) -> Option<Cause>
-        ensures first { result ≡ first_cause (against_asked (standing_of self.now.held self.now.position asked.now.key) caller.now asked.now body.now) }
-        ensures taken { IfNone result (TakesEffect (held_at self.now.held asked.now.key) (length self.now.held) (change_asked caller.now asked.now body.now)) }
+        ensures first { result ≡ first_cause asked.now.version (against_asked (standing_of self.now.held self.now.position asked.now.key) caller.now (request_of asked.now) body.now) }
+        ensures taken { IfNone result (TakesEffect (held_at self.now.held asked.now.key) (length self.now.held) (change_asked caller.now (request_of asked.now) body.now)) }
         ensures room { IfNone result (self.now.position < last_place) }
     {
         let held = self.held.held();
@@ -217,11 +221,11 @@ impl Store {
 
     // What a caller asks for takes effect, unless a cause stands against it.
     pub(super) fn ask(&mut self, asked: &Asked, body: Body) -> Reply
-        ensures { (s : State) → Stands self.old s → (t : State) × Answers s (asking s asked.now body) result t × Stands self.new t }
+        ensures { (s : State) → Stands self.old s → (t : State) × Answers s (asking s (request_of asked.now) body) result t × Stands self.new t }
     {
         let caller = self.caller_of(asked);
         if let Some(cause) = self.cause_against(asked, &body, &caller) {
-            return answer_to(asked, cause);
+            return answer_to(cause);
         }
         let Ok(owed) = self.owed(&asked.key) else {
             return Reply::Refused(Refusal::NoRoom);

@@ -7,6 +7,7 @@ ghost use Rattle.ds_join.specs.Held.{held_changes};
 ghost use Rattle.ds_join.specs.Marked.{mark_for};
 ghost use Rattle.ds_pattern.specs.Under.{is_under};
 ghost use Rattle.ds_watch.specs.Masks.{shown_to, made_at};
+ghost use Rattle.ds_store.specs.Limits.{places};
 ghost use Rattle.ds_store.specs.Remarked.{IsRemarked, AreRemarked, AreFirst, is_to_show};
 
 use ds_entry::{Change, Items};
@@ -46,7 +47,7 @@ fn masks_at(held: &Indexed<Masks>, index: usize) -> Option<Masks>
 
 // The change at the index was shown to the subscription with this number.
 fn show_one(held: &mut Indexed<Masks>, index: usize, sub: usize)
-    requires { sub < 64 }
+    requires { sub < places }
     ensures { IsRemarked held.old held.new index (shown_to sub) }
 {
     if let Some(masks) = masks_at(held, index) {
@@ -56,7 +57,7 @@ fn show_one(held: &mut Indexed<Masks>, index: usize, sub: usize)
 
 /// The first so many changes were shown to the subscription with this number. It takes no memory.
 pub(super) fn show_first(held: &mut Indexed<Masks>, count: usize, sub: usize)
-    requires { sub < 64 }
+    requires { sub < places }
     ensures { AreRemarked held.old held.new count (λ k. shown_to sub) }
 {
     let _held = held.held();
@@ -67,7 +68,7 @@ pub(super) fn show_first(held: &mut Indexed<Masks>, count: usize, sub: usize)
 
 // The subscription with this number was made, and the key at the index is under its query or not.
 fn make_one(held: &mut Indexed<Masks>, index: usize, sub: usize, is_under: bool, initial: bool)
-    requires { sub < 64 }
+    requires { sub < places }
     ensures { IsRemarked held.old held.new index (made_at sub is_under initial) }
 {
     if let Some(masks) = masks_at(held, index) {
@@ -78,7 +79,7 @@ fn make_one(held: &mut Indexed<Masks>, index: usize, sub: usize, is_under: bool,
 /// The subscription with this number was made, where the flags say which held keys are under its query. It
 /// takes no memory.
 pub(super) fn make_all(held: &mut Indexed<Masks>, sub: usize, flags: &[bool], initial: bool)
-    requires { sub < 64 }
+    requires { sub < places }
     ensures { AreRemarked held.old held.new (length flags.now) (λ k. made_at sub (slice_index_or flags.now k false) initial) }
 {
     let _held = held.held();
@@ -111,7 +112,7 @@ fn show_unseen(
     masks: &Masks,
     sub: usize,
 ) -> Result<(), NoRoom>
-    requires { sub < 64 }
+    requires { sub < places }
     ensures shown { IfOk result (λ _. items.new ≡ items.old ++ cond (slice_index_or masks.now.unseen sub false) (change.now ∷ []) []) }
     ensures refused { OnErr result (slice_index_or masks.now.unseen sub false ≡ true) }
 {
@@ -129,7 +130,7 @@ pub(super) fn first_unseen(
     sub: usize,
     max: usize,
 ) -> Result<Shown, NoRoom>
-    requires { sub < 64 }
+    requires { sub < places }
     ensures first { IfOk result (λ shown. AreFirst held.now sub max shown.items shown.passed) }
     ensures refused { OnErr result (list_any (is_to_show held.now sub) (held_changes held.now.held) ≡ true) }
 {

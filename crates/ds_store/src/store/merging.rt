@@ -1,7 +1,8 @@
 //! Merges of what another holder gives.
 
 ghost use Rattle.std.specs.Prelude.{◌≡◌, ◌<◌, length, IfNone};
-ghost use Rattle.ds_store.specs.State.{State, last_place};
+ghost use Rattle.ds_store.specs.Limits.{last_place};
+ghost use Rattle.ds_store.specs.State.{State};
 ghost use Rattle.ds_watch.specs.Followed.{owed_for};
 ghost use Rattle.ds_store.specs.Machine.{Step, MergesItem, taken_by, stale_by, passed_as};
 ghost use Rattle.ds_store.specs.Owed.{owed_after};
@@ -9,7 +10,8 @@ ghost use Rattle.ds_store.specs.Judging.{first_cause, standing_of, held_at, agai
 ghost use Rattle.ds_store.specs.Stands.{Stands};
 
 use crate::command::{Command, Reply};
-use crate::judging::{Cause, judge_change, refusal_for};
+use crate::judging::{Cause, judge_change};
+use crate::limits::MOST_ITEMS;
 use crate::refusal::Refusal;
 use crate::store::Store;
 use ds_entry::{Change, Items};
@@ -20,7 +22,7 @@ use ds_watch::Mask;
 impl Store {
     // The first cause against a change that another holder gave.
     fn cause_of(&self, change: &Change) -> Option<Cause>
-        ensures first { result ≡ first_cause (against_change (standing_of self.now.held self.now.position change.now.key) change.now) }
+        ensures first { result ≡ first_cause change.now.version (against_change (standing_of self.now.held self.now.position change.now.key) change.now) }
         ensures taken { IfNone result (TakesEffect (held_at self.now.held change.now.key) (length self.now.held) change.now) }
         ensures room { IfNone result (self.now.position < last_place) }
     {
@@ -37,10 +39,7 @@ impl Store {
         ensures step { (s : State) → Stands self.old s → (t : State) × MergesItem s item.now result t × Stands self.new t }
     {
         if let Some(cause) = self.cause_of(item) {
-            return match passed_as(cause) {
-                Some(passed) => Ok(passed),
-                None => Err(refusal_for(item.version(), cause)),
-            };
+            return passed_as(cause);
         }
         let Ok(owed) = self.owed(item.key()) else {
             return Err(Refusal::NoRoom);
@@ -61,7 +60,7 @@ impl Store {
     pub(super) fn merge(&mut self, items: &Items) -> Reply
         ensures { (s : State) → Stands self.old s → (t : State) × Step s (Command.Merge items.now) result t × Stands self.new t }
     {
-        if items.len() > 256 {
+        if items.len() > MOST_ITEMS {
             return Reply::Refused(Refusal::TooMany);
         }
         let mut owed = self.owed_to_none();
@@ -112,13 +111,13 @@ fn stale_by(join: Merge) -> usize
     }
 }
 
-// What a merge passes over for this cause: a known or stale change.
-fn passed_as(cause: Cause) -> Option<Merge>
+// What becomes of an item against which this stands: a merge passes over what is known or stale.
+fn passed_as(cause: Cause) -> Result<Merge, Refusal>
     ensures { result ≡ passed_as cause }
 {
     match cause {
-        Cause::Known => Some(Merge::Known),
-        Cause::Stale => Some(Merge::Stale),
-        _ => None,
+        Cause::Known => Ok(Merge::Known),
+        Cause::Refused(Refusal::Stale) => Ok(Merge::Stale),
+        Cause::Refused(refusal) => Err(refusal),
     }
 }

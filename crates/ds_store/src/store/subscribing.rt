@@ -1,14 +1,16 @@
 //! Subscriptions and their checks.
 
-ghost use Rattle.std.specs.Prelude.{◌≡◌, ◌<◌, ◌^◌, ◌&&◌, cond, None, is_some, slice_index_or, IfOk, IfErr, OnOk};
+ghost use Rattle.std.specs.Prelude.{◌≡◌, ◌<◌, ◌^◌, ◌&&◌, cond, None, IfOk, IfErr, OnOk};
 ghost use Rattle.std.specs.List.{list_any};
-ghost use Rattle.ds_store.specs.State.{State, last_place};
-ghost use Rattle.ds_store.specs.Judging.{first_cause, against_subscribe};
+ghost use Rattle.ds_store.specs.Limits.{places, last_place};
+ghost use Rattle.ds_store.specs.State.{State};
+ghost use Rattle.ds_store.specs.Judging.{first_refusal, against_subscribe};
+ghost use Rattle.ds_store.specs.Kept.{subscribe_case_at};
 ghost use Rattle.ds_store.specs.Machine.{Answers, subscribing, checking, IsRefusedFor, refusal_of};
 ghost use Rattle.ds_store.specs.Stands.{Stands};
 
 use crate::command::Reply;
-use crate::judging::LAST_PLACE;
+use crate::limits::{LAST_PLACE, MOST_ITEMS, PLACES};
 use crate::refusal::Refusal;
 use crate::store::Store;
 use crate::store::marking::{first_unseen, flags_under, make_all, show_first};
@@ -36,7 +38,7 @@ fn has_any(flags: &[bool]) -> bool
 
 // The bit of the subscription, where with INITIAL something is to be shown to it.
 fn own_bit(sub: u32, initial: bool, some: bool) -> u64
-    requires { sub < 64 }
+    requires { sub < places }
     ensures { result ≡ cond (initial && some) (2 ^ sub) 0 }
 {
     if initial && some { 1 << sub } else { 0 }
@@ -46,12 +48,12 @@ impl Store {
     // Takes up a query, unless a cause stands against the subscription.
     fn take_up(&self, sub: u32, query: &Query, overwrite: bool) -> Result<Filter, Refusal>
         ensures value { IfOk result (λ filter. filter ≡ query.now) }
-        ensures none { OnOk result (first_cause (against_subscribe (is_some (slice_index_or self.now.subscriptions sub None)) self.now.stamp sub query.now.text overwrite) ≡ None) }
-        ensures place { OnOk result (sub < 64) }
+        ensures none { OnOk result (first_refusal (against_subscribe (subscribe_case_at self.now sub query.now overwrite)) ≡ None) }
+        ensures place { OnOk result (sub < places) }
         ensures room { OnOk result (self.now.stamp < last_place) }
-        ensures refused { IfErr result (IsRefusedFor (first_cause (against_subscribe (is_some (slice_index_or self.now.subscriptions sub None)) self.now.stamp sub query.now.text overwrite))) }
+        ensures refused { IfErr result (IsRefusedFor (first_refusal (against_subscribe (subscribe_case_at self.now sub query.now overwrite)))) }
     {
-        if sub >= 64 {
+        if sub >= PLACES {
             return Err(Refusal::BadSub);
         }
         let filter = match Filter::read(self.alloc, query) {
@@ -100,10 +102,10 @@ impl Store {
     pub(super) fn check(&mut self, sub: u32, max: u32) -> Reply
         ensures { (s : State) → Stands self.old s → (t : State) × Answers s (checking s sub max) result t × Stands self.new t }
     {
-        if sub >= 64 {
+        if sub >= PLACES {
             return Reply::Refused(Refusal::BadSub);
         }
-        if max == 0 || max > 256 {
+        if max == 0 || max as usize > MOST_ITEMS {
             return Reply::Refused(Refusal::TooMany);
         }
         let Some(subscription) = self.subscriptions.get(sub as usize) else {

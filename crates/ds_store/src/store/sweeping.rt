@@ -8,7 +8,8 @@ ghost use Rattle.ds_entry.specs.Change.{IsChange};
 ghost use Rattle.ds_entry.specs.Covers.{change_cmp};
 ghost use Rattle.ds_join.specs.Reading.{comes_after};
 ghost use Rattle.ds_join.specs.Top.{IsTop};
-ghost use Rattle.ds_store.specs.State.{State, accepts, last_place};
+ghost use Rattle.ds_store.specs.Limits.{most_keys, last_place};
+ghost use Rattle.ds_store.specs.State.{State, accepts};
 ghost use Rattle.ds_store.specs.Owed.{any_of};
 ghost use Rattle.ds_watch.specs.Followed.{owed_for, owed_each};
 ghost use Rattle.ds_store.specs.Judging.{held_at, is_swept, tombstone, tombstones, TakesPlace};
@@ -16,7 +17,8 @@ ghost use Rattle.ds_store.specs.Machine.{Step};
 ghost use Rattle.ds_store.specs.Stands.{Stands};
 
 use crate::command::{Command, Reply};
-use crate::judging::{LAST_PLACE, is_label, is_put, is_rs};
+use crate::judging::{is_label, is_put, is_rs};
+use crate::limits::{LAST_PLACE, SWEEPS_SEQ};
 use crate::refusal::Refusal;
 use crate::store::Store;
 use ds_entry::{Body, Change};
@@ -40,7 +42,7 @@ fn tombstone(change: &Change, owner: &Name, generation: Generation) -> Change
 {
     let version = Version {
         epoch: generation,
-        seq: u32::MAX,
+        seq: SWEEPS_SEQ,
     };
     match Change::make(*change.key(), *change.owner(), version, Body::Gone) {
         Ok(change) => change,
@@ -54,7 +56,7 @@ impl Store {
         ensures value { option_copied result ≡ find (comes_after (option_copied last.entry)) self.now.held }
         ensures change { IfSome (option_copied result) IsChange }
         ensures in_order { IsStrictlySortedBy change_cmp self.now.held }
-        ensures few { length self.now.held ≤ 1024 }
+        ensures few { length self.now.held ≤ most_keys }
     {
         let held = self.held.held();
         let _count = held.len();
@@ -64,7 +66,7 @@ impl Store {
     // How many entries a sweep ends.
     fn count_swept(&self, owner: &Name, generation: Generation) -> usize
         ensures count { result ≡ length (tombstones self.now.held owner.now generation) }
-        ensures few { result ≤ 1024 }
+        ensures few { result ≤ most_keys }
     {
         let mut count = 0;
         let mut last: Option<Key> = None;

@@ -1,7 +1,7 @@
 use Rattle.std.proofs.Common.{sym, inl, subst}
 use Rattle.ds_entry.specs.declared.body.Body.TheVariants.{Put, Gone}
 use Rattle.ds_store.specs.declared.command.Command.{Command}
-use Rattle.ds_store.specs.declared.store.asking.Asked.{Asked}
+use Rattle.ds_store.specs.Judging.{Request}
 use Rattle.ds_store.specs.Machine.{Answers, Step, asking, outcome}
 use Rattle.ds_store.proofs.store.Store.apply.Goals as goal
 
@@ -9,7 +9,7 @@ pub returns-in-Publish-clause-step : goal.returns-in-Publish-clause-step
 returns-in-Publish-clause-step c = λ s stands.
     let r = c.ask.ensures s stands in (
       r.0,
-      inl (subst (λ (x : Command). Answers s (outcome s x) c.ask.result r.0) (sym c.in-Publish.is) (subst (λ (a : Asked). Answers s (asking s a (Put c.in-Publish.value)) c.ask.result r.0) c.published.ensures r.1)),
+      inl (subst (λ (x : Command). Answers s (outcome s x) c.ask.result r.0) (sym c.in-Publish.is) (subst (λ (a : Request). Answers s (asking s a (Put c.in-Publish.value)) c.ask.result r.0) c.published.ensures r.1)),
       r.2,
     )
 
@@ -17,7 +17,7 @@ pub returns-in-Delete-clause-step : goal.returns-in-Delete-clause-step
 returns-in-Delete-clause-step c = λ s stands.
     let r = c.ask-in-Delete.ensures s stands in (
       r.0,
-      inl (subst (λ (x : Command). Answers s (outcome s x) c.ask-in-Delete.result r.0) (sym c.in-Delete.is) (subst (λ (a : Asked). Answers s (asking s a Gone) c.ask-in-Delete.result r.0) c.deleted.ensures r.1)),
+      inl (subst (λ (x : Command). Answers s (outcome s x) c.ask-in-Delete.result r.0) (sym c.in-Delete.is) (subst (λ (a : Request). Answers s (asking s a Gone) c.ask-in-Delete.result r.0) c.deleted.ensures r.1)),
       r.2,
     )
 

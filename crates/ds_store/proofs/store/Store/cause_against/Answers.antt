@@ -1,8 +1,9 @@
 use Rattle.std.proofs.Common.{◌≡◌, ◌<◌, ◌∙◌, IfNone, ap, subst}
 use Rattle.std.specs.Option.{option_copied}
 use Rattle.ds_join.specs.Held.{held_changes}
+use Rattle.ds_store.specs.Asked.{request_of}
 use Rattle.ds_store.specs.Content.{Content}
-use Rattle.ds_store.specs.State.{last_place}
+use Rattle.ds_store.specs.Limits.{last_place}
 use Rattle.ds_store.specs.Judging.{Standing, standing, standing_of, first_cause, against_asked, change_asked, TakesEffect}
 use Rattle.ds_store.proofs.AnswerLemmas.{standing_held}
 use Rattle.ds_store.proofs.store.Store.cause_against.Goals as goal
@@ -13,7 +14,7 @@ returns c =
     standing_held c.held-held.result.now c.args.self.now c.args.asked.now.key (option_copied c.get-held.result) c.len-count.result c.self.inside.position c.len-count.ensures.own
     (ap held_changes c.held-held.ensures.value ∙ ap (λ (v : Content). v.held) c.self.view_is) (ap (λ (v : Content). v.position) c.self.view_is) c.get-held.ensures.value c.len-count.ensures.count in
     record {
-      first = c.judge.ensures.first ∙ ap (λ (t : Standing). first_cause (against_asked t c.args.caller.now c.args.asked.now c.args.body.now)) same;
-      taken = subst (λ (t : Standing). IfNone c.judge.result (TakesEffect t.held t.count (change_asked c.args.caller.now c.args.asked.now c.args.body.now))) same c.judge.ensures.taken;
+      first = c.judge.ensures.first ∙ ap (λ (t : Standing). first_cause c.args.asked.now.version (against_asked t c.args.caller.now (request_of c.args.asked.now) c.args.body.now)) same;
+      taken = subst (λ (t : Standing). IfNone c.judge.result (TakesEffect t.held t.count (change_asked c.args.caller.now (request_of c.args.asked.now) c.args.body.now))) same c.judge.ensures.taken;
       room = subst (λ (t : Standing). IfNone c.judge.result (t.position < last_place)) same c.judge.ensures.room;
     }

@@ -6,12 +6,13 @@ use Rattle.ds_join.specs.Held.{Holding, held_changes}
 use Rattle.ds_join.proofs.HeldLemmas.{held_in_order}
 use Rattle.ds_watch.specs.Followed.{followed_of}
 use Rattle.ds_watch.specs.Watching.{Watching, watching, stamped, followed_by, followed_from}
-use Rattle.ds_store.specs.State.{last_place, subscribes, subscription_at}
+use Rattle.ds_store.specs.Limits.{places, most_items, last_place}
+use Rattle.ds_store.specs.State.{subscribes, subscription_at}
 use Rattle.ds_store.specs.Content.{Content}
 use Rattle.ds_store.specs.Kept.{AreMarked, unseen_at, content_of}
 use Rattle.ds_store.specs.Machine.{Answers, checking}
 use Rattle.ds_store.specs.Stands.{Stands}
-use Rattle.ds_store.specs.declared.judging.Cause.TheVariants.{NotFound}
+use Rattle.ds_store.specs.declared.refusal.Refusal.TheVariants.{NotFound}
 use Rattle.ds_store.specs.declared.command.Reply.TheVariants.{Checked}
 use Rattle.ds_store.proofs.CheckLemmas.{at_from, is_some-map, to_show_is, shown_so}
 use Rattle.ds_store.proofs.JudgeLemmas.{check_found}
@@ -26,14 +27,14 @@ returns-in_default c = λ s stands.
     let v = content_of c.self.inside in
     let u = unseen_at c.self.inside.held.marks in
     let here : Stands v s = subst (λ (x : Content). Stands x s) (sym c.self.view_is) stands in
-    let place : c.args.sub < 64 = omega (arith, c.if-sub-ge64.false) in
+    let place : c.args.sub < places = omega (arith, c.if-sub-ge-PLACES.false) in
     let low : 0 < c.args.max = omega (arith, c.if-max-eq0.false) in
-    let high : c.args.max ≤ 256 = omega (arith, c.if-max-gt256.false) in
+    let high : c.args.max ≤ most_items = omega (arith, c.if-max-gt-MOST_ITEMS.false) in
     let none : is_some (subscription_at s c.args.sub) ≡ false =
     sym (taken_same v s here c.args.sub) ∙ ap is_some (at_from v.held u 0 c.self.inside.subscriptions c.args.sub c.args.sub (omega arith)) ∙ is_some-map (followed_by v.held u c.args.sub) (get_or c.self.inside.subscriptions c.args.sub None)
     ∙ ap is_some (sym c.in_default.ensures) in (
       s,
-      check_refused s c.args.sub c.args.max NotFound (λ some stamp. check_found (is_some (subscription_at s c.args.sub)) some stamp c.args.sub c.args.max place low high none),
+      check_refused s c.args.sub c.args.max NotFound (λ x e f g. check_found x (subst (λ n. n < places) (sym f) place) (subst (λ n. 0 < n) (sym g) low) (subst (λ n. n ≤ most_items) (sym g) high) (e ∙ none)),
       stands,
     )
 
@@ -45,9 +46,9 @@ returns-then-count-eq0 c = λ s stands.
     let here : Stands v s = subst (λ (x : Content). Stands x s) (sym c.self.view_is) stands in
     let t = twin v s c.args.sub u c.self.inside.subscriptions w here refl (sym c.in-Some.ensures) in
     let sorted = held_in_order c.self.inside.held.held c.held.ensures.own in
-    let place : c.args.sub < 64 = omega (arith, c.if-sub-ge64.false) in
+    let place : c.args.sub < places = omega (arith, c.if-sub-ge-PLACES.false) in
     let low : 0 < c.args.max = omega (arith, c.if-max-eq0.false) in
-    let high : c.args.max ≤ 256 = omega (arith, c.if-max-gt256.false) in
+    let high : c.args.max ≤ most_items = omega (arith, c.if-max-gt-MOST_ITEMS.false) in
     let items : c.in-Ok.shown.items ≡ take c.args.max (to_show v s here c.args.sub c.args.max u w t place low high) =
     first_are c.self.inside.held c.args.sub c.args.max c.in-Ok.shown.items c.in-Ok.shown.passed c.in-Ok.ensures.first ∙ ap (take c.args.max) (to_show_is v.held sorted u c.args.sub w t.seer t.same) in
     let nothing : length c.in-Ok.shown.items ≡ 0 = sym c.len-count.ensures.count ∙ c.if-count-eq0.true in
@@ -66,9 +67,9 @@ returns-then-self-ge-LAST_PLACE-2 c = λ s stands.
     let here : Stands v s = subst (λ (x : Content). Stands x s) (sym c.self.view_is) stands in
     let t = twin v s c.args.sub u c.self.inside.subscriptions w here refl (sym c.in-Some.ensures) in
     let sorted = held_in_order c.self.inside.held.held c.held.ensures.own in
-    let place : c.args.sub < 64 = omega (arith, c.if-sub-ge64.false) in
+    let place : c.args.sub < places = omega (arith, c.if-sub-ge-PLACES.false) in
     let low : 0 < c.args.max = omega (arith, c.if-max-eq0.false) in
-    let high : c.args.max ≤ 256 = omega (arith, c.if-max-gt256.false) in
+    let high : c.args.max ≤ most_items = omega (arith, c.if-max-gt-MOST_ITEMS.false) in
     let items : c.in-Ok.shown.items ≡ take c.args.max (to_show v s here c.args.sub c.args.max u w t place low high) =
     first_are c.self.inside.held c.args.sub c.args.max c.in-Ok.shown.items c.in-Ok.shown.passed c.in-Ok.ensures.first ∙ ap (take c.args.max) (to_show_is v.held sorted u c.args.sub w t.seer t.same) in
     let some : 0 < length (take c.args.max (to_show v s here c.args.sub c.args.max u w t place low high)) = omega (arith, ap (λ (l : List ChangeRecord). length l) items, c.len-count.ensures.count, c.if-count-eq0.false) in
@@ -82,14 +83,14 @@ returns-in-Err c = λ s stands.
     let w = c.in-Some.subscription.now in
     let here : Stands v s = subst (λ (x : Content). Stands x s) (sym c.self.view_is) stands in
     let t = twin v s c.args.sub u c.self.inside.subscriptions w here refl (sym c.in-Some.ensures) in
-    let place : c.args.sub < 64 = omega (arith, c.if-sub-ge64.false) in
+    let place : c.args.sub < places = omega (arith, c.if-sub-ge-PLACES.false) in
     let low : 0 < c.args.max = omega (arith, c.if-max-eq0.false) in
-    let high : c.args.max ≤ 256 = omega (arith, c.if-max-gt256.false) in
+    let high : c.args.max ≤ most_items = omega (arith, c.if-max-gt-MOST_ITEMS.false) in
     (s, check_worn v s here c.args.sub c.args.max u w t place low high (flagged_any v s here c.args.sub c.args.max u w t place low high c.in-Err.ensures.refused) c.if-self-ge-LAST_PLACE.true, stands)
 
 -- the places after the check
-places : (c : After-set_stamp) → c.set_stamp.new.self ≡ set c.self.inside.subscriptions c.args.sub (Some (watching c.in-Some.subscription.now.query (c.self.inside.stamp + 1)))
-places c =
+new_places : (c : After-set_stamp) → c.set_stamp.new.self ≡ set c.self.inside.subscriptions c.args.sub (Some (watching c.in-Some.subscription.now.query (c.self.inside.stamp + 1)))
+new_places c =
     c.set_stamp.ensures ∙ ap (λ o. set c.self.inside.subscriptions c.args.sub (option_map (stamped (c.self.inside.stamp + 1)) o)) (sym c.in-Some.ensures)
 
 pub invariant_of-self : goal.invariant_of-self
@@ -99,8 +100,8 @@ invariant_of-self c =
     record {
       position = c.self.invariant.position;
       stamp = omega (arith, c.if-self-ge-LAST_PLACE-2.false);
-      places = ap (λ (l : List (Option Watching)). length l) (places d) ∙ length-set c.self.inside.subscriptions c.args.sub (Some w) ∙ c.self.invariant.places;
-      marked = subst (λ ws. AreMarked (held_changes c.show_first.new.held.held) c.show_first.new.held.marks ws) (sym (places d))
+      places = ap (λ (l : List (Option Watching)). length l) (new_places d) ∙ length-set c.self.inside.subscriptions c.args.sub (Some w) ∙ c.self.invariant.places;
+      marked = subst (λ ws. AreMarked (held_changes c.show_first.new.held.held) c.show_first.new.held.marks ws) (sym (new_places d))
           (subst (λ (h : Holding). AreMarked (held_changes h) c.show_first.new.held.marks (set c.self.inside.subscriptions c.args.sub (Some w))) (sym c.show_first.ensures.held)
           (checked_marked c.self.inside.held c.show_first.new.held c.in-Ok.shown.passed c.args.sub c.show_first.ensures c.self.inside.subscriptions c.in-Some.subscription.now (c.self.inside.stamp + 1) (sym c.in-Some.ensures) c.self.invariant.marked));
     }
@@ -119,9 +120,9 @@ returns c = λ s stands.
     let here : Stands v s = subst (λ (x : Content). Stands x s) (sym c.self.view_is) stands in
     let t : Twin v s sub u w = twin v s sub u c.self.inside.subscriptions w here refl (sym c.in-Some.ensures) in
     let sorted = held_in_order old.held c.held.ensures.own in
-    let place : sub < 64 = omega (arith, c.if-sub-ge64.false) in
+    let place : sub < places = omega (arith, c.if-sub-ge-PLACES.false) in
     let low : 0 < max = omega (arith, c.if-max-eq0.false) in
-    let high : max ≤ 256 = omega (arith, c.if-max-gt256.false) in
+    let high : max ≤ most_items = omega (arith, c.if-max-gt-MOST_ITEMS.false) in
     let items : shown.items ≡ take max (to_show v s here sub max u w t place low high) =
     first_are old sub max shown.items shown.passed c.in-Ok.ensures.first ∙ ap (take max) (to_show_is v.held sorted u sub w t.seer t.same) in
     let some : 0 < length (take max (to_show v s here sub max u w t place low high)) = omega (arith, ap (λ (l : List ChangeRecord). length l) items, c.len-count.ensures.count, c.if-count-eq0.false) in
@@ -137,5 +138,5 @@ returns c = λ s stands.
       subst (λ n. Answers s (checking s sub max) (Checked shown.items n (v.stamp + 1)) state) (sym c.stamp-before.ensures)
           (check_done v s here sub max u w t place low high (taken_any v s here sub max u w t place low high some) some shown.items fresh items),
       subst (λ (h : Holding). Stands (record v { held = held_changes h; stamp = v.stamp + 1; subscriptions = followed_from (held_changes h) (unseen_at new.marks) 0 c.set_stamp.new.self }) state) (sym c.show_first.ensures.held)
-          (subst (λ (ws : List (Option Watching)). Stands (record v { stamp = v.stamp + 1; subscriptions = followed_from v.held (unseen_at new.marks) 0 ws }) state) (sym (places d)) stood),
+          (subst (λ (ws : List (Option Watching)). Stands (record v { stamp = v.stamp + 1; subscriptions = followed_from v.held (unseen_at new.marks) 0 ws }) state) (sym (new_places d)) stood),
     )

@@ -1,4 +1,4 @@
-use Rattle.std.proofs.Common.{◌≡◌, ◌+◌, List, Bool, Option, Some, None, length, map, get_or, set, cond, ◌&&◌, ◌^◌, is_some, refl, ap, sym, ◌∙◌, subst, arith}
+use Rattle.std.proofs.Common.{◌≡◌, ◌+◌, List, Bool, Option, Some, None, length, map, set, cond, ◌&&◌, ◌^◌, refl, ap, sym, ◌∙◌, subst, arith}
 use Rattle.std.proofs.lemmas.List.{length-set}
 use Rattle.std.specs.List.{list_any}
 use Rattle.ds_entry.specs.Change.{ChangeRecord}
@@ -8,9 +8,9 @@ use Rattle.ds_pattern.specs.Under.{is_under}
 use Rattle.ds_watch.specs.Watching.{Watching, watching, followed_from}
 use Rattle.ds_store.specs.State.{subscribes}
 use Rattle.ds_store.specs.Content.{Content}
-use Rattle.ds_store.specs.Kept.{AreMarked, unseen_at, content_of}
+use Rattle.ds_store.specs.Kept.{AreMarked, unseen_at, content_of, subscribe_case_at}
 use Rattle.ds_store.specs.Machine.{shown_at_first, owed_at_first}
-use Rattle.ds_store.specs.Judging.{first_cause, against_subscribe}
+use Rattle.ds_store.specs.Judging.{first_refusal, against_subscribe}
 use Rattle.ds_store.specs.Stands.{Stands}
 use Rattle.ds_store.proofs.RemarkLemmas.{made_flag, made_other, made_marked}
 use Rattle.ds_store.proofs.SubscribeLemmas.{subscribe_refused, subscribe_made, subscribed_stands, any_flags}
@@ -56,8 +56,8 @@ returns c = λ s stands.
     let old = c.self.inside.held in
     let new = c.make_all.new.held in
     let here : Stands v s = subst (λ (x : Content). Stands x s) (sym c.self.view_is) stands in
-    let none : first_cause (against_subscribe (is_some (get_or v.subscriptions sub None)) v.stamp sub query.text c.args.overwrite) ≡ None =
-    subst (λ (x : Content). first_cause (against_subscribe (is_some (get_or x.subscriptions sub None)) x.stamp sub query.text c.args.overwrite) ≡ None) (sym c.self.view_is) c.in-Ok.ensures.none in
+    let none : first_refusal (against_subscribe (subscribe_case_at v sub query c.args.overwrite)) ≡ None =
+    subst (λ (x : Content). first_refusal (against_subscribe (subscribe_case_at x sub query c.args.overwrite)) ≡ None) (sym c.self.view_is) c.in-Ok.ensures.none in
     let under : ChangeRecord → Bool = λ (x : ChangeRecord). is_under query x.key in
     let some : c.has_any-is_any.result ≡ list_any (λ (x : ChangeRecord). is_under query x.key) v.held =
     c.has_any-is_any.ensures ∙ ap (list_any (λ b. b)) (c.deref.ensures.value ∙ sym c.deref-2.ensures.value ∙ flags d) ∙ any_flags (λ (x : ChangeRecord). is_under query x.key) v.held in

@@ -6,7 +6,8 @@ use Rattle.ds_watch.specs.Mask.{mask}
 use Rattle.ds_store.proofs.OwedLemmas.{all_owed}
 use Rattle.ds_store.specs.Content.{Content}
 use Rattle.ds_store.specs.Kept.{unseen_at}
-use Rattle.ds_store.specs.State.{accepts, owed, last_place}
+use Rattle.ds_store.specs.Limits.{last_place}
+use Rattle.ds_store.specs.State.{accepts, owed}
 use Rattle.ds_store.specs.Judging.{is_rs, tombstones}
 use Rattle.ds_store.proofs.CheckLemmas.{length_from}
 use Rattle.ds_store.proofs.SweepLemmas.{sweep_done}
