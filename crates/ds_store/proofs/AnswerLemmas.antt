@@ -1,5 +1,5 @@
 -- What commands are answered, in the words of a store's content.
-use Rattle.std.proofs.Common.{◌≡◌, ℕ, List, [], ◌∷◌, length, Option, Some, None, Result, Ok, Err, refl, ap, ap₂, sym, ◌∙◌, subst, inl, arith}
+use Rattle.std.proofs.Common.{◌≡◌, ℕ, true, List, [], ◌∷◌, length, Option, Some, None, is_some, Result, Ok, Err, refl, ap, ap₂, sym, ◌∙◌, subst, inl, arith}
 use Rattle.std.proofs.lemmas.Cmp.{tied_itself}
 use Rattle.std.specs.declared.cmp.Ordering.TheVariants.{Less, Equal, Greater}
 use Rattle.std.specs.Option.{option_map, option_and_then}
@@ -9,6 +9,7 @@ use Rattle.ds_names.specs.declared.version.Version.{Version}
 use Rattle.ds_names.specs.Version.{version_cmp}
 use Rattle.ds_names.proofs.OrderLemmas.{versions_total}
 use Rattle.ds_entry.specs.declared.body.Body.{Body}
+use Rattle.ds_entry.specs.declared.body.Value.{Value}
 use Rattle.ds_entry.specs.Change.{ChangeRecord}
 use Rattle.ds_join.specs.declared.merge.Merge.{Merge}
 use Rattle.ds_join.specs.declared.merge.Merge.TheVariants.{Taken, Known, Stale}
@@ -21,7 +22,7 @@ use Rattle.ds_join.specs.Top.{tops}
 use Rattle.ds_store.specs.State.{State, accepts, owed}
 use Rattle.ds_store.specs.Content.{Content}
 use Rattle.ds_store.specs.Judging.{Request, standing, standing_of, held_at, first_cause, against_asked, against_change, change_asked, name_of, TakesEffect}
-use Rattle.ds_store.specs.Machine.{Answers, asking, answer_for, cause_against, cause_of, retrieving, found_or}
+use Rattle.ds_store.specs.Machine.{Answers, asking, answer_for, cause_against, cause_of, live_at, retrieving, found_or}
 use Rattle.ds_store.specs.Stands.{Stands}
 use Rattle.ds_store.specs.Kept.{IsTakenOrNoRoom}
 use Rattle.ds_store.specs.declared.judging.Cause.{Cause}
@@ -64,6 +65,13 @@ item_cause v s c o stands first =
     sym (first ∙ ap₂ (λ hs p. first_cause c.version (against_change (standing_of hs p c.key) c)) stands.held stands.position)
 
 -- ---- a value
+live_of : (h : Holding) (v : Content) (s : State) (key : Key) (o : Option ChangeRecord) → IsOwn h → Stands v s → v.held ≡ held_changes h → o ≡ held_for h key → live_at s key ≡ option_and_then value_of o
+live_of h v s key o own stands is e = ap (option_and_then value_of) (sym (e ∙ sym (held_at-is h own key) ∙ ap (λ hs. held_at hs key) (sym is ∙ stands.held)))
+
+-- the value that is to be copied is there
+pub live_there : (h : Holding) (v : Content) (s : State) (key : Key) (c : ChangeRecord) (value : Value) → IsOwn h → Stands v s → v.held ≡ held_changes h → Some c ≡ held_for h key → value_of c ≡ Some value → is_some (live_at s key) ≡ true
+live_there h v s key c value own stands is e put = ap is_some (live_of h v s key (Some c) own stands is e ∙ put)
+
 pub retrieved : (h : Holding) (v : Content) (s : State) (key : Key) (o : Option ChangeRecord) → IsOwn h → Stands v s → v.held ≡ held_changes h → o ≡ held_for h key → Answers s (retrieving s key) (found_or (option_map Found (option_and_then value_of o))) s
 retrieved h v s key o own stands is e =
     let here : o ≡ held_at (tops s.accepted) key = e ∙ sym (held_at-is h own key) ∙ ap (λ hs. held_at hs key) (sym is ∙ stands.held) in

@@ -14,3 +14,4 @@ pub mod CheckLemmas
 pub mod JudgeLemmas
 pub mod SubscribeLemmas
 pub mod CrossingLemmas
+pub mod LastLemmas

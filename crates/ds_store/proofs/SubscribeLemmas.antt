@@ -223,6 +223,12 @@ module _ (v : Content) (s : State) (stands : Stands v s) (sub max : ℕ) (u : Ke
         let now : checking s sub max ≡ (Refused refusals.Worn, s) = checking_is ∙ ap₂ (λ a b. outcome_at (cond (a && b) (Some refusals.Worn) None)) shows_any worn in
         inl (record { reply_is = sym (ap (λ (x : Reply × State). x.0) now); state_is = sym (ap (λ (x : Reply × State). x.1) now) })
 
+    pub check_free : v.stamp < last_place → first_refusal (against_check (check_case s sub max (subscription_at s sub))) ≡ None
+    check_free l =
+        let fresh : nat_le last_place s.stamp ≡ false = fresh_stamp s.stamp (subst (λ n. n < last_place) stands.stamp l) in
+        ap (λ o. first_refusal (against_check (check_case s sub max o))) t.here ∙ check_left (check_case s sub max (Some t.seer)) place low high refl
+        ∙ ap₂ (λ a b. cond (a && b) (Some refusals.Worn) None) shows_any fresh
+
     pub check_done : 0 < length (take max to_show) → (items : List ChangeRecord) → v.stamp < last_place → items ≡ take max to_show → Answers s (checking s sub max) (Checked items w.stamp (v.stamp + 1)) (subscribes s sub t.seer.query (t.seer.shown ++ items))
     check_done some items l e =
         let fresh : nat_le last_place s.stamp ≡ false = fresh_stamp s.stamp (subst (λ n. n < last_place) stands.stamp l) in

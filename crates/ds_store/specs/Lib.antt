@@ -3,6 +3,7 @@ pub mod State
 pub mod Content
 pub mod Judging
 pub mod Machine
+pub mod Last
 pub mod Stands
 -- what bodies alone speak of: how a store keeps its content
 pub mod Owed

@@ -57,6 +57,7 @@ impl Model for Store {
 
 impl Store {
     ghost use Rattle.ds_store.specs.Machine.{Answers, Step, TakesNoMemory, retrieving, naming, IsKindInPlace};
+    ghost use Rattle.ds_store.specs.Last.{IsLast};
 
     /// A store of this incarnation that holds nothing yet and whose first change will have the position
     /// `first`. BadRing unless the ring is 1 to 4096, then BadFirst above 2^62.
@@ -91,6 +92,7 @@ impl Store {
     pub fn apply(&mut self, command: Command) -> Reply
         ensures step { (s : State) → Stands self.old s → (t : State) × Step s command result t × Stands self.new t }
         ensures in_place { TakesNoMemory command → result ≢ Reply.Refused Refusal.NoRoom }
+        ensures last { (s : State) → Stands self.old s → IsLast s command result }
     {
         match command {
             Command::Publish {
@@ -192,6 +194,7 @@ impl Store {
     fn retrieve(&self, key: Key) -> Reply
         ensures answer { (s : State) → Stands self.now s → Answers s (retrieving s key) result s }
         ensures in_place { IsKindInPlace key.kind → result ≢ Reply.Refused Refusal.NoRoom }
+        ensures last { (s : State) → Stands self.now s → IsLast s (Command.Retrieve key) result }
     {
         let held = self.held.held();
         let Some(change) = held.get(&key) else {

@@ -7,7 +7,7 @@ ghost use Rattle.ds_store.specs.Asked.{request_of};
 ghost use Rattle.ds_store.specs.Limits.{last_place};
 ghost use Rattle.ds_store.specs.State.{State};
 ghost use Rattle.ds_entry.specs.ChangeFault.{IsFaultOf};
-ghost use Rattle.ds_store.specs.Machine.{Answers, asking, answer_for};
+ghost use Rattle.ds_store.specs.Machine.{Answers, asking, answer_for, cause_against};
 ghost use Rattle.ds_store.specs.Judging.{first_cause, by_held, standing, standing_of, held_at, name_of, is_of_kind, is_label_body, is_label_change, is_callers_version, against_asked, TakesEffect, change_asked, published, deleted};
 ghost use Rattle.ds_store.specs.Stands.{Stands};
 
@@ -221,7 +221,8 @@ impl Store {
 
     // What a caller asks for takes effect, unless a cause stands against it.
     pub(super) fn ask(&mut self, asked: &Asked, body: Body) -> Reply
-        ensures { (s : State) → Stands self.old s → (t : State) × Answers s (asking s (request_of asked.now) body) result t × Stands self.new t }
+        ensures step { (s : State) → Stands self.old s → (t : State) × Answers s (asking s (request_of asked.now) body) result t × Stands self.new t }
+        ensures last { result ≡ Reply.Refused Refusal.NoRoom → (s : State) → Stands self.old s → cause_against s (request_of asked.now) body ≡ None }
     {
         let caller = self.caller_of(asked);
         if let Some(cause) = self.cause_against(asked, &body, &caller) {

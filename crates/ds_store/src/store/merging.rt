@@ -1,10 +1,11 @@
 //! Merges of what another holder gives.
 
-ghost use Rattle.std.specs.Prelude.{◌≡◌, ◌<◌, length, IfNone};
+ghost use Rattle.std.specs.Prelude.{◌≡◌, ◌<◌, length, None, IfNone};
 ghost use Rattle.ds_store.specs.Limits.{last_place};
 ghost use Rattle.ds_store.specs.State.{State};
 ghost use Rattle.ds_watch.specs.Followed.{owed_for};
-ghost use Rattle.ds_store.specs.Machine.{Step, MergesItem, taken_by, stale_by, passed_as};
+ghost use Rattle.ds_store.specs.Machine.{Step, MergesItem, cause_of, taken_by, stale_by, passed_as};
+ghost use Rattle.ds_store.specs.Last.{IsLast};
 ghost use Rattle.ds_store.specs.Owed.{owed_after};
 ghost use Rattle.ds_store.specs.Judging.{first_cause, standing_of, held_at, against_change, TakesEffect};
 ghost use Rattle.ds_store.specs.Stands.{Stands};
@@ -37,6 +38,7 @@ impl Store {
         ensures owed { total.new ≡ owed_after result total.old (owed_for item.now.key self.old.subscriptions) }
         ensures queries { (key : Key) → owed_for key self.new.subscriptions ≡ owed_for key self.old.subscriptions }
         ensures step { (s : State) → Stands self.old s → (t : State) × MergesItem s item.now result t × Stands self.new t }
+        ensures last { result ≡ Err Refusal.NoRoom → (s : State) → Stands self.old s → cause_of s item.now ≡ None }
     {
         if let Some(cause) = self.cause_of(item) {
             return passed_as(cause);
@@ -58,7 +60,8 @@ impl Store {
 
     // The items take effect in order, up to the first that is refused.
     pub(super) fn merge(&mut self, items: &Items) -> Reply
-        ensures { (s : State) → Stands self.old s → (t : State) × Step s (Command.Merge items.now) result t × Stands self.new t }
+        ensures step { (s : State) → Stands self.old s → (t : State) × Step s (Command.Merge items.now) result t × Stands self.new t }
+        ensures last { (s : State) → Stands self.old s → IsLast s (Command.Merge items.now) result }
     {
         if items.len() > MOST_ITEMS {
             return Reply::Refused(Refusal::TooMany);

@@ -1,15 +1,16 @@
 //! Subscriptions and their checks.
 
 ghost use Rattle.std.specs.Prelude.{◌≡◌, ◌<◌, ◌^◌, ◌&&◌, cond, None, IfOk, IfErr, OnOk};
-ghost use Rattle.std.specs.List.{list_any};
+ghost use Rattle.std.specs.List.{find, list_any};
 ghost use Rattle.ds_store.specs.Limits.{places, last_place};
 ghost use Rattle.ds_store.specs.State.{State};
 ghost use Rattle.ds_store.specs.Judging.{first_refusal, against_subscribe};
 ghost use Rattle.ds_store.specs.Kept.{subscribe_case_at};
 ghost use Rattle.ds_store.specs.Machine.{Answers, subscribing, checking, IsRefusedFor, refusal_of};
+ghost use Rattle.ds_store.specs.Last.{IsLast, before_patterns};
 ghost use Rattle.ds_store.specs.Stands.{Stands};
 
-use crate::command::Reply;
+use crate::command::{Command, Reply};
 use crate::limits::{LAST_PLACE, MOST_ITEMS, PLACES};
 use crate::refusal::Refusal;
 use crate::store::Store;
@@ -52,6 +53,7 @@ impl Store {
         ensures place { OnOk result (sub < places) }
         ensures room { OnOk result (self.now.stamp < last_place) }
         ensures refused { IfErr result (IsRefusedFor (first_refusal (against_subscribe (subscribe_case_at self.now sub query.now overwrite)))) }
+        ensures last { result ≡ Err Refusal.NoRoom → find (against_subscribe (subscribe_case_at self.now sub query.now overwrite)) before_patterns ≡ None }
     {
         if sub >= PLACES {
             return Err(Refusal::BadSub);
@@ -77,7 +79,8 @@ impl Store {
         initial: bool,
         overwrite: bool,
     ) -> Reply
-        ensures { (s : State) → Stands self.old s → (t : State) × Answers s (subscribing s sub query.now initial overwrite) result t × Stands self.new t }
+        ensures step { (s : State) → Stands self.old s → (t : State) × Answers s (subscribing s sub query.now initial overwrite) result t × Stands self.new t }
+        ensures last { (s : State) → Stands self.old s → IsLast s (Command.Subscribe sub query.now initial overwrite) result }
     {
         let filter = match self.take_up(sub, query, overwrite) {
             Ok(filter) => filter,
@@ -100,7 +103,8 @@ impl Store {
 
     // The first `max` changes that are to be shown to the subscription at the place are shown.
     pub(super) fn check(&mut self, sub: u32, max: u32) -> Reply
-        ensures { (s : State) → Stands self.old s → (t : State) × Answers s (checking s sub max) result t × Stands self.new t }
+        ensures step { (s : State) → Stands self.old s → (t : State) × Answers s (checking s sub max) result t × Stands self.new t }
+        ensures last { (s : State) → Stands self.old s → IsLast s (Command.Check sub max) result }
     {
         if sub >= PLACES {
             return Reply::Refused(Refusal::BadSub);

@@ -14,6 +14,7 @@ ghost use Rattle.ds_store.specs.Owed.{any_of};
 ghost use Rattle.ds_watch.specs.Followed.{owed_for, owed_each};
 ghost use Rattle.ds_store.specs.Judging.{held_at, is_swept, tombstone, tombstones, TakesPlace};
 ghost use Rattle.ds_store.specs.Machine.{Step};
+ghost use Rattle.ds_store.specs.Last.{IsLast};
 ghost use Rattle.ds_store.specs.Stands.{Stands};
 
 use crate::command::{Command, Reply};
@@ -129,7 +130,8 @@ impl Store {
 
     // RS ends all live entries of an owner, labels aside, up to a generation.
     pub(super) fn sweep(&mut self, caller: Endpoint, owner: &Name, generation: Generation) -> Reply
-        ensures { (s : State) → Stands self.old s → (t : State) × Step s (Command.Sweep caller owner.now generation) result t × Stands self.new t }
+        ensures step { (s : State) → Stands self.old s → (t : State) × Step s (Command.Sweep caller owner.now generation) result t × Stands self.new t }
+        ensures last { (s : State) → Stands self.old s → IsLast s (Command.Sweep caller owner.now generation) result }
     {
         if !is_rs(caller) {
             return Reply::Refused(Refusal::NotAllowed);

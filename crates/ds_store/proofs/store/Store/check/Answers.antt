@@ -18,12 +18,12 @@ use Rattle.ds_store.proofs.CheckLemmas.{at_from, is_some-map, to_show_is, shown_
 use Rattle.ds_store.proofs.JudgeLemmas.{check_found}
 use Rattle.ds_store.proofs.RemarkLemmas.{check_others, check_first, check_rest, checked_marked}
 use Rattle.ds_store.proofs.StandsLemmas.{no_length}
-use Rattle.ds_store.proofs.SubscribeLemmas.{Twin, twin, taken_same, check_refused, check_empty, check_worn, check_done, taken_any, flagged_any, stands_subscribed, shown_part, first_are, to_show}
+use Rattle.ds_store.proofs.SubscribeLemmas.{Twin, twin, taken_same, check_refused, check_empty, check_worn, check_free, check_done, taken_any, flagged_any, stands_subscribed, shown_part, first_are, to_show}
 use Rattle.ds_store.proofs.store.Store.check.Goals as goal
 use Rattle.ds_store.proofs.store.Store.check.Goals.{After-set_stamp}
 
-pub returns-in_default : goal.returns-in_default
-returns-in_default c = λ s stands.
+pub returns-in_default-clause-step : goal.returns-in_default-clause-step
+returns-in_default-clause-step c = λ s stands.
     let v = content_of c.self.inside in
     let u = unseen_at c.self.inside.held.marks in
     let here : Stands v s = subst (λ (x : Content). Stands x s) (sym c.self.view_is) stands in
@@ -38,8 +38,8 @@ returns-in_default c = λ s stands.
       stands,
     )
 
-pub returns-then-count-eq0 : goal.returns-then-count-eq0
-returns-then-count-eq0 c = λ s stands.
+pub returns-then-count-eq0-clause-step : goal.returns-then-count-eq0-clause-step
+returns-then-count-eq0-clause-step c = λ s stands.
     let v = content_of c.self.inside in
     let u = unseen_at c.self.inside.held.marks in
     let w = c.in-Some.subscription.now in
@@ -59,8 +59,8 @@ returns-then-count-eq0 c = λ s stands.
       stands,
     )
 
-pub returns-then-self-ge-LAST_PLACE-2 : goal.returns-then-self-ge-LAST_PLACE-2
-returns-then-self-ge-LAST_PLACE-2 c = λ s stands.
+pub returns-then-self-ge-LAST_PLACE-2-clause-step : goal.returns-then-self-ge-LAST_PLACE-2-clause-step
+returns-then-self-ge-LAST_PLACE-2-clause-step c = λ s stands.
     let v = content_of c.self.inside in
     let u = unseen_at c.self.inside.held.marks in
     let w = c.in-Some.subscription.now in
@@ -76,8 +76,8 @@ returns-then-self-ge-LAST_PLACE-2 c = λ s stands.
     (s, check_worn v s here c.args.sub c.args.max u w t place low high (taken_any v s here c.args.sub c.args.max u w t place low high some) c.if-self-ge-LAST_PLACE-2.true, stands)
 
 -- what wants memory is to be shown, and takes a stamp
-pub returns-in-Err : goal.returns-in-Err
-returns-in-Err c = λ s stands.
+pub returns-in-Err-clause-step : goal.returns-in-Err-clause-step
+returns-in-Err-clause-step c = λ s stands.
     let v = content_of c.self.inside in
     let u = unseen_at c.self.inside.held.marks in
     let w = c.in-Some.subscription.now in
@@ -106,9 +106,9 @@ invariant_of-self c =
           (checked_marked c.self.inside.held c.show_first.new.held c.in-Ok.shown.passed c.args.sub c.show_first.ensures c.self.inside.subscriptions c.in-Some.subscription.now (c.self.inside.stamp + 1) (sym c.in-Some.ensures) c.self.invariant.marked));
     }
 
-pub returns : goal.returns
-returns c = λ s stands.
-    let d = (goal.at.returns c).After-set_stamp in
+pub returns-clause-step : goal.returns-clause-step
+returns-clause-step c = λ s stands.
+    let d = (goal.at.returns-clause-step c).After-set_stamp in
     let v = content_of c.self.inside in
     let old = c.self.inside.held in
     let new = c.show_first.new.held in
@@ -140,3 +140,15 @@ returns c = λ s stands.
       subst (λ (h : Holding). Stands (record v { held = held_changes h; stamp = v.stamp + 1; subscriptions = followed_from (held_changes h) (unseen_at new.marks) 0 c.set_stamp.new.self }) state) (sym c.show_first.ensures.held)
           (subst (λ (ws : List (Option Watching)). Stands (record v { stamp = v.stamp + 1; subscriptions = followed_from v.held (unseen_at new.marks) 0 ws }) state) (sym (new_places d)) stood),
     )
+
+pub returns-in-Err-2-clause-last : goal.returns-in-Err-2-clause-last
+returns-in-Err-2-clause-last c = λ s stands.
+    let v = content_of c.self.inside in
+    let u = unseen_at c.self.inside.held.marks in
+    let w = c.in-Some.subscription.now in
+    let here : Stands v s = subst (λ (x : Content). Stands x s) (sym c.self.view_is) stands in
+    let t = twin v s c.args.sub u c.self.inside.subscriptions w here refl (sym c.in-Some.ensures) in
+    let place : c.args.sub < places = omega (arith, c.if-sub-ge-PLACES.false) in
+    let low : 0 < c.args.max = omega (arith, c.if-max-eq0.false) in
+    let high : c.args.max ≤ most_items = omega (arith, c.if-max-gt-MOST_ITEMS.false) in
+    check_free v s here c.args.sub c.args.max u w t place low high (flagged_any v s here c.args.sub c.args.max u w t place low high c.in-Err-2.ensures.refused) c.if-self-ge-LAST_PLACE.false

@@ -12,8 +12,8 @@ use Rattle.ds_store.proofs.MarkLemmas.{owed_as}
 use Rattle.ds_store.proofs.OwedLemmas.{item_owed}
 use Rattle.ds_store.proofs.store.Store.merge.Goals as goal
 
-pub returns-in-Err : goal.returns-in-Err
-returns-in-Err c = λ s stands.
+pub returns-in-Err-clause-step : goal.returns-in-Err-clause-step
+returns-in-Err-clause-step c = λ s stands.
     let at = c.loop-item.invariant.reached s stands in
     let next = c.in-Err.ensures.step (course s (take c.loop-item.done c.args.items.now)).state at.1 in
     let item : slice_get c.args.items.now c.loop-item.done ≡ Some c.in-Some.item.now = sym (subst (λ o. option_copied o ≡ slice_get c.args.items.now c.loop-item.done) c.in-Some.is c.get.ensures) in (
@@ -54,8 +54,8 @@ loop-item-preserved c =
           (there.0, subst (λ (t : State). Stands c.merge_item.new.self t) there.1 next.2));
     }
 
-pub returns : goal.returns
-returns c = λ s stands.
+pub returns-clause-step : goal.returns-clause-step
+returns-clause-step c = λ s stands.
     let at = c.loop-item.invariant.reached s stands in
     let gone : slice_get c.args.items.now c.loop-item.done ≡ None = sym (subst (λ o. option_copied o ≡ slice_get c.args.items.now c.loop-item.done) c.in_default.is c.get.ensures) in (
       (course s (take c.loop-item.done c.args.items.now)).state,

@@ -17,8 +17,8 @@ use Rattle.ds_store.proofs.SubscribeLemmas.{subscribe_refused, subscribe_made, s
 use Rattle.ds_store.proofs.store.Store.subscribe.Goals as goal
 use Rattle.ds_store.proofs.store.Store.subscribe.Goals.{After-put}
 
-pub returns-in-Err : goal.returns-in-Err
-returns-in-Err c = λ s stands.
+pub returns-in-Err-clause-step : goal.returns-in-Err-clause-step
+returns-in-Err-clause-step c = λ s stands.
     (s, subscribe_refused c.args.self.now s stands c.args.sub c.args.query.now c.args.initial c.args.overwrite c.in-Err.refusal c.in-Err.ensures.refused, stands)
 
 -- the flags are those of the query
@@ -46,9 +46,9 @@ invariant_of-self c =
           (made_marked c.self.inside.held c.make_all.new.held c.args.sub c.in-Ok.ensures.place c.args.query.now c.args.initial c.deref-2.result.now (flags d) c.make_all.ensures c.self.inside.subscriptions w refl c.self.invariant.marked));
     }
 
-pub returns : goal.returns
-returns c = λ s stands.
-    let d = (goal.at.returns c).After-put in
+pub returns-clause-step : goal.returns-clause-step
+returns-clause-step c = λ s stands.
+    let d = (goal.at.returns-clause-step c).After-put in
     let v = content_of c.self.inside in
     let sub = c.args.sub in
     let query = c.args.query.now in

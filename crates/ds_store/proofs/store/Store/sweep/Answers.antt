@@ -13,8 +13,8 @@ use Rattle.ds_store.proofs.CheckLemmas.{length_from}
 use Rattle.ds_store.proofs.SweepLemmas.{sweep_done}
 use Rattle.ds_store.proofs.store.Store.sweep.Goals as goal
 
-pub returns : goal.returns
-returns c = λ s stands.
+pub returns-clause-step : goal.returns-clause-step
+returns-clause-step c = λ s stands.
     let v = c.args.self.now in
     let rs : is_rs c.args.caller ≡ true = sym c.is_rs.ensures ∙ c.if-not-is_rs.false in
     let at : c.self.inside.position ≡ v.position = ap (λ (x : Content). x.position) c.self.view_is in
