@@ -91,14 +91,19 @@ def refused(script, ran):
     return harness.difference(ran.output, "".join(it + "\n" for it in wanted).encode())
 
 
-def report(program, long, short):
-    """Compares the long scripts and the short ones, each with its name, refuses the short ones memory, and reports."""
+def report(program, long, short, others=()):
+    """Compares the long scripts and the short ones, each with its name, refuses the short ones memory, and reports.
+
+    `others` has what else is tried: a name, a function that says what is wrong or answers None, and what it is given.
+    """
     compared = long + short
     named = list(zip([name for name, _ in compared], harness.at_once(lambda it: agreement(program, it[1]), compared)))
     with tempfile.TemporaryDirectory() as room:
         refuser = refusals.Refuser(program, room)
         found = harness.at_once(lambda it: growths(refuser, room, *it), short)
+        tried = harness.at_once(lambda it: it[1](refuser, room, it[2]), others)
         passed_by = refuser.names_passed_by()
     named += [(f"growths of {name}", wrong) for (name, _), wrong in zip(short, found)]
+    named += [(name, wrong) for (name, *_), wrong in zip(others, tried)]
     named.append(("names", f"tests/refuse.c doesn't take over {passed_by}" if passed_by else None))
     return harness.report(named)

@@ -1,6 +1,8 @@
 // Preloaded into a program (LD_PRELOAD), this refuses it one growth of memory, one read or one write.
 //
 //   REFUSE_GROWTH=n  the n-th growth of memory fails with ENOMEM
+//   REFUSE_LATER=1   and so does each later one
+//   REFUSE_BEHIND=k  growths behind the k-th write alone are counted
 //   REFUSE_READ=n    the n-th read of standard input fails with EIO
 //   REFUSE_WRITE=n   the n-th write to standard output fails with EIO
 //   REFUSE_SHORT=k   each read of standard input gives, and each write to standard output takes, at most k bytes
@@ -32,6 +34,8 @@ enum call { GROWTH, READ, WRITE, BYTES, WORDS };
 static _Atomic uint64_t *tally; // NULL until main begins
 static uint64_t refused[WORDS]; // which call of each kind fails; 0 for none
 static uint64_t most = SIZE_MAX; // bytes of one read or write
+static uint64_t writes_before;   // so many writes come before the first growth that is counted
+static uint64_t later;           // whether growths behind the one that fails fail too
 
 static uint64_t number_of(const char *name) {
     const char *text = getenv(name);
@@ -52,6 +56,8 @@ static void begin(void) {
     refused[WRITE] = number_of("REFUSE_WRITE");
     if (number_of("REFUSE_SHORT"))
         most = number_of("REFUSE_SHORT");
+    writes_before = number_of("REFUSE_BEHIND");
+    later = number_of("REFUSE_LATER");
     tally = words;
 }
 
@@ -86,7 +92,10 @@ static int refuses(enum call call) {
 }
 
 static int refuses_growth(void) {
-    if (!refuses(GROWTH))
+    if (!tally || atomic_load(&tally[WRITE]) < writes_before)
+        return 0;
+    int is_later = later && refused[GROWTH] && atomic_load(&tally[GROWTH]) >= refused[GROWTH];
+    if (!refuses(GROWTH) && !is_later)
         return 0;
     errno = ENOMEM;
     return 1;

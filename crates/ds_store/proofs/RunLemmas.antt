@@ -4,14 +4,16 @@ use Rattle.std.proofs.Math.Seq.{take-append_seam}
 use Rattle.ds_store.specs.State.{State}
 use Rattle.ds_store.specs.declared.command.Command.{Command}
 use Rattle.ds_store.specs.declared.command.Reply.{Reply}
-use Rattle.ds_store.specs.Machine.{Step, Run, RunsFirst}
+use Rattle.ds_store.specs.Machine.{Step}
+use Rattle.ds_store.specs.Last.{IsLast}
+use Rattle.ds_store.specs.Run.{Run, RunsFirst}
 
 -- a run, and one step more at its end
-pub run_more : (commands : List Command) (replies : List Reply) (s mid t : State) (command : Command) (reply : Reply) → Run s commands replies mid → Step mid command reply t → Run s (commands ++ command ∷ []) (replies ++ reply ∷ []) t
-run_more [] [] s mid t command reply run step = (t, subst (λ (x : State). Step x command reply t) run step, refl)
-run_more [] (r ∷ replies) s mid t command reply run step = absurd run
-run_more (c ∷ commands) [] s mid t command reply run step = absurd run
-run_more (c ∷ commands) (r ∷ replies) s mid t command reply run step = (run.0, run.1, run_more commands replies run.0 mid t command reply run.2 step)
+pub run_more : (commands : List Command) (replies : List Reply) (s mid t : State) (command : Command) (reply : Reply) → Run s commands replies mid → Step mid command reply t → IsLast mid command reply → Run s (commands ++ command ∷ []) (replies ++ reply ∷ []) t
+run_more [] [] s mid t command reply run step last = (t, subst (λ (x : State). Step x command reply t) run step, subst (λ (x : State). IsLast x command reply) run last, refl)
+run_more [] (r ∷ replies) s mid t command reply run step last = absurd run
+run_more (c ∷ commands) [] s mid t command reply run step last = absurd run
+run_more (c ∷ commands) (r ∷ replies) s mid t command reply run step last = (run.0, run.1, run.2, run_more commands replies run.0 mid t command reply run.3 step last)
 
 -- a run of the first commands
 pub run_first : (front rest commands : List Command) (replies : List Reply) (s t : State) → front ++ rest ≡ commands → Run s front replies t → RunsFirst s commands t

@@ -4,6 +4,8 @@ pub mod Content
 pub mod Judging
 pub mod Machine
 pub mod Last
+pub mod Run
+pub mod Owes
 pub mod Stands
 -- what bodies alone speak of: how a store keeps its content
 pub mod Owed

@@ -229,17 +229,6 @@ MergeWantsRoom old _ reply new = ⊥
 abbrev pub Step : State → Command → Reply → State → Type 0
 Step old command reply new = Answers old (outcome old command) reply new ⊎ MergeWantsRoom old command reply new
 
--- these replies to these commands, one step after the other
-abbrev pub Run : State → List Command → List Reply → State → Type 0
-Run old [] [] new = new ≡ old
-Run old (command ∷ commands) (reply ∷ replies) new = (mid : State) × Step old command reply mid × Run mid commands replies new
-Run old [] (reply ∷ replies) new = ⊥
-Run old (command ∷ commands) [] new = ⊥
-
--- the first of the commands were answered so, and no others
-abbrev pub RunsFirst : State → List Command → State → Type 0
-RunsFirst old commands new = (done : ℕ) × (replies : List Reply) × Run old (take done commands) replies new
-
 -- values of the kind are held in place
 abbrev pub IsKindInPlace : Kind → Type 0
 IsKindInPlace kinds.Label = Unit {0}

@@ -1,5 +1,8 @@
 //! What a store is asked, and what it answers.
 
+ghost use Rattle.std.specs.Prelude.{◌≡◌};
+ghost use Rattle.ds_store.specs.Owes.{owed_by};
+
 use crate::refusal::Refusal;
 use ds_entry::{Items, Value};
 use ds_names::{Endpoint, Generation, Key, Name, Version};
@@ -103,4 +106,24 @@ pub enum Reply {
     },
     /// The command was refused, and nothing changed.
     Refused(Refusal),
+}
+
+impl Reply {
+    /// The mask of the subscriptions to which a notice is owed: of none, where the reply has no mask.
+    pub fn owed(&self) -> u64
+        ensures { result ≡ owed_by self.now }
+    {
+        match self {
+            Reply::Changed { owed } => *owed,
+            Reply::Swept { owed, .. } => *owed,
+            Reply::Subscribed { owed, .. } => *owed,
+            Reply::Merged { owed, .. } => *owed,
+            Reply::MergeStopped { owed, .. } => *owed,
+            Reply::Known
+            | Reply::Found(_)
+            | Reply::Named(_)
+            | Reply::Checked { .. }
+            | Reply::Refused(_) => 0,
+        }
+    }
 }

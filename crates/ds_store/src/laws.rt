@@ -3,7 +3,7 @@
 ghost use Rattle.std.specs.Prelude.{◌≡◌, IfOk, OnErr};
 ghost use Rattle.ds_store.specs.State.{State};
 ghost use Rattle.ds_store.specs.Stands.{Stands};
-ghost use Rattle.ds_store.specs.Machine.{Run, RunsFirst};
+ghost use Rattle.ds_store.specs.Run.{Run, RunsFirst};
 
 use crate::command::{Command, Reply};
 use crate::store::Store;

@@ -7,6 +7,7 @@ use Rattle.hex.specs.Hex.{encode_lower}
 use Rattle.ds_names.specs.declared.version.Version.{Version}
 use Rattle.ds_entry.specs.Change.{ChangeRecord}
 use Rattle.ds_line.specs.Spelling.{spelling, value_part}
+use Rattle.ds_store.specs.Owes.{owed_by}
 use Rattle.ds_store.specs.declared.refusal.Refusal.{Refusal}
 use Rattle.ds_store.specs.declared.refusal.Refusal.TheVariants as refusals
 use Rattle.ds_store.specs.declared.command.Reply.{Reply}
@@ -87,15 +88,6 @@ reply_words wording (Checked items before after) = checked (length items) before
 reply_words wording (Merged done taken stale owed) = merged wording done taken stale
 reply_words wording (MergeStopped done fault owed) = stopped wording done fault
 reply_words wording (Refused fault) = refused fault
-
--- the mask of the subscriptions to which a notice is owed
-abbrev pub owed_by : Reply → ℕ
-owed_by (Changed owed) = owed
-owed_by (Swept count owed) = owed
-owed_by (Subscribed stamp owed) = owed
-owed_by (Merged done taken stale owed) = owed
-owed_by (MergeStopped done fault owed) = owed
-owed_by _ = 0
 
 -- the eight bytes of a mask, the greatest first, in lower-case hex
 abbrev pub mask_hex : ℕ → List ℕ

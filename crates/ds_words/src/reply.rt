@@ -5,7 +5,7 @@ ghost use Rattle.std.specs.List.{flat_map};
 ghost use Rattle.ds_line.specs.Spelling.{spelling};
 ghost use Rattle.ds_words.specs.Lines.{ended};
 ghost use Rattle.ds_words.specs.declared.wording.Wording.TheVariants.{AsOffer, AsMerge};
-ghost use Rattle.ds_words.specs.Reply.{refusal_word, refusal_words, refused, merged, stopped, reply_words, shown_by, owed_by, owed_line, reply_lines, reply_text, refused_noroom};
+ghost use Rattle.ds_words.specs.Reply.{refusal_word, refusal_words, refused, merged, stopped, reply_words, shown_by, owed_line, reply_lines, reply_text, refused_noroom};
 
 use crate::checked::append_checked;
 use crate::command::ScriptCommand;
@@ -37,7 +37,7 @@ pub fn append_reply(buffer: &mut Vec<u8>, wording: Wording, reply: &Reply) -> Re
 {
     let start = buffer.len();
     append_words(buffer, wording, reply)?;
-    let written = append_owed(buffer, owed_by(reply));
+    let written = append_owed(buffer, reply.owed());
     if written.is_err() {
         buffer.truncate(start);
     }
@@ -205,24 +205,6 @@ fn refusal_word(refusal: Refusal) -> &'static [u8]
         Refusal::NoRoom => b"noroom",
         Refusal::BadRing => b"badring",
         Refusal::BadFirst => b"badfirst",
-    }
-}
-
-// The mask of the subscriptions to which a notice is owed.
-fn owed_by(reply: &Reply) -> u64
-    ensures { result ≡ owed_by reply.now }
-{
-    match reply {
-        Reply::Changed { owed } => *owed,
-        Reply::Swept { owed, .. } => *owed,
-        Reply::Subscribed { owed, .. } => *owed,
-        Reply::Merged { owed, .. } => *owed,
-        Reply::MergeStopped { owed, .. } => *owed,
-        Reply::Known
-        | Reply::Found(_)
-        | Reply::Named(_)
-        | Reply::Checked { .. }
-        | Reply::Refused(_) => 0,
     }
 }
 

@@ -2,13 +2,14 @@
 //!
 //! It reads the lines of a script, all of them first, makes the store's command of each, prints `ready`, and only then gives
 //! them to a store and prints the replies, as a script's are printed. So a growth of memory behind `ready` is one of the
-//! store's calls. Status 0: done. 1: a line that is no command for a store, or has no newline. 3: memory, reading or
-//! writing failed, and standard error says which.
+//! store's calls. Beside a script's lines there are `first N`, as the first line: where positions and stamps begin; `merge`,
+//! offers and `end`, which are one Merge; and `mismatch`, a Publish of a number under a key of another kind. Status 0: done.
+//! 1: a line that can't be read, or has no newline. 3: memory, reading or writing failed, and standard error says which.
 #![tactic(auto)]
 
 mod commands;
 
-use commands::{Prepared, commands_of};
+use commands::{Prepared, Script};
 use ds_store::Store;
 use ds_words::append_reply;
 use std::io::{self, ErrorKind, Read, Write};
@@ -19,6 +20,7 @@ use std::rt::Runtime;
 const ANSWER: usize = 1 << 16;
 
 /// What ends the program without all its answers.
+#[derive(Drop)]
 pub(crate) enum Failure {
     BadLine,
     NoRoom,
@@ -47,9 +49,9 @@ fn run(rt: &(impl Runtime + AllocGlobal)) -> Result<(), Failure> {
             _ => Failure::ReadFault,
         });
     }
-    let commands = commands_of(rt.alloc(), text.as_slice())?;
-    let Ok(store) = Store::open(rt.alloc(), 1, 0, 256) else {
-        return Err(Failure::NoRoom);
+    let script = Script::read(rt.alloc(), text.as_slice())?;
+    let Ok(store) = Store::open(rt.alloc(), 1, script.first, 256) else {
+        return Err(Failure::BadLine);
     };
     let Ok(answer) = Vec::with_capacity(rt.alloc(), ANSWER) else {
         return Err(Failure::NoRoom);
@@ -57,7 +59,7 @@ fn run(rt: &(impl Runtime + AllocGlobal)) -> Result<(), Failure> {
     if println!(rt; "ready").is_err() {
         return Err(Failure::WriteFault);
     }
-    answer_all(&mut io::writer(rt), store, commands, answer)
+    answer_all(&mut io::writer(rt), store, script.commands, answer)
 }
 
 // Gives the commands to the store, and prints each reply.

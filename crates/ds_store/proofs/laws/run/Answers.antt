@@ -1,6 +1,6 @@
 use Rattle.std.proofs.Common.{◌≡◌, List, ap, subst, sym, ◌∙◌, ◌++◌, ◌∷◌, [], append_assoc}
 use Rattle.ds_store.specs.declared.command.Reply.{Reply}
-use Rattle.ds_store.specs.Machine.{Run}
+use Rattle.ds_store.specs.Run.{Run}
 use Rattle.ds_store.proofs.AnswerLemmas.{on_err}
 use Rattle.ds_store.proofs.RunLemmas.{run_more, run_first}
 use Rattle.ds_store.proofs.laws.run.Goals as goal
@@ -11,7 +11,7 @@ loop-command-preserved c = record {
   run = λ s stands.
       (let at = c.loop-command.invariant.run s stands in
       let next = c.apply-reply.ensures.step at.0 at.2 in
-      let more = run_more c.loop-command.yielded c.loop-command.replies.items s at.0 next.0 c.in-Some.command c.apply-reply.result at.1 next.1 in
+      let more = run_more c.loop-command.yielded c.loop-command.replies.items s at.0 next.0 c.in-Some.command c.apply-reply.result at.1 next.1 (c.apply-reply.ensures.last at.0 at.2) in
       (next.0, subst (λ (replies : List Reply). Run s (c.loop-command.yielded ++ c.in-Some.command ∷ []) replies next.0) (sym c.in_ok-push.ensures.items) more, next.2));
 }
 
@@ -24,5 +24,5 @@ returns-in_err-push-clause-stopped c =
     on_err c.from_residual.result _ (λ s stands.
     (let at = c.loop-command.invariant.run s stands in
     let next = c.apply-reply.ensures.step at.0 at.2 in
-    let more = run_more c.loop-command.yielded c.loop-command.replies.items s at.0 next.0 c.in-Some.command c.apply-reply.result at.1 next.1 in
+    let more = run_more c.loop-command.yielded c.loop-command.replies.items s at.0 next.0 c.in-Some.command c.apply-reply.result at.1 next.1 (c.apply-reply.ensures.last at.0 at.2) in
     (next.0, run_first front rest c.args.commands.items _ s next.0 all more, next.2)))

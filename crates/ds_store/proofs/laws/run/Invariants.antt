@@ -1,7 +1,7 @@
 use Rattle.std.proofs.Common.{◌≡◌, ◌++◌}
 use Rattle.ds_store.specs.State.{State}
 use Rattle.ds_store.specs.Stands.{Stands}
-use Rattle.ds_store.specs.Machine.{Run}
+use Rattle.ds_store.specs.Run.{Run}
 use Rattle.ds_store.proofs.laws.run.Given as goal
 
 -- the replies so far are those of a run of the commands so far
