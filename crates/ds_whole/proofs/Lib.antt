@@ -1,0 +1,5 @@
+pub mod SentLemmas
+pub mod WholeLemmas
+pub mod JournalLemmas
+pub mod HolderLemmas
+pub mod PageLemmas

@@ -1,0 +1,10 @@
+pub mod Under
+pub mod Sent
+pub mod Front
+pub mod Whole
+pub mod Journaled
+pub mod WholeLaws
+pub mod CatchUp
+pub mod Agreement
+pub mod Paged
+pub mod PageLaws
