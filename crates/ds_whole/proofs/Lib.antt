@@ -3,3 +3,5 @@ pub mod WholeLemmas
 pub mod JournalLemmas
 pub mod HolderLemmas
 pub mod PageLemmas
+pub mod CheckLemmas
+pub mod LabelLemmas

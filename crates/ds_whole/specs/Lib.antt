@@ -8,3 +8,7 @@ pub mod CatchUp
 pub mod Agreement
 pub mod Paged
 pub mod PageLaws
+pub mod Accepting
+pub mod Checked
+pub mod CheckLaws
+pub mod Labels

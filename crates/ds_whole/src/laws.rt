@@ -4,6 +4,9 @@ ghost use Rattle.ds_whole.specs.WholeLaws.{SnapshotIsWhole, SinceExtends, Sinces
 ghost use Rattle.ds_whole.specs.PageLaws.{PagesAreWhole};
 ghost use Rattle.ds_whole.specs.CatchUp.{HoldsTheStores, HoldsAlike, HoldsATop, HoldsAtLeast, AnyHolderHoldsTheStores, MapHoldsItsQuery, GivenIsSent};
 ghost use Rattle.ds_whole.specs.Agreement.{HoldersAgree, TopUnderQuery, JoinOfHolders, JoinUnderQuery, MoreIsHeld};
+ghost use Rattle.ds_whole.specs.Labels.{NothingOlderIsHeld, NoOlderLabelIsHeld, LabelsAreNewest};
+ghost use Rattle.ds_whole.specs.Accepting.{AcceptedAreNew};
+ghost use Rattle.ds_whole.specs.CheckLaws.{ChecksAreWhole};
 
 /// The laws of wholeness: a snapshot is whole up to its cursor, and with what the journal gives from there, up to the
 /// journal's cursor; more items, an earlier position, a narrower query and what takes effect later leave it so.
@@ -45,4 +48,19 @@ pub fn agreement_laws()
     ensures join { JoinOfHolders }
     ensures join_query { JoinUnderQuery }
     ensures more { MoreIsHeld }
+{}
+
+/// The laws of no older generation: of what is known and not void nothing older is held, labels are never void, and the
+/// held label names the endpoint of the greatest generation that is known, or none where that one is gone.
+pub fn label_laws()
+    ensures older { NothingOlderIsHeld }
+    ensures older_label { NoOlderLabelIsHeld }
+    ensures newest { LabelsAreNewest }
+{}
+
+/// The law of checks: all that the checks of a subscription gave since nothing counted as shown is whole up to a check that
+/// gave fewer than it was asked for, where each accepted item was covered by none before it, as a store accepts.
+pub fn check_laws()
+    ensures checks { ChecksAreWhole }
+    ensures accepted { AcceptedAreNew }
 {}

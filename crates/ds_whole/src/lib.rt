@@ -7,4 +7,4 @@
 
 mod laws;
 
-pub use laws::{agreement_laws, catch_up_laws, page_laws, whole_laws};
+pub use laws::{agreement_laws, catch_up_laws, check_laws, label_laws, page_laws, whole_laws};
