@@ -5,3 +5,4 @@ pub mod HolderLemmas
 pub mod PageLemmas
 pub mod CheckLemmas
 pub mod LabelLemmas
+pub mod FollowLemmas

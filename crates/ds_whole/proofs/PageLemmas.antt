@@ -1,5 +1,5 @@
 -- The items of all pages, with the journal, are whole.
-use Rattle.std.proofs.Common.{◌≡◌, ℕ, zero, suc, ◌≤◌, not, Bool, true, false, List, [], ◌∷◌, ◌++◌, take, drop, length, filter, Option, Some, None, refl, sym, ap, ◌∙◌, subst, inl, inr, ◌⊎◌, arith}
+use Rattle.std.proofs.Common.{◌≡◌, ℕ, zero, suc, ◌+◌, ◌≤◌, not, Bool, true, false, List, [], ◌∷◌, ◌++◌, take, drop, length, filter, Option, Some, None, refl, sym, ap, ◌∙◌, subst, inl, inr, ◌⊎◌, arith}
 use Rattle.std.specs.declared.cmp.Ordering.TheVariants.{Less}
 use Rattle.std.specs.Prelude.{nat_le}
 use Rattle.std.specs.Ordering.{is_lt}
@@ -7,7 +7,7 @@ use Rattle.std.specs.Bool.{MatchBool}
 use Rattle.std.specs.List.{Contains, AllByRecursion}
 use Rattle.std.specs.List.Sorted.{IsStrictlySortedBy}
 use Rattle.std.proofs.lemmas.Bool.{leb-true}
-use Rattle.std.proofs.lemmas.List.{take_all, take-append-drop}
+use Rattle.std.proofs.lemmas.List.{take_all, take-append-drop, length-append}
 use Rattle.std.proofs.lemmas.List.Kept.{IsStrictlySortedBy-filter}
 use Rattle.std.proofs.lemmas.List.Elements.{Contains-append_left, Contains-append_right, Contains-append_cases}
 use Rattle.ds_names.specs.declared.key.Key.{Key}
@@ -207,6 +207,30 @@ module _ (f : Feed) (scope : Key → Bool) where
           inr (g, before_part f t.page.cursor.position (last_cursor t.page.cursor ts).position (rises t (last_key after t.page.items) ts w.2) (Floored g) there, e)
       over (Changed d) k e more =
           on_or_behind d e (on_page f scope after t w.0 d k (covers-query scope (Changed d) (Changed c) e q) (same_behind after c d (sym (covers-key d c e)) r)) more
+
+-- no page's cursor is behind the store's position
+front_within : (f late : Feed) → IsFront f late → position f ≤ position late
+front_within f late g =
+    let e : length late.accepted ≡ length f.accepted + length g.grown.0 = ap length g.grown.1 ∙ length-append f.accepted g.grown.0 in
+    let first : late.first ≡ f.first = g.first in
+    omega arith
+
+pub pages_end : (f : Feed) (scope : Key → Bool) (first : PageTurn) (pages : List PageTurn) → ArePages f scope None 0 (first ∷ pages) → (last_cursor first.page.cursor pages).position ≤ position f
+pages_end f scope first pages w = at first None 0 pages w
+  where
+    end_at : (after : Option Key) (t : PageTurn) → IsPageTurn f scope after t → t.page.cursor.position ≤ position f
+    end_at after t s =
+        let place : t.page.cursor.position ≡ position t.feed = place_is f scope after t s in
+        let within : position t.feed ≤ position f = front_within t.feed f s.front in
+        omega arith
+
+    at : (t : PageTurn) (after : Option Key) (p : ℕ) (ts : List PageTurn) → ArePages f scope after p (t ∷ ts) → (last_cursor t.page.cursor ts).position ≤ position f
+    at t after p [] w = end_at after t w.0
+    at t after p (u ∷ us) w = by_last t.page.last w.2 (at u (last_key after t.page.items) t.page.cursor.position us)
+      where
+        by_last : (b : Bool) → MatchBool b ((u ∷ us) ≡ []) (ArePages f scope (last_key after t.page.items) t.page.cursor.position (u ∷ us)) → (ArePages f scope (last_key after t.page.items) t.page.cursor.position (u ∷ us) → (last_cursor u.page.cursor us).position ≤ position f) → (last_cursor u.page.cursor us).position ≤ position f
+        by_last true e rest = cc
+        by_last false v rest = rest v
 
 pub pages_are_whole : PagesAreWhole
 pages_are_whole f scope other query first pages turns keep keep_other w s bound i h =

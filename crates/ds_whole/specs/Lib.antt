@@ -12,3 +12,4 @@ pub mod Accepting
 pub mod Checked
 pub mod CheckLaws
 pub mod Labels
+pub mod Following

@@ -3,6 +3,7 @@
 ghost use Rattle.ds_whole.specs.WholeLaws.{SnapshotIsWhole, SinceExtends, SincesExtend, NothingIsWhole, MoreIsWhole, EarlierIsWhole, NarrowerIsWhole, WholeStays, FeedsGrow};
 ghost use Rattle.ds_whole.specs.PageLaws.{PagesAreWhole};
 ghost use Rattle.ds_whole.specs.CatchUp.{HoldsTheStores, HoldsAlike, HoldsATop, HoldsAtLeast, AnyHolderHoldsTheStores, MapHoldsItsQuery, GivenIsSent};
+ghost use Rattle.ds_whole.specs.Following.{FollowsFromSnapshot, FollowsFromPages};
 ghost use Rattle.ds_whole.specs.Agreement.{HoldersAgree, TopUnderQuery, JoinOfHolders, JoinUnderQuery, MoreIsHeld};
 ghost use Rattle.ds_whole.specs.Labels.{NothingOlderIsHeld, NoOlderLabelIsHeld, LabelsAreNewest};
 ghost use Rattle.ds_whole.specs.Accepting.{AcceptedAreNew};
@@ -38,6 +39,8 @@ pub fn catch_up_laws()
     ensures holder { AnyHolderHoldsTheStores }
     ensures query { MapHoldsItsQuery }
     ensures sent { GivenIsSent }
+    ensures snapshot { FollowsFromSnapshot }
+    ensures pages { FollowsFromPages }
 {}
 
 /// The laws of agreement: holders that know the same under a query hold the same under it, and the join of what two

@@ -1,5 +1,6 @@
 use Rattle.ds_whole.proofs.SentLemmas.{given_is_sent}
 use Rattle.ds_whole.proofs.HolderLemmas.{holds_the_stores, holds_alike, holds_a_top, holds_at_least, any_holder, map_holds_its_query}
+use Rattle.ds_whole.proofs.FollowLemmas.{follows_from_snapshot, follows_from_pages}
 use Rattle.ds_whole.proofs.laws.catch_up_laws.Goals as goal
 
 pub returns-clause-exact : goal.returns-clause-exact
@@ -22,3 +23,9 @@ returns-clause-query c = map_holds_its_query
 
 pub returns-clause-sent : goal.returns-clause-sent
 returns-clause-sent c = given_is_sent
+
+pub returns-clause-snapshot : goal.returns-clause-snapshot
+returns-clause-snapshot c = follows_from_snapshot
+
+pub returns-clause-pages : goal.returns-clause-pages
+returns-clause-pages c = follows_from_pages
