@@ -6,3 +6,5 @@ pub mod PageLemmas
 pub mod CheckLemmas
 pub mod LabelLemmas
 pub mod FollowLemmas
+pub mod Samples
+pub mod WholePremiseLemmas

@@ -13,3 +13,4 @@ pub mod Checked
 pub mod CheckLaws
 pub mod Labels
 pub mod Following
+pub mod WholePremises

@@ -6,5 +6,7 @@
 #![tactic(auto)]
 
 mod laws;
+mod premises;
 
 pub use laws::{agreement_laws, catch_up_laws, check_laws, label_laws, page_laws, whole_laws};
+pub use premises::whole_premises;
