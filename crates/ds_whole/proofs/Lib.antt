@@ -8,3 +8,6 @@ pub mod LabelLemmas
 pub mod FollowLemmas
 pub mod Samples
 pub mod WholePremiseLemmas
+pub mod PagePremiseLemmas
+pub mod HolderPremiseLemmas
+pub mod TakingLemmas

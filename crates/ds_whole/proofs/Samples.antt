@@ -1,29 +1,29 @@
 -- A few items, and stores that accepted them.
 use Rattle.std.proofs.Common.{◌≡◌, ℕ, Bool, true, false, List, [], ◌∷◌, refl, sym, ap, ◌∙◌, subst, inl, inr}
-use Rattle.std.specs.declared.cmp.Ordering.TheVariants.{Less}
-use Rattle.std.specs.List.{Contains}
-use Rattle.std.specs.List.Sorted.{IsStrictlySortedBy}
+use Rattle.std.specs.List.{Contains, AllByRecursion, list_any}
+use Rattle.std.proofs.lemmas.List.Elements.{Contains-append_left, Contains-append_right}
 use Rattle.ds_names.specs.declared.key.Key.{Key}
 use Rattle.ds_names.specs.declared.kind.Kind.{Kind}
 use Rattle.ds_names.specs.declared.kind.Kind.TheVariants.{Label, U32}
 use Rattle.ds_entry.specs.Change.{ChangeRecord}
-use Rattle.ds_entry.specs.Item.{item_cmp}
-use Rattle.ds_entry.specs.ItemCovers.{covers}
-use Rattle.ds_entry.specs.Void.{voids, NoneVoid}
 use Rattle.ds_entry.specs.declared.body.Value.TheVariants as values
 use Rattle.ds_entry.specs.declared.body.Body.{Body}
 use Rattle.ds_entry.specs.declared.body.Body.TheVariants.{Put, Gone}
 use Rattle.ds_entry.specs.declared.floor.Floor.{Floor}
 use Rattle.ds_entry.specs.declared.item.Item.{Item}
 use Rattle.ds_entry.specs.declared.item.Item.TheVariants.{Change as Changed, Floor as Floored}
-use Rattle.ds_entry.proofs.Members.{Contains-nil, Contains-cons, Contains-head}
-use Rattle.ds_entry.proofs.ItemLemmas.{covers-refl}
-use Rattle.ds_join.specs.ItemTop.{IsTop, IsPartOf}
+use Rattle.ds_entry.proofs.Members.{In, In-from_Contains, Contains-single, Contains-head, none_pass}
+use Rattle.ds_entry.specs.ItemCovers.{AreSingleNumbered}
+use Rattle.ds_join.specs.ItemTop.{IsTop, tops, HasOneOwnerInTurn}
+use Rattle.ds_join.proofs.ItemExistLemmas.{tops_is_top}
 use Rattle.ds_feed.specs.Feed.{Feed}
 
 -- a change of the owner `o` in epoch 1
+abbrev pub record_of : Kind → ℕ → ℕ → Body → ChangeRecord
+record_of kind name seq body = record { key = record { name = name ∷ []; kind = kind }; owner = 111 ∷ []; version = record { epoch = 1; seq = seq }; body = body }
+
 abbrev pub change : Kind → ℕ → ℕ → Body → Item
-change kind name seq body = Changed (record { key = record { name = name ∷ []; kind = kind }; owner = 111 ∷ []; version = record { epoch = 1; seq = seq }; body = body })
+change kind name seq body = Changed (record_of kind name seq body)
 
 -- numbers under `a`, `b` and `c`
 abbrev pub a1 : Item
@@ -59,32 +59,43 @@ all key = true
 abbrev pub none : Key → Bool
 none key = false
 
-pub not_in_one : (i j : Item) → (i ≡ j → ⊥) → Contains (j ∷ []) i → ⊥
-not_in_one i j n h = elim (Contains-cons j [] i h) [ inl e ↦ n e | inr k ↦ Contains-nil i k ]
+abbrev pub key_of : Kind → ℕ → Key
+key_of kind name = record { name = name ∷ []; kind = kind }
 
--- of items in order none of which is void, their list is the top
-pub own_top : (items : List Item) → IsStrictlySortedBy item_cmp items → NoneVoid items → IsTop items items
-own_top items s n = record { in_order = s; among = λ i h. h; greatest = λ i h. (i, h, covers-refl i); none_void = n }
+-- an item isn't among those that a test tells from it
+pub not_among : (test : Item → Bool) (items : List Item) (i : Item) → test i ≡ true → list_any test items ≡ false → Contains items i → ⊥
+not_among test items i e n h = let differ : true ≡ false = sym e ∙ none_pass test items i n h in cc
 
-pub none_top : IsTop [] []
-unfolding IsStrictlySortedBy
-none_top = own_top [] tt (λ f c h k. absurd (Contains-nil (Floored f) h))
+-- ---- what is held of such items
 
-pub one_top : (i : Item) → IsTop (i ∷ []) (i ∷ [])
-unfolding IsStrictlySortedBy
-one_top i = own_top (i ∷ []) (tt, tt) (λ f c h k. absurd (apart f c (elim (Contains-cons i [] (Floored f) h) [ inl e ↦ e | inr l ↦ absurd (Contains-nil (Floored f) l) ]) (elim (Contains-cons i [] (Changed c) k) [ inl e ↦ e | inr l ↦ absurd (Contains-nil (Changed c) l) ])))
+-- the item is a floor, or of this owner
+abbrev pub IsOf : List ℕ → Item → Type 0
+IsOf owner (Changed c) = c.owner ≡ owner
+IsOf owner (Floored f) = Unit {0}
+
+of_one : (owner : List ℕ) (items : List Item) (i : Item) → AllByRecursion (IsOf owner) items → In i items → IsOf owner i
+of_one owner [] i a h = absurd h
+of_one owner (j ∷ js) i a (inl e) = subst (IsOf owner) (sym e) a.0
+of_one owner (j ∷ js) i a (inr h) = of_one owner js i a.1 h
+
+one_owner : (owner : List ℕ) (items : List Item) → AllByRecursion (IsOf owner) items → HasOneOwnerInTurn items
+one_owner owner items a front back (Floored f) e = tt
+one_owner owner items a front back (Changed c) e =
+    λ d h v w q.
+    let own : IsOf owner (Changed c) = of_one owner items (Changed c) a (In-from_Contains (Changed c) items (subst (λ (l : List Item). Contains l (Changed c)) (sym e) (Contains-append_right front (Changed c ∷ back) (Changed c) (Contains-head (Changed c) back)))) in
+    let other : IsOf owner (Changed d) = of_one owner items (Changed d) a (In-from_Contains (Changed d) items (subst (λ (l : List Item). Contains l (Changed d)) (sym e) (Contains-append_left front (Changed c ∷ back) (Changed d) h))) in
+    own ∙ sym other
+
+-- what is held of items of one owner is their top
+pub top_of_one : (owner : List ℕ) (items : List Item) → AllByRecursion (IsOf owner) items → IsTop (tops items) items
+top_of_one owner items a = tops_is_top items (one_owner owner items a)
+
+pub top_by : (items : List Item) → AllByRecursion (IsOf (111 ∷ [])) items → IsTop (tops items) items
+top_by items a = top_of_one (111 ∷ []) items a
+
+-- no item contradicts itself
+pub one_single : (i : Item) → AreSingleNumbered (i ∷ [])
+one_single i = record { one_change = λ c d h k e f. same c d (Contains-single i (Changed c) h) (Contains-single i (Changed d) k); one_owner = λ c d h k e. ap (λ (x : ChangeRecord). x.owner) (same c d (Contains-single i (Changed c) h) (Contains-single i (Changed d) k)) }
   where
-    apart : (f : Floor) (c : ChangeRecord) → Floored f ≡ i → Changed c ≡ i → ⊥
-    apart f c e d = let n : Floored f ≡ Changed c = e ∙ sym d in cc
-
--- two changes in the order of their keys
-pub two_changes : (c d : ChangeRecord) → item_cmp (Changed c) (Changed d) ≡ Less → IsTop (Changed c ∷ Changed d ∷ []) (Changed c ∷ Changed d ∷ [])
-unfolding IsStrictlySortedBy
-two_changes c d l = own_top (Changed c ∷ Changed d ∷ []) ((l, tt), (tt, tt)) (λ f e h k. absurd (no_floor f h))
-  where
-    no_floor : (f : Floor) → Contains (Changed c ∷ Changed d ∷ []) (Floored f) → ⊥
-    no_floor f h =
-        elim (Contains-cons (Changed c) (Changed d ∷ []) (Floored f) h) [
-          | inl e ↦ (let n : Floored f ≡ Changed c = e in cc)
-          | inr k ↦ not_in_one (Floored f) (Changed d) (λ e. let n : Floored f ≡ Changed d = e in cc) k
-        ]
+    same : (c d : ChangeRecord) → Changed c ≡ i → Changed d ≡ i → c ≡ d
+    same c d e f = let g : Changed c ≡ Changed d = e ∙ sym f in cc

@@ -2,21 +2,26 @@
 use Rattle.std.proofs.Common.{◌≡◌, ℕ, true, false, List, [], ◌∷◌, refl, arith}
 use Rattle.std.specs.List.{Contains}
 use Rattle.ds_entry.specs.Item.{passes}
+use Rattle.ds_entry.specs.ItemCovers.{covers}
 use Rattle.ds_entry.specs.declared.item.Item.{Item}
 use Rattle.ds_entry.proofs.Members.{Contains-nil, Contains-head}
+use Rattle.ds_join.specs.ItemTop.{IsTop}
 use Rattle.ds_feed.specs.declared.cursor.Cursor.{Cursor}
 use Rattle.ds_feed.specs.Feed.{Feed}
 use Rattle.ds_feed.specs.Since.{since_of}
 use Rattle.ds_whole.specs.Sent.{Sent, given}
 use Rattle.ds_whole.specs.Whole.{IsWhole}
 use Rattle.ds_whole.specs.WholePremises.{SnapshotNeeds, SinceNeeds, WholeNeeds}
-use Rattle.ds_whole.proofs.Samples.{a1, feed_of, all, none, none_top, one_top}
+use Rattle.ds_whole.proofs.Samples.{a1, b1, feed_of, all, none, not_among, top_by}
 
 abbrev store : Feed
 store = feed_of (a1 ∷ [])
 
 abbrev start : Cursor
 start = record { incarnation = 0; position = 0 }
+
+one_top : IsTop (a1 ∷ []) (a1 ∷ [])
+one_top = top_by (a1 ∷ []) (refl, tt)
 
 -- nothing doesn't stand for the one item that was accepted
 not_whole : IsWhole store all [] 1 → ⊥
@@ -25,8 +30,8 @@ not_whole w = Contains-nil a1 (w a1 (Contains-head a1 []))
 pub snapshot_needs : SnapshotNeeds
 snapshot_needs = record {
   top = λ law. not_whole (law store (a1 ∷ []) [] all all (λ i h. h) (λ key e. e));
-  knows = λ law. Contains-nil a1 (law store [] (a1 ∷ []) all all (one_top a1) (λ key e. e) a1 (Contains-head a1 []));
-  scope = λ law. not_whole (law store (a1 ∷ []) (a1 ∷ []) none all (one_top a1) (λ i h. h));
+  knows = λ law. Contains-nil a1 (law store [] (a1 ∷ []) all all one_top (λ key e. e) a1 (Contains-head a1 []));
+  scope = λ law. not_whole (law store (a1 ∷ []) (a1 ∷ []) none all one_top (λ i h. h));
 }
 
 pub since_needs : SinceNeeds
@@ -44,6 +49,6 @@ whole_needs = record {
   more = λ law. not_whole (law store all (given (a1 ∷ []) (a1 ∷ [])) [] 1 (λ i h. h));
   earlier = λ law. not_whole (law store all [] 1 0 (λ i h. h));
   narrower = λ law. not_whole (law store none all [] 1 (λ i h. h));
-  front = λ law. not_whole (law (record { accepted = []; first = 1; ring = 8; incarnation = 0 }) store all [] 1 (omega arith) (λ i h. h));
+  front = λ law. not_among (covers a1) (b1 ∷ []) a1 refl refl (law (feed_of (b1 ∷ [])) store all (given (b1 ∷ []) (b1 ∷ [])) 1 (omega arith) (λ i h. h) a1 (Contains-head a1 []));
   reached = λ law. not_whole (law (feed_of []) store all [] 1 (record { incarnation = refl; first = refl; grown = (a1 ∷ [], refl) }) (λ i h. h));
 }

@@ -14,3 +14,7 @@ pub mod CheckLaws
 pub mod Labels
 pub mod Following
 pub mod WholePremises
+pub mod PagePremises
+pub mod HolderPremises
+pub mod CheckPremises
+pub mod Taking
