@@ -1,5 +1,5 @@
 -- The items of all checks are whole.
-use Rattle.std.proofs.Common.{◌≡◌, ℕ, zero, suc, ◌<◌, ◌≤◌, ◌-◌, ◌&&◌, not, Bool, true, false, cond, List, [], ◌∷◌, ◌++◌, take, length, filter, refl, sym, ap, ◌∙◌, subst, inl, inr, ◌⊎◌, append_assoc, arith}
+use Rattle.std.proofs.Common.{◌≡◌, ℕ, zero, suc, ◌<◌, ◌≤◌, ◌-◌, ◌&&◌, not, Bool, true, false, cond, List, [], ◌∷◌, ◌++◌, take, length, refl, sym, ap, ◌∙◌, subst, inl, inr, ◌⊎◌, append_assoc, arith}
 use Rattle.std.specs.List.{Contains, list_any}
 use Rattle.std.proofs.lemmas.List.{take_all}
 use Rattle.std.proofs.lemmas.List.Elements.{Contains-append_left, Contains-append_cases}
@@ -7,7 +7,7 @@ use Rattle.ds_names.specs.declared.key.Key.{Key}
 use Rattle.ds_entry.specs.Item.{passes}
 use Rattle.ds_entry.specs.ItemCovers.{covers}
 use Rattle.ds_entry.specs.declared.item.Item.{Item}
-use Rattle.ds_entry.proofs.Members.{Contains-nil, Contains-single, Contains-cons, Contains-filter, Contains-from_filter, Contains-from_take, Contains-from_list_any, none_pass}
+use Rattle.ds_entry.proofs.Members.{Contains-nil, Contains-cons, Contains-filter, Contains-from_filter, Contains-from_take, Contains-from_list_any, none_pass}
 use Rattle.ds_entry.proofs.ItemLemmas.{covers-trans, covers-query}
 use Rattle.ds_join.specs.ItemTop.{IsPartOf}
 use Rattle.ds_feed.specs.Feed.{Feed, position}

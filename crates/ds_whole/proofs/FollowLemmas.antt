@@ -12,7 +12,7 @@ use Rattle.ds_whole.specs.Front.{end_of}
 use Rattle.ds_whole.specs.Under.{under}
 use Rattle.ds_whole.specs.Whole.{IsWhole}
 use Rattle.ds_whole.specs.Journaled.{since_items, cursor_after}
-use Rattle.ds_whole.specs.Paged.{PageTurn, IsPageTurn, ArePages, page_items, last_cursor}
+use Rattle.ds_whole.specs.Paged.{page_items, last_cursor}
 use Rattle.ds_whole.specs.Following.{HasTaken, FollowsFromSnapshot, FollowsFromPages}
 use Rattle.ds_whole.proofs.WholeLemmas.{snapshot_is_whole, more_is_whole, earlier_is_whole, whole_stays}
 use Rattle.ds_whole.proofs.JournalLemmas.{sinces_extend}

@@ -1,28 +1,23 @@
 -- What holders hold that know the same, or all that a store accepted.
-use Rattle.std.proofs.Common.{◌≡◌, Bool, true, List, [], ◌++◌, filter, refl, sym, ap, ◌∙◌, subst, inl, inr}
+use Rattle.std.proofs.Common.{◌≡◌, Bool, true, List, [], ◌++◌, filter, sym, ap, ◌∙◌, subst, inl, inr}
 use Rattle.std.specs.List.{Contains}
-use Rattle.std.specs.List.Sorted.{IsStrictlySortedBy}
 use Rattle.std.proofs.lemmas.List.Kept.{IsStrictlySortedBy-filter}
 use Rattle.std.proofs.lemmas.List.Elements.{Contains-append_left, Contains-append_right, Contains-append_cases}
 use Rattle.ds_names.specs.declared.key.Key.{Key}
-use Rattle.ds_entry.specs.Change.{ChangeRecord}
 use Rattle.ds_entry.specs.Item.{passes, item_cmp}
-use Rattle.ds_entry.specs.ItemCovers.{covers, AreSingleNumbered}
-use Rattle.ds_entry.specs.Void.{voids, NoneVoid}
-use Rattle.ds_entry.specs.declared.floor.Floor.{Floor}
+use Rattle.ds_entry.specs.ItemCovers.{covers}
 use Rattle.ds_entry.specs.declared.item.Item.{Item}
 use Rattle.ds_entry.specs.declared.item.Item.TheVariants.{Change as Changed, Floor as Floored}
-use Rattle.ds_entry.proofs.Members.{Contains-head, Contains-filter, Contains-from_filter}
-use Rattle.ds_entry.proofs.ItemLemmas.{covers-refl, covers-trans, covers-query, covers-same, single_part}
+use Rattle.ds_entry.proofs.Members.{Contains-head, Contains-from_filter}
+use Rattle.ds_entry.proofs.ItemLemmas.{covers-trans, covers-query}
 use Rattle.ds_join.specs.ItemTop.{IsTop, IsPartOf, CoversAll}
-use Rattle.ds_join.specs.ItemJoin.{IsJoin}
 use Rattle.ds_join.proofs.ItemTopLemmas.{held_apart, top_is_unique, top_of_same, top_of_top, join_is_commutative}
 use Rattle.ds_feed.specs.Feed.{Feed, position}
 use Rattle.ds_whole.specs.Under.{under, entries_of}
-use Rattle.ds_whole.specs.Sent.{Sent, IsSent, stood_for, learnt}
-use Rattle.ds_whole.specs.Whole.{before, IsWhole}
+use Rattle.ds_whole.specs.Sent.{Sent, IsSent, learnt}
+use Rattle.ds_whole.specs.Whole.{IsWhole}
 use Rattle.ds_whole.specs.CatchUp.{IsMap, HoldsTheStores, HoldsAlike, HoldsATop, HoldsAtLeast, AnyHolderHoldsTheStores, MapHoldsItsQuery}
-use Rattle.ds_whole.specs.Agreement.{KnowSame, HoldersAgree, TopUnderQuery, JoinOfHolders, JoinUnderQuery, MoreIsHeld}
+use Rattle.ds_whole.specs.Agreement.{HoldersAgree, TopUnderQuery, JoinOfHolders, JoinUnderQuery, MoreIsHeld}
 use Rattle.ds_whole.proofs.SentLemmas.{Contains-under, Contains-from_under, under-all, stood, from_stood, sent_covers, learnt_of}
 use Rattle.ds_whole.proofs.JournalLemmas.{all_before}
 
@@ -140,9 +135,10 @@ holds_at_least f query items stored held s m w =
     (at_least f query (learnt query items) stored held s m.top (map_knows f query items held m w))
 
 pub holds_alike : HoldsAlike
-holds_alike f query items stored held s m w only =
-    (holds_at_least f query items stored held s m w,
-    subst (λ (l : List Item). CoversAll (under query stored) l) (map_holds_its_query query items held m) (at_most query (learnt query items) stored held m.top only))
+holds_alike f query items stored held s m w only = (
+  holds_at_least f query items stored held s m w,
+  subst (λ (l : List Item). CoversAll (under query stored) l) (map_holds_its_query query items held m) (at_most query (learnt query items) stored held m.top only),
+)
 
 pub holds_a_top : HoldsATop
 holds_a_top f query items held m w only =

@@ -1,5 +1,5 @@
 -- Examples in which one premise of a law of catching up, of agreement, of labels or of checks fails.
-use Rattle.std.proofs.Common.{◌≡◌, ℕ, ◌≤◌, ◌<◌, Bool, true, false, List, [], ◌∷◌, ◌++◌, take, length, refl, ap, sym, ◌∙◌, subst, inl, inr, arith}
+use Rattle.std.proofs.Common.{◌≡◌, ℕ, ◌≤◌, Bool, true, false, List, [], ◌∷◌, ◌++◌, take, refl, ap, sym, ◌∙◌, subst, inl, inr, arith}
 use Rattle.std.specs.Ordering.{eq_by_cmp}
 use Rattle.std.specs.List.{Contains, list_any}
 use Rattle.ds_names.specs.Key.{key_cmp}
@@ -12,18 +12,18 @@ use Rattle.ds_entry.specs.ItemCovers.{covers, AreSingleNumbered}
 use Rattle.ds_entry.specs.declared.body.Value.TheVariants as values
 use Rattle.ds_entry.specs.declared.body.Body.TheVariants.{Put, Gone}
 use Rattle.ds_entry.specs.declared.item.Item.{Item}
-use Rattle.ds_entry.specs.declared.item.Item.TheVariants.{Change as Changed, Floor as Floored}
+use Rattle.ds_entry.specs.declared.item.Item.TheVariants.{Change as Changed}
 use Rattle.ds_entry.proofs.Members.{Contains-nil, Contains-single, Contains-cons, Contains-head, Contains-tail}
 use Rattle.ds_join.specs.ItemTop.{IsTop, CoversAll, tops}
 use Rattle.ds_join.proofs.ItemTopLemmas.{join_is_commutative}
 use Rattle.ds_whole.specs.Under.{leaves_value, is_put}
-use Rattle.ds_whole.specs.Sent.{Sent, IsSent, learnt}
+use Rattle.ds_whole.specs.Sent.{Sent, IsSent}
 use Rattle.ds_whole.specs.CatchUp.{IsMap}
 use Rattle.ds_whole.specs.Checked.{unseen, CheckTurn, IsCheckTurn}
 use Rattle.ds_whole.specs.HolderPremises.{CatchUpNeeds, AgreementNeeds, LabelsNeed}
 use Rattle.ds_whole.specs.CheckPremises.{ChecksNeed}
 use Rattle.ds_whole.proofs.CheckLemmas.{accepted_are_new}
-use Rattle.ds_whole.proofs.Samples.{record_of, a1, a1', a2, b1, c1, floor1, feed_of, all, key_of, change, not_among, top_of_one, top_by, one_single}
+use Rattle.ds_whole.proofs.Samples.{record_of, a1, a1', a2, b1, c1, floor1, feed_of, all, key_of, not_among, top_of_one, top_by, one_single}
 
 -- lists that a test tells apart aren't one
 differ : (test : Item → Bool) (xs ys : List Item) → list_any test xs ≡ true → list_any test ys ≡ false → xs ≡ ys → ⊥

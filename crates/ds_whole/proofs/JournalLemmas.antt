@@ -1,10 +1,10 @@
 -- What the journal gives, one reply after the other, is whole.
-use Rattle.std.proofs.Common.{◌≡◌, ℕ, ◌+◌, ◌-◌, ◌≤◌, ◌<◌, ◌==◌, min, not, Bool, true, false, cond, List, [], ◌∷◌, ◌++◌, take, drop, length, Option, Some, None, refl, sym, ap, ◌∙◌, subst, inl, inr, ◌⊎◌, append-nil, arith}
+use Rattle.std.proofs.Common.{◌≡◌, ℕ, ◌+◌, ◌-◌, ◌≤◌, ◌==◌, min, not, Bool, true, false, cond, List, [], ◌∷◌, ◌++◌, take, drop, length, Some, None, refl, sym, ap, ◌∙◌, subst, inl, inr, ◌⊎◌, append-nil, arith}
 use Rattle.std.specs.Prelude.{nat_lt}
 use Rattle.std.specs.List.{Contains, filter}
 use Rattle.std.proofs.lemmas.Bool.{ltb-false}
 use Rattle.std.proofs.lemmas.List.{take_all, take-take, take-append-drop, drop-take, length-take, length-drop}
-use Rattle.std.proofs.lemmas.List.Elements.{Contains-append_left, Contains-append_right, Contains-append_cases}
+use Rattle.std.proofs.lemmas.List.Elements.{Contains-append_cases}
 use Rattle.ds_names.specs.declared.key.Key.{Key}
 use Rattle.ds_entry.specs.Item.{passes}
 use Rattle.ds_entry.specs.ItemCovers.{covers}
@@ -13,13 +13,11 @@ use Rattle.ds_entry.proofs.Members.{Contains-filter, Contains-from_filter, Conta
 use Rattle.ds_entry.proofs.ItemLemmas.{covers-refl}
 use Rattle.ds_join.specs.ItemTop.{IsPartOf}
 use Rattle.ds_feed.specs.declared.cursor.Cursor.{Cursor}
-use Rattle.ds_feed.specs.declared.journal.SinceFault.{SinceFault}
 use Rattle.ds_feed.specs.declared.journal.SinceFault.TheVariants.{OldCursor, Ahead, Behind}
 use Rattle.ds_feed.specs.declared.reading.Since.{Since}
 use Rattle.ds_feed.specs.Feed.{Feed, position, from}
 use Rattle.ds_feed.specs.Since.{piece, fault_at, IsGiven}
 use Rattle.ds_feed.proofs.LawLemmas.{prefix_is_shortest}
-use Rattle.ds_whole.specs.Under.{under, Keeps}
 use Rattle.ds_whole.specs.Sent.{Sent, given, stood_for}
 use Rattle.ds_whole.specs.Front.{IsFront}
 use Rattle.ds_whole.specs.Whole.{before, IsWhole}

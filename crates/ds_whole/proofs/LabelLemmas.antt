@@ -1,10 +1,10 @@
 -- Labels of what is held name the newest generation that is known.
-use Rattle.std.proofs.Common.{◌≡◌, not, ℕ, ◌<◌, ◌≤◌, Bool, true, false, cond, ◌&&◌, List, [], ◌∷◌, Option, Some, None, refl, sym, ap, ◌∙◌, subst, inl, inr, ◌⊎◌, arith}
+use Rattle.std.proofs.Common.{◌≡◌, not, ℕ, ◌<◌, ◌≤◌, Bool, true, false, cond, List, [], ◌∷◌, Option, Some, None, refl, sym, ap, ◌∙◌, subst, inl, inr, ◌⊎◌, arith}
 use Rattle.std.specs.declared.cmp.Ordering.{Ordering}
 use Rattle.std.specs.declared.cmp.Ordering.TheVariants.{Less, Equal, Greater}
 use Rattle.std.specs.Ordering.{nat_cmp, eq_by_cmp, ordering_then, is_le, MatchOrdering}
 use Rattle.std.proofs.lemmas.Cmp.{ranked, tied_itself}
-use Rattle.std.specs.List.{Contains, list_any}
+use Rattle.std.specs.List.{Contains}
 use Rattle.ds_names.specs.Endpoint.{EndpointRecord}
 use Rattle.ds_names.specs.Key.{key_cmp}
 use Rattle.ds_names.specs.declared.key.Key.{Key}
@@ -14,9 +14,9 @@ use Rattle.ds_names.specs.declared.version.Version.{Version}
 use Rattle.ds_names.proofs.OrderLemmas.{keys_total}
 use Rattle.ds_entry.specs.Change.{ChangeRecord, IsChange, IsLabelBody, IsLabelChange, KeepsRule}
 use Rattle.ds_entry.specs.Covers.{is_at_most}
-use Rattle.ds_entry.specs.Item.{passes, item_cmp, IsItem}
+use Rattle.ds_entry.specs.Item.{item_cmp, IsItem}
 use Rattle.ds_entry.specs.ItemCovers.{covers}
-use Rattle.ds_entry.specs.Void.{is_label, voids, voids_it, is_void}
+use Rattle.ds_entry.specs.Void.{is_label, voids_it, is_void}
 use Rattle.ds_entry.specs.declared.body.Value.{Value}
 use Rattle.ds_entry.specs.declared.body.Value.TheVariants as values
 use Rattle.ds_entry.specs.declared.body.Body.{Body}
@@ -27,10 +27,10 @@ use Rattle.ds_entry.specs.declared.item.Item.TheVariants.{Change as Changed, Flo
 use Rattle.ds_entry.proofs.Members.{Contains-nil, Contains-cons, Contains-head, Contains-tail, Contains-from_list_any, none_pass}
 use Rattle.ds_entry.proofs.CoversLemmas.{same_key, same_key-refl, covers-key, covers-version}
 use Rattle.ds_entry.proofs.OrderedLemmas.{tied_once}
-use Rattle.ds_entry.proofs.ItemLemmas.{items_total, Voids, voids-is}
+use Rattle.ds_entry.proofs.ItemLemmas.{items_total, voids-is}
 use Rattle.ds_join.specs.ItemTop.{IsTop}
 use Rattle.ds_whole.specs.Under.{under}
-use Rattle.ds_whole.specs.Labels.{HoldsNoOlder, NothingOlderIsHeld, NoOlderLabelIsHeld, label_key, endpoint_in, label_in, IsLive, IsGone, IsNewest, LabelsAreNewest}
+use Rattle.ds_whole.specs.Labels.{NothingOlderIsHeld, NoOlderLabelIsHeld, label_key, endpoint_in, label_in, IsLive, IsGone, IsNewest, LabelsAreNewest}
 use Rattle.ds_whole.proofs.SentLemmas.{Contains-under, Contains-from_under}
 use Rattle.ds_whole.proofs.HolderLemmas.{top_under_query}
 

@@ -21,21 +21,19 @@ use Rattle.ds_entry.specs.declared.item.Item.TheVariants.{Change as Changed, Flo
 use Rattle.ds_entry.proofs.Members.{In, In-from_Contains, Contains-from_In, Contains-filter, Contains-from_filter, Contains-from_drop}
 use Rattle.ds_entry.proofs.CoversLemmas.{covers-key}
 use Rattle.ds_entry.proofs.ItemLemmas.{covers-refl, covers-trans, covers-query}
-use Rattle.ds_join.specs.ItemTop.{IsTop, IsPartOf}
 use Rattle.ds_feed.specs.declared.cursor.Cursor.{Cursor}
 use Rattle.ds_feed.specs.declared.reading.Page.{Page}
 use Rattle.ds_feed.specs.Feed.{Feed, position}
-use Rattle.ds_feed.specs.Page.{is_floor, is_behind, still_to_come, floors_of, changes_of, page_of}
-use Rattle.ds_whole.specs.Under.{under, Keeps}
+use Rattle.ds_feed.specs.Page.{is_floor, is_behind, still_to_come, floors_of, changes_of}
 use Rattle.ds_whole.specs.Sent.{given, stood_for}
-use Rattle.ds_whole.specs.Front.{IsFront, end_of}
+use Rattle.ds_whole.specs.Front.{IsFront}
 use Rattle.ds_whole.specs.Whole.{before}
-use Rattle.ds_whole.specs.Journaled.{SinceTurn, AreSince, since_items, cursor_after}
+use Rattle.ds_whole.specs.Journaled.{since_items, cursor_after}
 use Rattle.ds_whole.specs.Paged.{PageTurn, IsPageTurn, last_key, ArePages, page_items, last_cursor}
 use Rattle.ds_whole.specs.PageLaws.{PagesAreWhole}
 use Rattle.ds_whole.proofs.SentLemmas.{Contains-from_under, kept, given_stands, stood_left, stood_right}
 use Rattle.ds_whole.proofs.WholeLemmas.{before_part}
-use Rattle.ds_whole.proofs.JournalLemmas.{all_before, front_is, front_part, journal_covers, journal_stands}
+use Rattle.ds_whole.proofs.JournalLemmas.{front_is, front_part, journal_covers, journal_stands}
 
 -- ---- behind a key
 

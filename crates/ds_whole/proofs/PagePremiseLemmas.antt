@@ -1,17 +1,15 @@
 -- Examples in which one premise of the law of pages fails.
-use Rattle.std.proofs.Common.{◌≡◌, ℕ, ◌≤◌, Bool, true, false, List, [], ◌∷◌, ◌++◌, Option, Some, None, refl, inl, inr, ◌⊎◌, arith}
-use Rattle.std.specs.List.{Contains}
+use Rattle.std.proofs.Common.{ℕ, Bool, List, [], ◌∷◌, ◌++◌, Option, Some, None, refl, arith}
 use Rattle.ds_names.specs.declared.key.Key.{Key}
-use Rattle.ds_names.specs.declared.kind.Kind.{Kind}
 use Rattle.ds_names.specs.declared.kind.Kind.TheVariants.{Label, U32}
 use Rattle.ds_entry.specs.Item.{passes}
 use Rattle.ds_entry.specs.ItemCovers.{covers}
 use Rattle.ds_entry.specs.declared.item.Item.{Item}
-use Rattle.ds_entry.proofs.Members.{Contains-nil, Contains-cons, Contains-head, Contains-tail}
+use Rattle.ds_entry.proofs.Members.{Contains-nil, Contains-head, Contains-tail}
 use Rattle.ds_join.specs.ItemTop.{IsTop, tops}
 use Rattle.ds_feed.specs.Since.{since_of}
 use Rattle.ds_feed.specs.Page.{page_of}
-use Rattle.ds_whole.specs.Front.{IsFront, end_of}
+use Rattle.ds_whole.specs.Front.{end_of}
 use Rattle.ds_whole.specs.Journaled.{SinceTurn}
 use Rattle.ds_whole.specs.Paged.{PageTurn, IsPageTurn}
 use Rattle.ds_whole.specs.PagePremises.{PagesNeed}

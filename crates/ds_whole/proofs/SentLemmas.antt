@@ -1,7 +1,7 @@
 -- What items stand for, and what is under a query.
-use Rattle.std.proofs.Common.{◌≡◌, Bool, true, false, cond, List, [], ◌∷◌, ◌++◌, map, refl, sym, ap, ◌∙◌, subst, inl, inr, ◌⊎◌, append_assoc}
+use Rattle.std.proofs.Common.{◌≡◌, Bool, true, cond, List, [], ◌∷◌, ◌++◌, refl, sym, ap, ◌∙◌, subst}
 use Rattle.std.specs.List.{Contains, filter}
-use Rattle.std.proofs.lemmas.List.Elements.{Contains-append_left, Contains-append_right, Contains-append_cases}
+use Rattle.std.proofs.lemmas.List.Elements.{Contains-append_left, Contains-append_right}
 use Rattle.ds_names.specs.declared.key.Key.{Key}
 use Rattle.ds_entry.specs.Item.{passes}
 use Rattle.ds_entry.specs.ItemCovers.{covers, covered_by}
@@ -9,7 +9,7 @@ use Rattle.ds_entry.specs.declared.item.Item.{Item}
 use Rattle.ds_entry.specs.declared.item.Item.TheVariants.{Change as Changed, Floor as Floored}
 use Rattle.ds_entry.proofs.Members.{Contains-single, Contains-head, Contains-tail, Contains-filter, Contains-from_filter, Contains-map, Contains-from_map, Contains-flat_map, Contains-from_flat_map}
 use Rattle.ds_entry.proofs.ItemLemmas.{covers-query}
-use Rattle.ds_join.specs.ItemTop.{IsTop, IsPartOf}
+use Rattle.ds_join.specs.ItemTop.{IsPartOf}
 use Rattle.ds_join.proofs.ItemTopLemmas.{top_of_covered}
 use Rattle.ds_whole.specs.Under.{under, Keeps}
 use Rattle.ds_whole.specs.Sent.{Sent, IsSent, sent_by, given, stood_for, learnt}

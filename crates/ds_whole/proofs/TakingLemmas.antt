@@ -1,5 +1,5 @@
 -- What a holder knows that takes items in.
-use Rattle.std.proofs.Common.{◌≡◌, Bool, true, List, [], ◌++◌, map, filter, subst, inl, inr, ◌⊎◌}
+use Rattle.std.proofs.Common.{◌≡◌, Bool, true, List, [], ◌++◌, subst, inl, inr, ◌⊎◌}
 use Rattle.std.specs.List.{Contains}
 use Rattle.std.proofs.lemmas.List.Elements.{Contains-append_left, Contains-append_right, Contains-append_cases}
 use Rattle.ds_names.specs.declared.key.Key.{Key}
@@ -8,10 +8,9 @@ use Rattle.ds_entry.specs.ItemCovers.{covers}
 use Rattle.ds_entry.specs.declared.item.Item.{Item}
 use Rattle.ds_entry.proofs.Members.{Contains-nil, Contains-head, Contains-filter, Contains-from_filter, Contains-map, Contains-from_map}
 use Rattle.ds_entry.proofs.ItemLemmas.{covers-refl}
-use Rattle.ds_join.specs.ItemTop.{IsTop, IsPartOf, CoversAll}
+use Rattle.ds_join.specs.ItemTop.{IsPartOf, CoversAll}
 use Rattle.ds_join.proofs.ItemTopLemmas.{top_of_nothing, top_of_same, top_of_top, top_of_whole}
 use Rattle.ds_whole.specs.Sent.{Sent, IsSent, stood_for, learnt}
-use Rattle.ds_whole.specs.CatchUp.{IsMap}
 use Rattle.ds_whole.specs.Taking.{items_of, sent_under, HolderTakes, NewMapIsMap, MapTakes}
 use Rattle.ds_whole.proofs.SentLemmas.{stood, from_stood, stood_wider, sent_covers}
 

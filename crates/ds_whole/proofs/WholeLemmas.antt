@@ -1,24 +1,15 @@
 -- Snapshots and journals are whole.
-use Rattle.std.proofs.Common.{◌≡◌, ℕ, ◌+◌, ◌-◌, ◌≤◌, min, Bool, true, List, [], ◌∷◌, ◌++◌, take, drop, length, Some, None, refl, sym, ap, ◌∙◌, subst, inl, inr, ◌⊎◌, append_assoc, append-nil, arith}
-use Rattle.std.specs.List.{Contains, filter}
-use Rattle.std.proofs.lemmas.List.{take-append-le, take-take, take-append-drop, drop-take, length-append}
-use Rattle.std.proofs.lemmas.List.Elements.{Contains-append_left, Contains-append_right, Contains-append_cases}
-use Rattle.ds_names.specs.declared.key.Key.{Key}
-use Rattle.ds_entry.specs.Item.{passes}
-use Rattle.ds_entry.specs.ItemCovers.{covers}
+use Rattle.std.proofs.Common.{◌≡◌, ℕ, ◌-◌, ◌≤◌, List, [], ◌∷◌, ◌++◌, take, length, refl, sym, ap, ◌∙◌, subst, append_assoc, append-nil, arith}
+use Rattle.std.specs.List.{Contains}
+use Rattle.std.proofs.lemmas.List.{take-append-le, take-take}
 use Rattle.ds_entry.specs.declared.item.Item.{Item}
-use Rattle.ds_entry.proofs.Members.{Contains-nil, Contains-from_take, Contains-from_drop}
-use Rattle.ds_entry.proofs.ItemLemmas.{covers-refl, covers-query}
-use Rattle.ds_join.specs.ItemTop.{IsTop, IsPartOf}
-use Rattle.ds_feed.specs.declared.cursor.Cursor.{Cursor}
-use Rattle.ds_feed.specs.declared.reading.Since.{Since}
-use Rattle.ds_feed.specs.Feed.{Feed, position, from, accepts}
-use Rattle.ds_feed.specs.Since.{prefix, piece, place_fault, fault_at, IsGiven}
-use Rattle.ds_feed.proofs.LawLemmas.{prefix_is_shortest}
-use Rattle.ds_whole.specs.Under.{under, Keeps}
-use Rattle.ds_whole.specs.Sent.{Sent, given, stood_for}
+use Rattle.ds_entry.proofs.Members.{Contains-nil, Contains-from_take}
+use Rattle.ds_entry.proofs.ItemLemmas.{covers-query}
+use Rattle.ds_join.specs.ItemTop.{IsPartOf}
+use Rattle.ds_feed.specs.Feed.{Feed, position}
+use Rattle.ds_whole.specs.Under.{under}
 use Rattle.ds_whole.specs.Front.{IsFront}
-use Rattle.ds_whole.specs.Whole.{before, IsWhole}
+use Rattle.ds_whole.specs.Whole.{before}
 use Rattle.ds_whole.specs.WholeLaws.{SnapshotIsWhole, NothingIsWhole, MoreIsWhole, EarlierIsWhole, NarrowerIsWhole, WholeStays, FeedsGrow}
 use Rattle.ds_whole.proofs.SentLemmas.{Contains-under, Contains-from_under, kept, given_stands, stood_wider}
 

@@ -1,15 +1,13 @@
 -- Examples in which one premise of a law of wholeness fails.
-use Rattle.std.proofs.Common.{◌≡◌, ℕ, true, false, List, [], ◌∷◌, refl, arith}
-use Rattle.std.specs.List.{Contains}
+use Rattle.std.proofs.Common.{[], ◌∷◌, refl, arith}
 use Rattle.ds_entry.specs.Item.{passes}
 use Rattle.ds_entry.specs.ItemCovers.{covers}
-use Rattle.ds_entry.specs.declared.item.Item.{Item}
 use Rattle.ds_entry.proofs.Members.{Contains-nil, Contains-head}
 use Rattle.ds_join.specs.ItemTop.{IsTop}
 use Rattle.ds_feed.specs.declared.cursor.Cursor.{Cursor}
 use Rattle.ds_feed.specs.Feed.{Feed}
 use Rattle.ds_feed.specs.Since.{since_of}
-use Rattle.ds_whole.specs.Sent.{Sent, given}
+use Rattle.ds_whole.specs.Sent.{given}
 use Rattle.ds_whole.specs.Whole.{IsWhole}
 use Rattle.ds_whole.specs.WholePremises.{SnapshotNeeds, SinceNeeds, WholeNeeds}
 use Rattle.ds_whole.proofs.Samples.{a1, b1, feed_of, all, none, not_among, top_by}

@@ -1,5 +1,5 @@
 -- Whoever follows a store from a snapshot, or from pages, holds what the store holds.
-use Rattle.std.specs.Prelude.{◌≡◌, ◌≤◌, Bool, List, ◌∷◌, ◌++◌, Option, None, Contains}
+use Rattle.std.specs.Prelude.{◌≡◌, ◌≤◌, Bool, List, ◌∷◌, ◌++◌, None, Contains}
 use Rattle.ds_names.specs.declared.key.Key.{Key}
 use Rattle.ds_entry.specs.Item.{passes}
 use Rattle.ds_entry.specs.ItemCovers.{AreSingleNumbered}
@@ -11,7 +11,7 @@ use Rattle.ds_whole.specs.Under.{under, Keeps}
 use Rattle.ds_whole.specs.Sent.{Sent, given, learnt}
 use Rattle.ds_whole.specs.Front.{IsFront, end_of}
 use Rattle.ds_whole.specs.Journaled.{SinceTurn, AreSince, since_items, cursor_after}
-use Rattle.ds_whole.specs.Paged.{PageTurn, ArePages, page_items, last_cursor}
+use Rattle.ds_whole.specs.Paged.{PageTurn, ArePages, page_items}
 use Rattle.ds_whole.specs.CatchUp.{IsMap}
 
 -- a map that has taken at least these items, in whatever order and however often, and nothing that isn't covered by what

@@ -1,7 +1,6 @@
 -- The law of pages.
-use Rattle.std.specs.Prelude.{ℕ, ◌≤◌, Bool, List, ◌∷◌, ◌++◌, Option, None}
+use Rattle.std.specs.Prelude.{◌≤◌, Bool, List, ◌∷◌, ◌++◌, None}
 use Rattle.ds_names.specs.declared.key.Key.{Key}
-use Rattle.ds_feed.specs.declared.cursor.Cursor.{Cursor}
 use Rattle.ds_feed.specs.Feed.{Feed}
 use Rattle.ds_whole.specs.Under.{Keeps}
 use Rattle.ds_whole.specs.Whole.{IsWhole}

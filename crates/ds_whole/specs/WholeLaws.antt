@@ -1,5 +1,5 @@
 -- The laws of wholeness.
-use Rattle.std.specs.Prelude.{◌≡◌, ℕ, ◌≤◌, Bool, List, [], ◌++◌, Contains}
+use Rattle.std.specs.Prelude.{ℕ, ◌≤◌, Bool, List, ◌++◌, Contains}
 use Rattle.ds_names.specs.declared.key.Key.{Key}
 use Rattle.ds_entry.specs.Item.{passes}
 use Rattle.ds_entry.specs.declared.item.Item.{Item}
