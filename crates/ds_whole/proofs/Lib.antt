@@ -1,0 +1,13 @@
+pub mod SentLemmas
+pub mod WholeLemmas
+pub mod JournalLemmas
+pub mod HolderLemmas
+pub mod PageLemmas
+pub mod CheckLemmas
+pub mod LabelLemmas
+pub mod FollowLemmas
+pub mod Samples
+pub mod WholePremiseLemmas
+pub mod PagePremiseLemmas
+pub mod HolderPremiseLemmas
+pub mod TakingLemmas

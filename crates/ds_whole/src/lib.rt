@@ -1,0 +1,14 @@
+//! What items leave out nothing of what a store accepted, and what follows for whoever holds their top: the laws of
+//! wholeness, of pages, of catching up and of agreement, over lists of items alone. No store cites them yet.
+//!
+//! In MINIX 3 a subscriber that missed something asks again; snapshots, pages, a journal and the promise that they
+//! leave out nothing are of this project.
+#![tactic(auto)]
+
+mod laws;
+mod premises;
+
+pub use laws::{
+    agreement_laws, catch_up_laws, check_laws, label_laws, page_laws, taking_laws, whole_laws,
+};
+pub use premises::{holder_premises, page_premises, whole_premises};
