@@ -15,11 +15,8 @@ loader.exec_module(refusals)
 class Script:
     """Commands drawn by a seed, with the answers of a model so far, to draw sensible ones.
 
-    `does_without` says that a library may do without a growth that it was refused, so that every answer is as with ample
-    memory.
+    A library may do without a growth that it asked for, so that every answer is as with ample memory.
     """
-
-    does_without = False
 
     def __init__(self, seed, model):
         self.random = random.Random(seed)
@@ -63,13 +60,13 @@ def growths(refuser, room, name, script):
         return wrong or "no growth of memory was counted at all"
     for n in range(1, counts["growth"] + 1):
         ran, _ = refuser.run(case, growth=n)
-        wrong = refused(script, ran)
+        wrong = refused(script, ran, refuser)
         if wrong:
             return f"growth {n}: {wrong}"
     return None
 
 
-def refused(script, ran):
+def refused(script, ran, refuser):
     """A refused growth ends the program by name, or is answered so by one call, which then did nothing."""
     lines = ran.output.decode().splitlines()
     if ran.status == 3:
@@ -77,9 +74,10 @@ def refused(script, ran):
         return None if ran.error == b"noroom\n" and lines == whole[: len(lines)] else f"it ended with {lines[-1:]}, {ran.error!r}"
     if (ran.status, ran.error) != (0, b""):
         return f"status {ran.status}, standard error {ran.error[:200]!r}"
+    if ran.output == script.wanted():
+        return refuser.unseen_fault()
     if lines.count("refused noroom") != 1:
-        unseen = script.does_without and ran.output == script.wanted()
-        return None if unseen else f"{lines.count('refused noroom')} answers are noroom"
+        return f"{lines.count('refused noroom')} answers are noroom"
     model, wanted = script.new_model(), []
     for command, ample in zip(script.kinds, script.answers):
         if lines[len(wanted) : len(wanted) + 1] == ["refused noroom"]:

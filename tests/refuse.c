@@ -6,6 +6,8 @@
 //   REFUSE_READ=n    the n-th read of standard input fails with EIO
 //   REFUSE_WRITE=n   the n-th write to standard output fails with EIO
 //   REFUSE_SHORT=k   each read of standard input gives, and each write to standard output takes, at most k bytes
+//   REFUSE_STACK=F   the file F gets, at the growth that is refused, the place where the program stands in memory and
+//                    the words of its stack from there up to main: they tell who asked (tests/askers.py)
 //   REFUSE_TALLY=F   the file F, four 64-bit words, gets the number of growths, reads and writes that were asked for,
 //                    and of the bytes that were read
 //
@@ -30,21 +32,28 @@
 #include <unistd.h>
 
 enum call { GROWTH, READ, WRITE, BYTES, WORDS };
+enum { MOST_STACK = 8 << 20 };
 
 static _Atomic uint64_t *tally; // NULL until main begins
 static uint64_t refused[WORDS]; // which call of each kind fails; 0 for none
 static uint64_t most = SIZE_MAX; // bytes of one read or write
 static uint64_t writes_before;   // so many writes come before the first growth that is counted
 static uint64_t later;           // whether growths behind the one that fails fail too
+static int stack_file = -1; // none
+static char *main_frame;
 
 static uint64_t number_of(const char *name) {
     const char *text = getenv(name);
     return text ? strtoull(text, NULL, 10) : 0;
 }
 
+static int opened(const char *name) {
+    const char *path = getenv(name);
+    return path ? open(path, O_RDWR) : -1;
+}
+
 static void begin(void) {
-    const char *path = getenv("REFUSE_TALLY");
-    int file = path ? open(path, O_RDWR) : -1;
+    int file = opened("REFUSE_TALLY");
     void *words = mmap(NULL, WORDS * sizeof *tally, PROT_READ | PROT_WRITE, MAP_SHARED, file, 0);
     if (words == MAP_FAILED)
         _exit(99);
@@ -58,6 +67,7 @@ static void begin(void) {
         most = number_of("REFUSE_SHORT");
     writes_before = number_of("REFUSE_BEHIND");
     later = number_of("REFUSE_LATER");
+    stack_file = opened("REFUSE_STACK");
     tally = words;
 }
 
@@ -69,6 +79,7 @@ typedef int start_function(main_function *, int, char **, void (*)(void), void (
 static main_function *main_of_program;
 
 static int counted_main(int count, char **words, char **environment) {
+    main_frame = __builtin_frame_address(0);
     begin();
     return main_of_program(count, words, environment);
 }
@@ -91,12 +102,22 @@ static int refuses(enum call call) {
     return tally && atomic_fetch_add(&tally[call], 1) + 1 == refused[call];
 }
 
+// Only the thread that runs main has its stack told.
+static void tell_stack(char *frame) {
+    Dl_info program;
+    if (stack_file < 0 || frame > main_frame || main_frame - frame > MOST_STACK || !dladdr((void *)main_of_program, &program))
+        return;
+    syscall(SYS_write, stack_file, &program.dli_fbase, sizeof program.dli_fbase);
+    syscall(SYS_write, stack_file, frame, main_frame - frame);
+}
+
 static int refuses_growth(void) {
     if (!tally || atomic_load(&tally[WRITE]) < writes_before)
         return 0;
     int is_later = later && refused[GROWTH] && atomic_load(&tally[GROWTH]) >= refused[GROWTH];
     if (!refuses(GROWTH) && !is_later)
         return 0;
+    tell_stack(__builtin_frame_address(0));
     errno = ENOMEM;
     return 1;
 }

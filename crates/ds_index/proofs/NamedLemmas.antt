@@ -14,7 +14,7 @@ use Rattle.ds_names.specs.Endpoint.{EndpointRecord}
 use Rattle.ds_names.specs.Key.{name_cmp}
 use Rattle.ds_join.proofs.HeldLemmas.{from_along}
 use Rattle.ds_index.specs.declared.named.Named.{Named}
-use Rattle.ds_index.specs.Named.{slot_of, generation_of, holder_cmp, named_cmp, is_before, is_under, is_of, inserted}
+use Rattle.ds_index.specs.Named.{slot_of, generation_of, holder_cmp, named_cmp, is_behind, begins_behind, is_of, inserted}
 use Rattle.ds_index.specs.Index.{IsAdded, IsReplaced}
 
 -- ---- the orders are total, and what compares alike is one
@@ -56,19 +56,19 @@ at P [] j d a l = absurd (omega (arith, l))
 at P (x ∷ xs) zero d a l = a.0
 at P (x ∷ xs) (suc j) d a l = at P xs j d a.1 (omega (arith, l))
 
-before_down : (p x y : Named) → named_cmp x y ≡ Less → is_before p y ≡ true → is_before p x ≡ true
-before_down p x y l u = ap is_lt (names_total.trans x y p l (less_is (named_cmp y p) u))
+behind_down : (p x y : Named) → named_cmp x y ≡ Less → is_behind p y ≡ true → is_behind p x ≡ true
+behind_down p x y l u = ap is_lt (names_total.trans x y p l (less_is (named_cmp y p) u))
 
-pub before_partitioned : (p : Named) (xs : List Named) → IsStrictlySortedBy named_cmp xs → IsPartitionedBy (is_before p) xs
+pub behind_partitioned : (p : Named) (xs : List Named) → IsStrictlySortedBy named_cmp xs → IsPartitionedBy (is_behind p) xs
 unfolding IsStrictlySortedBy
-before_partitioned p [] s i j d l w h = absurd (omega (arith, w))
-before_partitioned p (x ∷ xs) s zero zero d l w h = h
-before_partitioned p (x ∷ xs) s zero (suc j) d l w h = before_down p x (get_or xs j d) (at (λ y. named_cmp x y ≡ Less) xs j d s.0 (omega (arith, w))) h
-before_partitioned p (x ∷ xs) s (suc i) zero d l w h = absurd (omega (arith, l))
-before_partitioned p (x ∷ xs) s (suc i) (suc j) d l w h = before_partitioned p xs s.1 i j d (omega (arith, l)) (omega (arith, w)) h
+behind_partitioned p [] s i j d l w h = absurd (omega (arith, w))
+behind_partitioned p (x ∷ xs) s zero zero d l w h = h
+behind_partitioned p (x ∷ xs) s zero (suc j) d l w h = behind_down p x (get_or xs j d) (at (λ y. named_cmp x y ≡ Less) xs j d s.0 (omega (arith, w))) h
+behind_partitioned p (x ∷ xs) s (suc i) zero d l w h = absurd (omega (arith, l))
+behind_partitioned p (x ∷ xs) s (suc i) (suc j) d l w h = behind_partitioned p xs s.1 i j d (omega (arith, l)) (omega (arith, w)) h
 
 abbrev pub IsPlaceOf : Named → List Named → ℕ → Type 0
-IsPlaceOf p xs i = IsPartitionPoint (λ q. is_before p q ≡ true) (λ q. is_before p q ≡ false) xs i
+IsPlaceOf p xs i = IsPartitionPoint (λ q. is_behind p q ≡ true) (λ q. is_behind p q ≡ false) xs i
 
 place_within : (p x : Named) (xs : List Named) (i : ℕ) → IsPlaceOf p (x ∷ xs) (suc i) → IsPlaceOf p xs i
 place_within p x xs i h = (λ k d l w. h.0 (suc k) d (omega (arith, l)) (omega (arith, w)), λ k d l w. h.1 (suc k) d (omega (arith, l)) (omega (arith, w)))
@@ -79,9 +79,9 @@ unfolding IsStrictlySortedBy
 place_is b [] i s h p = absurd h
 place_is b (x ∷ xs) zero s (inl e) p = ap (λ y. Some y) (sym e)
 place_is b (x ∷ xs) zero s (inr h) p =
-    opposed (is_before b x) (ap is_lt (from_along (λ y. named_cmp x y ≡ Less) xs b s.0 h)) (p.1 0 x (omega arith) (omega arith))
+    opposed (is_behind b x) (ap is_lt (from_along (λ y. named_cmp x y ≡ Less) xs b s.0 h)) (p.1 0 x (omega arith) (omega arith))
 place_is b (x ∷ xs) (suc i) s (inl e) p =
-    let before : is_before b x ≡ true = p.0 0 x (omega arith) (omega arith) in
+    let before : is_behind b x ≡ true = p.0 0 x (omega arith) (omega arith) in
     absurd (not_itself b (subst (λ (y : Named). named_cmp y b ≡ Less) (sym e) (less_is (named_cmp x b) before)))
 place_is b (x ∷ xs) (suc i) s (inr h) p = place_is b xs i s.1 h (place_within b x xs i p)
 
@@ -121,7 +121,7 @@ below_further x y (d ∷ ds) h a = (names_total.trans x y d h a.0, below_further
 below_inserted : (x c : Named) (xs : List Named) → named_cmp x c ≡ Less → IsBelow x xs → IsBelow x (inserted c xs)
 below_inserted x c [] h a = (h, tt)
 below_inserted x c (d ∷ ds) h a =
-    elim (is_before c d) as (λ b. IsBelow x (cond b (d ∷ inserted c ds) (c ∷ d ∷ ds))) [ true ↦ (a.0, below_inserted x c ds h a.1) | false ↦ (h, a) ]
+    elim (is_behind c d) as (λ b. IsBelow x (cond b (d ∷ inserted c ds) (c ∷ d ∷ ds))) [ true ↦ (a.0, below_inserted x c ds h a.1) | false ↦ (h, a) ]
 
 turned : (o : Ordering) → is_lt o ≡ false → (o ≡ Equal → ⊥) → ordering_reverse o ≡ Less
 turned Less e n = absurd (cc)
@@ -131,9 +131,9 @@ turned Greater e n = refl
 pub inserted_sorted : (c : Named) (xs : List Named) → IsStrictlySortedBy named_cmp xs → ((d : Named) → In d xs → named_cmp d c ≡ Equal → ⊥) → IsStrictlySortedBy named_cmp (inserted c xs)
 unfolding IsStrictlySortedBy
 inserted_sorted c [] s n = (tt, tt)
-inserted_sorted c (d ∷ ds) s n = by_test (is_before c d) refl (inserted_sorted c ds s.1 (λ e h. n e (inr h)))
+inserted_sorted c (d ∷ ds) s n = by_test (is_behind c d) refl (inserted_sorted c ds s.1 (λ e h. n e (inr h)))
   where
-    by_test : (b : Bool) → is_before c d ≡ b → IsStrictlySortedBy named_cmp (inserted c ds) → IsStrictlySortedBy named_cmp (cond b (d ∷ inserted c ds) (c ∷ d ∷ ds))
+    by_test : (b : Bool) → is_behind c d ≡ b → IsStrictlySortedBy named_cmp (inserted c ds) → IsStrictlySortedBy named_cmp (cond b (d ∷ inserted c ds) (c ∷ d ∷ ds))
     by_test true e rest = (below_inserted d c ds (less_is (named_cmp d c) e) s.0, rest)
     by_test false e rest =
         let l : named_cmp c d ≡ Less = names_total.antisymm c d ∙ turned (named_cmp d c) e (n d (inl refl)) in
@@ -155,17 +155,17 @@ removed_sorted (d ∷ ds) (suc i) s = (below_removed d ds i s.0, removed_sorted 
 -- ---- what is listed then
 In-inserted : (p : Named) (xs : List Named) → In p (inserted p xs)
 In-inserted p [] = inl refl
-In-inserted p (x ∷ xs) = elim (is_before p x) as (λ b. In p (cond b (x ∷ inserted p xs) (p ∷ x ∷ xs))) [ true ↦ inr (In-inserted p xs) | false ↦ inl refl ]
+In-inserted p (x ∷ xs) = elim (is_behind p x) as (λ b. In p (cond b (x ∷ inserted p xs) (p ∷ x ∷ xs))) [ true ↦ inr (In-inserted p xs) | false ↦ inl refl ]
 
 In-still : (p q : Named) (xs : List Named) → In q xs → In q (inserted p xs)
 In-still p q [] h = absurd h
-In-still p q (x ∷ xs) (inl e) = elim (is_before p x) as (λ b. In q (cond b (x ∷ inserted p xs) (p ∷ x ∷ xs))) [ true ↦ inl e | false ↦ inr (inl e) ]
-In-still p q (x ∷ xs) (inr h) = elim (is_before p x) as (λ b. In q (cond b (x ∷ inserted p xs) (p ∷ x ∷ xs))) [ true ↦ inr (In-still p q xs h) | false ↦ inr (inr h) ]
+In-still p q (x ∷ xs) (inl e) = elim (is_behind p x) as (λ b. In q (cond b (x ∷ inserted p xs) (p ∷ x ∷ xs))) [ true ↦ inl e | false ↦ inr (inl e) ]
+In-still p q (x ∷ xs) (inr h) = elim (is_behind p x) as (λ b. In q (cond b (x ∷ inserted p xs) (p ∷ x ∷ xs))) [ true ↦ inr (In-still p q xs h) | false ↦ inr (inr h) ]
 
 In-from_inserted : (p q : Named) (xs : List Named) → In q (inserted p xs) → (q ≡ p) ⊎ In q xs
 In-from_inserted p q [] (inl e) = inl e
 In-from_inserted p q [] (inr h) = absurd h
-In-from_inserted p q (x ∷ xs) h = by_test (is_before p x) h (In-from_inserted p q xs)
+In-from_inserted p q (x ∷ xs) h = by_test (is_behind p x) h (In-from_inserted p q xs)
   where
     by_test : (b : Bool) → In q (cond b (x ∷ inserted p xs) (p ∷ x ∷ xs)) → (In q (inserted p xs) → (q ≡ p) ⊎ In q xs) → (q ≡ p) ⊎ In q (x ∷ xs)
     by_test true (inl e) rest = inr (inl e)
@@ -231,11 +231,11 @@ module _ (xs : List Named) (i : ℕ) (b a : Named) (s : IsStrictlySortedBy named
       rest.1 (lone (Contains-from_In a xs rest.0)))))
 
 -- ---- the first of an endpoint
--- what is before a name under the endpoint is under it
-under_down : (e : EndpointRecord) (x y : Named) → named_cmp x y ≡ Less → is_under e y ≡ true → is_under e x ≡ true
-under_down e x y l u = by_order (holder_cmp x.endpoint y.endpoint) refl l
+-- where an endpoint's labels begin behind one, they begin behind all before that one
+begins_down : (e : EndpointRecord) (x y : Named) → named_cmp x y ≡ Less → begins_behind e y ≡ true → begins_behind e x ≡ true
+begins_down e x y l u = by_order (holder_cmp x.endpoint y.endpoint) refl l
   where
-    by_order : (o : Ordering) → holder_cmp x.endpoint y.endpoint ≡ o → ordering_then o (name_cmp x.name y.name) ≡ Less → is_under e x ≡ true
+    by_order : (o : Ordering) → holder_cmp x.endpoint y.endpoint ≡ o → ordering_then o (name_cmp x.name y.name) ≡ Less → begins_behind e x ≡ true
     by_order Less q l = ap is_lt (holders_total.trans x.endpoint y.endpoint (Some e) q (less_is (holder_cmp y.endpoint (Some e)) u))
     by_order Equal q l = ap is_lt (holders_total.congr x.endpoint y.endpoint (Some e) q) ∙ u
     by_order Greater q l = absurd (cc)
@@ -262,13 +262,13 @@ of_up e x y l g = by_order (is_of e y) refl
         let above : holder_cmp y.endpoint x.endpoint ≡ Less = sym (holders_total.congr (Some e) y.endpoint x.endpoint back) ∙ other in
         absurd (not_greater (holder_cmp x.endpoint y.endpoint) (holders_total.antisymm x.endpoint y.endpoint ∙ ap ordering_reverse above) l)
 
-pub under_partitioned : (e : EndpointRecord) (xs : List Named) → IsStrictlySortedBy named_cmp xs → IsPartitionedBy (is_under e) xs
+pub begins_partitioned : (e : EndpointRecord) (xs : List Named) → IsStrictlySortedBy named_cmp xs → IsPartitionedBy (begins_behind e) xs
 unfolding IsStrictlySortedBy
-under_partitioned e [] s i j d l w h = absurd (omega (arith, w))
-under_partitioned e (x ∷ xs) s zero zero d l w h = h
-under_partitioned e (x ∷ xs) s zero (suc j) d l w h = under_down e x (get_or xs j d) (at (λ y. named_cmp x y ≡ Less) xs j d s.0 (omega (arith, w))) h
-under_partitioned e (x ∷ xs) s (suc i) zero d l w h = absurd (omega (arith, l))
-under_partitioned e (x ∷ xs) s (suc i) (suc j) d l w h = under_partitioned e xs s.1 i j d (omega (arith, l)) (omega (arith, w)) h
+begins_partitioned e [] s i j d l w h = absurd (omega (arith, w))
+begins_partitioned e (x ∷ xs) s zero zero d l w h = h
+begins_partitioned e (x ∷ xs) s zero (suc j) d l w h = begins_down e x (get_or xs j d) (at (λ y. named_cmp x y ≡ Less) xs j d s.0 (omega (arith, w))) h
+begins_partitioned e (x ∷ xs) s (suc i) zero d l w h = absurd (omega (arith, l))
+begins_partitioned e (x ∷ xs) s (suc i) (suc j) d l w h = begins_partitioned e xs s.1 i j d (omega (arith, l)) (omega (arith, w)) h
 
 -- the element at the partition point is the first that fails the test
 pub first_behind : (p : Named → Bool) (xs : List Named) (i : ℕ) → IsPartitionPoint (λ y. p y ≡ true) (λ y. p y ≡ false) xs i → slice_get xs i ≡ find (λ y. not (p y)) xs
@@ -286,17 +286,17 @@ abbrev pub if_of : EndpointRecord → Option Named → Option Named
 if_of e None = None
 if_of e (Some p) = cond (is_of e p) (Some p) None
 
--- the first that isn't under the endpoint is the first of it, or there is none
-pub first_found : (e : EndpointRecord) (xs : List Named) → IsStrictlySortedBy named_cmp xs → if_of e (find (λ (p : Named). not (is_under e p)) xs) ≡ find (is_of e) xs
+-- the first behind which the endpoint's labels don't begin is the first of them, or there is none
+pub first_found : (e : EndpointRecord) (xs : List Named) → IsStrictlySortedBy named_cmp xs → if_of e (find (λ (p : Named). not (begins_behind e p)) xs) ≡ find (is_of e) xs
 unfolding IsStrictlySortedBy
 first_found e [] s = refl
 first_found e (x ∷ xs) s = by_order (holder_cmp x.endpoint (Some e)) refl (first_found e xs s.1)
   where
-    by_order : (o : Ordering) → holder_cmp x.endpoint (Some e) ≡ o → if_of e (find (λ (p : Named). not (is_under e p)) xs) ≡ find (is_of e) xs → if_of e (find (λ (p : Named). not (is_under e p)) (x ∷ xs)) ≡ find (is_of e) (x ∷ xs)
-    by_order Less q rest = ap (λ o. if_of e (cond (not (is_lt o)) (Some x) (find (λ (p : Named). not (is_under e p)) xs))) q ∙ rest ∙ sym (ap (λ o. cond (is_eq o) (Some x) (find (is_of e) xs)) q)
-    by_order Equal q rest = ap (λ o. if_of e (cond (not (is_lt o)) (Some x) (find (λ (p : Named). not (is_under e p)) xs))) q ∙ ap (λ o. cond (is_eq o) (Some x) None) q ∙ sym (ap (λ o. cond (is_eq o) (Some x) (find (is_of e) xs)) q)
+    by_order : (o : Ordering) → holder_cmp x.endpoint (Some e) ≡ o → if_of e (find (λ (p : Named). not (begins_behind e p)) xs) ≡ find (is_of e) xs → if_of e (find (λ (p : Named). not (begins_behind e p)) (x ∷ xs)) ≡ find (is_of e) (x ∷ xs)
+    by_order Less q rest = ap (λ o. if_of e (cond (not (is_lt o)) (Some x) (find (λ (p : Named). not (begins_behind e p)) xs))) q ∙ rest ∙ sym (ap (λ o. cond (is_eq o) (Some x) (find (is_of e) xs)) q)
+    by_order Equal q rest = ap (λ o. if_of e (cond (not (is_lt o)) (Some x) (find (λ (p : Named). not (begins_behind e p)) xs))) q ∙ ap (λ o. cond (is_eq o) (Some x) None) q ∙ sym (ap (λ o. cond (is_eq o) (Some x) (find (is_of e) xs)) q)
     by_order Greater q rest =
-        ap (λ o. if_of e (cond (not (is_lt o)) (Some x) (find (λ (p : Named). not (is_under e p)) xs))) q ∙ ap (λ o. cond (is_eq o) (Some x) None) q
+        ap (λ o. if_of e (cond (not (is_lt o)) (Some x) (find (λ (p : Named). not (begins_behind e p)) xs))) q ∙ ap (λ o. cond (is_eq o) (Some x) None) q
         ∙ sym (ap (λ o. cond (is_eq o) (Some x) (find (is_of e) xs)) q ∙ none_of e x xs s.0 q)
 
 pub sorted_nil : IsStrictlySortedBy named_cmp []

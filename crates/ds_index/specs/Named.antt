@@ -28,13 +28,13 @@ named_cmp p q = ordering_then (holder_cmp p.endpoint q.endpoint) (name_cmp p.nam
 abbrev pub named_at : Option EndpointRecord → List ℕ → Named
 named_at endpoint name = record { endpoint = endpoint; name = name }
 
--- the other one stands before this one
-abbrev pub is_before : Named → Named → Bool
-is_before p q = is_lt (named_cmp q p)
+-- the first of the two stands behind the second
+abbrev pub is_behind : Named → Named → Bool
+is_behind p q = is_lt (named_cmp q p)
 
--- the label stands before all of the endpoint
-abbrev pub is_under : EndpointRecord → Named → Bool
-is_under e p = is_lt (holder_cmp p.endpoint (Some e))
+-- the labels of the endpoint begin behind this one
+abbrev pub begins_behind : EndpointRecord → Named → Bool
+begins_behind e p = is_lt (holder_cmp p.endpoint (Some e))
 
 -- the label holds the endpoint
 abbrev pub is_of : EndpointRecord → Named → Bool
@@ -43,4 +43,4 @@ is_of e p = is_eq (holder_cmp p.endpoint (Some e))
 -- the labels with one more, behind all that stand before it
 abbrev pub inserted : Named → List Named → List Named
 inserted p [] = p ∷ []
-inserted p (q ∷ qs) = cond (is_before p q) (q ∷ inserted p qs) (p ∷ q ∷ qs)
+inserted p (q ∷ qs) = cond (is_behind p q) (q ∷ inserted p qs) (p ∷ q ∷ qs)

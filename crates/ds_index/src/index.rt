@@ -5,10 +5,10 @@ ghost use Rattle.std.specs.Option.{option_copied, option_map};
 ghost use Rattle.std.specs.List.{find, remove};
 ghost use Rattle.std.specs.List.Sorted.{IsStrictlySortedBy, IsPartitionPoint};
 ghost use Rattle.ds_index.specs.declared.named.Named.{Named};
-ghost use Rattle.ds_index.specs.Named.{named_cmp, is_of, is_under, is_before, inserted};
+ghost use Rattle.ds_index.specs.Named.{named_cmp, is_of, begins_behind, is_behind, inserted};
 ghost use Rattle.ds_index.specs.Index.{IsAdded, IsReplaced};
 
-use crate::named::{Named, is_before, is_of, is_under};
+use crate::named::{Named, is_behind, is_of, begins_behind};
 use ds_names::{Endpoint, Name, NoRoom};
 use std::alloc::Global;
 use std::marker::Model;
@@ -39,12 +39,12 @@ fn nth(names: &[Named], index: usize) -> Option<&Named>
     names.get(index)
 }
 
-// The first that doesn't stand before all of the endpoint.
+// The first label of the endpoint or behind it: the endpoint's labels don't begin behind it.
 fn first_at<'a>(names: &'a [Named], endpoint: Endpoint) -> Option<&'a Named>
     requires { IsStrictlySortedBy named_cmp names.now }
-    ensures { option_copied result ≡ find (λ (p : Named). not (is_under endpoint p)) names.now }
+    ensures { option_copied result ≡ find (λ (p : Named). not (begins_behind endpoint p)) names.now }
 {
-    let place = names.partition_point(|named| is_under(endpoint, named));
+    let place = names.partition_point(|named| begins_behind(endpoint, named));
     nth(names, place)
 }
 
@@ -69,9 +69,9 @@ fn first_of<'a>(names: &'a [Named], endpoint: Endpoint) -> Option<&'a Named>
 fn place_of(names: &[Named], named: &Named) -> usize
     requires { IsStrictlySortedBy named_cmp names.now }
     ensures bound { result ≤ length names.now }
-    ensures place { IsPartitionPoint (λ q. is_before named.now q ≡ true) (λ q. is_before named.now q ≡ false) names.now result }
+    ensures place { IsPartitionPoint (λ q. is_behind named.now q ≡ true) (λ q. is_behind named.now q ≡ false) names.now result }
 {
-    names.partition_point(|other| is_before(named, other))
+    names.partition_point(|other| is_behind(named, other))
 }
 
 // One label more. With room it takes no memory.

@@ -1,7 +1,7 @@
 //! Labels with their endpoints, and their order.
 
 ghost use Rattle.std.specs.Prelude.{◌≡◌};
-ghost use Rattle.ds_index.specs.Named.{slot_of, generation_of, holder_cmp, named_cmp, is_before, is_under, is_of};
+ghost use Rattle.ds_index.specs.Named.{slot_of, generation_of, holder_cmp, named_cmp, is_behind, begins_behind, is_of};
 
 use ds_names::{Endpoint, Name};
 use std::cmp::Ordering;
@@ -55,16 +55,16 @@ fn compare(a: &Named, b: &Named) -> Ordering
     }
 }
 
-/// Whether the other one stands before this one.
-pub(crate) fn is_before(named: &Named, other: &Named) -> bool
-    ensures { result ≡ is_before named.now other.now }
+/// Whether the label stands behind the other one.
+pub(crate) fn is_behind(named: &Named, other: &Named) -> bool
+    ensures { result ≡ is_behind named.now other.now }
 {
     matches!(compare(other, named), Ordering::Less)
 }
 
-/// Whether the label stands before all of the endpoint.
-pub(crate) fn is_under(endpoint: Endpoint, named: &Named) -> bool
-    ensures { result ≡ is_under endpoint named.now }
+/// Whether the labels of the endpoint begin behind this one.
+pub(crate) fn begins_behind(endpoint: Endpoint, named: &Named) -> bool
+    ensures { result ≡ begins_behind endpoint named.now }
 {
     matches!(
         compare_endpoints(&named.endpoint, &Some(endpoint)),

@@ -1,20 +1,18 @@
 -- Lines stand apart: two changes with one line are one, and no line begins another.
 use Rattle.std.proofs.Common.{◌≡◌, ◌≢◌, ℕ, List, [], ◌∷◌, ◌++◌, length, get_or, drop, refl, sym, ap, subst, ◌∙◌, arith}
 use Rattle.std.proofs.lemmas.Fmt.{decimal_injective}
-use Rattle.std.proofs.lemmas.List.{append-nil}
-use Rattle.ds_names.specs.Endpoint.{EndpointRecord, IsEndpoint, endpoint_text}
 use Rattle.ds_names.specs.Kind.{kind_place}
 use Rattle.ds_names.specs.Run.{Begins}
 use Rattle.ds_names.specs.declared.kind.Kind.{Kind}
 use Rattle.ds_names.specs.declared.key.Key.{Key}
 use Rattle.ds_names.specs.declared.version.Version.{Version}
-use Rattle.ds_names.proofs.DecimalLemmas.{endpoint_one}
+use Rattle.ds_names.proofs.DecimalLemmas.{endpoint_text_one}
 use Rattle.ds_entry.specs.declared.body.Value.{Value}
 use Rattle.ds_entry.specs.declared.body.Value.TheVariants as values
 use Rattle.ds_entry.specs.declared.body.Body.{Body}
 use Rattle.ds_entry.specs.declared.body.Body.TheVariants.{Put, Gone}
 use Rattle.ds_entry.specs.Change.{ChangeRecord, change_of, kind_of, IsOfKind, IsValue, IsBody, IsChange}
-use Rattle.ds_line.specs.Part.{Class, Endpoint, run_of, Part, part}
+use Rattle.ds_line.specs.Part.{Class, run_of, Part, part}
 use Rattle.ds_line.specs.Spelling.{quoted, value_part, body_parts, change_parts, spelling}
 use Rattle.ds_line.specs.FaultPlace.{Stand}
 use Rattle.ds_line.proofs.PartLemmas.{IsText, part_one}
@@ -104,17 +102,11 @@ change_texts c is =
 
 -- ---- the parts give the change
 
-pub endpoints_one : (a b : EndpointRecord) → IsEndpoint a → IsEndpoint b → endpoint_text a ≡ endpoint_text b → a ≡ b
-endpoints_one a b is_a is_b text =
-    let begins_a : Begins (run_of Endpoint) (endpoint_text a) (endpoint_text a) [] = record { parts = sym (append-nil (endpoint_text a)); ends = tt } in
-    let begins_b : Begins (run_of Endpoint) (endpoint_text a) (endpoint_text b) [] = record { parts = text ∙ sym (append-nil (endpoint_text b)); ends = tt } in
-    (endpoint_one (endpoint_text a) a b [] [] is_a is_b begins_a begins_b).0
-
 texts_one : (a b : List ℕ) → quoted a ≡ quoted b → a ≡ b
 texts_one a b text = (quoted_one a b [] [] (ap (λ (x : List ℕ). x ++ []) text)).0
 
 pub value_one : (v w : Value) → IsValue v → IsValue w → kind_of v ≡ kind_of w → (value_part v).text ≡ (value_part w).text → v ≡ w
-value_one (values.Label a) (values.Label b) is_v is_w kind text = ap values.Label (endpoints_one a b is_v is_w text)
+value_one (values.Label a) (values.Label b) is_v is_w kind text = ap values.Label (endpoint_text_one a b is_v is_w text)
 value_one (values.U32 a) (values.U32 b) is_v is_w kind text = ap values.U32 (decimal_injective a b (omega (arith, is_v)) (omega (arith, is_w)) text)
 value_one (values.Str a) (values.Str b) is_v is_w kind text = ap values.Str (texts_one a b text)
 value_one (values.Mem a) (values.Mem b) is_v is_w kind text = ap values.Mem (hex_one a b is_v.each is_w.each text)

@@ -1,3 +1,4 @@
 pub mod CrossingLemmas
 pub mod PrintableLemmas
 pub mod RegexLemmas
+pub mod WalkLemmas

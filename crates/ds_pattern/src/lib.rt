@@ -15,6 +15,7 @@ mod work;
 
 pub use asker::Asker;
 pub use filter::Filter;
-pub use pattern::{MOST_STEPS, Pattern, PatternFault, SIZE_LIMIT};
+pub use pattern::{Pattern, PatternFault, SIZE_LIMIT};
 pub use query::{PatternText, Query};
 pub use threads::filters_cross_threads;
+pub use work::MOST_STEPS;

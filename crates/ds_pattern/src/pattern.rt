@@ -4,9 +4,10 @@ ghost use Rattle.std.specs.Prelude.{◌≡◌, ◌≤◌, ◌+◌, IsTrue, IfOk,
 ghost use Rattle.regex.specs.Strings.{matcher_pattern, regex_pattern, regex_size};
 ghost use Rattle.ds_pattern.specs.Under.{anchored, is_printable, is_regex, matches_whole, FindsWhole};
 ghost use Rattle.ds_pattern.specs.Patterns.{IsPattern, IsPatternFault, IsSyntaxFault};
+ghost use Rattle.ds_pattern.specs.Steps.{IsCheap};
 
 use crate::query::PatternText;
-use crate::work::steps;
+use crate::work::{MOST_STEPS, steps};
 use ds_names::{Name, NoRoom};
 use regex::{Matcher, Regex, RegexBuilder};
 use regex_syntax::{Config, ErrorKind};
@@ -24,8 +25,8 @@ pub enum PatternFault {
     /// deep.
     #[error("not a pattern over names")]
     BadPattern,
-    /// A growth was refused, or `regex` refused to build the pattern for another cause than its syntax, as its
-    /// limit on sizes. It may be answered in the place of BadPattern.
+    /// A growth was refused, or the pattern is beyond a bound: its compiled table would take more than `SIZE_LIMIT`
+    /// bytes, or a search for it more than `MOST_STEPS` steps. It may be answered in the place of BadPattern.
     #[error("out of memory")]
     NoRoom,
 }
@@ -57,12 +58,9 @@ impl From<regex::Error> for PatternFault {
 }
 
 /// How many bytes the table of a compiled pattern may take: 12 for each state of its automaton and 8 for each
-/// range of bytes that leads from one to another. `bench/README.md` has what is measured beside it.
+/// range of bytes that leads from one to another. `regex` promises that it takes at most 24 bytes more.
+/// `bench/README.md` has what is measured beside it.
 pub const SIZE_LIMIT: usize = 1 << 16;
-
-/// How many steps a search for a pattern may take in the longest name. What it takes to ask a new name rises with
-/// them. `bench/README.md` has what was measured.
-pub const MOST_STEPS: usize = 2500;
 
 /// A pattern over names: a text of at most 128 bytes of printable ASCII that `regex` reads, by itself and
 /// within `^(?:` and `)$`, and whose compiled table keeps within the limit.
@@ -91,6 +89,7 @@ impl Pattern {
     pub fn read(alloc: Global, text: &PatternText) -> Result<Pattern, PatternFault>
         ensures read { IfOk result (λ pattern. pattern ≡ text.now) }
         ensures pattern { IfOk result IsPattern }
+        ensures cheap { IfOk result IsCheap }
         ensures refused { IfErr result (λ fault. IsPatternFault fault text.now) }
     {
         let bytes = text.bytes();
@@ -154,6 +153,7 @@ fn anchored(alloc: Global, text: &str) -> Result<String, AllocError>
 fn judge(alloc: Global, text: &str) -> Result<(), PatternFault>
     requires { IsTrue (is_printable text.now) }
     ensures ok { OnOk result (IsTrue (is_regex text.now)) }
+    ensures cheap { OnOk result (IsCheap text.now) }
     ensures refused { IfErr result (λ fault. IsSyntaxFault fault text.now) }
 {
     let parsed = match regex_syntax::parse(alloc, text, &Config::default()) {
@@ -161,7 +161,7 @@ fn judge(alloc: Global, text: &str) -> Result<(), PatternFault>
         Err(error) if error.kind == ErrorKind::OutOfMemory => return Err(PatternFault::NoRoom),
         Err(_) => return Err(PatternFault::BadPattern),
     };
-    if steps(&parsed.hir, MOST_STEPS) > MOST_STEPS {
+    if steps(&parsed.hir) > MOST_STEPS {
         return Err(PatternFault::NoRoom);
     }
     Ok(())

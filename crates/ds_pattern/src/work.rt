@@ -1,165 +1,216 @@
 //! What it takes to ask a pattern for a name at worst.
 //!
-//! A search steps through the states of a pattern at each byte of a name. A state can only be reached behind as many
+//! A search steps through the parts of a pattern at each byte of a name. A part can only be reached behind as many
 //! bytes as the shortest and the longest text that lead to it, so that the pattern's tree bounds the steps for all names.
 
+ghost use Rattle.std.specs.Prelude.{◌≡◌, ◌+◌, ◌≤◌, map, length};
+ghost use Rattle.ds_pattern.specs.Steps.{behind, branches, byte_part, copy, counts, either, empty_part, in_turn, is_out, most_steps, nowhere, one_more, repeated, steps, times, walk, walked};
+
 use regex_hir::Hir;
+
+/// How many steps a search for a pattern may take in the longest name: each part of the pattern counts once for each
+/// number of bytes that may have been read where it stands. What it takes to ask a new name rises with them.
+/// `bench/README.md` has what was measured.
+pub const MOST_STEPS: usize = 2500;
 
 /// A name has so many bytes at most.
 const LONGEST: usize = 64;
 
-/// How many bytes of a name may have been read at a place of the pattern.
+/// Behind how few and behind how many bytes of a name a place of the pattern is reached; 65 stands for more than a
+/// name has.
 #[derive(Clone, Copy)]
-struct Reach {
+struct Place {
     least: usize,
     most: usize,
 }
 
-impl Reach {
-    // Behind how many counts of bytes the place can be reached within a name.
-    fn count(self) -> usize {
-        (self.most.min(LONGEST) + 1).saturating_sub(self.least)
+impl Place {
+    // How many numbers of bytes of a name may have been read there.
+    fn counts(self) -> usize
+        ensures { result ≡ counts self }
+    {
+        one_more(self.most).saturating_sub(self.least)
     }
 
-    // Behind so many more bytes.
-    fn behind(self, bytes: usize) -> Reach {
-        Reach {
-            least: self.least.saturating_add(bytes),
-            most: self.most.saturating_add(bytes),
+    // Behind one more byte.
+    fn behind(self) -> Place
+        ensures { result ≡ behind self }
+    {
+        Place {
+            least: one_more(self.least),
+            most: one_more(self.most),
         }
     }
 
-    // Where either may have been read.
-    fn either(self, other: Reach) -> Reach {
-        Reach {
+    // Where one of the two is reached.
+    fn either(self, other: Place) -> Place
+        ensures { result ≡ either self other }
+    {
+        Place {
             least: self.least.min(other.least),
             most: self.most.max(other.most),
         }
     }
-}
 
-/// The steps of a pattern that is followed from the start of a name, or more than the limit where there are more.
-pub(crate) fn steps(pattern: &Hir, limit: usize) -> usize {
-    let mut work = Work { steps: 0, limit };
-    let start = Reach { least: 0, most: 0 };
-    let _end = follow(pattern, start, &mut work);
-    work.steps
-}
-
-// The steps so far.
-#[derive(Drop)]
-struct Work {
-    steps: usize,
-    limit: usize,
-}
-
-impl Work {
-    // One more state at the place.
-    fn add(&mut self, reach: Reach) {
-        self.steps = self.steps.saturating_add(reach.count());
-    }
-
-    // Whether nothing more can be told from that place on.
-    fn is_over(&self, reach: Reach) -> bool {
-        self.steps > self.limit || reach.least > LONGEST
+    // Whether no name is so long.
+    fn is_out(self) -> bool
+        ensures { result ≡ is_out self }
+    {
+        self.least > LONGEST
     }
 }
 
-// Adds the steps of the pattern from a place on, and gives the place behind it.
+/// The steps of a pattern that is followed from the start of a name. Where they are more than may be, it is told that
+/// they are.
+pub(crate) fn steps(pattern: &Hir) -> usize
+    ensures { result ≤ most_steps → result ≡ steps pattern.now }
+{
+    let mut count = 0;
+    let start = Place { least: 0, most: 0 };
+    let _end = follow(pattern, start, &mut count);
+    count
+}
+
+// One byte more.
+fn one_more(bytes: usize) -> usize
+    ensures { result ≡ one_more bytes }
+{
+    bytes.min(LONGEST) + 1
+}
+
+// A step for each number of bytes that may have been read at the place.
+fn add(count: &mut usize, place: Place)
+    ensures rising { count.old ≤ count.new }
+    ensures added { count.new ≤ most_steps → count.new ≡ count.old + counts place }
+{
+    *count = count.saturating_add(place.counts());
+}
+
+// Counts the steps of the pattern from a place on, and gives the place behind it. Beyond the most it goes no further.
 #[cycle(follow)]
-fn follow(pattern: &Hir, start: Reach, work: &mut Work) -> Reach {
-    if work.is_over(start) {
+fn follow(pattern: &Hir, start: Place, count: &mut usize) -> Place
+    ensures rising { count.old ≤ count.new }
+    ensures walked { count.new ≤ most_steps → walk pattern.now (walked count.old start) ≡ walked count.new result }
+{
+    if *count > MOST_STEPS {
         return start;
     }
     match pattern {
         Hir::Empty | Hir::Look(_) => {
-            work.add(start);
+            add(count, start);
             start
         }
         Hir::Bytes(_) | Hir::Chars(_) => {
-            work.add(start);
-            start.behind(1)
+            add(count, start);
+            start.behind()
         }
-        Hir::Literal(bytes) => follow_literal(bytes.len(), start, work),
-        Hir::Repetition { min, max, sub, .. } => follow_copies(sub, *min, *max, start, work),
+        Hir::Literal(bytes) => follow_bytes(bytes.len(), start, count),
+        Hir::Repetition { min, max, sub, .. } => follow_repeated(sub, *min, *max, start, count),
         Hir::Capture { sub, .. } => {
-            work.add(start);
-            let end = follow(sub, start, work);
-            work.add(end);
+            add(count, start);
+            let end = follow(sub, start, count);
+            add(count, end);
             end
         }
-        Hir::Concat(subs) => follow_each(subs, start, work),
-        Hir::Alternation(subs) => follow_any(subs, start, work),
+        Hir::Concat(subs) => follow_each(subs, start, count),
+        Hir::Alternation(subs) => follow_any(subs, start, count),
     }
 }
 
 // The same of so many bytes in turn.
-fn follow_literal(count: usize, start: Reach, work: &mut Work) -> Reach {
+fn follow_bytes(bytes: usize, start: Place, count: &mut usize) -> Place
+    ensures rising { count.old ≤ count.new }
+    ensures walked { count.new ≤ most_steps → times bytes byte_part (walked count.old start) ≡ walked count.new result }
+{
     let mut place = start;
-    for _ in 0..count {
-        if work.is_over(place) {
-            return place;
-        }
-        work.add(place);
-        place = place.behind(1);
+    for _ in 0..bytes {
+        add(count, place);
+        place = place.behind();
     }
     place
 }
 
 // The same of patterns in turn.
 #[cycle(follow)]
-fn follow_each(patterns: &[Hir], start: Reach, work: &mut Work) -> Reach {
+fn follow_each(patterns: &[Hir], start: Place, count: &mut usize) -> Place
+    ensures rising { count.old ≤ count.new }
+    ensures walked { count.new ≤ most_steps → in_turn (map walk patterns.now) (walked count.old start) ≡ walked count.new result }
+{
     let mut place = start;
-    for pattern in patterns {
-        place = follow(pattern, place, work);
+    for i in 0..patterns.len() {
+        place = follow(&patterns[i], place, count);
     }
     place
 }
 
 // The same of one of the patterns.
 #[cycle(follow)]
-fn follow_any(patterns: &[Hir], start: Reach, work: &mut Work) -> Reach {
-    let mut end = None;
-    for pattern in patterns {
-        work.add(start);
-        let behind = follow(pattern, start, work);
-        end = match end {
-            None => Some(behind),
-            Some(other) => Some(behind.either(other)),
-        };
+fn follow_any(patterns: &[Hir], start: Place, count: &mut usize) -> Place
+    ensures rising { count.old ≤ count.new }
+    ensures walked { count.new ≤ most_steps → branches (map walk patterns.now) start (walked count.old nowhere) ≡ walked count.new result }
+{
+    let mut end = Place {
+        least: LONGEST + 1,
+        most: 0,
+    };
+    for i in 0..patterns.len() {
+        add(count, start);
+        end = end.either(follow(&patterns[i], start, count));
     }
-    end.unwrap_or(start)
+    end
 }
 
-// The same of copies of a pattern, of which so many must stand there; where there is no most, the last stands for all others.
+// The same of what is repeated. Where there is no most, the last copy stands for all others.
 #[cycle(follow)]
-fn follow_copies(
+fn follow_repeated(
     pattern: &Hir,
-    min: u32,
-    max: Option<u32>,
-    start: Reach,
-    work: &mut Work,
-) -> Reach {
+    least: u32,
+    most: Option<u32>,
+    start: Place,
+    count: &mut usize,
+) -> Place
+    ensures rising { count.old ≤ count.new }
+    ensures walked { count.new ≤ most_steps → repeated least most (walk pattern.now) (walked count.old start) ≡ walked count.new result }
+{
+    let must = if most.is_some() {
+        least
+    } else {
+        least.saturating_sub(1)
+    };
+    let front = follow_copies(pattern, must, start, count);
+    let (others, from) = match most {
+        Some(most) => (most.saturating_sub(least), front),
+        None => (
+            1,
+            Place {
+                least: front.least,
+                most: LONGEST,
+            },
+        ),
+    };
+    let end = follow_copies(pattern, others, from, count);
+    if most.is_some() || least == 0 {
+        return Place {
+            least: front.least,
+            most: end.most,
+        };
+    }
+    end
+}
+
+// The same of so many copies in turn.
+#[cycle(follow)]
+fn follow_copies(pattern: &Hir, copies: u32, start: Place, count: &mut usize) -> Place
+    ensures rising { count.old ≤ count.new }
+    ensures walked { count.new ≤ most_steps → times copies (copy (walk pattern.now)) (walked count.old start) ≡ walked count.new result }
+{
     let mut place = start;
-    let mut least = start.least;
-    for copy in 0..max.unwrap_or(min.max(1)) {
-        if work.is_over(place) {
-            return Reach {
-                least,
-                most: place.most,
-            };
+    for _ in 0..copies {
+        if place.is_out() || *count > MOST_STEPS {
+            return place;
         }
-        if max.is_none() && copy + 1 >= min {
-            place.most = LONGEST;
-        }
-        work.add(place);
-        place = follow(pattern, place, work);
-        if copy < min {
-            least = place.least;
-        }
+        add(count, place);
+        place = follow(pattern, place, count);
     }
-    Reach {
-        least,
-        most: place.most,
-    }
+    place
 }

@@ -9,6 +9,7 @@ use Rattle.ds_names.specs.Endpoint.{EndpointRecord, IsEndpoint, endpoint_of, end
 use Rattle.ds_names.specs.Run.{Begins}
 use Rattle.ds_names.specs.declared.kind.Kind.{Kind}
 use Rattle.ds_names.specs.declared.kind.Kind.TheVariants.{U32}
+use Rattle.ds_names.proofs.DecimalLemmas.{endpoint_text_one}
 use Rattle.ds_entry.specs.Change.{rs_name}
 use Rattle.ds_line.specs.Part.{Part, part, run_of, Word, Name, Number, Endpoint}
 use Rattle.ds_line.specs.Spelling.{kind_word}
@@ -18,7 +19,6 @@ use Rattle.ds_line.specs.declared.part_fault.PartFault.TheVariants.{BadPart, NoR
 use Rattle.ds_line.proofs.LabelLemmas.{rs_is_name, some_value, some_kind, some_is}
 use Rattle.ds_line.proofs.PartLemmas.{part_one}
 use Rattle.ds_line.proofs.OpeningLemmas.{text_at, word_is_word, word_one, key_is, version_is}
-use Rattle.ds_line.proofs.ApartLemmas.{endpoints_one}
 use Rattle.ds_line.proofs.PieceLemmas.{behind, Fixed, One, one_by, Views, view_stops, first_stops, then_stops, after_byte, part_missing, byte_missing, byte_found, byte_stops, stops_from}
 use Rattle.ds_words.specs.Command.{initial_word, mode_word}
 use Rattle.ds_words.specs.Pieces.{an_endpoint, an_initial, a_mode, a_name, a_kind, a_key, a_generation, a_seq, a_version, a_number, a_place, a_kinds, a_value, WantsRoom, an_end}
@@ -58,7 +58,7 @@ pub endpoint_fixed : Fixed an_endpoint 2
 endpoint_fixed e = refl
 
 pub endpoint_one : One an_endpoint
-endpoint_one = one_by an_endpoint (λ a b is_a is_b. (refl, λ _. (refl, λ _. tt))) (λ a is. (refl, ((a, is, refl), tt))) (λ a b is_a is_b same. endpoints_one a b is_a is_b (ap (text_at 1) same))
+endpoint_one = one_by an_endpoint (λ a b is_a is_b. (refl, λ _. (refl, λ _. tt))) (λ a is. (refl, ((a, is, refl), tt))) (λ a b is_a is_b same. endpoint_text_one a b is_a is_b (ap (text_at 1) same))
 
 -- ---- modes
 

@@ -1,4 +1,4 @@
-use Rattle.std.proofs.Common.{◌≡◌, ◌≢◌}
+use Rattle.std.proofs.Common.{◌≡◌, ◌≢◌, arith}
 use Rattle.std.proofs.lemmas.Bool.{false≢true}
 use Rattle.regex_syntax.specs.Verdict.{default_config}
 use Rattle.regex_syntax.specs.declared.error.ErrorKind.TheVariants as kind
@@ -15,3 +15,13 @@ pub returns-clause-ok : goal.returns-clause-ok
 returns-clause-ok c =
     let config : c.default.result ≡ default_config = c.default.ensures in
     regex_of_read c.args.text.now c.in-Ok.parsed.hir _ (rw config at c.in-Ok.ensures.ok) c.requires
+
+pub returns-clause-cheap : goal.returns-clause-cheap
+returns-clause-cheap c =
+    let config : c.default.result ≡ default_config = c.default.ensures in
+    record {
+      tree = c.in-Ok.parsed.hir;
+      names = _;
+      reads = rw config at c.in-Ok.ensures.ok;
+      few = omega (arith, c.steps.ensures (omega (arith, c.if-steps-gt-MOST_STEPS.false)), c.if-steps-gt-MOST_STEPS.false);
+    }
