@@ -79,6 +79,7 @@ catch_up_needs = record {
       differ (covers b1) (a1 ∷ b1 ∷ []) (a1 ∷ []) refl refl
       (law (feed_of (a1 ∷ [])) under_a (sent_for a1 (a1 ∷ b1 ∷ []) ∷ []) (a1 ∷ []) (a1 ∷ b1 ∷ []) one (top_by (a1 ∷ b1 ∷ []) (refl, (refl, tt)))
       (λ i h. subst (λ (z : Item). Contains (a1 ∷ b1 ∷ []) z) (sym (Contains-single a1 i h)) (Contains-head a1 (b1 ∷ []))) (covers_one a1 a1 refl) (one_single a1));
+  held = λ law. differ (covers a1) (a1 ∷ []) [] refl refl (law (feed_of []) all [] [] (a1 ∷ []) (top_by [] tt) (λ s h. absurd (Contains-nil s h)) (λ i h. absurd (Contains-nil i h)) (λ i h. absurd (Contains-nil i h)) nothing_single);
   stored = λ law. differ (λ i. covers i a2) (a2 ∷ []) (a1 ∷ []) refl refl (sym (law (feed_of (a1 ∷ [])) all (sent_for a1 (a1 ∷ []) ∷ []) (a2 ∷ []) (a1 ∷ []) map_of_one (λ i h. h) (covers_one a2 a1 refl) (one_single a1)));
 }
 

@@ -59,4 +59,11 @@ pages_need = record {
       not_among (covers c1) (b1 ∷ []) c1 refl refl
       (law (feed_of whole) all all (page_by all None 1 whole) (page_by all after 1 (b1 ∷ [])) (λ key e. e) (page_is whole [] all None 1 (top_by whole (refl, (refl, tt)))) refl
       (page_is (b1 ∷ []) (c1 ∷ []) all after 1 (top_by (b1 ∷ []) (refl, tt))) refl (omega arith) c1 (Contains-tail b1 (c1 ∷ []) c1 (Contains-head c1 [])));
+  front = λ law.
+      let whole : List Item = b1 ∷ c1 ∷ [] in
+      let other : List Item = b1 ∷ a1 ∷ [] in
+      let after : Option Key = Some (key_of U32 98) in
+      not_among (covers c1) (b1 ∷ []) c1 refl refl
+      (law (feed_of whole) all all (page_by all None 1 whole) (page_by all after 1 other) (λ key e. e) (page_is whole [] all None 1 (top_by whole (refl, (refl, tt)))) refl
+      (page_is other [] all after 1 (top_by other (refl, (refl, tt)))) refl (omega arith) (omega arith) c1 (Contains-tail b1 (c1 ∷ []) c1 (Contains-head c1 [])));
 }

@@ -34,3 +34,7 @@ pub record PagesNeed : Type 0 where
   pub in_turn : ¬ ((f : Feed) (scope query : Key → Bool) (first second : PageTurn) → Keeps scope query → IsPageTurn f scope None first → first.page.last ≡ false →
       IsPageTurn f scope (last_key None first.page.items) second → second.page.last ≡ true → second.page.cursor.position ≤ first.page.cursor.position →
       IsWhole f query (given first.known first.page.items ++ given second.known second.page.items) first.page.cursor.position)
+  -- and all are of one incarnation
+  pub front : ¬ ((f : Feed) (scope query : Key → Bool) (first second : PageTurn) → Keeps scope query → IsPageTurn f scope None first → first.page.last ≡ false →
+      IsPageTurn second.feed scope (last_key None first.page.items) second → second.page.last ≡ true → first.page.cursor.position ≤ second.page.cursor.position → second.page.cursor.position ≤ first.page.cursor.position →
+      IsWhole f query (given first.known first.page.items ++ given second.known second.page.items) first.page.cursor.position)
