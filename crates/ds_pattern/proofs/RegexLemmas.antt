@@ -16,7 +16,6 @@ use Rattle.regex_syntax.specs.Brackets.{Nested}
 use Rattle.regex_syntax.specs.Grammar.{Names, group_count}
 use Rattle.regex_syntax.specs.declared.error.ErrorKind.{ErrorKind}
 use Rattle.regex_syntax.specs.declared.error.ErrorKind.TheVariants as kind
-use Rattle.ds_names.specs.Name.{IsName}
 use Rattle.ds_pattern.specs.declared.pattern.PatternFault.{PatternFault}
 use Rattle.ds_pattern.specs.declared.pattern.PatternFault.TheVariants as fault
 use Rattle.ds_pattern.specs.Under.{anchored, is_printable, is_read_as, is_regex, matches_whole, FindsWhole}

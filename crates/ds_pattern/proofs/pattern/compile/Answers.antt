@@ -1,8 +1,8 @@
-use Rattle.std.proofs.Common.{◌≡◌, true, ap, ◌∙◌}
+use Rattle.std.proofs.Common.{◌≡◌, ap, ◌∙◌}
 use Rattle.std.proofs.lemmas.Result.{err_from_is_err_and}
 use Rattle.regex.specs.Views.{builder_source, builder_config}
 use Rattle.regex_syntax.specs.Verdict.{default_config}
-use Rattle.ds_pattern.specs.Under.{anchored, is_printable}
+use Rattle.ds_pattern.specs.Under.{anchored}
 use Rattle.ds_pattern.proofs.PrintableLemmas.{printable_anchored}
 use Rattle.ds_pattern.proofs.RegexLemmas.{syntax_fault, regex_of_built, finds_of_built}
 use Rattle.ds_pattern.proofs.pattern.compile.Goals as goal

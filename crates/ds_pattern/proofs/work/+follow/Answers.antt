@@ -1,5 +1,5 @@
-use Rattle.std.proofs.Common.{◌≡◌, ◌-◌, ◌≤◌, true, false, sym, ap, ◌∙◌, arith}
-use Rattle.ds_pattern.specs.Steps.{copy, empty_part, is_out, most_steps, walk, walked}
+use Rattle.std.proofs.Common.{◌≡◌, ◌-◌, true, false, sym, ap, ◌∙◌, arith}
+use Rattle.ds_pattern.specs.Steps.{copy, is_out, walk, walked}
 use Rattle.ds_pattern.proofs.WalkLemmas.{copy_in, times_more, times_out}
 use Rattle.ds_pattern.proofs.work.+follow.Goals as goal
 use Rattle.ds_pattern.proofs.work.+follow.Goals.{follow_copies-then-is_out-via-then-is_out, follow_copies-then-is_out-via-else-is_out+then-count-gt-MOST_STEPS}

@@ -1,5 +1,5 @@
-use Rattle.std.proofs.Common.{◌≡◌, ◌≤◌, sym, ap₂, ◌∙◌, arith}
-use Rattle.ds_pattern.specs.Steps.{behind, byte_part, counts, most_steps, walked}
+use Rattle.std.proofs.Common.{◌≡◌, sym, ap₂, ◌∙◌, arith}
+use Rattle.ds_pattern.specs.Steps.{byte_part, walked}
 use Rattle.ds_pattern.proofs.WalkLemmas.{times_more}
 use Rattle.ds_pattern.proofs.work.follow_bytes.Goals as goal
 

@@ -1,4 +1,3 @@
-use Rattle.std.proofs.Common.{◌≡◌}
 use Rattle.ds_pattern.specs.Under.{FindsWhole}
 use Rattle.ds_pattern.proofs.PrintableLemmas.{printable_of_name}
 use Rattle.ds_pattern.proofs.pattern.Pattern.matches.Goals as goal

@@ -1,6 +1,6 @@
-use Rattle.std.proofs.Common.{◌≡◌, ◌≤◌, true, length, sym, ap, ◌∙◌, arith}
+use Rattle.std.proofs.Common.{◌≡◌, ◌≤◌, true, length, sym, ◌∙◌, arith}
 use Rattle.std.proofs.lemmas.Result.{err_from_is_err_and}
-use Rattle.ds_pattern.specs.Under.{anchored, is_printable, is_regex}
+use Rattle.ds_pattern.specs.Under.{is_printable, is_regex}
 use Rattle.ds_pattern.proofs.RegexLemmas.{fault_alone, fault_whole}
 use Rattle.ds_pattern.proofs.pattern.Pattern.read.Goals as goal
 

@@ -1,4 +1,4 @@
-use Rattle.std.proofs.Common.{◌≡◌, ◌≤◌, ◌<◌, [], Some, IsTrue, ap, sym, subst, refl, take, length, arith}
+use Rattle.std.proofs.Common.{◌≡◌, [], IsTrue, ap, sym, subst, refl, take, arith}
 use Rattle.ds_names.specs.Kind.{names_kind}
 use Rattle.ds_join.specs.Held.{IsOwn}
 use Rattle.ds_join.specs.declared.merge.JoinFault.TheVariants.{NoRoom}
