@@ -1,10 +1,16 @@
 -- The lines of an input.
-use Rattle.std.specs.Prelude.{◌≡◌, ◌≢◌, ℕ, List, [], ◌∷◌, ◌++◌}
+use Rattle.std.specs.Prelude.{◌≡◌, ◌≢◌, ℕ, suc, ◌<◌, List, [], ◌∷◌, ◌++◌, length, take}
 use Rattle.std.specs.List.{All, flat_map}
 
 -- no newline is in it
 abbrev pub IsUnbroken : List ℕ → Type 0
 IsUnbroken line = All (λ (b : ℕ). b ≢ 10) line
+
+-- the first newline of the text stands behind so many bytes
+pub record BreaksAt (text : List ℕ) (n : ℕ) : Type 0 where
+  pub within : n < length text
+  pub line : IsUnbroken (take n text)
+  pub parts : take (suc n) text ≡ take n text ++ 10 ∷ []
 
 -- a line with its newline
 abbrev pub ended : List ℕ → List ℕ

@@ -1,15 +1,16 @@
 //! Lines in bytes.
 
-ghost use Rattle.std.specs.Prelude.{◌≡◌, ◌++◌, ◌==◌, MatchOption};
-ghost use Rattle.std.specs.List.{position_from};
+ghost use Rattle.std.specs.Prelude.{◌≡◌, ◌++◌, MatchOption};
 ghost use Rattle.ds_line.specs.LastNewline.{EndsLine};
-ghost use Rattle.ds_words.specs.Lines.{IsUnbroken};
+ghost use Rattle.ds_words.specs.Lines.{IsUnbroken, BreaksAt};
+
+use memchr::memchr;
 
 // The place of the first newline.
 fn newline_place(text: &[u8]) -> Option<usize>
-    ensures { result ≡ position_from (λ b. b == 10) 0 text.now }
+    ensures { MatchOption result (IsUnbroken text.now) (BreaksAt text.now) }
 {
-    text.iter().position(|b| *b == b'\n')
+    memchr(b'\n', text)
 }
 
 /// The first line with its newline, and what follows it. `None` where no newline stands in the text.

@@ -1,20 +1,25 @@
-use Rattle.std.proofs.Common.{◌+◌, sym, ◌∙◌, arith, take-append-drop, subst}
+use Rattle.std.proofs.Common.{◌+◌, sym, MatchOption, arith, take-append-drop, subst}
 use Rattle.ds_line.specs.LastNewline.{EndsLine}
-use Rattle.ds_words.proofs.NewlineLemmas.{BreaksAt, breaks_at, ends_line, unbroken}
+use Rattle.ds_words.specs.Lines.{IsUnbroken, BreaksAt}
+use Rattle.ds_words.proofs.NewlineLemmas.{ends_line}
 use Rattle.ds_words.proofs.split.split_line.Goals as goal
 
 pub overflow_add-place : goal.overflow_add-place
-overflow_add-place c = omega (arith, (breaks_at c.args.text.now c.in-Some.place (sym c.newline_place.ensures ∙ c.in-Some.is)).within)
+overflow_add-place c =
+    let b : BreaksAt c.args.text.now c.in-Some.place = subst (λ r. MatchOption r (IsUnbroken c.args.text.now) (BreaksAt c.args.text.now)) c.in-Some.is c.newline_place.ensures in
+    omega (arith, b.within)
 
 pub split_at-requires : goal.split_at-requires
-split_at-requires c = omega (arith, (breaks_at c.args.text.now c.in-Some.place (sym c.newline_place.ensures ∙ c.in-Some.is)).within)
+split_at-requires c =
+    let b : BreaksAt c.args.text.now c.in-Some.place = subst (λ r. MatchOption r (IsUnbroken c.args.text.now) (BreaksAt c.args.text.now)) c.in-Some.is c.newline_place.ensures in
+    omega (arith, b.within)
 
 pub returns-in-Some : goal.returns-in-Some
 returns-in-Some c =
-    let b : BreaksAt c.args.text.now c.in-Some.place = breaks_at c.args.text.now c.in-Some.place (sym c.newline_place.ensures ∙ c.in-Some.is) in (
+    let b : BreaksAt c.args.text.now c.in-Some.place = subst (λ r. MatchOption r (IsUnbroken c.args.text.now) (BreaksAt c.args.text.now)) c.in-Some.is c.newline_place.ensures in (
       subst EndsLine (sym c.split_at.ensures.front) (ends_line c.args.text.now c.in-Some.place b),
       rw (c.split_at.ensures.front, c.split_at.ensures.back) (sym (take-append-drop (c.in-Some.place + 1) c.args.text.now)),
     )
 
 pub returns-in-None : goal.returns-in-None
-returns-in-None c = unbroken c.args.text.now 0 (sym c.newline_place.ensures ∙ c.in-None.is)
+returns-in-None c = subst (λ r. MatchOption r (IsUnbroken c.args.text.now) (BreaksAt c.args.text.now)) c.in-None.is c.newline_place.ensures
