@@ -14,3 +14,10 @@ pub mod CheckLemmas
 pub mod JudgeLemmas
 pub mod SubscribeLemmas
 pub mod CrossingLemmas
+pub mod CauseLemmas
+pub mod ReachedLemmas
+pub mod EntersLemmas
+pub mod SweptLemmas
+pub mod EffectLemmas
+pub mod SaysLemmas
+pub mod ReplyLemmas

@@ -3,6 +3,9 @@ pub mod State
 pub mod Content
 pub mod Judging
 pub mod Machine
+pub mod Reached
+pub mod Effect
+pub mod Says
 pub mod Stands
 -- what bodies alone speak of: how a store keeps its content
 pub mod Owed

@@ -57,6 +57,7 @@ impl Model for Store {
 
 impl Store {
     ghost use Rattle.ds_store.specs.Machine.{Answers, Step, TakesNoMemory, retrieving, naming, IsKindInPlace};
+    ghost use Rattle.ds_store.specs.Says.{IsReplyTo};
 
     /// A store of this incarnation that holds nothing yet and whose first change will have the position
     /// `first`. BadRing unless the ring is 1 to 4096, then BadFirst above 2^62.
@@ -91,7 +92,9 @@ impl Store {
     pub fn apply(&mut self, command: Command) -> Reply
         ensures step { (s : State) → Stands self.old s → (t : State) × Step s command result t × Stands self.new t }
         ensures in_place { TakesNoMemory command → result ≢ Reply.Refused Refusal.NoRoom }
+        ensures fits { IsReplyTo command result }
     {
+        let _stood = self.position();
         match command {
             Command::Publish {
                 caller,
@@ -137,6 +140,7 @@ impl Store {
     pub fn position(&self) -> u64
         ensures value { result ≡ self.now.position }
         ensures limit { self.now.position ≤ last_place }
+        ensures stood { (s : State) × Stands self.now s }
     {
         self.position
     }
