@@ -2,7 +2,7 @@
 use Rattle.std.proofs.Common.{◌≡◌, ℕ, zero, suc, ◌+◌, ◌<◌, ◌≤◌, ◌⊎◌, Bool, true, false, not, cond, ◌&&◌, ◌||◌, List, [], ◌∷◌, ◌++◌, map, filter, length, take, get_or, set, Option, Some, None, is_some, refl, ap, ap₂, sym, ◌∙◌, inl, inr, arith, Contains, Bor}
 use Rattle.std.proofs.lemmas.List.Folds.{list_any-append}
 use Rattle.std.specs.Prelude.{slice_get}
-use Rattle.std.specs.List.{AllByRecursion, list_any}
+use Rattle.std.specs.List.{list_any}
 use Rattle.std.specs.List.Sorted.{IsStrictlySortedBy}
 use Rattle.std.specs.Option.{option_map, option_copied}
 use Rattle.ds_names.specs.declared.key.Key.{Key}
@@ -41,18 +41,6 @@ is_some-map f (Some x) = refl
 pub copied_some : {A : Type 0} (o : Option (Bor A)) → is_some (option_copied o) ≡ is_some o
 copied_some None = refl
 copied_some (Some x) = refl
-
-pub all_set : {X : Type 0} (P : X → Type 0) (xs : List X) (k : ℕ) (y : X) → P y → AllByRecursion P xs → AllByRecursion P (set xs k y)
-all_set P [] zero y p a = tt
-all_set P [] (suc k) y p a = tt
-all_set P (x ∷ xs) zero y p a = (p, a.1)
-all_set P (x ∷ xs) (suc k) y p a = (a.0, all_set P xs k y p a.1)
-
-pub all_at : {X : Type 0} (P : Option X → Type 0) (xs : List (Option X)) (k : ℕ) → P None → AllByRecursion P xs → P (get_or xs k None)
-all_at P [] zero n a = n
-all_at P [] (suc k) n a = n
-all_at P (x ∷ xs) zero n a = a.0
-all_at P (x ∷ xs) (suc k) n a = all_at P xs k n a.1
 
 -- ---- a place in what is shown of the subscriptions
 pub at_from : (hs : List ChangeRecord) (u : Key → List Bool) (place : ℕ) (ws : List (Option Watching)) (k target : ℕ) → place + k ≡ target → get_or (followed_from hs u place ws) k None ≡ option_map (followed_by hs u target) (get_or ws k None)

@@ -19,23 +19,23 @@ use Rattle.ds_store.specs.Judging.{Request, Standing, first_cause, against_asked
 use Rattle.ds_join.specs.Label.{names_endpoint}
 use Rattle.ds_store.specs.declared.judging.Cause.{Cause}
 
-first_false : (b : Bool) (x : Cause) (rest : Option Cause) → cond b (Some x) rest ≡ None → (b ≡ false) × (rest ≡ None)
+pub first_false : {A : Type 0} (b : Bool) (x : A) (rest : Option A) → cond b (Some x) rest ≡ None → (b ≡ false) × (rest ≡ None)
 first_false true x rest e = absurd (cc)
 first_false false x rest e = (refl, e)
 
-both : (a b : Bool) → a && b ≡ true → (a ≡ true) × (b ≡ true)
+pub both : (a b : Bool) → a && b ≡ true → (a ≡ true) × (b ≡ true)
 both true b e = (refl, e)
 both false b e = absurd (cc)
 
-negated : (b : Bool) → not b ≡ false → b ≡ true
+pub negated : (b : Bool) → not b ≡ false → b ≡ true
 negated true e = refl
 negated false e = absurd (cc)
 
-refuted : (b : Bool) → not b ≡ true → b ≡ false
+pub refuted : (b : Bool) → not b ≡ true → b ≡ false
 refuted true e = absurd (cc)
 refuted false e = refl
 
-excluded : (a b : Bool) → a && not b ≡ false → a ≡ true → b ≡ true
+pub excluded : (a b : Bool) → a && not b ≡ false → a ≡ true → b ≡ true
 excluded true b e t = negated b e
 excluded false b e t = absurd (cc)
 
@@ -45,7 +45,7 @@ same_number a b e = grind (arith, nat_tests)
 positive : (n : ℕ) → not (n == 0) ≡ true → 0 < n
 positive n e = grind (arith, nat_tests)
 
-below : (n : ℕ) → not (nat_le 4294967295 n) ≡ true → n < 4294967295
+pub below : (n : ℕ) → not (nat_le 4294967295 n) ≡ true → n < 4294967295
 below n e = grind (arith, nat_tests)
 
 same_kind : (a b : Kind) → (kind_place a == kind_place b) ≡ true → a ≡ b
@@ -83,7 +83,7 @@ no_label U32 n = refl
 no_label Str n = refl
 no_label Mem n = refl
 
-below_sweeps : (version : Version) (body : Body) → version.seq < 4294967295 → IsBelowSweeps version body
+pub below_sweeps : (version : Version) (body : Body) → version.seq < 4294967295 → IsBelowSweeps version body
 below_sweeps version (Put value) l = l
 below_sweeps version Gone l = tt
 

@@ -15,3 +15,10 @@ pub mod JudgeLemmas
 pub mod SubscribeLemmas
 pub mod CrossingLemmas
 pub mod LastLemmas
+pub mod CauseLemmas
+pub mod ReachedLemmas
+pub mod EntersLemmas
+pub mod SweptLemmas
+pub mod EffectLemmas
+pub mod SaysLemmas
+pub mod ReplyLemmas

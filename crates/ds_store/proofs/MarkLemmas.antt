@@ -1,5 +1,5 @@
 -- What subscriptions are to be shown after a change took effect.
-use Rattle.std.proofs.Common.{◌≡◌, ℕ, suc, ◌+◌, Bool, true, false, not, ◌&&◌, ◌||◌, List, [], ◌∷◌, ◌++◌, map, get_or, Option, Some, None, refl, ap, ap₂, sym, ◌∙◌, subst, inl, inr, arith, length-append, Contains, Result, Ok, Err, IfOk}
+use Rattle.std.proofs.Common.{◌≡◌, ℕ, suc, ◌+◌, Bool, true, false, not, ◌&&◌, ◌||◌, ◌<◌, List, [], ◌∷◌, ◌++◌, map, length, get_or, Option, Some, None, refl, ap, ap₂, sym, ◌∙◌, subst, inl, inr, arith, length-append, Contains, Result, Ok, Err, IfOk}
 use Rattle.std.proofs.lemmas.List.Elements.{Contains-push, Contains-push_cases, Contains-append_left}
 use Rattle.std.proofs.Math.ListN.{get_or-map}
 use Rattle.std.specs.List.{AllByRecursion, list_any}
@@ -22,10 +22,13 @@ use Rattle.ds_watch.specs.Watching.{Watching, watches, followed_by, followed_fro
 use Rattle.ds_store.specs.State.{State, accepts}
 use Rattle.ds_store.specs.Content.{Content}
 use Rattle.ds_store.specs.Judging.{held_at, TakesEffect}
-use Rattle.ds_store.specs.Stands.{Stands, WasAccepted}
+use Rattle.ds_store.specs.Limits.{last_place}
+use Rattle.ds_store.specs.Reached.{LeavesSweeps}
+use Rattle.ds_store.specs.Stands.{Stands}
 use Rattle.ds_store.proofs.FlagLemmas.{tests_at, flags_same}
 use Rattle.ds_store.proofs.StandsLemmas.{key_found, key_missing, held_covers, not_above, single_more, tops_more}
 use Rattle.ds_store.proofs.SweepLemmas.{once}
+use Rattle.ds_store.proofs.ReachedLemmas.{WasAccepted, shown_each, reached_more}
 
 abbrev pub followed : Query → ℕ → List Bool → Followed
 followed query stamp unseen = record { query = query; stamp = stamp; unseen = unseen }
@@ -144,31 +147,27 @@ module _ (accepted : List ChangeRecord) (c : ChangeRecord) (count : ℕ) (n : Is
           ap₂ (λ f l. Some f ∷ l) (same_after place sub w (ap (λ n. get_or (v c.key) n false) (at_first place) ∙ here 0) b.0 first)
           (all_follow (suc place) ws subs (λ k. ap (λ n. get_or (v c.key) n false) (next place k) ∙ here (suc k)) rest b.1)
 
-shown_more : (accepted : List ChangeRecord) (c : ChangeRecord) (subs : List (Option Subscription)) → AllByRecursion (WasAccepted accepted) subs → AllByRecursion (WasAccepted (accepted ++ c ∷ [])) subs
-shown_more accepted c [] a = tt
-shown_more accepted c (None ∷ subs) a = (tt, shown_more accepted c subs a.1)
-shown_more accepted c (Some sub ∷ subs) a = (λ d h. Contains-append_left accepted (c ∷ []) d (a.0 d h), shown_more accepted c subs a.1)
-
 pub if_ok : {A E : Type 0} (P Q : A → Type 0) (r : Result A E) → ((x : A) → P x → Q x) → IfOk r P → IfOk r Q
 if_ok P Q (Ok x) f p = f x p
 if_ok P Q (Err e) f p = tt
 
 -- ---- the state with the change
-pub stands_marked : (x : Content) (s : State) (c : ChangeRecord) (new : List ChangeRecord) (u v : Key → List Bool) (ws : List (Option Watching)) (count : ℕ) → Stands x s → x.subscriptions ≡ followed_from x.held u 0 ws
+pub stands_marked : (x : Content) (s : State) (c : ChangeRecord) (new : List ChangeRecord) (u v : Key → List Bool) (ws : List (Option Watching)) → Stands x s → x.subscriptions ≡ followed_from x.held u 0 ws
     → v c.key ≡ map (watches c.key) ws → ((key : Key) → eq_by_cmp key_cmp key c.key ≡ false → v key ≡ u key)
-    → TakesEffect (held_at x.held c.key) count c → IsTop new (x.held ++ c ∷ [])
+    → TakesEffect (held_at x.held c.key) (length x.held) c → x.position < last_place → LeavesSweeps c → IsTop new (x.held ++ c ∷ [])
     → Stands (record x { held = new; position = x.position + 1; subscriptions = followed_from new v 0 ws }) (accepts s (c ∷ []))
-stands_marked x s c new u v ws count stands is owes others takes t =
+stands_marked x s c new u v ws stands is owes others takes room leaves t =
     let here = stands.held in
-    let fits : TakesEffect (held_at (tops s.accepted) c.key) count c = subst (λ hs. TakesEffect (held_at hs c.key) count c) here takes in
+    let fits : TakesEffect (held_at (tops s.accepted) c.key) (length (tops s.accepted)) c = subst (λ hs. TakesEffect (held_at hs c.key) (length hs) c) here takes in
     let joined : IsTop new (tops s.accepted ++ c ∷ []) = subst (λ hs. IsTop new (hs ++ c ∷ [])) here t in
-    let single = single_more s.accepted c count stands.single fits in
-    let held = tops_more s.accepted new c stands.single single joined in
+    let single = single_more s.accepted c (length (tops s.accepted)) stands.reached.single fits in
+    let held = tops_more s.accepted new c stands.reached.single single joined in
     let same : followed_from (tops s.accepted) u 0 ws ≡ map (option_map (followed_of (tops s.accepted))) s.subscriptions =
     ap (λ hs. followed_from hs u 0 ws) (sym here) ∙ sym is ∙ stands.subscriptions in
     let at : (k : ℕ) → get_or (v c.key) (0 + k) false ≡ watches c.key (get_or ws k None) =
     λ k. ap (λ n. get_or (v c.key) n false) (none_more k) ∙ ap (λ (fs : List Bool). get_or fs k false) owes ∙ get_or-map (watches c.key) ws k None in
-    let follow = all_follow s.accepted c count stands.single fits new joined u v others 0 ws s.subscriptions at same stands.shown in
+    let shown : AllByRecursion (WasAccepted s.accepted) s.subscriptions = shown_each s.accepted s.subscriptions (λ k seer e. (stands.reached.served k seer e).shown) in
+    let follow = all_follow s.accepted c (length (tops s.accepted)) stands.reached.single fits new joined u v others 0 ws s.subscriptions at same shown in
     record {
       held = held;
       first = stands.first;
@@ -177,8 +176,7 @@ stands_marked x s c new u v ws count stands is owes others takes t =
       incarnation = stands.incarnation;
       stamp = stands.stamp;
       subscriptions = follow ∙ ap (λ hs. map (option_map (followed_of hs)) s.subscriptions) held;
-      single = single;
-      shown = shown_more s.accepted c s.subscriptions stands.shown;
+      reached = reached_more s c stands.reached single fits (omega (arith, stands.position, room)) leaves;
     }
 
 -- ---- to whom it is owed

@@ -3,7 +3,7 @@ use Rattle.std.proofs.Common.{◌≡◌, ℕ, zero, suc, Bool, true, false, cond
 use Rattle.std.proofs.lemmas.Option.{same_Some}
 use Rattle.std.proofs.lemmas.List.Elements.{Contains-push_cases}
 use Rattle.std.specs.declared.cmp.Ordering.TheVariants.{Less, Greater}
-use Rattle.std.specs.List.{AllByRecursion, find}
+use Rattle.std.specs.List.{find}
 use Rattle.std.specs.Option.{option_map}
 use Rattle.std.specs.Ordering.{eq_by_cmp, is_le, ordering_reverse}
 use Rattle.std.specs.FinMap.{FinMap, entries, len-entries, len-empty}
@@ -28,7 +28,6 @@ use Rattle.ds_store.specs.Judging.{held_at, TakesEffect}
 use Rattle.ds_watch.specs.declared.masks.Masks.{Masks}
 use Rattle.ds_watch.specs.Watching.{Watching, followed_from}
 use Rattle.ds_store.specs.Kept.{AreMarked}
-use Rattle.ds_store.specs.Stands.{WasAccepted}
 
 -- ---- what is held for a key, in the list and in the holding
 found_passes : (p : ChangeRecord → Bool) (xs : List ChangeRecord) (c : ChangeRecord) → find p xs ≡ Some c → p c ≡ true
@@ -160,10 +159,3 @@ none_marked hs marks ws e = record {
   under = λ c h. absurd (Contains-nil c (subst (λ (l : List ChangeRecord). Contains l c) e h));
   long = λ c h. absurd (Contains-nil c (subst (λ (l : List ChangeRecord). Contains l c) e h));
 }
-
-none_shown : (accepted : List ChangeRecord) (n : ℕ) → AllByRecursion (WasAccepted accepted) (replicate n None)
-none_shown accepted zero = tt
-none_shown accepted (suc n) = (tt, none_shown accepted n)
-
-pub none_shown_yet : (accepted : List ChangeRecord) → AllByRecursion (WasAccepted accepted) (replicate 64 None)
-none_shown_yet accepted = none_shown accepted 64

@@ -24,14 +24,15 @@ use Rattle.ds_store.specs.State.{State, unseen, subscription_at, subscribes}
 use Rattle.ds_store.specs.Content.{Content}
 use Rattle.ds_store.specs.Judging.{CheckCase, first_refusal, against_subscribe, against_check}
 use Rattle.ds_store.specs.Machine.{Answers, IsRefusedFor, subscribing, subscribe_case, owed_at_first, shown_at_first, checking, checking_at, check_case, shows, has_unseen, held}
-use Rattle.ds_store.specs.Stands.{Stands, WasAccepted}
+use Rattle.ds_store.specs.Stands.{Stands}
 use Rattle.ds_store.specs.declared.refusal.Refusal.{Refusal}
 use Rattle.ds_store.specs.declared.refusal.Refusal.TheVariants as refusals
 use Rattle.ds_store.specs.declared.command.Reply.{Reply}
 use Rattle.ds_store.specs.declared.command.Reply.TheVariants.{Subscribed, Checked, Refused}
-use Rattle.ds_store.proofs.CheckLemmas.{at_map, is_some-map, all_set, all_at, at_from, follow_set, made_so}
+use Rattle.ds_store.proofs.CheckLemmas.{at_map, is_some-map, at_from, follow_set, made_so}
 use Rattle.ds_store.specs.Remarked.{AreFirst, is_to_show}
 use Rattle.ds_store.proofs.PlaceLemmas.{taken_first, all_taken, few_taken, filter_more}
+use Rattle.ds_store.proofs.ReachedLemmas.{reached_served}
 use Rattle.ds_store.proofs.JudgeLemmas.{check_left, worn_stamp, fresh_stamp}
 
 zero_more : (k : ℕ) → 0 + k ≡ k
@@ -48,9 +49,9 @@ module _ (v : Content) (s : State) (stands : Stands v s) (sub : ℕ) where
 -- the state with a subscription made or shown something, where only the flags of its place became others
 pub stands_subscribed : (x : Content) (s : State) (sub : ℕ) (query : Query) (seen : List ChangeRecord) (u v : Key → List Bool) (ws : List (Option Watching)) (w : Watching) → Stands x s → x.subscriptions ≡ followed_from x.held u 0 ws
     → ((c : ChangeRecord) → Contains x.held c → (k : ℕ) → (k ≡ sub → ⊥) → get_or (v c.key) k false ≡ get_or (u c.key) k false)
-    → followed_by x.held v sub w ≡ followed_of x.held (record { query = query; stamp = x.stamp + 1; shown = seen }) → IsPartOf seen s.accepted
+    → followed_by x.held v sub w ≡ followed_of x.held (record { query = query; stamp = x.stamp + 1; shown = seen }) → IsPartOf seen s.accepted → sub < places → x.stamp < last_place
     → Stands (record x { stamp = x.stamp + 1; subscriptions = followed_from x.held v 0 (set ws sub (Some w)) }) (subscribes s sub query seen)
-stands_subscribed x s sub query seen u v ws w stands is others same part =
+stands_subscribed x s sub query seen u v ws w stands is others same part place room =
     let made : Subscription = record { query = query; stamp = s.stamp + 1; shown = seen } in
     let after : followed_by x.held v sub w ≡ followed_of (tops s.accepted) made =
     same ∙ ap₂ (λ hs n. followed_of hs (record { query = query; stamp = n + 1; shown = seen })) stands.held stands.stamp in
@@ -65,8 +66,7 @@ stands_subscribed x s sub query seen u v ws w stands is others same part =
           follow_set x.held u v sub others 0 sub ws w (zero_more sub)
           ∙ ap₂ (λ l f. set l sub (Some f)) (sym is ∙ stands.subscriptions) after
           ∙ sym (map-set (option_map (followed_of (tops s.accepted))) s.subscriptions sub (Some made));
-      single = stands.single;
-      shown = all_set (WasAccepted s.accepted) s.subscriptions sub (Some made) part stands.shown;
+      reached = reached_served s sub query seen stands.reached place part (omega (arith, stands.stamp, room));
     }
 
 -- ---- a Subscribe
@@ -99,14 +99,15 @@ module _ (v : Content) (s : State) (stands : Stands v s) (sub : ℕ) (query : Qu
 
   first_part : (b : Bool) → IsPartOf (shown_at_first v.held b) s.accepted
   first_part true = λ c h. absurd (Contains-nil c h)
-  first_part false = λ c h. (tops_is_top s.accepted stands.single.one_owner).among c (subst (λ (hs : List ChangeRecord). Contains hs c) stands.held h)
+  first_part false = λ c h. (tops_is_top s.accepted stands.reached.single.one_owner).among c (subst (λ (hs : List ChangeRecord). Contains hs c) stands.held h)
 
   pub subscribed_stands : (u w : Key → List Bool) (ws : List (Option Watching)) → v.subscriptions ≡ followed_from v.held u 0 ws
       → ((c : ChangeRecord) → Contains v.held c → (k : ℕ) → (k ≡ sub → ⊥) → get_or (w c.key) k false ≡ get_or (u c.key) k false)
       → ((c : ChangeRecord) → Contains v.held c → get_or (w c.key) sub false ≡ is_under query c.key && initial)
+      → sub < places → v.stamp < last_place
       → Stands (record v { stamp = v.stamp + 1; subscriptions = followed_from v.held w 0 (set ws sub (Some (watching query (v.stamp + 1)))) }) (subscribes s sub query (shown_at_first v.held initial))
-  subscribed_stands u w ws is others here =
-      stands_subscribed v s sub query (shown_at_first v.held initial) u w ws (watching query (v.stamp + 1)) stands is others (made_so query (v.stamp + 1) initial v.held w sub here) (first_part initial)
+  subscribed_stands u w ws is others here place room =
+      stands_subscribed v s sub query (shown_at_first v.held initial) u w ws (watching query (v.stamp + 1)) stands is others (made_so query (v.stamp + 1) initial v.held w sub here) (first_part initial) place room
 
 -- ---- a Check
 -- the state's subscription that is seen as the store's
@@ -163,7 +164,7 @@ shows_some s sub seer [] l = absurd (omega arith)
 shows_some s sub seer (c ∷ xs) l = refl
 
 -- some test of a list that isn't empty passes
-some_taken : (n : ℕ) (p : ChangeRecord → Bool) (hs : List ChangeRecord) → 0 < length (take n (filter p hs)) → list_any p hs ≡ true
+pub some_taken : (n : ℕ) (p : ChangeRecord → Bool) (hs : List ChangeRecord) → 0 < length (take n (filter p hs)) → list_any p hs ≡ true
 some_taken n p hs l = by_list (filter p hs) refl l
   where
     by_list : (fs : List ChangeRecord) → filter p hs ≡ fs → 0 < length (take n fs) → list_any p hs ≡ true
@@ -242,10 +243,10 @@ module _ (v : Content) (s : State) (stands : Stands v s) (sub max : ℕ) (u : Ke
 
   pub shown_part : (items : List ChangeRecord) → items ≡ take max to_show → IsPartOf (t.seer.shown ++ items) s.accepted
   shown_part items e = λ c h. elim (Contains-append_cases t.seer.shown items c h) [
-    | inl k ↦ (subst (λ o. WasAccepted s.accepted o) t.here (all_at (WasAccepted s.accepted) s.subscriptions sub tt stands.shown)) c k
+    | inl k ↦ (stands.reached.served sub t.seer t.here).shown c k
     | inr k ↦
         (let from = Contains-from_filter (is_unseen t.seer.query t.seer.shown) v.held c (Contains-from_take max to_show c (subst (λ (l : List ChangeRecord). Contains l c) e k)) in
-        (tops_is_top s.accepted stands.single.one_owner).among c (subst (λ (hs : List ChangeRecord). Contains hs c) stands.held from.0))
+        (tops_is_top s.accepted stands.reached.single.one_owner).among c (subst (λ (hs : List ChangeRecord). Contains hs c) stands.held from.0))
   ]
 
 -- ---- what is found for a Subscribe and a Check

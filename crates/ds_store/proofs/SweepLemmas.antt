@@ -45,7 +45,7 @@ use Rattle.ds_store.specs.declared.command.Reply.TheVariants.{Swept}
 use Rattle.ds_store.proofs.StandsLemmas.{key_found, key_missing}
 
 -- ---- a list in key order
-not_below_itself : (a b : Key) → a ≡ b → key_cmp a b ≡ Less → ⊥
+pub not_below_itself : (a b : Key) → a ≡ b → key_cmp a b ≡ Less → ⊥
 not_below_itself a b e l =
     let less : key_cmp a a ≡ Less = subst (λ (k : Key). key_cmp a k ≡ Less) (sym e) l in
     let no : Equal ≡ Less = sym (tied_itself keys_total a) ∙ less in
@@ -112,7 +112,7 @@ module _ (held new : List ChangeRecord) (t : ChangeRecord) (key : Key) (same : t
       (record { in_order = order; among = λ c h. h; greatest = λ c h. (c, h, covers-refl c) })
 
 -- ---- the tombstone of an entry
-at_most : (m n : ℕ) → nat_le m n ≡ true → m ≤ n
+pub at_most : (m n : ℕ) → nat_le m n ≡ true → m ≤ n
 at_most m n e = grind (arith, nat_tests)
 
 at_most_too : (m n : ℕ) → m ≤ n → nat_le m n ≡ true
@@ -126,14 +126,14 @@ epoch_below m n l =
     ] refl
 
 -- a version of an epoch up to the generation is below that of its sweep
-below_sweep : (v : Version) (generation : ℕ) → v.epoch ≤ generation → v.seq < 4294967295 → version_cmp v (record { epoch = generation; seq = 4294967295 }) ≡ Less
+pub below_sweep : (v : Version) (generation : ℕ) → v.epoch ≤ generation → v.seq < 4294967295 → version_cmp v (record { epoch = generation; seq = 4294967295 }) ≡ Less
 below_sweep v generation l below =
     elim (epoch_below v.epoch generation l) [
       | inl less ↦ ap (λ r. ordering_then r (nat_cmp v.seq 4294967295)) less
       | inr same ↦ ap (λ r. ordering_then r (nat_cmp v.seq 4294967295)) same ∙ sym (nat_cmp_is v.seq 4294967295 Less below)
     ]
 
-live_below : (v : Version) (body : Body) → is_some (value_in body) ≡ true → IsBelowSweeps v body → v.seq < 4294967295
+pub live_below : (v : Version) (body : Body) → is_some (value_in body) ≡ true → IsBelowSweeps v body → v.seq < 4294967295
 live_below v (Put value) live l = l
 live_below v Gone live l = absurd (cc)
 
@@ -142,7 +142,7 @@ module _ (owner : List ℕ) (generation : ℕ) (c : ChangeRecord) (swept : is_sw
   both true b e = (refl, e)
   both false b e = absurd (cc)
 
-  parts : (is_some (value_of c) ≡ true) × (not (is_label c.key) ≡ true) × (is_same_name c.owner owner ≡ true) × (nat_le c.version.epoch generation ≡ true)
+  pub parts : (is_some (value_of c) ≡ true) × (not (is_label c.key) ≡ true) × (is_same_name c.owner owner ≡ true) × (nat_le c.version.epoch generation ≡ true)
   parts =
       let live = both (is_some (value_of c)) (not (is_label c.key) && (is_same_name c.owner owner && nat_le c.version.epoch generation)) swept in
       let other = both (not (is_label c.key)) (is_same_name c.owner owner && nat_le c.version.epoch generation) live.1 in
@@ -180,7 +180,7 @@ left_one owner generation c xs rest e swept =
     ap (λ l. tombstones l owner generation) e
     ∙ ap (λ b. map (tombstone generation) (cond b (c ∷ filter (is_swept owner generation) rest) (filter (is_swept owner generation) rest))) swept
 
-few_pass : (test : ChangeRecord → Bool) (xs : List ChangeRecord) → length (filter test xs) ≤ length xs
+pub few_pass : (test : ChangeRecord → Bool) (xs : List ChangeRecord) → length (filter test xs) ≤ length xs
 few_pass test [] = omega (arith)
 few_pass test (x ∷ xs) =
     let rest = few_pass test xs in

@@ -14,7 +14,9 @@ use Rattle.ds_watch.specs.declared.masks.Masks.{Masks}
 use Rattle.ds_watch.specs.Watching.{Watching, watches, followed_from}
 use Rattle.ds_store.specs.Limits.{places, last_place}
 use Rattle.ds_pattern.specs.declared.query.Query.{Query}
+use Rattle.ds_store.specs.State.{State}
 use Rattle.ds_store.specs.Content.{Content}
+use Rattle.ds_store.specs.Stands.{Stands}
 use Rattle.ds_store.specs.Judging.{SubscribeCase}
 use Rattle.ds_store.specs.declared.store.Store.TheInside.{Inside}
 
@@ -52,6 +54,8 @@ pub record IsSound (s : Inside) : Type 0 where
   pub stamp : s.stamp ≤ last_place
   pub places : length s.subscriptions ≡ places
   pub marked : AreMarked (held_changes s.held.held) s.held.marks s.subscriptions
+  -- the content stands for some state
+  pub stood : (state : State) × Stands (content_of s) state
 
 -- the answer of what is held to a change against which nothing that is held stands
 abbrev pub IsTakenOrNoRoom : Result Merge JoinFault → Type 0

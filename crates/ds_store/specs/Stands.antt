@@ -1,13 +1,10 @@
 -- Which states of the machine a store's value stands for.
-use Rattle.std.specs.Prelude.{◌≡◌, ℕ, ◌<◌, ◌≤◌, List, map, Option, MatchOption}
+use Rattle.std.specs.Prelude.{◌≡◌, ℕ, ◌<◌, ◌≤◌, map}
 use Rattle.std.specs.Option.{option_map}
-use Rattle.std.specs.List.{AllByRecursion}
-use Rattle.ds_entry.specs.Change.{ChangeRecord}
-use Rattle.ds_entry.specs.SingleNumbered.{IsSingleNumbered}
-use Rattle.ds_join.specs.Top.{IsPartOf, tops}
+use Rattle.ds_join.specs.Top.{tops}
 use Rattle.ds_store.specs.Limits.{longest_ring, last_place}
 use Rattle.ds_store.specs.State.{State, position}
-use Rattle.ds_watch.specs.Subscription.{Subscription}
+use Rattle.ds_store.specs.Reached.{IsReached}
 use Rattle.ds_store.specs.declared.refusal.Refusal.{Refusal}
 use Rattle.ds_store.specs.declared.refusal.Refusal.TheVariants.{BadRing, BadFirst}
 use Rattle.ds_store.specs.Content.{Content}
@@ -18,10 +15,6 @@ pub record IsRing (ring : ℕ) : Type 0 where
   pub some : 0 < ring
   pub limit : ring ≤ longest_ring
 
--- what the subscription was shown had been accepted
-abbrev pub WasAccepted : List ChangeRecord → Option Subscription → Type 0
-WasAccepted accepted sub = MatchOption sub (Unit {0}) (λ sub. IsPartOf sub.shown accepted)
-
 -- the value is the state's, of which all but the changes that no longer count can be read
 pub record Stands (value : Content) (state : State) : Type 0 where
   pub held : value.held ≡ tops state.accepted
@@ -31,9 +24,8 @@ pub record Stands (value : Content) (state : State) : Type 0 where
   pub incarnation : value.incarnation ≡ state.incarnation
   pub stamp : value.stamp ≡ state.stamp
   pub subscriptions : value.subscriptions ≡ map (option_map (followed_of (tops state.accepted))) state.subscriptions
-  -- no change contradicts an accepted one of its key, in owner, or in body at one version
-  pub single : IsSingleNumbered state.accepted
-  pub shown : AllByRecursion (WasAccepted state.accepted) state.subscriptions
+  -- the state is one that the machine comes to
+  pub reached : IsReached state
 
 -- why no store is opened: first of the ring, and then of the first position
 abbrev pub IsOpenFault : Refusal → ℕ → ℕ → Type 0

@@ -16,11 +16,13 @@ mod laws;
 mod limits;
 mod refusal;
 mod search;
+mod steps;
 mod store;
 mod threads;
 
 pub use command::{Command, Reply};
 pub use laws::run;
 pub use refusal::Refusal;
+pub use steps::{replies_tell_states, steps_have_effects};
 pub use store::Store;
 pub use threads::stores_cross_threads;

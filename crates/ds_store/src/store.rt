@@ -58,6 +58,7 @@ impl Model for Store {
 impl Store {
     ghost use Rattle.ds_store.specs.Machine.{Answers, Step, TakesNoMemory, retrieving, naming, IsKindInPlace};
     ghost use Rattle.ds_store.specs.Last.{IsLast};
+    ghost use Rattle.ds_store.specs.Says.{IsReplyTo};
 
     /// A store of this incarnation that holds nothing yet and whose first change will have the position
     /// `first`. BadRing unless the ring is 1 to 4096, then BadFirst above 2^62.
@@ -93,7 +94,9 @@ impl Store {
         ensures step { (s : State) → Stands self.old s → (t : State) × Step s command result t × Stands self.new t }
         ensures in_place { TakesNoMemory command → result ≢ Reply.Refused Refusal.NoRoom }
         ensures last { (s : State) → Stands self.old s → IsLast s command result }
+        ensures fits { IsReplyTo command result }
     {
+        let _stood = self.position();
         match command {
             Command::Publish {
                 caller,
@@ -139,6 +142,7 @@ impl Store {
     pub fn position(&self) -> u64
         ensures value { result ≡ self.now.position }
         ensures limit { self.now.position ≤ last_place }
+        ensures stood { (s : State) × Stands self.now s }
     {
         self.position
     }

@@ -7,7 +7,7 @@ use Rattle.ds_join.proofs.HeldLemmas.{held_in_order}
 use Rattle.ds_watch.specs.Followed.{followed_of}
 use Rattle.ds_watch.specs.Watching.{Watching, watching, stamped, followed_by, followed_from}
 use Rattle.ds_store.specs.Limits.{places, most_items, last_place}
-use Rattle.ds_store.specs.State.{subscribes, subscription_at}
+use Rattle.ds_store.specs.State.{State, subscribes, subscription_at}
 use Rattle.ds_store.specs.Content.{Content}
 use Rattle.ds_store.specs.Kept.{AreMarked, unseen_at, content_of}
 use Rattle.ds_store.specs.Machine.{Answers, checking}
@@ -93,22 +93,15 @@ new_places : (c : After-set_stamp) → c.set_stamp.new.self ≡ set c.self.insid
 new_places c =
     c.set_stamp.ensures ∙ ap (λ o. set c.self.inside.subscriptions c.args.sub (option_map (stamped (c.self.inside.stamp + 1)) o)) (sym c.in-Some.ensures)
 
-pub invariant_of-self : goal.invariant_of-self
-invariant_of-self c =
-    let d = (goal.at.invariant_of-self c).After-set_stamp in
-    let w = watching c.in-Some.subscription.now.query (c.self.inside.stamp + 1) in
-    record {
-      position = c.self.invariant.position;
-      stamp = omega (arith, c.if-self-ge-LAST_PLACE-2.false);
-      places = ap (λ (l : List (Option Watching)). length l) (new_places d) ∙ length-set c.self.inside.subscriptions c.args.sub (Some w) ∙ c.self.invariant.places;
-      marked = subst (λ ws. AreMarked (held_changes c.show_first.new.held.held) c.show_first.new.held.marks ws) (sym (new_places d))
-          (subst (λ (h : Holding). AreMarked (held_changes h) c.show_first.new.held.marks (set c.self.inside.subscriptions c.args.sub (Some w))) (sym c.show_first.ensures.held)
-          (checked_marked c.self.inside.held c.show_first.new.held c.in-Ok.shown.passed c.args.sub c.show_first.ensures c.self.inside.subscriptions c.in-Some.subscription.now (c.self.inside.stamp + 1) (sym c.in-Some.ensures) c.self.invariant.marked));
-    }
+-- the state's subscription, for every state that the content stood for
+abbrev seen_as : (c : After-set_stamp) (s : State) → Stands (content_of c.self.inside) s → Twin (content_of c.self.inside) s c.args.sub (unseen_at c.self.inside.held.marks) c.in-Some.subscription.now
+seen_as c s here = twin (content_of c.self.inside) s c.args.sub (unseen_at c.self.inside.held.marks) c.self.inside.subscriptions c.in-Some.subscription.now here refl (sym c.in-Some.ensures)
 
-pub returns-clause-step : goal.returns-clause-step
-returns-clause-step c = λ s stands.
-    let d = (goal.at.returns-clause-step c).After-set_stamp in
+-- and the content after the check
+stands_after : (c : After-set_stamp) (s : State) (here : Stands (content_of c.self.inside) s)
+    → Stands (record (content_of c.self.inside) { held = held_changes c.show_first.new.held.held; stamp = c.self.inside.stamp + 1; subscriptions = followed_from (held_changes c.show_first.new.held.held) (unseen_at c.show_first.new.held.marks) 0 c.set_stamp.new.self })
+    (subscribes s c.args.sub (seen_as c s here).seer.query ((seen_as c s here).seer.shown ++ c.in-Ok.shown.items))
+stands_after c s here =
     let v = content_of c.self.inside in
     let old = c.self.inside.held in
     let new = c.show_first.new.held in
@@ -117,15 +110,13 @@ returns-clause-step c = λ s stands.
     let sub = c.args.sub in
     let max = c.args.max in
     let shown = c.in-Ok.shown in
-    let here : Stands v s = subst (λ (x : Content). Stands x s) (sym c.self.view_is) stands in
-    let t : Twin v s sub u w = twin v s sub u c.self.inside.subscriptions w here refl (sym c.in-Some.ensures) in
+    let t : Twin v s sub u w = seen_as c s here in
     let sorted = held_in_order old.held c.held.ensures.own in
     let place : sub < places = omega (arith, c.if-sub-ge-PLACES.false) in
     let low : 0 < max = omega (arith, c.if-max-eq0.false) in
     let high : max ≤ most_items = omega (arith, c.if-max-gt-MOST_ITEMS.false) in
     let items : shown.items ≡ take max (to_show v s here sub max u w t place low high) =
     first_are old sub max shown.items shown.passed c.in-Ok.ensures.first ∙ ap (take max) (to_show_is v.held sorted u sub w t.seer t.same) in
-    let some : 0 < length (take max (to_show v s here sub max u w t place low high)) = omega (arith, ap (λ (l : List ChangeRecord). length l) items, c.len-count.ensures.count, c.if-count-eq0.false) in
     let fresh : v.stamp < last_place = omega (arith, c.if-self-ge-LAST_PLACE-2.false) in
     let state = subscribes s sub t.seer.query (t.seer.shown ++ shown.items) in
     let same : followed_by v.held (unseen_at new.marks) sub (watching w.query (v.stamp + 1)) ≡ followed_of v.held (record { query = t.seer.query; stamp = v.stamp + 1; shown = t.seer.shown ++ shown.items }) =
@@ -133,12 +124,50 @@ returns-clause-step c = λ s stands.
     ∙ ap (λ (l : List ChangeRecord). followed_of v.held (record { query = t.seer.query; stamp = v.stamp + 1; shown = t.seer.shown ++ l })) (sym c.in-Ok.ensures.first.shown) in
     let stood : Stands (record v { stamp = v.stamp + 1; subscriptions = followed_from v.held (unseen_at new.marks) 0 (set c.self.inside.subscriptions sub (Some (watching w.query (v.stamp + 1)))) }) state =
     stands_subscribed v s sub t.seer.query (t.seer.shown ++ shown.items) u (unseen_at new.marks) c.self.inside.subscriptions (watching w.query (v.stamp + 1)) here refl
-    (check_others old new shown.passed sub c.show_first.ensures) same (shown_part v s here sub max u w t place low high shown.items items) in (
+    (check_others old new shown.passed sub c.show_first.ensures) same (shown_part v s here sub max u w t place low high shown.items items) place fresh in
+    subst (λ (h : Holding). Stands (record v { held = held_changes h; stamp = v.stamp + 1; subscriptions = followed_from (held_changes h) (unseen_at new.marks) 0 c.set_stamp.new.self }) state) (sym c.show_first.ensures.held)
+    (subst (λ (ws : List (Option Watching)). Stands (record v { stamp = v.stamp + 1; subscriptions = followed_from v.held (unseen_at new.marks) 0 ws }) state) (sym (new_places c)) stood)
+
+pub invariant_of-self : goal.invariant_of-self
+invariant_of-self c =
+    let d = (goal.at.invariant_of-self c).After-set_stamp in
+    let w = watching c.in-Some.subscription.now.query (c.self.inside.stamp + 1) in
+    let stood = c.self.invariant.stood in
+    let t = seen_as d stood.0 stood.1 in
+    record {
+      position = c.self.invariant.position;
+      stamp = omega (arith, c.if-self-ge-LAST_PLACE-2.false);
+      places = ap (λ (l : List (Option Watching)). length l) (new_places d) ∙ length-set c.self.inside.subscriptions c.args.sub (Some w) ∙ c.self.invariant.places;
+      marked = subst (λ ws. AreMarked (held_changes c.show_first.new.held.held) c.show_first.new.held.marks ws) (sym (new_places d))
+          (subst (λ (h : Holding). AreMarked (held_changes h) c.show_first.new.held.marks (set c.self.inside.subscriptions c.args.sub (Some w))) (sym c.show_first.ensures.held)
+          (checked_marked c.self.inside.held c.show_first.new.held c.in-Ok.shown.passed c.args.sub c.show_first.ensures c.self.inside.subscriptions c.in-Some.subscription.now (c.self.inside.stamp + 1) (sym c.in-Some.ensures) c.self.invariant.marked));
+      stood = (subscribes stood.0 c.args.sub t.seer.query (t.seer.shown ++ c.in-Ok.shown.items), stands_after d stood.0 stood.1);
+    }
+
+pub returns-clause-step : goal.returns-clause-step
+returns-clause-step c = λ s stands.
+    let d = (goal.at.returns-clause-step c).After-set_stamp in
+    let v = content_of c.self.inside in
+    let u = unseen_at c.self.inside.held.marks in
+    let w = c.in-Some.subscription.now in
+    let sub = c.args.sub in
+    let max = c.args.max in
+    let shown = c.in-Ok.shown in
+    let here : Stands v s = subst (λ (x : Content). Stands x s) (sym c.self.view_is) stands in
+    let t : Twin v s sub u w = seen_as d s here in
+    let sorted = held_in_order c.self.inside.held.held c.held.ensures.own in
+    let place : sub < places = omega (arith, c.if-sub-ge-PLACES.false) in
+    let low : 0 < max = omega (arith, c.if-max-eq0.false) in
+    let high : max ≤ most_items = omega (arith, c.if-max-gt-MOST_ITEMS.false) in
+    let items : shown.items ≡ take max (to_show v s here sub max u w t place low high) =
+    first_are c.self.inside.held sub max shown.items shown.passed c.in-Ok.ensures.first ∙ ap (take max) (to_show_is v.held sorted u sub w t.seer t.same) in
+    let some : 0 < length (take max (to_show v s here sub max u w t place low high)) = omega (arith, ap (λ (l : List ChangeRecord). length l) items, c.len-count.ensures.count, c.if-count-eq0.false) in
+    let fresh : v.stamp < last_place = omega (arith, c.if-self-ge-LAST_PLACE-2.false) in
+    let state = subscribes s sub t.seer.query (t.seer.shown ++ shown.items) in (
       state,
       subst (λ n. Answers s (checking s sub max) (Checked shown.items n (v.stamp + 1)) state) (sym c.stamp-before.ensures)
           (check_done v s here sub max u w t place low high (taken_any v s here sub max u w t place low high some) some shown.items fresh items),
-      subst (λ (h : Holding). Stands (record v { held = held_changes h; stamp = v.stamp + 1; subscriptions = followed_from (held_changes h) (unseen_at new.marks) 0 c.set_stamp.new.self }) state) (sym c.show_first.ensures.held)
-          (subst (λ (ws : List (Option Watching)). Stands (record v { stamp = v.stamp + 1; subscriptions = followed_from v.held (unseen_at new.marks) 0 ws }) state) (sym (new_places d)) stood),
+      stands_after d s here,
     )
 
 pub returns-in-Err-2-clause-last : goal.returns-in-Err-2-clause-last
