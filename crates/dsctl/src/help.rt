@@ -113,6 +113,8 @@ Exit status:
   2  the words of the command line are wrong
   3  memory, reading or writing failed: standard error has `noroom`, `readfault` or `writefault`";
 
+pub(crate) const KEEP_GOING_ABOUT: &str = "Print a bad line and go on; status 1 at the end";
+
 pub(crate) const SETTINGS_ABOUT: &str = "Show what a settings text tells RS, or its first fault";
 
 pub(crate) const SETTINGS_LONG_ABOUT: &str = "\

@@ -1,8 +1,8 @@
 //! The words of the command line.
 
-use crate::help::{ABOUT, AFTER_HELP, LINES, LONG_ABOUT, SETTINGS_ABOUT, SETTINGS_LONG_ABOUT};
+use crate::help::{ABOUT, AFTER_HELP, KEEP_GOING_ABOUT, LINES, LONG_ABOUT, SETTINGS_ABOUT, SETTINGS_LONG_ABOUT};
 use clap::error::ErrorKind;
-use clap::{ArgMatches, Command, Error};
+use clap::{Arg, ArgAction, ArgMatches, Command, Error};
 use std::alloc::{AllocError, Global};
 use std::io;
 use std::rt::Runtime;
@@ -10,8 +10,10 @@ use std::rt::Runtime;
 /// What the words ask for, or how they were answered.
 #[derive(Clone, Copy, Debug, PartialEq, Eq)]
 pub enum Words {
-    /// To answer a script.
+    /// To answer a script, up to a line that can't be read.
     Replay,
+    /// To answer it behind such lines too.
+    ReplayOn,
     /// To show what settings tell RS.
     Settings,
     /// Help or the version was asked for, and stands on standard output.
@@ -51,15 +53,24 @@ pub(crate) fn read<R: Runtime + AllocGlobal>(rt: &R) -> Words {
 fn parse<'a>(alloc: Global, words: &'a [String]) -> Result<Words, Error> {
     let program: Command<'a> = command(alloc)?;
     let matches: ArgMatches<'a> = program.try_get_matches_from(words)?;
-    Ok(match matches.subcommand_name() {
-        Some("settings") => Words::Settings,
+    Ok(match matches.subcommand() {
+        Some(("settings", _)) => Words::Settings,
+        Some(("replay", given)) if given.get_flag(KEEP_GOING) => Words::ReplayOn,
         _ => Words::Replay,
     })
 }
 
+// The option to go on behind lines that can't be read.
+const KEEP_GOING: &str = "keep-going";
+
 // The command line of the program.
 fn command<'a>(alloc: Global) -> Result<Command<'a>, AllocError> {
+    let keep_going = Arg::new(alloc, KEEP_GOING)
+        .long(KEEP_GOING)
+        .action(ArgAction::SetTrue)
+        .help(KEEP_GOING_ABOUT);
     let replay = Command::new(alloc, "replay")
+        .arg(keep_going)?
         .about("Answer a script; no subcommand means this one")
         .after_help(LINES);
     let settings = Command::new(alloc, "settings")

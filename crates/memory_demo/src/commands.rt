@@ -1,9 +1,8 @@
 //! The commands of a script, made ahead.
 
 use crate::Failure;
-use ds_line::LineFault;
 use ds_store::Command;
-use ds_words::{ScriptCommand, Wording, read_line, split_line};
+use ds_words::{CommandFault, ScriptCommand, Wording, read_line, split_line};
 use std::alloc::Global;
 
 /// A command for a store, and how its reply is worded.
@@ -23,8 +22,8 @@ pub(crate) fn commands_of(alloc: Global, text: &[u8]) -> Result<Vec<Prepared>, F
         };
         let command = match read_line(alloc, line) {
             Ok(command) => command,
-            Err(LineFault::BadLine { .. }) => return Err(Failure::BadLine),
-            Err(LineFault::NoRoom) => return Err(Failure::NoRoom),
+            Err(CommandFault::BadLine { .. }) => return Err(Failure::BadLine),
+            Err(CommandFault::NoRoom) => return Err(Failure::NoRoom),
         };
         if commands.push(asked(alloc, command)?).is_err() {
             return Err(Failure::NoRoom);
