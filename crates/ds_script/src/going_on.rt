@@ -1,8 +1,11 @@
 //! A replay that goes on behind lines that can't be read.
 
-ghost use Rattle.std.specs.Prelude.{◌≤◌, ◌<◌, IfOk, length};
+ghost use Rattle.std.specs.Prelude.{◌≡◌, ◌≤◌, ◌<◌, ◌++◌, ◌∷◌, ◌⊎◌, [], List, ℕ, IfOk, IfErr, OnOk, OnErr, length, drop};
+ghost use Rattle.std.specs.Io.KnownBytes.{Appends, Consumes, IsAtEnd};
 ghost use Rattle.ds_line.specs.LastNewline.{EndsLine};
-ghost use Rattle.ds_words.specs.Lines.{IsUnbroken};
+ghost use Rattle.ds_words.specs.Lines.{IsUnbroken, ended, unended};
+ghost use Rattle.ds_script.specs.GoingOn.{badline, IsAnsweredOn, StopsOn};
+ghost use Rattle.ds_script.specs.GoingProgress.{IsOther, Takes, TakesNoneOrAll, TakesText, TakesSome, TurnsOn, StopsTurn};
 
 use crate::fault::ReplayFault;
 use crate::report::{BadLine, Report};
@@ -39,6 +42,7 @@ pub(crate) struct Going {
 
 /// Answers the lines of a script as `replay` does, and goes on behind lines that are no command's: such a line is
 /// answered `badline` with its number and its place, and changes nothing. Once that is written, the line is reported.
+/// It gives how many lines there were, and how many of them were bad.
 ///
 /// A line is kept until its end is read; NoRoom comes also where that are more than 16777216 bytes.
 pub fn replay_on<R: Read, W: Write, B: Report>(
@@ -46,7 +50,16 @@ pub fn replay_on<R: Read, W: Write, B: Report>(
     reader: &mut R,
     writer: &mut W,
     report: &mut B,
-) -> Result<Replayed, ReplayFault> {
+) -> Result<Replayed, ReplayFault>
+    ensures answered { IfOk result (λ done. (input output : List ℕ)
+        × Consumes (R.remaining reader.old) (R.remaining reader.new) input × IsAtEnd (R.remaining reader.new)
+        × Appends (W.contents writer.old) (W.contents writer.new) output
+        × IsAnsweredOn input done.lines done.bad output) }
+    ensures stopped { IfErr result (λ fault. (input output : List ℕ)
+        × Consumes (R.remaining reader.old) (R.remaining reader.new) input
+        × Appends (W.contents writer.old) (W.contents writer.new) output
+        × StopsOn fault (R.remaining reader.new) input output) }
+{
     let mut going = Going {
         session: Session::open(alloc),
         output: Vec::new(alloc),
@@ -85,21 +98,47 @@ fn turn_on<R: Read, W: Write, B: Report>(
     pending: &mut Vec<u8>,
     going: &mut Going,
 ) -> Result<bool, ReplayFault>
-    requires { 0 < length chunk.old }
+    requires chunk { 0 < length chunk.old }
+    requires pending { IsUnbroken pending.old.items }
+    ensures ok { IfOk result (λ more. TurnsOn more (R.remaining reader.old) (R.remaining reader.new) (W.contents writer.old) (W.contents writer.new) going.old.session going.old.output.items pending.old.items going.old.done.lines going.old.done.bad going.new.session going.new.output.items going.new.done.lines going.new.done.bad pending.new.items) }
+    ensures err { OnErr result (StopsTurn (R.remaining reader.old) (R.remaining reader.new) (W.contents writer.old) (W.contents writer.new) going.old.session going.old.output.items pending.old.items going.old.done.lines going.old.done.bad) }
+    ensures fault { IfErr result IsOther }
 {
-    if send(writer, &mut going.output).is_err() {
-        return Err(ReplayFault::WriteFault);
+    match send(writer, &mut going.output) {
+        Ok(()) => match read_on(alloc, reader, writer, report, chunk, pending, going) {
+            Ok(more) => Ok(more),
+            Err(fault) => Err(fault),
+        },
+        Err(WriteFailed) => Err(ReplayFault::WriteFault),
     }
+}
+
+// Reads once, and answers all whole lines that are there then, or at the end the last one.
+fn read_on<R: Read, W: Write, B: Report>(
+    alloc: Global,
+    reader: &mut R,
+    writer: &mut W,
+    report: &mut B,
+    chunk: &mut [u8],
+    pending: &mut Vec<u8>,
+    going: &mut Going,
+) -> Result<bool, ReplayFault>
+    requires chunk { 0 < length chunk.old }
+    requires pending { IsUnbroken pending.old.items }
+    ensures ok { IfOk result (λ more. TurnsOn more (R.remaining reader.old) (R.remaining reader.new) (W.contents writer.old) (W.contents writer.new) going.old.session going.old.output.items pending.old.items going.old.done.lines going.old.done.bad going.new.session going.new.output.items going.new.done.lines going.new.done.bad pending.new.items) }
+    ensures err { OnErr result (StopsTurn (R.remaining reader.old) (R.remaining reader.new) (W.contents writer.old) (W.contents writer.new) going.old.session going.old.output.items pending.old.items going.old.done.lines going.old.done.bad) }
+    ensures fault { IfErr result IsOther }
+{
     match fill(reader, chunk, pending) {
-        Filled::More => {
-            take_whole(alloc, writer, report, pending, going)?;
-            Ok(true)
-        }
+        Filled::More => match take_whole(alloc, writer, report, pending, going) {
+            Ok(()) => Ok(true),
+            Err(fault) => Err(fault),
+        },
         Filled::Interrupted => Ok(true),
-        Filled::End => {
-            take_last(alloc, writer, report, pending, going)?;
-            Ok(false)
-        }
+        Filled::End => match take_last(alloc, writer, report, pending, going) {
+            Ok(()) => Ok(false),
+            Err(fault) => Err(fault),
+        },
         Filled::Failed => Err(ReplayFault::ReadFault),
         Filled::NoRoom => Err(ReplayFault::NoRoom),
     }
@@ -112,13 +151,22 @@ fn take_whole<W: Write, B: Report>(
     report: &mut B,
     pending: &mut Vec<u8>,
     going: &mut Going,
-) -> Result<(), ReplayFault> {
-    let used = take_lines(alloc, writer, report, pending.as_slice(), going)?;
-    drop_front(pending, used);
-    if pending.len() > MOST_KEPT {
-        return Err(ReplayFault::NoRoom);
+) -> Result<(), ReplayFault>
+    ensures ok { OnOk result (TakesText (W.contents writer.old) (W.contents writer.new) going.old.session going.old.output.items going.old.done.lines going.old.done.bad pending.old.items going.new.session going.new.output.items going.new.done.lines going.new.done.bad pending.new.items) }
+    ensures unbroken { OnOk result (IsUnbroken pending.new.items) }
+    ensures err { OnErr result (TakesSome (W.contents writer.old) (W.contents writer.new) going.old.session going.old.output.items going.old.done.lines going.old.done.bad pending.old.items) }
+    ensures fault { IfErr result IsOther }
+{
+    match take_lines(alloc, writer, report, pending.as_slice(), going) {
+        Ok(used) => {
+            drop_front(pending, used);
+            if pending.len() > MOST_KEPT {
+                return Err(ReplayFault::NoRoom);
+            }
+            Ok(())
+        }
+        Err(fault) => Err(fault),
     }
-    Ok(())
 }
 
 // Answers the whole lines of a text, and gives how many bytes they have.
@@ -129,12 +177,18 @@ fn take_lines<W: Write, B: Report>(
     text: &[u8],
     going: &mut Going,
 ) -> Result<usize, ReplayFault>
-    ensures { IfOk result (λ used. used ≤ length text.now) }
+    ensures ok { IfOk result (λ used. TakesText (W.contents writer.old) (W.contents writer.new) going.old.session going.old.output.items going.old.done.lines going.old.done.bad text.now going.new.session going.new.output.items going.new.done.lines going.new.done.bad (drop used text.now)) }
+    ensures unbroken { IfOk result (λ used. IsUnbroken (drop used text.now)) }
+    ensures used { IfOk result (λ used. used ≤ length text.now) }
+    ensures err { OnErr result (TakesSome (W.contents writer.old) (W.contents writer.new) going.old.session going.old.output.items going.old.done.lines going.old.done.bad text.now) }
+    ensures fault { IfErr result IsOther }
 {
     let mut rest = text;
     while let Some((line, more)) = split_line(rest) {
-        take_line(alloc, writer, report, line, going)?;
-        rest = more;
+        match take_line(alloc, writer, report, line, going) {
+            Ok(()) => rest = more,
+            Err(fault) => return Err(fault),
+        }
     }
     Ok(text.len() - rest.len())
 }
@@ -148,14 +202,36 @@ fn take_last<W: Write, B: Report>(
     going: &mut Going,
 ) -> Result<(), ReplayFault>
     requires { IsUnbroken pending.old.items }
+    ensures ok { OnOk result (Takes (W.contents writer.old) (W.contents writer.new) going.old.session going.old.output.items going.old.done.lines going.old.done.bad (unended pending.old.items) going.new.session going.new.output.items going.new.done.lines going.new.done.bad) }
+    ensures written { OnOk result (going.new.output.items ≡ []) }
+    ensures err { OnErr result (TakesNoneOrAll (W.contents writer.old) (W.contents writer.new) going.old.session going.old.output.items going.old.done.lines going.old.done.bad (unended pending.old.items)) }
+    ensures fault { IfErr result IsOther }
 {
-    if !pending.is_empty() {
-        if pending.push(b'\n').is_err() {
-            return Err(ReplayFault::NoRoom);
-        }
-        take_line(alloc, writer, report, pending.as_slice(), going)?;
+    if pending.is_empty() {
+        return match send_last(writer, &mut going.output) {
+            Ok(()) => Ok(()),
+            Err(fault) => Err(fault),
+        };
     }
-    match send(writer, &mut going.output) {
+    match pending.push(b'\n') {
+        Ok(()) => match take_line(alloc, writer, report, pending.as_slice(), going) {
+            Ok(()) => match send_last(writer, &mut going.output) {
+                Ok(()) => Ok(()),
+                Err(fault) => Err(fault),
+            },
+            Err(fault) => Err(fault),
+        },
+        Err(_) => Err(ReplayFault::NoRoom),
+    }
+}
+
+// Writes the answers that wait.
+fn send_last<W: Write>(writer: &mut W, output: &mut Vec<u8>) -> Result<(), ReplayFault>
+    ensures ok { OnOk result (Appends (W.contents writer.old) (W.contents writer.new) output.old.items × (output.new.items ≡ [])) }
+    ensures err { OnErr result ((sent left : List ℕ) × (output.old.items ≡ sent ++ left) × Appends (W.contents writer.old) (W.contents writer.new) sent) }
+    ensures fault { IfErr result IsOther }
+{
+    match send(writer, output) {
         Ok(()) => Ok(()),
         Err(WriteFailed) => Err(ReplayFault::WriteFault),
     }
@@ -170,30 +246,61 @@ fn take_line<W: Write, B: Report>(
     going: &mut Going,
 ) -> Result<(), ReplayFault>
     requires { EndsLine line.now }
+    ensures ok { OnOk result ((text : List ℕ) → line.now ≡ ended text → Takes (W.contents writer.old) (W.contents writer.new) going.old.session going.old.output.items going.old.done.lines going.old.done.bad (text ∷ []) going.new.session going.new.output.items going.new.done.lines going.new.done.bad) }
+    ensures err { OnErr result ((text : List ℕ) → line.now ≡ ended text → TakesNoneOrAll (W.contents writer.old) (W.contents writer.new) going.old.session going.old.output.items going.old.done.lines going.old.done.bad (text ∷ [])) }
+    ensures fault { IfErr result IsOther }
 {
-    if send_full(writer, &mut going.output).is_err() {
-        return Err(ReplayFault::WriteFault);
+    match send_full(writer, &mut going.output) {
+        Ok(()) => match take_counted(alloc, writer, report, line, going) {
+            Ok(()) => Ok(()),
+            Err(fault) => Err(fault),
+        },
+        Err(WriteFailed) => Err(ReplayFault::WriteFault),
     }
+}
+
+// Answers one line, which comes with its newline and has no other, and counts it.
+fn take_counted<W: Write, B: Report>(
+    alloc: Global,
+    writer: &mut W,
+    report: &mut B,
+    line: &[u8],
+    going: &mut Going,
+) -> Result<(), ReplayFault>
+    requires { EndsLine line.now }
+    ensures ok { OnOk result ((text : List ℕ) → line.now ≡ ended text → Takes (W.contents writer.old) (W.contents writer.new) going.old.session going.old.output.items going.old.done.lines going.old.done.bad (text ∷ []) going.new.session going.new.output.items going.new.done.lines going.new.done.bad) }
+    ensures err { OnErr result ((text : List ℕ) → line.now ≡ ended text → TakesNoneOrAll (W.contents writer.old) (W.contents writer.new) going.old.session going.old.output.items going.old.done.lines going.old.done.bad (text ∷ [])) }
+    ensures fault { IfErr result IsOther }
+{
     let Some(number) = going.done.lines.checked_add(1) else {
         return Err(ReplayFault::ReadFault);
     };
+    let Some(count) = going.done.bad.checked_add(1) else {
+        return Err(ReplayFault::ReadFault);
+    };
     match answer_line(alloc, line, &mut going.session, &mut going.output) {
-        Ok(()) => {}
+        Ok(()) => {
+            going.done.lines = number;
+            Ok(())
+        }
         Err(CommandFault::BadLine { place, expected }) => {
-            let text = &line[..line.len() - 1];
             let bad = BadLine {
                 number,
                 place,
                 expected,
-                text,
+                text: &line[..line.len() - 1],
             };
-            tell(writer, report, &bad, &mut going.output)?;
-            going.done.bad = going.done.bad.saturating_add(1);
+            match tell(writer, report, &bad, &mut going.output) {
+                Ok(()) => {
+                    going.done.lines = number;
+                    going.done.bad = count;
+                    Ok(())
+                }
+                Err(fault) => Err(fault),
+            }
         }
-        Err(CommandFault::NoRoom) => return Err(ReplayFault::NoRoom),
+        Err(CommandFault::NoRoom) => Err(ReplayFault::NoRoom),
     }
-    going.done.lines = number;
-    Ok(())
 }
 
 // Answers a line that can't be read, and writes and reports it.
@@ -202,18 +309,32 @@ fn tell<W: Write, B: Report>(
     report: &mut B,
     bad: &BadLine<'_>,
     output: &mut Vec<u8>,
-) -> Result<(), ReplayFault> {
+) -> Result<(), ReplayFault>
+    ensures ok { OnOk result (Appends (W.contents writer.old) (W.contents writer.new) (output.old.items ++ badline bad.now.number bad.now.place)) }
+    ensures written { OnOk result (output.new.items ≡ []) }
+    ensures err { OnErr result ((answer sent left : List ℕ) × (output.old.items ++ answer ≡ sent ++ left) × Appends (W.contents writer.old) (W.contents writer.new) sent × ((answer ≡ []) ⊎ (answer ≡ badline bad.now.number bad.now.place))) }
+    ensures fault { IfErr result IsOther }
+{
+    match append_badline(output, bad.number, bad.place) {
+        Ok(()) => match send_last(writer, output) {
+            Ok(()) => {
+                report.bad_line(bad);
+                Ok(())
+            }
+            Err(fault) => Err(fault),
+        },
+        Err(NoRoom) => Err(ReplayFault::NoRoom),
+    }
+}
+
+// Appends the answer to a line that can't be read, or nothing.
+fn append_badline(output: &mut Vec<u8>, number: u64, place: usize) -> Result<(), NoRoom>
+    ensures written { OnOk result (output.new.items ≡ output.old.items ++ badline number place) }
+    ensures unchanged { OnErr result (output.new.items ≡ output.old.items) }
+{
     let mut number_digits = Buffer::new();
-    let number = number_digits.format(bad.number).as_bytes();
+    let number = number_digits.format(number).as_bytes();
     let mut place_digits = Buffer::new();
-    let place = place_digits.format(bad.place).as_bytes();
-    match append_all(output, &[b"badline ", number, b" ", place, b"\n"]) {
-        Ok(()) => {}
-        Err(NoRoom) => return Err(ReplayFault::NoRoom),
-    }
-    if send(writer, output).is_err() {
-        return Err(ReplayFault::WriteFault);
-    }
-    report.bad_line(bad);
-    Ok(())
+    let place = place_digits.format(place).as_bytes();
+    append_all(output, &[b"badline ", number, b" ", place, b"\n"])
 }

@@ -7,6 +7,7 @@ ghost use Rattle.ds_line.specs.LastNewline.{EndsLine};
 ghost use Rattle.ds_words.specs.Lines.{IsUnbroken, ended, joined};
 ghost use Rattle.ds_script.specs.Session.{SessionContent, Leads};
 ghost use Rattle.ds_script.specs.Answer.{AnswersLine};
+ghost use Rattle.ds_script.specs.GoingProgress.{Keeps};
 ghost use Rattle.ds_script.specs.Progress.{Answers, AnswersText, Leaves, Turns, IsFaultOf, LineStops};
 
 use crate::answer::answer_command;
@@ -204,6 +205,7 @@ pub(crate) fn answer_line(
     ensures ok { OnOk result ((out : List ℕ) × (output.new.items ≡ output.old.items ++ out) × ((text : List ℕ) → line.now ≡ ended text → Leads (λ s t. AnswersLine s text out t) session.old session.new)) }
     ensures err { OnErr result (output.new.items ≡ output.old.items) }
     ensures fault { IfErr result (λ fault. (text : List ℕ) → line.now ≡ ended text → IsFaultOf fault text) }
+    ensures kept { IfErr result (λ fault. Keeps fault session.old session.new) }
 {
     if line.len() > LONGEST_LINE + 1 {
         return Err(CommandFault::BadLine {
@@ -216,13 +218,11 @@ pub(crate) fn answer_line(
             Ok(()) => Ok(()),
             Err(NoRoom) => Err(CommandFault::NoRoom),
         },
-        Err(CommandFault::BadLine { place, expected }) => {
-            Err(CommandFault::BadLine { place, expected })
-        }
         Err(CommandFault::NoRoom) => match append_noroom(output) {
             Ok(()) => Ok(()),
             Err(NoRoom) => Err(CommandFault::NoRoom),
         },
+        Err(bad) => Err(bad),
     }
 }
 

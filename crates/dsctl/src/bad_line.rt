@@ -76,6 +76,11 @@ fn explain_name(rt: &impl Runtime, bad: &BadLine<'_>, rest: &[u8]) {
 // A word that no line begins with.
 fn explain_word(rt: &impl Runtime, number: u64, text: &[u8]) {
     let (word, _) = word_at(text);
+    if word.is_empty() {
+        let wanted = wanted(Expected::Command);
+        let _ = eprintln!(rt; "line {number}, byte 0: {wanted}");
+        return;
+    }
     let shown = Plain(&word[..word.len().min(FROM)]);
     match nearest(word) {
         Some(command) => {

@@ -3,6 +3,10 @@
 use std::io::{self, Read};
 use std::rt::Runtime;
 
+const GREETING: &str =
+    "dsctl: lines as in dsctl -h, ^D ends. Past bad lines: dsctl replay --keep-going";
+const GREETING_ON: &str = "dsctl: lines as in dsctl -h, ^D ends. A bad line ends nothing";
+
 /// Which of the streams are terminals.
 #[derive(Clone, Copy, Debug)]
 pub(crate) struct Terminals {
@@ -40,11 +44,6 @@ impl<'a, R: Runtime> Typed<'a, R> {
         }
     }
 }
-
-const GREETING: &str =
-    "dsctl: a command a line, ^D ends; see dsctl -h. A bad line ends it, but for\n\
-     dsctl replay --keep-going";
-const GREETING_ON: &str = "dsctl: a command a line, ^D ends; see dsctl -h. It goes on behind a bad line";
 
 impl<R: Runtime> Read for Typed<'_, R> {
     fn read(&mut self, buf: &mut [u8]) -> io::Result<usize> {
