@@ -374,7 +374,7 @@ def is_silent_where_one_stream_is_no_terminal(program):
             os.write(ours, b"\x04")
         assert started.wait(timeout=10) == 0
         told = started.stderr.read() if started.stderr else b""
-        shown = os.read(ours, 4096) if select.select([ours], [], [], 0.2)[0] and not words else b""
+        shown = terminal.shown(ours) if not words else b""
         os.close(ours)
         assert told == b"" and b">" not in shown, f"{streams}: {told!r}, {shown!r}"
 

@@ -57,13 +57,14 @@ def session(program, words, typed, streams=("stdin", "stdout", "stderr")):
     others = {it: subprocess.PIPE for it in ("stdout", "stderr") if it not in streams}
     started = subprocess.Popen([program, *words], **{it: theirs for it in streams}, **others)
     os.close(theirs)
-    seen, late, waiting = b"", time.monotonic() + harness.SECONDS, [*typed, b"\x04"]
+    seen, before, late, waiting = b"", 0, time.monotonic() + harness.SECONDS, [*typed, b"\x04"]
     try:
         while time.monotonic() < late:
-            if waiting and seen.endswith(PROMPT):
+            if waiting and seen[before:].endswith(PROMPT):
+                before = len(seen)
                 os.write(ours, waiting.pop(0))
             elif select.select([ours], [], [], 0.1)[0]:
-                read = _read(ours)
+                read = shown(ours)
                 if not read:
                     break
                 seen += read
@@ -78,7 +79,7 @@ def session(program, words, typed, streams=("stdin", "stdout", "stderr")):
     return Seen(seen.replace(b"\r\n", b"\n"), started.returncode)
 
 
-def _read(terminal):
+def shown(terminal):
     """What the terminal shows next, or nothing once nobody holds its other side."""
     try:
         return os.read(terminal, 65536)
