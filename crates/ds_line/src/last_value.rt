@@ -15,8 +15,8 @@ use std::alloc::Global;
 /// Reads a value of the kind and the newline behind it, and gives the value with what follows the newline. It is
 /// for whoever reads lines of its own that end with a value.
 ///
-/// It notes which of the two it reads next. A label's value is `generation/slot`, of any generation. NoRoom comes only where the value and the newline stand
-/// there: a label or a number takes no memory.
+/// It notes which of the two it reads next. A label's value is `generation/slot`, of any generation. NoRoom comes only
+/// where the value and the newline stand there: a label or a number takes no memory.
 pub fn last_value_at<'a>(
     alloc: Global,
     kind: Kind,
@@ -36,10 +36,7 @@ pub fn last_value_at<'a>(
 }
 
 // Reads a label's value.
-fn label_at<'a>(
-    bytes: &'a [u8],
-    expected: &mut Expected,
-) -> Result<(Value, &'a [u8]), PartFault>
+fn label_at<'a>(bytes: &'a [u8], expected: &mut Expected) -> Result<(Value, &'a [u8]), PartFault>
     ensures found { IfOk result (λ r. Found (last_value Label) r.0 bytes.now r.1.now) }
     ensures stop { IfErr result (λ stop. StopsValue Label stop bytes.now) }
 {
@@ -55,10 +52,7 @@ fn label_at<'a>(
 }
 
 // Reads a number.
-fn number_at<'a>(
-    bytes: &'a [u8],
-    expected: &mut Expected,
-) -> Result<(Value, &'a [u8]), PartFault>
+fn number_at<'a>(bytes: &'a [u8], expected: &mut Expected) -> Result<(Value, &'a [u8]), PartFault>
     ensures found { IfOk result (λ r. Found (last_value U32) r.0 bytes.now r.1.now) }
     ensures stop { IfErr result (λ stop. StopsValue U32 stop bytes.now) }
 {

@@ -317,6 +317,19 @@ come_stop from mid to had is has old before pending n b p whole s =
       | inr t ↦ last_part from mid to had is has old before pending n b p whole t.0 t.1 t.2
     ]
 
+-- a turn left more to read
+pub come_turn : (from mid to had is has : Option (List ℕ)) (old new : SessionContent) (before after pending rest : List ℕ) (n b m c : ℕ) (r : Bool) → r ≡ true → Come from mid had is old before n b pending → TurnsOn r mid to is has old before pending n b new after m c rest → Come from to had has new after m c rest × IsUnbroken rest
+come_turn from mid to had is has old new before after pending rest n b m c r more p t =
+    let u : TurnsOn true mid to is has old before pending n b new after m c rest = subst (λ (q : Bool). TurnsOn q mid to is has old before pending n b new after m c rest) more t in
+    (come_then from mid to had is has old new before after pending rest n b m c p u.0, u.1)
+
+-- a turn was the last
+pub come_end : (from mid to had is has : Option (List ℕ)) (old new : SessionContent) (before after pending rest : List ℕ) (n b m c : ℕ) (r : Bool) → r ≡ false → Come from mid had is old before n b pending → IsUnbroken pending → TurnsOn r mid to is has old before pending n b new after m c rest
+    → (input output : List ℕ) × Consumes from to input × IsAtEnd to × Appends had has output × IsAnsweredOn input m c output
+come_end from mid to had is has old new before after pending rest n b m c r last p whole t =
+    let u : TurnsOn false mid to is has old before pending n b new after m c rest = subst (λ (q : Bool). TurnsOn q mid to is has old before pending n b new after m c rest) last t in
+    come_whole from mid to had is has old new before after pending n b m c p whole u
+
 -- no bad line is why
 pub stops_on : (fault : ReplayFault) (from to had has : Option (List ℕ)) → IsOther fault → InPart from to had has → (input output : List ℕ) × Consumes from to input × Appends had has output × StopsOn fault to input output
 stops_on (BadLine number place expected) from to had has other p = absurd other

@@ -8,14 +8,15 @@ ghost use Rattle.ds_words.specs.Pieces.{an_endpoint, an_initial, a_mode, a_name,
 
 use ds_entry::Value;
 use ds_line::{
-    Expected, PartFault, behind_name, endpoint_at, kind_at, last_value_at, name_at, stop_at, word_at,
+    Expected, PartFault, behind_name, endpoint_at, kind_at, last_value_at, name_at, stop_at,
+    word_at,
 };
 use ds_names::{Endpoint, Generation, Key, Kind, Kinds, Name, Version, read_byte, read_decimal};
 use std::alloc::Global;
 
 /// What isn't read yet of a line. Each reader leaves out what it reads: a piece, and before it the byte that parts it
-/// from the piece before. It notes which part it reads next, so that where it stops that is the part which
-/// can't be read.
+/// from the piece before. It notes which part it reads next, so that where it stops, that is the part which can't be
+/// read.
 #[derive(Clone, Copy)]
 pub(crate) struct Rest<'a> {
     pub bytes: &'a [u8],

@@ -22,9 +22,9 @@ pub const LONGEST_LINE: usize = 4096;
 
 /// Reads the command of a line, which comes without its newline and has none in it.
 ///
-/// Where the line is no command's it gives BadLine, with the place where the first part that can't be read begins,
-/// the newline being the last part, and which part it is; a line above 4096 bytes is bad at place 4096, whatever it holds. An unknown word
-/// is bad at place 0. NoRoom comes only where the line is a command's: only texts, blobs and patterns take memory.
+/// Where the line is no command's it gives BadLine, with the place where the first part that can't be read begins, and
+/// that part; the newline is the last part. A line above 4096 bytes is bad at place 4096, whatever it holds. An unknown
+/// word is bad at place 0. NoRoom comes only where the line is a command's: only texts, blobs and patterns take memory.
 pub fn read_command(alloc: Global, line: &[u8]) -> Result<ScriptCommand, CommandFault>
     requires { IsUnbroken line.now }
     ensures found { IfOk result (λ command. IsLineOf command line.now) }

@@ -24,6 +24,7 @@ const COMMANDS: [&str; 12] = [
 
 /// How many bytes of a line are shown before the place, and from it on.
 const BEFORE: usize = 48;
+
 const FROM: usize = 28;
 
 /// Says on standard error which part was expected where a line can't be read; at a terminal, below the line and a
@@ -84,7 +85,9 @@ fn explain_word(rt: &impl Runtime, number: u64, text: &[u8]) {
     let shown = Plain(&word[..word.len().min(FROM)]);
     match nearest(word) {
         Some(command) => {
-            let _ = eprintln!(rt; "line {number}, byte 0: `{shown}` is no command, the nearest is `{command}`: see --help");
+            let _ = eprintln!(rt;
+                "line {number}, byte 0: `{shown}` is no command, the nearest is `{command}`: see --help"
+            );
         }
         None => {
             let _ = eprintln!(rt; "line {number}, byte 0: `{shown}` is no command: see --help");

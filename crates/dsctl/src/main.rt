@@ -12,7 +12,7 @@ mod terminal;
 mod words;
 
 use bad_line::explain;
-use ds_script::{BadLine, Replayed, ReplayFault, Report, replay_leaving, replay_on};
+use ds_script::{BadLine, ReplayFault, Replayed, Report, replay_leaving, replay_on};
 use ds_words::split_line;
 use std::io::{self, IsTerminal};
 use std::process::ExitCode;
@@ -79,11 +79,13 @@ fn replay_input(
     let mut unread = Vec::new(rt.alloc());
     match replay_leaving(rt.alloc(), &mut reader, &mut io::writer(rt), &mut unread) {
         Ok(_) => Ok(ExitCode::SUCCESS),
-        Err(ReplayFault::BadLine {
-            line,
-            place,
-            expected,
-        }) => {
+        Err(
+            ReplayFault::BadLine {
+                line,
+                place,
+                expected,
+            },
+        ) => {
             let bad = BadLine {
                 number: line,
                 place,
@@ -105,11 +107,7 @@ fn first_line(text: &[u8]) -> &[u8] {
 }
 
 // Prints a line that can't be read, and then says what was expected.
-fn tell(
-    rt: &impl Runtime,
-    terminals: Terminals,
-    bad: &BadLine<'_>,
-) -> Result<ExitCode, Failure> {
+fn tell(rt: &impl Runtime, terminals: Terminals, bad: &BadLine<'_>) -> Result<ExitCode, Failure> {
     let number = bad.number;
     let place = bad.place;
     if println!(rt; "badline {number} {place}").is_err() {

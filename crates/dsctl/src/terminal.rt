@@ -5,6 +5,7 @@ use std::rt::Runtime;
 
 const GREETING: &str =
     "dsctl: lines as in dsctl -h, ^D ends. Past bad lines: dsctl replay --keep-going";
+
 const GREETING_ON: &str = "dsctl: lines as in dsctl -h, ^D ends. A bad line ends nothing";
 
 /// Which of the streams are terminals.

@@ -1,6 +1,8 @@
 //! The words of the command line.
 
-use crate::help::{ABOUT, AFTER_HELP, KEEP_GOING_ABOUT, LINES, LONG_ABOUT, SETTINGS_ABOUT, SETTINGS_LONG_ABOUT};
+use crate::help::{
+    ABOUT, AFTER_HELP, KEEP_GOING_ABOUT, LINES, LONG_ABOUT, SETTINGS_ABOUT, SETTINGS_LONG_ABOUT,
+};
 use clap::error::ErrorKind;
 use clap::{Arg, ArgAction, ArgMatches, Command, Error};
 use std::alloc::{AllocError, Global};
