@@ -1,7 +1,7 @@
 -- How far a replay that goes on has come, as its private functions tell each other: of the reader, whose bytes to come
 -- are `from` before and `to` after, and of the writer, whose bytes are `had` before and `has` after, where these are
 -- known; of what the script drives, the answers that wait, and the counts of lines and of bad ones, before and after.
-use Rattle.std.specs.Prelude.{◌≡◌, ℕ, ◌+◌, ◌⊎◌, Bool, true, false, List, [], ◌∷◌, ◌++◌, length, Option}
+use Rattle.std.specs.Prelude.{◌≡◌, ℕ, ◌+◌, ◌⊎◌, Bool, true, false, List, [], ◌++◌, length, Option}
 use Rattle.std.specs.List.{All}
 use Rattle.std.specs.Io.KnownBytes.{Appends, Consumes, IsAtEnd}
 use Rattle.ds_words.specs.Lines.{IsUnbroken, joined, unended}

@@ -1,4 +1,4 @@
-use Rattle.std.proofs.Common.{◌≡◌, ◌≢◌, ◌∷◌, ◌++◌, ◌+◌, ◌∙◌, [], List, ℕ, length, refl, sym, ap, subst, inl, inr, arith, rules, append-nil, length-append}
+use Rattle.std.proofs.Common.{◌∷◌, [], rules}
 use Rattle.ds_script.proofs.GoingLemmas.{not_taken, line_answered, line_told, line_told_in_part}
 use Rattle.ds_script.proofs.going_on.take_counted.Goals as goal
 

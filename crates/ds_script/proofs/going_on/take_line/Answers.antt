@@ -1,4 +1,4 @@
-use Rattle.std.proofs.Common.{◌≡◌, ◌≢◌, ◌∷◌, ◌++◌, ◌+◌, ◌∙◌, [], List, ℕ, length, refl, sym, ap, subst, inl, inr, arith, rules, append-nil, length-append}
+use Rattle.std.proofs.Common.{◌∷◌, []}
 use Rattle.ds_script.proofs.GoingLemmas.{takes_sent, takes_behind, none_or_all_behind, sent_alone}
 use Rattle.ds_script.proofs.going_on.take_line.Goals as goal
 

@@ -1,4 +1,4 @@
-use Rattle.std.proofs.Common.{◌≡◌, ◌≢◌, ◌∷◌, ◌++◌, ◌+◌, ◌∙◌, [], List, ℕ, length, refl, sym, ap, subst, inl, inr, arith, rules, append-nil, length-append}
+use Rattle.std.proofs.Common.{length, ap, arith, length-append}
 use Rattle.ds_script.proofs.GoingLemmas.{takes_nothing, takes_more, takes_up_to}
 use Rattle.ds_script.proofs.going_on.take_lines.Goals as goal
 

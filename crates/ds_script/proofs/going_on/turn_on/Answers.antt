@@ -1,4 +1,4 @@
-use Rattle.std.proofs.Common.{◌≡◌, ◌≢◌, ◌∷◌, ◌++◌, ◌+◌, ◌∙◌, [], List, ℕ, length, refl, sym, ap, subst, inl, inr, arith, rules, append-nil, length-append}
+use Rattle.std.proofs.Common.{◌++◌, ◌+◌, ◌∙◌, [], refl, sym, ap, inl, append-nil}
 use Rattle.std.proofs.KnownBytes.{Consumes-nil}
 use Rattle.ds_script.proofs.GoingLemmas.{takes_sent, turns_behind, stops_behind, idle}
 use Rattle.ds_script.proofs.going_on.turn_on.Goals as goal
