@@ -1,8 +1,8 @@
 //! `dsctl`: the data store at the command line. It reads standard input and writes standard output.
 //!
 //! The program is thin: the words of the command line are `clap`'s, the work is `ds_script`'s and `rs_settings`'s, and
-//! what is left here is the printing of settings and the choice of the exit status. 0: done. 1: refused input. 2: usage. 3: memory, reading or
-//! writing failed, and standard error says which.
+//! what is left here is the printing of settings, what is said of a line that can't be read, and the choice of the exit
+//! status. 0: done. 1: refused input. 2: usage. 3: memory, reading or writing failed, and standard error says which.
 #![tactic(auto)]
 
 mod bad_line;
