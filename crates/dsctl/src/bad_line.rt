@@ -1,7 +1,7 @@
 //! What is said of a line that can't be read: which part was expected.
 
 use ds_line::{Expected, word_at};
-use ds_names::{Kind, is_name_byte};
+use ds_names::{Kind, is_name_byte, read_byte};
 use ds_script::BadLine;
 use std::fmt;
 use std::rt::Runtime;
@@ -22,6 +22,9 @@ const COMMANDS: [&str; 12] = [
     "all",
 ];
 
+/// The most bytes of a name.
+const LONGEST_NAME: usize = 64;
+
 /// How many bytes of a line are shown before the place, and from it on.
 const BEFORE: usize = 48;
 
@@ -39,6 +42,11 @@ pub(crate) fn explain(rt: &impl Runtime, at_terminal: bool, bad: &BadLine<'_>) {
     match bad.expected {
         Expected::Command => explain_word(rt, number, rest),
         Expected::Name | Expected::Owner => explain_name(rt, bad, rest),
+        Expected::End if read_byte(rest, b'\r').is_some() => {
+            let _ = eprintln!(rt;
+                "line {number}, byte {place}: the end of the line was expected, a carriage return stands there"
+            );
+        }
         other => {
             let wanted = wanted(other);
             let _ = eprintln!(rt; "line {number}, byte {place}: {wanted}");
@@ -65,13 +73,17 @@ fn show_place(rt: &impl Runtime, bad: &BadLine<'_>) {
     let _ = eprintln!(rt; "{:>column$}", '^');
 }
 
-// A name that is empty, too long, or has another byte.
+// A name that is empty or too long, or the owner of a label.
 fn explain_name(rt: &impl Runtime, bad: &BadLine<'_>, rest: &[u8]) {
     let number = bad.number;
     let place = bad.place;
     let wanted = wanted(bad.expected);
     let count = rest.iter().take_while(|byte| is_name_byte(**byte)).count();
-    let _ = eprintln!(rt; "line {number}, byte {place}: {wanted}; {count} stand there");
+    let _ = if count == 0 || count > LONGEST_NAME {
+        eprintln!(rt; "line {number}, byte {place}: {wanted}; {count} stand there")
+    } else {
+        eprintln!(rt; "line {number}, byte {place}: {wanted}")
+    };
 }
 
 // A word that no line begins with.

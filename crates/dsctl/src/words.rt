@@ -47,7 +47,7 @@ pub(crate) fn read<R: Runtime + AllocGlobal>(rt: &R) -> Words {
     }
     match parse(rt.alloc(), &words) {
         Ok(words) => words,
-        Err(error) => answer(rt, &error),
+        Err(error) => answer(rt, &error, &words),
     }
 }
 
@@ -94,8 +94,11 @@ fn command<'a>(alloc: Global) -> Result<Command<'a>, AllocError> {
 const STANDARD_INPUT: &str =
     "A script is read from standard input, and not by its name: dsctl < SCRIPT";
 
+// What somebody is told who asked to go on before saying what for.
+const BEHIND_REPLAY: &str = "--keep-going stands behind a word: dsctl replay --keep-going";
+
 // Prints what `clap` has to say: a usage fault on standard error, help or the version on standard output.
-fn answer(rt: &impl Runtime, error: &Error) -> Words {
+fn answer(rt: &impl Runtime, error: &Error, given: &[String]) -> Words {
     if matches!(error.kind(), ErrorKind::OutOfMemory) {
         return Words::NoRoom;
     }
@@ -104,7 +107,11 @@ fn answer(rt: &impl Runtime, error: &Error) -> Words {
         error.kind(),
         ErrorKind::InvalidSubcommand | ErrorKind::UnknownArgument
     ) {
-        let _ = eprintln!(rt; "{STANDARD_INPUT}");
+        let tip = match given.get(1).map(|word| word.as_str()) {
+            Some("--keep-going") => BEHIND_REPLAY,
+            _ => STANDARD_INPUT,
+        };
+        let _ = eprintln!(rt; "{tip}");
     }
     match (error.use_stderr(), printed) {
         (true, _) => Words::Usage,
