@@ -11,7 +11,9 @@ import tempfile
 import time
 
 import harness
+import manual
 import model
+import terminal
 
 PUT = b"offer eth0 label rs 3.0 = 3/17"
 TOMBSTONE = b"offer eth0 label rs 3.1 -"
@@ -71,12 +73,16 @@ def fault(behaviour, program):
     return None
 
 
-def expect(ran, output, status, error=b""):
-    """Asserts the whole answer of a run."""
+def expect(ran, output, status, error=None):
+    """Asserts the whole answer of a run; if no standard error is given, just each bad line is explained there."""
     wrong = harness.difference(ran.output, output)
     assert not wrong, f"output: {wrong}"
     assert ran.status == status, f"status {ran.status}, wanted {status}; standard error: {ran.error[-200:]!r}"
-    assert ran.error == error, f"standard error is {ran.error[:200]!r}, wanted {error!r}"
+    if error is None:
+        wrong = harness.unexplained(ran.output, ran.error)
+        assert not wrong, wrong
+    else:
+        assert ran.error == error, f"standard error is {ran.error[:200]!r}, wanted {error!r}"
 
 
 def begin(program, words=(), limit=None, **streams):
@@ -149,7 +155,7 @@ def waits_for_a_whole_line(program):
         answers(started, b"badline 3 0\n")
     finally:
         rest = end(started)
-    expect(rest, b"", 1)
+    expect(rest, b"", 1, b"line 3, byte 0: `showx` is no command, the nearest is `show`: see --help\n")
 
 
 def judges_usage_before_input(program):
@@ -324,7 +330,63 @@ def a_writer_that_does_not_wait(program):
     assert (ran.returncode, ran.stderr) == (3, b"writefault\n"), f"{ran}"
 
 
+# ---- at a terminal ----
+
+GREETING = b"dsctl: lines as in dsctl -h, ^D ends. "
+
+
+def greets_and_prompts(program):
+    """Somebody who types the script is greeted, prompted before each line, and answered."""
+    ran = terminal.session(program, [], [b"show\n", b"all\n"])
+    greeting, _, rest = ran.seen.partition(b"> ")
+    assert greeting.startswith(GREETING) and b"dsctl replay --keep-going" in greeting, f"{ran}"
+    assert (rest, ran.status) == (b"show\nshown 0\n> all\nshown 0\n> \n", 0), f"{ran}"
+
+
+def points_at_the_place(program):
+    """At a terminal a line that can't be read stands above what was expected, with a caret; without one it doesn't."""
+    line = b'map "a" 16\n'
+    told = b"line 1, byte 8: KINDS was expected, 1 to 15 (label 1, u32 2, str 4, mem 8)\n"
+    ran = terminal.session(program, [], [line])
+    wanted = b'> map "a" 16\nbadline 1 8\n  map "a" 16\n' + b" " * 10 + b"^\n" + told
+    assert ran.seen.endswith(wanted) and ran.status == 1, f"{ran}"
+    expect(harness.run([program], line), b"badline 1 8\n", 1, told)
+
+
+def goes_on_at_a_terminal(program):
+    """With --keep-going a line that can't be read is answered, and the next one is asked for."""
+    ran = terminal.session(program, ["replay", "--keep-going"], [b"shwo\n", b"show\n"])
+    told = b"line 1, byte 0: `shwo` is no command, the nearest is `show`: see --help\n"
+    wanted = b"> shwo\nbadline 1 0\n  shwo\n  ^\n" + told + b"> show\nshown 0\n> \n"
+    assert ran.seen.endswith(wanted) and ran.status == 1, f"{ran}"
+
+
+def is_silent_where_one_stream_is_no_terminal(program):
+    """Without a terminal at both sides nobody is greeted or prompted."""
+    for streams in (("stdout", "stderr"), ("stdin", "stdout")):
+        words = {"stdin": subprocess.PIPE} if "stdin" not in streams else {}
+        ours, theirs = os.openpty()
+        started = subprocess.Popen([program], **{it: theirs for it in streams}, **words, **({"stderr": subprocess.PIPE} if "stderr" not in streams else {}))
+        os.close(theirs)
+        if words:
+            started.stdin.close()
+        else:
+            os.write(ours, b"\x04")
+        assert started.wait(timeout=10) == 0
+        told = started.stderr.read() if started.stderr else b""
+        shown = terminal.shown(ours) if not words else b""
+        os.close(ours)
+        assert told == b"" and b">" not in shown, f"{streams}: {told!r}, {shown!r}"
+
+
 # ---- words of the command line ----
+
+
+def the_manual_and_the_completions_are_current(program):
+    """man/ and completions/ have what the program's help makes."""
+    stale = [str(path.relative_to(manual.ROOT)) for path, text in manual.made(program).items() if not path.exists() or path.read_text() != text]
+    assert not stale, f"not what `tests/manual {program}` writes: {', '.join(stale)}"
+
 
 
 def tells_how_it_is_used(program):
@@ -497,6 +559,11 @@ ALL = [
     a_writer_that_is_closed,
     a_reader_that_does_not_wait,
     a_writer_that_does_not_wait,
+    greets_and_prompts,
+    points_at_the_place,
+    goes_on_at_a_terminal,
+    is_silent_where_one_stream_is_no_terminal,
+    the_manual_and_the_completions_are_current,
     tells_how_it_is_used,
     reminds_in_rows_of_eighty_columns,
     explains_each_refusal,

@@ -12,7 +12,8 @@ from typing import List, Optional
 TESTS = pathlib.Path(__file__).resolve().parent
 EXAMPLES = TESTS.parent / "examples"
 DOCUMENTS = TESTS.parent / "docs"
-SESSION = re.compile(r"^    > .*\n(?:    .*\n)*", re.MULTILINE)  # within a document
+SESSION = re.compile(r"(?<=\n\n)    > .*\n(?:    .*\n)*")  # within a document
+BAD_LINE = re.compile(rb"^badline (\d+) (\d+)$", re.MULTILINE)  # within answers
 SECONDS = 120  # the longest that one run may take, on a busy machine too
 
 
@@ -25,7 +26,7 @@ class Case:
     input: pathlib.Path
     output: bytes
     status: int = 0
-    error: Optional[bytes] = None  # None: any text where the status is above 1, no text otherwise
+    error: Optional[bytes] = None  # None: any text where the status is above 1, else a line for each bad line
 
 
 @dataclass
@@ -124,9 +125,23 @@ def fault(case, ran):
     if case.error is not None:
         wrong = difference(ran.error, case.error)
         return wrong and f"standard error: {wrong}"
-    if bool(ran.error) != (case.status > 1):
-        return f"standard error is {ran.error[:200]!r} at status {ran.status}"
-    return None
+    if case.status > 1:
+        return None if ran.error else f"standard error is empty at status {ran.status}"
+    return unexplained(ran.output, ran.error)
+
+
+def unexplained(output, error):
+    """Says that standard error hasn't just a line for each bad line of the output, or answers None."""
+    wanted = [b"line %s, byte %s: " % it for it in BAD_LINE.findall(output)]
+    told = error.splitlines()
+    if len(told) == len(wanted) and all(map(bytes.startswith, told, wanted)):
+        return None
+    return f"standard error is {error[:200]!r}, wanted a line for each of {wanted[:3]}"
+
+
+def named(ran, word):
+    """Whether a run ended with status 3 and the word, which stands behind what is said of bad lines."""
+    return ran.status == 3 and ran.error.endswith(word) and not unexplained(ran.output, ran.error[: -len(word)])
 
 
 def session_fault(program, session):

@@ -4,6 +4,7 @@ ghost use Rattle.std.specs.Prelude.{IfOk, IfErr};
 ghost use Rattle.ds_names.specs.declared.kind.Kind.TheVariants.{Label, U32, Str, Mem};
 ghost use Rattle.ds_line.specs.Piece.{Found, last_value, StopsValue};
 
+use crate::expected::Expected;
 use crate::part_fault::{PartFault, stop_at};
 use crate::parts::endpoint_at;
 use crate::values::{hex_at, quoted_at};
@@ -14,22 +15,28 @@ use std::alloc::Global;
 /// Reads a value of the kind and the newline behind it, and gives the value with what follows the newline. It is
 /// for whoever reads lines of its own that end with a value.
 ///
-/// A label's value is `generation/slot`, of any generation. NoRoom comes only where the value and the newline stand
-/// there: a label or a number takes no memory.
-pub fn last_value_at(alloc: Global, kind: Kind, bytes: &[u8]) -> Result<(Value, &[u8]), PartFault>
+/// It notes which of the two it reads next. A label's value is `generation/slot`, of any generation. NoRoom comes only
+/// where the value and the newline stand there: a label or a number takes no memory.
+pub fn last_value_at<'a>(
+    alloc: Global,
+    kind: Kind,
+    bytes: &'a [u8],
+    expected: &mut Expected,
+) -> Result<(Value, &'a [u8]), PartFault>
     ensures found { IfOk result (λ r. Found (last_value kind) r.0 bytes.now r.1.now) }
     ensures stop { IfErr result (λ stop. StopsValue kind stop bytes.now) }
 {
+    *expected = Expected::Value(kind);
     match kind {
-        Kind::Label => label_at(bytes),
-        Kind::U32 => number_at(bytes),
-        Kind::Str => text_at(alloc, bytes),
-        Kind::Mem => blob_at(alloc, bytes),
+        Kind::Label => label_at(bytes, expected),
+        Kind::U32 => number_at(bytes, expected),
+        Kind::Str => text_at(alloc, bytes, expected),
+        Kind::Mem => blob_at(alloc, bytes, expected),
     }
 }
 
 // Reads a label's value.
-fn label_at(bytes: &[u8]) -> Result<(Value, &[u8]), PartFault>
+fn label_at<'a>(bytes: &'a [u8], expected: &mut Expected) -> Result<(Value, &'a [u8]), PartFault>
     ensures found { IfOk result (λ r. Found (last_value Label) r.0 bytes.now r.1.now) }
     ensures stop { IfErr result (λ stop. StopsValue Label stop bytes.now) }
 {
@@ -37,6 +44,7 @@ fn label_at(bytes: &[u8]) -> Result<(Value, &[u8]), PartFault>
         return Err(stop_at(bytes));
     };
     let (endpoint, rest) = read;
+    *expected = Expected::End;
     let Some(rest) = read_byte(rest, b'\n') else {
         return Err(stop_at(rest));
     };
@@ -44,13 +52,14 @@ fn label_at(bytes: &[u8]) -> Result<(Value, &[u8]), PartFault>
 }
 
 // Reads a number.
-fn number_at(bytes: &[u8]) -> Result<(Value, &[u8]), PartFault>
+fn number_at<'a>(bytes: &'a [u8], expected: &mut Expected) -> Result<(Value, &'a [u8]), PartFault>
     ensures found { IfOk result (λ r. Found (last_value U32) r.0 bytes.now r.1.now) }
     ensures stop { IfErr result (λ stop. StopsValue U32 stop bytes.now) }
 {
     let Some((number, rest)) = read_decimal(bytes, 4294967295) else {
         return Err(stop_at(bytes));
     };
+    *expected = Expected::End;
     let Some(rest) = read_byte(rest, b'\n') else {
         return Err(stop_at(rest));
     };
@@ -58,7 +67,11 @@ fn number_at(bytes: &[u8]) -> Result<(Value, &[u8]), PartFault>
 }
 
 // Reads a text.
-fn text_at(alloc: Global, bytes: &[u8]) -> Result<(Value, &[u8]), PartFault>
+fn text_at<'a>(
+    alloc: Global,
+    bytes: &'a [u8],
+    expected: &mut Expected,
+) -> Result<(Value, &'a [u8]), PartFault>
     ensures found { IfOk result (λ r. Found (last_value Str) r.0 bytes.now r.1.now) }
     ensures stop { IfErr result (λ stop. StopsValue Str stop bytes.now) }
 {
@@ -66,6 +79,7 @@ fn text_at(alloc: Global, bytes: &[u8]) -> Result<(Value, &[u8]), PartFault>
     let Some((len, rest)) = quoted_at(bytes, &mut block) else {
         return Err(stop_at(bytes));
     };
+    *expected = Expected::End;
     let Some(rest) = read_byte(rest, b'\n') else {
         return Err(stop_at(rest));
     };
@@ -76,13 +90,18 @@ fn text_at(alloc: Global, bytes: &[u8]) -> Result<(Value, &[u8]), PartFault>
 }
 
 // Reads a blob.
-fn blob_at(alloc: Global, bytes: &[u8]) -> Result<(Value, &[u8]), PartFault>
+fn blob_at<'a>(
+    alloc: Global,
+    bytes: &'a [u8],
+    expected: &mut Expected,
+) -> Result<(Value, &'a [u8]), PartFault>
     ensures found { IfOk result (λ r. Found (last_value Mem) r.0 bytes.now r.1.now) }
     ensures stop { IfErr result (λ stop. StopsValue Mem stop bytes.now) }
 {
     let Some((digits, rest)) = hex_at(bytes) else {
         return Err(stop_at(bytes));
     };
+    *expected = Expected::End;
     let Some(rest) = read_byte(rest, b'\n') else {
         return Err(stop_at(rest));
     };

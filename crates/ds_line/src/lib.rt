@@ -5,6 +5,7 @@
 //! The format is of this project.
 #![tactic(auto)]
 
+mod expected;
 mod fault;
 mod item_laws;
 mod item_reading;
@@ -18,6 +19,7 @@ mod rules;
 mod values;
 mod writing;
 
+pub use expected::Expected;
 pub use fault::LineFault;
 pub use item_laws::{
     item_faults_have_one_place, item_lines_are_apart, items_have_one_line, newlines_end_item_lines,
@@ -28,5 +30,5 @@ pub use last_value::last_value_at;
 pub use laws::{changes_have_one_line, faults_have_one_place, lines_are_apart, newlines_end_lines};
 pub use part_fault::{PartFault, stop_at};
 pub use parts::{behind_name, endpoint_at, kind_at, name_at, word_at};
-pub use reading::read_change;
+pub use reading::{read_change, read_change_noting};
 pub use writing::{append_all, append_change, append_value, write_change};

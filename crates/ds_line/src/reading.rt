@@ -10,6 +10,7 @@ ghost use Rattle.ds_line.specs.Spelling.{spelling};
 ghost use Rattle.ds_line.specs.FaultPlace.{IsFaultIn};
 ghost use Rattle.ds_line.specs.Reading.{HasOwner, HasVersion, HasBody, HasValue, up_to_kind, up_to_epoch, up_to_mark, up_to_value, Reads};
 
+use crate::expected::Expected;
 use crate::fault::LineFault;
 use crate::last_value::last_value_at;
 use crate::part_fault::{PartFault, stop_at};
@@ -31,7 +32,23 @@ pub fn read_change(alloc: Global, bytes: &[u8]) -> Result<(Change, usize), LineF
     ensures length { IfOk result (λ r. r.1 ≡ length (spelling r.0)) }
     ensures fault { IfErr result (λ fault. IsFaultIn fault bytes.now) }
 {
-    match change_at(alloc, bytes) {
+    let mut expected = Expected::Name;
+    read_change_noting(alloc, bytes, &mut expected)
+}
+
+/// Reads a change as `read_change` does, and notes the part that it reads next: at BadLine it is the part that begins
+/// at the place.
+pub fn read_change_noting(
+    alloc: Global,
+    bytes: &[u8],
+    expected: &mut Expected,
+) -> Result<(Change, usize), LineFault>
+    ensures line { IfOk result (λ r. IsChange r.0) }
+    ensures found { IfOk result (λ r. take r.1 bytes.now ≡ spelling r.0) }
+    ensures length { IfOk result (λ r. r.1 ≡ length (spelling r.0)) }
+    ensures fault { IfErr result (λ fault. IsFaultIn fault bytes.now) }
+{
+    match change_at(alloc, bytes, expected) {
         Ok((change, left)) => {
             let length = bytes.len() - left;
             Ok((change, length))
@@ -48,16 +65,23 @@ pub fn read_change(alloc: Global, bytes: &[u8]) -> Result<(Change, usize), LineF
 // first part on that can't be read.
 
 // Reads a change from its name on.
-fn change_at(alloc: Global, bytes: &[u8]) -> Result<(Change, usize), PartFault>
+fn change_at(
+    alloc: Global,
+    bytes: &[u8],
+    expected: &mut Expected,
+) -> Result<(Change, usize), PartFault>
     ensures { Reads [] bytes.now result }
 {
+    *expected = Expected::Name;
     let Some(name) = name_at(bytes) else {
         return Err(stop_at(bytes));
     };
     let rest = behind_name(bytes, &name);
+    *expected = Expected::Space;
     let Some(at) = read_byte(rest, b' ') else {
         return Err(stop_at(rest));
     };
+    *expected = Expected::Kind;
     let Some((kind, rest)) = kind_at(at) else {
         return Err(stop_at(at));
     };
@@ -65,17 +89,24 @@ fn change_at(alloc: Global, bytes: &[u8]) -> Result<(Change, usize), PartFault>
     if !has_owner(&key) {
         return Err(stop_at(at));
     }
-    owner_at(alloc, key, rest)
+    owner_at(alloc, key, rest, expected)
 }
 
 // Reads a change from the space behind its kind on.
-fn owner_at(alloc: Global, key: Key, bytes: &[u8]) -> Result<(Change, usize), PartFault>
+fn owner_at(
+    alloc: Global,
+    key: Key,
+    bytes: &[u8],
+    expected: &mut Expected,
+) -> Result<(Change, usize), PartFault>
     requires { HasOwner key }
     ensures { Reads (up_to_kind key) bytes.now result }
 {
+    *expected = Expected::Space;
     let Some(at) = read_byte(bytes, b' ') else {
         return Err(stop_at(bytes));
     };
+    *expected = Expected::Owner;
     let Some(owner) = name_at(at) else {
         return Err(stop_at(at));
     };
@@ -83,10 +114,11 @@ fn owner_at(alloc: Global, key: Key, bytes: &[u8]) -> Result<(Change, usize), Pa
         return Err(stop_at(at));
     }
     let rest = behind_name(at, &owner);
+    *expected = Expected::Space;
     let Some(rest) = read_byte(rest, b' ') else {
         return Err(stop_at(rest));
     };
-    version_at(alloc, key, owner, rest)
+    version_at(alloc, key, owner, rest, expected)
 }
 
 // Reads a change from its epoch on.
@@ -95,10 +127,12 @@ fn version_at(
     key: Key,
     owner: Name,
     bytes: &[u8],
+    expected: &mut Expected,
 ) -> Result<(Change, usize), PartFault>
     requires { HasVersion key owner }
     ensures { Reads (up_to_epoch key owner) bytes.now result }
 {
+    *expected = Expected::Epoch;
     let Some((number, rest)) = read_decimal(bytes, 2097151) else {
         return Err(stop_at(bytes));
     };
@@ -108,9 +142,11 @@ fn version_at(
     if !has_seq(&key, &owner, epoch) {
         return Err(stop_at(bytes));
     }
+    *expected = Expected::Dot;
     let Some(at) = read_byte(rest, b'.') else {
         return Err(stop_at(rest));
     };
+    *expected = Expected::Seq;
     let Some((seq, rest)) = read_decimal(at, 4294967295) else {
         return Err(stop_at(at));
     };
@@ -121,10 +157,11 @@ fn version_at(
     if !has_body(&key, &owner, &version) {
         return Err(stop_at(at));
     }
+    *expected = Expected::Space;
     let Some(rest) = read_byte(rest, b' ') else {
         return Err(stop_at(rest));
     };
-    body_at(alloc, key, owner, version, rest)
+    body_at(alloc, key, owner, version, rest, expected)
 }
 
 // Reads a change from its mark on.
@@ -134,18 +171,20 @@ fn body_at(
     owner: Name,
     version: Version,
     bytes: &[u8],
+    expected: &mut Expected,
 ) -> Result<(Change, usize), PartFault>
     requires { HasBody key owner version }
     ensures { Reads (up_to_mark key owner version) bytes.now result }
 {
+    *expected = Expected::Mark;
     if has_value(&key, &owner, &version) {
         if let Some(rest) = read_byte(bytes, b'=') {
-            return put_at(alloc, key, owner, version, rest);
+            return put_at(alloc, key, owner, version, rest, expected);
         }
     }
     if has_tombstone(&key, &owner, &version) {
         if let Some(rest) = read_byte(bytes, b'-') {
-            return gone_at(key, owner, version, rest);
+            return gone_at(key, owner, version, rest, expected);
         }
     }
     Err(stop_at(bytes))
@@ -157,10 +196,12 @@ fn gone_at(
     owner: Name,
     version: Version,
     bytes: &[u8],
+    expected: &mut Expected,
 ) -> Result<(Change, usize), PartFault>
     requires { IsChange (change_of key owner version Gone) }
     ensures { Reads (up_to_mark key owner version ++ byte 45 ∷ []) bytes.now result }
 {
+    *expected = Expected::End;
     let Some(rest) = read_byte(bytes, b'\n') else {
         return Err(stop_at(bytes));
     };
@@ -174,17 +215,19 @@ fn put_at(
     owner: Name,
     version: Version,
     bytes: &[u8],
+    expected: &mut Expected,
 ) -> Result<(Change, usize), PartFault>
     requires { HasValue key owner version }
     ensures { Reads (up_to_mark key owner version ++ byte 61 ∷ []) bytes.now result }
 {
+    *expected = Expected::Space;
     let Some(rest) = read_byte(bytes, b' ') else {
         return Err(stop_at(bytes));
     };
     if is_label(key.kind) {
-        label_at(key, owner, version, rest)
+        label_at(key, owner, version, rest, expected)
     } else {
-        other_at(alloc, key, owner, version, rest)
+        other_at(alloc, key, owner, version, rest, expected)
     }
 }
 
@@ -194,11 +237,13 @@ fn label_at(
     owner: Name,
     version: Version,
     bytes: &[u8],
+    expected: &mut Expected,
 ) -> Result<(Change, usize), PartFault>
     requires kind { key.kind ≡ Label }
     requires value { HasValue key owner version }
     ensures { Reads (up_to_value key owner version) bytes.now result }
 {
+    *expected = Expected::Value(key.kind);
     let Some((generation, slot, rest)) = read_endpoint(bytes) else {
         return Err(stop_at(bytes));
     };
@@ -208,6 +253,7 @@ fn label_at(
     let Some(endpoint) = Endpoint::of(version.epoch, slot) else {
         return Err(stop_at(bytes));
     };
+    *expected = Expected::End;
     let Some(rest) = read_byte(rest, b'\n') else {
         return Err(stop_at(rest));
     };
@@ -221,12 +267,13 @@ fn other_at(
     owner: Name,
     version: Version,
     bytes: &[u8],
+    expected: &mut Expected,
 ) -> Result<(Change, usize), PartFault>
     requires kind { key.kind ≢ Label }
     requires value { HasValue key owner version }
     ensures { Reads (up_to_value key owner version) bytes.now result }
 {
-    match last_value_at(alloc, key.kind, bytes) {
+    match last_value_at(alloc, key.kind, bytes, expected) {
         Ok((value, rest)) => whole(key, owner, version, Body::Put(value), rest),
         Err(stop) => Err(stop),
     }

@@ -184,7 +184,7 @@ unwritten_last from to had mid has n new held after last left done b unbroken en
     )
 
 finished_badly : (fault : ReplayFault) (from to had mid has : Option (List ℕ)) (n : ℕ) (new : SessionContent) (after last : List ℕ) → Begun from to had mid n new after last → IsUnbroken last → IsAtEnd to → Finishes (Err fault) n mid has new after last → Ends fault from to had has
-finished_badly (BadLine number place) from to had mid has n new after last b unbroken end f =
+finished_badly (BadLine number place expected) from to had mid has n new after last b unbroken end f =
     let s = stopped_at from to had mid has n new after last b (sent_whole from to had mid has n new after last b f.0) in (
       b.goes.bytes,
       s.0,

@@ -2,3 +2,4 @@ pub mod PickLemmas
 pub mod RunLemmas
 pub mod SessionLemmas
 pub mod EndLemmas
+pub mod GoingLemmas

@@ -169,7 +169,7 @@ goes_full from to a b old before pending bytes x read written none =
 
 pub line_leaves : (stop : Ending) (to : Option (List ℕ)) (held old : SessionContent) (output pending line more rest after : List ℕ) → LineStops stop line output after → rest ≡ line ++ more → EndsLine line → Leaves (Some stop) to held output pending old after rest
 line_leaves AtEnd to held old output pending line more rest after h split e = absurd h
-line_leaves (BadLine place) to held old output pending line more rest after h split e = (
+line_leaves (BadLine place expected) to held old output pending line more rest after h split e = (
   h.0,
   record {
     line = e.front;

@@ -4,3 +4,5 @@ pub mod Session
 pub mod Answer
 pub mod Replay
 pub mod Progress
+pub mod GoingOn
+pub mod GoingProgress

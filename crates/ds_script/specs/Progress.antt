@@ -3,8 +3,8 @@
 use Rattle.std.specs.Prelude.{◌≡◌, ℕ, ◌+◌, ◌⊎◌, List, [], ◌++◌, length, Option, Some, None, Result, Ok, Err}
 use Rattle.std.specs.List.{All}
 use Rattle.std.specs.Io.KnownBytes.{Appends, Consumes, IsAtEnd}
-use Rattle.ds_line.specs.declared.fault.LineFault.{LineFault}
-use Rattle.ds_line.specs.declared.fault.LineFault.TheVariants as lines
+use Rattle.ds_words.specs.declared.fault.CommandFault.{CommandFault}
+use Rattle.ds_words.specs.declared.fault.CommandFault.TheVariants as lines
 use Rattle.ds_words.specs.Lines.{IsUnbroken, ended, joined, unended}
 use Rattle.ds_words.specs.Command.{IsBadLine}
 use Rattle.ds_script.specs.declared.fault.ReplayFault.{ReplayFault}
@@ -39,15 +39,15 @@ pub record Goes (from to had has : Option (List ℕ)) (old : SessionContent) (be
   pub answers : AnswersText had has old before (pending ++ bytes) count new after rest
 
 -- why a line, without its newline, isn't answered
-abbrev pub IsFaultOf : LineFault → List ℕ → Type 0
-IsFaultOf (lines.BadLine place) text = IsBadLine text place
+abbrev pub IsFaultOf : CommandFault → List ℕ → Type 0
+IsFaultOf (lines.BadLine place expected) text = IsBadLine text place
 IsFaultOf lines.NoRoom text = Unit {0}
 
 -- Why a line with its newline isn't answered, where `after` wasn't written of the answers before, and the buffer of
 -- answers is `output`.
 abbrev pub LineStops : Ending → (line output after : List ℕ) → Type 0
 LineStops endings.AtEnd line output after = ⊥
-LineStops (endings.BadLine place) line output after = (after ≡ output) × ((text : List ℕ) → line ≡ ended text → IsBadLine text place)
+LineStops (endings.BadLine place expected) line output after = (after ≡ output) × ((text : List ℕ) → line ≡ ended text → IsBadLine text place)
 LineStops endings.ReadFault line output after = ⊥
 LineStops endings.WriteFault line output after = Unit {0}
 LineStops endings.NoRoom line output after = after ≡ output
@@ -58,7 +58,7 @@ LineStops endings.NoRoom line output after = after ≡ output
 abbrev pub Leaves : Option Ending → Option (List ℕ) → (session : SessionContent) → (output pending : List ℕ) → (new : SessionContent) → (after rest : List ℕ) → Type 0
 Leaves None to session output pending new after rest = (new ≡ session) × (after ≡ output) × (rest ≡ pending) × IsUnbroken rest
 Leaves (Some endings.AtEnd) to session output pending new after rest = (new ≡ session) × (after ≡ output) × (rest ≡ pending) × IsUnbroken rest × IsAtEnd to
-Leaves (Some (endings.BadLine place)) to session output pending new after rest = (after ≡ output) × BeginsBadLine to rest place
+Leaves (Some (endings.BadLine place expected)) to session output pending new after rest = (after ≡ output) × BeginsBadLine to rest place
 Leaves (Some endings.ReadFault) to session output pending new after rest = (after ≡ output) × IsUnbroken rest
 Leaves (Some endings.WriteFault) to session output pending new after rest = Unit {0}
 Leaves (Some endings.NoRoom) to session output pending new after rest = after ≡ output
@@ -80,7 +80,7 @@ Reported (Err given) fault had has text = ((given ≡ fault) × Appends had has 
 -- What becomes of the last line, `rest`, whose newline is missing.
 abbrev pub Finishes : Result ℕ ReplayFault → ℕ → Option (List ℕ) → Option (List ℕ) → SessionContent → List ℕ → List ℕ → Type 0
 Finishes (Ok count) lines had has old before rest = (new : SessionContent) × Answers had has old before (unended rest) new [] × (count ≡ lines + length (unended rest))
-Finishes (Err (BadLine number place)) lines had has old before rest = Answers had has old before [] old [] × IsBadLine rest place × (number ≡ lines + 1)
+Finishes (Err (BadLine number place expected)) lines had has old before rest = Answers had has old before [] old [] × IsBadLine rest place × (number ≡ lines + 1)
 Finishes (Err ReadFault) lines had has old before rest = ⊥
 Finishes (Err WriteFault) lines had has old before rest = (done : List (List ℕ)) × (new : SessionContent) × (left : List ℕ) × Answers had has old before done new left × ((done ≡ []) ⊎ (done ≡ unended rest))
 Finishes (Err NoRoom) lines had has old before rest = Answers had has old before [] old []

@@ -51,7 +51,7 @@ pub record BeginsBadLine (to : Option (List ℕ)) (rest : List ℕ) (place : ℕ
 
 -- How the input was answered by the output when a fault ended it, where `to` is what the reader has left.
 abbrev pub StopsWith : ReplayFault → Option (List ℕ) → List ℕ → List ℕ → Type 0
-StopsWith (BadLine number place) to input output = (count : ℕ) × (rest : List ℕ) × IsAnsweredUpTo rest input count output × BeginsBadLine to rest place × (number ≡ count + 1)
+StopsWith (BadLine number place expected) to input output = (count : ℕ) × (rest : List ℕ) × IsAnsweredUpTo rest input count output × BeginsBadLine to rest place × (number ≡ count + 1)
 StopsWith ReadFault to input output = (count : ℕ) × (rest : List ℕ) × IsAnsweredUpTo rest input count output × IsUnbroken rest
 StopsWith WriteFault to input output = IsAnsweredInPart to input output
 StopsWith NoRoom to input output = (count : ℕ) × (rest : List ℕ) × IsAnsweredUpTo rest input count output

@@ -1,14 +1,19 @@
 //! Why a replay ends early.
 
+use ds_line::Expected;
 use thiserror::Error;
 
 /// Why a replay ended before its input did.
 #[derive(Clone, Copy, Debug, PartialEq, Eq, Error)]
 pub enum ReplayFault {
     /// A line that is no command's: its number, from 1, and the byte, from 0, where the first part that can't
-    /// be read begins. A line above 4096 bytes is bad at 4096.
+    /// be read begins, with that part. A line above 4096 bytes is bad at 4096.
     #[error("line {line} can't be read from byte {place} on")]
-    BadLine { line: u64, place: usize },
+    BadLine {
+        line: u64,
+        place: usize,
+        expected: Expected,
+    },
     /// The reader failed, or was read 2^32 times.
     #[error("the input can't be read")]
     ReadFault,

@@ -7,7 +7,9 @@
 mod answer;
 mod fault;
 mod faulty;
+mod going_on;
 mod maps;
+mod report;
 mod session;
 mod shown;
 mod stream;
@@ -16,4 +18,6 @@ mod turn;
 
 pub use fault::ReplayFault;
 pub use faulty::{FailRead, FailWrite};
-pub use stream::replay;
+pub use going_on::{Replayed, replay_on};
+pub use report::{BadLine, Report};
+pub use stream::{replay, replay_leaving};

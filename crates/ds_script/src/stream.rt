@@ -11,7 +11,7 @@ use crate::fault::ReplayFault;
 use crate::session::Session;
 use crate::transfer::write_out;
 use crate::turn::{Ending, answer_line, take_turn};
-use ds_line::LineFault;
+use ds_words::CommandFault;
 use std::alloc::{AllocError, Global};
 use std::io::{Read, Write};
 
@@ -19,7 +19,7 @@ use std::io::{Read, Write};
 const CHUNK: usize = 65536;
 
 /// The most reads of one replay.
-const READS: u64 = 4294967296;
+pub(crate) const READS: u64 = 4294967296;
 
 /// Answers the lines of a script, one after the other, over one store that holds nothing at first: its
 /// incarnation is 1, its first change has the position 0, and its ring keeps 256 changes. It gives the number of
@@ -47,9 +47,30 @@ pub fn replay<R: Read, W: Write>(
         × Appends (W.contents writer.old) (W.contents writer.new) output
         × StopsWith fault (R.remaining reader.new) input output) }
 {
+    let mut unread = Vec::new(alloc);
+    replay_leaving(alloc, reader, writer, &mut unread)
+}
+
+/// Answers the lines of a script as `replay` does, and leaves what was read and not answered: where a line is bad, that
+/// line stands at the front of it. What was there before is left out.
+pub fn replay_leaving<R: Read, W: Write>(
+    alloc: Global,
+    reader: &mut R,
+    writer: &mut W,
+    unread: &mut Vec<u8>,
+) -> Result<u64, ReplayFault>
+    ensures answered { IfOk result (λ count. (input output : List ℕ)
+        × Consumes (R.remaining reader.old) (R.remaining reader.new) input × IsAtEnd (R.remaining reader.new)
+        × Appends (W.contents writer.old) (W.contents writer.new) output
+        × IsAnswered input count output) }
+    ensures stopped { IfErr result (λ fault. (input output : List ℕ)
+        × Consumes (R.remaining reader.old) (R.remaining reader.new) input
+        × Appends (W.contents writer.old) (W.contents writer.new) output
+        × StopsWith fault (R.remaining reader.new) input output) }
+{
     let mut session = Session::open(alloc);
     let mut output = Vec::new(alloc);
-    let mut pending = Vec::new(alloc);
+    unread.clear();
     let Ok(mut chunk) = zeros(alloc) else {
         return Err(ReplayFault::NoRoom);
     };
@@ -58,7 +79,7 @@ pub fn replay<R: Read, W: Write>(
         reader,
         writer,
         &mut chunk,
-        &mut pending,
+        unread,
         &mut session,
         &mut output,
     );
@@ -67,16 +88,17 @@ pub fn replay<R: Read, W: Write>(
             alloc,
             writer,
             ended.lines,
-            &mut pending,
+            unread,
             &mut session,
             &mut output,
         ),
-        Ending::BadLine { place } => report(
+        Ending::BadLine { place, expected } => report(
             writer,
             &output,
             ReplayFault::BadLine {
                 line: ended.lines + 1,
                 place,
+                expected,
             },
         ),
         Ending::ReadFault => report(writer, &output, ReplayFault::ReadFault),
@@ -93,7 +115,7 @@ pub struct Ended {
 }
 
 // Room for one read.
-fn zeros(alloc: Global) -> Result<Vec<u8>, AllocError>
+pub(crate) fn zeros(alloc: Global) -> Result<Vec<u8>, AllocError>
     ensures { IfOk result (λ chunk. vec_len chunk ≡ 65536) }
 {
     Vec::from_elem(alloc, 0u8, CHUNK)
@@ -159,15 +181,16 @@ fn finish<W: Write>(
     match pending.push(b'\n') {
         Ok(()) => match answer_line(alloc, pending.as_slice(), session, output) {
             Ok(()) => written(writer, output, lines + 1),
-            Err(LineFault::BadLine { place }) => report(
+            Err(CommandFault::BadLine { place, expected }) => report(
                 writer,
                 output,
                 ReplayFault::BadLine {
                     line: lines + 1,
                     place,
+                    expected,
                 },
             ),
-            Err(LineFault::NoRoom) => report(writer, output, ReplayFault::NoRoom),
+            Err(CommandFault::NoRoom) => report(writer, output, ReplayFault::NoRoom),
         },
         Err(_) => report(writer, output, ReplayFault::NoRoom),
     }

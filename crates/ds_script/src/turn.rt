@@ -7,14 +7,15 @@ ghost use Rattle.ds_line.specs.LastNewline.{EndsLine};
 ghost use Rattle.ds_words.specs.Lines.{IsUnbroken, ended, joined};
 ghost use Rattle.ds_script.specs.Session.{SessionContent, Leads};
 ghost use Rattle.ds_script.specs.Answer.{AnswersLine};
+ghost use Rattle.ds_script.specs.GoingProgress.{Keeps};
 ghost use Rattle.ds_script.specs.Progress.{Answers, AnswersText, Leaves, Turns, IsFaultOf, LineStops};
 
 use crate::answer::answer_command;
 use crate::session::Session;
 use crate::transfer::{Filled, WriteFailed, drop_front, fill, write_out};
-use ds_line::LineFault;
+use ds_line::Expected;
 use ds_names::NoRoom;
-use ds_words::{LONGEST_LINE, append_noroom, read_line, split_line};
+use ds_words::{CommandFault, LONGEST_LINE, append_noroom, read_line, split_line};
 use std::alloc::Global;
 use std::io::{Read, Write};
 
@@ -26,8 +27,8 @@ const FULL: usize = 65536;
 pub enum Ending {
     /// The reader has no more.
     AtEnd,
-    /// A line is no command's, from the byte `place` on.
-    BadLine { place: usize },
+    /// A line is no command's, from the byte `place` on, where another part was expected.
+    BadLine { place: usize, expected: Expected },
     /// The reader failed.
     ReadFault,
     /// The writer failed.
@@ -109,6 +110,7 @@ fn answer_pending<W: Write>(
             used: answered.used,
             stop: Some(Ending::BadLine {
                 place: LONGEST_LINE,
+                expected: Expected::Limit,
             }),
         };
     }
@@ -168,15 +170,17 @@ fn answer_next<W: Write>(
     match send_full(writer, output) {
         Ok(()) => match answer_line(alloc, line, session, output) {
             Ok(()) => Ok(()),
-            Err(LineFault::BadLine { place }) => Err(Ending::BadLine { place }),
-            Err(LineFault::NoRoom) => Err(Ending::NoRoom),
+            Err(CommandFault::BadLine { place, expected }) => {
+                Err(Ending::BadLine { place, expected })
+            }
+            Err(CommandFault::NoRoom) => Err(Ending::NoRoom),
         },
         Err(WriteFailed) => Err(Ending::WriteFault),
     }
 }
 
-// Writes the answers that wait, where they are many.
-fn send_full<W: Write>(writer: &mut W, output: &mut Vec<u8>) -> Result<(), WriteFailed>
+/// Writes the answers that wait, where they are many.
+pub(crate) fn send_full<W: Write>(writer: &mut W, output: &mut Vec<u8>) -> Result<(), WriteFailed>
     ensures ok { OnOk result ((sent : List ℕ) × (output.old.items ≡ sent ++ output.new.items) × Appends (W.contents writer.old) (W.contents writer.new) sent) }
     ensures err { OnErr result ((sent left : List ℕ) × (output.old.items ≡ sent ++ left) × Appends (W.contents writer.old) (W.contents writer.new) sent) }
 {
@@ -196,27 +200,29 @@ pub(crate) fn answer_line(
     line: &[u8],
     session: &mut Session,
     output: &mut Vec<u8>,
-) -> Result<(), LineFault>
+) -> Result<(), CommandFault>
     requires { EndsLine line.now }
     ensures ok { OnOk result ((out : List ℕ) × (output.new.items ≡ output.old.items ++ out) × ((text : List ℕ) → line.now ≡ ended text → Leads (λ s t. AnswersLine s text out t) session.old session.new)) }
     ensures err { OnErr result (output.new.items ≡ output.old.items) }
     ensures fault { IfErr result (λ fault. (text : List ℕ) → line.now ≡ ended text → IsFaultOf fault text) }
+    ensures kept { IfErr result (λ fault. Keeps fault session.old session.new) }
 {
     if line.len() > LONGEST_LINE + 1 {
-        return Err(LineFault::BadLine {
+        return Err(CommandFault::BadLine {
             place: LONGEST_LINE,
+            expected: Expected::Limit,
         });
     }
     match read_line(alloc, line) {
         Ok(command) => match answer_command(alloc, session, output, command) {
             Ok(()) => Ok(()),
-            Err(NoRoom) => Err(LineFault::NoRoom),
+            Err(NoRoom) => Err(CommandFault::NoRoom),
         },
-        Err(LineFault::BadLine { place }) => Err(LineFault::BadLine { place }),
-        Err(LineFault::NoRoom) => match append_noroom(output) {
+        Err(CommandFault::NoRoom) => match append_noroom(output) {
             Ok(()) => Ok(()),
-            Err(NoRoom) => Err(LineFault::NoRoom),
+            Err(NoRoom) => Err(CommandFault::NoRoom),
         },
+        Err(bad) => Err(bad),
     }
 }
 

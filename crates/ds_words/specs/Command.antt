@@ -15,8 +15,8 @@ use Rattle.ds_pattern.specs.declared.query.Query.{Query}
 use Rattle.ds_store.specs.declared.command.Command.{Command}
 use Rattle.ds_store.specs.declared.command.Command.TheVariants as commands
 use Rattle.ds_words.specs.Lines.{ended, IsUnbroken}
-use Rattle.ds_line.specs.declared.fault.LineFault.{LineFault}
-use Rattle.ds_line.specs.declared.fault.LineFault.TheVariants.{BadLine, NoRoom}
+use Rattle.ds_words.specs.declared.fault.CommandFault.{CommandFault}
+use Rattle.ds_words.specs.declared.fault.CommandFault.TheVariants.{BadLine, NoRoom}
 use Rattle.ds_words.specs.declared.command.ScriptCommand.{ScriptCommand}
 use Rattle.ds_words.specs.declared.command.ScriptCommand.TheVariants.{Offer, Show, All, Publish, Delete, Sweep, Retrieve, NameOf, Subscribe, Check, Map, Entries}
 
@@ -204,9 +204,9 @@ pub record IsCommandFault (bytes : List ℕ) (place : ℕ) : Type 0 where
   pub first : IsFaultPlace IsCommand command_parts bytes place
 
 -- what the reader of a line, newline included, answers: there is no room for texts, blobs and patterns alone
-abbrev pub Reads : List ℕ → Result ScriptCommand LineFault → Type 0
+abbrev pub Reads : List ℕ → Result ScriptCommand CommandFault → Type 0
 Reads bytes (Ok command) = IsCommand command × (bytes ≡ texts (command_parts command))
-Reads bytes (Err (BadLine place)) = IsCommandFault bytes place
+Reads bytes (Err (BadLine place expected)) = IsCommandFault bytes place
 Reads bytes (Err NoRoom) = (command : ScriptCommand) × IsCommand command × (bytes ≡ texts (command_parts command)) × TakesMemory command
 
 -- ---- lines
@@ -222,6 +222,6 @@ abbrev pub IsBadLine : List ℕ → ℕ → Type 0
 IsBadLine line place = ((4096 < length line) × (place ≡ 4096)) ⊎ ((length line ≤ 4096) × IsCommandFault (ended line) place)
 
 -- why a line isn't read: it is bad, or it is a command's, and there is no room for its text, blob or pattern
-abbrev pub IsLineFault : LineFault → List ℕ → Type 0
-IsLineFault (BadLine place) line = IsBadLine line place
+abbrev pub IsLineFault : CommandFault → List ℕ → Type 0
+IsLineFault (BadLine place expected) line = IsBadLine line place
 IsLineFault NoRoom line = (command : ScriptCommand) × IsLineOf command line × TakesMemory command

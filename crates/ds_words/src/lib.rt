@@ -9,6 +9,7 @@
 mod asking;
 mod checked;
 mod command;
+mod fault;
 mod laws;
 mod lines;
 mod pieces;
@@ -20,6 +21,7 @@ mod word;
 mod wording;
 
 pub use command::ScriptCommand;
+pub use fault::CommandFault;
 pub use laws::lines_have_one_command;
 pub use reading::{LONGEST_LINE, read_command, read_line};
 pub use reply::{append_noroom, append_reply, write_reply};

@@ -6,7 +6,7 @@ ghost use Rattle.ds_words.specs.Pieces.{Takes};
 use crate::command::ScriptCommand;
 use crate::pieces::Rest;
 use crate::query::query_of;
-use ds_line::{LineFault, PartFault, read_change, stop_at};
+use ds_line::{Expected, LineFault, PartFault, read_change_noting, stop_at};
 use ds_names::read_byte;
 use std::alloc::Global;
 
@@ -30,10 +30,11 @@ pub(crate) fn all_at(rest: &mut Rest) -> Result<ScriptCommand, PartFault>
 pub(crate) fn offer_at(alloc: Global, rest: &mut Rest) -> Result<ScriptCommand, PartFault>
     ensures { Takes offer_word rest.old.bytes.now result }
 {
+    rest.expected = Expected::Space;
     let Some(text) = read_byte(rest.bytes, b' ') else {
         return Err(stop_at(rest.bytes));
     };
-    match read_change(alloc, text) {
+    match read_change_noting(alloc, text, &mut rest.expected) {
         Ok((change, _)) => Ok(ScriptCommand::Offer(change)),
         Err(LineFault::BadLine { place }) => Err(PartFault::BadPart {
             left: text.len() - place,
@@ -46,7 +47,7 @@ pub(crate) fn offer_at(alloc: Global, rest: &mut Rest) -> Result<ScriptCommand, 
 pub(crate) fn publish_at(alloc: Global, rest: &mut Rest) -> Result<ScriptCommand, PartFault>
     ensures { Takes publish_word rest.old.bytes.now result }
 {
-    let caller = rest.endpoint()?;
+    let caller = rest.endpoint(Expected::Caller)?;
     let overwrite = rest.mode()?;
     let key = rest.key()?;
     let version = rest.version()?;
@@ -64,7 +65,7 @@ pub(crate) fn publish_at(alloc: Global, rest: &mut Rest) -> Result<ScriptCommand
 pub(crate) fn delete_at(rest: &mut Rest) -> Result<ScriptCommand, PartFault>
     ensures { Takes delete_word rest.old.bytes.now result }
 {
-    let caller = rest.endpoint()?;
+    let caller = rest.endpoint(Expected::Caller)?;
     let key = rest.key()?;
     let version = rest.version()?;
     rest.end()?;
@@ -79,9 +80,9 @@ pub(crate) fn delete_at(rest: &mut Rest) -> Result<ScriptCommand, PartFault>
 pub(crate) fn sweep_at(rest: &mut Rest) -> Result<ScriptCommand, PartFault>
     ensures { Takes sweep_word rest.old.bytes.now result }
 {
-    let caller = rest.endpoint()?;
-    let owner = rest.name()?;
-    let generation = rest.generation()?;
+    let caller = rest.endpoint(Expected::Caller)?;
+    let owner = rest.name(Expected::Owner)?;
+    let generation = rest.generation(Expected::Generation)?;
     rest.end()?;
     Ok(ScriptCommand::Sweep {
         caller,
@@ -103,7 +104,7 @@ pub(crate) fn retrieve_at(rest: &mut Rest) -> Result<ScriptCommand, PartFault>
 pub(crate) fn nameof_at(rest: &mut Rest) -> Result<ScriptCommand, PartFault>
     ensures { Takes nameof_word rest.old.bytes.now result }
 {
-    let endpoint = rest.endpoint()?;
+    let endpoint = rest.endpoint(Expected::Endpoint)?;
     rest.end()?;
     Ok(ScriptCommand::NameOf { endpoint })
 }
@@ -112,7 +113,7 @@ pub(crate) fn nameof_at(rest: &mut Rest) -> Result<ScriptCommand, PartFault>
 pub(crate) fn subscribe_at(alloc: Global, rest: &mut Rest) -> Result<ScriptCommand, PartFault>
     ensures { Takes subscribe_word rest.old.bytes.now result }
 {
-    let sub = rest.number()?;
+    let sub = rest.number(Expected::Sub)?;
     let text = rest.pattern()?;
     let kinds = rest.kinds()?;
     let initial = rest.initial()?;
@@ -133,8 +134,8 @@ pub(crate) fn subscribe_at(alloc: Global, rest: &mut Rest) -> Result<ScriptComma
 pub(crate) fn check_at(rest: &mut Rest) -> Result<ScriptCommand, PartFault>
     ensures { Takes check_word rest.old.bytes.now result }
 {
-    let sub = rest.number()?;
-    let max = rest.number()?;
+    let sub = rest.number(Expected::Sub)?;
+    let max = rest.number(Expected::Max)?;
     rest.end()?;
     Ok(ScriptCommand::Check { sub, max })
 }

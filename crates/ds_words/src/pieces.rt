@@ -8,25 +8,30 @@ ghost use Rattle.ds_words.specs.Pieces.{an_endpoint, an_initial, a_mode, a_name,
 
 use ds_entry::Value;
 use ds_line::{
-    PartFault, behind_name, endpoint_at, kind_at, last_value_at, name_at, stop_at, word_at,
+    Expected, PartFault, behind_name, endpoint_at, kind_at, last_value_at, name_at, stop_at,
+    word_at,
 };
 use ds_names::{Endpoint, Generation, Key, Kind, Kinds, Name, Version, read_byte, read_decimal};
 use std::alloc::Global;
 
 /// What isn't read yet of a line. Each reader leaves out what it reads: a piece, and before it the byte that parts it
-/// from the piece before.
+/// from the piece before. It notes which part it reads next, so that where it stops, that is the part which can't be
+/// read.
 #[derive(Clone, Copy)]
 pub(crate) struct Rest<'a> {
     pub bytes: &'a [u8],
+    /// The part that is read next.
+    pub expected: Expected,
 }
 
 impl Rest<'_> {
     /// Reads one byte.
-    pub fn byte(&mut self, byte: u8) -> Result<(), PartFault>
+    pub fn byte(&mut self, byte: u8, expected: Expected) -> Result<(), PartFault>
         ensures found { OnOk result (self.old.bytes.now ≡ byte ∷ self.new.bytes.now) }
         ensures stop { IfErr result (λ stop. stop ≡ BadPart (length self.old.bytes.now)) }
         ensures none { IfErr result (λ stop. (rest : List ℕ) → self.old.bytes.now ≢ byte ∷ rest) }
     {
+        self.expected = expected;
         match read_byte(self.bytes, byte) {
             Some(rest) => {
                 self.bytes = rest;
@@ -37,12 +42,13 @@ impl Rest<'_> {
     }
 
     /// Reads an endpoint.
-    pub fn endpoint(&mut self) -> Result<Endpoint, PartFault>
+    pub fn endpoint(&mut self, expected: Expected) -> Result<Endpoint, PartFault>
         ensures found { IfOk result (λ endpoint. Found an_endpoint endpoint self.old.bytes.now self.new.bytes.now) }
         ensures stop { IfErr result (λ stop. StopsIn an_endpoint stop self.old.bytes.now) }
         ensures room { IfErr result (λ stop. stop ≢ NoRoom) }
     {
-        self.byte(b' ')?;
+        self.byte(b' ', Expected::Space)?;
+        self.expected = expected;
         let Some(read) = endpoint_at(self.bytes) else {
             return Err(stop_at(self.bytes));
         };
@@ -57,7 +63,8 @@ impl Rest<'_> {
         ensures stop { IfErr result (λ stop. StopsIn a_mode stop self.old.bytes.now) }
         ensures room { IfErr result (λ stop. stop ≢ NoRoom) }
     {
-        self.byte(b' ')?;
+        self.byte(b' ', Expected::Space)?;
+        self.expected = Expected::Mode;
         let (word, rest) = word_at(self.bytes);
         let Some(overwrite) = mode_of(word) else {
             return Err(stop_at(self.bytes));
@@ -72,7 +79,8 @@ impl Rest<'_> {
         ensures stop { IfErr result (λ stop. StopsIn an_initial stop self.old.bytes.now) }
         ensures room { IfErr result (λ stop. stop ≢ NoRoom) }
     {
-        self.byte(b' ')?;
+        self.byte(b' ', Expected::Space)?;
+        self.expected = Expected::Initial;
         let (word, rest) = word_at(self.bytes);
         let Some(initial) = initial_of(word) else {
             return Err(stop_at(self.bytes));
@@ -82,12 +90,13 @@ impl Rest<'_> {
     }
 
     /// Reads a name.
-    pub fn name(&mut self) -> Result<Name, PartFault>
+    pub fn name(&mut self, expected: Expected) -> Result<Name, PartFault>
         ensures found { IfOk result (λ name. Found a_name name self.old.bytes.now self.new.bytes.now) }
         ensures stop { IfErr result (λ stop. StopsIn a_name stop self.old.bytes.now) }
         ensures room { IfErr result (λ stop. stop ≢ NoRoom) }
     {
-        self.byte(b' ')?;
+        self.byte(b' ', Expected::Space)?;
+        self.expected = expected;
         let Some(name) = name_at(self.bytes) else {
             return Err(stop_at(self.bytes));
         };
@@ -101,7 +110,8 @@ impl Rest<'_> {
         ensures stop { IfErr result (λ stop. StopsIn a_kind stop self.old.bytes.now) }
         ensures room { IfErr result (λ stop. stop ≢ NoRoom) }
     {
-        self.byte(b' ')?;
+        self.byte(b' ', Expected::Space)?;
+        self.expected = Expected::Kind;
         let Some((kind, rest)) = kind_at(self.bytes) else {
             return Err(stop_at(self.bytes));
         };
@@ -115,18 +125,19 @@ impl Rest<'_> {
         ensures stop { IfErr result (λ stop. StopsIn a_key stop self.old.bytes.now) }
         ensures room { IfErr result (λ stop. stop ≢ NoRoom) }
     {
-        let name = self.name()?;
+        let name = self.name(Expected::Name)?;
         let kind = self.kind()?;
         Ok(Key { name, kind })
     }
 
     /// Reads a generation.
-    pub fn generation(&mut self) -> Result<Generation, PartFault>
+    pub fn generation(&mut self, expected: Expected) -> Result<Generation, PartFault>
         ensures found { IfOk result (λ n. Found a_generation n self.old.bytes.now self.new.bytes.now) }
         ensures stop { IfErr result (λ stop. StopsIn a_generation stop self.old.bytes.now) }
         ensures room { IfErr result (λ stop. stop ≢ NoRoom) }
     {
-        self.byte(b' ')?;
+        self.byte(b' ', Expected::Space)?;
+        self.expected = expected;
         let Some((number, rest)) = read_decimal(self.bytes, 2097151) else {
             return Err(stop_at(self.bytes));
         };
@@ -143,7 +154,8 @@ impl Rest<'_> {
         ensures stop { IfErr result (λ stop. StopsIn a_seq stop self.old.bytes.now) }
         ensures room { IfErr result (λ stop. stop ≢ NoRoom) }
     {
-        self.byte(b'.')?;
+        self.byte(b'.', Expected::Dot)?;
+        self.expected = Expected::Seq;
         let Some((number, rest)) = read_decimal(self.bytes, 4294967295) else {
             return Err(stop_at(self.bytes));
         };
@@ -157,18 +169,19 @@ impl Rest<'_> {
         ensures stop { IfErr result (λ stop. StopsIn a_version stop self.old.bytes.now) }
         ensures room { IfErr result (λ stop. stop ≢ NoRoom) }
     {
-        let epoch = self.generation()?;
+        let epoch = self.generation(Expected::Epoch)?;
         let seq = self.seq()?;
         Ok(Version { epoch, seq })
     }
 
     /// Reads a number below 2^32.
-    pub fn number(&mut self) -> Result<u32, PartFault>
+    pub fn number(&mut self, expected: Expected) -> Result<u32, PartFault>
         ensures found { IfOk result (λ n. Found a_number n self.old.bytes.now self.new.bytes.now) }
         ensures stop { IfErr result (λ stop. StopsIn a_number stop self.old.bytes.now) }
         ensures room { IfErr result (λ stop. stop ≢ NoRoom) }
     {
-        self.byte(b' ')?;
+        self.byte(b' ', Expected::Space)?;
+        self.expected = expected;
         let Some((number, rest)) = read_decimal(self.bytes, 4294967295) else {
             return Err(stop_at(self.bytes));
         };
@@ -182,7 +195,8 @@ impl Rest<'_> {
         ensures stop { IfErr result (λ stop. StopsIn a_place stop self.old.bytes.now) }
         ensures room { IfErr result (λ stop. stop ≢ NoRoom) }
     {
-        self.byte(b' ')?;
+        self.byte(b' ', Expected::Space)?;
+        self.expected = Expected::Map;
         let Some((number, rest)) = read_decimal(self.bytes, 18446744073709551615) else {
             return Err(stop_at(self.bytes));
         };
@@ -196,7 +210,8 @@ impl Rest<'_> {
         ensures stop { IfErr result (λ stop. StopsIn a_kinds stop self.old.bytes.now) }
         ensures room { IfErr result (λ stop. stop ≢ NoRoom) }
     {
-        self.byte(b' ')?;
+        self.byte(b' ', Expected::Space)?;
+        self.expected = Expected::Kinds;
         let Some((number, rest)) = read_decimal(self.bytes, 15) else {
             return Err(stop_at(self.bytes));
         };
@@ -213,10 +228,10 @@ impl Rest<'_> {
         ensures stop { IfErr result (λ stop. StopsIn (a_value kind) stop self.old.bytes.now) }
         ensures room { IfErr result (λ stop. stop ≡ NoRoom → WantsRoom kind self.old.bytes.now) }
     {
-        self.byte(b' ')?;
-        self.byte(b'=')?;
-        self.byte(b' ')?;
-        match last_value_at(alloc, kind, self.bytes) {
+        self.byte(b' ', Expected::Space)?;
+        self.byte(b'=', Expected::Equals)?;
+        self.byte(b' ', Expected::Space)?;
+        match last_value_at(alloc, kind, self.bytes, &mut self.expected) {
             Ok((value, rest)) => {
                 self.bytes = rest;
                 Ok(value)
@@ -231,7 +246,7 @@ impl Rest<'_> {
         ensures stop { IfErr result (λ stop. StopsIn an_end stop self.old.bytes.now) }
         ensures room { IfErr result (λ stop. stop ≢ NoRoom) }
     {
-        self.byte(b'\n')
+        self.byte(b'\n', Expected::End)
     }
 }
 

@@ -8,7 +8,7 @@ ghost use Rattle.ds_words.specs.Lines.{IsUnbroken};
 ghost use Rattle.ds_words.specs.Pieces.{a_pattern, IsWrittenText, FindsPattern};
 
 use crate::pieces::Rest;
-use ds_line::{PartFault, stop_at};
+use ds_line::{Expected, PartFault, stop_at};
 use ds_names::{Kinds, NoRoom, read_byte};
 use ds_pattern::{PatternText, Query};
 use std::alloc::Global;
@@ -21,7 +21,8 @@ impl<'a> Rest<'a> {
         ensures stop { IfErr result (λ stop. StopsIn a_pattern stop self.old.bytes.now) }
         ensures room { IfErr result (λ stop. stop ≢ TheStopForRoom) }
     {
-        self.byte(b' ')?;
+        self.byte(b' ', Expected::Space)?;
+        self.expected = Expected::Pattern;
         let Some((text, rest)) = quoted_at(self.bytes) else {
             return Err(stop_at(self.bytes));
         };

@@ -7,13 +7,14 @@ ghost use Rattle.ds_words.specs.Command.{Reads, IsLineOf, IsLineFault};
 ghost use Rattle.ds_words.specs.Pieces.{Takes, text_of};
 
 use crate::command::ScriptCommand;
+use crate::fault::CommandFault;
 use crate::lines::{
     all_at, check_at, delete_at, entries_at, map_at, nameof_at, offer_at, publish_at, retrieve_at,
     show_at, subscribe_at, sweep_at,
 };
 use crate::pieces::Rest;
 use crate::word::{Word, word_of};
-use ds_line::{LineFault, PartFault, word_at};
+use ds_line::{Expected, PartFault, word_at};
 use std::alloc::Global;
 
 /// The most bytes of a line, its newline not counted.
@@ -21,17 +22,18 @@ pub const LONGEST_LINE: usize = 4096;
 
 /// Reads the command of a line, which comes without its newline and has none in it.
 ///
-/// Where the line is no command's it gives BadLine, with the place where the first part that can't be read begins,
-/// the newline being the last part; a line above 4096 bytes is bad at place 4096, whatever it holds. An unknown word
-/// is bad at place 0. NoRoom comes only where the line is a command's: only texts, blobs and patterns take memory.
-pub fn read_command(alloc: Global, line: &[u8]) -> Result<ScriptCommand, LineFault>
+/// Where the line is no command's it gives BadLine, with the place where the first part that can't be read begins, and
+/// that part; the newline is the last part. A line above 4096 bytes is bad at place 4096, whatever it holds. An unknown
+/// word is bad at place 0. NoRoom comes only where the line is a command's: only texts, blobs and patterns take memory.
+pub fn read_command(alloc: Global, line: &[u8]) -> Result<ScriptCommand, CommandFault>
     requires { IsUnbroken line.now }
     ensures found { IfOk result (λ command. IsLineOf command line.now) }
     ensures fault { IfErr result (λ fault. IsLineFault fault line.now) }
 {
     if line.len() > LONGEST_LINE {
-        return Err(LineFault::BadLine {
+        return Err(CommandFault::BadLine {
             place: LONGEST_LINE,
+            expected: Expected::Limit,
         });
     }
     let mut block = [0; LONGEST_LINE + 1];
@@ -49,20 +51,28 @@ fn end_line(line: &[u8], block: &mut [u8; LONGEST_LINE + 1])
 }
 
 /// Reads the command of a line, which comes with its newline and has no other.
-pub fn read_line(alloc: Global, line: &[u8]) -> Result<ScriptCommand, LineFault>
+pub fn read_line(alloc: Global, line: &[u8]) -> Result<ScriptCommand, CommandFault>
     requires { EndsLine line.now }
     ensures { Reads line.now result }
 {
     let (text, bytes) = word_at(line);
     let Some(word) = word_of(text) else {
-        return Err(LineFault::BadLine { place: 0 });
+        return Err(CommandFault::BadLine {
+            place: 0,
+            expected: Expected::Command,
+        });
     };
-    match behind_word(alloc, word, &mut Rest { bytes }) {
+    let mut rest = Rest {
+        bytes,
+        expected: Expected::Space,
+    };
+    match behind_word(alloc, word, &mut rest) {
         Ok(command) => Ok(command),
-        Err(PartFault::BadPart { left }) => Err(LineFault::BadLine {
+        Err(PartFault::BadPart { left }) => Err(CommandFault::BadLine {
             place: line.len() - left,
+            expected: rest.expected,
         }),
-        Err(PartFault::NoRoom) => Err(LineFault::NoRoom),
+        Err(PartFault::NoRoom) => Err(CommandFault::NoRoom),
     }
 }
 

@@ -10,6 +10,9 @@ The script is read from standard input, one command a line, and each answer is p
 line is waited for. The store keeps, for each name and kind, the change with the greatest version: a
 late or repeated message never brings a dead driver's endpoint back.
 
+A line that can't be read ends the script, and standard error says what was expected there;
+`dsctl replay --keep-going` goes on behind it. Somebody who types the script is greeted and prompted.
+
 Lines of a script:
   publish CALLER new NAME KIND EPOCH.SEQ = VALUE
                      put a value in the caller's name; over a live entry with `over` for `new`
@@ -108,10 +111,13 @@ Words behind `refused`, in the order in which they are judged:
 
 Exit status:
   0  the whole script was answered, or the settings have no fault
-  1  a line can't be read: `badline LINE PLACE` is printed, lines counted from 1 and bytes from 0;
-     or the settings have a fault: `bad WORD INDEX` is printed
+  1  a line can't be read: `badline LINE PLACE` is printed, lines counted from 1 and bytes from 0,
+     and standard error says what was expected; or the settings have a fault: `bad WORD INDEX` is
+     printed
   2  the words of the command line are wrong
   3  memory, reading or writing failed: standard error has `noroom`, `readfault` or `writefault`";
+
+pub(crate) const KEEP_GOING_ABOUT: &str = "Print a bad line and go on; status 1 at the end";
 
 pub(crate) const SETTINGS_ABOUT: &str = "Show what a settings text tells RS, or its first fault";
 

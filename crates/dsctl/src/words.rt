@@ -1,8 +1,10 @@
 //! The words of the command line.
 
-use crate::help::{ABOUT, AFTER_HELP, LINES, LONG_ABOUT, SETTINGS_ABOUT, SETTINGS_LONG_ABOUT};
+use crate::help::{
+    ABOUT, AFTER_HELP, KEEP_GOING_ABOUT, LINES, LONG_ABOUT, SETTINGS_ABOUT, SETTINGS_LONG_ABOUT,
+};
 use clap::error::ErrorKind;
-use clap::{ArgMatches, Command, Error};
+use clap::{Arg, ArgAction, ArgMatches, Command, Error};
 use std::alloc::{AllocError, Global};
 use std::io;
 use std::rt::Runtime;
@@ -10,8 +12,10 @@ use std::rt::Runtime;
 /// What the words ask for, or how they were answered.
 #[derive(Clone, Copy, Debug, PartialEq, Eq)]
 pub enum Words {
-    /// To answer a script.
+    /// To answer a script, up to a line that can't be read.
     Replay,
+    /// To answer it behind such lines too.
+    ReplayOn,
     /// To show what settings tell RS.
     Settings,
     /// Help or the version was asked for, and stands on standard output.
@@ -43,7 +47,7 @@ pub(crate) fn read<R: Runtime + AllocGlobal>(rt: &R) -> Words {
     }
     match parse(rt.alloc(), &words) {
         Ok(words) => words,
-        Err(error) => answer(rt, &error),
+        Err(error) => answer(rt, &error, &words),
     }
 }
 
@@ -51,15 +55,24 @@ pub(crate) fn read<R: Runtime + AllocGlobal>(rt: &R) -> Words {
 fn parse<'a>(alloc: Global, words: &'a [String]) -> Result<Words, Error> {
     let program: Command<'a> = command(alloc)?;
     let matches: ArgMatches<'a> = program.try_get_matches_from(words)?;
-    Ok(match matches.subcommand_name() {
-        Some("settings") => Words::Settings,
+    Ok(match matches.subcommand() {
+        Some(("settings", _)) => Words::Settings,
+        Some(("replay", given)) if given.get_flag(KEEP_GOING) => Words::ReplayOn,
         _ => Words::Replay,
     })
 }
 
+// The option to go on behind lines that can't be read.
+const KEEP_GOING: &str = "keep-going";
+
 // The command line of the program.
 fn command<'a>(alloc: Global) -> Result<Command<'a>, AllocError> {
+    let keep_going = Arg::new(alloc, KEEP_GOING)
+        .long(KEEP_GOING)
+        .action(ArgAction::SetTrue)
+        .help(KEEP_GOING_ABOUT);
     let replay = Command::new(alloc, "replay")
+        .arg(keep_going)?
         .about("Answer a script; no subcommand means this one")
         .after_help(LINES);
     let settings = Command::new(alloc, "settings")
@@ -81,8 +94,11 @@ fn command<'a>(alloc: Global) -> Result<Command<'a>, AllocError> {
 const STANDARD_INPUT: &str =
     "A script is read from standard input, and not by its name: dsctl < SCRIPT";
 
+// What somebody is told who asked to go on before saying what for.
+const BEHIND_REPLAY: &str = "--keep-going stands behind a word: dsctl replay --keep-going";
+
 // Prints what `clap` has to say: a usage fault on standard error, help or the version on standard output.
-fn answer(rt: &impl Runtime, error: &Error) -> Words {
+fn answer(rt: &impl Runtime, error: &Error, given: &[String]) -> Words {
     if matches!(error.kind(), ErrorKind::OutOfMemory) {
         return Words::NoRoom;
     }
@@ -91,7 +107,11 @@ fn answer(rt: &impl Runtime, error: &Error) -> Words {
         error.kind(),
         ErrorKind::InvalidSubcommand | ErrorKind::UnknownArgument
     ) {
-        let _ = eprintln!(rt; "{STANDARD_INPUT}");
+        let tip = match given.get(1).map(|word| word.as_str()) {
+            Some("--keep-going") => BEHIND_REPLAY,
+            _ => STANDARD_INPUT,
+        };
+        let _ = eprintln!(rt; "{tip}");
     }
     match (error.use_stderr(), printed) {
         (true, _) => Words::Usage,

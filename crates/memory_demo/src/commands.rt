@@ -4,10 +4,9 @@ ghost use Rattle.ds_line.specs.LastNewline.{EndsLine};
 
 use crate::Failure;
 use ds_entry::{Items, Value};
-use ds_line::LineFault;
 use ds_names::{Endpoint, Key, Kind, Name, Version, read_decimal};
 use ds_store::Command;
-use ds_words::{ScriptCommand, Wording, read_line, split_line};
+use ds_words::{CommandFault, ScriptCommand, Wording, read_line, split_line};
 use std::alloc::Global;
 
 /// A command for a store, and how its reply is worded.
@@ -90,8 +89,8 @@ fn read(alloc: Global, line: &[u8]) -> Result<ScriptCommand, Failure>
 {
     match read_line(alloc, line) {
         Ok(command) => Ok(command),
-        Err(LineFault::BadLine { .. }) => Err(Failure::BadLine),
-        Err(LineFault::NoRoom) => Err(Failure::NoRoom),
+        Err(CommandFault::BadLine { .. }) => Err(Failure::BadLine),
+        Err(CommandFault::NoRoom) => Err(Failure::NoRoom),
     }
 }
 

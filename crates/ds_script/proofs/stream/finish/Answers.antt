@@ -1,6 +1,6 @@
 use Rattle.std.proofs.Common.{◌≡◌, ◌≢◌, [], length, ◌+◌, refl, sym, ◌∙◌, subst}
 use Rattle.std.proofs.lemmas.Bool.{eqb-true, eqb-false}
-use Rattle.ds_line.specs.declared.fault.LineFault.{LineFault}
+use Rattle.ds_words.specs.declared.fault.CommandFault.{CommandFault}
 use Rattle.ds_script.specs.declared.fault.ReplayFault.TheVariants.{BadLine, NoRoom}
 use Rattle.ds_script.specs.Progress.{IsFaultOf}
 use Rattle.ds_script.proofs.EndLemmas.{nothing, something, finish_none, finish_line, finish_fault}
@@ -23,8 +23,8 @@ returns-in-Ok-answer_line g c =
 pub returns-in-Err-BadLine : goal.returns-in-Err-BadLine
 returns-in-Err-BadLine g c =
     let rest = c.args.pending.now.items in
-    let bad = subst (λ (f : LineFault). IsFaultOf f rest) c.in-Err-BadLine.field-0-is ((c.in-Err-BadLine.ensures).fault rest (c.as_slice.ensures.value ∙ (c.in-Ok.ensures).items)) in
-    finish_fault c.report.result (BadLine (c.args.lines + 1) c.in-Err-BadLine.place) c.args.lines (g.W.Write.contents c.args.writer.now) (g.W.Write.contents c.report.new.writer) c.args.session.now c.args.output.now.items c.deref-in-Err-BadLine.result.now rest
+    let bad = subst (λ (f : CommandFault). IsFaultOf f rest) c.in-Err-BadLine.field-0-is ((c.in-Err-BadLine.ensures).fault rest (c.as_slice.ensures.value ∙ (c.in-Ok.ensures).items)) in
+    finish_fault c.report.result (BadLine (c.args.lines + 1) c.in-Err-BadLine.place c.in-Err-BadLine.expected) c.args.lines (g.W.Write.contents c.args.writer.now) (g.W.Write.contents c.report.new.writer) c.args.session.now c.args.output.now.items c.deref-in-Err-BadLine.result.now rest
     c.report.ensures (c.deref-in-Err-BadLine.ensures.value ∙ (c.in-Err-BadLine.ensures).err) (λ a. (a, bad, refl))
 
 pub returns-in-Err-NoRoom : goal.returns-in-Err-NoRoom

@@ -7,7 +7,7 @@ use Rattle.ds_script.specs.declared.turn.Ending.{Ending}
 use Rattle.ds_words.specs.Lines.{IsUnbroken}
 use Rattle.ds_script.specs.Progress.{Leaves}
 use Rattle.ds_script.proofs.EndLemmas.{begun, begun_end, reported, unwritten_now, finished_well, finished_ill}
-use Rattle.ds_script.proofs.stream.replay.Goals as goal
+use Rattle.ds_script.proofs.stream.replay_leaving.Goals as goal
 
 pub returns-in_default-clause-stopped : goal.returns-in_default-clause-stopped
 returns-in_default-clause-stopped g c =
@@ -31,7 +31,7 @@ pub returns-in-BadLine-clause-stopped : goal.returns-in-BadLine-clause-stopped
 returns-in-BadLine-clause-stopped g c =
     let t = c.answer_input-ended.ensures.goes in
     let l = subst (λ (s : Ending). Leaves (Some s) (g.R.Read.remaining c.answer_input-ended.new.reader) c.answer_input-ended.new.session c.answer_input-ended.new.output.items c.answer_input-ended.new.pending.items t.0 t.1 t.2) c.in-BadLine.is t.4 in
-    reported c.report.result (BadLine (c.answer_input-ended.result.lines + 1) c.in-BadLine.place) (g.W.Write.contents c.report.new.writer) c.deref.result.now (begun c.open-session.ensures c.new-output.ensures.items t.3)
+    reported c.report.result (BadLine (c.answer_input-ended.result.lines + 1) c.in-BadLine.place c.in-BadLine.expected) (g.W.Write.contents c.report.new.writer) c.deref.result.now (begun c.open-session.ensures c.new-output.ensures.items t.3)
     (c.deref.ensures.value ∙ sym l.0) c.report.ensures (λ output st. (c.answer_input-ended.result.lines, t.2, st, l.1, refl))
 
 pub returns-in-ReadFault-clause-stopped : goal.returns-in-ReadFault-clause-stopped

@@ -5,7 +5,7 @@ use Rattle.ds_line.specs.Reading.{Reads}
 use Rattle.ds_line.specs.declared.part_fault.PartFault.{PartFault}
 use Rattle.ds_line.proofs.StepLemmas.{stops_at}
 use Rattle.ds_line.proofs.LineLemmas.{rest_fits, no_line}
-use Rattle.ds_line.proofs.reading.read_change.Goals as goal
+use Rattle.ds_line.proofs.reading.read_change_noting.Goals as goal
 
 pub overflow_sub-place : goal.overflow_sub-place
 overflow_sub-place c =

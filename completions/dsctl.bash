@@ -1,0 +1,15 @@
+# Completions for bash, made by tests/manual from the program's help.
+_dsctl() {
+    local at command= words="replay settings -h --help -V --version"
+    for ((at = 1; at < COMP_CWORD; at++)); do
+        case ${COMP_WORDS[at]} in
+            replay|settings) command=${COMP_WORDS[at]} ;;
+        esac
+    done
+    case $command in
+        replay) words="--keep-going -h --help" ;;
+        settings) words="-h --help" ;;
+    esac
+    COMPREPLY=($(compgen -W "$words" -- "${COMP_WORDS[COMP_CWORD]}"))
+}
+complete -F _dsctl dsctl

@@ -1,0 +1,49 @@
+//! What a reader of a line asks for next.
+
+use ds_names::Kind;
+
+/// A part of a line, by what it says. Readers of lines note the part that they read next, so that where one can't be
+/// read it is the part that was expected. Those of changes stand first; the others are for whoever reads lines of its
+/// own.
+#[derive(Clone, Copy, Debug, PartialEq, Eq)]
+pub enum Expected {
+    /// The space before another part.
+    Space,
+    Name,
+    Kind,
+    /// The owner of a change.
+    Owner,
+    Epoch,
+    /// The dot between an epoch and a sequence number.
+    Dot,
+    Seq,
+    /// `=` or `-`.
+    Mark,
+    /// A value of the kind.
+    Value(Kind),
+    /// The newline.
+    End,
+    /// The word that a line begins with.
+    Command,
+    /// The endpoint of whoever asks.
+    Caller,
+    /// An endpoint that is asked about.
+    Endpoint,
+    /// `new` or `over`.
+    Mode,
+    /// `=` alone.
+    Equals,
+    Generation,
+    /// The number of a subscription.
+    Sub,
+    /// How many changes are asked for.
+    Max,
+    Pattern,
+    Kinds,
+    /// `first` or `later`.
+    Initial,
+    /// The number of a map.
+    Map,
+    /// That the line had ended before: it is too long.
+    Limit,
+}

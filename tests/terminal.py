@@ -1,0 +1,87 @@
+"""The program at a pseudo terminal, and the pictures of it that the documents show."""
+import os
+import pty
+import re
+import select
+import subprocess
+import time
+from dataclasses import dataclass
+from typing import List
+
+import harness
+
+PROMPT = b"> "
+PICTURE = re.compile(r"^    \$ dsctl(.*)\n((?:    .*\n)*)", re.MULTILINE)  # within a document
+
+
+@dataclass
+class Picture:
+    """What somebody at a terminal types and sees, as a document shows it."""
+
+    name: str
+    words: List[str]
+    typed: List[bytes]
+    seen: List[str]
+
+
+def pictures():
+    """Reads each picture of README.md and the documents: an indented block that begins with `$ dsctl`."""
+    found = []
+    for document in [harness.TESTS.parent / "README.md", *sorted(harness.DOCUMENTS.glob("*.md"))]:
+        for number, block in enumerate(PICTURE.finditer(document.read_text()), 1):
+            lines = [it[4:] for it in block[2].splitlines()]
+            typed = [it[2:].encode() + b"\n" for it in lines if it.startswith("> ")]
+            found.append(Picture(f"{document.name}: picture {number}", block[1].split(), typed, lines))
+    return found
+
+
+def picture_fault(program, picture):
+    """Says what is wrong with a picture, or answers None."""
+    seen = [line.rstrip() for line in session(program, picture.words, picture.typed).seen.decode().splitlines()]
+    wanted = [line.rstrip() for line in picture.seen]
+    at = next((at for at, pair in enumerate(zip(seen, wanted)) if pair[0] != pair[1]), min(len(seen), len(wanted)))
+    return None if seen == wanted else f"line {at + 1} is {seen[at : at + 1]}, shown as {wanted[at : at + 1]}"
+
+
+@dataclass
+class Seen:
+    """What stood on the terminal, and the status."""
+
+    seen: bytes
+    status: int
+
+
+def session(program, words, typed, streams=("stdin", "stdout", "stderr")):
+    """Runs the program with the streams at a terminal, and types each line once it asks for one, and then ^D."""
+    ours, theirs = pty.openpty()
+    others = {it: subprocess.PIPE for it in ("stdout", "stderr") if it not in streams}
+    started = subprocess.Popen([program, *words], **{it: theirs for it in streams}, **others)
+    os.close(theirs)
+    seen, before, late, waiting = b"", 0, time.monotonic() + harness.SECONDS, [*typed, b"\x04"]
+    try:
+        while time.monotonic() < late:
+            if waiting and seen[before:].endswith(PROMPT):
+                before = len(seen)
+                os.write(ours, waiting.pop(0))
+            elif select.select([ours], [], [], 0.1)[0]:
+                read = shown(ours)
+                if not read:
+                    break
+                seen += read
+        started.wait(timeout=10)
+    finally:
+        started.kill()
+        started.wait()
+        os.close(ours)
+        for it in (started.stdout, started.stderr):
+            if it:
+                it.close()
+    return Seen(seen.replace(b"\r\n", b"\n"), started.returncode)
+
+
+def shown(terminal):
+    """What the terminal shows next, or nothing once nobody holds its other side."""
+    try:
+        return os.read(terminal, 65536)
+    except OSError:
+        return b""
