@@ -1,0 +1,6 @@
+pub mod EntryLemmas
+pub mod PlaceLemmas
+pub mod SearchLemmas
+pub mod HeldLemmas
+pub mod MergeLemmas
+pub mod RaiseLemmas
