@@ -4,3 +4,5 @@ pub mod SearchLemmas
 pub mod HeldLemmas
 pub mod MergeLemmas
 pub mod RaiseLemmas
+pub mod LeftLemmas
+pub mod KeptLemmas

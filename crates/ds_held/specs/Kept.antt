@@ -4,7 +4,7 @@ use Rattle.std.specs.List.{insert, HoldsAt}
 use Rattle.std.specs.List.Sorted.{IsPartitionPoint}
 use Rattle.std.specs.declared.cmp.Ordering.{Ordering}
 use Rattle.std.specs.declared.cmp.Ordering.TheVariants.{Less, Equal, Greater}
-use Rattle.std.specs.FinMap.{from_entries, is_sorted}
+use Rattle.std.specs.FinMap.{FinMap, from_entries, is_sorted}
 use lib.Dec.{T}
 use Rattle.ds_names.specs.declared.key.Key.{Key}
 use Rattle.ds_names.specs.Key.{name_cmp, key_cmp}
@@ -31,9 +31,16 @@ by_owner floors = map owned floors
 abbrev pub by_key : List ChangeRecord → List (Key × ChangeRecord)
 by_key changes = map keyed changes
 
+-- from each owner its floor's generation, and from each key its change
+abbrev pub floors_of : List Floor → FinMap name_cmp ℕ
+floors_of floors = from_entries (by_owner floors)
+
+abbrev pub changes_of : List ChangeRecord → FinMap key_cmp ChangeRecord
+changes_of changes = from_entries (by_key changes)
+
 -- what is held, each floor at its owner and each change at its key
 abbrev pub holding_of : List Floor → List ChangeRecord → LimitsRecord → Holding
-holding_of floors changes limits = record { floors = from_entries (by_owner floors); changes = from_entries (by_key changes); limits = limits }
+holding_of floors changes limits = record { floors = floors_of floors; changes = changes_of changes; limits = limits }
 
 -- the names of owners rise
 abbrev pub AreOwnersRising : List Floor → Type 0

@@ -6,6 +6,13 @@
 //! neither versions nor floors.
 #![tactic(auto)]
 
+mod floors;
+mod held;
 mod limits;
+mod list;
+mod order;
+mod reading;
+mod void;
 
+pub use held::Held;
 pub use limits::Limits;

@@ -1,0 +1,44 @@
+//! Copies of all that is held.
+
+ghost use Rattle.std.specs.Prelude.{◌≡◌, ◌++◌, map, IfOk, OnOk};
+ghost use Rattle.ds_entry.specs.declared.floor.Floor.{Floor};
+ghost use Rattle.ds_entry.specs.declared.item.Item.TheVariants.{Floor as Floored};
+ghost use Rattle.ds_held.specs.Held.{change_item};
+
+use ds_entry::{Change, Floor, Item, ItemList};
+use ds_names::NoRoom;
+use std::alloc::Global;
+
+// Adds the floors to a list of items.
+fn add_floors(items: &mut ItemList, floors: &[Floor]) -> Result<(), NoRoom>
+    ensures { OnOk result (items.new ≡ items.old ++ map (λ (f : Floor). Floored f) floors.now) }
+{
+    for floor in floors {
+        items.push(Item::Floor(*floor))?;
+    }
+    Ok(())
+}
+
+// Adds the changes to a list of items.
+fn add_changes(alloc: Global, items: &mut ItemList, changes: &[Change]) -> Result<(), NoRoom>
+    ensures { OnOk result (items.new ≡ items.old ++ map change_item changes.now) }
+{
+    for change in changes {
+        items.push(Item::Change(change.copy(alloc)?))?;
+    }
+    Ok(())
+}
+
+// All of them, the floors first.
+pub(crate) fn copy_all(
+    alloc: Global,
+    floors: &[Floor],
+    changes: &[Change],
+) -> Result<ItemList, NoRoom>
+    ensures { IfOk result (λ items. items ≡ map (λ (f : Floor). Floored f) floors.now ++ map change_item changes.now) }
+{
+    let mut items = ItemList::new(alloc);
+    add_floors(&mut items, floors)?;
+    add_changes(alloc, &mut items, changes)?;
+    Ok(items)
+}
