@@ -25,7 +25,7 @@ use Rattle.ds_held.specs.Limits.{LimitsRecord}
 use Rattle.ds_held.specs.Held.{Holding, held_changes, held_items, held_for, held_count, floor_for, floor_count, floor_item, change_item, is_void_at, IsSound, nothing_held}
 use Rattle.ds_held.specs.Merge.{AnswersNew, AnswersHeld, AnswersFor, UnlessVoid, MergeAnswer, after_merge, IsRefused}
 use Rattle.ds_held.specs.Raise.{AnswersFloor, AnswersHigher, RaiseAnswer, after_raise}
-use Rattle.ds_held.specs.Kept.{owned, keyed, by_owner, by_key, floors_of, changes_of, holding_of, AreOwnersRising, AreKeysRising, IsKept, IsPlace, IsFloorPlace, IsPut, put_at, list_after, left_by}
+use Rattle.ds_held.specs.Kept.{floored, owned, keyed, by_owner, by_key, floors_of, changes_of, holding_of, AreOwnersRising, AreKeysRising, IsKept, IsPlace, IsFloorPlace, IsPut, put_at, list_after, left_by}
 use Rattle.ds_held.proofs.EntryLemmas.{map_twice}
 use Rattle.ds_held.proofs.PlaceLemmas.{entries_are, count, get_there, get_none, still_rising, map_with, rising_filter}
 use Rattle.ds_held.proofs.LeftLemmas.{changes_are_left, few_left}
@@ -48,14 +48,14 @@ own_values (x ∷ xs) = ap (λ l. x ∷ l) (own_values xs)
 pub changes_are : (fs : List Floor) (xs : List ChangeRecord) (lim : LimitsRecord) → AreKeysRising xs → held_changes (holding_of fs xs lim) ≡ xs
 changes_are fs xs lim s = ap (λ es. map (λ (e : Key × ChangeRecord). e.1) es) (entries_are key_cmp keys_total exact_keys keyed xs s) ∙ own_values xs
 
-own_floors : (fs : List Floor) → map floor_item (by_owner fs) ≡ map (λ (f : Floor). Floored f) fs
+own_floors : (fs : List Floor) → map floor_item (by_owner fs) ≡ map floored fs
 own_floors fs = map_twice floor_item owned fs
 
-pub items_are : (fs : List Floor) (xs : List ChangeRecord) (lim : LimitsRecord) → AreOwnersRising fs → AreKeysRising xs → held_items (holding_of fs xs lim) ≡ map (λ (f : Floor). Floored f) fs ++ map change_item xs
+pub items_are : (fs : List Floor) (xs : List ChangeRecord) (lim : LimitsRecord) → AreOwnersRising fs → AreKeysRising xs → held_items (holding_of fs xs lim) ≡ map floored fs ++ map change_item xs
 items_are fs xs lim r s =
     ap (λ es. map floor_item es ++ map change_item (held_changes (holding_of fs xs lim))) (entries_are name_cmp nat_list_cmp_total exact_bytes owned fs r)
     ∙ ap (λ l. l ++ map change_item (held_changes (holding_of fs xs lim))) (own_floors fs)
-    ∙ ap (λ l. map (λ (f : Floor). Floored f) fs ++ map change_item l) (changes_are fs xs lim s)
+    ∙ ap (λ l. map floored fs ++ map change_item l) (changes_are fs xs lim s)
 
 pub count_changes : (xs : List ChangeRecord) → AreKeysRising xs → len (changes_of xs) ≡ length xs
 count_changes xs s = count key_cmp keys_total exact_keys keyed xs s
@@ -97,7 +97,7 @@ one_more : (void : Bool) (n m : ℕ) (c : ChangeRecord) → AnswersFor None void
 one_more true n m c a = absurd (cc)
 one_more false n m c a = a
 
-none_more : (void : Bool) (n m : ℕ) (c : ChangeRecord) → AnswersFor None void n m c (Ok Taken) → AnswersFor None void n m c (Err NoRoom)
+pub none_more : (void : Bool) (n m : ℕ) (c : ChangeRecord) → AnswersFor None void n m c (Ok Taken) → AnswersFor None void n m c (Err NoRoom)
 none_more true n m c a = absurd (cc)
 none_more false n m c a = a
 

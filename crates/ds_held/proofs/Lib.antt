@@ -4,5 +4,6 @@ pub mod SearchLemmas
 pub mod HeldLemmas
 pub mod MergeLemmas
 pub mod RaiseLemmas
+pub mod JoinLemmas
 pub mod LeftLemmas
 pub mod KeptLemmas

@@ -11,6 +11,8 @@ use Rattle.ds_names.specs.Key.{name_cmp, key_cmp}
 use Rattle.ds_entry.specs.Change.{ChangeRecord, IsChange}
 use Rattle.ds_entry.specs.Void.{voids}
 use Rattle.ds_entry.specs.declared.floor.Floor.{Floor}
+use Rattle.ds_entry.specs.declared.item.Item.{Item}
+use Rattle.ds_entry.specs.declared.item.Item.TheVariants.{Floor as Floored}
 use Rattle.ds_join.specs.declared.merge.Merge.{Merge}
 use Rattle.ds_join.specs.declared.merge.Merge.TheVariants.{Taken, Known, Stale}
 use Rattle.ds_join.specs.declared.merge.JoinFault.{JoinFault}
@@ -24,6 +26,10 @@ owned f = (f.owner, f.generation)
 
 abbrev pub keyed : ChangeRecord → Key × ChangeRecord
 keyed c = (c.key, c)
+
+-- a floor, as an item
+abbrev pub floored : Floor → Item
+floored f = Floored f
 
 abbrev pub by_owner : List Floor → List (List ℕ × ℕ)
 by_owner floors = map owned floors

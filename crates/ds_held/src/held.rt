@@ -1,6 +1,6 @@
 //! Holders of changes and floors.
 
-ghost use Rattle.std.specs.Prelude.{◌≡◌, ◌≤◌, ◌++◌, ◌∷◌, [], All, IfOk, IfErr, IfSome, OnOk, option_and_then, slice_get};
+ghost use Rattle.std.specs.Prelude.{◌≡◌, ◌≤◌, ◌++◌, ◌∷◌, [], All, IfOk, IfErr, IfSome, OnOk, option_and_then, slice_get, take};
 ghost use Rattle.std.specs.Option.{option_copied, option_map};
 ghost use Rattle.std.specs.List.{find};
 ghost use Rattle.ds_entry.specs.Change.{ChangeRecord, IsChange, IsValue};
@@ -8,19 +8,22 @@ ghost use Rattle.ds_entry.specs.declared.item.Item.TheVariants.{Change as Change
 ghost use Rattle.ds_join.specs.Reading.{value_of, comes_after};
 ghost use Rattle.ds_join.specs.Label.{names_endpoint};
 ghost use Rattle.ds_join.specs.ItemTop.{IsTop};
+ghost use Rattle.ds_join.specs.ItemJoin.{IsJoin};
 ghost use Rattle.ds_held.specs.Held.{held_changes, held_items, held_for, held_count, floor_for, nothing_held, IsSound};
+ghost use Rattle.ds_held.specs.Join.{AreMerged, IsStopped};
 ghost use Rattle.ds_held.specs.Limits.{larger};
 ghost use Rattle.ds_held.specs.Merge.{after_merge, IsRefused, MergeAnswer};
 ghost use Rattle.ds_held.specs.Raise.{after_raise, RaiseAnswer};
 
 use crate::floors::floor_at;
+use crate::join::join_into;
 use crate::limits::Limits;
 use crate::list::{merge_copy, merge_into};
 use crate::order::{change_at, first_of, name_of, nth};
 use crate::reading::copy_all;
 use crate::void::raise_into;
 use ds_entry::{Body, Change, Floor, ItemList, Value};
-use ds_join::{JoinFault, Merge};
+use ds_join::{JoinFault, Merge, Stop};
 use ds_names::{Endpoint, Generation, Key, Name, NoRoom};
 use std::alloc::Global;
 use std::marker::Model;
@@ -208,5 +211,27 @@ impl Held {
         ensures sound { IsSound self.new }
     {
         raise_into(&mut self.floors, &mut self.changes, self.limits, floor)
+    }
+
+    /// Joins with all that another one holds: raises its floors, by the names of their owners, and then merges its changes,
+    /// in the order of the keys, each as `raise` and `merge_copy` do. It stops at the first that is refused.
+    ///
+    /// Stale and known items count as done. `Ok` leaves the join of both.
+    pub fn join(&mut self, alloc: Global, other: &Held) -> Result<(), Stop>
+        ensures joined { OnOk result (IsJoin (held_items self.new) (held_items self.old) (held_items other.now)) }
+        ensures each { OnOk result (AreMerged self.old (held_items other.now) self.new) }
+        ensures stopped { IfErr result (IsStopped self.old (held_items other.now) self.new) }
+        ensures kept { IfErr result (λ stop. IsTop (held_items self.new) (held_items self.old ++ take stop.done (held_items other.now))) }
+        ensures sound { IsSound self.new }
+    {
+        let _most = other.limits.keys();
+        join_into(
+            alloc,
+            &mut self.floors,
+            &mut self.changes,
+            self.limits,
+            &other.floors,
+            &other.changes,
+        )
     }
 }

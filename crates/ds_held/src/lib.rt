@@ -8,6 +8,7 @@
 
 mod floors;
 mod held;
+mod join;
 mod limits;
 mod list;
 mod order;

@@ -1,9 +1,8 @@
 //! Copies of all that is held.
 
 ghost use Rattle.std.specs.Prelude.{◌≡◌, ◌++◌, map, IfOk, OnOk};
-ghost use Rattle.ds_entry.specs.declared.floor.Floor.{Floor};
-ghost use Rattle.ds_entry.specs.declared.item.Item.TheVariants.{Floor as Floored};
 ghost use Rattle.ds_held.specs.Held.{change_item};
+ghost use Rattle.ds_held.specs.Kept.{floored};
 
 use ds_entry::{Change, Floor, Item, ItemList};
 use ds_names::NoRoom;
@@ -11,7 +10,7 @@ use std::alloc::Global;
 
 // Adds the floors to a list of items.
 fn add_floors(items: &mut ItemList, floors: &[Floor]) -> Result<(), NoRoom>
-    ensures { OnOk result (items.new ≡ items.old ++ map (λ (f : Floor). Floored f) floors.now) }
+    ensures { OnOk result (items.new ≡ items.old ++ map floored floors.now) }
 {
     for floor in floors {
         items.push(Item::Floor(*floor))?;
@@ -35,7 +34,7 @@ pub(crate) fn copy_all(
     floors: &[Floor],
     changes: &[Change],
 ) -> Result<ItemList, NoRoom>
-    ensures { IfOk result (λ items. items ≡ map (λ (f : Floor). Floored f) floors.now ++ map change_item changes.now) }
+    ensures { IfOk result (λ items. items ≡ map floored floors.now ++ map change_item changes.now) }
 {
     let mut items = ItemList::new(alloc);
     add_floors(&mut items, floors)?;
