@@ -102,13 +102,19 @@ get_front n [] ys w = absurd (omega (arith, w))
 get_front zero (x ∷ xs) ys w = refl
 get_front (suc n) (x ∷ xs) ys w = get_front n xs ys (omega (arith, w))
 
+none_and : (n : ℕ) → 0 + n ≡ n
+none_and n = omega arith
+
+one_and : (k n : ℕ) → suc k + n ≡ suc (k + n)
+one_and k n = omega arith
+
 take_back : {X : Type 0} (n : ℕ) (xs ys : List X) → take (length xs + n) (xs ++ ys) ≡ xs ++ take n ys
-take_back n [] ys = refl
-take_back n (x ∷ xs) ys = ap (λ l. x ∷ l) (take_back n xs ys)
+take_back n [] ys = ap (λ k. take k ys) (none_and n)
+take_back n (x ∷ xs) ys = ap (λ k. take k (x ∷ (xs ++ ys))) (one_and (length xs) n) ∙ ap (λ l. x ∷ l) (take_back n xs ys)
 
 get_back : {X : Type 0} (n : ℕ) (xs ys : List X) → slice_get (xs ++ ys) (length xs + n) ≡ slice_get ys n
-get_back n [] ys = refl
-get_back n (x ∷ xs) ys = get_back n xs ys
+get_back n [] ys = ap (slice_get ys) (none_and n)
+get_back n (x ∷ xs) ys = ap (slice_get (x ∷ (xs ++ ys))) (one_and (length xs) n) ∙ get_back n xs ys
 
 pub stops_first : (old : Holding) (xs ys : List Item) (new : Holding) (stop : Stop) → IsStopped old xs new stop → IsStopped old (xs ++ ys) new stop
 stops_first old xs ys new stop s =
@@ -127,3 +133,12 @@ stops_later old xs ys m new n done fault w e s =
 
 pub length_items : {X : Type 0} (f : X → Item) (xs : List X) → length xs ≡ length (map f xs)
 length_items f xs = sym (length_map f xs)
+
+-- ---- what a join says of all
+pub join_if_ok : {A : Type 0} (r : Result A Stop) (old : Holding) (items : List Item) (new : Holding) → IsSound old → OnOk r (AreMerged old items new) → OnOk r (IsTop (held_items new) (held_items old ++ items))
+join_if_ok (Ok a) old items new sound w = all_join old items new sound w
+join_if_ok (Err stop) old items new sound w = tt
+
+pub join_if_stopped : {A : Type 0} (r : Result A Stop) (old : Holding) (items : List Item) (new : Holding) → IsSound old → IfErr r (IsStopped old items new) → IfErr r (λ (stop : Stop). IsTop (held_items new) (held_items old ++ take stop.done items))
+join_if_stopped (Ok a) old items new sound w = tt
+join_if_stopped (Err stop) old items new sound w = all_join old (take stop.done items) new sound w.merged

@@ -7,3 +7,5 @@ pub mod RaiseLemmas
 pub mod JoinLemmas
 pub mod LeftLemmas
 pub mod KeptLemmas
+pub mod DropLemmas
+pub mod MarkLemmas

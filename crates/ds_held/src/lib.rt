@@ -11,9 +11,11 @@ mod held;
 mod join;
 mod limits;
 mod list;
+mod marked;
 mod order;
 mod reading;
 mod void;
 
 pub use held::Held;
 pub use limits::Limits;
+pub use marked::Marked;
