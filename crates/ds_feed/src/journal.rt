@@ -7,11 +7,10 @@ ghost use Rattle.ds_feed.specs.Since.{place_fault, fault_at, IsGiven, IsRefused}
 ghost use Rattle.ds_feed.specs.Kept.{Keeps, IsJournal, cursor_of, IsRing, IsOpenFault};
 
 use crate::cursor::Cursor;
-use crate::items::Items;
 use crate::reading::Since;
 use crate::scope::{AllKeys, KeyScope};
 use circular_buffer::HeapCircularBuffer;
-use ds_entry::Item;
+use ds_entry::{Item, ItemList};
 use ds_names::NoRoom;
 use std::alloc::Global;
 use std::marker::Model;
@@ -173,7 +172,7 @@ impl Journal {
         ensures scope { S.keeps scope.new ≡ S.keeps scope.old }
     {
         let start = self.start(cursor)?;
-        let mut items = Items::new(alloc);
+        let mut items = ItemList::new(alloc);
         let mut left = max;
         let mut next = start;
         while left > 0 {
@@ -210,7 +209,7 @@ fn add<S: KeyScope>(
     alloc: Global,
     scope: &mut S,
     item: &Item,
-    items: &mut Items,
+    items: &mut ItemList,
 ) -> Result<bool, NoRoom>
     ensures told { IfOk result (λ yes. yes ≡ passes (S.keeps scope.old) item.now) }
     ensures added { OnOk result (items.new ≡ items.old ++ filter (passes (S.keeps scope.old)) (item.now ∷ [])) }

@@ -5,14 +5,12 @@
 #![tactic(auto)]
 
 mod cursor;
-mod items;
 mod journal;
 mod laws;
 mod reading;
 mod scope;
 
 pub use cursor::Cursor;
-pub use items::Items;
 pub use journal::{Journal, OpenFault, SinceFault};
 pub use laws::{pages_go_on, prefixes_are_shortest};
 pub use reading::{Page, Since, Snapshot};

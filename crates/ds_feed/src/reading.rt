@@ -1,12 +1,12 @@
 //! What readers of a store are given.
 
 use crate::cursor::Cursor;
-use crate::items::Items;
+use ds_entry::ItemList;
 
 /// Items that took effect from a cursor on, in their order, and the cursor behind all that was looked at.
 #[derive(Debug, Drop)]
 pub struct Since {
-    pub items: Items,
+    pub items: ItemList,
     pub cursor: Cursor,
 }
 
@@ -14,7 +14,7 @@ pub struct Since {
 /// which the journal goes on.
 #[derive(Debug, Drop)]
 pub struct Snapshot {
-    pub items: Items,
+    pub items: ItemList,
     pub cursor: Cursor,
 }
 
@@ -22,7 +22,7 @@ pub struct Snapshot {
 /// which is behind no key, all floors before them.
 #[derive(Debug, Drop)]
 pub struct Page {
-    pub items: Items,
+    pub items: ItemList,
     /// Whether no more changes follow.
     pub last: bool,
     /// The cursor at the time of this page. What came between pages is in the journal from the first one's on.

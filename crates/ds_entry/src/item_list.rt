@@ -3,17 +3,17 @@
 ghost use Rattle.std.specs.Prelude.{◌≡◌, ◌++◌, ◌∷◌, [], length, slice_get, OnOk, IfErr, OnErr};
 ghost use Rattle.std.specs.Option.{option_copied};
 
-use ds_entry::Item;
+use crate::item::Item;
 use std::alloc::{AllocFailed, Global};
 use std::marker::Model;
 
-/// Items in order, as readers of a store are given them. How it keeps them is its own affair.
+/// Items in order, as readers of a holder or a store are given them. How it keeps them is its own affair.
 #[derive(Debug, Drop)]
-pub struct Items {
+pub struct ItemList {
     items: Vec<Item>,
 }
 
-impl Model for Items {
+impl Model for ItemList {
     ghost use Rattle.std.specs.Prelude.{List};
     ghost use Rattle.ds_entry.specs.declared.item.Item.{Item};
 
@@ -22,12 +22,12 @@ impl Model for Items {
     ghost view = { λ a. a.items.items };
 }
 
-impl Items {
+impl ItemList {
     /// A list of no items. It takes no memory.
-    pub fn new(alloc: Global) -> Items
+    pub fn new(alloc: Global) -> ItemList
         ensures { result ≡ [] }
     {
-        Items {
+        ItemList {
             items: Vec::new(alloc),
         }
     }

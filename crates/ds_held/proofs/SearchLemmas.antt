@@ -1,0 +1,55 @@
+-- A binary search for a key in a list whose keys rise.
+use Rattle.std.proofs.Common.{◌≡◌, ℕ, zero, suc, ◌<◌, ◌≤◌, List, [], ◌∷◌, length, get_or, map, Result, Ok, Err, refl, sym, ap, ◌∙◌, subst, arith}
+use Rattle.std.specs.declared.cmp.Ordering.{Ordering}
+use Rattle.std.specs.declared.cmp.Ordering.TheVariants.{Less, Equal, Greater}
+use Rattle.std.specs.Ordering.{ordering_index}
+use Rattle.std.specs.Cmp.{IsTotalOrder}
+use Rattle.std.specs.List.{AllByRecursion}
+use Rattle.std.specs.List.Sorted.{IsStrictlySortedBy, IsNonDecreasingBy, IsSearchInRange, IsBinarySearchResult}
+use Rattle.std.specs.FinMap.{is_sorted}
+use Rattle.std.specs.FinMap.Entries.{below_all}
+use lib.Dec.{T}
+use Rattle.ds_held.specs.Kept.{IsPlaceOf}
+use Rattle.ds_held.proofs.EntryLemmas.{both, less_from}
+
+few : (r : Ordering) → ordering_index r ≤ 2
+few Less = omega arith
+few Equal = omega arith
+few Greater = omega arith
+
+pub at : {X : Type 0} (P : X → Type 0) (xs : List X) (j : ℕ) (d : X) → AllByRecursion P xs → j < length xs → P (get_or xs j d)
+at P [] j d a l = absurd (omega (arith, l))
+at P (x ∷ xs) zero d a l = a.0
+at P (x ∷ xs) (suc j) d a l = at P xs j d a.1 (omega (arith, l))
+
+module _ {K V X : Type 0} (R : K → K → Ordering) (total : IsTotalOrder R) (exact : (a b : K) → R a b ≡ Equal → a ≡ b) (row : X → K × V) where
+  all_below : (k : K) (xs : List X) → T (below_all R k (map {B = K × V} row xs)) → AllByRecursion (λ (y : X). R k (row y).0 ≡ Less) xs
+  all_below k [] b = tt
+  all_below k (x ∷ xs) b = (less_from (R k (row x).0) (both _ _ b).0, all_below k xs (both _ _ b).1)
+
+  -- each element comes before all that follow
+  pub rising_order : (xs : List X) → T (is_sorted R (map {B = K × V} row xs)) → IsStrictlySortedBy (λ (a b : X). R (row a).0 (row b).0) xs
+  unfolding IsStrictlySortedBy
+  rising_order [] s = tt
+  rising_order (x ∷ xs) s = (all_below (row x).0 xs (both _ _ s).0, rising_order xs (both _ _ s).1)
+
+  -- ---- the order of keys to one that is looked for
+  orders_up : (k a b : K) → R a b ≡ Less → ordering_index (R a k) ≤ ordering_index (R b k)
+  orders_up k a b less = by_order (R b k) refl
+    where
+      by_order : (r : Ordering) → R b k ≡ r → ordering_index (R a k) ≤ ordering_index r
+      by_order Less e = subst (λ r. ordering_index r ≤ 0) (sym (total.trans a b k less e)) (omega arith)
+      by_order Equal e = subst (λ (c : K). ordering_index (R a c) ≤ 1) (exact b k e) (subst (λ r. ordering_index r ≤ 1) (sym less) (omega arith))
+      by_order Greater e = few (R a k)
+
+  orders_rise : (k : K) (xs : List X) → T (is_sorted R (map {B = K × V} row xs)) → IsNonDecreasingBy (λ (x : X). ordering_index (R (row x).0 k)) xs
+  orders_rise k [] s i j d l w = absurd (omega (arith, w))
+  orders_rise k (x ∷ xs) s zero zero d l w = omega arith
+  orders_rise k (x ∷ xs) s zero (suc j) d l w = orders_up k (row x).0 (row (get_or xs j d)).0 (at (λ (y : X). R (row x).0 (row y).0 ≡ Less) xs j d (all_below (row x).0 xs (both _ _ s).0) (omega (arith, w)))
+  orders_rise k (x ∷ xs) s (suc i) zero d l w = absurd (omega (arith, l))
+  orders_rise k (x ∷ xs) s (suc i) (suc j) d l w = orders_rise k xs (both _ _ s).1 i j d (omega (arith, l)) (omega (arith, w))
+
+  -- what a binary search answers is a place
+  pub place_from_search : (xs : List X) (k : K) (r : Result ℕ ℕ) → T (is_sorted R (map {B = K × V} row xs)) → IsSearchInRange r (length xs) → IsBinarySearchResult (λ (x : X). R (row x).0 k) xs r → IsPlaceOf R (λ (x : X). (row x).0) xs k r
+  place_from_search xs k (Ok i) s w h = (w, h)
+  place_from_search xs k (Err i) s w h = (w, h (orders_rise k xs s))

@@ -1,0 +1,35 @@
+-- What joining with items does: each in turn is merged, or raised, as it stands.
+use Rattle.std.specs.Prelude.{◌≡◌, List, [], ◌∷◌, take, slice_get, Some, Result, Ok, Err}
+use Rattle.ds_entry.specs.declared.item.Item.{Item}
+use Rattle.ds_entry.specs.declared.item.Item.TheVariants.{Change as Changed, Floor as Floored}
+use Rattle.ds_join.specs.declared.merge.Merge.{Merge}
+use Rattle.ds_join.specs.declared.merge.JoinFault.{JoinFault}
+use Rattle.ds_join.specs.declared.merge.Stop.{Stop}
+use Rattle.ds_held.specs.Held.{Holding}
+use Rattle.ds_held.specs.Merge.{MergeAnswer, after_merge, IsRefused}
+use Rattle.ds_held.specs.Raise.{RaiseAnswer, after_raise}
+
+-- the answer to an item
+abbrev pub ItemAnswer : Holding → Item → Result Merge JoinFault → Type 0
+ItemAnswer old (Changed c) answer = MergeAnswer old c answer
+ItemAnswer old (Floored f) answer = RaiseAnswer old f answer
+
+-- what is held after it
+abbrev pub after_item : Holding → Item → Result Merge JoinFault → Holding
+after_item old (Changed c) answer = after_merge old c answer
+after_item old (Floored f) answer = after_raise old f answer
+
+-- the item, which someone else keeps, is refused by this fault
+abbrev pub IsItemRefused : Holding → Item → JoinFault → Type 0
+IsItemRefused held (Changed c) fault = IsRefused held c fault
+IsItemRefused held (Floored f) fault = RaiseAnswer held f (Err fault)
+
+-- one after the other the items come to what is held; none is refused, and `new` is held in the end
+abbrev pub AreMerged : Holding → List Item → Holding → Type 0
+AreMerged old [] new = new ≡ old
+AreMerged old (i ∷ items) new = (answer : Merge) × ItemAnswer old i (Ok answer) × AreMerged (after_item old i (Ok answer)) items new
+
+-- the first `done` of the items came to what was held, and the next one is refused
+pub record IsStopped (old : Holding) (items : List Item) (new : Holding) (stop : Stop) : Type 0 where
+  pub merged : AreMerged old (take stop.done items) new
+  pub refused : (next : Item) × (slice_get items stop.done ≡ Some next) × IsItemRefused new next stop.fault

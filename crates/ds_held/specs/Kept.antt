@@ -1,0 +1,109 @@
+-- How lists of floors and changes are seen as a holding.
+use Rattle.std.specs.Prelude.{◌≡◌, ℕ, ◌<◌, ◌≤◌, List, map, filter, not, length, All, Result, Ok, Err, slice_set}
+use Rattle.std.specs.List.{insert, HoldsAt}
+use Rattle.std.specs.List.Sorted.{IsPartitionPoint}
+use Rattle.std.specs.declared.cmp.Ordering.{Ordering}
+use Rattle.std.specs.declared.cmp.Ordering.TheVariants.{Less, Equal, Greater}
+use Rattle.std.specs.FinMap.{FinMap, from_entries, is_sorted}
+use lib.Dec.{T}
+use Rattle.ds_names.specs.declared.key.Key.{Key}
+use Rattle.ds_names.specs.Key.{name_cmp, key_cmp}
+use Rattle.ds_entry.specs.Change.{ChangeRecord, IsChange}
+use Rattle.ds_entry.specs.Void.{voids}
+use Rattle.ds_entry.specs.declared.floor.Floor.{Floor}
+use Rattle.ds_entry.specs.declared.item.Item.{Item}
+use Rattle.ds_entry.specs.declared.item.Item.TheVariants.{Floor as Floored}
+use Rattle.ds_join.specs.declared.merge.Merge.{Merge}
+use Rattle.ds_join.specs.declared.merge.Merge.TheVariants.{Taken, Known, Stale}
+use Rattle.ds_join.specs.declared.merge.JoinFault.{JoinFault}
+use Rattle.ds_join.specs.declared.merge.JoinFault.TheVariants.{NotOwner, Clash, Full, NoRoom}
+use Rattle.ds_held.specs.Limits.{LimitsRecord}
+use Rattle.ds_held.specs.Held.{Holding, IsSound}
+
+-- each floor with its owner, and each change with its key
+abbrev pub owned : Floor → List ℕ × ℕ
+owned f = (f.owner, f.generation)
+
+abbrev pub keyed : ChangeRecord → Key × ChangeRecord
+keyed c = (c.key, c)
+
+-- a floor, as an item
+abbrev pub floored : Floor → Item
+floored f = Floored f
+
+abbrev pub by_owner : List Floor → List (List ℕ × ℕ)
+by_owner floors = map owned floors
+
+abbrev pub by_key : List ChangeRecord → List (Key × ChangeRecord)
+by_key changes = map keyed changes
+
+-- from each owner its floor's generation, and from each key its change
+abbrev pub floors_of : List Floor → FinMap name_cmp ℕ
+floors_of floors = from_entries (by_owner floors)
+
+abbrev pub changes_of : List ChangeRecord → FinMap key_cmp ChangeRecord
+changes_of changes = from_entries (by_key changes)
+
+-- what is held, each floor at its owner and each change at its key
+abbrev pub holding_of : List Floor → List ChangeRecord → LimitsRecord → Holding
+holding_of floors changes limits = record { floors = floors_of floors; changes = changes_of changes; limits = limits }
+
+-- the names of owners rise
+abbrev pub AreOwnersRising : List Floor → Type 0
+AreOwnersRising floors = T (is_sorted name_cmp (by_owner floors))
+
+-- the keys rise
+abbrev pub AreKeysRising : List ChangeRecord → Type 0
+AreKeysRising changes = T (is_sorted key_cmp (by_key changes))
+
+-- what the lists of a holder keep
+pub record IsKept (floors : List Floor) (changes : List ChangeRecord) (limits : LimitsRecord) : Type 0 where
+  pub owners : AreOwnersRising floors
+  pub keys : AreKeysRising changes
+  pub few_floors : length floors ≤ 64
+  pub few : length changes ≤ limits.keys
+  pub valid : All IsChange changes
+  pub sound : IsSound (holding_of floors changes limits)
+
+-- where what stands under `sought` is in the list, or else where it would be; `key` says what each stands under
+module _ {K X : Type 0} (R : K → K → Ordering) (key : X → K) where
+  abbrev pub IsPlaceOf : List X → K → Result ℕ ℕ → Type 0
+  IsPlaceOf xs sought (Ok i) = (i < length xs) × HoldsAt (λ x. R (key x) sought ≡ Equal) xs i
+  IsPlaceOf xs sought (Err i) = (i ≤ length xs) × IsPartitionPoint (λ x. R (key x) sought ≡ Less) (λ x. R (key x) sought ≡ Greater) xs i
+
+-- the place of a key among changes
+abbrev pub IsPlace : List ChangeRecord → Key → Result ℕ ℕ → Type 0
+IsPlace changes key place = IsPlaceOf key_cmp (λ (c : ChangeRecord). c.key) changes key place
+
+-- the place of an owner among floors
+abbrev pub IsFloorPlace : List Floor → List ℕ → Result ℕ ℕ → Type 0
+IsFloorPlace floors owner place = IsPlaceOf name_cmp (λ (f : Floor). f.owner) floors owner place
+
+-- the list with the element at that place
+module _ {X : Type 0} where
+  abbrev pub put_at : List X → Result ℕ ℕ → X → List X
+  put_at xs (Ok i) x = slice_set xs i x
+  put_at xs (Err i) x = insert xs i x
+
+-- an element came to its place: it was taken, or memory for one more was wanting
+abbrev pub IsPut : Result ℕ ℕ → Result Merge JoinFault → Type 0
+IsPut place (Ok Taken) = Unit {0}
+IsPut place (Ok Known) = ⊥
+IsPut place (Ok Stale) = ⊥
+IsPut (Ok i) (Err fault) = ⊥
+IsPut (Err i) (Err NotOwner) = ⊥
+IsPut (Err i) (Err (Clash v)) = ⊥
+IsPut (Err i) (Err Full) = ⊥
+IsPut (Err i) (Err NoRoom) = Unit {0}
+
+-- the list after an answer: another one where something was taken
+module _ {X : Type 0} where
+  abbrev pub list_after : List X → List X → Result Merge JoinFault → List X
+  list_after old taken (Ok Taken) = taken
+  list_after old taken (Ok Known) = old
+  list_after old taken (Ok Stale) = old
+  list_after old taken (Err fault) = old
+
+-- the changes that the floor doesn't make void
+abbrev pub left_by : Floor → List ChangeRecord → List ChangeRecord
+left_by f changes = filter (λ (c : ChangeRecord). not (voids f c)) changes

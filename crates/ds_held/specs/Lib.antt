@@ -1,0 +1,8 @@
+pub mod Limits
+pub mod Held
+pub mod Merge
+pub mod Raise
+pub mod Join
+pub mod Marked
+pub mod Kept
+pub mod Beside

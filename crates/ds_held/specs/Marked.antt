@@ -1,0 +1,50 @@
+-- What a holder with marks holds: beside each change a mark of the caller's.
+use Rattle.std.specs.Prelude.{◌≡◌, Option, Some, None, is_some, Result, Ok, Err}
+use Rattle.std.specs.FinMap.{FinMap, empty, get, insert}
+use Rattle.ds_names.specs.declared.key.Key.{Key}
+use Rattle.ds_names.specs.Key.{key_cmp}
+use Rattle.ds_entry.specs.Change.{ChangeRecord}
+use Rattle.ds_entry.specs.declared.floor.Floor.{Floor}
+use Rattle.ds_join.specs.declared.merge.Merge.{Merge}
+use Rattle.ds_join.specs.declared.merge.Merge.TheVariants.{Taken, Known, Stale}
+use Rattle.ds_join.specs.declared.merge.JoinFault.{JoinFault}
+use Rattle.ds_held.specs.Limits.{LimitsRecord}
+use Rattle.ds_held.specs.Held.{Holding, held_for, nothing_held}
+use Rattle.ds_held.specs.Raise.{at_kept_keys}
+
+-- what is held, and from each held key its mark
+pub record MarkedHolding (M : Type 0) : Type 0 where
+  pub held : Holding
+  pub marks : FinMap key_cmp M
+
+module _ {M : Type 0} where
+  -- the mark of the key
+  abbrev pub mark_for : MarkedHolding M → Key → Option M
+  mark_for h key = get h.marks key
+
+  -- nothing is held
+  abbrev pub nothing_marked : LimitsRecord → MarkedHolding M
+  nothing_marked limits = record { held = nothing_held limits; marks = empty }
+
+  -- each held key has a mark, and no other key has one
+  abbrev pub HasMarks : MarkedHolding M → Type 0
+  HasMarks h = (key : Key) → is_some (mark_for h key) ≡ is_some (held_for h.held key)
+
+  -- a change that is taken has the mark that came with it; after any other answer nothing has changed
+  abbrev pub marks_after : FinMap key_cmp M → Key → M → Result Merge JoinFault → FinMap key_cmp M
+  marks_after old key mark (Ok Taken) = insert old key mark
+  marks_after old key mark (Ok Known) = old
+  marks_after old key mark (Ok Stale) = old
+  marks_after old key mark (Err fault) = old
+
+  -- a floor that is taken drops the marks of the changes that it makes void
+  abbrev pub marks_raised : FinMap key_cmp ChangeRecord → FinMap key_cmp M → Floor → Result Merge JoinFault → FinMap key_cmp M
+  marks_raised changes old f (Ok Taken) = at_kept_keys f changes old
+  marks_raised changes old f (Ok Known) = old
+  marks_raised changes old f (Ok Stale) = old
+  marks_raised changes old f (Err fault) = old
+
+  -- the marks with another one for the change, where there is a change
+  abbrev pub remarked : FinMap key_cmp M → Option ChangeRecord → M → FinMap key_cmp M
+  remarked old None mark = old
+  remarked old (Some c) mark = insert old c.key mark

@@ -1,0 +1,102 @@
+//! Floors in the order of their owners' names.
+
+ghost use Rattle.std.specs.Prelude.{◌≡◌, ◌≤◌, ◌<◌, ℕ, Result, Ok, length, vec_len, slice_index_or, slice_set};
+ghost use Rattle.std.specs.FinMap.{get, len};
+ghost use Rattle.std.specs.List.{insert};
+ghost use Rattle.ds_names.specs.Key.{name_cmp};
+ghost use Rattle.ds_held.specs.Held.{is_below};
+ghost use Rattle.ds_held.specs.Kept.{AreOwnersRising, IsFloorPlace, floors_of, list_after, put_at};
+ghost use Rattle.ds_held.specs.Merge.{AnswersNew};
+ghost use Rattle.ds_held.specs.Raise.{AnswersFloor, AnswersHigher};
+
+use ds_entry::{Change, Floor};
+use ds_join::{JoinFault, Merge};
+use ds_names::{Generation, Name};
+use std::cmp::Ordering;
+
+// The most owners that have floors.
+const MOST_FLOORS: usize = 64;
+
+// Where the floor of an owner stands, or else where it would.
+fn place_of(floors: &[Floor], owner: &Name) -> Result<usize, usize>
+    requires { AreOwnersRising floors.now }
+    ensures { IsFloorPlace floors.now owner.now result }
+{
+    floors.binary_search_by(|floor| floor.owner.cmp(owner))
+}
+
+// The generation of an owner's floor.
+pub(crate) fn floor_at(floors: &[Floor], owner: &Name) -> Option<Generation>
+    requires { AreOwnersRising floors.now }
+    ensures { result ≡ get (floors_of floors.now) owner.now }
+{
+    match place_of(floors, owner) {
+        Ok(i) => Some(floors[i].generation),
+        Err(_) => None,
+    }
+}
+
+// Whether the floor of its owner makes the change void.
+pub(crate) fn is_void(floors: &[Floor], change: &Change) -> bool
+    requires { AreOwnersRising floors.now }
+    ensures { result ≡ is_below (get (floors_of floors.now) change.now.owner) change.now }
+{
+    let owner = *change.owner();
+    match floor_at(floors, &owner) {
+        Some(generation) => Floor { owner, generation }.voids(change),
+        None => false,
+    }
+}
+
+// What a floor is answered where another one of its owner is held.
+fn judge(held: Generation, floor: &Floor) -> Merge
+    ensures { AnswersHigher held floor.now.generation (Ok result) }
+{
+    match held.cmp(&floor.generation) {
+        Ordering::Less => Merge::Taken,
+        Ordering::Equal => Merge::Known,
+        Ordering::Greater => Merge::Stale,
+    }
+}
+
+// Raises the floor at an index. It takes no memory.
+fn replace(floors: &mut Vec<Floor>, i: usize, floor: Floor) -> Merge
+    requires { i < vec_len floors.old }
+    ensures answer { AnswersHigher (slice_index_or floors.old.items i floor).generation floor.generation (Ok result) }
+    ensures floors { floors.new.items ≡ list_after floors.old.items (slice_set floors.old.items i floor) (Ok result) }
+{
+    let answer = judge(floors[i].generation, &floor);
+    if answer == Merge::Taken {
+        floors[i] = floor;
+    }
+    answer
+}
+
+// Adds the floor of another owner, which belongs at an index.
+fn add(floors: &mut Vec<Floor>, i: usize, floor: Floor) -> Result<Merge, JoinFault>
+    requires within { i ≤ vec_len floors.old }
+    requires few { vec_len floors.old ≤ 64 }
+    ensures answer { AnswersNew (length floors.old.items) 64 result }
+    ensures floors { floors.new.items ≡ list_after floors.old.items (insert floors.old.items i floor) result }
+{
+    if floors.len() >= MOST_FLOORS {
+        return Err(JoinFault::Full);
+    }
+    match floors.insert(i, floor) {
+        Ok(()) => Ok(Merge::Taken),
+        Err(_) => Err(JoinFault::NoRoom),
+    }
+}
+
+// Raises the floor of an owner.
+pub(crate) fn raise(floors: &mut Vec<Floor>, floor: Floor) -> Result<Merge, JoinFault>
+    requires rising { AreOwnersRising floors.old.items }
+    requires few { length floors.old.items ≤ 64 }
+    ensures answer { AnswersFloor (get (floors_of floors.old.items) floor.owner) (len (floors_of floors.old.items)) floor.generation result }
+    ensures floors { (place : Result ℕ ℕ) × IsFloorPlace floors.old.items floor.owner place × (floors.new.items ≡ list_after floors.old.items (put_at floors.old.items place floor) result) }
+{
+    match place_of(floors, &floor.owner) {
+        Ok(i) => Ok(replace(floors, i, floor)),
+        Err(i) => add(floors, i, floor),
+    }
+}

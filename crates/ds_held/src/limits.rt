@@ -1,0 +1,65 @@
+//! How much may be held.
+
+ghost use Rattle.std.specs.Prelude.{◌≡◌};
+ghost use Rattle.ds_held.specs.Limits.{IsLimits, larger, limits_for};
+
+use std::marker::Model;
+
+/// How many subscriptions a store may have, and how many keys a holder: 128 and 4096, or, as old traces have it, 64 and
+/// 1024. There are no others.
+#[derive(Clone, Copy, Debug, PartialEq, Eq)]
+pub struct Limits {
+    subs: u32,
+    keys: u32,
+}
+
+impl Model for Limits {
+    ghost use Rattle.ds_held.specs.Limits.{LimitsRecord, IsLimits, limits_of};
+
+    ghost Value = { LimitsRecord };
+
+    ghost view = { λ l. limits_of l.subs l.keys };
+
+    ghost invariant = { λ l. IsLimits (limits_of l.subs l.keys) };
+
+    ghost inverse = { λ l. record { subs = l.subs; keys = l.keys } };
+}
+
+impl Limits {
+    /// The limits of these numbers. `None` where there are none.
+    pub fn of(subs: u32, keys: u32) -> Option<Limits>
+        ensures { result ≡ limits_for subs keys }
+    {
+        if subs == 64 && keys == 1024 || subs == 128 && keys == 4096 {
+            Some(Limits { subs, keys })
+        } else {
+            None
+        }
+    }
+
+    /// 128 subscriptions and 4096 keys.
+    pub fn larger() -> Limits
+        ensures { result ≡ larger }
+    {
+        Limits {
+            subs: 128,
+            keys: 4096,
+        }
+    }
+
+    /// The most subscriptions.
+    pub fn subs(self) -> u32
+        ensures count { result ≡ self.subs }
+        ensures limits { IsLimits self }
+    {
+        self.subs
+    }
+
+    /// The most keys.
+    pub fn keys(self) -> usize
+        ensures count { result ≡ self.keys }
+        ensures limits { IsLimits self }
+    {
+        self.keys as usize
+    }
+}

@@ -1,0 +1,91 @@
+//! A list of changes in the order of their keys.
+
+ghost use Rattle.std.specs.Prelude.{◌≡◌, IfSome, slice_get};
+ghost use Rattle.std.specs.FinMap.{get};
+ghost use Rattle.std.specs.Option.{option_copied, option_map};
+ghost use Rattle.std.specs.List.{find};
+ghost use Rattle.ds_entry.specs.Change.{ChangeRecord, IsChange};
+ghost use Rattle.ds_join.specs.Label.{names_endpoint};
+ghost use Rattle.ds_join.specs.Reading.{comes_after};
+ghost use Rattle.ds_held.specs.Kept.{AreKeysRising, IsPlace, changes_of};
+
+use ds_entry::{Body, Change, Value};
+use ds_names::{Endpoint, Key, Name};
+use std::cmp::Ordering;
+
+// Where the change of a key stands, or else where it would.
+pub(crate) fn place_of(changes: &[Change], key: &Key) -> Result<usize, usize>
+    requires { AreKeysRising changes.now }
+    ensures { IsPlace changes.now key.now result }
+{
+    changes.binary_search_by(|change| change.key().compare(key))
+}
+
+// The change at an index.
+pub(crate) fn nth(changes: &[Change], index: usize) -> Option<&Change>
+    ensures value { option_copied result ≡ slice_get changes.now index }
+    ensures change { IfSome (option_copied result) IsChange }
+{
+    let change = changes.get(index)?;
+    let _key = change.key();
+    Some(change)
+}
+
+// The change of a key.
+pub(crate) fn change_at<'a>(changes: &'a [Change], key: &Key) -> Option<&'a Change>
+    requires { AreKeysRising changes.now }
+    ensures value { option_copied result ≡ get (changes_of changes.now) key.now }
+    ensures change { IfSome (option_copied result) IsChange }
+{
+    match place_of(changes, key) {
+        Ok(i) => nth(changes, i),
+        Err(_) => None,
+    }
+}
+
+// Whether a change's key comes after another one. Each comes after none.
+fn comes_after(low: Option<&Key>, change: &Change) -> bool
+    ensures { result ≡ comes_after (option_copied low.entry) change.now }
+{
+    match low {
+        None => true,
+        Some(low) => low.compare(change.key()) == Ordering::Less,
+    }
+}
+
+// The change of the least key, of those after another one where one is given.
+pub(crate) fn first_of<'a>(changes: &'a [Change], after: Option<&Key>) -> Option<&'a Change>
+    requires { AreKeysRising changes.now }
+    ensures value { option_copied result ≡ find (comes_after (option_copied after.entry)) changes.now }
+    ensures change { IfSome (option_copied result) IsChange }
+{
+    let past = changes.partition_point(|change| !comes_after(after, change));
+    nth(changes, past)
+}
+
+// Whether the change leaves a live label that holds the endpoint.
+fn names_endpoint(change: &Change, endpoint: Endpoint) -> bool
+    ensures { result ≡ names_endpoint endpoint change.now }
+{
+    match change.body() {
+        Body::Put(Value::Label(label)) => *label == endpoint,
+        _ => false,
+    }
+}
+
+// The live label that holds the endpoint, the one of the least key.
+fn label_of<'a>(changes: &'a [Change], endpoint: Endpoint) -> Option<&'a Change>
+    ensures { option_copied result ≡ find (names_endpoint endpoint) changes.now }
+{
+    changes
+        .iter()
+        .find(|change| names_endpoint(change, endpoint))
+}
+
+// Its name.
+pub(crate) fn name_of<'a>(changes: &'a [Change], endpoint: Endpoint) -> Option<&'a Name>
+    ensures { option_copied result ≡ option_map (λ (c : ChangeRecord). c.key.name) (find (names_endpoint endpoint) changes.now) }
+{
+    let change = label_of(changes, endpoint)?;
+    Some(&change.key().name)
+}
