@@ -88,8 +88,9 @@ impl Store {
     /// Answers a command, by one step of the store's machine.
     ///
     /// A command is refused for the first cause that stands against it, in the order of [`Refusal`]'s
-    /// variants; a repeat is `Known`, which is judged behind `Stale`. Every refusal but a stopped Merge
-    /// leaves the store as it was. NameOf, and Retrieve of a label or a number, take no memory.
+    /// variants; a repeat is `Known`, which is judged behind `Stale`. Want of memory comes last, but for the
+    /// pattern of a Subscribe, which is read in its place. Every refusal but a stopped Merge leaves the store as
+    /// it was. NameOf, and Retrieve of a label or a number, take no memory.
     pub fn apply(&mut self, command: Command) -> Reply
         ensures step { (s : State) → Stands self.old s → (t : State) × Step s command result t × Stands self.new t }
         ensures in_place { TakesNoMemory command → result ≢ Reply.Refused Refusal.NoRoom }
