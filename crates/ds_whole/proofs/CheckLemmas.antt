@@ -1,5 +1,5 @@
 -- The items of all checks are whole.
-use Rattle.std.proofs.Common.{◌≡◌, ℕ, zero, suc, ◌<◌, ◌≤◌, ◌-◌, ◌&&◌, not, Bool, true, false, cond, List, [], ◌∷◌, ◌++◌, take, length, refl, sym, ap, ◌∙◌, subst, inl, inr, ◌⊎◌, append_assoc, arith}
+use Rattle.std.proofs.Common.{◌≡◌, ℕ, zero, suc, ◌<◌, ◌≤◌, ◌-◌, ◌&&◌, not, Bool, true, false, List, [], ◌∷◌, ◌++◌, take, length, refl, sym, ap, ◌∙◌, subst, inl, inr, ◌⊎◌, append_assoc, arith}
 use Rattle.std.specs.List.{Contains, list_any}
 use Rattle.std.proofs.lemmas.List.{take_all}
 use Rattle.std.proofs.lemmas.List.Elements.{Contains-append_left, Contains-append_cases}
@@ -7,17 +7,18 @@ use Rattle.ds_names.specs.declared.key.Key.{Key}
 use Rattle.ds_entry.specs.Item.{passes}
 use Rattle.ds_entry.specs.ItemCovers.{covers}
 use Rattle.ds_entry.specs.declared.item.Item.{Item}
-use Rattle.ds_entry.proofs.Members.{Contains-nil, Contains-cons, Contains-filter, Contains-from_filter, Contains-from_take, Contains-from_list_any, none_pass}
+use Rattle.ds_entry.proofs.Members.{Contains-nil, Contains-cons, Contains-filter, Contains-from_filter, Contains-from_take, Contains-from_list_any}
 use Rattle.ds_entry.proofs.ItemLemmas.{covers-trans, covers-query}
 use Rattle.ds_join.specs.ItemTop.{IsPartOf}
 use Rattle.ds_feed.specs.Feed.{Feed, position}
 use Rattle.ds_whole.specs.Sent.{given, stood_for}
 use Rattle.ds_whole.specs.Front.{IsFront}
 use Rattle.ds_whole.specs.Whole.{before}
-use Rattle.ds_whole.specs.Accepting.{AreNew, accepted_after, AcceptedAreNew}
+use Rattle.ds_whole.specs.Accepting.{AreNew, OneByOneIsNew}
+use Rattle.ds_whole.specs.Under.{under}
 use Rattle.ds_whole.specs.Checked.{unseen, CheckTurn, IsCheckTurn, AreChecks, check_items}
-use Rattle.ds_whole.specs.CheckLaws.{ChecksAreWhole}
-use Rattle.ds_whole.proofs.SentLemmas.{Contains-from_under, given_stands, stood_left, stood_right}
+use Rattle.ds_whole.specs.CheckLaws.{ChecksAreWhole, ChecksGoOn}
+use Rattle.ds_whole.proofs.SentLemmas.{Contains-under, Contains-from_under, given_stands, stood_left, stood_right}
 use Rattle.ds_whole.proofs.JournalLemmas.{front_is}
 
 -- ---- what is new
@@ -31,16 +32,28 @@ split_by (y ∷ ys) x h = at (Contains-cons y ys x h) (split_by ys x)
     at (inl e) rest = ([], ys, ap (λ (z : Item). z ∷ ys) (sym e))
     at (inr k) rest = let r = rest k in (y ∷ r.0, r.1, ap (λ (l : List Item). y ∷ l) r.2)
 
+same_rest : (xs ys zs : List Item) → xs ++ ys ≡ xs ++ zs → ys ≡ zs
+same_rest [] ys zs e = e
+same_rest (x ∷ xs) ys zs e = same_rest xs ys zs (let t : xs ++ ys ≡ xs ++ zs = cc in t)
+
 -- what an earlier item covers took effect as early
-early_too : (b f : Feed) (i j : Item) → AreNew f.accepted → IsFront b f → Contains f.accepted i → Contains b.accepted j → covers j i ≡ true → Contains b.accepted i
-early_too b f i j new front h k e = at (Contains-append_cases b.accepted front.grown.0 i (subst (λ (l : List Item). Contains l i) front.grown.1 h))
+early_too : (early b f : Feed) (since : List Item) (i j : Item) → f.accepted ≡ early.accepted ++ since → AreNew early.accepted since → IsFront early b → IsFront b f → Contains f.accepted i → Contains b.accepted j → covers j i ≡ true → Contains b.accepted i
+early_too early b f since i j all new later front h k e = at (Contains-append_cases b.accepted front.grown.0 i (subst (λ (l : List Item). Contains l i) front.grown.1 h))
   where
+    both : since ≡ later.grown.0 ++ front.grown.0
+    both =
+        same_rest early.accepted since (later.grown.0 ++ front.grown.0)
+        (sym all ∙ (front.grown.1 ∙ (ap (λ (l : List Item). l ++ front.grown.0) later.grown.1 ∙ append_assoc early.accepted later.grown.0 front.grown.0)))
+
     at : Contains b.accepted i ⊎ Contains front.grown.0 i → Contains b.accepted i
     at (inl l) = l
     at (inr l) =
         let s = split_by front.grown.0 i l in
-        let whole : f.accepted ≡ (b.accepted ++ s.0) ++ i ∷ s.1 = front.grown.1 ∙ (ap (λ (l : List Item). b.accepted ++ l) s.2 ∙ sym (append_assoc b.accepted s.0 (i ∷ s.1))) in
-        let t : true ≡ false = sym e ∙ new (b.accepted ++ s.0) s.1 i j whole (Contains-append_left b.accepted s.0 j k) in
+        let place : since ≡ (later.grown.0 ++ s.0) ++ i ∷ s.1 = both ∙ (ap (λ (l : List Item). later.grown.0 ++ l) s.2 ∙ sym (append_assoc later.grown.0 s.0 (i ∷ s.1))) in
+        let before : Contains (early.accepted ++ (later.grown.0 ++ s.0)) j =
+        subst (λ (l : List Item). Contains l j) (append_assoc early.accepted later.grown.0 s.0)
+        (Contains-append_left (early.accepted ++ later.grown.0) s.0 j (subst (λ (l : List Item). Contains l j) later.grown.1 k)) in
+        let t : true ≡ false = sym e ∙ new (later.grown.0 ++ s.0) s.1 i j place before in
         absurd (cc)
 
 -- of two lists put together, one of which ends with one more, an element's place is the last or before it
@@ -57,30 +70,25 @@ last_or_before (y ∷ xs) (z ∷ front) back x i e =
       | inr k ↦ inr (k.0, ap (λ (w : Item). w ∷ xs) h ∙ ap (λ (l : List Item). z ∷ l) k.1)
     ]
 
-new_after : (accepted : List Item) (i : Item) → AreNew accepted → AreNew (accepted_after accepted i)
-new_after accepted i new = by_test (list_any (λ j. covers j i) accepted) refl
+new_after : (accepted since : List Item) (i : Item) → AreNew accepted since → ((j : Item) → Contains (accepted ++ since) j → covers j i ≡ false) → AreNew accepted (since ++ i ∷ [])
+new_after accepted since i new last front back k j q h = at (last_or_before since front back i k q)
   where
-    at_end : list_any (λ j. covers j i) accepted ≡ false → (front back : List Item) (k j : Item) → ((k ≡ i) × (front ≡ accepted)) ⊎ ((rest : List Item) × (accepted ≡ front ++ k ∷ rest)) → Contains front j → covers j k ≡ false
-    at_end e front back k j (inl p) h =
-        subst (λ (z : Item). covers j z ≡ false) (sym p.0) (none_pass (λ (z : Item). covers z i) accepted j e (subst (λ (l : List Item). Contains l j) p.1 h))
-    at_end e front back k j (inr p) h = new front p.0 k j p.1 h
+    at : ((k ≡ i) × (front ≡ since)) ⊎ ((rest : List Item) × (since ≡ front ++ k ∷ rest)) → covers j k ≡ false
+    at (inl p) = subst (λ (z : Item). covers j z ≡ false) (sym p.0) (last j (subst (λ (l : List Item). Contains (accepted ++ l) j) p.1 h))
+    at (inr p) = new front p.0 k j p.1 h
 
-    by_test : (b : Bool) → list_any (λ j. covers j i) accepted ≡ b → AreNew (cond b accepted (accepted ++ i ∷ []))
-    by_test true e = new
-    by_test false e = λ front back k j q h. at_end e front back k j (last_or_before accepted front back i k q) h
+none_is_new : (accepted : List Item) → AreNew accepted []
+none_is_new accepted [] back i j e h = cc
+none_is_new accepted (y ∷ front) back i j e h = cc
 
-none_is_new : AreNew []
-none_is_new [] back i j e h = cc
-none_is_new (y ∷ front) back i j e h = cc
-
-pub accepted_are_new : AcceptedAreNew
-accepted_are_new = record { none = none_is_new; one_more = new_after }
+pub one_by_one_is_new : OneByOneIsNew
+one_by_one_is_new = record { none = none_is_new; one_more = new_after }
 
 -- ---- checks
 
 -- what a check gives was held
-given_held : (f : Feed) (query : Key → Bool) (shown : List Item) (t : CheckTurn) → IsCheckTurn f query shown t → IsPartOf t.items t.held
-given_held f query shown t s i h =
+given_held : (early f : Feed) (query : Key → Bool) (shown : List Item) (t : CheckTurn) → IsCheckTurn early f query shown t → IsPartOf t.items t.held
+given_held early f query shown t s i h =
     let k = Contains-from_take t.max (unseen query shown t.held) i (subst (λ (l : List Item). Contains l i) s.given h) in
     (Contains-from_filter (λ (j : Item). passes query j && not (list_any (λ k. covers k j) shown)) t.held i k).0
 
@@ -93,9 +101,9 @@ all_given xs ys max e l = e ∙ take_all max ys (few max ys (subst (λ (zs : Lis
     few (suc n) (z ∷ zs) l = let k = few n zs (omega arith) in omega arith
 
 -- a check that gave fewer than it was asked for stands for all that is under the query, but what a shown item covers
-last_stands : (f : Feed) (query : Key → Bool) (shown : List Item) (t : CheckTurn) → IsCheckTurn f query shown t → length t.items < t.max → (i : Item) → Contains t.feed.accepted i → passes query i ≡ true →
+last_stands : (early f : Feed) (query : Key → Bool) (shown : List Item) (t : CheckTurn) → IsCheckTurn early f query shown t → length t.items < t.max → (i : Item) → Contains t.feed.accepted i → passes query i ≡ true →
     Contains (stood_for (given t.known t.items)) i ⊎ ((e : Item) × Contains shown e × (covers e i ≡ true))
-last_stands f query shown t s l i h q = let d = s.top.greatest i h in by_test d.0 d.1 d.2 (list_any (λ j. covers j d.0) shown) refl
+last_stands early f query shown t s l i h q = let d = s.top.greatest i h in by_test d.0 d.1 d.2 (list_any (λ j. covers j d.0) shown) refl
   where
     by_test : (d : Item) → Contains t.held d → covers d i ≡ true → (b : Bool) → list_any (λ j. covers j d) shown ≡ b → Contains (stood_for (given t.known t.items)) i ⊎ ((e : Item) × Contains shown e × (covers e i ≡ true))
     by_test d k c true e = let g = Contains-from_list_any (λ (j : Item). covers j d) shown e in inr (g.0, g.1, covers-trans g.0 d i g.2 c)
@@ -107,31 +115,51 @@ last_stands f query shown t s l i h q = let d = s.top.greatest i h in by_test d.
         inl (given_stands t.known t.items i d here (s.knows i h) c)
 
 -- checks up to such a one do so together
-checks_stand : (f : Feed) (query : Key → Bool) (shown : List Item) (turns : List CheckTurn) (last : CheckTurn) → AreNew f.accepted → AreChecks f query shown (turns ++ last ∷ []) → length last.items < last.max → (i : Item) →
-    Contains f.accepted i → Contains last.feed.accepted i → passes query i ≡ true → Contains (stood_for (check_items (turns ++ last ∷ []))) i ⊎ ((e : Item) × Contains shown e × (covers e i ≡ true))
-checks_stand f query shown [] last new s l i a h q =
-    elim (last_stands f query shown last s.0 l i h q) [ inl k ↦ inl (stood_left (given last.known last.items) [] i k) | inr k ↦ inr k ]
-checks_stand f query shown (t ∷ ts) last new s l i a h q = at (checks_stand f query (shown ++ t.items) ts last new s.1 l i a h q)
-  where
-    by_check : (e : Item) → covers e i ≡ true → Contains shown e ⊎ Contains t.items e → Contains (stood_for (check_items (t ∷ ts ++ last ∷ []))) i ⊎ ((e : Item) × Contains shown e × (covers e i ≡ true))
-    by_check e c (inl k) = inr (e, k, c)
-    by_check e c (inr k) =
-        let accepted : Contains t.feed.accepted e = s.0.top.among e (given_held f query shown t s.0 e k) in
-        let knew : Contains t.known i = s.0.knows i (early_too t.feed f i e new s.0.front a accepted c) in
-        inl (stood_left (given t.known t.items) (check_items (ts ++ last ∷ [])) i (given_stands t.known t.items i e k knew c))
+module _ (early f : Feed) (since : List Item) (all : f.accepted ≡ early.accepted ++ since) (new : AreNew early.accepted since) (query : Key → Bool) where
+  checks_stand : (shown : List Item) (turns : List CheckTurn) (last : CheckTurn) → AreChecks early f query shown (turns ++ last ∷ []) → length last.items < last.max → (i : Item) → Contains f.accepted i → Contains last.feed.accepted i → passes query i ≡ true →
+      Contains (stood_for (check_items (turns ++ last ∷ []))) i ⊎ ((e : Item) × Contains shown e × (covers e i ≡ true))
+  checks_stand shown [] last s l i a h q = elim (last_stands early f query shown last s.0 l i h q) [ inl k ↦ inl (stood_left (given last.known last.items) [] i k) | inr k ↦ inr k ]
+  checks_stand shown (t ∷ ts) last s l i a h q = at (checks_stand (shown ++ t.items) ts last s.1 l i a h q)
+    where
+      by_check : (e : Item) → covers e i ≡ true → Contains shown e ⊎ Contains t.items e → Contains (stood_for (check_items (t ∷ ts ++ last ∷ []))) i ⊎ ((e : Item) × Contains shown e × (covers e i ≡ true))
+      by_check e c (inl k) = inr (e, k, c)
+      by_check e c (inr k) =
+          let accepted : Contains t.feed.accepted e = s.0.top.among e (given_held early f query shown t s.0 e k) in
+          let knew : Contains t.known i = s.0.knows i (early_too early t.feed f since i e all new s.0.later s.0.front a accepted c) in
+          inl (stood_left (given t.known t.items) (check_items (ts ++ last ∷ [])) i (given_stands t.known t.items i e k knew c))
 
-    at : Contains (stood_for (check_items (ts ++ last ∷ []))) i ⊎ ((e : Item) × Contains (shown ++ t.items) e × (covers e i ≡ true)) → Contains (stood_for (check_items (t ∷ ts ++ last ∷ []))) i ⊎ ((e : Item) × Contains shown e × (covers e i ≡ true))
-    at (inl k) = inl (stood_right (given t.known t.items) (check_items (ts ++ last ∷ [])) i k)
-    at (inr k) = by_check k.0 k.2 (Contains-append_cases shown t.items k.0 k.1)
+      at : Contains (stood_for (check_items (ts ++ last ∷ []))) i ⊎ ((e : Item) × Contains (shown ++ t.items) e × (covers e i ≡ true)) → Contains (stood_for (check_items (t ∷ ts ++ last ∷ []))) i ⊎ ((e : Item) × Contains shown e × (covers e i ≡ true))
+      at (inl k) = inl (stood_right (given t.known t.items) (check_items (ts ++ last ∷ [])) i k)
+      at (inr k) = by_check k.0 k.2 (Contains-append_cases shown t.items k.0 k.1)
 
-last_front : (f : Feed) (query : Key → Bool) (shown : List Item) (turns : List CheckTurn) (last : CheckTurn) → AreChecks f query shown (turns ++ last ∷ []) → IsFront last.feed f
-last_front f query shown [] last s = s.0.front
-last_front f query shown (t ∷ ts) last s = last_front f query (shown ++ t.items) ts last s.1
+  last_front : (shown : List Item) (turns : List CheckTurn) (last : CheckTurn) → AreChecks early f query shown (turns ++ last ∷ []) → IsFront last.feed f
+  last_front shown [] last s = s.0.front
+  last_front shown (t ∷ ts) last s = last_front (shown ++ t.items) ts last s.1
+
+  -- what is under the query and took effect before the last check, the checks stand for, or a shown item covers it
+  all_stand : (shown : List Item) (turns : List CheckTurn) (last : CheckTurn) → AreChecks early f query shown (turns ++ last ∷ []) → length last.items < last.max → (i : Item) → Contains (under query (before f (position last.feed))) i →
+      Contains (stood_for (check_items (turns ++ last ∷ []))) i ⊎ ((e : Item) × Contains shown e × (covers e i ≡ true))
+  all_stand shown turns last s l i h =
+      let k = Contains-from_under query (before f (position last.feed)) i h in
+      let late : Contains last.feed.accepted i = subst (λ (xs : List Item). Contains xs i) (front_is last.feed f (last_front shown turns last s)) k.0 in
+      let now : Contains f.accepted i = Contains-from_take (position last.feed - f.first) f.accepted i k.0 in
+      checks_stand shown turns last s l i now late k.1
 
 pub checks_are_whole : ChecksAreWhole
-checks_are_whole f query turns last new s l i h =
-    let front = last_front f query [] turns last s in
-    let k = Contains-from_under query (before f (position last.feed)) i h in
-    let then : Contains last.feed.accepted i = subst (λ (xs : List Item). Contains xs i) (front_is last.feed f front) k.0 in
-    let now : Contains f.accepted i = Contains-from_take (position last.feed - f.first) f.accepted i k.0 in
-    elim (checks_stand f query [] turns last new s l i now then k.1) [ inl m ↦ m | inr m ↦ absurd (Contains-nil m.0 m.1) ]
+checks_are_whole early f query since turns last all new s l i h = elim (all_stand early f since all new query [] turns last s l i h) [ inl m ↦ m | inr m ↦ absurd (Contains-nil m.0 m.1) ]
+
+pub checks_go_on : ChecksGoOn
+checks_go_on early begun f query since shown items turns last all new later front part w s l i h =
+    elim (all_stand early f since all new query shown turns last s l i h) [
+      | inl m ↦ stood_right items (check_items (turns ++ last ∷ [])) i m
+      | inr m ↦ stood_left items (check_items (turns ++ last ∷ [])) i (begun_whole m.0 m.1 m.2)
+    ]
+  where
+    k : Contains (before f (position last.feed)) i × (passes query i ≡ true)
+    k = Contains-from_under query (before f (position last.feed)) i h
+
+    begun_whole : (e : Item) → Contains shown e → covers e i ≡ true → Contains (stood_for items) i
+    begun_whole e m c =
+        let now : Contains f.accepted i = Contains-from_take (position last.feed - f.first) f.accepted i k.0 in
+        let then : Contains begun.accepted i = early_too early begun f since i e all new later front now (part e m) c in
+        w i (Contains-under query (before f (position begun)) i (subst (λ (xs : List Item). Contains xs i) (sym (front_is begun f front)) then) k.1)

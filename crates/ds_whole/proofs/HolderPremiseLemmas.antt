@@ -19,10 +19,11 @@ use Rattle.ds_join.proofs.ItemTopLemmas.{join_is_commutative}
 use Rattle.ds_whole.specs.Under.{leaves_value, is_put}
 use Rattle.ds_whole.specs.Sent.{Sent, IsSent}
 use Rattle.ds_whole.specs.CatchUp.{IsMap}
+use Rattle.ds_whole.specs.Accepting.{AreNew}
 use Rattle.ds_whole.specs.Checked.{unseen, CheckTurn, IsCheckTurn}
 use Rattle.ds_whole.specs.HolderPremises.{CatchUpNeeds, AgreementNeeds, LabelsNeed}
 use Rattle.ds_whole.specs.CheckPremises.{ChecksNeed}
-use Rattle.ds_whole.proofs.CheckLemmas.{accepted_are_new}
+use Rattle.ds_whole.proofs.CheckLemmas.{one_by_one_is_new}
 use Rattle.ds_whole.proofs.Samples.{record_of, a1, a1', a2, b1, c1, floor1, feed_of, all, key_of, not_among, top_of_one, top_by, one_single}
 
 -- lists that a test tells apart aren't one
@@ -144,15 +145,22 @@ labels_need = record {
 abbrev check_by : List Item → ℕ → List Item → CheckTurn
 check_by shown max accepted = record { feed = feed_of accepted; known = accepted; held = tops accepted; max = max; items = take max (unseen all shown (tops accepted)) }
 
-check_is : (shown accepted more : List Item) (max : ℕ) → IsTop (tops accepted) accepted → IsCheckTurn (feed_of (accepted ++ more)) all shown (check_by shown max accepted)
-check_is shown accepted more max t = record { front = record { incarnation = refl; first = refl; grown = (more, refl) }; knows = λ i h. h; top = t; given = refl }
+check_is : (shown accepted more : List Item) (max : ℕ) → IsTop (tops accepted) accepted → IsCheckTurn (feed_of []) (feed_of (accepted ++ more)) all shown (check_by shown max accepted)
+check_is shown accepted more max t = record { later = record { incarnation = refl; first = refl; grown = (accepted, refl) }; front = record { incarnation = refl; first = refl; grown = (more, refl) }; knows = λ i h. h; top = t; given = refl }
+
+-- the first item of a store is new
+one_is_new : AreNew [] (a1 ∷ [])
+one_is_new = one_by_one_is_new.one_more [] [] a1 (one_by_one_is_new.none []) (λ j h. absurd (Contains-nil j h))
 
 pub checks_need : ChecksNeed
 checks_need = record {
-  fewer = λ law. Contains-nil a1 (law (feed_of (a1 ∷ [])) all [] (check_by [] 0 (a1 ∷ [])) (accepted_are_new.one_more [] a1 accepted_are_new.none) (check_is [] (a1 ∷ []) [] 0 one, tt) a1 (Contains-head a1 []));
-  initial = λ law. Contains-nil a1 (law (feed_of (a1 ∷ [])) all (a1 ∷ []) [] (check_by (a1 ∷ []) 1 (a1 ∷ [])) (accepted_are_new.one_more [] a1 accepted_are_new.none) (check_is (a1 ∷ []) (a1 ∷ []) [] 1 one, tt) (omega arith) a1 (Contains-head a1 []));
+  fewer = λ law. Contains-nil a1 (law (feed_of []) (feed_of (a1 ∷ [])) all (a1 ∷ []) [] (check_by [] 0 (a1 ∷ [])) refl one_is_new (check_is [] (a1 ∷ []) [] 0 one, tt) a1 (Contains-head a1 []));
+  initial = λ law.
+      Contains-nil a1
+      (law (feed_of []) (feed_of (a1 ∷ [])) all (a1 ∷ []) (a1 ∷ []) [] (check_by (a1 ∷ []) 1 (a1 ∷ [])) refl one_is_new (check_is (a1 ∷ []) (a1 ∷ []) [] 1 one, tt) (omega arith) a1 (Contains-head a1 []));
   new = λ law.
       not_among (covers a1) (a2 ∷ []) a1 refl refl
-      (law (feed_of (a2 ∷ a1 ∷ [])) all (check_by [] 2 (a2 ∷ []) ∷ []) (check_by (a2 ∷ []) 2 (a2 ∷ a1 ∷ [])) (check_is [] (a2 ∷ []) (a1 ∷ []) 2 (top_by (a2 ∷ []) (refl, tt)), (check_is (a2 ∷ []) (a2 ∷ a1 ∷ []) [] 2 (top_by (a2 ∷ a1 ∷ []) (refl, (refl, tt))), tt)) (omega arith) a1
+      (law (feed_of []) (feed_of (a2 ∷ a1 ∷ [])) all (check_by [] 2 (a2 ∷ []) ∷ []) (check_by (a2 ∷ []) 2 (a2 ∷ a1 ∷ []))
+      (check_is [] (a2 ∷ []) (a1 ∷ []) 2 (top_by (a2 ∷ []) (refl, tt)), (check_is (a2 ∷ []) (a2 ∷ a1 ∷ []) [] 2 (top_by (a2 ∷ a1 ∷ []) (refl, (refl, tt))), tt)) (omega arith) a1
       (Contains-tail a2 (a1 ∷ []) a1 (Contains-head a1 [])));
 }

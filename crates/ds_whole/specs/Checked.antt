@@ -22,17 +22,18 @@ pub record CheckTurn : Type 0 where
   pub max : ℕ
   pub items : List Item
 
--- it gave the first unseen items, when these had been shown, of the store that is `f` now
-pub record IsCheckTurn (f : Feed) (query : Key → Bool) (shown : List Item) (t : CheckTurn) : Type 0 where
+-- it gave the first unseen items, when these had been shown, of the store that was `early` before and is `f` now
+pub record IsCheckTurn (early f : Feed) (query : Key → Bool) (shown : List Item) (t : CheckTurn) : Type 0 where
+  pub later : IsFront early t.feed
   pub front : IsFront t.feed f
   pub knows : IsPartOf t.feed.accepted t.known
   pub top : IsTop t.held t.feed.accepted
   pub given : t.items ≡ take t.max (unseen query shown t.held)
 
 -- checks one after the other: what each gave is shown from then on
-abbrev pub AreChecks : Feed → (Key → Bool) → List Item → List CheckTurn → Type 0
-AreChecks f query shown [] = Unit {0}
-AreChecks f query shown (t ∷ ts) = IsCheckTurn f query shown t × AreChecks f query (shown ++ t.items) ts
+abbrev pub AreChecks : Feed → Feed → (Key → Bool) → List Item → List CheckTurn → Type 0
+AreChecks early f query shown [] = Unit {0}
+AreChecks early f query shown (t ∷ ts) = IsCheckTurn early f query shown t × AreChecks early f query (shown ++ t.items) ts
 
 -- the items of all checks
 abbrev pub check_items : List CheckTurn → List Sent

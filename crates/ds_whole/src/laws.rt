@@ -7,8 +7,8 @@ ghost use Rattle.ds_whole.specs.Taking.{HolderTakes, NewMapIsMap, MapTakes};
 ghost use Rattle.ds_whole.specs.Following.{FollowsFromSnapshot, FollowsFromPages};
 ghost use Rattle.ds_whole.specs.Agreement.{HoldersAgree, TopUnderQuery, JoinOfHolders, JoinUnderQuery, MoreIsHeld};
 ghost use Rattle.ds_whole.specs.Labels.{NothingOlderIsHeld, NoOlderLabelIsHeld, LabelsAreNewest};
-ghost use Rattle.ds_whole.specs.Accepting.{AcceptedAreNew};
-ghost use Rattle.ds_whole.specs.CheckLaws.{ChecksAreWhole};
+ghost use Rattle.ds_whole.specs.Accepting.{OneByOneIsNew};
+ghost use Rattle.ds_whole.specs.CheckLaws.{ChecksAreWhole, ChecksGoOn};
 
 /// The laws of wholeness: a snapshot is whole up to its cursor, and with what the journal gives from there, up to the
 /// journal's cursor; more items, an earlier position, a narrower query and what takes effect later leave it so.
@@ -70,9 +70,11 @@ pub fn label_laws()
     ensures newest { LabelsAreNewest }
 {}
 
-/// The law of checks: all that the checks of a subscription gave since nothing counted as shown is whole up to a check that
-/// gave fewer than it was asked for, where each accepted item was covered by none before it, as a store accepts.
+/// The laws of checks: all that the checks of a subscription gave since nothing counted as shown is whole up to a check that
+/// gave fewer than it was asked for; where what had taken effect counted as shown, together with what was whole by then. They
+/// ask that what took effect meanwhile was covered by nothing before it.
 pub fn check_laws()
     ensures checks { ChecksAreWhole }
-    ensures accepted { AcceptedAreNew }
+    ensures later { ChecksGoOn }
+    ensures accepted { OneByOneIsNew }
 {}
