@@ -8,7 +8,7 @@ ghost use Rattle.ds_index.specs.declared.named.Named.{Named};
 ghost use Rattle.ds_index.specs.Named.{named_cmp, is_of, begins_behind, is_behind, inserted};
 ghost use Rattle.ds_index.specs.Index.{IsAdded, IsReplaced};
 
-use crate::named::{Named, is_behind, is_of, begins_behind};
+use crate::named::{Named, begins_behind, is_behind, is_of};
 use ds_names::{Endpoint, Name, NoRoom};
 use std::alloc::Global;
 use std::marker::Model;
