@@ -1,49 +1,19 @@
 -- Changes that take effect one after the other.
-use Rattle.std.proofs.Common.{◌≡◌, ℕ, ◌+◌, ◌<◌, ◌≤◌, Bool, true, false, not, cond, ◌&&◌, ◌||◌, ◌==◌, nat_le, is_some, List, [], ◌∷◌, ◌++◌, map, filter, length, take, fold, Option, Some, None, refl, ap, sym, ◌∙◌, subst, inl, inr, ◌⊎◌, arith, Contains, append_assoc, length-append, eq-eqb}
-use Rattle.std.proofs.lemmas.Bool.Decides.{nat_tests}
-use Rattle.std.proofs.lemmas.List.{append-nil, length-map}
-use Rattle.std.proofs.lemmas.List.Kept.{IsStrictlySortedBy-filter}
-use Rattle.std.proofs.lemmas.List.Elements.{Contains-push_cases, Contains-append_left, Contains-append_cases}
-use Rattle.std.proofs.lemmas.Map.Keys.{sorted_head, sorted_tail}
-use Rattle.std.specs.List.{list_any}
-use Rattle.std.specs.List.Sorted.{IsStrictlySortedBy}
-use Rattle.std.specs.Option.{option_map_or}
-use Rattle.std.specs.declared.cmp.Ordering.TheVariants.{Less}
-use Rattle.ds_names.specs.Endpoint.{EndpointRecord}
-use Rattle.ds_names.specs.Version.{version_cmp}
-use Rattle.ds_entry.specs.declared.body.Body.{Body}
-use Rattle.ds_entry.specs.declared.body.Body.TheVariants.{Put, Gone}
+use Rattle.std.proofs.Common.{◌≡◌, ◌<◌, List, [], ◌∷◌, ◌++◌, length, ap, sym, ◌∙◌, subst, inl, inr, Contains, append_assoc}
+use Rattle.std.proofs.lemmas.List.{append-nil}
 use Rattle.ds_entry.specs.Change.{ChangeRecord}
-use Rattle.ds_entry.specs.Covers.{covers, change_cmp}
 use Rattle.ds_entry.specs.SingleNumbered.{IsSingleNumbered}
-use Rattle.ds_entry.proofs.Members.{In-from_Contains, Contains-nil, Contains-head, Contains-tail, Contains-cons, Contains-from_filter, Contains-from_take}
-use Rattle.ds_entry.proofs.CoversLemmas.{covers-key, covers-same}
-use Rattle.ds_join.specs.Top.{IsPartOf, tops}
-use Rattle.ds_join.proofs.ExistLemmas.{tops_is_top}
-use Rattle.ds_join.proofs.HeldLemmas.{from_along}
-use Rattle.ds_pattern.specs.Patterns.{is_pattern}
-use Rattle.ds_pattern.specs.declared.query.Query.{Query}
-use Rattle.ds_watch.specs.Subscription.{Subscription, is_unseen}
-use Rattle.ds_store.specs.Limits.{places, most_items, longest_pattern, last_place}
-use Rattle.ds_store.specs.State.{State, position, accepts, subscribes, subscription_at, owed, unseen}
-use Rattle.ds_store.specs.Judging.{Request, is_rs, first_refusal, held_at, against_sweep, against_subscribe, against_check, change_asked, name_of, TakesEffect, published, deleted, is_label, is_swept, tombstone, tombstones}
-use Rattle.ds_store.specs.Machine.{Step, MergeWantsRoom, held, outcome, asking, answer_for, cause_against, sweeping, merging, course, Course, begun, item_merged, item_judged, cause_of, subscribing, subscribe_case, owed_at_first, shown_at_first, shows, has_unseen, checking, checking_at, check_case}
-use Rattle.ds_store.specs.Reached.{IsReached, LeavesSweeps, BringsChanges, StepKeepsReached}
-use Rattle.ds_store.specs.Effect.{IsNews, AreNews, Grows, Serves, Effect, StepHasEffect}
-use Rattle.ds_store.specs.declared.judging.Cause.{Cause}
-use Rattle.ds_store.specs.declared.judging.Cause.TheVariants as causes
-use Rattle.ds_store.specs.declared.refusal.Refusal.{Refusal}
-use Rattle.ds_store.specs.declared.refusal.Refusal.TheVariants as refusals
-use Rattle.ds_store.specs.declared.command.Command.{Command}
-use Rattle.ds_store.specs.declared.command.Command.TheVariants.{Publish, Delete, Sweep, Retrieve, NameOf, Subscribe, Check, Merge}
-use Rattle.ds_store.specs.declared.command.Reply.{Reply}
-use Rattle.ds_store.specs.declared.command.Reply.TheVariants.{Changed, Swept, Subscribed, Refused}
-use Rattle.ds_store.proofs.StandsLemmas.{single_more, held_covers}
+use Rattle.ds_entry.proofs.Members.{Contains-nil, Contains-head, Contains-tail, Contains-cons}
+use Rattle.ds_join.specs.Top.{IsPartOf}
+use Rattle.ds_store.specs.Limits.{last_place}
+use Rattle.ds_store.specs.State.{State, position, accepts}
+use Rattle.ds_store.specs.Judging.{held_at, TakesEffect}
+use Rattle.ds_store.specs.Machine.{held}
+use Rattle.ds_store.specs.Reached.{IsReached, LeavesSweeps}
+use Rattle.ds_store.specs.Effect.{IsNews, AreNews, Grows}
+use Rattle.ds_store.proofs.StandsLemmas.{single_more}
 use Rattle.ds_store.proofs.MarkLemmas.{newer}
-use Rattle.ds_store.proofs.SweepLemmas.{at_most, below_sweep, live_below, parts, not_below_itself, held_here}
-use Rattle.ds_store.proofs.SubscribeLemmas.{some_taken}
-use Rattle.ds_store.proofs.FaultLemmas.{first_false, negated, refuted}
-use Rattle.ds_store.proofs.ReachedLemmas.{reached_more, reached_served}
+use Rattle.ds_store.proofs.ReachedLemmas.{reached_more}
 
 -- nothing that is held stands against the change, and a position is left for it
 pub record Enters (s : State) (c : ChangeRecord) : Type 0 where

@@ -17,7 +17,6 @@ use Rattle.ds_entry.specs.Change.{ChangeRecord, kind_of, rs_name, IsOfKind, IsLa
 use Rattle.ds_entry.specs.ChangeFault.{IsFaultOf}
 use Rattle.ds_store.specs.Judging.{Request, Standing, first_cause, against_asked, change_asked, name_of, is_label, is_of_kind, is_label_body, is_label_change, is_callers_version, is_same_name, is_rs}
 use Rattle.ds_join.specs.Label.{names_endpoint}
-use Rattle.ds_store.specs.declared.judging.Cause.{Cause}
 
 pub first_false : {A : Type 0} (b : Bool) (x : A) (rest : Option A) → cond b (Some x) rest ≡ None → (b ≡ false) × (rest ≡ None)
 first_false true x rest e = absurd (cc)

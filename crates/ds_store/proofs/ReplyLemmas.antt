@@ -1,14 +1,13 @@
 -- Which replies there are to a command.
-use Rattle.std.proofs.Common.{◌≡◌, ◌+◌, ℕ, List, [], ◌∷◌, length, take, Option, Some, None, sym, subst, inl, inr}
+use Rattle.std.proofs.Common.{◌+◌, ℕ, List, [], ◌∷◌, length, take, Option, Some, None, sym, subst, inl, inr}
 use Rattle.std.specs.Option.{option_map, option_map_or}
-use Rattle.ds_entry.specs.declared.body.Body.{Body}
 use Rattle.ds_entry.specs.declared.body.Body.TheVariants.{Put, Gone}
 use Rattle.ds_entry.specs.declared.body.Value.{Value}
 use Rattle.ds_entry.specs.Change.{ChangeRecord}
 use Rattle.ds_watch.specs.Subscription.{Subscription}
 use Rattle.ds_store.specs.State.{State, position, accepts, subscribes, subscription_at, owed, unseen}
 use Rattle.ds_store.specs.Judging.{first_refusal, against_sweep, against_subscribe, against_check, against_merge, change_asked, name_of, published, deleted, tombstones}
-use Rattle.ds_store.specs.Machine.{Step, MergeWantsRoom, held, outcome, answer_for, cause_against, sweeping, merging, course, subscribe_case, check_case, owed_at_first, shown_at_first, shows, checking_at, found_or, live_at}
+use Rattle.ds_store.specs.Machine.{MergeWantsRoom, held, outcome, answer_for, cause_against, sweeping, merging, course, subscribe_case, check_case, owed_at_first, shown_at_first, shows, checking_at, found_or, live_at}
 use Rattle.ds_store.specs.Says.{IsReplyTo, RepliesFit}
 use Rattle.ds_store.specs.declared.judging.Cause.{Cause}
 use Rattle.ds_store.specs.declared.judging.Cause.TheVariants as causes

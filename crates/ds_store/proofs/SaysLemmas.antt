@@ -1,5 +1,5 @@
 -- What the answers of the store's machine say of its states.
-use Rattle.std.proofs.Common.{◌≡◌, ℕ, ◌+◌, ◌<◌, ◌≤◌, Bool, true, false, not, cond, ◌&&◌, nat_le, List, [], ◌∷◌, ◌++◌, length, take, fold, Option, Some, None, refl, ap, sym, ◌∙◌, subst, inl, inr, ◌⊎◌, arith, Contains, length-append}
+use Rattle.std.proofs.Common.{◌≡◌, ◌+◌, ◌≤◌, Bool, true, false, not, ◌&&◌, nat_le, List, [], ◌∷◌, ◌++◌, length, take, fold, Option, Some, None, refl, ap, sym, ◌∙◌, subst, inl, inr, ◌⊎◌, arith, Contains, length-append}
 use Rattle.std.proofs.lemmas.List.Elements.{Contains-append_left, Contains-push}
 use Rattle.std.specs.List.{list_any}
 use Rattle.std.specs.Option.{option_map_or}
@@ -11,14 +11,12 @@ use Rattle.ds_entry.proofs.CoversLemmas.{covers-refl, covers-trans, covers-same}
 use Rattle.ds_join.specs.Top.{CoversAll, tops}
 use Rattle.ds_join.proofs.ExistLemmas.{tops_is_top}
 use Rattle.ds_join.proofs.TopLemmas.{held_apart}
-use Rattle.ds_pattern.specs.declared.query.Query.{Query}
 use Rattle.ds_pattern.specs.Under.{is_under}
 use Rattle.ds_watch.specs.Subscription.{Subscription, is_unseen}
 use Rattle.ds_store.specs.Limits.{places}
-use Rattle.ds_store.specs.State.{State, accepts, subscribes, subscription_at, position, owed, unseen}
+use Rattle.ds_store.specs.State.{State, subscribes, subscription_at, position, owed, unseen}
 use Rattle.ds_store.specs.Judging.{first_refusal, against_subscribe, against_check, against_merge}
-use Rattle.ds_store.specs.Machine.{Step, MergeWantsRoom, held, merging, course, Course, begun, item_merged, item_judged, cause_of, merge_reply, subscribe_case, check_case, owed_at_first, shown_at_first, shows, has_unseen, checking_at}
-use Rattle.ds_store.specs.Reached.{IsReached}
+use Rattle.ds_store.specs.Machine.{held, merging, course, Course, begun, item_merged, item_judged, cause_of, subscribe_case, check_case, owed_at_first, shown_at_first, shows, checking_at}
 use Rattle.ds_store.specs.Effect.{AreNews, Grows}
 use Rattle.ds_store.specs.Says.{IsMade, SubscribedSays, LeavesShown, IsShown, CheckedSays, IsToShow, UnseenIsNotShown, IsMerged, MergedSays}
 use Rattle.ds_store.specs.declared.judging.Cause.{Cause}

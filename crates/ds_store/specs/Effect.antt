@@ -1,5 +1,5 @@
 -- What one step of the store's machine does to its state.
-use Rattle.std.specs.Prelude.{◌==◌, ◌≡◌, ℕ, ◌<◌, ◌≤◌, Bool, true, false, ◌⊎◌, List, [], ◌∷◌, ◌++◌, length, Contains}
+use Rattle.std.specs.Prelude.{◌==◌, ◌≡◌, ℕ, ◌<◌, Bool, true, false, ◌⊎◌, List, [], ◌∷◌, ◌++◌, Contains}
 use Rattle.ds_entry.specs.Change.{ChangeRecord}
 use Rattle.ds_entry.specs.Covers.{covers}
 use Rattle.ds_entry.specs.SingleNumbered.{IsSingleNumbered}

@@ -1,5 +1,5 @@
 -- What every state has that the store's machine comes to from its opening.
-use Rattle.std.specs.Prelude.{◌≡◌, Bool, false, ℕ, ◌≤◌, List, length, Contains, Option, Some}
+use Rattle.std.specs.Prelude.{◌≡◌, false, ℕ, ◌≤◌, length, Contains, Some}
 use Rattle.ds_entry.specs.Change.{ChangeRecord, IsBelowSweeps}
 use Rattle.ds_entry.specs.SingleNumbered.{IsSingleNumbered}
 use Rattle.ds_join.specs.Top.{IsPartOf, tops}

@@ -1,4 +1,4 @@
-use Rattle.std.proofs.Common.{◌≡◌, sym, inl, subst}
+use Rattle.std.proofs.Common.{sym, inl, subst}
 use Rattle.ds_entry.specs.declared.body.Body.TheVariants.{Put, Gone}
 use Rattle.ds_store.specs.declared.command.Command.{Command}
 use Rattle.ds_store.specs.Judging.{Request, published, deleted}

@@ -5,7 +5,7 @@ use Rattle.ds_join.specs.Marked.{MarkedHolding}
 use Rattle.ds_watch.specs.declared.masks.Masks.{Masks}
 use Rattle.ds_watch.specs.Watching.{Watching}
 use Rattle.ds_store.specs.Kept.{unseen_at}
-use Rattle.ds_store.specs.Limits.{places, last_place}
+use Rattle.ds_store.specs.Limits.{places}
 use Rattle.ds_store.specs.State.{opening}
 use Rattle.ds_store.proofs.StandsLemmas.{none_held, none_marked}
 use Rattle.ds_store.proofs.ReachedLemmas.{stands_opening}
