@@ -1,5 +1,5 @@
 -- The items of all checks are whole.
-use Rattle.std.proofs.Common.{◌≡◌, ℕ, zero, suc, ◌<◌, ◌≤◌, ◌-◌, ◌&&◌, not, Bool, true, false, List, [], ◌∷◌, ◌++◌, take, length, refl, sym, ap, ◌∙◌, subst, inl, inr, ◌⊎◌, append_assoc, arith}
+use Rattle.std.proofs.Common.{◌≡◌, ℕ, zero, suc, ◌<◌, ◌≤◌, ◌-◌, ◌&&◌, not, Bool, true, false, List, [], ◌∷◌, ◌++◌, take, length, refl, sym, ap, ◌∙◌, subst, inl, inr, ◌⊎◌, append_assoc, append-nil, arith}
 use Rattle.std.specs.List.{Contains, list_any}
 use Rattle.std.proofs.lemmas.List.{take_all}
 use Rattle.std.proofs.lemmas.List.Elements.{Contains-append_left, Contains-append_cases}
@@ -81,8 +81,18 @@ none_is_new : (accepted : List Item) → AreNew accepted []
 none_is_new accepted [] back i j e h = cc
 none_is_new accepted (y ∷ front) back i j e h = cc
 
+new_before : (accepted since : List Item) (i : Item) → ((j : Item) → Contains accepted j → covers j i ≡ false) → AreNew (accepted ++ i ∷ []) since → AreNew accepted (i ∷ since)
+new_before accepted since i first new [] back k j q h =
+    let same : i ≡ k = cc in
+    subst (λ (z : Item). covers j z ≡ false) same (first j (subst (λ (l : List Item). Contains l j) (append-nil accepted) h))
+new_before accepted since i first new (y ∷ front) back k j q h =
+    let same : i ≡ y = cc in
+    let rest : since ≡ front ++ k ∷ back = cc in
+    let there : Contains (accepted ++ i ∷ front) j = subst (λ (z : Item). Contains (accepted ++ z ∷ front) j) (sym same) h in
+    new front back k j rest (subst (λ (l : List Item). Contains l j) (sym (append_assoc accepted (i ∷ []) front)) there)
+
 pub one_by_one_is_new : OneByOneIsNew
-one_by_one_is_new = record { none = none_is_new; one_more = new_after }
+one_by_one_is_new = record { none = none_is_new; one_more = new_after; one_before = new_before }
 
 -- ---- checks
 

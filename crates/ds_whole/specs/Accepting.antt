@@ -11,3 +11,4 @@ AreNew accepted since = (front back : List Item) (i j : Item) → since ≡ fron
 pub record OneByOneIsNew : Type 0 where
   pub none : (accepted : List Item) → AreNew accepted []
   pub one_more : (accepted since : List Item) (i : Item) → AreNew accepted since → ((j : Item) → Contains (accepted ++ since) j → covers j i ≡ false) → AreNew accepted (since ++ i ∷ [])
+  pub one_before : (accepted since : List Item) (i : Item) → ((j : Item) → Contains accepted j → covers j i ≡ false) → AreNew (accepted ++ i ∷ []) since → AreNew accepted (i ∷ since)
