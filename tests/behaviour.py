@@ -419,9 +419,10 @@ def explains_each_refusal(program):
 
 
 def points_at_standard_input(program):
-    """Who names a script as a word is told how it is given."""
-    ran = harness.run([program, "script.ds"], b"")
-    assert (ran.status, ran.output) == (2, b"") and b"dsctl < SCRIPT" in ran.error, f"{ran}"
+    """Who names a script as a word is told how it is given, and who asks to go on before any word, where that stands."""
+    for word, tip in (("script.ds", b"dsctl < SCRIPT"), ("--keep-going", b"dsctl replay --keep-going")):
+        ran = harness.run([program, word], b"")
+        assert (ran.status, ran.output) == (2, b"") and tip in ran.error, f"{ran}"
 
 
 # ---- against the second opinion ----
