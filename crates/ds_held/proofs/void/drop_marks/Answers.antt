@@ -1,6 +1,3 @@
-use Rattle.std.proofs.Common.{◌∙◌, ap}
-use Rattle.ds_entry.specs.Change.{ChangeRecord}
-use Rattle.ds_entry.specs.Void.{voids}
 use Rattle.ds_held.proofs.DropLemmas.{dropping_next}
 use Rattle.ds_held.proofs.void.drop_marks.Goals as goal
 
