@@ -1,0 +1,16 @@
+pub mod Limits
+pub mod Scope
+pub mod Parts
+pub mod Subscription
+pub mod State
+pub mod Order
+pub mod Standing
+pub mod Asking
+pub mod Calling
+pub mod Merging
+pub mod Watching
+pub mod Machine
+pub mod Reached
+pub mod Effect
+pub mod Says
+pub mod FloorLaws
