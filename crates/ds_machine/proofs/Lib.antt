@@ -5,5 +5,5 @@ pub mod ReachedLemmas
 pub mod CourseLemmas
 pub mod EffectLemmas
 pub mod KnownLemmas
-pub mod SaysLemmas
 pub mod FitLemmas
+pub mod SaysLemmas

@@ -40,12 +40,13 @@ missing p (y ∷ ys) x h k = by_test (p y) refl h (missing p ys x)
 -- where what is found isn't in the front, nothing in the front passes
 pub passed : {X : Type 0} (p q : X → Bool) (front rest : List X) (x y : X) → find p (front ++ rest) ≡ Some y → q y ≡ true → list_any q front ≡ false → Contains front x → p x ≡ false
 passed p q [] rest x y h k n l = absurd (Contains-nil x l)
-passed p q (z ∷ front) rest x y h k n l = by_test (p z) refl h (q z) refl n
+passed p q (z ∷ front) rest x y h k n l = by_test (p z) refl h (q z) refl n (λ s m t. passed p q front rest x y s k m t)
   where
-    by_test : (b : Bool) → p z ≡ b → cond b (Some z) (find p (front ++ rest)) ≡ Some y → (a : Bool) → q z ≡ a → a || list_any q front ≡ false → p x ≡ false
-    by_test b e s true f m = absurd (cc)
-    by_test true e s false f m = absurd (let t : true ≡ false = sym k ∙ ap q (sym (same_Some z y s)) ∙ f in cc)
-    by_test false e s false f m = elim (Contains-cons z front x l) [ inl t ↦ ap p t ∙ e | inr t ↦ passed p q front rest x y s k m t ]
+    by_test : (b : Bool) → p z ≡ b → cond b (Some z) (find p (front ++ rest)) ≡ Some y → (a : Bool) → q z ≡ a → a || list_any q front ≡ false
+        → (find p (front ++ rest) ≡ Some y → list_any q front ≡ false → Contains front x → p x ≡ false) → p x ≡ false
+    by_test b e s true f m more = absurd (cc)
+    by_test true e s false f m more = absurd (let t : true ≡ false = sym k ∙ ap q (sym (same_Some z y s)) ∙ f in cc)
+    by_test false e s false f m more = elim (Contains-cons z front x l) [ inl t ↦ ap p t ∙ e | inr t ↦ more s m t ]
 
 pub take_whole : {X : Type 0} (xs : List X) → take (length xs) xs ≡ xs
 take_whole [] = refl

@@ -14,3 +14,4 @@ pub mod Reached
 pub mod Effect
 pub mod Says
 pub mod FloorLaws
+pub mod Examples

@@ -17,7 +17,9 @@ use Rattle.ds_pattern.specs.declared.query.Query.{Query}
 use Rattle.ds_machine.specs.Scope.{is_kept}
 use Rattle.ds_machine.specs.Subscription.{Subscription}
 use Rattle.ds_machine.specs.State.{State, held, cursor, unseen, accepts, owed, subscribes, subscription_at}
-use Rattle.ds_machine.specs.Machine.{Step, dropped}
+use Rattle.ds_entry.specs.declared.body.Value.{Value}
+use Rattle.ds_machine.specs.Asking.{name_of}
+use Rattle.ds_machine.specs.Machine.{Step, dropped, live_at}
 use Rattle.ds_machine.specs.Watching.{shown_at_first}
 use Rattle.ds_machine.specs.Reached.{IsReached}
 use Rattle.ds_machine.specs.Effect.{brought_by}
@@ -31,6 +33,22 @@ use Rattle.ds_machine.specs.declared.reply.Reply.TheVariants.{Changed as Accepte
 -- a refused command leaves the state as it was
 abbrev pub RefusedSays : Type 0
 RefusedSays = (s t : State) (command : Command) (refusal : Refusal) → Step s command (Refused refusal) t → t ≡ s
+
+-- the change that was asked for took effect, and is owed to those under whose query it is
+pub record IsTaken (s : State) (items : List Item) (owed_mask : ℕ) (t : State) : Type 0 where
+  pub owed_is : owed_mask ≡ owed s items
+  pub state_is : t ≡ accepts s items
+
+abbrev pub ChangedSays : Type 0
+ChangedSays = (s t : State) (command : Command) (owed_mask : ℕ) → Step s command (Accepted owed_mask) t → IsTaken s (brought_by s command) owed_mask t
+
+-- what is found is live
+abbrev pub FoundSays : Type 0
+FoundSays = (s t : State) (key : Key) (value : Value) → Step s (Retrieve key) (Found value) t → (live_at s key ≡ Some value) × (t ≡ s)
+
+-- and so is the name of an endpoint
+abbrev pub NamedSays : Type 0
+NamedSays = (s t : State) (endpoint : EndpointRecord) (name : List ℕ) → Step s (NameOf endpoint) (Named name) t → (name_of (held s) endpoint ≡ Some name) × (t ≡ s)
 
 -- a floor that was swept took effect, or wasn't above the one that is held
 pub record IsSwept (s : State) (f : Floor) (count owed_mask : ℕ) (t : State) : Type 0 where

@@ -1,8 +1,9 @@
 //! Laws of the machine's steps and runs, over its definitions alone.
 
 ghost use Rattle.ds_machine.specs.Effect.{OpeningIsReached, StepsStayReached, RunsStayReached, StepHasEffect, StepsGoOn, RunsGoOn, HeldIsTop, LearntIsHeld, KnownStaysHeld};
+ghost use Rattle.ds_machine.specs.Examples.{PublishRow, SweepRow, RingRow, PageRow};
 ghost use Rattle.ds_machine.specs.FloorLaws.{AcceptedFloorStands, FloorStandsOverRuns};
-ghost use Rattle.ds_machine.specs.Says.{RefusedSays, SweptSays, SubscribedSays, CheckedSays, JournaledSays, SnappedSays, PagedSays, MergedSays, MergeStoppedSays, OwedFits, RepliesFit};
+ghost use Rattle.ds_machine.specs.Says.{RefusedSays, ChangedSays, FoundSays, NamedSays, SweptSays, SubscribedSays, CheckedSays, JournaledSays, SnappedSays, PagedSays, MergedSays, MergeStoppedSays, OwedFits, RepliesFit};
 
 /// The opening state is reached, and each step and each run leads from a state that is reached to another: its accepted
 /// items have a top, which is what is held.
@@ -33,6 +34,9 @@ pub fn floors_stand()
 /// What each answer says of the states before and after it.
 pub fn answers_say()
     ensures refused { RefusedSays }
+    ensures changed { ChangedSays }
+    ensures found { FoundSays }
+    ensures named { NamedSays }
     ensures swept { SweptSays }
     ensures subscribed { SubscribedSays }
     ensures checked { CheckedSays }
@@ -47,4 +51,12 @@ pub fn answers_say()
 pub fn answers_fit()
     ensures replies { RepliesFit }
     ensures owed { OwedFits }
+{}
+
+/// Worked rows, computed: refusals in their order, a floor under what a dead driver left, a ring of two, and pages.
+pub fn rows_are_answered()
+    ensures publish { PublishRow }
+    ensures sweep { SweepRow }
+    ensures ring { RingRow }
+    ensures pages { PageRow }
 {}
