@@ -7,3 +7,4 @@ pub mod EffectLemmas
 pub mod KnownLemmas
 pub mod FitLemmas
 pub mod SaysLemmas
+pub mod WithinLemmas

@@ -1,6 +1,5 @@
 -- What answers say, and which answers there are.
-use Rattle.std.proofs.Common.{◌≡◌, ℕ, ◌+◌, ◌<◌, ◌≤◌, ◌^◌, Bool, List, [], ◌∷◌, ◌++◌, length, take, map, Option, Some, None, refl, ap, sym, ◌∙◌, subst, inl, inr, ◌⊎◌, arith}
-use Rattle.std.proofs.lemmas.List.{length-map, length-take-le}
+use Rattle.std.proofs.Common.{◌≡◌, ℕ, ◌+◌, ◌<◌, ◌≤◌, ◌^◌, ◌==◌, zero, suc, Bool, true, false, cond, get_or, List, [], ◌∷◌, ◌++◌, length, take, map, Option, Some, None, refl, ap, sym, ◌∙◌, subst, inl, inr, ◌⊎◌, arith}
 use Rattle.std.specs.Option.{option_map, option_map_or}
 use Rattle.ds_names.specs.declared.key.Key.{Key}
 use Rattle.ds_names.specs.Endpoint.{EndpointRecord}
@@ -11,7 +10,7 @@ use Rattle.ds_entry.specs.declared.item.Item.{Item}
 use Rattle.ds_entry.specs.declared.item.Item.TheVariants.{Change as Changed}
 use Rattle.ds_join.specs.ItemTop.{CoversAll}
 use Rattle.ds_watch.specs.Mask.{mask}
-use Rattle.ds_watch.specs.MaskBits.{mask_small}
+use Rattle.ds_watch.specs.MaskBits.{mask_small, mask_bit}
 use Rattle.ds_machine.specs.Subscription.{Subscription, is_owed}
 use Rattle.ds_machine.specs.State.{State, held, accepts, owed, unseen, subscription_at}
 use Rattle.ds_machine.specs.Order.{first_refusal}
@@ -22,7 +21,7 @@ use Rattle.ds_machine.specs.Watching.{shows, check_case, checking, checking_at}
 use Rattle.ds_machine.specs.Machine.{Step, IsOutcome, MergeWantsRoom, outcome, asking, answer_for, found_or, live_at}
 use Rattle.ds_machine.specs.Reached.{IsReached}
 use Rattle.ds_machine.specs.Effect.{brought_by}
-use Rattle.ds_machine.specs.Says.{RefusedSays, IsTaken, ChangedSays, FoundSays, NamedSays, IsMerged, MergedSays, IsStopped, MergeStoppedSays, OwedFits, IsReplyTo, RepliesFit}
+use Rattle.ds_machine.specs.Says.{RefusedSays, IsTaken, ChangedSays, FoundSays, NamedSays, IsMerged, MergedSays, IsStopped, MergeStoppedSays, OwedFits, OwedTells, IsReplyTo, RepliesFit}
 use Rattle.ds_machine.specs.declared.refusal.Cause.{Cause}
 use Rattle.ds_machine.specs.declared.refusal.Cause.TheVariants as causes
 use Rattle.ds_machine.specs.declared.refusal.Refusal.{Refusal}
@@ -37,12 +36,20 @@ use Rattle.ds_machine.proofs.KnownLemmas.{learnt_is_held}
 use Rattle.ds_machine.proofs.FitLemmas.{replies_fit}
 
 -- ---- a refused command
+is_refused : Reply → Bool
+is_refused (Refused refusal) = true
+is_refused _ = false
+
+refused_not : (refusal : Refusal) (reply : Reply) → is_refused reply ≡ false → Refused refusal ≡ reply → ⊥
+unfolding is_refused
+refused_not refusal reply f e = let t : true ≡ false = ap is_refused e ∙ f in absurd (cc)
+
 module _ (s t : State) (refusal : Refusal) where
   -- one that is answered by a reply of its own unless something stands against it
-  stays_unless : {X : Type 0} (o : Option X) (f : X → Reply) (reply : Reply) (new : State) → (Refused refusal ≡ reply → ⊥)
-      → Refused refusal ≡ (option_map_or {U = Reply × State} (λ x. (f x, s)) o (reply, new)).0 → t ≡ (option_map_or {U = Reply × State} (λ x. (f x, s)) o (reply, new)).1 → t ≡ s
-  stays_unless (Some x) f reply new no e q = q
-  stays_unless None f reply new no e q = absurd (no e)
+  stays_unless : {X : Type 0} (o : Option X) (f : X → Reply) (reply : Reply) (new : State)
+      → Refused refusal ≡ (option_map_or {U = Reply × State} (λ x. (f x, s)) o (reply, new)).0 → t ≡ (option_map_or {U = Reply × State} (λ x. (f x, s)) o (reply, new)).1 → is_refused reply ≡ false → t ≡ s
+  stays_unless (Some x) f reply new e q differs = q
+  stays_unless None f reply new e q differs = absurd (refused_not refusal reply differs e)
 
   merge_unless : (items : List Item) (o : Option Refusal) → Refused refusal ≡ (merging s items o).0 → t ≡ (merging s items o).1 → t ≡ s
   merge_unless items (Some r) e q = q
@@ -68,16 +75,17 @@ module _ (s t : State) (refusal : Refusal) where
       by_cause (Some seer) None e q = by_items seer (take max (unseen s seer)) e q
 
   by_outcome : (command : Command) → IsOutcome (outcome s command) (Refused refusal) t → t ≡ s
-  by_outcome (Publish caller key version value overwrite) is = stays_unless _ _ _ _ (λ e. absurd (cc)) is.reply_is is.state_is
-  by_outcome (Delete caller key version) is = stays_unless _ _ _ _ (λ e. absurd (cc)) is.reply_is is.state_is
-  by_outcome (Sweep caller owner generation) is = stays_unless _ _ _ _ (λ e. absurd (cc)) is.reply_is is.state_is
+  unfolding is_refused
+  by_outcome (Publish caller key version value overwrite) is = stays_unless _ _ _ _ is.reply_is is.state_is refl
+  by_outcome (Delete caller key version) is = stays_unless _ _ _ _ is.reply_is is.state_is refl
+  by_outcome (Sweep caller owner generation) is = stays_unless _ _ _ _ is.reply_is is.state_is refl
   by_outcome (Retrieve key) is = is.state_is
   by_outcome (NameOf endpoint) is = is.state_is
-  by_outcome (Subscribe sub query initial overwrite) is = stays_unless _ _ _ _ (λ e. absurd (cc)) is.reply_is is.state_is
+  by_outcome (Subscribe sub query initial overwrite) is = stays_unless _ _ _ _ is.reply_is is.state_is refl
   by_outcome (Check sub max) is = check_unless sub max (subscription_at s sub) is.reply_is is.state_is
-  by_outcome (Since scope at max) is = stays_unless _ _ _ _ (λ e. absurd (cc)) is.reply_is is.state_is
-  by_outcome (Snapshot scope) is = stays_unless _ _ _ _ (λ e. absurd (cc)) is.reply_is is.state_is
-  by_outcome (Page scope after max) is = stays_unless _ _ _ _ (λ e. absurd (cc)) is.reply_is is.state_is
+  by_outcome (Since scope at max) is = stays_unless _ _ _ _ is.reply_is is.state_is refl
+  by_outcome (Snapshot scope) is = stays_unless _ _ _ _ is.reply_is is.state_is refl
+  by_outcome (Page scope after max) is = stays_unless _ _ _ _ is.reply_is is.state_is refl
   by_outcome (Merge items) is = merge_unless items (first_refusal (against_merge (length items))) is.reply_is is.state_is
 
   wants_not : (command : Command) → MergeWantsRoom s command (Refused refusal) t → ⊥
@@ -155,10 +163,29 @@ merge_stopped_says s t items done fault owes r step =
     record { holds = learnt_is_held s t (Merge items) (MergeStopped done fault owes) r step; some_left = stopped_within s t items done fault owes r step }
 
 -- ---- masks
+flags_long : (items : List Item) (subs : List (Option Subscription)) → length (map (is_owed items) subs) ≡ length subs
+flags_long items [] = refl
+flags_long items (x ∷ subs) = ap suc (flags_long items subs)
+
 pub owed_fits : OwedFits
 owed_fits s items r =
-    let long : length (map (is_owed items) s.subscriptions) ≡ s.limits.subs = length-map (is_owed items) s.subscriptions ∙ r.places in
+    let long : length (map (is_owed items) s.subscriptions) ≡ s.limits.subs = flags_long items s.subscriptions ∙ r.places in
     subst (λ n. owed s items < 2 ^ n) long (mask_small (map (is_owed items) s.subscriptions))
+
+flag_of : (b : Bool) → (cond b 1 0 == 1) ≡ b
+flag_of true = refl
+flag_of false = refl
+
+owed_at : (items : List Item) (subs : List (Option Subscription)) (k : ℕ) → get_or (map (is_owed items) subs) k false ≡ is_owed items (get_or subs k None)
+owed_at items [] zero = refl
+owed_at items [] (suc k) = refl
+owed_at items (x ∷ subs) zero = refl
+owed_at items (x ∷ subs) (suc k) = owed_at items subs k
+
+pub owed_tells : OwedTells
+owed_tells s items k =
+    let flags : List Bool = map (is_owed items) s.subscriptions in
+    ap (λ n. n == 1) (mask_bit flags k) ∙ flag_of (get_or flags k false) ∙ owed_at items s.subscriptions k
 
 -- ---- what took effect, what is live, and whose name it is
 asked_says : (s t : State) (a : Request) (body : Body) (mask : ℕ) → Accepted mask ≡ (asking s a body).0 → t ≡ (asking s a body).1 → IsTaken s (Changed (asked_in s a body) ∷ []) mask t

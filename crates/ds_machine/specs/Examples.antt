@@ -16,7 +16,7 @@ use Rattle.ds_feed.specs.declared.cursor.Cursor.{Cursor}
 use Rattle.ds_held.specs.Limits.{larger}
 use Rattle.ds_machine.specs.State.{State, opening}
 use Rattle.ds_machine.specs.Machine.{outcome}
-use Rattle.ds_machine.specs.declared.refusal.Refusal.TheVariants.{TooMany, NotOwner, Clash, NotAllowed, NoCaller, Stale, Exists, NotFound, OldCursor, Ahead, Behind}
+use Rattle.ds_machine.specs.declared.refusal.Refusal.TheVariants.{TooMany, NotOwner, Clash, NotAllowed, NoCaller, Stale, Exists, NotFound, OldCursor, Ahead, Behind, Worn}
 use Rattle.ds_machine.specs.declared.command.Scope.TheVariants.{All}
 use Rattle.ds_machine.specs.declared.command.Command.{Command}
 use Rattle.ds_machine.specs.declared.command.Command.TheVariants.{Publish, Delete, Sweep, Retrieve, NameOf, Since, Snapshot, Page, Merge}
@@ -132,3 +132,30 @@ PageRow =
         Paged (record { items = driver (codes "tty") 4 18 ∷ []; last = true; cursor = cursor_at 1 4 }) ∷
         Paged (record { items = []; last = true; cursor = cursor_at 1 4 }) ∷
         Refused TooMany ∷ []
+
+-- pages with changes between them, and what the journal gives from the first page's cursor on
+abbrev pub ChangingPagesRow : Type 0
+ChangingPagesRow =
+    replies_from (opening 1 0 256 larger) (
+        Merge (put (codes "a") (codes "eth0") (at 1 0) 1 ∷ put (codes "c") (codes "eth0") (at 1 1) 3 ∷ []) ∷
+        Page All None 1 ∷
+        Merge (Changed (change_of (number (codes "a")) (codes "eth0") (at 1 2) Gone) ∷ put (codes "A") (codes "eth0") (at 1 3) 5 ∷ []) ∷
+        Page All (Some (number (codes "a"))) 1 ∷
+        Since All (cursor_at 1 2) 8 ∷ [])
+    ≡ Merged 2 2 0 0 ∷
+        Paged (record { items = put (codes "a") (codes "eth0") (at 1 0) 1 ∷ []; last = false; cursor = cursor_at 1 2 }) ∷
+        Merged 2 2 0 0 ∷
+        Paged (record { items = put (codes "c") (codes "eth0") (at 1 1) 3 ∷ []; last = true; cursor = cursor_at 1 4 }) ∷
+        Journaled (record { items = Changed (change_of (number (codes "a")) (codes "eth0") (at 1 2) Gone) ∷ put (codes "A") (codes "eth0") (at 1 3) 5 ∷ []; cursor = cursor_at 1 4 }) ∷ []
+
+-- at the last place a repeat is known and a smaller floor stale, and all that would take effect is worn
+abbrev pub LastPlaceRow : Type 0
+LastPlaceRow =
+    replies_from (opening 1 4611686018427387903 256 larger) (
+        Merge (Floored (floor_of (codes "eth0") 3) ∷ []) ∷
+        Merge (Floored (floor_of (codes "eth0") 3) ∷ put (codes "mtu") (codes "eth0") (at 3 0) 1500 ∷ put (codes "mtu") (codes "eth0") (at 4 0) 1500 ∷ []) ∷
+        Sweep rs (codes "eth0") 3 ∷
+        Sweep rs (codes "eth0") 4 ∷
+        Sweep rs (codes "tty") 0 ∷
+        Publish rs (label (codes "eth0")) (at 3 0) (Label (endpoint_of 3 17)) false ∷ [])
+    ≡ Merged 1 1 0 0 ∷ MergeStopped 2 Worn 0 ∷ Swept 0 0 ∷ Refused Worn ∷ Refused Worn ∷ Refused Worn ∷ []

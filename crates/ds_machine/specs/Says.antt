@@ -15,7 +15,8 @@ use Rattle.ds_feed.specs.Since.{IsGiven}
 use Rattle.ds_feed.specs.Page.{snapshot_of, page_of}
 use Rattle.ds_pattern.specs.declared.query.Query.{Query}
 use Rattle.ds_machine.specs.Scope.{is_kept}
-use Rattle.ds_machine.specs.Subscription.{Subscription}
+use Rattle.ds_watch.specs.Mask.{has_bit}
+use Rattle.ds_machine.specs.Subscription.{Subscription, is_owed}
 use Rattle.ds_machine.specs.State.{State, held, cursor, unseen, accepts, owed, subscribes, subscription_at}
 use Rattle.ds_entry.specs.declared.body.Value.{Value}
 use Rattle.ds_machine.specs.Asking.{name_of}
@@ -110,9 +111,13 @@ pub record IsStopped (items : List Item) (done : ℕ) (t : State) : Type 0 where
 abbrev pub MergeStoppedSays : Type 0
 MergeStoppedSays = (s t : State) (items : List Item) (done : ℕ) (fault : Refusal) (owed : ℕ) → IsReached s → Step s (Merge items) (MergeStopped done fault owed) t → IsStopped items done t
 
--- a mask of subscriptions fits, and has the bit of each to which something is owed
+-- a mask of subscriptions fits their places
 abbrev pub OwedFits : Type 0
 OwedFits = (s : State) (items : List Item) → IsReached s → owed s items < 2 ^ s.limits.subs
+
+-- and has the bit of each to which something is owed: a change under its query, or a floor, and of no other
+abbrev pub OwedTells : Type 0
+OwedTells = (s : State) (items : List Item) (k : ℕ) → has_bit (owed s items) k ≡ is_owed items (subscription_at s k)
 
 -- ---- the replies that a command can get
 

@@ -1,9 +1,10 @@
 //! Laws of the machine's steps and runs, over its definitions alone.
 
 ghost use Rattle.ds_machine.specs.Effect.{OpeningIsReached, StepsStayReached, RunsStayReached, StepHasEffect, StepsGoOn, RunsGoOn, HeldIsTop, LearntIsHeld, KnownStaysHeld};
-ghost use Rattle.ds_machine.specs.Examples.{PublishRow, SweepRow, RingRow, PageRow};
+ghost use Rattle.ds_machine.specs.Examples.{PublishRow, SweepRow, RingRow, PageRow, ChangingPagesRow, LastPlaceRow};
 ghost use Rattle.ds_machine.specs.FloorLaws.{AcceptedFloorStands, FloorStandsOverRuns};
-ghost use Rattle.ds_machine.specs.Says.{RefusedSays, ChangedSays, FoundSays, NamedSays, SweptSays, SubscribedSays, CheckedSays, JournaledSays, SnappedSays, PagedSays, MergedSays, MergeStoppedSays, OwedFits, RepliesFit};
+ghost use Rattle.ds_machine.specs.Says.{RefusedSays, ChangedSays, FoundSays, NamedSays, SweptSays, SubscribedSays, CheckedSays, JournaledSays, SnappedSays, PagedSays, MergedSays, MergeStoppedSays, OwedFits, OwedTells, RepliesFit};
+ghost use Rattle.ds_machine.specs.Within.{OpeningIsWithin, StepsStayWithin, RunsStayWithin};
 
 /// The opening state is reached, and each step and each run leads from a state that is reached to another: its accepted
 /// items have a top, which is what is held.
@@ -12,6 +13,13 @@ pub fn states_are_reached()
     ensures steps { StepsStayReached }
     ensures runs { RunsStayReached }
     ensures held { HeldIsTop }
+{}
+
+/// Every state stays within its limits: no more keys and floors are held than may be, and no position or stamp passes 2^62.
+pub fn limits_are_kept()
+    ensures opening { OpeningIsWithin }
+    ensures steps { StepsStayWithin }
+    ensures runs { RunsStayWithin }
 {}
 
 /// A step makes items take effect that its command brought, each of which is news when it comes, or writes the place of one
@@ -47,16 +55,21 @@ pub fn answers_say()
     ensures stopped { MergeStoppedSays }
 {}
 
-/// Each command has replies of its own, and masks of subscriptions fit their limit.
+/// Each command has replies of its own; masks of subscriptions fit their places, and have just the bits of those to which
+/// something is owed.
 pub fn answers_fit()
     ensures replies { RepliesFit }
     ensures owed { OwedFits }
+    ensures bits { OwedTells }
 {}
 
-/// Worked rows, computed: refusals in their order, a floor under what a dead driver left, a ring of two, and pages.
+/// Worked rows, computed: refusals in their order, a floor under what a dead driver left, a ring of two, pages, also with
+/// changes between them, and the last place.
 pub fn rows_are_answered()
     ensures publish { PublishRow }
     ensures sweep { SweepRow }
     ensures ring { RingRow }
     ensures pages { PageRow }
+    ensures changing { ChangingPagesRow }
+    ensures last { LastPlaceRow }
 {}

@@ -12,3 +12,9 @@ returns-clause-ring c = refl
 
 pub returns-clause-pages : goal.returns-clause-pages
 returns-clause-pages c = refl
+
+pub returns-clause-changing : goal.returns-clause-changing
+returns-clause-changing c = refl
+
+pub returns-clause-last : goal.returns-clause-last
+returns-clause-last c = refl
