@@ -4,3 +4,8 @@ pub mod SearchLemmas
 pub mod HeldLemmas
 pub mod MergeLemmas
 pub mod RaiseLemmas
+pub mod JoinLemmas
+pub mod LeftLemmas
+pub mod KeptLemmas
+pub mod DropLemmas
+pub mod MarkLemmas

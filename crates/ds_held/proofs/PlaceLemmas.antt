@@ -72,7 +72,7 @@ module _ {K V X : Type 0} (R : K → K → Ordering) (total : IsTotalOrder R) (e
   pub at_place : (x : X) (xs : List X) (k : K) → Place (x ∷ xs) k (Ok zero) → (row x).0 ≡ k
   at_place x xs k p = exact (row x).0 k (p.1 x)
 
-  tied_place : (x : X) (xs : List X) (k : K) → Place (x ∷ xs) k (Ok zero) → R k (row x).0 ≡ Equal
+  pub tied_place : (x : X) (xs : List X) (k : K) → Place (x ∷ xs) k (Ok zero) → R k (row x).0 ≡ Equal
   tied_place x xs k p = total.antisymm k (row x).0 ∙ ap ordering_reverse (p.1 x)
 
   -- to write an element at its place is to put it into the map

@@ -4,13 +4,15 @@ use Rattle.std.specs.List.{insert, HoldsAt}
 use Rattle.std.specs.List.Sorted.{IsPartitionPoint}
 use Rattle.std.specs.declared.cmp.Ordering.{Ordering}
 use Rattle.std.specs.declared.cmp.Ordering.TheVariants.{Less, Equal, Greater}
-use Rattle.std.specs.FinMap.{from_entries, is_sorted}
+use Rattle.std.specs.FinMap.{FinMap, from_entries, is_sorted}
 use lib.Dec.{T}
 use Rattle.ds_names.specs.declared.key.Key.{Key}
 use Rattle.ds_names.specs.Key.{name_cmp, key_cmp}
 use Rattle.ds_entry.specs.Change.{ChangeRecord, IsChange}
 use Rattle.ds_entry.specs.Void.{voids}
 use Rattle.ds_entry.specs.declared.floor.Floor.{Floor}
+use Rattle.ds_entry.specs.declared.item.Item.{Item}
+use Rattle.ds_entry.specs.declared.item.Item.TheVariants.{Floor as Floored}
 use Rattle.ds_join.specs.declared.merge.Merge.{Merge}
 use Rattle.ds_join.specs.declared.merge.Merge.TheVariants.{Taken, Known, Stale}
 use Rattle.ds_join.specs.declared.merge.JoinFault.{JoinFault}
@@ -25,15 +27,26 @@ owned f = (f.owner, f.generation)
 abbrev pub keyed : ChangeRecord → Key × ChangeRecord
 keyed c = (c.key, c)
 
+-- a floor, as an item
+abbrev pub floored : Floor → Item
+floored f = Floored f
+
 abbrev pub by_owner : List Floor → List (List ℕ × ℕ)
 by_owner floors = map owned floors
 
 abbrev pub by_key : List ChangeRecord → List (Key × ChangeRecord)
 by_key changes = map keyed changes
 
+-- from each owner its floor's generation, and from each key its change
+abbrev pub floors_of : List Floor → FinMap name_cmp ℕ
+floors_of floors = from_entries (by_owner floors)
+
+abbrev pub changes_of : List ChangeRecord → FinMap key_cmp ChangeRecord
+changes_of changes = from_entries (by_key changes)
+
 -- what is held, each floor at its owner and each change at its key
 abbrev pub holding_of : List Floor → List ChangeRecord → LimitsRecord → Holding
-holding_of floors changes limits = record { floors = from_entries (by_owner floors); changes = from_entries (by_key changes); limits = limits }
+holding_of floors changes limits = record { floors = floors_of floors; changes = changes_of changes; limits = limits }
 
 -- the names of owners rise
 abbrev pub AreOwnersRising : List Floor → Type 0

@@ -10,7 +10,7 @@ use Rattle.ds_join.specs.declared.merge.JoinFault.{JoinFault}
 use Rattle.ds_join.specs.declared.merge.JoinFault.TheVariants.{NotOwner, Clash, Full, NoRoom}
 use Rattle.ds_held.specs.Held.{Holding, held_for, held_count, is_void_at}
 
--- the answer to a change of a key that isn't held, where `count` keys are, and `most` may be
+-- the answer to what nothing is held for, where `count` are held, and `most` may be: changes by their keys, floors by owners
 abbrev pub AnswersNew : ℕ → ℕ → Result Merge JoinFault → Type 0
 AnswersNew count most (Ok Taken) = count < most
 AnswersNew count most (Ok Known) = ⊥

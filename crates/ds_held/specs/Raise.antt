@@ -8,34 +8,31 @@ use Rattle.ds_entry.specs.declared.floor.Floor.{Floor}
 use Rattle.ds_join.specs.declared.merge.Merge.{Merge}
 use Rattle.ds_join.specs.declared.merge.Merge.TheVariants.{Taken, Known, Stale}
 use Rattle.ds_join.specs.declared.merge.JoinFault.{JoinFault}
-use Rattle.ds_join.specs.declared.merge.JoinFault.TheVariants.{NotOwner, Clash, Full, NoRoom}
 use Rattle.ds_held.specs.Held.{Holding, floor_for, floor_count}
+use Rattle.ds_held.specs.Merge.{AnswersNew}
 
--- the answer to a floor at `generation`, by the floor that is held of its owner and the number of all floors: only where
--- none is held of its owner can it be refused
+-- the answer to a floor at `generation`, where its owner's is held at another one or the same: none is refused
+abbrev pub AnswersHigher : ℕ → ℕ → Result Merge JoinFault → Type 0
+AnswersHigher held generation (Ok Taken) = held < generation
+AnswersHigher held generation (Ok Known) = held ≡ generation
+AnswersHigher held generation (Ok Stale) = generation < held
+AnswersHigher held generation (Err fault) = ⊥
+
+-- the answer by the floor that is held of its owner, and the number of all floors, which are at most 64
 abbrev pub AnswersFloor : Option ℕ → ℕ → ℕ → Result Merge JoinFault → Type 0
-AnswersFloor None count generation (Ok Taken) = count < 64
-AnswersFloor None count generation (Ok Known) = ⊥
-AnswersFloor None count generation (Ok Stale) = ⊥
-AnswersFloor None count generation (Err NotOwner) = ⊥
-AnswersFloor None count generation (Err (Clash v)) = ⊥
-AnswersFloor None count generation (Err Full) = count ≡ 64
-AnswersFloor None count generation (Err NoRoom) = count < 64
-AnswersFloor (Some held) count generation (Ok Taken) = held < generation
-AnswersFloor (Some held) count generation (Ok Known) = held ≡ generation
-AnswersFloor (Some held) count generation (Ok Stale) = generation < held
-AnswersFloor (Some held) count generation (Err fault) = ⊥
+AnswersFloor None count generation answer = AnswersNew count 64 answer
+AnswersFloor (Some held) count generation answer = AnswersHigher held generation answer
 
 -- the answer to the raising of a floor
 abbrev pub RaiseAnswer : Holding → Floor → Result Merge JoinFault → Type 0
 RaiseAnswer old f answer = AnswersFloor (floor_for old f.owner) (floor_count old) f.generation answer
 
--- there is a change, and the floor doesn't make it void; where there is none nothing is to be dropped
+-- the floor doesn't make the change void, where there is a change
 abbrev pub stays : Floor → Option ChangeRecord → Bool
 stays f None = true
 stays f (Some c) = not (voids f c)
 
--- of what stands at the keys only that at the keys of changes that the floor doesn't make void
+-- what stands at keys, without that at the keys of changes that the floor makes void
 abbrev pub at_kept_keys : {X : Type 0} → Floor → FinMap key_cmp ChangeRecord → FinMap key_cmp X → FinMap key_cmp X
 at_kept_keys f changes m = retain_keys m (λ key. stays f (get changes key))
 

@@ -1,12 +1,13 @@
 //! Floors in the order of their owners' names.
 
-ghost use Rattle.std.specs.Prelude.{◌≡◌, ◌≤◌, ◌<◌, ℕ, Some, None, Result, Ok, length, vec_len, slice_index_or, slice_set};
-ghost use Rattle.std.specs.FinMap.{get, len, from_entries};
+ghost use Rattle.std.specs.Prelude.{◌≡◌, ◌≤◌, ◌<◌, ℕ, Result, Ok, length, vec_len, slice_index_or, slice_set};
+ghost use Rattle.std.specs.FinMap.{get, len};
 ghost use Rattle.std.specs.List.{insert};
 ghost use Rattle.ds_names.specs.Key.{name_cmp};
 ghost use Rattle.ds_held.specs.Held.{is_below};
-ghost use Rattle.ds_held.specs.Kept.{AreOwnersRising, IsFloorPlace, by_owner, list_after, put_at};
-ghost use Rattle.ds_held.specs.Raise.{AnswersFloor};
+ghost use Rattle.ds_held.specs.Kept.{AreOwnersRising, IsFloorPlace, floors_of, list_after, put_at};
+ghost use Rattle.ds_held.specs.Merge.{AnswersNew};
+ghost use Rattle.ds_held.specs.Raise.{AnswersFloor, AnswersHigher};
 
 use ds_entry::{Change, Floor};
 use ds_join::{JoinFault, Merge};
@@ -27,7 +28,7 @@ fn place_of(floors: &[Floor], owner: &Name) -> Result<usize, usize>
 // The generation of an owner's floor.
 pub(crate) fn floor_at(floors: &[Floor], owner: &Name) -> Option<Generation>
     requires { AreOwnersRising floors.now }
-    ensures { result ≡ get (from_entries (by_owner floors.now)) owner.now }
+    ensures { result ≡ get (floors_of floors.now) owner.now }
 {
     match place_of(floors, owner) {
         Ok(i) => Some(floors[i].generation),
@@ -38,7 +39,7 @@ pub(crate) fn floor_at(floors: &[Floor], owner: &Name) -> Option<Generation>
 // Whether the floor of its owner makes the change void.
 pub(crate) fn is_void(floors: &[Floor], change: &Change) -> bool
     requires { AreOwnersRising floors.now }
-    ensures { result ≡ is_below (get (from_entries (by_owner floors.now)) change.now.owner) change.now }
+    ensures { result ≡ is_below (get (floors_of floors.now) change.now.owner) change.now }
 {
     let owner = *change.owner();
     match floor_at(floors, &owner) {
@@ -49,7 +50,7 @@ pub(crate) fn is_void(floors: &[Floor], change: &Change) -> bool
 
 // What a floor is answered where another one of its owner is held.
 fn judge(held: Generation, floor: &Floor) -> Merge
-    ensures { (count : ℕ) → AnswersFloor (Some held) count floor.now.generation (Ok result) }
+    ensures { AnswersHigher held floor.now.generation (Ok result) }
 {
     match held.cmp(&floor.generation) {
         Ordering::Less => Merge::Taken,
@@ -61,7 +62,7 @@ fn judge(held: Generation, floor: &Floor) -> Merge
 // Raises the floor at an index. It takes no memory.
 fn replace(floors: &mut Vec<Floor>, i: usize, floor: Floor) -> Merge
     requires { i < vec_len floors.old }
-    ensures answer { (count : ℕ) → AnswersFloor (Some (slice_index_or floors.old.items i floor).generation) count floor.generation (Ok result) }
+    ensures answer { AnswersHigher (slice_index_or floors.old.items i floor).generation floor.generation (Ok result) }
     ensures floors { floors.new.items ≡ list_after floors.old.items (slice_set floors.old.items i floor) (Ok result) }
 {
     let answer = judge(floors[i].generation, &floor);
@@ -75,7 +76,7 @@ fn replace(floors: &mut Vec<Floor>, i: usize, floor: Floor) -> Merge
 fn add(floors: &mut Vec<Floor>, i: usize, floor: Floor) -> Result<Merge, JoinFault>
     requires within { i ≤ vec_len floors.old }
     requires few { vec_len floors.old ≤ 64 }
-    ensures answer { AnswersFloor None (length floors.old.items) floor.generation result }
+    ensures answer { AnswersNew (length floors.old.items) 64 result }
     ensures floors { floors.new.items ≡ list_after floors.old.items (insert floors.old.items i floor) result }
 {
     if floors.len() >= MOST_FLOORS {
@@ -91,7 +92,7 @@ fn add(floors: &mut Vec<Floor>, i: usize, floor: Floor) -> Result<Merge, JoinFau
 pub(crate) fn raise(floors: &mut Vec<Floor>, floor: Floor) -> Result<Merge, JoinFault>
     requires rising { AreOwnersRising floors.old.items }
     requires few { length floors.old.items ≤ 64 }
-    ensures answer { AnswersFloor (get (from_entries (by_owner floors.old.items)) floor.owner) (length floors.old.items) floor.generation result }
+    ensures answer { AnswersFloor (get (floors_of floors.old.items) floor.owner) (len (floors_of floors.old.items)) floor.generation result }
     ensures floors { (place : Result ℕ ℕ) × IsFloorPlace floors.old.items floor.owner place × (floors.new.items ≡ list_after floors.old.items (put_at floors.old.items place floor) result) }
 {
     match place_of(floors, &floor.owner) {

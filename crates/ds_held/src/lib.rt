@@ -6,6 +6,16 @@
 //! neither versions nor floors.
 #![tactic(auto)]
 
+mod floors;
+mod held;
+mod join;
 mod limits;
+mod list;
+mod marked;
+mod order;
+mod reading;
+mod void;
 
+pub use held::Held;
 pub use limits::Limits;
+pub use marked::Marked;

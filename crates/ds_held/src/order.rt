@@ -1,16 +1,16 @@
 //! A list of changes in the order of their keys.
 
 ghost use Rattle.std.specs.Prelude.{◌≡◌, IfSome, slice_get};
-ghost use Rattle.std.specs.FinMap.{get, from_entries};
-ghost use Rattle.std.specs.Option.{option_copied};
+ghost use Rattle.std.specs.FinMap.{get};
+ghost use Rattle.std.specs.Option.{option_copied, option_map};
 ghost use Rattle.std.specs.List.{find};
-ghost use Rattle.ds_entry.specs.Change.{IsChange};
+ghost use Rattle.ds_entry.specs.Change.{ChangeRecord, IsChange};
 ghost use Rattle.ds_join.specs.Label.{names_endpoint};
 ghost use Rattle.ds_join.specs.Reading.{comes_after};
-ghost use Rattle.ds_held.specs.Kept.{AreKeysRising, IsPlace, by_key};
+ghost use Rattle.ds_held.specs.Kept.{AreKeysRising, IsPlace, changes_of};
 
 use ds_entry::{Body, Change, Value};
-use ds_names::{Endpoint, Key};
+use ds_names::{Endpoint, Key, Name};
 use std::cmp::Ordering;
 
 // Where the change of a key stands, or else where it would.
@@ -34,7 +34,7 @@ pub(crate) fn nth(changes: &[Change], index: usize) -> Option<&Change>
 // The change of a key.
 pub(crate) fn change_at<'a>(changes: &'a [Change], key: &Key) -> Option<&'a Change>
     requires { AreKeysRising changes.now }
-    ensures value { option_copied result ≡ get (from_entries (by_key changes.now)) key.now }
+    ensures value { option_copied result ≡ get (changes_of changes.now) key.now }
     ensures change { IfSome (option_copied result) IsChange }
 {
     match place_of(changes, key) {
@@ -74,10 +74,18 @@ fn names_endpoint(change: &Change, endpoint: Endpoint) -> bool
 }
 
 // The live label that holds the endpoint, the one of the least key.
-pub(crate) fn label_of<'a>(changes: &'a [Change], endpoint: Endpoint) -> Option<&'a Change>
+fn label_of<'a>(changes: &'a [Change], endpoint: Endpoint) -> Option<&'a Change>
     ensures { option_copied result ≡ find (names_endpoint endpoint) changes.now }
 {
     changes
         .iter()
         .find(|change| names_endpoint(change, endpoint))
+}
+
+// Its name.
+pub(crate) fn name_of<'a>(changes: &'a [Change], endpoint: Endpoint) -> Option<&'a Name>
+    ensures { option_copied result ≡ option_map (λ (c : ChangeRecord). c.key.name) (find (names_endpoint endpoint) changes.now) }
+{
+    let change = label_of(changes, endpoint)?;
+    Some(&change.key().name)
 }

@@ -1,0 +1,292 @@
+//! Holders of changes and floors.
+
+ghost use Rattle.std.specs.Prelude.{◌≡◌, ◌≤◌, ◌++◌, ◌∷◌, [], length, All, Ok, IfOk, IfErr, IfSome, OnOk, option_and_then, slice_get, take};
+ghost use Rattle.std.specs.Option.{option_copied, option_map};
+ghost use Rattle.std.specs.List.{find};
+ghost use Rattle.ds_entry.specs.Change.{ChangeRecord, IsChange, IsValue};
+ghost use Rattle.ds_entry.specs.declared.item.Item.TheVariants.{Change as Changed, Floor as Floored};
+ghost use Rattle.ds_join.specs.Reading.{value_of, comes_after};
+ghost use Rattle.ds_join.specs.Label.{names_endpoint};
+ghost use Rattle.ds_join.specs.ItemTop.{IsTop};
+ghost use Rattle.ds_join.specs.ItemJoin.{IsJoin};
+ghost use Rattle.ds_join.specs.declared.merge.Merge.TheVariants.{Taken};
+ghost use Rattle.ds_held.specs.Beside.{marks_left};
+ghost use Rattle.ds_held.specs.Held.{held_changes, held_items, held_for, held_count, floor_for, nothing_held, IsSound};
+ghost use Rattle.ds_held.specs.Join.{AreMerged, IsStopped};
+ghost use Rattle.ds_held.specs.Kept.{left_by, list_after, put_at, IsPlace, IsPut};
+ghost use Rattle.ds_held.specs.Limits.{larger};
+ghost use Rattle.ds_held.specs.Merge.{after_merge, IsRefused, MergeAnswer};
+ghost use Rattle.ds_held.specs.Raise.{after_raise, RaiseAnswer};
+
+use crate::floors::floor_at;
+use crate::join::join_into;
+use crate::limits::Limits;
+use crate::list::{merge_copy, merge_into, outlook, put};
+use crate::order::{change_at, first_of, name_of, nth, place_of};
+use crate::reading::copy_all;
+use crate::void::{raise_beside, raise_into};
+use ds_entry::{Body, Change, Floor, ItemList, Value};
+use ds_join::{JoinFault, Merge, Stop};
+use ds_names::{Endpoint, Generation, Key, Name, NoRoom};
+use std::alloc::Global;
+use std::marker::Model;
+
+/// For each owner the greatest floor that came, and for each key the change with the greatest version of those that no
+/// floor makes void, tombstones too; at most 64 floors, and as many keys as its limits say.
+///
+/// So where a floor of an owner is held, nothing of the owner's generations up to it is held but labels, and no call brings
+/// any: what a dropped tombstone had deleted doesn't come back.
+#[derive(Debug, Drop)]
+pub struct Held {
+    floors: Vec<Floor>,
+    changes: Vec<Change>,
+    limits: Limits,
+}
+
+impl Model for Held {
+    ghost use Rattle.std.specs.Prelude.{ℕ};
+    ghost use Rattle.std.specs.FinMap as map;
+    ghost use Rattle.std.specs.Coded.{code_by, coded×};
+    ghost use Rattle.ds_names.specs.Key.{name_cmp, key_cmp};
+    ghost use Rattle.ds_names.specs.contracts.key.Key.{the_row as key_row};
+    ghost use Rattle.ds_names.specs.contracts.name.Name.{the_row as name_row};
+    ghost use Rattle.ds_names.specs.contracts.endpoint.Generation.{the_row as generation_row};
+    ghost use Rattle.ds_entry.specs.Change.{ChangeRecord};
+    ghost use Rattle.ds_entry.specs.contracts.change.Change.{the_row as change_row};
+    ghost use Rattle.ds_held.specs.contracts.limits.Limits.{the_row as limits_row};
+    ghost use Rattle.ds_held.specs.Limits.{LimitsRecord};
+    ghost use Rattle.ds_held.specs.Held.{Holding};
+
+    ghost Value = { Holding };
+
+    ghost coded = { code_by (map.FinMap name_cmp ℕ × (map.FinMap key_cmp ChangeRecord × LimitsRecord)) (coded× (map.code name_row.coded generation_row.coded) (coded× (map.code key_row.coded change_row.coded) limits_row.coded)) (λ h. (h.floors, (h.changes, h.limits))) (λ p. record { floors = p.0; changes = p.1.0; limits = p.1.1 }) (λ h i. h) };
+
+    ghost use Rattle.ds_held.specs.Kept.{holding_of, IsKept};
+
+    ghost view = { λ h. holding_of h.floors.items h.changes.items h.limits };
+
+    ghost invariant = { λ h. IsKept h.floors.items h.changes.items h.limits };
+}
+
+impl Held {
+    /// A holder of nothing, for up to 4096 keys. It takes no memory.
+    pub fn new(alloc: Global) -> Held
+        ensures { result ≡ nothing_held larger }
+    {
+        Held::bounded(alloc, Limits::larger())
+    }
+
+    /// A holder of nothing, with these limits. It takes no memory.
+    pub fn bounded(alloc: Global, limits: Limits) -> Held
+        ensures { result ≡ nothing_held limits }
+    {
+        Held {
+            floors: Vec::new(alloc),
+            changes: Vec::new(alloc),
+            limits,
+        }
+    }
+
+    /// Holds nothing again, neither tombstones nor floors. Its limits stay. It takes no memory.
+    pub fn clear(&mut self)
+        ensures value { self.new ≡ nothing_held self.old.limits }
+        ensures sound { IsSound self.new }
+    {
+        self.floors.clear();
+        self.changes.clear();
+    }
+
+    /// How many keys are held, those of tombstones too. Floors aren't counted.
+    pub fn len(&self) -> usize
+        ensures count { result ≡ held_count self.now }
+        ensures few { result ≤ self.now.limits.keys }
+        ensures sound { IsSound self.now }
+        ensures changes { All IsChange (held_changes self.now) }
+    {
+        self.changes.len()
+    }
+
+    /// Its limits.
+    pub fn limits(&self) -> Limits
+        ensures { result ≡ self.now.limits }
+    {
+        self.limits
+    }
+
+    /// The generation of an owner's floor.
+    pub fn floor(&self, owner: &Name) -> Option<Generation>
+        ensures value { result ≡ floor_for self.now owner.now }
+        ensures sound { IsSound self.now }
+    {
+        floor_at(&self.floors, owner)
+    }
+
+    /// The change that is held for a key.
+    pub fn get(&self, key: &Key) -> Option<&Change>
+        ensures value { option_copied result ≡ held_for self.now key.now }
+        ensures sound { IsSound self.now }
+        ensures change { IfSome (option_copied result) IsChange }
+    {
+        change_at(&self.changes, key)
+    }
+
+    /// The value that stands under a key. A tombstone leaves none.
+    pub fn live(&self, key: &Key) -> Option<&Value>
+        ensures value { option_copied result ≡ option_and_then value_of (held_for self.now key.now) }
+        ensures valid { IfSome (option_copied result) IsValue }
+    {
+        match self.get(key)?.body() {
+            Body::Put(value) => Some(value),
+            Body::Gone => None,
+        }
+    }
+
+    /// The change at an index from 0, in the order of the keys. `None` behind the last one.
+    pub fn at(&self, index: usize) -> Option<&Change>
+        ensures value { option_copied result ≡ slice_get (held_changes self.now) index }
+        ensures change { IfSome (option_copied result) IsChange }
+    {
+        nth(&self.changes, index)
+    }
+
+    /// The change of the least key, of those after another one where one is given.
+    pub fn first_after(&self, after: Option<&Key>) -> Option<&Change>
+        ensures value { option_copied result ≡ find (comes_after (option_copied after.entry)) (held_changes self.now) }
+        ensures change { IfSome (option_copied result) IsChange }
+    {
+        first_of(&self.changes, after)
+    }
+
+    /// The least name whose live label holds an endpoint. `None` where no live label does. It takes no memory.
+    ///
+    /// MINIX 3's DS names an endpoint by whichever label it finds first; that it is the least one is of this project.
+    pub fn label_at(&self, endpoint: Endpoint) -> Option<&Name>
+        ensures { option_copied result ≡ option_map (λ (c : ChangeRecord). c.key.name) (find (names_endpoint endpoint) (held_changes self.now)) }
+    {
+        name_of(&self.changes, endpoint)
+    }
+
+    /// All that is held: the floors by the names of their owners, and then the changes in the order of the keys.
+    pub fn all(&self, alloc: Global) -> Result<ItemList, NoRoom>
+        ensures value { IfOk result (λ items. items ≡ held_items self.now) }
+        ensures changes { All IsChange (held_changes self.now) }
+    {
+        copy_all(alloc, &self.floors, &self.changes)
+    }
+
+    /// Takes a change over, unless what is held covers it: a greater version of its key, or a floor. What isn't refused
+    /// leaves the join of what was held and the change.
+    ///
+    /// A change of a held key takes its place and no memory, and a void change takes none. The causes of a refusal are
+    /// judged in the order of [`JoinFault`]'s variants; a void change is stale behind NotOwner and before all others. A
+    /// refusal changes nothing.
+    pub fn merge(&mut self, change: Change) -> Result<Merge, JoinFault>
+        ensures answer { MergeAnswer self.old change result }
+        ensures after { self.new ≡ after_merge self.old change result }
+        ensures joined { OnOk result (IsTop (held_items self.new) (held_items self.old ++ Changed change ∷ [])) }
+        ensures sound { IsSound self.new }
+        ensures change { IsChange change }
+    {
+        merge_into(&self.floors, &mut self.changes, self.limits, change)
+    }
+
+    /// Merges a change that someone else keeps, as `merge` does. It is copied only where it will be taken, so that a
+    /// change which is known, stale or refused takes no memory.
+    pub fn merge_copy(&mut self, alloc: Global, change: &Change) -> Result<Merge, JoinFault>
+        ensures answer { OnOk result (MergeAnswer self.old change.now result) }
+        ensures refused { IfErr result (IsRefused self.old change.now) }
+        ensures after { self.new ≡ after_merge self.old change.now result }
+        ensures joined { OnOk result (IsTop (held_items self.new) (held_items self.old ++ Changed change.now ∷ [])) }
+        ensures sound { IsSound self.new }
+    {
+        merge_copy(alloc, &self.floors, &mut self.changes, self.limits, change)
+    }
+
+    /// Raises the floor of an owner, and drops what it makes void, tombstones too. What isn't refused leaves the join of
+    /// what was held and the floor.
+    ///
+    /// The same floor again is known, and a lower one is stale. `Full` where 64 others have floors and the owner has none.
+    /// It takes memory only for an owner who has none. A refusal changes nothing.
+    pub fn raise(&mut self, floor: Floor) -> Result<Merge, JoinFault>
+        ensures answer { RaiseAnswer self.old floor result }
+        ensures after { self.new ≡ after_raise self.old floor result }
+        ensures joined { OnOk result (IsTop (held_items self.new) (held_items self.old ++ Floored floor ∷ [])) }
+        ensures sound { IsSound self.new }
+    {
+        raise_into(&mut self.floors, &mut self.changes, self.limits, floor)
+    }
+
+    /// Joins with all that another one holds: raises its floors, by the names of their owners, and then merges its changes,
+    /// in the order of the keys, each as `raise` and `merge_copy` do. It stops at the first that is refused.
+    ///
+    /// Stale and known items count as done. `Ok` leaves the join of both.
+    pub fn join(&mut self, alloc: Global, other: &Held) -> Result<(), Stop>
+        ensures joined { OnOk result (IsJoin (held_items self.new) (held_items self.old) (held_items other.now)) }
+        ensures each { OnOk result (AreMerged self.old (held_items other.now) self.new) }
+        ensures stopped { IfErr result (IsStopped self.old (held_items other.now) self.new) }
+        ensures kept { IfErr result (λ stop. IsTop (held_items self.new) (held_items self.old ++ take stop.done (held_items other.now))) }
+        ensures sound { IsSound self.new }
+    {
+        let _most = other.limits.keys();
+        join_into(
+            alloc,
+            &mut self.floors,
+            &mut self.changes,
+            self.limits,
+            &other.floors,
+            &other.changes,
+        )
+    }
+
+    // Where the change of a key stands, or else where it would.
+    pub(crate) fn place(&self, key: &Key) -> Result<usize, usize>
+        ensures { IsPlace (held_changes self.now) key.now result }
+    {
+        place_of(&self.changes, key)
+    }
+
+    // What a change, whose place is told, is answered, where there is memory for it.
+    pub(crate) fn outlook(
+        &self,
+        place: Result<usize, usize>,
+        change: &Change,
+    ) -> Result<Merge, JoinFault>
+        requires { IsPlace (held_changes self.now) change.now.key place }
+        ensures { MergeAnswer self.now change.now result }
+    {
+        outlook(&self.floors, &self.changes, self.limits, place, change)
+    }
+
+    // Puts a change that is to be taken at its place.
+    pub(crate) fn put(
+        &mut self,
+        place: Result<usize, usize>,
+        change: Change,
+    ) -> Result<Merge, JoinFault>
+        requires place { IsPlace (held_changes self.old) change.key place }
+        requires taken { MergeAnswer self.old change (Ok Taken) }
+        ensures put { IsPut place result }
+        ensures after { self.new ≡ after_merge self.old change result }
+        ensures list { held_changes self.new ≡ list_after (held_changes self.old) (put_at (held_changes self.old) place change) result }
+        ensures sound { IsSound self.new }
+        ensures change { IsChange change }
+    {
+        put(&mut self.changes, place, change)
+    }
+
+    // Raises a floor, and drops the marks of the changes that it makes void with them.
+    pub(crate) fn raise_beside<M: Drop>(
+        &mut self,
+        marks: &mut Vec<M>,
+        floor: Floor,
+    ) -> Result<Merge, JoinFault>
+        requires { length marks.old.items ≡ length (held_changes self.old) }
+        ensures answer { RaiseAnswer self.old floor result }
+        ensures after { self.new ≡ after_raise self.old floor result }
+        ensures list { held_changes self.new ≡ list_after (held_changes self.old) (left_by floor (held_changes self.old)) result }
+        ensures marks { marks.new.items ≡ list_after marks.old.items (marks_left floor (held_changes self.old) marks.old.items) result }
+        ensures sound { IsSound self.new }
+    {
+        raise_beside(&mut self.floors, &mut self.changes, marks, self.limits, floor)
+    }
+}

@@ -1,0 +1,85 @@
+//! Joining with all that another holder has.
+
+ghost use Rattle.std.specs.Prelude.{◌≡◌, ◌≤◌, ◌<◌, ◌++◌, map, length, IfErr, OnOk};
+ghost use Rattle.ds_held.specs.Held.{change_item};
+ghost use Rattle.ds_held.specs.Join.{AreMerged, IsStopped};
+ghost use Rattle.ds_held.specs.Kept.{floored, holding_of, IsKept};
+
+use crate::limits::Limits;
+use crate::list::merge_copy;
+use crate::void::raise_into;
+use ds_entry::{Change, Floor};
+use ds_join::Stop;
+use std::alloc::Global;
+
+// Raises the floors of another holder, in their order.
+fn raise_all(
+    floors: &mut Vec<Floor>,
+    changes: &mut Vec<Change>,
+    limits: Limits,
+    other: &[Floor],
+) -> Result<(), Stop>
+    requires { IsKept floors.old.items changes.old.items limits }
+    ensures merged { OnOk result (AreMerged (holding_of floors.old.items changes.old.items limits) (map floored other.now) (holding_of floors.new.items changes.new.items limits)) }
+    ensures stopped { IfErr result (IsStopped (holding_of floors.old.items changes.old.items limits) (map floored other.now) (holding_of floors.new.items changes.new.items limits)) }
+    ensures kept { IsKept floors.new.items changes.new.items limits }
+{
+    let mut done = 0;
+    for floor in other {
+        match raise_into(floors, changes, limits, *floor) {
+            Ok(_) => done += 1,
+            Err(fault) => return Err(Stop { done, fault }),
+        }
+    }
+    Ok(())
+}
+
+// Merges the changes of another holder, in their order.
+fn merge_all(
+    alloc: Global,
+    floors: &[Floor],
+    changes: &mut Vec<Change>,
+    limits: Limits,
+    other: &[Change],
+) -> Result<(), Stop>
+    requires { IsKept floors.now changes.old.items limits }
+    ensures merged { OnOk result (AreMerged (holding_of floors.now changes.old.items limits) (map change_item other.now) (holding_of floors.now changes.new.items limits)) }
+    ensures stopped { IfErr result (IsStopped (holding_of floors.now changes.old.items limits) (map change_item other.now) (holding_of floors.now changes.new.items limits)) }
+    ensures within { IfErr result (λ stop. stop.done < length other.now) }
+    ensures kept { IsKept floors.now changes.new.items limits }
+{
+    let mut done = 0;
+    for change in other {
+        match merge_copy(alloc, floors, changes, limits, change) {
+            Ok(_) => done += 1,
+            Err(fault) => return Err(Stop { done, fault }),
+        }
+    }
+    Ok(())
+}
+
+// Raises the floors of another holder, and then merges its changes.
+pub(crate) fn join_into(
+    alloc: Global,
+    floors: &mut Vec<Floor>,
+    changes: &mut Vec<Change>,
+    limits: Limits,
+    other_floors: &[Floor],
+    other_changes: &[Change],
+) -> Result<(), Stop>
+    requires kept { IsKept floors.old.items changes.old.items limits }
+    requires few_floors { length other_floors.now ≤ 64 }
+    requires few { length other_changes.now ≤ 4096 }
+    ensures merged { OnOk result (AreMerged (holding_of floors.old.items changes.old.items limits) (map floored other_floors.now ++ map change_item other_changes.now) (holding_of floors.new.items changes.new.items limits)) }
+    ensures stopped { IfErr result (IsStopped (holding_of floors.old.items changes.old.items limits) (map floored other_floors.now ++ map change_item other_changes.now) (holding_of floors.new.items changes.new.items limits)) }
+    ensures kept { IsKept floors.new.items changes.new.items limits }
+{
+    raise_all(floors, changes, limits, other_floors)?;
+    match merge_all(alloc, floors, changes, limits, other_changes) {
+        Ok(()) => Ok(()),
+        Err(Stop { done, fault }) => Err(Stop {
+            done: other_floors.len() + done,
+            fault,
+        }),
+    }
+}

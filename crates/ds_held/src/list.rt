@@ -1,0 +1,152 @@
+//! Merging into a list of changes in the order of their keys, over floors.
+
+ghost use Rattle.std.specs.Prelude.{◌≡◌, ◌≤◌, Ok, IfErr, OnOk, vec_len};
+ghost use Rattle.ds_entry.specs.Change.{IsChange};
+ghost use Rattle.ds_held.specs.Kept.{holding_of, left_by, list_after, put_at, IsKept, IsPlace, IsPut};
+ghost use Rattle.ds_held.specs.Merge.{after_merge, AnswersHeld, AnswersNew, AnswersOwn, IsRefused, MergeAnswer, UnlessVoid};
+
+use crate::floors::is_void;
+use crate::limits::Limits;
+use crate::order::place_of;
+use ds_entry::{Change, Floor};
+use ds_join::{JoinFault, Merge};
+use ds_names::NoRoom;
+use std::alloc::Global;
+use std::cmp::Ordering;
+
+// What the change of a held key of its owner is answered.
+fn judge_own(held: &Change, change: &Change) -> Result<Merge, JoinFault>
+    requires key { held.now.key ≡ change.now.key }
+    requires owner { held.now.owner ≡ change.now.owner }
+    ensures { AnswersOwn held.now change.now result }
+{
+    let version = change.version();
+    match held.version().compare(&version) {
+        Ordering::Less => Ok(Merge::Taken),
+        Ordering::Greater => Ok(Merge::Stale),
+        Ordering::Equal if held.body() == change.body() => Ok(Merge::Known),
+        Ordering::Equal => Err(JoinFault::Clash { version }),
+    }
+}
+
+// What the change of a held key is answered.
+fn judge(held: &Change, is_void: bool, change: &Change) -> Result<Merge, JoinFault>
+    requires { held.now.key ≡ change.now.key }
+    ensures { AnswersHeld held.now is_void change.now result }
+{
+    if held.owner() != change.owner() {
+        Err(JoinFault::NotOwner)
+    } else if is_void {
+        Ok(Merge::Stale)
+    } else {
+        judge_own(held, change)
+    }
+}
+
+// What the change of a key that isn't held is answered, where there is memory for it.
+fn judge_new(count: usize, most: usize, is_void: bool) -> Result<Merge, JoinFault>
+    requires { count ≤ most }
+    ensures { UnlessVoid is_void (AnswersNew count most result) result }
+{
+    if is_void {
+        Ok(Merge::Stale)
+    } else if count >= most {
+        Err(JoinFault::Full)
+    } else {
+        Ok(Merge::Taken)
+    }
+}
+
+// What a change, whose place is told, is answered, where there is memory for it.
+pub(crate) fn outlook(
+    floors: &[Floor],
+    changes: &[Change],
+    limits: Limits,
+    place: Result<usize, usize>,
+    change: &Change,
+) -> Result<Merge, JoinFault>
+    requires kept { IsKept floors.now changes.now limits }
+    requires place { IsPlace changes.now change.now.key place }
+    ensures { MergeAnswer (holding_of floors.now changes.now limits) change.now result }
+{
+    let is_void = is_void(floors, change);
+    match place {
+        Ok(i) => judge(&changes[i], is_void, change),
+        Err(_) => judge_new(changes.len(), limits.keys(), is_void),
+    }
+}
+
+// Puts a change at its place. In the place of another one it takes no memory.
+pub(crate) fn put(
+    changes: &mut Vec<Change>,
+    place: Result<usize, usize>,
+    change: Change,
+) -> Result<Merge, JoinFault>
+    requires { IsPlace changes.old.items change.key place }
+    ensures answer { IsPut place result }
+    ensures changes { changes.new.items ≡ list_after changes.old.items (put_at changes.old.items place change) result }
+    ensures change { IsChange change }
+{
+    let _key = change.key();
+    match place {
+        Ok(i) => {
+            changes[i] = change;
+            Ok(Merge::Taken)
+        }
+        Err(i) => match changes.insert(i, change) {
+            Ok(()) => Ok(Merge::Taken),
+            Err(_) => Err(JoinFault::NoRoom),
+        },
+    }
+}
+
+// Merges a change.
+pub(crate) fn merge_into(
+    floors: &[Floor],
+    changes: &mut Vec<Change>,
+    limits: Limits,
+    change: Change,
+) -> Result<Merge, JoinFault>
+    requires { IsKept floors.now changes.old.items limits }
+    ensures answer { MergeAnswer (holding_of floors.now changes.old.items limits) change result }
+    ensures after { holding_of floors.now changes.new.items limits ≡ after_merge (holding_of floors.now changes.old.items limits) change result }
+    ensures kept { IsKept floors.now changes.new.items limits }
+    ensures change { IsChange change }
+{
+    let place = place_of(changes, change.key());
+    match outlook(floors, changes, limits, place, &change)? {
+        Merge::Taken => put(changes, place, change),
+        other => Ok(other),
+    }
+}
+
+// Merges a change that someone else keeps: it is copied only where it will be taken.
+pub(crate) fn merge_copy(
+    alloc: Global,
+    floors: &[Floor],
+    changes: &mut Vec<Change>,
+    limits: Limits,
+    change: &Change,
+) -> Result<Merge, JoinFault>
+    requires { IsKept floors.now changes.old.items limits }
+    ensures answer { OnOk result (MergeAnswer (holding_of floors.now changes.old.items limits) change.now result) }
+    ensures refused { IfErr result (IsRefused (holding_of floors.now changes.old.items limits) change.now) }
+    ensures after { holding_of floors.now changes.new.items limits ≡ after_merge (holding_of floors.now changes.old.items limits) change.now result }
+    ensures kept { IsKept floors.now changes.new.items limits }
+{
+    let place = place_of(changes, change.key());
+    match outlook(floors, changes, limits, place, change)? {
+        Merge::Taken => match change.copy(alloc) {
+            Ok(copy) => put(changes, place, copy),
+            Err(NoRoom) => Err(JoinFault::NoRoom),
+        },
+        other => Ok(other),
+    }
+}
+
+// Drops the changes that a floor makes void. It takes no memory.
+pub(crate) fn drop_void(changes: &mut Vec<Change>, floor: &Floor)
+    ensures { changes.new.items ≡ left_by floor.now changes.old.items }
+{
+    changes.retain(|change| !floor.voids(change));
+}

@@ -1,0 +1,43 @@
+//! Copies of all that is held.
+
+ghost use Rattle.std.specs.Prelude.{◌≡◌, ◌++◌, map, IfOk, OnOk};
+ghost use Rattle.ds_held.specs.Held.{change_item};
+ghost use Rattle.ds_held.specs.Kept.{floored};
+
+use ds_entry::{Change, Floor, Item, ItemList};
+use ds_names::NoRoom;
+use std::alloc::Global;
+
+// Adds the floors to a list of items.
+fn add_floors(items: &mut ItemList, floors: &[Floor]) -> Result<(), NoRoom>
+    ensures { OnOk result (items.new ≡ items.old ++ map floored floors.now) }
+{
+    for floor in floors {
+        items.push(Item::Floor(*floor))?;
+    }
+    Ok(())
+}
+
+// Adds the changes to a list of items.
+fn add_changes(alloc: Global, items: &mut ItemList, changes: &[Change]) -> Result<(), NoRoom>
+    ensures { OnOk result (items.new ≡ items.old ++ map change_item changes.now) }
+{
+    for change in changes {
+        items.push(Item::Change(change.copy(alloc)?))?;
+    }
+    Ok(())
+}
+
+// All of them, the floors first.
+pub(crate) fn copy_all(
+    alloc: Global,
+    floors: &[Floor],
+    changes: &[Change],
+) -> Result<ItemList, NoRoom>
+    ensures { IfOk result (λ items. items ≡ map floored floors.now ++ map change_item changes.now) }
+{
+    let mut items = ItemList::new(alloc);
+    add_floors(&mut items, floors)?;
+    add_changes(alloc, &mut items, changes)?;
+    Ok(items)
+}

@@ -1,0 +1,75 @@
+//! Raising a floor over a list of changes, which drops what it makes void.
+
+ghost use Rattle.std.specs.Prelude.{◌≡◌, length};
+ghost use Rattle.ds_held.specs.Beside.{marks_left};
+ghost use Rattle.ds_held.specs.Kept.{holding_of, left_by, list_after, IsKept};
+ghost use Rattle.ds_held.specs.Raise.{after_raise, RaiseAnswer};
+
+use crate::floors::raise;
+use crate::limits::Limits;
+use crate::list::drop_void;
+use ds_entry::{Change, Floor};
+use ds_join::{JoinFault, Merge};
+
+// Raises the floor of an owner, and drops the changes that it makes void.
+pub(crate) fn raise_into(
+    floors: &mut Vec<Floor>,
+    changes: &mut Vec<Change>,
+    limits: Limits,
+    floor: Floor,
+) -> Result<Merge, JoinFault>
+    requires { IsKept floors.old.items changes.old.items limits }
+    ensures answer { RaiseAnswer (holding_of floors.old.items changes.old.items limits) floor result }
+    ensures after { holding_of floors.new.items changes.new.items limits ≡ after_raise (holding_of floors.old.items changes.old.items limits) floor result }
+    ensures kept { IsKept floors.new.items changes.new.items limits }
+    ensures changes { changes.new.items ≡ list_after changes.old.items (left_by floor changes.old.items) result }
+{
+    match raise(floors, floor)? {
+        Merge::Taken => {
+            drop_void(changes, &floor);
+            Ok(Merge::Taken)
+        }
+        other => Ok(other),
+    }
+}
+
+// Drops the marks of the changes that a floor makes void. It takes no memory.
+pub(crate) fn drop_marks<M: Drop>(marks: &mut Vec<M>, changes: &[Change], floor: &Floor)
+    requires { length marks.old.items ≡ length changes.now }
+    ensures { marks.new.items ≡ marks_left floor.now changes.now marks.old.items }
+{
+    let mut left = 0;
+    for i in 0..changes.len() {
+        if !floor.voids(&changes[i]) {
+            marks.swap(left, i);
+            left += 1;
+        }
+    }
+    marks.truncate(left);
+}
+
+// Raises the floor of an owner, and drops the changes that it makes void, with the marks beside them.
+pub(crate) fn raise_beside<M: Drop>(
+    floors: &mut Vec<Floor>,
+    changes: &mut Vec<Change>,
+    marks: &mut Vec<M>,
+    limits: Limits,
+    floor: Floor,
+) -> Result<Merge, JoinFault>
+    requires kept { IsKept floors.old.items changes.old.items limits }
+    requires each { length marks.old.items ≡ length changes.old.items }
+    ensures answer { RaiseAnswer (holding_of floors.old.items changes.old.items limits) floor result }
+    ensures after { holding_of floors.new.items changes.new.items limits ≡ after_raise (holding_of floors.old.items changes.old.items limits) floor result }
+    ensures kept { IsKept floors.new.items changes.new.items limits }
+    ensures changes { changes.new.items ≡ list_after changes.old.items (left_by floor changes.old.items) result }
+    ensures marks { marks.new.items ≡ list_after marks.old.items (marks_left floor changes.old.items marks.old.items) result }
+{
+    match raise(floors, floor)? {
+        Merge::Taken => {
+            drop_marks(marks, changes, &floor);
+            drop_void(changes, &floor);
+            Ok(Merge::Taken)
+        }
+        other => Ok(other),
+    }
+}
