@@ -97,11 +97,11 @@ free_by t c stands e owner clash stale known full worn =
     let old = neither (on_held t.held (λ h. is_gt (version_cmp h.version c.version))) t.void (sym stale ∙ no (causes.Refused refusals.Stale) (11, omega arith, refl)) in
     record {
       room = has_room t.held t.count t.most c
-        (sym owner ∙ no (causes.Refused refusals.NotOwner) (9, omega arith, refl))
-        (sym clash ∙ no (causes.Refused (refusals.Clash c.version)) (10, omega arith, refl))
-        old.0
-        (sym known ∙ no causes.Known (12, omega arith, refl))
-        (sym full ∙ no (causes.Refused refusals.Full) (18, omega arith, refl));
+          (sym owner ∙ no (causes.Refused refusals.NotOwner) (9, omega arith, refl))
+          (sym clash ∙ no (causes.Refused (refusals.Clash c.version)) (10, omega arith, refl))
+          old.0
+          (sym known ∙ no causes.Known (12, omega arith, refl))
+          (sym full ∙ no (causes.Refused refusals.Full) (18, omega arith, refl));
       void = old.1;
       left = sym worn ∙ no (causes.Refused refusals.Worn) (19, omega arith, refl);
     }
@@ -220,7 +220,7 @@ module _ (s : State) (c : ChangeRecord) where
   over_by stands cause e (inl k) owner stale known =
       let here : stands causes.Known ≡ true = ap stands (sym k) ∙ (found stands (change_order c.version) cause e).1 in
       over_held (λ h. is_eq (version_cmp h.version c.version) && is_same_body h.body c.body) (λ h t. level h.version c.version (left_of (is_eq (version_cmp h.version c.version)) (is_same_body h.body c.body) t))
-        (sym owner ∙ owner_free c.version stands cause e (ap passes_over k)) (sym known ∙ here)
+      (sym owner ∙ owner_free c.version stands cause e (ap passes_over k)) (sym known ∙ here)
   over_by stands cause e (inr k) owner stale known =
       let here : stands (causes.Refused refusals.Stale) ≡ true = ap stands (sym k) ∙ (found stands (change_order c.version) cause e).1 in
       elim (either_of (on_held (held_at (held s) c.key) (λ h. is_gt (version_cmp h.version c.version))) (is_void (held s) c) (sym stale ∙ here)) [
@@ -249,10 +249,10 @@ module _ (s : State) (f : Floor) where
       → stands causes.Known ≡ against_floor (floor_standing_of s f) f causes.Known → IsCoveredIn (held s) (Floored f)
   over_by_floor stands cause e (inl k) stale known =
       over_floor (λ g. g == f.generation) (λ n t. (let same : n ≡ f.generation = eqb-true n f.generation t in omega (arith, same)))
-        (sym known ∙ ap stands (sym k) ∙ (found stands floor_order cause e).1)
+      (sym known ∙ ap stands (sym k) ∙ (found stands floor_order cause e).1)
   over_by_floor stands cause e (inr k) stale known =
       over_floor (λ g. nat_lt f.generation g) (λ n t. (let low : f.generation < n = ltb-true f.generation n t in omega (arith, low)))
-        (sym stale ∙ ap stands (sym k) ∙ (found stands floor_order cause e).1)
+      (sym stale ∙ ap stands (sym k) ∙ (found stands floor_order cause e).1)
 
   pub floor_covered : (cause : Cause) → first_cause None (against_floor (floor_standing_of s f) f) ≡ Some cause → IsPassed cause → IsCoveredIn (held s) (Floored f)
   floor_covered cause e k = over_by_floor (against_floor (floor_standing_of s f) f) cause e k refl refl

@@ -1,8 +1,7 @@
 -- Every state stays within the limits.
 use Rattle.std.proofs.Common.{◌≡◌, ℕ, zero, suc, ◌+◌, ◌<◌, ◌≤◌, Bool, true, false, cond, not, ◌&&◌, nat_le, is_none, List, [], ◌∷◌, ◌++◌, length, take, fold, filter, Option, Some, None, refl, ap, sym, ◌∙◌, subst, inl, inr, ◌⊎◌, arith, Contains, length-append}
 use Rattle.std.proofs.lemmas.Bool.{leb-false}
-use Rattle.std.specs.List.{list_any}
-use Rattle.std.specs.Ordering.{is_lt, is_le}
+use Rattle.std.specs.Ordering.{is_le}
 use Rattle.std.specs.Option.{option_map_or}
 use Rattle.ds_names.specs.Endpoint.{EndpointRecord}
 use Rattle.ds_names.specs.Version.{version_cmp}
@@ -13,12 +12,11 @@ use Rattle.ds_entry.specs.declared.item.Item.{Item}
 use Rattle.ds_entry.specs.declared.item.Item.TheVariants.{Change as Changed, Floor as Floored}
 use Rattle.ds_entry.specs.Change.{ChangeRecord}
 use Rattle.ds_entry.specs.Floor.{floor_of}
-use Rattle.ds_entry.specs.Item.{item_cmp}
 use Rattle.ds_entry.specs.ItemCovers.{covers}
-use Rattle.ds_entry.proofs.Members.{Contains-nil, Contains-head, Contains-cons, Contains-from_filter, Contains-from_take, list_any-from_Contains}
+use Rattle.ds_entry.proofs.Members.{Contains-head, Contains-from_filter, Contains-from_take, list_any-from_Contains}
 use Rattle.ds_entry.proofs.CoversLemmas.{covers-make}
 use Rattle.ds_entry.proofs.ItemLemmas.{below-make}
-use Rattle.ds_join.specs.ItemTop.{tops, inserted, held_after}
+use Rattle.ds_join.specs.ItemTop.{held_after}
 use Rattle.ds_pattern.specs.declared.query.Query.{Query}
 use Rattle.ds_machine.specs.Limits.{most_floors, last_place}
 use Rattle.ds_machine.specs.Parts.{changes_in, floors_in, held_at, floor_at}
@@ -43,78 +41,7 @@ use Rattle.ds_machine.specs.declared.reply.Reply.TheVariants.{Changed as Accepte
 use Rattle.ds_machine.proofs.PartLemmas.{missing, key_found, owner_found}
 use Rattle.ds_machine.proofs.NewsLemmas.{IsAbove}
 use Rattle.ds_machine.proofs.CauseLemmas.{IsFree, IsFloorFree, change_free, asked_free, floor_is_free, sweep_is_free}
-
--- ---- how much of a kind is among items
-total : (Item → ℕ) → List Item → ℕ
-total w [] = 0
-total w (i ∷ items) = w i + total w items
-
-change_weight : Item → ℕ
-change_weight (Changed c) = 1
-change_weight (Floored f) = 0
-
-floor_weight : Item → ℕ
-floor_weight (Changed c) = 0
-floor_weight (Floored f) = 1
-
-changes_total : (items : List Item) → length (changes_in items) ≡ total change_weight items
-unfolding total, change_weight
-changes_total [] = refl
-changes_total (Changed c ∷ items) = let rest = changes_total items in omega (arith, rest)
-changes_total (Floored f ∷ items) = let rest = changes_total items in omega (arith, rest)
-
-floors_total : (items : List Item) → length (floors_in items) ≡ total floor_weight items
-unfolding total, floor_weight
-floors_total [] = refl
-floors_total (Changed c ∷ items) = let rest = floors_total items in omega (arith, rest)
-floors_total (Floored f ∷ items) = let rest = floors_total items in omega (arith, rest)
-
-module _ (w : Item → ℕ) where
-  total_inserted : (i : Item) (items : List Item) → total w (inserted i items) ≡ w i + total w items
-  unfolding total
-  total_inserted i [] = refl
-  total_inserted i (j ∷ js) = by_test (is_lt (item_cmp i j)) (total_inserted i js)
-    where
-      by_test : (b : Bool) → total w (inserted i js) ≡ w i + total w js → total w (cond b (i ∷ j ∷ js) (j ∷ inserted i js)) ≡ w i + total w (j ∷ js)
-      by_test true e = refl
-      by_test false e = omega (arith, e)
-
-  total_filter : (p : Item → Bool) (items : List Item) → total w (filter p items) ≤ total w items
-  unfolding total
-  total_filter p [] = omega arith
-  total_filter p (i ∷ items) = by_test (p i) (total_filter p items)
-    where
-      by_test : (b : Bool) → total w (filter p items) ≤ total w items → total w (cond b (i ∷ filter p items) (filter p items)) ≤ total w (i ∷ items)
-      by_test true e = omega (arith, e)
-      by_test false e = omega (arith, e)
-
-  -- what isn't kept is missing
-  total_dropped : (p : Item → Bool) (items : List Item) (x : Item) → Contains items x → p x ≡ false → total w (filter p items) + w x ≤ total w items
-  unfolding total
-  total_dropped p [] x h e = absurd (Contains-nil x h)
-  total_dropped p (i ∷ items) x h e = elim (Contains-cons i items x h) [
-    | inl q ↦ here (p i) (sym (ap p q) ∙ e) (ap w q) (total_filter p items)
-    | inr t ↦ there (p i) (total_dropped p items x t e)
-  ]
-    where
-      here : (b : Bool) → b ≡ false → w x ≡ w i → total w (filter p items) ≤ total w items → total w (cond b (i ∷ filter p items) (filter p items)) + w x ≤ total w (i ∷ items)
-      here true f g l = absurd (cc)
-      here false f g l = omega (arith, g, l)
-
-      there : (b : Bool) → total w (filter p items) + w x ≤ total w items → total w (cond b (i ∷ filter p items) (filter p items)) + w x ≤ total w (i ∷ items)
-      there true l = omega (arith, l)
-      there false l = omega (arith, l)
-
-  most_after : (now : List Item) (i : Item) (most : ℕ) → total w now ≤ most → w i + total w (filter (λ j. not (covers i j)) now) ≤ most → total w (held_after now i) ≤ most
-  most_after now i most l m = by_test (list_any (λ j. covers j i) now)
-    where
-      by_test : (b : Bool) → total w (cond b now (inserted i (filter (λ j. not (covers i j)) now))) ≤ most
-      by_test true = l
-      by_test false = let n = total_inserted i (filter (λ j. not (covers i j)) now) in omega (arith, n, m)
-
-fold_push : {A B : Type 0} (f : A → B → A) (z : A) (xs : List B) (x : B) → fold f z (xs ++ x ∷ []) ≡ f (fold f z xs) x
-fold_push f z [] x = refl
-fold_push f z (y ∷ ys) x = fold_push f (f z y) ys x
+use Rattle.ds_machine.proofs.CountLemmas.{total, change_weight, floor_weight, changes_total, floors_total, total_filter, total_dropped, most_after, fold_push}
 
 -- ---- one more item takes effect
 -- nothing stands against the item
@@ -183,17 +110,17 @@ module _ (s : State) (w : IsWithin s) where
       }
 
   pub within_more : (i : Item) → HasPlace s i → IsWithin (accepts s (i ∷ []))
-  unfolding HasPlace, change_weight, floor_weight
+  unfolding HasPlace change_weight floor_weight
   within_more (Changed c) free =
       let less = total_filter floor_weight (λ j. not (covers (Changed c) j)) (held s) in
       within_by (Changed c)
-        (most_after change_weight (held s) (Changed c) s.limits.keys few_changes (change_room c (held_at (held s) c.key) refl free.room))
-        (most_after floor_weight (held s) (Changed c) most_floors few_floors (omega (arith, less, few_floors))) free.left
+      (most_after change_weight (held s) (Changed c) s.limits.keys few_changes (change_room c (held_at (held s) c.key) refl free.room))
+      (most_after floor_weight (held s) (Changed c) most_floors few_floors (omega (arith, less, few_floors))) free.left
   within_more (Floored f) free =
       let less = total_filter change_weight (λ j. not (covers (Floored f) j)) (held s) in
       within_by (Floored f)
-        (most_after change_weight (held s) (Floored f) s.limits.keys few_changes (omega (arith, less, few_changes)))
-        (most_after floor_weight (held s) (Floored f) most_floors few_floors (floor_room f (floor_at (held s) f.owner) refl free.above free.room)) free.left
+      (most_after change_weight (held s) (Floored f) s.limits.keys few_changes (omega (arith, less, few_changes)))
+      (most_after floor_weight (held s) (Floored f) most_floors few_floors (floor_room f (floor_at (held s) f.owner) refl free.above free.room)) free.left
 
   -- ---- a subscription was written
   within_served : (sub : ℕ) (query : Query) (shown : List Item) → nat_le last_place s.stamp ≡ false → IsWithin (subscribes s sub query shown)

@@ -62,100 +62,100 @@ started =
 abbrev pub PublishRow : Type 0
 PublishRow =
     replies_from (opening 1 0 256 larger) (started ++
-        Publish (endpoint_of 4 18) (number (codes "mtu")) (at 4 0) (U32 9000) true ∷
-        Publish (endpoint_of 3 17) (number (codes "mtu")) (at 3 1) (U32 1400) false ∷
-        Publish (endpoint_of 3 17) (number (codes "mtu")) (at 3 0) (U32 1500) false ∷
-        Publish (endpoint_of 3 17) (number (codes "mtu")) (at 3 0) (U32 1501) true ∷
-        Publish (endpoint_of 3 17) (number (codes "mtu")) (at 3 1) (U32 1400) true ∷
-        Publish (endpoint_of 3 17) (number (codes "mtu")) (at 3 0) (U32 1500) true ∷
-        Publish (endpoint_of 3 18) (number (codes "mtu")) (at 3 9) (U32 1) true ∷
-        Publish (endpoint_of 3 17) (label (codes "mac")) (at 3 0) (Label (endpoint_of 3 17)) false ∷
-        Retrieve (number (codes "mtu")) ∷
-        NameOf (endpoint_of 3 17) ∷
-        NameOf (endpoint_of 3 18) ∷ [])
+    Publish (endpoint_of 4 18) (number (codes "mtu")) (at 4 0) (U32 9000) true ∷
+    Publish (endpoint_of 3 17) (number (codes "mtu")) (at 3 1) (U32 1400) false ∷
+    Publish (endpoint_of 3 17) (number (codes "mtu")) (at 3 0) (U32 1500) false ∷
+    Publish (endpoint_of 3 17) (number (codes "mtu")) (at 3 0) (U32 1501) true ∷
+    Publish (endpoint_of 3 17) (number (codes "mtu")) (at 3 1) (U32 1400) true ∷
+    Publish (endpoint_of 3 17) (number (codes "mtu")) (at 3 0) (U32 1500) true ∷
+    Publish (endpoint_of 3 18) (number (codes "mtu")) (at 3 9) (U32 1) true ∷
+    Publish (endpoint_of 3 17) (label (codes "mac")) (at 3 0) (Label (endpoint_of 3 17)) false ∷
+    Retrieve (number (codes "mtu")) ∷
+    NameOf (endpoint_of 3 17) ∷
+    NameOf (endpoint_of 3 18) ∷ [])
     ≡ Accepted 0 ∷ Accepted 0 ∷ Accepted 0 ∷
-        Refused NotOwner ∷ Refused Exists ∷ Known ∷ Refused (Clash (at 3 0)) ∷ Accepted 0 ∷ Refused Stale ∷ Refused NoCaller ∷ Refused NotAllowed ∷
-        Found (U32 1400) ∷ Named (codes "eth0") ∷ Refused NotFound ∷ []
+    Refused NotOwner ∷ Refused Exists ∷ Known ∷ Refused (Clash (at 3 0)) ∷ Accepted 0 ∷ Refused Stale ∷ Refused NoCaller ∷ Refused NotAllowed ∷
+    Found (U32 1400) ∷ Named (codes "eth0") ∷ Refused NotFound ∷ []
 
 -- a floor under what a dead driver left: late changes are stale, and the key is free for another owner
 abbrev pub SweepRow : Type 0
 SweepRow =
     replies_from (opening 1 0 256 larger) (started ++
-        Sweep (endpoint_of 3 17) (codes "eth0") 3 ∷
-        Sweep rs (codes "eth0") 3 ∷
-        Sweep rs (codes "eth0") 3 ∷
-        Sweep rs (codes "eth0") 2 ∷
-        Merge (put (codes "mtu") (codes "eth0") (at 3 9) 1 ∷ Floored (floor_of (codes "eth0") 2) ∷ Floored (floor_of (codes "eth0") 3) ∷ []) ∷
-        Publish (endpoint_of 3 17) (number (codes "mtu")) (at 3 9) (U32 1) true ∷
-        Delete (endpoint_of 3 17) (number (codes "mtu")) (at 3 2) ∷
-        Snapshot All ∷
-        Publish (endpoint_of 4 18) (number (codes "mtu")) (at 4 0) (U32 9000) false ∷
-        Merge (Floored (floor_of (codes "tty") 4) ∷ put (codes "mtu") (codes "eth0") (at 4 0) 7 ∷ []) ∷
-        Snapshot All ∷ [])
+    Sweep (endpoint_of 3 17) (codes "eth0") 3 ∷
+    Sweep rs (codes "eth0") 3 ∷
+    Sweep rs (codes "eth0") 3 ∷
+    Sweep rs (codes "eth0") 2 ∷
+    Merge (put (codes "mtu") (codes "eth0") (at 3 9) 1 ∷ Floored (floor_of (codes "eth0") 2) ∷ Floored (floor_of (codes "eth0") 3) ∷ []) ∷
+    Publish (endpoint_of 3 17) (number (codes "mtu")) (at 3 9) (U32 1) true ∷
+    Delete (endpoint_of 3 17) (number (codes "mtu")) (at 3 2) ∷
+    Snapshot All ∷
+    Publish (endpoint_of 4 18) (number (codes "mtu")) (at 4 0) (U32 9000) false ∷
+    Merge (Floored (floor_of (codes "tty") 4) ∷ put (codes "mtu") (codes "eth0") (at 4 0) 7 ∷ []) ∷
+    Snapshot All ∷ [])
     ≡ Accepted 0 ∷ Accepted 0 ∷ Accepted 0 ∷
-        Refused NotAllowed ∷ Swept 1 0 ∷ Swept 0 0 ∷ Swept 0 0 ∷ Merged 3 0 2 0 ∷ Refused Stale ∷ Refused Stale ∷
-        Snapped (record { items = Floored (floor_of (codes "eth0") 3) ∷ driver (codes "eth0") 3 17 ∷ driver (codes "tty") 4 18 ∷ []; cursor = cursor_at 1 4 }) ∷
-        Accepted 0 ∷ Merged 2 2 0 0 ∷
-        Snapped (record { items = Floored (floor_of (codes "eth0") 3) ∷ Floored (floor_of (codes "tty") 4) ∷ driver (codes "eth0") 3 17 ∷ put (codes "mtu") (codes "eth0") (at 4 0) 7 ∷ driver (codes "tty") 4 18 ∷ []; cursor = cursor_at 1 7 }) ∷ []
+    Refused NotAllowed ∷ Swept 1 0 ∷ Swept 0 0 ∷ Swept 0 0 ∷ Merged 3 0 2 0 ∷ Refused Stale ∷ Refused Stale ∷
+    Snapped (record { items = Floored (floor_of (codes "eth0") 3) ∷ driver (codes "eth0") 3 17 ∷ driver (codes "tty") 4 18 ∷ []; cursor = cursor_at 1 4 }) ∷
+    Accepted 0 ∷ Merged 2 2 0 0 ∷
+    Snapped (record { items = Floored (floor_of (codes "eth0") 3) ∷ Floored (floor_of (codes "tty") 4) ∷ driver (codes "eth0") 3 17 ∷ put (codes "mtu") (codes "eth0") (at 4 0) 7 ∷ driver (codes "tty") 4 18 ∷ []; cursor = cursor_at 1 7 }) ∷ []
 
 -- a ring of two, and cursors that it doesn't reach
 abbrev pub RingRow : Type 0
 RingRow =
     replies_from (opening 1 0 2 larger) (
-        Merge (put (codes "a") (codes "eth0") (at 1 0) 1 ∷ put (codes "b") (codes "eth0") (at 1 1) 2 ∷ put (codes "c") (codes "eth0") (at 1 2) 3 ∷ []) ∷
-        Since All (cursor_at 1 0) 8 ∷
-        Since All (cursor_at 1 1) 8 ∷
-        Since All (cursor_at 1 1) 1 ∷
-        Since All (cursor_at 1 3) 8 ∷
-        Since All (cursor_at 1 4) 8 ∷
-        Since All (cursor_at 2 4) 8 ∷
-        Since All (cursor_at 2 4) 0 ∷
-        Since All (cursor_at 2 4) 257 ∷ [])
+    Merge (put (codes "a") (codes "eth0") (at 1 0) 1 ∷ put (codes "b") (codes "eth0") (at 1 1) 2 ∷ put (codes "c") (codes "eth0") (at 1 2) 3 ∷ []) ∷
+    Since All (cursor_at 1 0) 8 ∷
+    Since All (cursor_at 1 1) 8 ∷
+    Since All (cursor_at 1 1) 1 ∷
+    Since All (cursor_at 1 3) 8 ∷
+    Since All (cursor_at 1 4) 8 ∷
+    Since All (cursor_at 2 4) 8 ∷
+    Since All (cursor_at 2 4) 0 ∷
+    Since All (cursor_at 2 4) 257 ∷ [])
     ≡ Merged 3 3 0 0 ∷
-        Refused Behind ∷
-        Journaled (record { items = put (codes "b") (codes "eth0") (at 1 1) 2 ∷ put (codes "c") (codes "eth0") (at 1 2) 3 ∷ []; cursor = cursor_at 1 3 }) ∷
-        Journaled (record { items = put (codes "b") (codes "eth0") (at 1 1) 2 ∷ []; cursor = cursor_at 1 2 }) ∷
-        Journaled (record { items = []; cursor = cursor_at 1 3 }) ∷
-        Refused Ahead ∷ Refused OldCursor ∷ Refused TooMany ∷ Refused TooMany ∷ []
+    Refused Behind ∷
+    Journaled (record { items = put (codes "b") (codes "eth0") (at 1 1) 2 ∷ put (codes "c") (codes "eth0") (at 1 2) 3 ∷ []; cursor = cursor_at 1 3 }) ∷
+    Journaled (record { items = put (codes "b") (codes "eth0") (at 1 1) 2 ∷ []; cursor = cursor_at 1 2 }) ∷
+    Journaled (record { items = []; cursor = cursor_at 1 3 }) ∷
+    Refused Ahead ∷ Refused OldCursor ∷ Refused TooMany ∷ Refused TooMany ∷ []
 
 -- pages: all floors on the first, and the last one where no change is left
 abbrev pub PageRow : Type 0
 PageRow =
     replies_from (opening 1 0 256 larger) (started ++
-        Sweep rs (codes "eth0") 3 ∷
-        Page All None 1 ∷
-        Page All (Some (label (codes "eth0"))) 1 ∷
-        Page All (Some (label (codes "tty"))) 1 ∷
-        Page All None 0 ∷ [])
+    Sweep rs (codes "eth0") 3 ∷
+    Page All None 1 ∷
+    Page All (Some (label (codes "eth0"))) 1 ∷
+    Page All (Some (label (codes "tty"))) 1 ∷
+    Page All None 0 ∷ [])
     ≡ Accepted 0 ∷ Accepted 0 ∷ Accepted 0 ∷ Swept 1 0 ∷
-        Paged (record { items = Floored (floor_of (codes "eth0") 3) ∷ driver (codes "eth0") 3 17 ∷ []; last = false; cursor = cursor_at 1 4 }) ∷
-        Paged (record { items = driver (codes "tty") 4 18 ∷ []; last = true; cursor = cursor_at 1 4 }) ∷
-        Paged (record { items = []; last = true; cursor = cursor_at 1 4 }) ∷
-        Refused TooMany ∷ []
+    Paged (record { items = Floored (floor_of (codes "eth0") 3) ∷ driver (codes "eth0") 3 17 ∷ []; last = false; cursor = cursor_at 1 4 }) ∷
+    Paged (record { items = driver (codes "tty") 4 18 ∷ []; last = true; cursor = cursor_at 1 4 }) ∷
+    Paged (record { items = []; last = true; cursor = cursor_at 1 4 }) ∷
+    Refused TooMany ∷ []
 
 -- pages with changes between them, and what the journal gives from the first page's cursor on
 abbrev pub ChangingPagesRow : Type 0
 ChangingPagesRow =
     replies_from (opening 1 0 256 larger) (
-        Merge (put (codes "a") (codes "eth0") (at 1 0) 1 ∷ put (codes "c") (codes "eth0") (at 1 1) 3 ∷ []) ∷
-        Page All None 1 ∷
-        Merge (Changed (change_of (number (codes "a")) (codes "eth0") (at 1 2) Gone) ∷ put (codes "A") (codes "eth0") (at 1 3) 5 ∷ []) ∷
-        Page All (Some (number (codes "a"))) 1 ∷
-        Since All (cursor_at 1 2) 8 ∷ [])
+    Merge (put (codes "a") (codes "eth0") (at 1 0) 1 ∷ put (codes "c") (codes "eth0") (at 1 1) 3 ∷ []) ∷
+    Page All None 1 ∷
+    Merge (Changed (change_of (number (codes "a")) (codes "eth0") (at 1 2) Gone) ∷ put (codes "A") (codes "eth0") (at 1 3) 5 ∷ []) ∷
+    Page All (Some (number (codes "a"))) 1 ∷
+    Since All (cursor_at 1 2) 8 ∷ [])
     ≡ Merged 2 2 0 0 ∷
-        Paged (record { items = put (codes "a") (codes "eth0") (at 1 0) 1 ∷ []; last = false; cursor = cursor_at 1 2 }) ∷
-        Merged 2 2 0 0 ∷
-        Paged (record { items = put (codes "c") (codes "eth0") (at 1 1) 3 ∷ []; last = true; cursor = cursor_at 1 4 }) ∷
-        Journaled (record { items = Changed (change_of (number (codes "a")) (codes "eth0") (at 1 2) Gone) ∷ put (codes "A") (codes "eth0") (at 1 3) 5 ∷ []; cursor = cursor_at 1 4 }) ∷ []
+    Paged (record { items = put (codes "a") (codes "eth0") (at 1 0) 1 ∷ []; last = false; cursor = cursor_at 1 2 }) ∷
+    Merged 2 2 0 0 ∷
+    Paged (record { items = put (codes "c") (codes "eth0") (at 1 1) 3 ∷ []; last = true; cursor = cursor_at 1 4 }) ∷
+    Journaled (record { items = Changed (change_of (number (codes "a")) (codes "eth0") (at 1 2) Gone) ∷ put (codes "A") (codes "eth0") (at 1 3) 5 ∷ []; cursor = cursor_at 1 4 }) ∷ []
 
 -- at the last place a repeat is known and a smaller floor stale, and all that would take effect is worn
 abbrev pub LastPlaceRow : Type 0
 LastPlaceRow =
     replies_from (opening 1 4611686018427387903 256 larger) (
-        Merge (Floored (floor_of (codes "eth0") 3) ∷ []) ∷
-        Merge (Floored (floor_of (codes "eth0") 3) ∷ put (codes "mtu") (codes "eth0") (at 3 0) 1500 ∷ put (codes "mtu") (codes "eth0") (at 4 0) 1500 ∷ []) ∷
-        Sweep rs (codes "eth0") 3 ∷
-        Sweep rs (codes "eth0") 4 ∷
-        Sweep rs (codes "tty") 0 ∷
-        Publish rs (label (codes "eth0")) (at 3 0) (Label (endpoint_of 3 17)) false ∷ [])
+    Merge (Floored (floor_of (codes "eth0") 3) ∷ []) ∷
+    Merge (Floored (floor_of (codes "eth0") 3) ∷ put (codes "mtu") (codes "eth0") (at 3 0) 1500 ∷ put (codes "mtu") (codes "eth0") (at 4 0) 1500 ∷ []) ∷
+    Sweep rs (codes "eth0") 3 ∷
+    Sweep rs (codes "eth0") 4 ∷
+    Sweep rs (codes "tty") 0 ∷
+    Publish rs (label (codes "eth0")) (at 3 0) (Label (endpoint_of 3 17)) false ∷ [])
     ≡ Merged 1 1 0 0 ∷ MergeStopped 2 Worn 0 ∷ Swept 0 0 ∷ Refused Worn ∷ Refused Worn ∷ Refused Worn ∷ []
