@@ -263,5 +263,11 @@ runs_stay_within s t (command ∷ commands) (reply ∷ replies) w run = runs_sta
 runs_stay_within s t [] (reply ∷ replies) w run = absurd run
 runs_stay_within s t (command ∷ commands) [] w run = absurd run
 
+at_least_none : (n : ℕ) → 0 ≤ n
+at_least_none n = omega arith
+
+none_more : (m n : ℕ) → m ≤ n → m + 0 ≤ n
+none_more m n l = omega (arith, l)
+
 pub opening_is_within : OpeningIsWithin
-opening_is_within incarnation first ring limits l = record { keys = omega arith; floors = omega arith; position = omega (arith, l); stamp = l }
+opening_is_within incarnation first ring limits l = record { keys = at_least_none limits.keys; floors = at_least_none most_floors; position = none_more first last_place l; stamp = l }
