@@ -1,8 +1,8 @@
 -- Marks that are dropped in place: those that stay move to the front, and what is behind them is cut off in the end.
-use Rattle.std.proofs.Common.{◌≡◌, ℕ, zero, suc, ◌+◌, ◌<◌, ◌≤◌, List, [], ◌∷◌, ◌++◌, length, get_or, set, take, drop, Bool, true, false, cond, Some, append_assoc, append-nil, length-append, refl, sym, ap, ◌∙◌, subst, arith}
+use Rattle.std.proofs.Common.{◌≡◌, ℕ, zero, suc, ◌+◌, ◌<◌, ◌≤◌, List, [], ◌∷◌, ◌++◌, length, get_or, set, take, drop, Bool, true, false, not, cond, Some, append_assoc, append-nil, refl, sym, ap, ◌∙◌, subst, arith}
 use Rattle.std.proofs.lemmas.Option.{same_Some}
 use Rattle.std.proofs.lemmas.List.{take_all}
-use Rattle.std.proofs.lemmas.List.Edits.{swap_is}
+use Rattle.std.proofs.lemmas.List.Edits.{swap_is, length-swap}
 use Rattle.std.specs.List.{slice_get, swap}
 use Rattle.ds_entry.specs.Change.{ChangeRecord}
 use Rattle.ds_entry.specs.Void.{voids}
@@ -39,7 +39,7 @@ drop_next (suc i) (y ∷ ys) x e = drop_next i ys x e
 
 -- the element behind the front changes places with one further on
 swapped : {X : Type 0} (front js rest : List X) (j m : X) (a b : ℕ) → a ≡ length front → b ≡ length front + suc (length js) → swap (front ++ (j ∷ (js ++ (m ∷ rest)))) a b ≡ front ++ (m ∷ (js ++ (j ∷ rest)))
-swapped front js rest j m a b e f =
+swapped {X = X} front js rest j m a b e f =
     ap (λ k. swap all k b) (e ∙ none) ∙ ap (swap all (length front + 0)) f
     ∙ sym (swap_is all (length front + 0) (length front + suc (length js)) j within beyond)
     ∙ ap (λ v. set (set all (length front + 0) v) (length front + suc (length js)) (get_or all (length front + 0) j)) (get_back front behind (suc (length js)) j ∙ second)
@@ -74,6 +74,31 @@ swapped front js rest j m a b e f =
 
     third : set (js ++ (m ∷ rest)) (length js) j ≡ js ++ (j ∷ rest)
     third = ap (λ n. set (js ++ (m ∷ rest)) n j) same ∙ set_back js (m ∷ rest) 0 j
+
+-- an element that changes places with itself
+itself : {X : Type 0} (xs rest : List X) (x : X) (a b : ℕ) → a ≡ length xs → b ≡ length xs → swap (xs ++ (x ∷ rest)) a b ≡ xs ++ (x ∷ rest)
+itself xs rest x a b p q =
+    ap (λ k. swap (xs ++ (x ∷ rest)) k b) (p ∙ none) ∙ ap (swap (xs ++ (x ∷ rest)) (length xs + 0)) (q ∙ none)
+    ∙ sym (swap_is (xs ++ (x ∷ rest)) (length xs + 0) (length xs + 0) x within within)
+    ∙ ap (λ y. set (set (xs ++ (x ∷ rest)) (length xs + 0) y) (length xs + 0) y) (get_back xs (x ∷ rest) 0 x)
+    ∙ ap (λ l. set l (length xs + 0) x) (set_back xs (x ∷ rest) 0 x) ∙ set_back xs (x ∷ rest) 0 x
+  where
+    none : length xs ≡ length xs + 0
+    none = omega arith
+
+    within : length xs + 0 < length (xs ++ (x ∷ rest))
+    within = omega (arith, length_both xs (x ∷ rest))
+
+-- what stands at an index
+read_at : {X : Type 0} (xs : List X) (i : ℕ) (x : X) → i < length xs → x ≡ get_or xs i x → slice_get xs i ≡ Some x
+read_at [] i x w e = absurd (omega (arith, w))
+read_at (y ∷ ys) zero x w e = ap (λ z. Some z) (sym e)
+read_at (y ∷ ys) (suc i) x w e = read_at ys i x (omega (arith, w)) e
+
+some_at : {X : Type 0} (xs : List X) (i : ℕ) → i < length xs → (x : X) × (slice_get xs i ≡ Some x)
+some_at [] i w = absurd (omega (arith, w))
+some_at (x ∷ xs) zero w = (x, refl)
+some_at (x ∷ xs) (suc i) w = some_at xs i (omega (arith, w))
 
 module _ {M : Type 0} (f : Floor) where
   -- what is left of one more
@@ -150,22 +175,24 @@ module _ {M : Type 0} (f : Floor) where
           gap = omega (arith, length_both js (j ∷ []), gap);
         }
 
-        -- an element that changes places with itself
-        itself : (xs rest : List M) (x : M) (a b : ℕ) → a ≡ length xs → b ≡ length xs → swap (xs ++ (x ∷ rest)) a b ≡ xs ++ (x ∷ rest)
-        itself xs rest x a b p q =
-            ap (λ k. swap (xs ++ (x ∷ rest)) k b) (p ∙ none) ∙ ap (swap (xs ++ (x ∷ rest)) (length xs + 0)) (q ∙ none)
-            ∙ sym (swap_is (xs ++ (x ∷ rest)) (length xs + 0) (length xs + 0) x within within)
-            ∙ ap (λ y. set (set (xs ++ (x ∷ rest)) (length xs + 0) y) (length xs + 0) y) (get_back xs (x ∷ rest) 0 x)
-            ∙ ap (λ l. set l (length xs + 0) x) (set_back xs (x ∷ rest) 0 x) ∙ set_back xs (x ∷ rest) 0 x
-          where
-            none : length xs ≡ length xs + 0
-            none = omega arith
-
-            within : length xs + 0 < length (xs ++ (x ∷ rest))
-            within = omega (arith, length_both xs (x ∷ rest))
-
   pub dropping_ends : (cs : List ChangeRecord) (ms now : List M) (left i : ℕ) → Dropping cs ms now left i → length cs ≤ i → length ms ≡ length cs → take left now ≡ marks_left f cs ms
   dropping_ends cs ms now left i d all e =
       ap (λ n. take n now) d.here ∙ ap (take (length (marks_left f (take i cs) (take i ms)))) d.is
       ∙ take_front (marks_left f (take i cs) (take i ms)) (d.others ++ drop i ms)
       ∙ ap (λ l. marks_left f l (take i ms)) (take_all i cs all) ∙ ap (marks_left f cs) (take_all i ms (omega (arith, all, e)))
+
+  -- one more mark, whether it stays or not
+  pub dropping_next : (cs : List ChangeRecord) (ms now : List M) (left i : ℕ) → Dropping cs ms now left i → (c : ChangeRecord) → i < length cs → c ≡ get_or cs i c → length ms ≡ length cs → (v : Bool) → v ≡ voids f c → (then : List M) (more : ℕ)
+      → then ≡ cond (not v) (swap now left i) now → more ≡ cond (not v) (left + 1) left → left ≤ i → length now ≡ length cs → Dropping cs ms then more (i + 1) × (more ≤ i + 1) × (length then ≡ length cs)
+  dropping_next cs ms now left i d c w a e true v then more t l low n =
+      let m = some_at ms i (omega (arith, w, e)) in (
+        subst (λ (k : ℕ). Dropping cs ms then k (i + 1)) (sym l) (subst (λ (x : List M). Dropping cs ms x left (i + 1)) (sym t) (dropping_passes cs ms now left i d c m.0 (read_at cs i c w a) m.1 (sym v))),
+        omega (arith, l, low),
+        ap length t ∙ n,
+      )
+  dropping_next cs ms now left i d c w a e false v then more t l low n =
+      let m = some_at ms i (omega (arith, w, e)) in (
+        subst (λ (k : ℕ). Dropping cs ms then k (i + 1)) (sym l) (subst (λ (x : List M). Dropping cs ms x (left + 1) (i + 1)) (sym t) (dropping_keeps cs ms now left i d c m.0 (read_at cs i c w a) m.1 (sym v))),
+        omega (arith, l, low),
+        ap length t ∙ length-swap now left i ∙ n,
+      )

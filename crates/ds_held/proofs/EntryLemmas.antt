@@ -6,7 +6,7 @@ use Rattle.std.specs.declared.cmp.Ordering.TheVariants.{Less, Equal, Greater}
 use Rattle.std.specs.Ordering.{is_eq, is_lt, eq_by_cmp}
 use Rattle.std.specs.List.{AllByRecursion}
 use Rattle.std.specs.List.Sorted.{IsStrictlySortedBy}
-use Rattle.std.specs.Cmp.{IsTotalOrder, tied_itself, alike_right, Equal-is}
+use Rattle.std.specs.Cmp.{IsTotalOrder, tied_itself, Equal-is}
 use Rattle.std.specs.FinMap.{find, is_sorted}
 use Rattle.std.specs.FinMap.Entries.{below_all}
 use lib.Dec.{T}
@@ -64,9 +64,10 @@ In-from_map f (z ∷ xs) y (inr h) = let r = In-from_map f xs y h in (r.0, inr r
 pub sorted_append : {X : Type 0} (cmp : X → X → Ordering) (xs ys : List X) → IsStrictlySortedBy cmp xs → IsStrictlySortedBy cmp ys → ((x y : X) → In x xs → In y ys → cmp x y ≡ Less) → IsStrictlySortedBy cmp (xs ++ ys)
 unfolding IsStrictlySortedBy
 sorted_append cmp [] ys s t f = t
-sorted_append cmp (x ∷ xs) ys s t f =
-    (along (λ z. cmp x z ≡ Less) (xs ++ ys) (λ z h. elim (In-append xs ys z h) [ inl k ↦ from_along (λ z. cmp x z ≡ Less) xs z s.0 k | inr k ↦ f x z (inl refl) k ]),
-     sorted_append cmp xs ys s.1 t (λ a b h k. f a b (inr h) k))
+sorted_append cmp (x ∷ xs) ys s t f = (
+  along (λ z. cmp x z ≡ Less) (xs ++ ys) (λ z h. elim (In-append xs ys z h) [ inl k ↦ from_along (λ z. cmp x z ≡ Less) xs z s.0 k | inr k ↦ f x z (inl refl) k ]),
+  sorted_append cmp xs ys s.1 t (λ a b h k. f a b (inr h) k),
+)
 
 -- a key that ties with one above another doesn't tie with that other
 pub unlike : {K : Type 0} (R : K → K → Ordering) (total : IsTotalOrder R) (x q y : K) → eq_by_cmp R q y ≡ true → T (is_lt (R x y)) → eq_by_cmp R q x ≡ false
@@ -107,11 +108,12 @@ module _ {K V : Type 0} (R : K → K → Ordering) (total : IsTotalOrder R) (exa
   pub sorted_items : {X : Type 0} (cmp : X → X → Ordering) (f : K × V → X) (es : List (K × V)) → T (is_sorted R es) → ((a b : K × V) → In a es → In b es → cmp (f a) (f b) ≡ R a.0 b.0) → IsStrictlySortedBy cmp (map f es)
   unfolding IsStrictlySortedBy
   sorted_items cmp f [] s same = tt
-  sorted_items {X} cmp f (e ∷ es) s same =
-      (along (λ (y : X). cmp (f e) y ≡ Less) (map f es) (λ y h.
-          (let r = In-from_map f es y h in
-          ap (cmp (f e)) r.2 ∙ same e r.0 (inl refl) (inr r.1) ∙ less_from (R e.0 r.0.0) (below_is e.0 es r.0 (both _ _ s).0 r.1))),
-       sorted_items cmp f es (both _ _ s).1 (λ a b h k. same a b (inr h) (inr k)))
+  sorted_items {X} cmp f (e ∷ es) s same = (
+    along (λ (y : X). cmp (f e) y ≡ Less) (map f es) (λ y h.
+        (let r = In-from_map f es y h in
+        ap (cmp (f e)) r.2 ∙ same e r.0 (inl refl) (inr r.1) ∙ less_from (R e.0 r.0.0) (below_is e.0 es r.0 (both _ _ s).0 r.1))),
+    sorted_items cmp f es (both _ _ s).1 (λ a b h k. same a b (inr h) (inr k)),
+  )
 
 pub map_twice : {X Y Z : Type 0} (f : Y → Z) (g : X → Y) (xs : List X) → map f (map g xs) ≡ map {B = Z} (λ (x : X). f (g x)) xs
 map_twice f g [] = refl

@@ -1,12 +1,10 @@
 -- What is held, as items.
-use Rattle.std.proofs.Common.{◌≡◌, ℕ, not, true, false, List, ◌++◌, map, cond, Bool, Option, Some, None, refl, sym, ap, ◌∙◌, subst, inl, inr, ◌⊎◌, Contains}
-use Rattle.std.proofs.lemmas.Option.{same_Some}
+use Rattle.std.proofs.Common.{◌≡◌, ℕ, true, false, List, map, Bool, Some, refl, sym, ap, ◌∙◌, subst, inl, inr, Contains}
 use Rattle.std.proofs.lemmas.Cmp.{nat_list_cmp_total}
 use Rattle.std.proofs.lemmas.Map.Lookups.{exact_bytes}
-use Rattle.std.specs.declared.cmp.Ordering.{Ordering}
-use Rattle.std.specs.declared.cmp.Ordering.TheVariants.{Less, Equal}
+use Rattle.std.specs.declared.cmp.Ordering.TheVariants.{Less}
 use Rattle.std.specs.List.Sorted.{IsStrictlySortedBy}
-use Rattle.std.specs.FinMap.{find, is_sorted, entries, entries_sorted, get, get-entries}
+use Rattle.std.specs.FinMap.{entries, entries_sorted, get-entries}
 use Rattle.ds_names.specs.declared.key.Key.{Key}
 use Rattle.ds_names.specs.Key.{name_cmp, key_cmp}
 use Rattle.ds_names.proofs.OrderLemmas.{keys_total, exact_keys}
@@ -20,7 +18,7 @@ use Rattle.ds_entry.specs.declared.item.Item.TheVariants.{Change as Changed, Flo
 use Rattle.ds_entry.proofs.Members.{In, In-from_Contains, Contains-from_In}
 use Rattle.ds_entry.proofs.ItemLemmas.{voids-is}
 use Rattle.ds_join.specs.ItemTop.{IsTop, IsPartOf, CoversAll}
-use Rattle.ds_held.specs.Held.{Holding, held_items, held_changes, held_for, floor_for, floor_item, change_item, is_below, is_void_at, IsSound}
+use Rattle.ds_held.specs.Held.{Holding, held_items, held_changes, held_for, floor_for, floor_item, change_item, is_below, IsSound}
 use Rattle.ds_held.proofs.EntryLemmas.{In-append, In-left, In-right, In-map, In-from_map, In-from_find, find-from_In, sorted_items, sorted_append, map_twice}
 
 -- an item stands where it is looked for

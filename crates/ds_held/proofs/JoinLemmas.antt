@@ -1,5 +1,5 @@
 -- Items that come one after the other: what they leave is the join of what was held and of them.
-use Rattle.std.proofs.Common.{◌≡◌, ℕ, zero, suc, ◌+◌, ◌<◌, ◌≤◌, List, [], ◌∷◌, ◌++◌, map, length, get_or, take, Option, Some, None, Result, Ok, Err, append_assoc, refl, sym, ap, ◌∙◌, subst, inl, inr, arith, Contains}
+use Rattle.std.proofs.Common.{◌≡◌, ℕ, zero, suc, ◌+◌, ◌<◌, ◌≤◌, List, [], ◌∷◌, ◌++◌, map, length, get_or, take, Some, Result, Ok, Err, append_assoc, refl, sym, ap, ◌∙◌, subst, inl, inr, arith}
 use Rattle.std.proofs.lemmas.Option.{same_Some}
 use Rattle.std.proofs.lemmas.List.{take_all}
 use Rattle.std.proofs.lemmas.List.Elements.{Contains-append_left, Contains-append_cases}
@@ -47,7 +47,7 @@ one_later old [] m new i r w a e = (r, subst (λ (h : Holding). ItemAnswer h i (
 one_later old (j ∷ items) m new i r w a e = (w.0, w.1, one_later (after_item old j (Ok w.0)) items m new i r w.2 a e)
 
 -- first the ones, and then the others
-pub merged_both : (old : Holding) (xs ys : List Item) (m new : Holding) → AreMerged old xs m → AreMerged m ys new → AreMerged old (xs ++ ys) new
+merged_both : (old : Holding) (xs ys : List Item) (m new : Holding) → AreMerged old xs m → AreMerged m ys new → AreMerged old (xs ++ ys) new
 merged_both old [] ys m new v w = subst (λ (h : Holding). AreMerged h ys new) v w
 merged_both old (x ∷ xs) ys m new v w = (v.0, v.1, merged_both (after_item old x (Ok v.0)) xs ys m new v.2 w)
 
@@ -135,6 +135,10 @@ pub length_items : {X : Type 0} (f : X → Item) (xs : List X) → length xs ≡
 length_items f xs = sym (length_map f xs)
 
 -- ---- what a join says of all
+pub merged_behind : {A : Type 0} (r : Result A Stop) (old : Holding) (xs ys : List Item) (m new : Holding) → AreMerged old xs m → OnOk r (AreMerged m ys new) → OnOk r (AreMerged old (xs ++ ys) new)
+merged_behind (Ok a) old xs ys m new v w = merged_both old xs ys m new v w
+merged_behind (Err stop) old xs ys m new v w = tt
+
 pub join_if_ok : {A : Type 0} (r : Result A Stop) (old : Holding) (items : List Item) (new : Holding) → IsSound old → OnOk r (AreMerged old items new) → OnOk r (IsTop (held_items new) (held_items old ++ items))
 join_if_ok (Ok a) old items new sound w = all_join old items new sound w
 join_if_ok (Err stop) old items new sound w = tt

@@ -1,20 +1,18 @@
 -- What lists of floors and changes have as a holding, and what a merge and a raised floor leave of them.
-use Rattle.std.proofs.Common.{◌≡◌, ℕ, zero, suc, ◌<◌, ◌≤◌, List, [], ◌∷◌, ◌++◌, length, get_or, set, map, take, drop, Bool, true, false, Option, Some, None, Result, Ok, Err, refl, sym, ap, ◌∙◌, subst, arith, length-set, All, inl}
+use Rattle.std.proofs.Common.{◌≡◌, ℕ, ◌<◌, ◌≤◌, List, [], ◌∷◌, ◌++◌, length, get_or, map, take, drop, Bool, true, false, None, Result, Ok, Err, refl, sym, ap, ◌∙◌, subst, arith, length-set, All, inl}
 use Rattle.std.proofs.lemmas.Option.{slice_get-get_or, none-some}
 use Rattle.std.proofs.lemmas.Cmp.{nat_list_cmp_total}
 use Rattle.std.proofs.lemmas.Map.Lookups.{exact_bytes}
 use Rattle.std.proofs.lemmas.List.Edits.{length-insert}
 use Rattle.std.proofs.lemmas.List.Elements.{All-set, All-append, All-take, All-drop, All-cons, All-nil, All-filter}
 use Rattle.std.specs.List.{slice_get}
-use Rattle.std.specs.FinMap.{get, get-empty, entries, from_entries, len}
+use Rattle.std.specs.FinMap.{get, get-empty, len}
 use Rattle.std.specs.Result.{OnOk, IfErr}
 use Rattle.ds_names.specs.declared.key.Key.{Key}
 use Rattle.ds_names.specs.Key.{name_cmp, key_cmp}
 use Rattle.ds_names.proofs.OrderLemmas.{keys_total, exact_keys}
 use Rattle.ds_entry.specs.Change.{ChangeRecord, IsChange}
-use Rattle.ds_entry.specs.Void.{voids}
 use Rattle.ds_entry.specs.declared.floor.Floor.{Floor}
-use Rattle.ds_entry.specs.declared.item.Item.{Item}
 use Rattle.ds_entry.specs.declared.item.Item.TheVariants.{Change as Changed, Floor as Floored}
 use Rattle.ds_join.specs.ItemTop.{IsTop}
 use Rattle.ds_join.specs.declared.merge.Merge.{Merge}
@@ -22,9 +20,9 @@ use Rattle.ds_join.specs.declared.merge.Merge.TheVariants.{Taken, Known, Stale}
 use Rattle.ds_join.specs.declared.merge.JoinFault.{JoinFault}
 use Rattle.ds_join.specs.declared.merge.JoinFault.TheVariants.{NotOwner, Clash, Full, NoRoom}
 use Rattle.ds_held.specs.Limits.{LimitsRecord}
-use Rattle.ds_held.specs.Held.{Holding, held_changes, held_items, held_for, held_count, floor_for, floor_count, floor_item, change_item, is_void_at, IsSound, nothing_held}
+use Rattle.ds_held.specs.Held.{Holding, held_changes, held_items, held_for, held_count, floor_count, floor_item, change_item, is_void_at, IsSound}
 use Rattle.ds_held.specs.Merge.{AnswersNew, AnswersHeld, AnswersFor, UnlessVoid, MergeAnswer, after_merge, IsRefused}
-use Rattle.ds_held.specs.Raise.{AnswersFloor, AnswersHigher, RaiseAnswer, after_raise}
+use Rattle.ds_held.specs.Raise.{AnswersFloor, RaiseAnswer, after_raise}
 use Rattle.ds_held.specs.Kept.{floored, owned, keyed, by_owner, by_key, floors_of, changes_of, holding_of, AreOwnersRising, AreKeysRising, IsKept, IsPlace, IsFloorPlace, IsPut, put_at, list_after, left_by}
 use Rattle.ds_held.proofs.EntryLemmas.{map_twice}
 use Rattle.ds_held.proofs.PlaceLemmas.{entries_are, count, get_there, get_none, still_rising, map_with, rising_filter}

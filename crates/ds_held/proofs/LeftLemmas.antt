@@ -1,11 +1,10 @@
 -- What a floor leaves of changes in the order of their keys, and of marks beside them.
-use Rattle.std.proofs.Common.{◌≡◌, ℕ, suc, ◌≤◌, List, [], ◌∷◌, length, map, filter, not, true, false, cond, Bool, Option, Some, None, refl, sym, ap, ◌∙◌, subst, arith, All}
-use Rattle.std.proofs.lemmas.List.Elements.{All-filter}
+use Rattle.std.proofs.Common.{◌≡◌, suc, ◌≤◌, List, [], ◌∷◌, length, not, true, false, cond, Bool, Option, Some, None, refl, sym, ap, ◌∙◌, arith}
 use Rattle.std.specs.List.{AllByRecursion}
 use Rattle.std.specs.List.Sorted.{IsStrictlySortedBy}
 use Rattle.std.specs.declared.cmp.Ordering.TheVariants.{Less}
 use Rattle.std.specs.Ordering.{eq_by_cmp, is_eq}
-use Rattle.std.specs.FinMap.{FinMap, find, get, from_entries, get-from_entries, get-retain_keys, same_map}
+use Rattle.std.specs.FinMap.{find, get, from_entries, get-from_entries, get-retain_keys, same_map}
 use Rattle.ds_names.specs.declared.key.Key.{Key}
 use Rattle.ds_names.specs.Key.{key_cmp}
 use Rattle.ds_names.proofs.OrderLemmas.{keys_total, exact_keys}

@@ -1,5 +1,5 @@
 -- Marks beside changes.
-use Rattle.std.proofs.Common.{◌≡◌, ℕ, zero, suc, ◌<◌, ◌≤◌, List, [], ◌∷◌, length, set, map, Bool, true, false, cond, Option, Some, None, is_some, Result, Ok, Err, refl, sym, ap, ◌∙◌, subst, arith, length-set}
+use Rattle.std.proofs.Common.{◌≡◌, ℕ, zero, suc, ◌<◌, ◌≤◌, List, [], ◌∷◌, length, set, map, true, false, cond, Option, Some, None, is_some, Result, Ok, Err, refl, sym, ap, ◌∙◌, subst, arith, length-set}
 use Rattle.std.proofs.lemmas.Option.{same_Some, get_or_from_slice_get}
 use Rattle.std.proofs.lemmas.List.Edits.{length-insert}
 use Rattle.std.specs.List.{slice_get}
@@ -9,7 +9,7 @@ use Rattle.std.specs.Prelude.{⊤}
 use Rattle.std.specs.declared.cmp.Ordering.TheVariants.{Equal}
 use Rattle.std.specs.Ordering.{eq_by_cmp, is_eq}
 use Rattle.std.specs.Cmp.{tied_itself}
-use Rattle.std.specs.FinMap.{FinMap, find, put, get, from_entries, get-from_entries, get-entries, get-insert, entries, entries_sorted, len-entries, same_map, is_sorted}
+use Rattle.std.specs.FinMap.{FinMap, find, put, get, from_entries, get-from_entries, get-entries, get-insert, entries, entries_sorted, same_map, is_sorted}
 use Rattle.std.specs.FinMap as finite
 use Rattle.std.specs.FinMap.Entries.{by_order, find-put, below_all}
 use lib.Dec.{T}
@@ -18,7 +18,6 @@ use Rattle.ds_names.specs.Key.{key_cmp}
 use Rattle.ds_names.proofs.OrderLemmas.{keys_total, exact_keys}
 use Rattle.ds_entry.specs.Change.{ChangeRecord}
 use Rattle.ds_entry.specs.declared.floor.Floor.{Floor}
-use Rattle.ds_entry.proofs.CoversLemmas.{same_key-refl}
 use Rattle.ds_join.specs.declared.merge.Merge.{Merge}
 use Rattle.ds_join.specs.declared.merge.Merge.TheVariants.{Taken, Known, Stale}
 use Rattle.ds_join.specs.declared.merge.JoinFault.{JoinFault}
@@ -30,7 +29,7 @@ use Rattle.ds_held.specs.Raise.{at_kept_keys}
 use Rattle.ds_held.specs.Kept.{keyed, by_key, changes_of, AreKeysRising, IsPlace, IsPut, put_at, list_after, left_by}
 use Rattle.ds_held.specs.Marked.{MarkedHolding, nothing_marked, marks_after, marks_raised, remarked}
 use Rattle.ds_held.specs.Beside.{marked_keys, marks_beside, marks_left, IsBeside}
-use Rattle.ds_held.proofs.EntryLemmas.{both, below_is, unlike}
+use Rattle.ds_held.proofs.EntryLemmas.{both, unlike}
 use Rattle.ds_held.proofs.PlaceLemmas.{later, rest_place, rest_gap, before_gap, behind_gap, at_place, tied_place}
 use Rattle.ds_held.proofs.KeptLemmas.{change_there, change_none, changes_are, kept_nothing, none_more}
 use Rattle.ds_held.proofs.LeftLemmas.{marks_are_left, each_left}

@@ -1,10 +1,10 @@
 -- The place of a key in a list whose keys rise, and what a write there does to the map that the list is seen as.
-use Rattle.std.proofs.Common.{◌≡◌, ℕ, zero, suc, ◌<◌, List, [], ◌∷◌, length, get_or, map, filter, not, true, false, cond, Bool, ◌&&◌, Option, Some, None, Result, Ok, Err, refl, sym, ap, ◌∙◌, subst, arith}
+use Rattle.std.proofs.Common.{◌≡◌, ℕ, zero, suc, ◌<◌, List, [], ◌∷◌, length, get_or, map, filter, true, false, cond, Bool, ◌&&◌, Some, None, Result, Ok, Err, refl, sym, ap, ◌∙◌, subst, arith}
 use Rattle.std.specs.declared.cmp.Ordering.{Ordering}
 use Rattle.std.specs.declared.cmp.Ordering.TheVariants.{Less, Equal, Greater}
-use Rattle.std.specs.Ordering.{eq_by_cmp, is_eq, ordering_reverse}
-use Rattle.std.specs.Cmp.{IsTotalOrder, tied_itself, Equal-is}
-use Rattle.std.specs.FinMap.{FinMap, find, put, get, len, from_entries, get-from_entries, get-entries, entries, entries_sorted, entries-insert, len-entries, same_entries_map, is_sorted}
+use Rattle.std.specs.Ordering.{is_eq, ordering_reverse}
+use Rattle.std.specs.Cmp.{IsTotalOrder}
+use Rattle.std.specs.FinMap.{find, put, get, len, from_entries, get-from_entries, get-entries, entries, entries_sorted, entries-insert, len-entries, same_entries_map, is_sorted}
 use Rattle.std.specs.FinMap as finite
 use Rattle.std.specs.FinMap.Entries.{below_all, by_order, is_sorted-put, same_entries}
 use lib.Dec.{T}

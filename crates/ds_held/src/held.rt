@@ -287,6 +287,12 @@ impl Held {
         ensures marks { marks.new.items ≡ list_after marks.old.items (marks_left floor (held_changes self.old) marks.old.items) result }
         ensures sound { IsSound self.new }
     {
-        raise_beside(&mut self.floors, &mut self.changes, marks, self.limits, floor)
+        raise_beside(
+            &mut self.floors,
+            &mut self.changes,
+            marks,
+            self.limits,
+            floor,
+        )
     }
 }

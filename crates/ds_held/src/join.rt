@@ -1,7 +1,8 @@
 //! Joining with all that another holder has.
 
-ghost use Rattle.std.specs.Prelude.{◌≡◌, ◌≤◌, ◌<◌, ◌++◌, map, length, IfErr, OnOk};
-ghost use Rattle.ds_held.specs.Held.{change_item};
+ghost use Rattle.std.specs.Prelude.{◌≡◌, ◌≤◌, ◌<◌, ◌++◌, List, map, length, IfErr, OnOk};
+ghost use Rattle.ds_entry.specs.declared.item.Item.{Item};
+ghost use Rattle.ds_held.specs.Held.{Holding, change_item};
 ghost use Rattle.ds_held.specs.Join.{AreMerged, IsStopped};
 ghost use Rattle.ds_held.specs.Kept.{floored, holding_of, IsKept};
 
@@ -58,6 +59,31 @@ fn merge_all(
     Ok(())
 }
 
+// Merges the changes of another holder, which stand behind so many of its floors.
+fn merge_behind(
+    alloc: Global,
+    floors: &[Floor],
+    changes: &mut Vec<Change>,
+    limits: Limits,
+    before: usize,
+    other: &[Change],
+) -> Result<(), Stop>
+    requires kept { IsKept floors.now changes.old.items limits }
+    requires few_before { before ≤ 64 }
+    requires few { length other.now ≤ 4096 }
+    ensures merged { OnOk result (AreMerged (holding_of floors.now changes.old.items limits) (map change_item other.now) (holding_of floors.now changes.new.items limits)) }
+    ensures stopped { (old : Holding) (raised : List Item) → AreMerged old raised (holding_of floors.now changes.old.items limits) → before ≡ length raised → IfErr result (IsStopped old (raised ++ map change_item other.now) (holding_of floors.now changes.new.items limits)) }
+    ensures kept { IsKept floors.now changes.new.items limits }
+{
+    match merge_all(alloc, floors, changes, limits, other) {
+        Ok(()) => Ok(()),
+        Err(Stop { done, fault }) => Err(Stop {
+            done: before + done,
+            fault,
+        }),
+    }
+}
+
 // Raises the floors of another holder, and then merges its changes.
 pub(crate) fn join_into(
     alloc: Global,
@@ -74,12 +100,15 @@ pub(crate) fn join_into(
     ensures stopped { IfErr result (IsStopped (holding_of floors.old.items changes.old.items limits) (map floored other_floors.now ++ map change_item other_changes.now) (holding_of floors.new.items changes.new.items limits)) }
     ensures kept { IsKept floors.new.items changes.new.items limits }
 {
-    raise_all(floors, changes, limits, other_floors)?;
-    match merge_all(alloc, floors, changes, limits, other_changes) {
-        Ok(()) => Ok(()),
-        Err(Stop { done, fault }) => Err(Stop {
-            done: other_floors.len() + done,
-            fault,
-        }),
+    match raise_all(floors, changes, limits, other_floors) {
+        Ok(()) => merge_behind(
+            alloc,
+            floors,
+            changes,
+            limits,
+            other_floors.len(),
+            other_changes,
+        ),
+        Err(stop) => Err(stop),
     }
 }

@@ -1,6 +1,7 @@
 //! Raising a floor over a list of changes, which drops what it makes void.
 
-ghost use Rattle.std.specs.Prelude.{◌≡◌, length};
+ghost use Rattle.std.specs.Prelude.{◌≡◌, ◌<◌, ◌≤◌, ◌+◌, if◌then◌else◌, length, vec_len};
+ghost use Rattle.std.specs.List.{swap};
 ghost use Rattle.ds_held.specs.Beside.{marks_left};
 ghost use Rattle.ds_held.specs.Kept.{holding_of, left_by, list_after, IsKept};
 ghost use Rattle.ds_held.specs.Raise.{after_raise, RaiseAnswer};
@@ -33,17 +34,29 @@ pub(crate) fn raise_into(
     }
 }
 
+// Moves the mark at an index to the end of those that are left, if it stays, and says how many are left then.
+fn keep_mark<M>(marks: &mut Vec<M>, left: usize, index: usize, stays: bool) -> usize
+    requires within { index < vec_len marks.old }
+    requires low { left ≤ index }
+    ensures marks { marks.new.items ≡ if stays then swap marks.old.items left index else marks.old.items }
+    ensures left { result ≡ if stays then left + 1 else left }
+{
+    if stays {
+        marks.swap(left, index);
+        left + 1
+    } else {
+        left
+    }
+}
+
 // Drops the marks of the changes that a floor makes void. It takes no memory.
-pub(crate) fn drop_marks<M: Drop>(marks: &mut Vec<M>, changes: &[Change], floor: &Floor)
+fn drop_marks<M: Drop>(marks: &mut Vec<M>, changes: &[Change], floor: &Floor)
     requires { length marks.old.items ≡ length changes.now }
     ensures { marks.new.items ≡ marks_left floor.now changes.now marks.old.items }
 {
     let mut left = 0;
     for i in 0..changes.len() {
-        if !floor.voids(&changes[i]) {
-            marks.swap(left, i);
-            left += 1;
-        }
+        left = keep_mark(marks, left, i, !floor.voids(&changes[i]));
     }
     marks.truncate(left);
 }

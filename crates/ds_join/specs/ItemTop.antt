@@ -1,4 +1,4 @@
--- The top of a set of items: what of it is held. A set is a list, read up to membership. No holder holds items yet.
+-- The top of a set of items: what of it is held. A set is a list, read up to membership.
 use Rattle.std.specs.Prelude.{◌≡◌, true, false, not, if◌then◌else◌, List, [], ◌∷◌, ◌++◌, filter, fold, Contains}
 use Rattle.std.specs.List.{list_any}
 use Rattle.std.specs.List.Sorted.{IsStrictlySortedBy}

@@ -1,4 +1,4 @@
-//! The laws of tops and joins of items, over their definitions alone. No holder holds items yet.
+//! The laws of tops and joins of items, over their definitions alone.
 
 ghost use Rattle.ds_join.specs.ItemJoin.{JoinIsCommutative, JoinIsAssociative, JoinIsIdempotent, JoinIsLeast};
 ghost use Rattle.ds_join.specs.ItemTopLaws.{TopExists, TopIsUnique, HeldIsTop, GreatestFloorIsHeld, NothingVoidIsHeld, TopsIsTop, TopOfTop, TopOfUnion, TopOfCovered};

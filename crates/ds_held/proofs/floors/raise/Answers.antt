@@ -1,7 +1,7 @@
 use Rattle.std.proofs.Common.{Ok, Err, sym, subst}
 use Rattle.std.proofs.lemmas.Cmp.{nat_list_cmp_total}
 use Rattle.std.proofs.lemmas.Map.Lookups.{exact_bytes}
-use Rattle.std.specs.FinMap.{get, len}
+use Rattle.std.specs.FinMap.{len}
 use Rattle.ds_names.specs.Key.{name_cmp}
 use Rattle.ds_held.specs.Kept.{owned, floors_of, IsFloorPlace}
 use Rattle.ds_held.specs.Merge.{AnswersNew}

@@ -1,4 +1,4 @@
-use Rattle.std.proofs.Common.{not, refl, rules}
+use Rattle.std.proofs.Common.{not, rules}
 use Rattle.std.proofs.lemmas.Fn.{filter_same}
 use Rattle.ds_entry.specs.Change.{ChangeRecord}
 use Rattle.ds_entry.specs.Void.{voids}

@@ -1,11 +1,9 @@
 use Rattle.std.proofs.Common.{Ok, sym, ap, ◌∙◌, subst}
 use Rattle.ds_names.specs.declared.key.Key.{Key}
-use Rattle.ds_entry.specs.Change.{ChangeRecord, IsChange}
 use Rattle.ds_join.specs.declared.merge.Merge.{Merge}
-use Rattle.ds_join.specs.declared.merge.Merge.TheVariants.{Taken}
-use Rattle.ds_held.specs.Kept.{holding_of, list_after, put_at, IsKept, IsPlace}
+use Rattle.ds_held.specs.Kept.{holding_of, IsKept, IsPlace}
 use Rattle.ds_held.specs.Merge.{MergeAnswer}
-use Rattle.ds_held.proofs.KeptLemmas.{put_answer, put_refused, merged_after, merged_kept}
+use Rattle.ds_held.proofs.KeptLemmas.{put_answer, merged_after, merged_kept}
 use Rattle.ds_held.proofs.list.merge_into.Goals as goal
 
 pub returns-in-Taken-clause-answer : goal.returns-in-Taken-clause-answer

@@ -1,4 +1,4 @@
-use Rattle.std.proofs.Common.{◌≡◌, true, Ok, length, vec_len, vec_capacity, ap, ◌∙◌, arith, rules}
+use Rattle.std.proofs.Common.{◌≡◌, true, length, vec_len, vec_capacity, ap, ◌∙◌, arith, rules}
 use Rattle.ds_held.specs.Held.{held_changes}
 use Rattle.ds_held.specs.Kept.{put_at}
 use Rattle.ds_held.proofs.MarkLemmas.{room_there, put_is_taken}

@@ -1,7 +1,7 @@
-use Rattle.std.proofs.Common.{◌≡◌, ℕ, Result, Ok, sym, ap, ◌∙◌, subst}
+use Rattle.std.proofs.Common.{◌≡◌, Ok, sym, ap, ◌∙◌, subst}
 use Rattle.ds_join.specs.declared.merge.Merge.{Merge}
 use Rattle.ds_join.specs.declared.merge.Merge.TheVariants.{Taken}
-use Rattle.ds_held.specs.Kept.{holding_of, list_after, put_at, IsKept, IsFloorPlace, left_by}
+use Rattle.ds_held.specs.Kept.{holding_of, list_after, put_at, IsKept}
 use Rattle.ds_held.specs.Raise.{RaiseAnswer}
 use Rattle.ds_held.proofs.KeptLemmas.{raised_after, raised_kept}
 use Rattle.ds_held.proofs.void.raise_into.Goals as goal

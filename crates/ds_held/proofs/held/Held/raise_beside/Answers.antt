@@ -1,4 +1,4 @@
-use Rattle.std.proofs.Common.{◌≡◌, length, sym, ap, ◌∙◌, subst}
+use Rattle.std.proofs.Common.{length, sym, ap, ◌∙◌}
 use Rattle.ds_held.specs.Held.{Holding, held_changes}
 use Rattle.ds_held.specs.Kept.{left_by, list_after}
 use Rattle.ds_held.specs.Beside.{marks_left}
