@@ -7,5 +7,3 @@ pub mod EffectLemmas
 pub mod KnownLemmas
 pub mod FitLemmas
 pub mod SaysLemmas
-pub mod CountLemmas
-pub mod WithinLemmas

@@ -11,7 +11,6 @@ pub mod Merging
 pub mod Watching
 pub mod Machine
 pub mod Reached
-pub mod Within
 pub mod Effect
 pub mod Says
 pub mod FloorLaws
