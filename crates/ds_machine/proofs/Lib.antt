@@ -7,3 +7,5 @@ pub mod EffectLemmas
 pub mod KnownLemmas
 pub mod FitLemmas
 pub mod SaysLemmas
+pub mod CountLemmas
+pub mod WithinLemmas

@@ -26,7 +26,7 @@ use Rattle.ds_machine.specs.Watching.{shows, subscribe_case, owed_at_first, show
 use Rattle.ds_machine.specs.Machine.{Step, IsOutcome, MergeWantsRoom, outcome, asking, answer_for, sweep_answer, dropped, found_or, live_at}
 use Rattle.ds_machine.specs.Reached.{IsReached}
 use Rattle.ds_machine.specs.Effect.{brought_by}
-use Rattle.ds_machine.specs.Says.{IsTaken, ChangedSays, FoundSays, NamedSays, IsMerged, MergedSays, IsStopped, MergeStoppedSays, OwedFits, OwedTells, IsReplyTo, RepliesFit}
+use Rattle.ds_machine.specs.Says.{RefusedSays, IsTaken, ChangedSays, FoundSays, NamedSays, IsMerged, MergedSays, IsStopped, MergeStoppedSays, OwedFits, OwedTells, IsReplyTo, RepliesFit}
 use Rattle.ds_machine.specs.declared.refusal.Cause.{Cause}
 use Rattle.ds_machine.specs.declared.refusal.Cause.TheVariants as causes
 use Rattle.ds_machine.specs.declared.refusal.Refusal.{Refusal}
@@ -39,6 +39,87 @@ use Rattle.ds_machine.proofs.CourseLemmas.{Went}
 use Rattle.ds_machine.proofs.EffectLemmas.{begun_went}
 use Rattle.ds_machine.proofs.KnownLemmas.{learnt_is_held}
 use Rattle.ds_machine.proofs.FitLemmas.{replies_fit}
+
+-- ---- a refused command
+is_refused : Reply → Bool
+is_refused (Refused refusal) = true
+is_refused _ = false
+
+refused_not : (refusal : Refusal) (reply : Reply) → is_refused reply ≡ false → Refused refusal ≡ reply → ⊥
+unfolding is_refused
+refused_not refusal reply f e = let t : true ≡ false = ap is_refused e ∙ f in absurd (cc)
+
+module _ (s t : State) (refusal : Refusal) where
+  -- one that is answered by a reply of its own unless something stands against it
+  stays_unless : {X : Type 0} (o : Option X) (f : X → Reply) (reply : Reply) (new : State)
+      → Refused refusal ≡ (option_map_or {U = Reply × State} (λ x. (f x, s)) o (reply, new)).0 → t ≡ (option_map_or {U = Reply × State} (λ x. (f x, s)) o (reply, new)).1 → is_refused reply ≡ false → t ≡ s
+  stays_unless (Some x) f reply new e q differs = q
+  stays_unless None f reply new e q differs = absurd (refused_not refusal reply differs e)
+
+  merge_unless : (items : List Item) (o : Option Refusal) → Refused refusal ≡ (merging s items o).0 → t ≡ (merging s items o).1 → t ≡ s
+  merge_unless items (Some r) e q = q
+  merge_unless items None e q = absurd (by_stop (course s items).stop e)
+    where
+      by_stop : (o : Option Refusal) → Refused refusal ≡ option_map_or {U = Reply} (λ fault. MergeStopped (course s items).done fault (owed s (course s items).taken)) o (Merged (course s items).done (length (course s items).taken) (course s items).stale (owed s (course s items).taken)) → ⊥
+      by_stop (Some fault) h = cc
+      by_stop None h = cc
+
+  check_unless : (sub max : ℕ) (o : Option Subscription) → Refused refusal ≡ (checking_at s sub max o).0 → t ≡ (checking_at s sub max o).1 → t ≡ s
+  check_unless sub max o e q = by_cause o (first_refusal (against_check (check_case s sub max o))) e q
+    where
+      by_items : (seer : Subscription) (items : List Item) → Refused refusal ≡ (shows s sub seer items).0 → t ≡ (shows s sub seer items).1 → t ≡ s
+      by_items seer [] e q = q
+      by_items seer (i ∷ items) e q = absurd (cc)
+
+      out : Option Subscription → Option Refusal → Reply × State
+      out o p = option_map_or {U = Reply × State} (λ r. (Refused r, s)) p (option_map_or {U = Reply × State} (λ f. shows s sub f (take max (unseen s f))) o (Refused refusals.NotFound, s))
+
+      by_cause : (o : Option Subscription) (p : Option Refusal) → Refused refusal ≡ (out o p).0 → t ≡ (out o p).1 → t ≡ s
+      by_cause o (Some r) e q = q
+      by_cause None None e q = q
+      by_cause (Some seer) None e q = by_items seer (take max (unseen s seer)) e q
+
+  by_outcome : (command : Command) → IsOutcome (outcome s command) (Refused refusal) t → t ≡ s
+  unfolding is_refused
+  by_outcome (Publish caller key version value overwrite) is =
+      let a : Request = published caller key version overwrite in
+      let i : Item = Changed (asked_in s a (Put value)) in
+      stays_unless (cause_against s a (Put value)) answer_for (Accepted (owed s (i ∷ []))) (accepts s (i ∷ [])) is.reply_is is.state_is refl
+  by_outcome (Delete caller key version) is =
+      let a : Request = deleted caller key version in
+      let i : Item = Changed (asked_in s a Gone) in
+      stays_unless (cause_against s a Gone) answer_for (Accepted (owed s (i ∷ []))) (accepts s (i ∷ [])) is.reply_is is.state_is refl
+  by_outcome (Sweep caller owner generation) is =
+      let f : Floor = floor_of owner generation in
+      stays_unless (sweep_cause s caller f) sweep_answer (Swept (length (dropped (held s) f)) (owed s (Floored f ∷ []))) (accepts s (Floored f ∷ [])) is.reply_is is.state_is refl
+  by_outcome (Retrieve key) is = is.state_is
+  by_outcome (NameOf endpoint) is = is.state_is
+  by_outcome (Subscribe sub query initial overwrite) is =
+      stays_unless (first_refusal (against_subscribe (subscribe_case s sub query overwrite))) Refused (Subscribed (s.stamp + 1) (owed_at_first (held s) sub query initial)) (subscribes s sub query (shown_at_first (held s) initial))
+      is.reply_is is.state_is refl
+  by_outcome (Check sub max) is = check_unless sub max (subscription_at s sub) is.reply_is is.state_is
+  by_outcome (Since scope at max) is = stays_unless (first_refusal (against_since s.feed scope at max)) Refused (Journaled (since_of s.feed (is_kept scope) at max)) s is.reply_is is.state_is refl
+  by_outcome (Snapshot scope) is = stays_unless (first_refusal (against_scope scope)) Refused (Snapped (snapshot_of (is_kept scope) (held s) (cursor s))) s is.reply_is is.state_is refl
+  by_outcome (Page scope after max) is = stays_unless (first_refusal (against_page scope max)) Refused (Paged (page_of (is_kept scope) after max (held s) (cursor s))) s is.reply_is is.state_is refl
+  by_outcome (Merge items) is = merge_unless items (first_refusal (against_merge (length items))) is.reply_is is.state_is
+
+  wants_not : (command : Command) → MergeWantsRoom s command (Refused refusal) t → ⊥
+  wants_not (Merge items) w = let e : Refused refusal ≡ MergeStopped _ _ _ = w.1.reply_is in cc
+  wants_not (Publish caller key version value overwrite) w = w
+  wants_not (Delete caller key version) w = w
+  wants_not (Sweep caller owner generation) w = w
+  wants_not (Retrieve key) w = w
+  wants_not (NameOf endpoint) w = w
+  wants_not (Subscribe sub query initial overwrite) w = w
+  wants_not (Check sub max) w = w
+  wants_not (Since scope at max) w = w
+  wants_not (Snapshot scope) w = w
+  wants_not (Page scope after max) w = w
+
+pub refused_says : RefusedSays
+refused_says s t command refusal (inl (inl is)) = by_outcome s t refusal command is
+refused_says s t command refusal (inl (inr wants)) = wants.state_is
+refused_says s t command refusal (inr w) = absurd (wants_not s t refusal command w)
 
 -- ---- a merge
 pub merged_says : MergedSays

@@ -11,6 +11,7 @@ pub mod Merging
 pub mod Watching
 pub mod Machine
 pub mod Reached
+pub mod Within
 pub mod Effect
 pub mod Says
 pub mod FloorLaws

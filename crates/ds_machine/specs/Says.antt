@@ -31,6 +31,10 @@ use Rattle.ds_machine.specs.declared.command.Command.TheVariants.{Publish, Delet
 use Rattle.ds_machine.specs.declared.reply.Reply.{Reply}
 use Rattle.ds_machine.specs.declared.reply.Reply.TheVariants.{Changed as Accepted, Known, Swept, Found, Named, Subscribed, Checked, Journaled, Snapped, Paged, Merged, MergeStopped, Refused}
 
+-- a refused command leaves the state as it was
+abbrev pub RefusedSays : Type 0
+RefusedSays = (s t : State) (command : Command) (refusal : Refusal) → Step s command (Refused refusal) t → t ≡ s
+
 -- the change that was asked for took effect, and is owed to those under whose query it is
 pub record IsTaken (s : State) (items : List Item) (owed_mask : ℕ) (t : State) : Type 0 where
   pub owed_is : owed_mask ≡ owed s items

@@ -3,7 +3,8 @@
 ghost use Rattle.ds_machine.specs.Effect.{OpeningIsReached, StepsStayReached, RunsStayReached, StepHasEffect, StepsGoOn, RunsGoOn, HeldIsTop, LearntIsHeld, KnownStaysHeld};
 ghost use Rattle.ds_machine.specs.Examples.{PublishRow, SweepRow, RingRow, PageRow, ChangingPagesRow, LastPlaceRow};
 ghost use Rattle.ds_machine.specs.FloorLaws.{AcceptedFloorStands, FloorStandsOverRuns};
-ghost use Rattle.ds_machine.specs.Says.{ChangedSays, FoundSays, NamedSays, SweptSays, SubscribedSays, CheckedSays, JournaledSays, SnappedSays, PagedSays, MergedSays, MergeStoppedSays, OwedFits, OwedTells, RepliesFit};
+ghost use Rattle.ds_machine.specs.Says.{RefusedSays, ChangedSays, FoundSays, NamedSays, SweptSays, SubscribedSays, CheckedSays, JournaledSays, SnappedSays, PagedSays, MergedSays, MergeStoppedSays, OwedFits, OwedTells, RepliesFit};
+ghost use Rattle.ds_machine.specs.Within.{OpeningIsWithin, StepsStayWithin, RunsStayWithin};
 
 /// The opening state is reached, and each step and each run leads from a state that is reached to another: its accepted
 /// items have a top, which is what is held.
@@ -12,6 +13,13 @@ pub fn states_are_reached()
     ensures steps { StepsStayReached }
     ensures runs { RunsStayReached }
     ensures held { HeldIsTop }
+{}
+
+/// Every state stays within its limits: no more keys and floors are held than may be, and no position or stamp passes 2^62.
+pub fn limits_are_kept()
+    ensures opening { OpeningIsWithin }
+    ensures steps { StepsStayWithin }
+    ensures runs { RunsStayWithin }
 {}
 
 /// A step makes items take effect that its command brought, each of which is news when it comes, or writes the place of one
@@ -33,6 +41,7 @@ pub fn floors_stand()
 
 /// What each answer says of the states before and after it.
 pub fn answers_say()
+    ensures refused { RefusedSays }
     ensures changed { ChangedSays }
     ensures found { FoundSays }
     ensures named { NamedSays }

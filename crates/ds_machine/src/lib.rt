@@ -14,7 +14,7 @@ mod reply;
 
 pub use command::{Command, Scope};
 pub use laws::{
-    answers_fit, answers_say, floors_stand, rows_are_answered, states_are_reached,
+    answers_fit, answers_say, floors_stand, limits_are_kept, rows_are_answered, states_are_reached,
     steps_have_effects,
 };
 pub use refusal::{Cause, Refusal};
