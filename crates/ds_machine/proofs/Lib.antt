@@ -1,0 +1,11 @@
+pub mod PartLemmas
+pub mod NewsLemmas
+pub mod CauseLemmas
+pub mod ReachedLemmas
+pub mod CourseLemmas
+pub mod EffectLemmas
+pub mod KnownLemmas
+pub mod FitLemmas
+pub mod SaysLemmas
+pub mod CountLemmas
+pub mod WithinLemmas

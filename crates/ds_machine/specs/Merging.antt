@@ -1,0 +1,45 @@
+-- How a Merge goes through its items.
+use Rattle.std.specs.Prelude.{◌≡◌, ℕ, ◌+◌, List, [], ◌∷◌, ◌++◌, length, fold, Option, Some, None}
+use Rattle.std.specs.Option.{option_map_or}
+use Rattle.ds_entry.specs.declared.item.Item.{Item}
+use Rattle.ds_machine.specs.State.{State, accepts, owed}
+use Rattle.ds_machine.specs.Standing.{cause_of}
+use Rattle.ds_machine.specs.declared.refusal.Cause.{Cause}
+use Rattle.ds_machine.specs.declared.refusal.Cause.TheVariants as causes
+use Rattle.ds_machine.specs.declared.refusal.Refusal.{Refusal}
+use Rattle.ds_machine.specs.declared.refusal.Refusal.TheVariants as refusals
+use Rattle.ds_machine.specs.declared.reply.Reply.{Reply}
+use Rattle.ds_machine.specs.declared.reply.Reply.TheVariants.{Merged, MergeStopped, Refused}
+
+-- how far a merge has come: what it left, how many items it did, which of them took effect, how many were stale, and what stopped it
+pub record Course : Type 0 where
+  pub state : State
+  pub done : ℕ
+  pub taken : List Item
+  pub stale : ℕ
+  pub stop : Option Refusal
+
+abbrev pub begun : State → Course
+begun s = record { state = s; done = 0; taken = []; stale = 0; stop = None }
+
+-- an item takes effect, is known or stale, or stops the merge
+abbrev pub item_judged : Course → Item → Option Cause → Course
+item_judged k i None = record k { state = accepts k.state (i ∷ []); done = k.done + 1; taken = k.taken ++ i ∷ [] }
+item_judged k i (Some causes.Known) = record k { done = k.done + 1 }
+item_judged k i (Some (causes.Refused refusals.Stale)) = record k { done = k.done + 1; stale = k.stale + 1 }
+item_judged k i (Some (causes.Refused refusal)) = record k { stop = Some refusal }
+
+-- one more item, unless the merge was stopped
+abbrev pub item_merged : Course → Item → Course
+item_merged k i = option_map_or (λ stop. k) k.stop (item_judged k i (cause_of k.state i))
+
+-- the items in order, up to the first that is refused
+abbrev pub course : State → List Item → Course
+course s items = fold item_merged (begun s) items
+
+-- the reply of a merge that began in this state
+abbrev pub merge_reply : State → Course → Reply
+merge_reply s k = option_map_or (λ fault. MergeStopped k.done fault (owed s k.taken)) k.stop (Merged k.done (length k.taken) k.stale (owed s k.taken))
+
+abbrev pub merging : State → List Item → Option Refusal → Reply × State
+merging s items refusal = option_map_or (λ r. (Refused r, s)) refusal (merge_reply s (course s items), (course s items).state)

@@ -1,0 +1,109 @@
+-- What stands against a change or a floor that is to take effect.
+use Rattle.std.specs.Prelude.{◌≡◌, ℕ, ◌<◌, Bool, true, false, not, ◌&&◌, ◌||◌, ◌==◌, nat_le, nat_lt, List, length, Option, Some, None, is_none}
+use Rattle.std.specs.declared.cmp.Ordering.TheVariants.{Less}
+use Rattle.std.specs.Ordering.{is_eq, is_gt}
+use Rattle.std.specs.Cmp.Lexicographic.{pointwise}
+use Rattle.ds_names.specs.Version.{version_cmp}
+use Rattle.ds_entry.specs.declared.body.Value.{Value}
+use Rattle.ds_entry.specs.declared.body.Value.TheVariants as values
+use Rattle.ds_entry.specs.declared.body.Body.{Body}
+use Rattle.ds_entry.specs.declared.body.Body.TheVariants.{Put, Gone}
+use Rattle.ds_entry.specs.declared.floor.Floor.{Floor}
+use Rattle.ds_entry.specs.declared.item.Item.{Item}
+use Rattle.ds_entry.specs.declared.item.Item.TheVariants.{Change as Changed, Floor as Floored}
+use Rattle.ds_entry.specs.Change.{ChangeRecord}
+use Rattle.ds_entry.specs.Void.{is_void}
+use Rattle.ds_join.specs.Label.{is_same_endpoint}
+use Rattle.ds_machine.specs.Limits.{most_floors, last_place}
+use Rattle.ds_machine.specs.Parts.{changes_in, floors_in, held_at, floor_at}
+use Rattle.ds_machine.specs.State.{State, held, position}
+use Rattle.ds_machine.specs.Order.{first_cause}
+use Rattle.ds_machine.specs.declared.refusal.Cause.{Cause}
+use Rattle.ds_machine.specs.declared.refusal.Cause.TheVariants.{Known, Refused}
+use Rattle.ds_machine.specs.declared.refusal.Refusal.TheVariants.{NotOwner, Clash, Stale, Full, Worn}
+
+-- the names are one, byte by byte
+abbrev pub is_same_name : List ℕ → List ℕ → Bool
+is_same_name = pointwise ◌==◌
+
+abbrev pub is_same_value : Value → Value → Bool
+is_same_value (values.Label d) (values.Label e) = is_same_endpoint d e
+is_same_value (values.U32 m) (values.U32 n) = m == n
+is_same_value (values.Str s) (values.Str t) = pointwise ◌==◌ s t
+is_same_value (values.Mem s) (values.Mem t) = pointwise ◌==◌ s t
+is_same_value _ _ = false
+
+abbrev pub is_same_body : Body → Body → Bool
+is_same_body (Put a) (Put b) = is_same_value a b
+is_same_body Gone Gone = true
+is_same_body _ _ = false
+
+-- ---- a change
+
+-- what is there before it: the change that is held for its key, whether a floor makes it void, how many keys are held and
+-- may be, and the position
+pub record Standing : Type 0 where
+  pub held : Option ChangeRecord
+  pub void : Bool
+  pub count : ℕ
+  pub most : ℕ
+  pub position : ℕ
+
+abbrev pub standing_of : State → ChangeRecord → Standing
+standing_of s c = record { held = held_at (held s) c.key; void = is_void (held s) c; count = length (changes_in (held s)); most = s.limits.keys; position = position s }
+
+-- there is a held change, and it passes the test
+abbrev pub on_held : Option ChangeRecord → (ChangeRecord → Bool) → Bool
+on_held None test = false
+on_held (Some h) test = test h
+
+-- what stands against a change of its key: another owner, another body at its version, a greater version or a floor that
+-- makes it void, itself, no room for one more key, and no position left
+abbrev pub against_change : Standing → ChangeRecord → Cause → Bool
+against_change t c (Refused NotOwner) = on_held t.held (λ h. not (is_same_name h.owner c.owner))
+against_change t c (Refused (Clash v)) = on_held t.held (λ h. is_eq (version_cmp h.version c.version) && not (is_same_body h.body c.body))
+against_change t c (Refused Stale) = on_held t.held (λ h. is_gt (version_cmp h.version c.version)) || t.void
+against_change t c Known = on_held t.held (λ h. is_eq (version_cmp h.version c.version) && is_same_body h.body c.body)
+against_change t c (Refused Full) = is_none t.held && nat_le t.most t.count
+against_change t c (Refused Worn) = nat_le last_place t.position
+against_change t c _ = false
+
+-- the change is of the owner of what is held for its key, in a greater version, so that it takes that one's place
+abbrev pub TakesPlace : ChangeRecord → ChangeRecord → Type 0
+TakesPlace h c = (h.owner ≡ c.owner) × (version_cmp h.version c.version ≡ Less)
+
+-- there is room for its key, or it takes the place of what is held for it
+abbrev pub HasRoom : Option ChangeRecord → ℕ → ℕ → ChangeRecord → Type 0
+HasRoom None count most c = count < most
+HasRoom (Some h) count most c = TakesPlace h c
+
+-- ---- a floor
+
+-- what is there before it: the floor that is held of its owner, how many floors are held, and the position
+pub record FloorStanding : Type 0 where
+  pub held : Option Floor
+  pub count : ℕ
+  pub position : ℕ
+
+abbrev pub floor_standing_of : State → Floor → FloorStanding
+floor_standing_of s f = record { held = floor_at (held s) f.owner; count = length (floors_in (held s)); position = position s }
+
+-- there is a floor, and its generation passes the test
+abbrev pub on_floor : Option Floor → (ℕ → Bool) → Bool
+on_floor None test = false
+on_floor (Some g) test = test g.generation
+
+-- what stands against a floor: a greater one of its owner, an equal one, no room for one more, and no position left
+abbrev pub against_floor : FloorStanding → Floor → Cause → Bool
+against_floor t f (Refused Stale) = on_floor t.held (λ g. nat_lt f.generation g)
+against_floor t f Known = on_floor t.held (λ g. g == f.generation)
+against_floor t f (Refused Full) = is_none t.held && nat_le most_floors t.count
+against_floor t f (Refused Worn) = nat_le last_place t.position
+against_floor t f _ = false
+
+-- ---- an item
+
+-- the first cause against an item that another holder gave
+abbrev pub cause_of : State → Item → Option Cause
+cause_of s (Changed c) = first_cause (Some c.version) (against_change (standing_of s c) c)
+cause_of s (Floored f) = first_cause None (against_floor (floor_standing_of s f) f)

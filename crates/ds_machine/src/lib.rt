@@ -1,0 +1,21 @@
+//! The machine of a store in its final form: what its states are, in which order it judges what stands against a command,
+//! what each command does and answers, and laws of its steps and of whole runs. No store steps by it yet.
+//!
+//! Publishing, deleting, retrieving, naming, subscribing and checking are MINIX 3's data store's (DS), where each entry has
+//! an owner, only RS publishes labels, and a live entry is overwritten only with the overwrite flag (the DS interface of
+//! MINIX 3; Herder and others, DSN 2007). Versions, tombstones, floors under the entries of a dead owner, the journal,
+//! snapshots, pages and merges are of this project.
+#![tactic(auto)]
+
+mod command;
+mod laws;
+mod refusal;
+mod reply;
+
+pub use command::{Command, Scope};
+pub use laws::{
+    answers_fit, answers_say, floors_stand, limits_are_kept, rows_are_answered, states_are_reached,
+    steps_have_effects,
+};
+pub use refusal::{Cause, Refusal};
+pub use reply::Reply;
