@@ -1,5 +1,6 @@
 //! A script with its answers, and each read and each write of it failing in turn.
 
+use ds_line::Expected;
 use ds_script::{FailRead, FailWrite, ReplayFault, replay};
 
 /// A script, its answers, and how it ends.
@@ -28,7 +29,11 @@ const ROWS: [Row; 4] = [
     Row {
         script: b"show\noffer eth0 label rs 03.0 = 3/17\nshow\n",
         answers: b"shown 0\n",
-        end: Err(ReplayFault::BadLine { line: 2, place: 20 }),
+        end: Err(ReplayFault::BadLine {
+            line: 2,
+            place: 20,
+            expected: Expected::Epoch,
+        }),
     },
 ];
 
