@@ -51,7 +51,7 @@ FoundSays = (s t : State) (key : Key) (value : Value) → Step s (Retrieve key) 
 abbrev pub NamedSays : Type 0
 NamedSays = (s t : State) (endpoint : EndpointRecord) (name : List ℕ) → Step s (NameOf endpoint) (Named name) t → (name_of (held s) endpoint ≡ Some name) × (t ≡ s)
 
--- a floor that was swept took effect, or wasn't above the one that is held
+-- a floor that was swept took effect, or nothing changed; either way it is held then, or what covers it (LearntIsHeld)
 pub record IsSwept (s : State) (f : Floor) (count owed_mask : ℕ) (t : State) : Type 0 where
   pub raised : ((count ≡ length (dropped (held s) f)) × (owed_mask ≡ owed s (Floored f ∷ [])) × (t ≡ accepts s (Floored f ∷ []))) ⊎ ((count ≡ 0) × (owed_mask ≡ 0) × (t ≡ s))
 
