@@ -1,44 +1,24 @@
 //! A replay that goes on behind lines that can't be read.
 
-ghost use Rattle.std.specs.Prelude.{◌≡◌, ◌≤◌, ◌<◌, ◌++◌, ◌∷◌, ◌⊎◌, [], List, ℕ, IfOk, IfErr, OnOk, OnErr, length, drop};
+ghost use Rattle.std.specs.Prelude.{◌≡◌, ◌≤◌, ◌<◌, [], List, ℕ, IfOk, IfErr, OnOk, OnErr, length, drop};
 ghost use Rattle.std.specs.Io.KnownBytes.{Appends, Consumes, IsAtEnd};
-ghost use Rattle.ds_line.specs.LastNewline.{EndsLine};
-ghost use Rattle.ds_words.specs.Lines.{IsUnbroken, ended, unended};
-ghost use Rattle.ds_script.specs.GoingOn.{badline, IsAnsweredOn, StopsOn};
+ghost use Rattle.ds_words.specs.Lines.{IsUnbroken, unended};
+ghost use Rattle.ds_script.specs.GoingOn.{IsAnsweredOn, StopsOn};
 ghost use Rattle.ds_script.specs.GoingProgress.{IsOther, Takes, TakesNoneOrAll, TakesText, TakesSome, TurnsOn, StopsTurn};
 
 use crate::fault::ReplayFault;
-use crate::report::{BadLine, Report};
+use crate::going_line::{Going, Replayed, send_last, take_line};
+use crate::report::Report;
 use crate::session::Session;
 use crate::stream::{READS, zeros};
 use crate::transfer::{Filled, WriteFailed, drop_front, fill};
-use crate::turn::{answer_line, send, send_full};
-use ds_line::append_all;
-use ds_names::NoRoom;
-use ds_words::{CommandFault, split_line};
-use itoa::Buffer;
+use crate::turn::send;
+use ds_words::split_line;
 use std::alloc::Global;
 use std::io::{Read, Write};
 
 /// The most bytes that are kept of a line whose end wasn't read.
 const MOST_KEPT: usize = 16777216;
-
-/// What a replay that goes on has come to.
-#[derive(Clone, Copy, Debug, PartialEq, Eq)]
-pub struct Replayed {
-    /// How many lines were answered.
-    pub lines: u64,
-    /// How many of them are no command's.
-    pub bad: u64,
-}
-
-/// A replay under way: what it drives, the answers that wait, and how far it has come.
-#[derive(Drop)]
-pub(crate) struct Going {
-    session: Session,
-    output: Vec<u8>,
-    done: Replayed,
-}
 
 /// Answers the lines of a script as `replay` does, and goes on behind lines that are no command's: such a line is
 /// answered `badline` with its number and its place, and changes nothing. Once that is written, the line is reported.
@@ -223,118 +203,4 @@ fn take_last<W: Write, B: Report>(
         },
         Err(_) => Err(ReplayFault::NoRoom),
     }
-}
-
-// Writes the answers that wait.
-fn send_last<W: Write>(writer: &mut W, output: &mut Vec<u8>) -> Result<(), ReplayFault>
-    ensures ok { OnOk result (Appends (W.contents writer.old) (W.contents writer.new) output.old.items × (output.new.items ≡ [])) }
-    ensures err { OnErr result ((sent left : List ℕ) × (output.old.items ≡ sent ++ left) × Appends (W.contents writer.old) (W.contents writer.new) sent) }
-    ensures fault { IfErr result IsOther }
-{
-    match send(writer, output) {
-        Ok(()) => Ok(()),
-        Err(WriteFailed) => Err(ReplayFault::WriteFault),
-    }
-}
-
-// Answers one line, which comes with its newline and has no other, after the answers that wait where they are many.
-fn take_line<W: Write, B: Report>(
-    alloc: Global,
-    writer: &mut W,
-    report: &mut B,
-    line: &[u8],
-    going: &mut Going,
-) -> Result<(), ReplayFault>
-    requires { EndsLine line.now }
-    ensures ok { OnOk result ((text : List ℕ) → line.now ≡ ended text → Takes (W.contents writer.old) (W.contents writer.new) going.old.session going.old.output.items going.old.done.lines going.old.done.bad (text ∷ []) going.new.session going.new.output.items going.new.done.lines going.new.done.bad) }
-    ensures err { OnErr result ((text : List ℕ) → line.now ≡ ended text → TakesNoneOrAll (W.contents writer.old) (W.contents writer.new) going.old.session going.old.output.items going.old.done.lines going.old.done.bad (text ∷ [])) }
-    ensures fault { IfErr result IsOther }
-{
-    match send_full(writer, &mut going.output) {
-        Ok(()) => match take_counted(alloc, writer, report, line, going) {
-            Ok(()) => Ok(()),
-            Err(fault) => Err(fault),
-        },
-        Err(WriteFailed) => Err(ReplayFault::WriteFault),
-    }
-}
-
-// Answers one line, which comes with its newline and has no other, and counts it.
-fn take_counted<W: Write, B: Report>(
-    alloc: Global,
-    writer: &mut W,
-    report: &mut B,
-    line: &[u8],
-    going: &mut Going,
-) -> Result<(), ReplayFault>
-    requires { EndsLine line.now }
-    ensures ok { OnOk result ((text : List ℕ) → line.now ≡ ended text → Takes (W.contents writer.old) (W.contents writer.new) going.old.session going.old.output.items going.old.done.lines going.old.done.bad (text ∷ []) going.new.session going.new.output.items going.new.done.lines going.new.done.bad) }
-    ensures err { OnErr result ((text : List ℕ) → line.now ≡ ended text → TakesNoneOrAll (W.contents writer.old) (W.contents writer.new) going.old.session going.old.output.items going.old.done.lines going.old.done.bad (text ∷ [])) }
-    ensures fault { IfErr result IsOther }
-{
-    let Some(number) = going.done.lines.checked_add(1) else {
-        return Err(ReplayFault::ReadFault);
-    };
-    let Some(count) = going.done.bad.checked_add(1) else {
-        return Err(ReplayFault::ReadFault);
-    };
-    match answer_line(alloc, line, &mut going.session, &mut going.output) {
-        Ok(()) => {
-            going.done.lines = number;
-            Ok(())
-        }
-        Err(CommandFault::BadLine { place, expected }) => {
-            let bad = BadLine {
-                number,
-                place,
-                expected,
-                text: &line[..line.len() - 1],
-            };
-            match tell(writer, report, &bad, &mut going.output) {
-                Ok(()) => {
-                    going.done.lines = number;
-                    going.done.bad = count;
-                    Ok(())
-                }
-                Err(fault) => Err(fault),
-            }
-        }
-        Err(CommandFault::NoRoom) => Err(ReplayFault::NoRoom),
-    }
-}
-
-// Answers a line that can't be read, and writes and reports it.
-fn tell<W: Write, B: Report>(
-    writer: &mut W,
-    report: &mut B,
-    bad: &BadLine<'_>,
-    output: &mut Vec<u8>,
-) -> Result<(), ReplayFault>
-    ensures ok { OnOk result (Appends (W.contents writer.old) (W.contents writer.new) (output.old.items ++ badline bad.now.number bad.now.place)) }
-    ensures written { OnOk result (output.new.items ≡ []) }
-    ensures err { OnErr result ((answer sent left : List ℕ) × (output.old.items ++ answer ≡ sent ++ left) × Appends (W.contents writer.old) (W.contents writer.new) sent × ((answer ≡ []) ⊎ (answer ≡ badline bad.now.number bad.now.place))) }
-    ensures fault { IfErr result IsOther }
-{
-    match append_badline(output, bad.number, bad.place) {
-        Ok(()) => match send_last(writer, output) {
-            Ok(()) => {
-                report.bad_line(bad);
-                Ok(())
-            }
-            Err(fault) => Err(fault),
-        },
-        Err(NoRoom) => Err(ReplayFault::NoRoom),
-    }
-}
-
-// Appends the answer to a line that can't be read, or nothing.
-fn append_badline(output: &mut Vec<u8>, number: u64, place: usize) -> Result<(), NoRoom>
-    ensures written { OnOk result (output.new.items ≡ output.old.items ++ badline number place) }
-    ensures unchanged { OnErr result (output.new.items ≡ output.old.items) }
-{
-    let mut number_digits = Buffer::new();
-    let number = number_digits.format(number).as_bytes();
-    let mut place_digits = Buffer::new();
-    let place = place_digits.format(place).as_bytes();
-    append_all(output, &[b"badline ", number, b" ", place, b"\n"])
 }

@@ -7,6 +7,7 @@
 mod answer;
 mod fault;
 mod faulty;
+mod going_line;
 mod going_on;
 mod maps;
 mod report;
@@ -18,6 +19,7 @@ mod turn;
 
 pub use fault::ReplayFault;
 pub use faulty::{FailRead, FailWrite};
-pub use going_on::{Replayed, replay_on};
+pub use going_line::Replayed;
+pub use going_on::replay_on;
 pub use report::{BadLine, Report};
 pub use stream::{replay, replay_leaving};

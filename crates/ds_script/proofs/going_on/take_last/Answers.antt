@@ -3,7 +3,7 @@ use Rattle.std.proofs.lemmas.Bool.{eqb-false}
 use Rattle.ds_words.specs.Lines.{unended}
 use Rattle.ds_script.specs.GoingProgress.{Takes}
 use Rattle.ds_script.proofs.EndLemmas.{something}
-use Rattle.ds_script.proofs.GoingLemmas.{takes_sent, takes_then, not_taken, sent_alone}
+use Rattle.ds_script.proofs.GoingLineLemmas.{takes_sent, takes_then, not_taken, sent_alone}
 use Rattle.ds_script.proofs.going_on.take_last.Goals as goal
 
 pub returns-in-Err-clause-err : goal.returns-in-Err-clause-err

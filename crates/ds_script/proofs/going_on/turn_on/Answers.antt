@@ -1,6 +1,7 @@
 use Rattle.std.proofs.Common.{◌++◌, ◌+◌, ◌∙◌, [], refl, sym, ap, inl, append-nil}
 use Rattle.std.proofs.KnownBytes.{Consumes-nil}
-use Rattle.ds_script.proofs.GoingLemmas.{takes_sent, turns_behind, stops_behind, idle}
+use Rattle.ds_script.proofs.GoingLineLemmas.{takes_sent}
+use Rattle.ds_script.proofs.GoingLemmas.{turns_behind, stops_behind, idle}
 use Rattle.ds_script.proofs.going_on.turn_on.Goals as goal
 
 pub returns-in-Ok-read_on-clause-ok : goal.returns-in-Ok-read_on-clause-ok

@@ -1,6 +1,6 @@
 use Rattle.std.proofs.Common.{◌∷◌, [], rules}
-use Rattle.ds_script.proofs.GoingLemmas.{not_taken, line_answered, line_told, line_told_in_part}
-use Rattle.ds_script.proofs.going_on.take_counted.Goals as goal
+use Rattle.ds_script.proofs.GoingLineLemmas.{not_taken, line_answered, line_told, line_told_in_part}
+use Rattle.ds_script.proofs.going_line.take_counted.Goals as goal
 
 pub returns-in_default-clause-err : goal.returns-in_default-clause-err
 returns-in_default-clause-err g c = λ text is. not_taken (g.W.Write.contents c.args.writer.now) c.args.going.now.session c.args.going.now.output.items (text ∷ []) c.args.going.now.done.lines c.args.going.now.done.bad

@@ -1,6 +1,6 @@
 use Rattle.std.proofs.Common.{◌∷◌, []}
-use Rattle.ds_script.proofs.GoingLemmas.{takes_sent, takes_behind, none_or_all_behind, sent_alone}
-use Rattle.ds_script.proofs.going_on.take_line.Goals as goal
+use Rattle.ds_script.proofs.GoingLineLemmas.{takes_sent, takes_behind, none_or_all_behind, sent_alone}
+use Rattle.ds_script.proofs.going_line.take_line.Goals as goal
 
 pub returns-in-Ok-take_counted-clause-ok : goal.returns-in-Ok-take_counted-clause-ok
 returns-in-Ok-take_counted-clause-ok g c = λ text is.
