@@ -1,15 +1,13 @@
 -- Passes that are gathered, and what a closed desk leaves.
-use Rattle.std.proofs.Common.{◌≡◌, ℕ, ◌+◌, ◌*◌, ◌/◌, ◌%◌, ◌^◌, ◌≤◌, ◌<◌, Bool, true, false, List, [], ◌∷◌, ◌++◌, length, refl, ap, sym, ◌∙◌, subst, arith, length-append}
+use Rattle.std.proofs.Common.{◌≡◌, ℕ, ◌+◌, ◌*◌, ◌/◌, ◌%◌, ◌^◌, ◌≤◌, ◌<◌, true, List, [], ◌∷◌, ◌++◌, length, refl, ap, sym, ◌∙◌, subst, arith, length-append}
 use Rattle.std.specs.Prelude.{slice_index}
 use Rattle.std.specs.List.{AllByRecursion}
 use Rattle.std.specs.Int.{bit_at}
 use Rattle.std.proofs.lemmas.Nat.Bits.{bit_at-lt}
-use mathlib.Core.Option.{some}
-use lib.ListN.{get_elem?}
 use Rattle.desk_rule.specs.declared.entry.Entry.{Entry}
 use Rattle.desk_rule.specs.declared.entry.PassCalls.{PassCalls}
 use Rattle.desk_rule.specs.declared.view.View.{View}
-use Rattle.desk_rule.specs.History.{calls_by, calls_of, number_of, OwnCalls, Stepped, total_of, weigh_all}
+use Rattle.desk_rule.specs.History.{calls_by, calls_of, OwnCalls, Stepped, total_of, weigh_all}
 use Rattle.desk_rule.specs.Kinds.{after_pass, Standing}
 use Rattle.desk_rule.specs.Notices.{raised_in, taken_in}
 use Rattle.desk_rule.specs.Seat.{IsClosed, SeatOf}

@@ -1,13 +1,11 @@
 -- Passes that are dealt one by one.
-use Rattle.std.proofs.Common.{◌≡◌, ℕ, zero, suc, ◌+◌, ◌-◌, ◌*◌, ◌≤◌, ◌<◌, Bool, true, false, not, ◌&&◌, List, [], ◌∷◌, ◌++◌, length, drop, take, refl, ap, sym, ◌∙◌, subst, arith, append_assoc, length-append, Option, Some}
+use Rattle.std.proofs.Common.{◌≡◌, ℕ, zero, suc, ◌+◌, ◌-◌, ◌<◌, true, false, List, [], ◌∷◌, ◌++◌, length, drop, take, refl, ap, sym, ◌∙◌, subst, arith, append_assoc, length-append, Option, Some}
 use Rattle.std.specs.Prelude.{is_some}
 use Rattle.std.specs.List.{AllByRecursion}
 use Rattle.atomic_table.specs.Seated.{TableId}
-use Rattle.desk_rule.specs.declared.entry.PassCalls.{PassCalls}
 use Rattle.desk_rule.specs.declared.view.View.{View}
 use Rattle.desk_rule.specs.History.{calls_of, fresh, number_of}
-use Rattle.desk_rule.specs.Kinds.{one_pass, other_passes, Standing}
-use Rattle.desk_rule.specs.Notices.{raised_in, taken_in}
+use Rattle.desk_rule.specs.Kinds.{one_pass, other_passes}
 use Rattle.desk_rule.specs.Rule.{opening_view}
 use Rattle.desk_rule.specs.Seat.{SeatOf}
 use Rattle.desk.specs.declared.pass.Sight.{Ghosts}

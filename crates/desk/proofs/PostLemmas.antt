@@ -9,7 +9,7 @@ use mathlib.Core.Logic.{dite}
 use native.Mathlib.Decide.{dec_le, ℕ_discrete}
 use Rattle.desk_rule.specs.declared.view.Post.{Post}
 use Rattle.desk_rule.specs.declared.view.View.{View}
-use Rattle.desk_rule.specs.History.{count_calls, total_of}
+use Rattle.desk_rule.specs.History.{count_calls}
 use Rattle.desk_rule.specs.Kinds.{after_post, LastOwes}
 use Rattle.desk_rule.specs.Notices.{bits_for, posted_at, raised_at, raised_in}
 use Rattle.desk_rule.specs.Seat.{SeatOf}

@@ -1,18 +1,16 @@
 -- What looks, and a call, leave with a pass, in the machine's states.
-use Rattle.std.proofs.Common.{◌≡◌, ℕ, ◌+◌, ◌-◌, ◌*◌, ◌/◌, ◌^◌, ◌≤◌, ◌<◌, Bool, true, List, [], ◌∷◌, ◌++◌, length, refl, ap, sym, ◌∙◌, subst, arith, length-append, Option, Some}
+use Rattle.std.proofs.Common.{◌≡◌, ℕ, ◌+◌, ◌-◌, ◌^◌, Bool, true, List, [], ◌∷◌, ◌++◌, length, refl, ap, sym, ◌∙◌, subst, arith, length-append, Some}
 use Rattle.std.specs.Prelude.{is_some}
-use Rattle.std.specs.List.{AllByRecursion}
 use mathlib.Core.List.{IsPrefix}
 use Rattle.desk_rule.specs.declared.entry.Entry.{Entry}
 use Rattle.desk_rule.specs.declared.entry.PassCalls.{PassCalls}
-use Rattle.desk_rule.specs.declared.view.Post.{Post}
 use Rattle.desk_rule.specs.declared.view.View.{View}
 use Rattle.desk_rule.specs.History.{add_call, calls_by, calls_of, entry, IsLegal, IsLegalFrom, number_of, OwnCalls, Stepped}
 use Rattle.desk_rule.specs.Kinds.{after_turn, Looks}
 use Rattle.desk_rule.proofs.ListLemmas.{all_map, only_of, prefix_refl, prefix_trans, some_of}
 use Rattle.desk.specs.declared.pass.Sight.{Ghosts}
-use Rattle.desk.specs.Calls.{Calls, IsSamePass, next_place, PostsOwed, Sees}
-use Rattle.desk.specs.Pass.{calls, desk_of, first_place, history, number, opening, Pass}
+use Rattle.desk.specs.Calls.{Calls, next_place, PostsOwed, Sees}
+use Rattle.desk.specs.Pass.{desk_of, history, number, Pass}
 use Rattle.desk.specs.Sight.{TurnAt}
 use Rattle.desk.specs.Tally.{Posts}
 use Rattle.desk.proofs.CallLemmas.{turn_posts}

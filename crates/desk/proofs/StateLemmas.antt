@@ -1,5 +1,5 @@
 -- A run of a machine's values is one of the states that they stand for.
-use Rattle.std.proofs.Common.{◌≡◌, List, [], ◌∷◌, refl, subst}
+use Rattle.std.proofs.Common.{List, [], ◌∷◌, refl, subst}
 use Rattle.desk_rule.specs.declared.entry.Entry.{Entry}
 use Rattle.desk_rule.specs.History.{IsLegal, IsLegalFrom, LeadsTo, Run, Stepped}
 

@@ -1,5 +1,5 @@
 -- Looks one after another, until the turn is taken or no place is left; and what a turn leaves.
-use Rattle.std.proofs.Common.{◌≡◌, ℕ, ◌+◌, ◌*◌, ◌/◌, ◌%◌, ◌^◌, ◌≤◌, ◌<◌, Bool, true, false, List, [], ◌∷◌, ◌++◌, length, refl, ap, sym, ◌∙◌, subst, arith, Option, Some, None}
+use Rattle.std.proofs.Common.{◌≡◌, ℕ, ◌+◌, ◌/◌, ◌%◌, ◌^◌, ◌≤◌, Bool, true, false, List, [], ◌∷◌, ◌++◌, length, refl, ap, sym, ◌∙◌, subst, arith, Some, None}
 use Rattle.std.specs.Prelude.{is_some}
 use Rattle.std.specs.declared.snapshot.Snapshot.{Snapshot}
 use mathlib.Core.List.{IsPrefix}
@@ -7,12 +7,11 @@ use Rattle.desk_rule.specs.declared.entry.Entry.{Entry}
 use Rattle.desk_rule.specs.declared.view.View.{View}
 use Rattle.desk_rule.specs.declared.table.Home.{Home}
 use Rattle.desk_rule.specs.declared.table.LastCall.{LastCall}
-use Rattle.desk_rule.specs.History.{count_calls, entry, IsLegal, number_of, OwnCalls, Run}
+use Rattle.desk_rule.specs.History.{entry, IsLegal, number_of, OwnCalls, Run}
 use Rattle.desk_rule.specs.Kinds.{after_look, after_turn, GetsMachine, Looks, Standing}
-use Rattle.desk_rule.specs.Notices.{raised_in}
 use Rattle.desk_rule.specs.Seat.{EndsTurn, HoldsTurn, SeatOf}
 use Rattle.desk_rule.proofs.ListLemmas.{nil_of, prefix_trans, some_of}
-use Rattle.desk.specs.Sight.{Rests, rests_of, TurnAt}
+use Rattle.desk.specs.Sight.{Rests, TurnAt}
 use Rattle.desk.proofs.SightLemmas.{rests, rests_facts}
 
 module _ {M C R : Type 0} where

@@ -1,5 +1,5 @@
 -- Words for passes and notes.
-use Rattle.std.specs.Prelude.{◌≡◌, ℕ, List, Option}
+use Rattle.std.specs.Prelude.{ℕ, List, Option}
 use Rattle.atomic_table.specs.Seated.{TableId}
 use Rattle.desk_rule.specs.declared.entry.Entry.{Entry}
 use Rattle.desk_rule.specs.declared.view.Post.{Post}

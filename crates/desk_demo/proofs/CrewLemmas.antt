@@ -1,5 +1,5 @@
 -- Facts of every element of a list, where one is taken from its end or put there.
-use Rattle.std.proofs.Common.{◌≡◌, ℕ, zero, suc, ◌+◌, ◌<◌, All, List, [], ◌∷◌, ◌++◌, length, get_or, sym, subst, arith, add-one}
+use Rattle.std.proofs.Common.{◌≡◌, zero, suc, ◌+◌, All, List, [], ◌∷◌, ◌++◌, get_or, sym, subst, arith, add-one}
 use Rattle.std.specs.List.{AllByRecursion}
 use Rattle.desk_rule.proofs.ListLemmas.{all_append, all_split}
 

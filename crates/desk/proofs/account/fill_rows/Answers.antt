@@ -1,4 +1,4 @@
-use Rattle.std.proofs.Common.{arith, ◌≤◌, refl}
+use Rattle.std.proofs.Common.{arith, refl}
 use Rattle.desk.proofs.RowLemmas.{filled_more}
 use Rattle.desk.proofs.account.fill_rows.Goals as goal
 

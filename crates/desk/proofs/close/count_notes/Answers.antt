@@ -1,4 +1,4 @@
-use Rattle.std.proofs.Common.{arith, ◌+◌, ◌≤◌, ◌<◌, ◌*◌, ◌^◌, ap, ◌∙◌, ◌≡◌, length, sym}
+use Rattle.std.proofs.Common.{arith, ◌+◌, ◌<◌, ap, ◌∙◌, length, sym}
 use Rattle.desk.specs.Pass.{notes_learnt, notes_made}
 use Rattle.desk.proofs.RowLemmas.{total_next}
 use Rattle.desk.proofs.close.count_notes.Goals as goal

@@ -1,4 +1,4 @@
-use Rattle.std.proofs.Common.{◌≡◌, arith, ◌∙◌, ap, sym, subst, List}
+use Rattle.std.proofs.Common.{◌≡◌, ◌∙◌}
 use Rattle.desk_rule.proofs.ListLemmas.{nil_of}
 use Rattle.desk.specs.Pass.{desk_of}
 use Rattle.desk.proofs.CloseLemmas.{all_last, gathers_more}

@@ -1,6 +1,6 @@
-use Rattle.std.proofs.Common.{◌+◌, ◌/◌, ◌*◌, ◌^◌, arith, refl, ap, ◌∙◌}
+use Rattle.std.proofs.Common.{◌/◌, ◌*◌, ◌^◌, arith, refl, ap, ◌∙◌}
 use Rattle.std.proofs.lemmas.Nat.{and_le_r}
-use Rattle.desk.proofs.PostLemmas.{few_still, mask_fits, owes_still, posted_more, posted_skip, posting_moved, rows_small}
+use Rattle.desk.proofs.PostLemmas.{mask_fits, owes_still, posted_more, posted_skip, posting_moved}
 use Rattle.desk.proofs.notice.post_owed.Goals as goal
 use Rattle.desk.proofs.notice.post_owed.Goals.{then-bits-ne0, else-bits-ne0}
 

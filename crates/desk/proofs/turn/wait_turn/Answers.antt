@@ -1,4 +1,4 @@
-use Rattle.std.proofs.Common.{arith, ◌/◌, ◌*◌, ◌≡◌}
+use Rattle.std.proofs.Common.{arith, ◌/◌}
 use Rattle.desk.proofs.TurnLemmas.{turn_taken, waits_look, waits_moved, worn}
 use Rattle.desk.proofs.turn.wait_turn.Goals as goal
 use Rattle.desk.proofs.turn.wait_turn.Goals.{then-word-eq0+else-found-word, else-word-eq0}

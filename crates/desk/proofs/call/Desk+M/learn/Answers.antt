@@ -1,4 +1,4 @@
-use Rattle.std.proofs.Common.{arith, ap, ◌∙◌, refl, subst, sym}
+use Rattle.std.proofs.Common.{ap, ◌∙◌, subst, sym}
 use mathlib.Core.List.{IsPrefix}
 use Rattle.desk_rule.proofs.ListLemmas.{nil_of, prefix_refl}
 use Rattle.desk.proofs.SeeLemmas.{sees}

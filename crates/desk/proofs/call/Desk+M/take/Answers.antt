@@ -1,4 +1,4 @@
-use Rattle.std.proofs.Common.{arith, ap, ◌∙◌, ◌≡◌, ◌<◌}
+use Rattle.std.proofs.Common.{arith, ap, ◌∙◌}
 use Rattle.desk.proofs.CallLemmas.{owed_later, take_counts, take_raises, take_room}
 use Rattle.desk.proofs.SeeLemmas.{sees}
 use Rattle.desk.proofs.SightLemmas.{rests_facts}

@@ -1,6 +1,5 @@
-use Rattle.std.proofs.Common.{◌≡◌, ◌++◌, [], ◌+◌, ◌≤◌, length, arith, ◌∙◌, ap, refl, sym}
+use Rattle.std.proofs.Common.{◌≡◌, ◌++◌, [], length, arith, ◌∙◌, ap, refl, sym}
 use Rattle.std.specs.Option.{option_to_list}
-use Rattle.desk.specs.Closing.{gathered}
 use Rattle.desk.specs.Pass.{desk_of}
 use Rattle.desk.proofs.CloseLemmas.{account_of, all_gathered, all_last, history_of, length_gathered}
 use Rattle.desk.proofs.RowLemmas.{wraps_first}

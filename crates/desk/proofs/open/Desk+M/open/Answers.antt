@@ -1,4 +1,4 @@
-use Rattle.std.proofs.Common.{ap, subst, Some}
+use Rattle.std.proofs.Common.{subst, Some}
 use Rattle.desk.specs.Opening.{AreNewPasses}
 use Rattle.desk.proofs.OpenLemmas.{length_new, new_of_desk}
 use Rattle.desk.proofs.open.Desk+M.open.Goals as goal
