@@ -4,6 +4,7 @@ ghost use Rattle.std.specs.Prelude.{◌≡◌, ◌≤◌, ◌<◌, ◌+◌, ◌^
 ghost use Rattle.std.specs.Int.{bit_at};
 ghost use mathlib.Core.List.{IsPrefix};
 ghost use Rattle.desk_rule.specs.Notices.{OwedIn, raised_in};
+ghost use Rattle.desk.specs.Desk.{identity};
 ghost use Rattle.desk.specs.Calls.{Calls, KnowsAsMuch, PostsOwed, SameNotes, SameNotices, Sees, next_place};
 ghost use Rattle.desk.specs.Pass.{desk_of, desk_of_note, history, notes_learnt, notes_made, posts, takes, told_by};
 ghost use Rattle.desk.specs.Tally.{RaisesMask};
@@ -30,7 +31,7 @@ impl<M: Machine> Desk<M> {
     ) -> Result<Answer<M::Reply>, DeskFault>
     where
         M::Command: Drop,
-        requires of_desk { desk_of pass.old ≡ self.now.table.shared.table_id }
+        requires of_desk { desk_of pass.old ≡ identity self.now }
         ensures stays { desk_of pass.new ≡ desk_of pass.old }
         ensures called { IfOk result (λ a. Calls M.stands M.steps pass.old pass.new command a.reply a.place) }
         ensures place { IfOk result (λ a. a.place < 2 ^ 62) }
@@ -57,7 +58,7 @@ impl<M: Machine> Desk<M> {
     /// Takes every bit that is pending for a server, and then looks how far the history goes: each of the bits is owed by a
     /// call below `floor`. It takes no memory and waits for nobody. BadServer from 16 on.
     pub fn take(&self, pass: &mut Pass<M>, server: u32) -> Result<Taken, DeskFault>
-        requires { desk_of pass.old ≡ self.now.table.shared.table_id }
+        requires { desk_of pass.old ≡ identity self.now }
         ensures stays { desk_of pass.new ≡ desk_of pass.old }
         ensures sees { OnOk result ((server < 16) × Sees M.stands M.steps pass.old pass.new) }
         ensures taken { IfOk result (λ t. takes pass.new ≡ takes pass.old ++ record { server = server; bits = t.bits } ∷ []) }
@@ -81,7 +82,7 @@ impl<M: Machine> Desk<M> {
 
     /// Looks how far the history goes: the first place that no call has entered. It takes no memory and waits for nobody.
     pub fn front(&self, pass: &mut Pass<M>) -> u64
-        requires { desk_of pass.old ≡ self.now.table.shared.table_id }
+        requires { desk_of pass.old ≡ identity self.now }
         ensures stays { desk_of pass.new ≡ desk_of pass.old }
         ensures sees { Sees M.stands M.steps pass.old pass.new }
         ensures front { result ≡ next_place pass.new }
@@ -92,9 +93,9 @@ impl<M: Machine> Desk<M> {
 
     /// How far the pass has seen the history, for another pass to learn. It waits for nobody. Worn after 2^62 notes.
     pub fn note(&self, pass: &mut Pass<M>) -> Result<Note<M>, DeskFault>
-        requires { desk_of pass.old ≡ self.now.table.shared.table_id }
+        requires { desk_of pass.old ≡ identity self.now }
         ensures stays { desk_of pass.new ≡ desk_of pass.old }
-        ensures told { IfOk result (λ n. (desk_of_note n ≡ self.now.table.shared.table_id) × (told_by n ≡ history pass.old)) }
+        ensures told { IfOk result (λ n. (desk_of_note n ≡ identity self.now) × (told_by n ≡ history pass.old)) }
         ensures made { OnOk result ((notes_made pass.new ≡ notes_made pass.old + 1) × (notes_learnt pass.new ≡ notes_learnt pass.old)) }
         ensures same { KnowsAsMuch pass.old pass.new × SameNotices pass.old pass.new }
         ensures worn { IfErr result (λ fault. (fault ≡ DeskFault.Worn) × (notes_made pass.old ≡ 2 ^ 62) × (pass.new ≡ pass.old)) }
@@ -111,8 +112,8 @@ impl<M: Machine> Desk<M> {
     /// From now on the pass has seen all that the note says. It waits for nobody. Worn after 2^62 notes; the note then comes
     /// back.
     pub fn learn(&self, pass: &mut Pass<M>, note: Note<M>) -> Result<(), LearnStop<Note<M>>>
-        requires pass { desk_of pass.old ≡ self.now.table.shared.table_id }
-        requires note { desk_of_note note ≡ self.now.table.shared.table_id }
+        requires pass { desk_of pass.old ≡ identity self.now }
+        requires note { desk_of_note note ≡ identity self.now }
         ensures stays { desk_of pass.new ≡ desk_of pass.old }
         ensures learnt { OnOk result (Sees M.stands M.steps pass.old pass.new × IsPrefix (told_by note) (history pass.new)) }
         ensures counted { OnOk result ((notes_learnt pass.new ≡ notes_learnt pass.old + 1) × (notes_made pass.new ≡ notes_made pass.old)) }

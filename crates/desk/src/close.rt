@@ -5,6 +5,7 @@ ghost use Rattle.std.specs.List.{AllByRecursion};
 ghost use Rattle.desk_rule.specs.History.{total_of};
 ghost use Rattle.desk_rule.specs.Notices.{raised_in, taken_in};
 ghost use Rattle.desk_rule.specs.Seat.{IsAtTable};
+ghost use Rattle.desk.specs.Desk.{identity, opened_with, pass_count};
 ghost use Rattle.desk.specs.Closing.{AllLearnt, gathered, IsAccount, IsCloseFault, IsHistory, Wraps};
 ghost use Rattle.desk.specs.Pass.{desk_of, notes_learnt, notes_made, posts, takes};
 
@@ -106,11 +107,11 @@ impl<M: Machine> Desk<M> {
         alloc: Global,
         passes: Passes<M>,
     ) -> Result<Closed<M>, CloseStop<Desk<M>, Passes<M>>>
-        requires { AllByRecursion (λ p. desk_of p ≡ self.table.shared.table_id) passes }
-        ensures history { IfOk result (λ c. (log : _) × IsHistory M.stands M.steps self.table.shared.key.machine.value passes c.machine log) }
+        requires { AllByRecursion (λ p. desk_of p ≡ identity self) passes }
+        ensures history { IfOk result (λ c. (log : _) × IsHistory M.stands M.steps (opened_with self) passes c.machine log) }
         ensures account { IfOk result (λ c. IsAccount passes c.account) }
-        ensures notes { IfOk result (λ _. (self.table.shared.key.passes ≤ length passes) × AllLearnt passes) }
-        ensures refused { IfErr result (λ stop. IsCloseFault stop.fault self.table.shared.key.passes passes) }
+        ensures notes { IfOk result (λ _. (pass_count self ≤ length passes) × AllLearnt passes) }
+        ensures refused { IfErr result (λ stop. IsCloseFault stop.fault (pass_count self) passes) }
         ensures back { IfErr result (λ stop. (stop.desk ≡ self) × (stop.passes ≡ passes)) }
     {
         if let Some(fault) = stays_open(self.made, &passes.passes) {

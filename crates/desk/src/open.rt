@@ -4,6 +4,7 @@ ghost use Rattle.std.specs.Prelude.{◌≡◌, ◌<◌, ◌≤◌, ◌^◌, [], 
 ghost use Rattle.std.specs.List.{AllByRecursion};
 ghost use Rattle.desk_rule.specs.Rule.{opening_view};
 ghost use Rattle.desk_rule.specs.Seat.{IsAtTable};
+ghost use Rattle.desk.specs.Desk.{identity, opened_with, pass_count, first_call};
 ghost use Rattle.desk.specs.Opening.{AreNewPasses, IsOpenFault};
 ghost use Rattle.desk.specs.Pass.{desk_of};
 ghost use Rattle.desk.specs.Sight.{rests_of};
@@ -73,9 +74,9 @@ impl<M: Machine> Desk<M> {
         passes: u32,
         first: u64,
     ) -> Result<(Desk<M>, Passes<M>), OpenStop<M>>
-        ensures desk { IfOk result (λ d. (d.0.table.shared.key.machine.value ≡ machine) × (d.0.table.shared.key.passes ≡ passes) × (d.0.table.shared.key.first ≡ first)) }
-        ensures passes { IfOk result (λ d. AreNewPasses d.0.table.shared.table_id (Some machine) first passes d.1 × (length d.1 ≡ passes)) }
-        ensures of_desk { IfOk result (λ d. AllByRecursion (λ p. desk_of p ≡ d.0.table.shared.table_id) d.1) }
+        ensures desk { IfOk result (λ d. (opened_with d.0 ≡ machine) × (pass_count d.0 ≡ passes) × (first_call d.0 ≡ first)) }
+        ensures passes { IfOk result (λ d. AreNewPasses (identity d.0) (Some machine) first passes d.1 × (length d.1 ≡ passes)) }
+        ensures of_desk { IfOk result (λ d. AllByRecursion (λ p. desk_of p ≡ identity d.0) d.1) }
         ensures accepted { OnOk result ((0 < passes) × (passes ≤ 64) × (first ≤ 2 ^ 62)) }
         ensures refused { IfErr result (λ stop. IsOpenFault stop.fault passes first) }
         ensures back { IfErr result (λ stop. stop.machine ≡ machine) }

@@ -2,6 +2,7 @@
 
 ghost use Rattle.std.specs.Prelude.{All, ◌≡◌, IfSome};
 ghost use Rattle.std.specs.List.{AllByRecursion};
+ghost use Rattle.desk.specs.Desk.{identity};
 ghost use Rattle.desk.specs.Pass.{desk_of};
 
 use crate::worker::{Said, Worker};
@@ -49,12 +50,12 @@ fn run_threads<R: Threads + Wait + Sync>(
     passes: Passes<Counter>,
     calls: u32,
 ) -> Option<Vec<CounterWorker>>
-    requires { AllByRecursion (λ p. desk_of p ≡ desk.now.table.shared.table_id) passes }
-    ensures { IfSome result (λ ws. All (λ w. desk_of w.pass ≡ desk.now.table.shared.table_id) ws.items) }
+    requires { AllByRecursion (λ p. desk_of p ≡ identity desk.now) passes }
+    ensures { IfSome result (λ ws. All (λ w. desk_of w.pass ≡ identity desk.now) ws.items) }
 {
     let each = move |pass: Pass<Counter>| -> CounterWorker
-        requires { desk_of pass ≡ desk.now.table.shared.table_id }
-        ensures { desk_of result.pass ≡ desk.entry.now.table.shared.table_id }
+        requires { desk_of pass ≡ identity desk.now }
+        ensures { desk_of result.pass ≡ identity desk.entry.now }
     {
         let mut worker = Worker::new(alloc, pass);
         worker.work(rt, desk, calls);
@@ -68,7 +69,7 @@ fn run_threads<R: Threads + Wait + Sync>(
 
 // Takes the passes back, adds up what the threads counted, and closes the desk.
 fn close_crew(alloc: Global, desk: Desk<Counter>, mut workers: Vec<CounterWorker>) -> Option<Crew>
-    requires { All (λ w. desk_of w.pass ≡ desk.table.shared.table_id) workers.items }
+    requires { All (λ w. desk_of w.pass ≡ identity desk) workers.items }
 {
     let mut passes = Passes::<Counter>::new(alloc);
     let mut said = Vec::new(alloc);

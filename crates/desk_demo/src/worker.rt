@@ -1,6 +1,7 @@
 //! What one thread does at the desk.
 
 ghost use Rattle.std.specs.Prelude.{◌≡◌};
+ghost use Rattle.desk.specs.Desk.{identity};
 ghost use Rattle.desk.specs.Pass.{desk_of};
 
 use desk::{Desk, Pass};
@@ -60,7 +61,7 @@ impl Worker<Pass<Counter>> {
     /// Makes that many calls; every fourth is followed by a take of a server. It ends early where memory or a place is
     /// wanting.
     pub(crate) fn work<R: Wait>(&mut self, rt: &R, desk: &Desk<Counter>, calls: u32)
-        requires { desk_of self.old.pass ≡ desk.now.table.shared.table_id }
+        requires { desk_of self.old.pass ≡ identity desk.now }
         ensures { desk_of self.new.pass ≡ desk_of self.old.pass }
     {
         for turn in 0..calls {
@@ -76,7 +77,7 @@ impl Worker<Pass<Counter>> {
 
     // Makes one call, and keeps what was answered. False where memory or a place is wanting.
     fn call<R: Wait>(&mut self, rt: &R, desk: &Desk<Counter>, command: Count) -> bool
-        requires { desk_of self.old.pass ≡ desk.now.table.shared.table_id }
+        requires { desk_of self.old.pass ≡ identity desk.now }
         ensures { desk_of self.new.pass ≡ desk_of self.old.pass }
     {
         let Ok(answer) = desk.call(rt, &mut self.pass, command) else {
@@ -95,7 +96,7 @@ impl Worker<Pass<Counter>> {
 
     // Takes the notices of a server, and counts them.
     fn take(&mut self, desk: &Desk<Counter>, server: u32) -> bool
-        requires { desk_of self.old.pass ≡ desk.now.table.shared.table_id }
+        requires { desk_of self.old.pass ≡ identity desk.now }
         ensures { desk_of self.new.pass ≡ desk_of self.old.pass }
     {
         let Ok(taken) = desk.take(&mut self.pass, server) else {

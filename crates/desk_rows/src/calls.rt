@@ -1,6 +1,7 @@
 //! A desk of two passes over a counter, whose calls must not be refused.
 
 ghost use Rattle.std.specs.Prelude.{◌≡◌, [], ◌∷◌};
+ghost use Rattle.desk.specs.Desk.{identity};
 ghost use Rattle.desk.specs.Pass.{desk_of, desk_of_note};
 
 use desk::{Answer, CloseStop, Closed, Desk, DeskFault, Note, Pass, Passes, Taken};
@@ -15,8 +16,8 @@ pub(crate) fn open_two(
     alloc: Global,
     first: u64,
 ) -> (Desk<Counter>, Pass<Counter>, Pass<Counter>)
-    ensures one { desk_of result.1 ≡ result.0.table.shared.table_id }
-    ensures two { desk_of result.2 ≡ result.0.table.shared.table_id }
+    ensures one { desk_of result.1 ≡ identity result.0 }
+    ensures two { desk_of result.2 ≡ identity result.0 }
 {
     let Ok((desk, mut passes)) = Desk::<Counter>::open(alloc, Counter::new(0), 2, first) else {
         panic!(rt; "not opened")
@@ -32,8 +33,8 @@ pub(crate) fn ask<R: Wait + Abort>(
     pass: &mut Pass<Counter>,
     command: Count,
 ) -> Answer<Counted>
-    requires { desk_of pass.old ≡ desk.now.table.shared.table_id }
-    ensures { desk_of pass.new ≡ desk.now.table.shared.table_id }
+    requires { desk_of pass.old ≡ identity desk.now }
+    ensures { desk_of pass.new ≡ identity desk.now }
 {
     match desk.call(rt, pass, command) {
         Ok(answer) => answer,
@@ -47,8 +48,8 @@ pub(crate) fn take_of(
     pass: &mut Pass<Counter>,
     server: u32,
 ) -> Taken
-    requires { desk_of pass.old ≡ desk.now.table.shared.table_id }
-    ensures { desk_of pass.new ≡ desk.now.table.shared.table_id }
+    requires { desk_of pass.old ≡ identity desk.now }
+    ensures { desk_of pass.new ≡ identity desk.now }
 {
     match desk.take(pass, server) {
         Ok(taken) => taken,
@@ -57,8 +58,8 @@ pub(crate) fn take_of(
 }
 
 pub(crate) fn front_of(desk: &Desk<Counter>, pass: &mut Pass<Counter>) -> u64
-    requires { desk_of pass.old ≡ desk.now.table.shared.table_id }
-    ensures { desk_of pass.new ≡ desk.now.table.shared.table_id }
+    requires { desk_of pass.old ≡ identity desk.now }
+    ensures { desk_of pass.new ≡ identity desk.now }
 {
     desk.front(pass)
 }
@@ -69,9 +70,9 @@ pub(crate) fn note_of(
     desk: &Desk<Counter>,
     pass: &mut Pass<Counter>,
 ) -> Note<Counter>
-    requires { desk_of pass.old ≡ desk.now.table.shared.table_id }
-    ensures pass { desk_of pass.new ≡ desk.now.table.shared.table_id }
-    ensures note { desk_of_note result ≡ desk.now.table.shared.table_id }
+    requires { desk_of pass.old ≡ identity desk.now }
+    ensures pass { desk_of pass.new ≡ identity desk.now }
+    ensures note { desk_of_note result ≡ identity desk.now }
 {
     match desk.note(pass) {
         Ok(note) => note,
@@ -85,9 +86,9 @@ pub(crate) fn learn_of(
     pass: &mut Pass<Counter>,
     note: Note<Counter>,
 )
-    requires pass { desk_of pass.old ≡ desk.now.table.shared.table_id }
-    requires note { desk_of_note note ≡ desk.now.table.shared.table_id }
-    ensures { desk_of pass.new ≡ desk.now.table.shared.table_id }
+    requires pass { desk_of pass.old ≡ identity desk.now }
+    requires note { desk_of_note note ≡ identity desk.now }
+    ensures { desk_of pass.new ≡ identity desk.now }
 {
     if desk.learn(pass, note).is_err() {
         panic!(rt; "too many notes")
@@ -114,8 +115,8 @@ pub(crate) fn close_two(
     one: Pass<Counter>,
     two: Pass<Counter>,
 ) -> Closed<Counter>
-    requires one { desk_of one ≡ desk.table.shared.table_id }
-    requires two { desk_of two ≡ desk.table.shared.table_id }
+    requires one { desk_of one ≡ identity desk }
+    requires two { desk_of two ≡ identity desk }
 {
     let passes = both(rt, alloc, one, two);
     match desk.close(alloc, passes) {
@@ -132,8 +133,8 @@ pub(crate) fn close_refused(
     one: Pass<Counter>,
     two: Pass<Counter>,
 ) -> (DeskFault, Desk<Counter>, Pass<Counter>, Pass<Counter>)
-    requires one { desk_of one ≡ desk.table.shared.table_id }
-    requires two { desk_of two ≡ desk.table.shared.table_id }
+    requires one { desk_of one ≡ identity desk }
+    requires two { desk_of two ≡ identity desk }
     ensures { (result.1 ≡ desk) × (result.2 ≡ one) × (result.3 ≡ two) }
 {
     let passes = both(rt, alloc, one, two);
@@ -159,7 +160,7 @@ pub(crate) fn close_with_one(
     desk: Desk<Counter>,
     one: Pass<Counter>,
 ) -> DeskFault
-    requires { desk_of one ≡ desk.table.shared.table_id }
+    requires { desk_of one ≡ identity desk }
 {
     let mut passes = Passes::<Counter>::new(alloc);
     if passes.push(one).is_err() {
