@@ -10,6 +10,11 @@ use std::alloc::Global;
 use std::process::Abort;
 use std::sync::Wait;
 
+/// Panics where the numbers aren't those that are wanted.
+pub(crate) fn same(rt: &impl Abort, got: &[u128], wanted: &[u128]) {
+    assert_eq!(rt; got, wanted);
+}
+
 /// A new desk whose first place is `first`, and its passes.
 pub(crate) fn open_two(
     rt: &impl Abort,

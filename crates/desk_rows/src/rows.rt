@@ -1,7 +1,8 @@
 //! Two passes call in turn.
 
 use crate::calls::{
-    ask, close_refused, close_two, close_with_one, front_of, learn_of, note_of, open_two, take_of,
+    ask, close_refused, close_two, close_with_one, front_of, learn_of, note_of, open_two, same,
+    take_of,
 };
 use desk::{Desk, DeskFault};
 use desk_counter::{Count, Counter};
@@ -13,26 +14,39 @@ const LAST: u64 = (1 << 62) - 1;
 fn a_notice_between_two_passes(rt: HostRuntime) -> Result<(), Fail> {
     let (desk, mut one, mut two) = open_two(&rt, rt.alloc(), 0);
     let watched = ask(&rt, &desk, &mut one, Count::Watch(1));
-    assert_eq!(rt; watched.place, 0);
-    assert_eq!(rt; watched.owed, 0);
     let added = ask(&rt, &desk, &mut one, Count::Add(5));
-    assert_eq!(rt; added.raised, 1);
     let again = ask(&rt, &desk, &mut two, Count::Add(7));
-    assert_eq!(rt; again.reply.total, 12);
-    assert_eq!(rt; again.owed, 1);
-    assert_eq!(rt; again.raised, 0);
-    let taken = take_of(&rt, &desk, &mut one, 0);
-    assert_eq!(rt; taken.bits, 1);
-    assert_eq!(rt; taken.floor, 3);
-    let taken = take_of(&rt, &desk, &mut one, 0);
-    assert_eq!(rt; taken.bits, 0);
+    same(
+        &rt,
+        &[watched.place as u128, watched.owed, added.raised],
+        &[0, 0, 1],
+    );
+    same(
+        &rt,
+        &[again.reply.total as u128, again.owed, again.raised],
+        &[12, 1, 0],
+    );
+    let first = take_of(&rt, &desk, &mut one, 0);
+    let second = take_of(&rt, &desk, &mut one, 0);
+    same(
+        &rt,
+        &[first.bits as u128, first.floor as u128, second.bits as u128],
+        &[1, 3, 0],
+    );
     let closed = close_two(&rt, rt.alloc(), desk, one, two);
-    assert_eq!(rt; closed.machine.total, 12);
-    assert_eq!(rt; closed.account.len(), 128);
+    let rows = closed.account.len() as u128;
     let row = closed.account.get(0).expect(&rt, "128 rows");
-    assert_eq!(rt; row.raises, 1);
-    assert_eq!(rt; row.takes, 1);
-    assert!(rt; !row.pending);
+    same(
+        &rt,
+        &[
+            closed.machine.total as u128,
+            rows,
+            row.raises as u128,
+            row.takes as u128,
+            row.pending as u128,
+        ],
+        &[12, 128, 1, 1, 0],
+    );
     Ok(())
 }
 
@@ -44,9 +58,9 @@ fn a_note_is_learnt_before_closing(rt: HostRuntime) -> Result<(), Fail> {
     let (fault, desk, one, mut two) = close_refused(&rt, rt.alloc(), desk, one, two);
     assert_eq!(rt; fault, DeskFault::Noted);
     learn_of(&rt, &desk, &mut two, note);
-    assert_eq!(rt; front_of(&desk, &mut two), 8);
+    let front = front_of(&desk, &mut two);
     let closed = close_two(&rt, rt.alloc(), desk, one, two);
-    assert_eq!(rt; closed.machine.total, 1);
+    same(&rt, &[front as u128, closed.machine.total as u128], &[8, 1]);
     Ok(())
 }
 
@@ -65,11 +79,14 @@ fn passes_are_out(rt: HostRuntime) -> Result<(), Fail> {
 fn the_last_place(rt: HostRuntime) -> Result<(), Fail> {
     let (desk, mut one, mut two) = open_two(&rt, rt.alloc(), LAST);
     let added = ask(&rt, &desk, &mut one, Count::Add(1));
-    assert_eq!(rt; added.place, LAST);
     let worn = desk.call(&rt, &mut two, Count::Add(1));
     assert_eq!(rt; worn.err(), Some(DeskFault::Worn));
     let taken = take_of(&rt, &desk, &mut one, 0);
-    assert_eq!(rt; taken.floor, LAST + 1);
+    same(
+        &rt,
+        &[added.place as u128, taken.floor as u128],
+        &[LAST as u128, LAST as u128 + 1],
+    );
     Ok(())
 }
 
@@ -78,8 +95,8 @@ fn front_after_a_call_of_another_pass(rt: HostRuntime) -> Result<(), Fail> {
     let (desk, mut one, mut two) = open_two(&rt, rt.alloc(), 3);
     let before = front_of(&desk, &mut one);
     ask(&rt, &desk, &mut two, Count::Read);
-    assert_eq!(rt; before, 3);
-    assert_eq!(rt; front_of(&desk, &mut one), 4);
+    let behind = front_of(&desk, &mut one);
+    same(&rt, &[before as u128, behind as u128], &[3, 4]);
     Ok(())
 }
 
@@ -88,9 +105,13 @@ fn the_last_subscription(rt: HostRuntime) -> Result<(), Fail> {
     let (desk, mut one, _two) = open_two(&rt, rt.alloc(), 0);
     ask(&rt, &desk, &mut one, Count::Watch(1 << 127));
     let added = ask(&rt, &desk, &mut one, Count::Add(1));
-    assert_eq!(rt; added.raised, 1 << 127);
-    assert_eq!(rt; take_of(&rt, &desk, &mut one, 14).bits, 0);
-    assert_eq!(rt; take_of(&rt, &desk, &mut one, 15).bits, 128);
+    let none = take_of(&rt, &desk, &mut one, 14);
+    let last = take_of(&rt, &desk, &mut one, 15);
+    same(
+        &rt,
+        &[added.raised, none.bits as u128, last.bits as u128],
+        &[1 << 127, 0, 128],
+    );
     let refused = desk.take(&mut one, 16);
     assert_eq!(rt; refused.err(), Some(DeskFault::BadServer));
     Ok(())
