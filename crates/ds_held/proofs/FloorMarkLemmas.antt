@@ -1,12 +1,12 @@
 -- The held floors as a list, and marks beside them.
-use Rattle.std.proofs.Common.{◌≡◌, ℕ, ◌<◌, ◌≤◌, List, [], ◌∷◌, length, set, map, true, false, Bool, Option, Some, None, is_some, Result, Ok, Err, refl, sym, ap, ◌∙◌, subst, arith, length-set}
+use Rattle.std.proofs.Common.{◌≡◌, ℕ, ◌<◌, ◌≤◌, List, [], ◌∷◌, length, set, map, Option, Some, None, is_some, Result, Ok, Err, refl, sym, ap, ◌∙◌, subst, arith, length-set}
 use Rattle.std.proofs.lemmas.Cmp.{nat_list_cmp_total}
 use Rattle.std.proofs.lemmas.Map.Lookups.{exact_bytes}
 use Rattle.std.specs.List.{slice_get}
 use Rattle.std.specs.Option.{option_map, IfSome}
 use Rattle.std.specs.Result.{MatchResult}
 use Rattle.std.specs.Prelude.{⊤}
-use Rattle.std.specs.FinMap.{FinMap, find, get, put, len, get-from_entries, get-entries, entries, entries_sorted, entries-insert, len-entries, same_map, is_sorted}
+use Rattle.std.specs.FinMap.{FinMap, find, get, put, get-from_entries, get-entries, entries, entries_sorted, entries-insert, same_map, is_sorted}
 use Rattle.std.specs.FinMap as finite
 use lib.Dec.{T}
 use Rattle.ds_names.specs.Key.{name_cmp}
@@ -19,7 +19,7 @@ use Rattle.ds_join.specs.declared.merge.JoinFault.{JoinFault}
 use Rattle.ds_join.specs.declared.merge.JoinFault.TheVariants.{NoRoom}
 use Rattle.ds_held.specs.Limits.{LimitsRecord}
 use Rattle.ds_held.specs.Held.{Holding, held_changes, held_floors, floor_for, floor_count, nothing_held}
-use Rattle.ds_held.specs.Merge.{AnswersNew, after_merge}
+use Rattle.ds_held.specs.Merge.{after_merge}
 use Rattle.ds_held.specs.Raise.{AnswersFloor, RaiseAnswer, after_raise}
 use Rattle.ds_held.specs.Kept.{owned, by_owner, floors_of, holding_of, AreOwnersRising, IsFloorPlace, IsPut, put_at, list_after}
 use Rattle.ds_held.specs.Marked.{MarkedHolding, nothing_marked, floor_marks_after, floor_remarked}

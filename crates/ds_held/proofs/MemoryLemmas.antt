@@ -1,8 +1,8 @@
 -- What comes to a held key or a held owner is never refused for want of room.
-use Rattle.std.proofs.Common.{◌≡◌, ℕ, Bool, true, false, None, Some, Ok, Err, sym, ◌∙◌, subst, inl, inr}
-use Rattle.ds_entry.specs.Change.{ChangeRecord, IsBodyInPlace}
+use Rattle.std.proofs.Common.{Bool, true, false, Err, sym, ◌∙◌, subst, inl, inr}
+use Rattle.ds_entry.specs.Change.{ChangeRecord}
 use Rattle.ds_join.specs.declared.merge.JoinFault.TheVariants.{NoRoom}
-use Rattle.ds_held.specs.Held.{Holding, held_for, held_count, floor_count, is_void_at}
+use Rattle.ds_held.specs.Held.{held_count, floor_count, is_void_at}
 use Rattle.ds_held.specs.Merge.{AnswersHeld, AnswersFor, TakesMemory}
 use Rattle.ds_held.specs.Raise.{AnswersFloor}
 use Rattle.ds_held.specs.Memory.{HeldKeyNeedsNoRoom, CopyInPlaceNeedsNoRoom, HeldOwnerIsNotRefused}

@@ -7,7 +7,7 @@ use Rattle.std.specs.declared.cmp.Ordering.{Ordering}
 use Rattle.std.specs.declared.cmp.Ordering.TheVariants.{Equal}
 use Rattle.std.specs.Ordering.{eq_by_cmp, is_eq}
 use Rattle.std.specs.Cmp.{IsTotalOrder, tied_itself}
-use Rattle.std.specs.FinMap.{find, put, get, from_entries, get-from_entries, get-insert, same_map, is_sorted}
+use Rattle.std.specs.FinMap.{find, put, from_entries, get-from_entries, get-insert, same_map, is_sorted}
 use Rattle.std.specs.FinMap as finite
 use Rattle.std.specs.FinMap.Entries.{by_order, find-put}
 use lib.Dec.{T}

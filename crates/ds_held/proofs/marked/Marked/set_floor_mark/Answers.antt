@@ -1,9 +1,9 @@
-use Rattle.std.proofs.Common.{◌∙◌, ap, sym, subst}
+use Rattle.std.proofs.Common.{◌∙◌, ap}
 use Rattle.std.specs.List.{slice_get}
 use Rattle.ds_held.specs.Held.{held_floors}
 use Rattle.ds_held.specs.Marked.{floor_remarked}
-use Rattle.ds_held.specs.Beside.{marks_beside_floors, IsBesideFloors}
-use Rattle.ds_held.proofs.FloorMarkLemmas.{floor_beside_set, floor_marks_set}
+use Rattle.ds_held.specs.Beside.{marks_beside_floors}
+use Rattle.ds_held.proofs.FloorMarkLemmas.{floor_marks_set}
 use Rattle.ds_held.proofs.marked.Marked.set_floor_mark.Goals as goal
 
 pub returns-clause-floor_marks : goal.returns-clause-floor_marks

@@ -1,8 +1,5 @@
-use Rattle.std.proofs.Common.{◌≡◌, ◌<◌, false, true, List, length, vec_len, vec_capacity, sym, ap, ◌∙◌, subst, arith, rules, Ok}
-use Rattle.std.specs.Result.{MatchResult}
-use Rattle.std.specs.Prelude.{⊤}
-use Rattle.ds_join.specs.declared.merge.Merge.TheVariants.{Taken}
-use Rattle.ds_held.specs.Held.{held_floors, floor_count}
+use Rattle.std.proofs.Common.{◌≡◌, false, true, length, vec_len, vec_capacity, ap, ◌∙◌, subst, arith, rules}
+use Rattle.ds_held.specs.Held.{held_floors}
 use Rattle.ds_held.specs.Kept.{list_after, put_at}
 use Rattle.ds_held.specs.Raise.{RaiseAnswer}
 use Rattle.ds_held.proofs.MarkLemmas.{beside_raised, marks_kept}
