@@ -32,7 +32,7 @@ use Rattle.ds_join.specs.declared.merge.Merge.{Merge}
 use Rattle.ds_join.specs.declared.merge.Merge.TheVariants.{Taken, Known, Stale}
 use Rattle.ds_join.specs.declared.merge.JoinFault.{JoinFault}
 use Rattle.ds_join.specs.declared.merge.JoinFault.TheVariants.{NoRoom}
-use Rattle.ds_join.specs.Held.{Holding, held_changes, held_for, held_count, nothing_held, IsOwn}
+use Rattle.ds_join.specs.Held.{Holding, held_changes, held_for, held_count}
 use Rattle.ds_join.specs.Label.{names_endpoint, is_label_of}
 use Rattle.ds_join.specs.Merge.{MergeAnswer, AnswersNew, AnswersFor, after_merge}
 use Rattle.ds_join.specs.Reading.{value_of, value_in}

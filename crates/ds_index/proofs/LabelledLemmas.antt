@@ -1,12 +1,11 @@
 -- What is listed of a holder of changes and floors: no floor makes a label void, so that a raised floor drops none.
-use Rattle.std.proofs.Common.{◌≡◌, ℕ, ◌≤◌, ◌<◌, ◌&&◌, nat_le, not, true, false, cond, Bool, List, Option, Some, None, Result, Ok, Err, refl, sym, ap, ◌∙◌, subst, arith}
+use Rattle.std.proofs.Common.{◌≡◌, ℕ, ◌≤◌, ◌<◌, ◌&&◌, nat_le, not, false, cond, List, Option, Some, None, Result, Ok, Err, refl, sym, ap, ◌∙◌, subst, arith}
 use Rattle.std.specs.Ordering.{eq_by_cmp}
-use Rattle.std.specs.FinMap.{FinMap, get, get-retain_keys}
+use Rattle.std.specs.FinMap.{get, get-retain_keys}
 use Rattle.std.specs.Option.{option_map}
 use Rattle.ds_names.specs.declared.key.Key.{Key}
-use Rattle.ds_names.specs.declared.kind.Kind.{Kind}
 use Rattle.ds_names.specs.declared.kind.Kind.TheVariants.{Label}
-use Rattle.ds_names.specs.Key.{key_cmp, name_cmp}
+use Rattle.ds_names.specs.Key.{name_cmp}
 use Rattle.ds_names.proofs.OrderLemmas.{exact_keys}
 use Rattle.ds_entry.specs.Change.{ChangeRecord}
 use Rattle.ds_entry.specs.Floor.{floor_of}

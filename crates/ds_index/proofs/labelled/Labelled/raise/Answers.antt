@@ -1,5 +1,5 @@
 use Rattle.std.proofs.Common.{sym, subst}
-use Rattle.ds_held.specs.Held.{Holding, IsSound}
+use Rattle.ds_held.specs.Held.{Holding}
 use Rattle.ds_index.specs.Indexed.{IsIndexed}
 use Rattle.ds_index.proofs.LabelledLemmas.{raised_kept}
 use Rattle.ds_index.proofs.labelled.Labelled.raise.Goals as goal
