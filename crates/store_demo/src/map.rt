@@ -70,7 +70,11 @@ pub(crate) fn print_entries(rt: &impl Runtime, session: &Session) -> Result<(), 
 }
 
 /// `floor-of OWNER`: the generation of an owner's floor.
-pub(crate) fn print_floor(rt: &impl Runtime, session: &Session, owner: &str) -> Result<(), Failure> {
+pub(crate) fn print_floor(
+    rt: &impl Runtime,
+    session: &Session,
+    owner: &str,
+) -> Result<(), Failure> {
     let map = session.map.as_ref().ok_or(Failure::BadLine)?;
     let owner = Name::read(owner.as_bytes()).map_err(|_| Failure::BadLine)?;
     let printed = match map.held().floor(&owner) {
