@@ -1,12 +1,10 @@
 -- What a take leaves: the top of what was held and of the items under the query, in a map that floors stand in.
-use Rattle.std.proofs.Common.{◌≡◌, ◌++◌, ◌⊎◌, true, List, [], ◌∷◌, All, Contains, IsTrue, take, Result, Ok, Err, refl, sym, ap, ◌∙◌, subst, inl, inr}
+use Rattle.std.proofs.Common.{◌≡◌, ◌++◌, List, [], ◌∷◌, All, Contains, IsTrue, take, Result, Ok, Err, refl, sym, ap, ◌∙◌, inl, inr}
 use Rattle.std.proofs.lemmas.List.Elements.{All-contains, All-contains_itself, All-weaker, Contains-append_cases, Contains-append_left, Contains-append_right}
 use Rattle.std.proofs.lemmas.Option.{none-some}
 use Rattle.std.specs.FinMap.{get-empty}
 use Rattle.std.specs.Result.{IfErr, IfOk}
 use Rattle.ds_names.specs.Key.{key_cmp}
-use Rattle.ds_entry.specs.Change.{ChangeRecord}
-use Rattle.ds_entry.specs.declared.floor.Floor.{Floor}
 use Rattle.ds_entry.specs.declared.item.Item.{Item}
 use Rattle.ds_entry.specs.declared.item.Item.TheVariants.{Change as Changed, Floor as Floored}
 use Rattle.ds_entry.proofs.Members.{Contains-filter, Contains-from_filter}

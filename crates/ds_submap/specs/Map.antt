@@ -1,5 +1,5 @@
 -- What a subscriber's map is, and what is read of it.
-use Rattle.std.specs.Prelude.{◌≡◌, ℕ, Bool, true, false, List, Option, None, Some, All, IsTrue, filter, option_and_then}
+use Rattle.std.specs.Prelude.{◌≡◌, ℕ, Bool, false, List, Option, None, Some, All, IsTrue, filter, option_and_then}
 use Rattle.ds_names.specs.declared.key.Key.{Key}
 use Rattle.ds_names.specs.declared.kind.Kind.TheVariants.{Label}
 use Rattle.ds_names.specs.Endpoint.{EndpointRecord}

@@ -1,4 +1,4 @@
-use Rattle.std.proofs.Common.{◌≡◌, All, IsFalse, Some, None, false, inl, inr, sym, ◌∙◌, subst, arith}
+use Rattle.std.proofs.Common.{◌≡◌, IsFalse, Some, None, false, inl, inr, sym, ◌∙◌, subst, arith}
 use Rattle.std.specs.List.{slice_get}
 use Rattle.std.specs.Option.{option_copied}
 use Rattle.std.proofs.lemmas.List.Elements.{All-nil}

@@ -3,8 +3,8 @@ use Rattle.std.specs.List.{slice_get}
 use Rattle.std.specs.Option.{option_copied}
 use Rattle.std.proofs.lemmas.Option.{slice_get_cases}
 use Rattle.ds_pattern.specs.declared.query.Query.{Query}
-use Rattle.ds_submap.specs.Take.{IsItemTaken, IsRefusedUnder}
-use Rattle.ds_submap.proofs.TakeLemmas.{taking_front, taking_goes_on, taking_stops, taking_ends, front_unasked}
+use Rattle.ds_submap.specs.Take.{IsItemTaken}
+use Rattle.ds_submap.proofs.TakeLemmas.{taking_front, taking_goes_on, taking_ends}
 use Rattle.ds_submap.proofs.take.take_items.Goals as goal
 use Rattle.ds_submap.proofs.take.take_items.Goals.{In-Some}
 
