@@ -1,4 +1,5 @@
 pub mod PickLemmas
+pub mod ItemLemmas
 pub mod RunLemmas
 pub mod SessionLemmas
 pub mod EndLemmas

@@ -4,11 +4,13 @@ use Rattle.std.specs.List.{flat_map}
 use Rattle.std.specs.Fmt.{decimal}
 use Rattle.std.specs.Option.{option_map, option_map_or}
 use Rattle.ds_entry.specs.Change.{ChangeRecord}
+use Rattle.ds_entry.specs.declared.item.Item.{Item}
+use Rattle.ds_line.specs.ItemSpelling.{item_spelling}
 use Rattle.ds_line.specs.Spelling.{spelling}
 use Rattle.ds_join.specs.Top.{entries}
-use Rattle.ds_join.specs.Held.{held_changes}
+use Rattle.ds_held.specs.Held.{held_items}
 use Rattle.ds_pattern.specs.declared.query.Query.{Query}
-use Rattle.ds_submap.specs.Map.{SubMapRecord, empty_map}
+use Rattle.ds_submap.specs.Map.{SubMapRecord, empty_map, entries_of}
 use Rattle.ds_store.specs.Machine.{held}
 use Rattle.ds_store.specs.declared.command.Command.{Command}
 use Rattle.ds_store.specs.declared.command.Reply.{Reply}
@@ -42,13 +44,17 @@ AnswersMade query old out new = (number : ℕ) × MakesMap query number old new 
 abbrev pub AnswersUnmade : Query → ScriptState → List ℕ → ScriptState → Type 0
 AnswersUnmade query old out new = (fault : MapFault) × RefusesMap query fault old new × (out ≡ refused_by (map_fault_word fault))
 
+-- the lines of the items, and then `shown` and their number
+abbrev pub shown_items : List Item → List ℕ
+shown_items items = flat_map item_spelling items ++ ended (codes "shown " ++ decimal (length items))
+
 -- the puts of a map, in key order
-abbrev pub puts_of : SubMapRecord → List ChangeRecord
-puts_of kept = entries (held_changes kept.held)
+abbrev pub puts_of : SubMapRecord → List Item
+puts_of kept = entries_of (held_items kept.held)
 
 -- the lines of the map's puts, or the refusal where there is no such map
 abbrev pub entries_text : Option SubMapRecord → List ℕ
-entries_text kept = option_map_or (λ m. shown (puts_of m)) kept (refused_by (codes "nomap"))
+entries_text kept = option_map_or (λ m. shown_items (puts_of m)) kept (refused_by (codes "nomap"))
 
 -- what is answered to a command, and the state after it
 abbrev pub AnswersCommand : ScriptCommand → ScriptState → List ℕ → ScriptState → Type 0

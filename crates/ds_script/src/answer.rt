@@ -1,20 +1,18 @@
 //! Carrying commands out, and their answers.
 
 ghost use Rattle.std.specs.Prelude.{◌≡◌, ◌⊎◌, ◌++◌, List, ℕ, OnOk, OnErr};
-ghost use Rattle.std.specs.Option.{option_copied};
 ghost use Rattle.ds_script.specs.Session.{Leads};
 ghost use Rattle.ds_script.specs.Maps.{map_fault_word};
-ghost use Rattle.ds_script.specs.Answer.{AnswersAsked, AnswersMade, AnswersUnmade, AnswersOrRefuses, entries_text};
-ghost use Rattle.ds_words.specs.Reply.{refused_noroom};
+ghost use Rattle.ds_script.specs.Answer.{AnswersAsked, AnswersMade, AnswersUnmade, AnswersOrRefuses};
 
+use crate::entries::append_entries;
 use crate::maps::MapFault;
 use crate::session::Session;
-use crate::shown::{append_items, append_shown};
+use crate::shown::append_shown;
 use ds_line::append_all;
 use ds_names::NoRoom;
 use ds_pattern::Query;
 use ds_store::Command;
-use ds_submap::SubMap;
 use ds_words::{ScriptCommand, Wording, append_noroom, append_reply};
 use itoa::Buffer;
 use std::alloc::Global;
@@ -90,22 +88,5 @@ fn word_of(fault: MapFault) -> &'static [u8]
         MapFault::TooLong => b"toolong",
         MapFault::BadPattern => b"badpattern",
         MapFault::NoRoom => b"noroom",
-    }
-}
-
-// Appends the puts of a map, or the refusal for want of one, or of memory.
-fn append_entries(alloc: Global, map: Option<&SubMap>, output: &mut Vec<u8>) -> Result<(), NoRoom>
-    ensures answered { OnOk result ((output.new.items ≡ output.old.items ++ refused_noroom) ⊎ (output.new.items ≡ output.old.items ++ entries_text (option_copied map.entry))) }
-    ensures unanswered { OnErr result (output.new.items ≡ output.old.items) }
-{
-    let Some(map) = map else {
-        return append_all(output, &[b"refused nomap\n"]);
-    };
-    match map.entries(alloc) {
-        Ok(items) => match append_items(&items, output, true) {
-            Ok(()) => Ok(()),
-            Err(NoRoom) => append_noroom(output),
-        },
-        Err(NoRoom) => append_noroom(output),
     }
 }

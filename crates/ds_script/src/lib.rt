@@ -5,6 +5,7 @@
 #![tactic(auto)]
 
 mod answer;
+mod entries;
 mod fault;
 mod faulty;
 mod going_line;

@@ -39,13 +39,9 @@ pub(crate) fn append_shown(
     }
 }
 
-/// Appends the lines of the items that are picked, `shown` and their number, or nothing where there is no room
-/// for all.
-pub(crate) fn append_items(
-    items: &Items,
-    output: &mut Vec<u8>,
-    tombstones: bool,
-) -> Result<(), NoRoom>
+// Appends the lines of the items that are picked, `shown` and their number, or nothing where there is no room
+// for all.
+fn append_items(items: &Items, output: &mut Vec<u8>, tombstones: bool) -> Result<(), NoRoom>
     ensures written { OnOk result (output.new.items ≡ output.old.items ++ shown (picked tombstones items.now)) }
     ensures unwritten { OnErr result (output.new.items ≡ output.old.items) }
 {

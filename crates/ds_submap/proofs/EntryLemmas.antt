@@ -1,15 +1,48 @@
 -- The puts of what is held, one after the other.
-use Rattle.std.proofs.Common.{◌≡◌, true, false, cond, List, [], ◌∷◌, ◌++◌, sym, ap, ◌∙◌, append_assoc}
+use Rattle.std.proofs.Common.{◌≡◌, ℕ, ◌+◌, true, false, cond, List, [], ◌∷◌, ◌++◌, map, take, length, Some, refl, sym, ap, ◌∙◌, append-nil}
+use Rattle.std.proofs.lemmas.List.{take_more}
+use Rattle.std.proofs.lemmas.List.Elements.{filter-append}
+use Rattle.std.proofs.lemmas.Map.Entries.{length-values_of}
+use Rattle.std.proofs.lemmas.Option.{get_or_from_slice_get, slice_get_within}
+use Rattle.std.specs.FinMap.{entries, len-entries}
+use Rattle.std.specs.List.{slice_get}
 use Rattle.ds_entry.specs.Change.{ChangeRecord}
-use Rattle.ds_join.specs.Top.{entries, is_put}
+use Rattle.ds_entry.specs.declared.item.Item.{Item}
+use Rattle.ds_entry.specs.declared.item.Item.TheVariants.{Change as Changed}
+use Rattle.ds_join.specs.Top.{is_put as leaves_value}
+use Rattle.ds_held.specs.Held.{Holding, change_item, floor_item, held_changes, held_count, held_items}
+use Rattle.ds_submap.specs.Map.{entries_of, is_put}
 
-module _ (puts all left rest : List ChangeRecord) (c : ChangeRecord) (next : left ≡ c ∷ rest) (so_far : puts ++ entries left ≡ entries all) where
-  pub put_added : is_put c ≡ true → (puts ++ c ∷ []) ++ entries rest ≡ entries all
-  put_added p =
-      append_assoc puts (c ∷ []) (entries rest)
-      ∙ ap (λ b. puts ++ cond b (c ∷ entries rest) (entries rest)) (sym p)
-      ∙ ap (λ l. puts ++ entries l) (sym next)
-      ∙ so_far
+-- the puts of changes, as items
+abbrev pub puts_of : List ChangeRecord → List Item
+puts_of changes = entries_of (map change_item changes)
 
-  pub tombstone_passed : is_put c ≡ false → puts ++ entries rest ≡ entries all
-  tombstone_passed p = ap (λ b. puts ++ cond b (c ∷ entries rest) (entries rest)) (sym p) ∙ ap (λ l. puts ++ entries l) (sym next) ∙ so_far
+-- the number of held changes
+pub count_is : (h : Holding) → length (held_changes h) ≡ held_count h
+count_is h = length-values_of (entries h.changes) ∙ sym (len-entries h.changes)
+
+-- floors are no puts
+no_puts : (fs : List (List ℕ × ℕ)) → entries_of (map floor_item fs) ≡ []
+no_puts [] = refl
+no_puts (f ∷ fs) = no_puts fs
+
+pub held_puts : (h : Holding) → entries_of (held_items h) ≡ puts_of (held_changes h)
+held_puts h = filter-append is_put (map floor_item (entries h.floors)) (map change_item (held_changes h)) ∙ ap (λ l. l ++ puts_of (held_changes h)) (no_puts (entries h.floors))
+
+puts_push : (cs : List ChangeRecord) (c : ChangeRecord) → puts_of (cs ++ c ∷ []) ≡ puts_of cs ++ cond (leaves_value c) (Changed c ∷ []) []
+puts_push [] c = refl
+puts_push (d ∷ cs) c =
+    elim (leaves_value d) as (λ b. cond b (Changed d ∷ puts_of (cs ++ c ∷ [])) (puts_of (cs ++ c ∷ [])) ≡ cond b (Changed d ∷ puts_of cs) (puts_of cs) ++ cond (leaves_value c) (Changed c ∷ []) []) [
+      | true ↦ ap (λ l. Changed d ∷ l) (puts_push cs c)
+      | false ↦ puts_push cs c
+    ]
+
+module _ (cs : List ChangeRecord) (i : ℕ) (c : ChangeRecord) (at : slice_get cs i ≡ Some c) where
+  one_more : puts_of (take (i + 1) cs) ≡ puts_of (take i cs) ++ cond (leaves_value c) (Changed c ∷ []) []
+  one_more = ap puts_of (take_more cs i c (slice_get_within cs i c at) ∙ ap (λ (y : ChangeRecord). take i cs ++ y ∷ []) (get_or_from_slice_get cs i c c at)) ∙ puts_push (take i cs) c
+
+  pub put_added : leaves_value c ≡ true → puts_of (take i cs) ++ Changed c ∷ [] ≡ puts_of (take (i + 1) cs)
+  put_added p = sym (one_more ∙ ap (λ b. puts_of (take i cs) ++ cond b (Changed c ∷ []) []) p)
+
+  pub tombstone_passed : leaves_value c ≡ false → puts_of (take i cs) ≡ puts_of (take (i + 1) cs)
+  tombstone_passed p = sym (one_more ∙ ap (λ b. puts_of (take i cs) ++ cond b (Changed c ∷ []) []) p ∙ append-nil (puts_of (take i cs)))

@@ -1,2 +1,3 @@
 pub mod TakeLemmas
+pub mod MapLemmas
 pub mod EntryLemmas

@@ -1,12 +1,14 @@
 -- How items are counted.
-use Rattle.std.specs.Prelude.{ℕ, ◌+◌, ◌≤◌, ◌<◌, ◌^◌, Option, Some, None}
+use Rattle.std.specs.Prelude.{◌+◌, ◌≤◌, ◌<◌, ◌^◌, Option, Some, None}
 use Rattle.ds_join.specs.declared.merge.Merge.{Merge}
 use Rattle.ds_join.specs.declared.merge.Merge.TheVariants.{Taken, Known, Stale}
+use Rattle.ds_join.specs.declared.merge.JoinFault.{JoinFault}
+use Rattle.ds_join.specs.declared.merge.Stop.{Stop}
 use Rattle.ds_submap.specs.declared.count.Count.{Count}
 
--- so many items were passed over
-abbrev pub all_passed : ℕ → Count
-all_passed n = record { done = n; taken = 0; stale = 0 }
+-- no item came
+abbrev pub none_counted : Count
+none_counted = record { done = 0; taken = 0; stale = 0 }
 
 -- one more item is done, and it was taken, or stale, or neither
 abbrev pub counted : Count → Option Merge → Count
@@ -20,3 +22,7 @@ pub record HasRoom (n : Count) : Type 0 where
   pub taken : n.taken ≤ n.done
   pub stale : n.stale ≤ n.done
   pub done : n.done + 1 < 2 ^ 64
+
+-- the stop behind so many items, for this fault
+abbrev pub stop_behind : Count → JoinFault → Stop
+stop_behind n fault = record { done = n.done; fault = fault }

@@ -1,3 +1,4 @@
 pub mod Map
 pub mod Count
 pub mod Take
+pub mod Floors

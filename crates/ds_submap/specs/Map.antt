@@ -1,17 +1,21 @@
 -- What a subscriber's map is, and what is read of it.
-use Rattle.std.specs.Prelude.{ℕ, List, Option, None, Some, filter, option_and_then}
+use Rattle.std.specs.Prelude.{◌≡◌, ℕ, Bool, false, List, Option, None, Some, All, IsTrue, filter, option_and_then}
 use Rattle.ds_names.specs.declared.key.Key.{Key}
 use Rattle.ds_names.specs.declared.kind.Kind.TheVariants.{Label}
 use Rattle.ds_names.specs.Endpoint.{EndpointRecord}
 use Rattle.ds_entry.specs.declared.body.Value.{Value}
 use Rattle.ds_entry.specs.declared.body.Value.TheVariants as values
-use Rattle.ds_entry.specs.Change.{ChangeRecord}
-use Rattle.ds_join.specs.Held.{Holding, held_for, nothing_held}
+use Rattle.ds_entry.specs.declared.item.Item.{Item}
+use Rattle.ds_entry.specs.declared.item.Item.TheVariants.{Change as Changed, Floor as Floored}
+use Rattle.ds_entry.specs.Item.{passes}
 use Rattle.ds_join.specs.Reading.{value_of}
+use Rattle.ds_join.specs.Top.{is_put as leaves_value}
+use Rattle.ds_held.specs.Held.{Holding, held_for, held_items, nothing_held, IsSound}
+use Rattle.ds_held.specs.Limits.{larger}
 use Rattle.ds_pattern.specs.declared.query.Query.{Query}
 use Rattle.ds_pattern.specs.Under.{is_under}
 
--- a query, and what is held of the changes under it
+-- a query, and what is held of the items under it
 pub record SubMapRecord : Type 0 where
   pub query : Query
   pub held : Holding
@@ -22,11 +26,30 @@ map_of query held = record { query = query; held = held }
 
 -- the map of a query to which nothing came
 abbrev pub empty_map : Query → SubMapRecord
-empty_map query = map_of query nothing_held
+empty_map query = map_of query (nothing_held larger)
 
--- those of the changes whose keys are under the query
-abbrev pub under : Query → List ChangeRecord → List ChangeRecord
-under q changes = filter (λ (c : ChangeRecord). is_under q c.key) changes
+-- the item is under the query: a change by its key, a floor under every query
+abbrev pub is_item_under : Query → Item → Bool
+is_item_under q i = passes (is_under q) i
+
+-- those of the items that are under the query
+abbrev pub under : Query → List Item → List Item
+under q items = filter (is_item_under q) items
+
+-- what every map has: up to 4096 keys, no change that a held floor makes void, and nothing that isn't under its query
+pub record IsMap (m : SubMapRecord) : Type 0 where
+  pub limits : m.held.limits ≡ larger
+  pub sound : IsSound m.held
+  pub under : All (λ i. IsTrue (is_item_under m.query i)) (held_items m.held)
+
+-- the item is a put
+abbrev pub is_put : Item → Bool
+is_put (Changed c) = leaves_value c
+is_put (Floored f) = false
+
+-- the puts of what is held
+abbrev pub entries_of : List Item → List Item
+entries_of held = filter is_put held
 
 -- the endpoint that the value names; that of a label
 abbrev pub endpoint_in : Value → Option EndpointRecord

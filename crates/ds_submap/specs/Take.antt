@@ -1,67 +1,92 @@
 -- What a map takes of items that come in order, and where it stops.
-use Rattle.std.specs.Prelude.{◌≡◌, Bool, true, false, List, [], ◌∷◌, ◌++◌, length, filter, take, slice_get, Option, Some, None, Ok, IsTrue, IsFalse}
+use Rattle.std.specs.Prelude.{◌≡◌, ◌⊎◌, ◌≤◌, ◌<◌, Bool, true, false, List, [], ◌∷◌, All, length, filter, take, slice_get, Option, Some, None, Result, Ok, Err, IsTrue, IsFalse}
 use Rattle.ds_names.specs.Kind.{names_kind}
-use Rattle.ds_entry.specs.Change.{ChangeRecord}
+use Rattle.ds_entry.specs.declared.item.Item.{Item}
+use Rattle.ds_entry.specs.declared.item.Item.TheVariants.{Change as Changed, Floor as Floored}
 use Rattle.ds_join.specs.declared.merge.Merge.{Merge}
 use Rattle.ds_join.specs.declared.merge.Merge.TheVariants.{Taken, Known, Stale}
 use Rattle.ds_join.specs.declared.merge.JoinFault.{JoinFault}
-use Rattle.ds_join.specs.declared.merge.JoinFault.TheVariants.{NotOwner, Clash, Full, NoRoom}
+use Rattle.ds_join.specs.declared.merge.JoinFault.TheVariants.{NoRoom}
 use Rattle.ds_join.specs.declared.merge.Stop.{Stop}
-use Rattle.ds_join.specs.Held.{Holding, held_changes}
-use Rattle.ds_join.specs.Top.{IsTop}
-use Rattle.ds_join.specs.Merge.{MergeAnswer, after_merge}
-use Rattle.ds_join.specs.Stop.{IsRefused}
+use Rattle.ds_held.specs.Held.{Holding, IsSound}
+use Rattle.ds_held.specs.Join.{ItemAnswer, after_item, IsItemRefused}
 use Rattle.ds_pattern.specs.declared.query.Query.{Query}
 use Rattle.ds_pattern.specs.Under.{is_under}
 use Rattle.ds_submap.specs.declared.count.Count.{Count}
-use Rattle.ds_submap.specs.Map.{under}
+use Rattle.ds_submap.specs.Map.{is_item_under, under}
 
--- merged into `old` in turn the changes get these answers, none of them a refusal, and leave `new`
-abbrev pub AreMerged : Holding → List ChangeRecord → List Merge → Holding → Type 0
-AreMerged old [] [] new = new ≡ old
-AreMerged old [] (r ∷ rs) new = ⊥
-AreMerged old (c ∷ cs) [] new = ⊥
-AreMerged old (c ∷ cs) (r ∷ rs) new = MergeAnswer old c (Ok r) × AreMerged (after_merge old c (Ok r)) cs rs new
+-- one after the other the items come to `old`: they get these answers, none of them a refusal, and leave `new`
+abbrev pub AreAnswered : Holding → List Item → List Merge → Holding → Type 0
+AreAnswered old [] [] new = new ≡ old
+AreAnswered old [] (r ∷ rs) new = ⊥
+AreAnswered old (i ∷ items) [] new = ⊥
+AreAnswered old (i ∷ items) (r ∷ rs) new = ItemAnswer old i (Ok r) × AreAnswered (after_item old i (Ok r)) items rs new
 
--- the change was taken
+-- the item took effect
 abbrev pub is_taken : Merge → Bool
 is_taken Taken = true
 is_taken Known = false
 is_taken Stale = false
 
--- a greater version was held
+-- a greater version was held, or a floor that makes it void, or a higher floor
 abbrev pub is_stale : Merge → Bool
 is_stale Taken = false
 is_stale Known = false
 is_stale Stale = true
 
--- the items under the query were merged in turn, and the others were passed over
-pub record AreTaken (q : Query) (old : Holding) (items : List ChangeRecord) (new : Holding) : Type 0 where
+-- the items under the query were merged or raised in turn, and the others were passed over
+pub record AreTaken (q : Query) (old : Holding) (items : List Item) (new : Holding) : Type 0 where
   pub answers : List Merge
-  pub merged : AreMerged old (under q items) answers new
+  pub answered : AreAnswered old (under q items) answers new
 
 -- all items were taken so, and the answers are counted
-pub record AreCounted (q : Query) (old : Holding) (items : List ChangeRecord) (new : Holding) (count : Count) : Type 0 where
+pub record AreCounted (q : Query) (old : Holding) (items : List Item) (new : Holding) (count : Count) : Type 0 where
   pub all : AreTaken q old items new
   pub done : count.done ≡ length items
   pub taken : count.taken ≡ length (filter is_taken all.answers)
   pub stale : count.stale ≡ length (filter is_stale all.answers)
 
--- one item was taken: it was merged, with this answer, if it is under the query, and passed over if not
-abbrev pub IsItemTaken : Query → Holding → ChangeRecord → Option Merge → Holding → Type 0
-IsItemTaken q old c (Some r) new = IsTrue (is_under q c.key) × MergeAnswer old c (Ok r) × (new ≡ after_merge old c (Ok r))
-IsItemTaken q old c None new = IsFalse (is_under q c.key) × (new ≡ old)
+-- one item was taken: it was merged or raised, with this answer, if it is under the query, and passed over if not
+abbrev pub IsItemTaken : Query → Holding → Item → Option Merge → Holding → Type 0
+IsItemTaken q old i (Some r) new = IsTrue (is_item_under q i) × ItemAnswer old i (Ok r) × (new ≡ after_item old i (Ok r))
+IsItemTaken q old i None new = IsFalse (is_item_under q i) × (new ≡ old)
 
--- the item is refused by this fault: as its merge is, if it is under the query; and for want of room wherever
--- the query names its kind, since to tell whether the pattern matches its name takes memory
-abbrev pub IsItemRefused : Query → Holding → ChangeRecord → JoinFault → Type 0
-IsItemRefused q held c NotOwner = IsTrue (is_under q c.key) × IsRefused held c NotOwner
-IsItemRefused q held c (Clash v) = IsTrue (is_under q c.key) × IsRefused held c (Clash v)
-IsItemRefused q held c Full = IsTrue (is_under q c.key) × IsRefused held c Full
-IsItemRefused q held c NoRoom = IsTrue (names_kind q.kinds c.key.kind)
+-- the query has to be asked about the item: it is a change of a kind that the query names
+abbrev pub is_asked : Query → Item → Bool
+is_asked q (Changed c) = names_kind q.kinds c.key.kind
+is_asked q (Floored f) = false
 
--- the first `done` of the items were taken, which leaves the top of them, and the next one is refused
-pub record IsTakeStopped (q : Query) (old : Holding) (items : List ChangeRecord) (new : Holding) (stop : Stop) : Type 0 where
+-- the item is a floor, or a change that isn't under the query
+abbrev pub IsFloorOrOther : Query → Item → Type 0
+IsFloorOrOther q (Changed c) = IsFalse (is_under q c.key)
+IsFloorOrOther q (Floored f) = Unit {0}
+
+-- the item is under the query, and refused by this fault as its merge, or the raising of its floor, is
+abbrev pub IsRefusedUnder : Query → Holding → Item → JoinFault → Type 0
+IsRefusedUnder q held i fault = IsTrue (is_item_under q i) × IsItemRefused held i fault
+
+-- there is no memory to ask the query: it is taken at the first item that it has to be asked about
+pub record IsUnasked (q : Query) (front : List Item) (i : Item) (fault : JoinFault) : Type 0 where
+  pub noroom : fault ≡ NoRoom
+  pub none_before : All (λ j. IsFalse (is_asked q j)) front
+  pub asked : IsTrue (is_asked q i)
+
+-- the first `done` of the items were taken, and the next one is refused
+pub record IsTakeStopped (q : Query) (old : Holding) (items : List Item) (new : Holding) (stop : Stop) : Type 0 where
   pub front : AreTaken q old (take stop.done items) new
-  pub kept : IsTop (held_changes new) (held_changes old ++ under q (take stop.done items))
-  pub refused : (next : ChangeRecord) × (slice_get items stop.done ≡ Some next) × IsItemRefused q new next stop.fault
+  pub refused : (next : Item) × (slice_get items stop.done ≡ Some next) × (IsRefusedUnder q new next stop.fault ⊎ IsUnasked q (take stop.done items) next stop.fault)
+
+-- the items that were done: all of them, or those in front of the one that was refused
+abbrev pub done_items : Result Count Stop → List Item → List Item
+done_items (Ok count) items = items
+done_items (Err stop) items = take stop.done items
+
+-- the items in front of the first that the query has to be asked about were taken
+pub record IsFrontTaken (q : Query) (old : Holding) (items : List Item) (new : Holding) (count : Count) : Type 0 where
+  pub counted : AreCounted q old (take count.done items) new count
+  pub sound : IsSound new
+  pub within : count.done ≤ length items
+  pub taken : count.taken ≤ count.done
+  pub stale : count.stale ≤ count.done
+  pub unasked : All (λ j. IsFalse (is_asked q j)) (take count.done items)
+  pub next : count.done < length items → (i : Item) × (slice_get items count.done ≡ Some i) × IsTrue (is_asked q i)

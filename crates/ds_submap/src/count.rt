@@ -1,34 +1,36 @@
 //! How items that came are counted.
 
 ghost use Rattle.std.specs.Prelude.{◌≡◌};
-ghost use Rattle.ds_submap.specs.Count.{all_passed, counted, HasRoom};
+ghost use Rattle.ds_submap.specs.Count.{counted, none_counted, stop_behind, HasRoom};
 
-use ds_join::Merge;
+use ds_join::{JoinFault, Merge, Stop};
 
 /// What became of the items that a map took.
 #[derive(Clone, Copy, Debug, PartialEq, Eq)]
 pub struct Count {
     /// How many items came, those too that aren't under the query.
     pub done: usize,
-    /// How many of those under the query took effect: nothing was held for the key, or a smaller version.
+    /// How many of those under the query took effect: changes of which nothing was held, or a smaller version, and floors
+    /// above the one that was held of their owner.
     pub taken: usize,
-    /// For how many of those under the query a greater version was held.
+    /// How many of those under the query were stale: a greater version was held, or a floor that makes the change void, or
+    /// a higher floor of the same owner.
     pub stale: usize,
 }
 
 impl Count {
-    // Of so many items that were passed over.
-    pub(crate) fn passed(done: usize) -> Count
-        ensures { result ≡ all_passed done }
+    // Of no items.
+    pub(crate) fn none() -> Count
+        ensures { result ≡ none_counted }
     {
         Count {
-            done,
+            done: 0,
             taken: 0,
             stale: 0,
         }
     }
 
-    // Counts one more item, by the answer to its merge where it was merged.
+    // Counts one more item, by the answer to it where it was merged or raised.
     pub(crate) fn add(&mut self, answer: Option<Merge>)
         requires { HasRoom self.old }
         ensures { self.new ≡ counted self.old answer }
@@ -38,6 +40,15 @@ impl Count {
             Some(Merge::Taken) => self.taken += 1,
             Some(Merge::Stale) => self.stale += 1,
             Some(Merge::Known) | None => {}
+        }
+    }
+    // The stop behind so many items.
+    pub(crate) fn stop(&self, fault: JoinFault) -> Stop
+        ensures { result ≡ stop_behind self.now fault }
+    {
+        Stop {
+            done: self.done,
+            fault,
         }
     }
 }

@@ -1,25 +1,32 @@
 //! What a subscriber keeps.
 
-ghost use Rattle.std.specs.Prelude.{◌≡◌, ◌++◌, All, IfOk, IfErr, IfSome, OnOk};
+ghost use Rattle.std.specs.Prelude.{◌≡◌, ◌++◌, All, IfOk, IfErr, IfSome};
 ghost use Rattle.std.specs.Option.{option_copied};
 ghost use Rattle.ds_names.specs.Endpoint.{IsEndpoint};
 ghost use Rattle.ds_entry.specs.Change.{IsChange};
-ghost use Rattle.ds_join.specs.Held.{held_changes, held_for, IsOwn};
-ghost use Rattle.ds_join.specs.Top.{IsTop, entries};
+ghost use Rattle.ds_entry.specs.Item.{IsItem};
+ghost use Rattle.ds_join.specs.ItemTop.{IsTop};
+ghost use Rattle.ds_held.specs.Held.{held_for, held_items};
 ghost use Rattle.ds_pattern.specs.Patterns.{IsPattern, IsPatternFault};
-ghost use Rattle.ds_submap.specs.Map.{empty_map, under, endpoint_of_label};
-ghost use Rattle.ds_submap.specs.Take.{AreCounted, IsTakeStopped};
+ghost use Rattle.ds_submap.specs.Map.{empty_map, entries_of, under, endpoint_of_label, IsMap};
+ghost use Rattle.ds_submap.specs.Take.{done_items, AreCounted, IsTakeStopped};
+ghost use Rattle.ds_submap.specs.Floors.{AreSwept, FloorsStand};
 
 use crate::count::Count;
-use crate::take::{count_of_other_kinds, take_rest};
-use ds_entry::{Body, Change, Items, Value};
-use ds_join::{Held, JoinFault, Stop};
+use crate::take::take_items;
+use ds_entry::{Body, Change, Item, ItemList, Value};
+use ds_held::Held;
+use ds_join::Stop;
 use ds_names::{Endpoint, Key, Kind, Name, NoRoom};
 use ds_pattern::{Filter, PatternFault, Query};
 use std::alloc::Global;
 use std::marker::Model;
 
-/// What a subscriber keeps: its query, and the greatest versions that came of the entries under it.
+/// What a subscriber keeps: its query, and of what came under it the greatest floor of each owner and the greatest version of
+/// each key, for up to 4096 keys and 64 floors.
+///
+/// So where a floor of an owner is held, none of its entries is from a generation up to the floor's but labels, and no take
+/// brings one, however late it comes, until the map is cleared.
 #[derive(Debug, Drop)]
 pub struct SubMap {
     filter: Filter,
@@ -28,11 +35,11 @@ pub struct SubMap {
 
 impl Model for SubMap {
     ghost use Rattle.std.specs.Coded.{code_by, coded×};
-    ghost use Rattle.ds_join.specs.Held.{Holding, IsOwn};
-    ghost use Rattle.ds_join.specs.contracts.held.Held.{the_row as held_row};
+    ghost use Rattle.ds_held.specs.Held.{Holding};
+    ghost use Rattle.ds_held.specs.contracts.held.Held.{the_row as held_row};
     ghost use Rattle.ds_pattern.specs.declared.query.Query.{Query};
     ghost use Rattle.ds_pattern.specs.contracts.query.Query.{the_row as query_row};
-    ghost use Rattle.ds_submap.specs.Map.{SubMapRecord, map_of};
+    ghost use Rattle.ds_submap.specs.Map.{SubMapRecord, map_of, IsMap};
 
     ghost Value = { SubMapRecord };
 
@@ -40,7 +47,7 @@ impl Model for SubMap {
 
     ghost view = { λ m. map_of m.filter m.held };
 
-    ghost invariant = { λ m. IsOwn m.held };
+    ghost invariant = { λ m. IsMap (map_of m.filter m.held) };
 }
 
 impl SubMap {
@@ -56,27 +63,20 @@ impl SubMap {
         })
     }
 
-    /// Merges the items under its query, in their order, and passes over the others.
+    /// Takes items in their order: raises each floor, whatever the query; merges the changes under its query, and passes over
+    /// the others.
     ///
-    /// Known and stale items count as done, and so do those that are passed over. At the first item of a kind that
-    /// the query names it takes memory to ask for the names of all; an item is copied only where it is taken. It stops at the first item that is refused, and those before it stand.
-    pub fn take(&mut self, alloc: Global, items: &Items) -> Result<Count, Stop>
-        ensures joined { OnOk result (IsTop (held_changes self.new.held) (held_changes self.old.held ++ under self.old.query items.now)) }
+    /// Known and stale items count as done, and so do those that are passed over. At the first change of a kind that the query
+    /// names it takes memory to ask for names; a floor needs none of that. A change is copied only where it is taken. It stops
+    /// at the first item that is refused, and those before it stand.
+    pub fn take(&mut self, alloc: Global, items: &ItemList) -> Result<Count, Stop>
+        ensures joined { IsTop (held_items self.new.held) (held_items self.old.held ++ under self.old.query (done_items result items.now)) }
         ensures counted { IfOk result (AreCounted self.old.query self.old.held items.now self.new.held) }
         ensures stopped { IfErr result (IsTakeStopped self.old.query self.old.held items.now self.new.held) }
+        ensures floors { FloorsStand (held_items self.old.held ++ done_items result items.now) (held_items self.new.held) }
         ensures query { self.new.query ≡ self.old.query }
     {
-        let passed = count_of_other_kinds(&self.filter, items);
-        if passed >= items.len() {
-            return Ok(Count::passed(passed));
-        }
-        let Ok(mut asker) = self.filter.asker(alloc) else {
-            return Err(Stop {
-                done: passed,
-                fault: JoinFault::NoRoom,
-            });
-        };
-        take_rest(alloc, &mut asker, &mut self.held, items, passed)
+        take_items(alloc, &self.filter, &mut self.held, items)
     }
 
     /// The change that is held for a key. It takes no memory.
@@ -102,33 +102,35 @@ impl SubMap {
         }
     }
 
-    /// All that is held, tombstones too. It takes no memory.
+    /// All that is held, tombstones and floors too. It takes no memory.
     pub fn held(&self) -> &Held
         ensures value { result.now ≡ self.now.held }
-        ensures own { IsOwn self.now.held }
+        ensures map { IsMap self.now }
     {
         &self.held
     }
 
-    /// Holds nothing again, tombstones neither; the query stays. It takes no memory.
+    /// Holds nothing again, neither tombstones nor floors; the query stays. It takes no memory.
     pub fn clear(&mut self)
         ensures { self.new ≡ empty_map self.old.query }
     {
         self.held.clear();
     }
 
-    /// The puts of what is held, in the order of their keys.
-    pub fn entries(&self, alloc: Global) -> Result<Items, NoRoom>
-        ensures value { IfOk result (λ items. items ≡ entries (held_changes self.now.held)) }
-        ensures changes { IfOk result (λ items. All IsChange items) }
+    /// The puts of what is held, in the order of their keys. None of them is one that a held floor makes void.
+    pub fn entries(&self, alloc: Global) -> Result<ItemList, NoRoom>
+        ensures value { IfOk result (λ items. items ≡ entries_of (held_items self.now.held)) }
+        ensures floors { IfOk result (AreSwept (held_items self.now.held)) }
+        ensures items { IfOk result (λ items. All IsItem items) }
     {
-        let mut puts = Items::new(alloc);
-        let mut last: Option<Key> = None;
-        while let Some(change) = self.held.first_after(last.as_ref()) {
+        let mut puts = ItemList::new(alloc);
+        for index in 0..self.held.len() {
+            let Some(change) = self.held.at(index) else {
+                unreachable!()
+            };
             if let Body::Put(_) = change.body() {
-                puts.push(change.copy(alloc)?)?;
+                puts.push(Item::Change(change.copy(alloc)?))?;
             }
-            last = Some(*change.key());
         }
         Ok(puts)
     }

@@ -1,87 +1,113 @@
-//! Items in turn: each is merged if it is under the query, and passed over if not.
+//! Items in turn: a floor is raised, and a change is merged if it is under the query, and passed over if not.
 
-ghost use Rattle.std.specs.Prelude.{◌≡◌, ◌<◌, ◌≤◌, ◌++◌, [], length, take, slice_get, Some, IsTrue, IfErr, IfOk, OnErr, OnOk};
-ghost use Rattle.ds_names.specs.Kind.{names_kind};
-ghost use Rattle.ds_entry.specs.Change.{ChangeRecord};
-ghost use Rattle.ds_join.specs.Held.{held_changes, IsOwn};
-ghost use Rattle.ds_join.specs.Top.{IsTop};
-ghost use Rattle.ds_submap.specs.Map.{under};
-ghost use Rattle.ds_submap.specs.Take.{AreCounted, IsItemTaken, IsItemRefused, IsTakeStopped};
+ghost use Rattle.std.specs.Prelude.{◌≡◌, IfErr, IfOk, IsFalse, OnErr};
+ghost use Rattle.ds_held.specs.Held.{IsSound};
+ghost use Rattle.ds_pattern.specs.declared.query.Query.{Query};
+ghost use Rattle.ds_submap.specs.Take.{AreCounted, IsFloorOrOther, IsFrontTaken, IsItemTaken, IsRefusedUnder, IsTakeStopped, is_asked};
 
 use crate::count::Count;
-use ds_entry::{Change, Items};
-use ds_join::{Held, JoinFault, Merge, Stop};
+use ds_entry::{Item, ItemList};
+use ds_held::Held;
+use ds_join::{JoinFault, Merge, Stop};
 use ds_pattern::{Asker, Filter};
 use std::alloc::Global;
 
-// How many items stand in front of the first whose kind the query names. They aren't under the query.
-pub(crate) fn count_of_other_kinds(filter: &Filter, items: &Items) -> usize
-    ensures few { result ≤ length items.now }
-    ensures none { under filter.now (take result items.now) ≡ [] }
-    ensures next { result < length items.now → (c : ChangeRecord) × (slice_get items.now result ≡ Some c) × IsTrue (names_kind filter.now.kinds c.key.kind) }
-{
-    let count = items.len();
-    for i in 0..count {
-        let Some(item) = items.get(i) else {
-            unreachable!()
-        };
-        if filter.names(item.key().kind) {
-            return i;
-        }
-    }
-    count
-}
-
-// Takes the items behind those that were passed over.
-pub(crate) fn take_rest(
+// Takes items. Memory to ask the query is taken at the first change of a kind that the query names.
+pub(crate) fn take_items(
     alloc: Global,
-    asker: &mut Asker<'_>,
+    filter: &Filter,
     held: &mut Held,
-    items: &Items,
-    passed: usize,
+    items: &ItemList,
 ) -> Result<Count, Stop>
-    requires own { IsOwn held.old }
-    requires few { passed ≤ length items.now }
-    requires none { under asker.old (take passed items.now) ≡ [] }
-    ensures own { IsOwn held.new }
-    ensures joined { OnOk result (IsTop (held_changes held.new) (held_changes held.old ++ under asker.old items.now)) }
-    ensures counted { IfOk result (AreCounted asker.old held.old items.now held.new) }
-    ensures stopped { IfErr result (IsTakeStopped asker.old held.old items.now held.new) }
+    requires { IsSound held.old }
+    ensures sound { IsSound held.new }
+    ensures counted { IfOk result (AreCounted filter.now held.old items.now held.new) }
+    ensures stopped { IfErr result (IsTakeStopped filter.now held.old items.now held.new) }
 {
-    let mut count = Count::passed(passed);
-    for i in passed..items.len() {
+    let mut count = take_front(filter, held, items)?;
+    if count.done >= items.len() {
+        return Ok(count);
+    }
+    let Ok(mut asker) = filter.asker(alloc) else {
+        return Err(count.stop(JoinFault::NoRoom));
+    };
+    for i in count.done..items.len() {
         let Some(item) = items.get(i) else {
             unreachable!()
         };
-        match take_one(alloc, asker, held, item) {
+        match take_one(alloc, &mut asker, held, item) {
             Ok(answer) => count.add(answer),
-            Err(fault) => {
-                return Err(Stop {
-                    done: count.done,
-                    fault,
-                });
-            }
+            Err(fault) => return Err(count.stop(fault)),
         }
     }
     Ok(count)
 }
 
-// Merges an item if it is under the query.
-pub(crate) fn take_one(
+// Takes the items in front of the first that the query has to be asked about.
+fn take_front(filter: &Filter, held: &mut Held, items: &ItemList) -> Result<Count, Stop>
+    requires { IsSound held.old }
+    ensures sound { IsSound held.new }
+    ensures front { IfOk result (IsFrontTaken filter.now held.old items.now held.new) }
+    ensures stopped { IfErr result (IsTakeStopped filter.now held.old items.now held.new) }
+{
+    let mut count = Count::none();
+    for i in 0..items.len() {
+        let Some(item) = items.get(i) else {
+            unreachable!()
+        };
+        if is_asked(filter, item) {
+            return Ok(count);
+        }
+        match raise_or_pass(held, item) {
+            Ok(answer) => count.add(answer),
+            Err(fault) => return Err(count.stop(fault)),
+        }
+    }
+    Ok(count)
+}
+
+// Whether the query has to be asked about an item: about a change of a kind that it names. A floor is under every query.
+fn is_asked(filter: &Filter, item: &Item) -> bool
+    ensures { result ≡ is_asked filter.now item.now }
+{
+    match item {
+        Item::Change(change) => filter.names(change.key().kind),
+        Item::Floor(_) => false,
+    }
+}
+
+// Raises a floor, and passes over a change, which isn't under the query.
+fn raise_or_pass(held: &mut Held, item: &Item) -> Result<Option<Merge>, JoinFault>
+    requires { IsSound held.old }
+    ensures sound { IsSound held.new }
+    ensures taken { IfOk result (λ answer. (q : Query) → IsFloorOrOther q item.now → IsItemTaken q held.old item.now answer held.new) }
+    ensures refused { IfErr result (λ fault. (q : Query) → IsRefusedUnder q held.old item.now fault) }
+    ensures unchanged { OnErr result (held.new ≡ held.old) }
+{
+    match item {
+        Item::Floor(floor) => Ok(Some(held.raise(*floor)?)),
+        Item::Change(_) => Ok(None),
+    }
+}
+
+// Merges a change if it is under the query, and raises a floor.
+fn take_one(
     alloc: Global,
     asker: &mut Asker<'_>,
     held: &mut Held,
-    item: &Change,
+    item: &Item,
 ) -> Result<Option<Merge>, JoinFault>
-    requires { IsOwn held.old }
+    requires { IsSound held.old }
     ensures query { asker.new ≡ asker.old }
-    ensures own { IsOwn held.new }
+    ensures sound { IsSound held.new }
     ensures taken { IfOk result (λ answer. IsItemTaken asker.old held.old item.now answer held.new) }
-    ensures refused { IfErr result (λ fault. IsItemRefused asker.old held.old item.now fault) }
+    ensures refused { IfErr result (λ fault. IsRefusedUnder asker.old held.old item.now fault) }
     ensures unchanged { OnErr result (held.new ≡ held.old) }
 {
-    if !asker.admits(item.key()) {
-        return Ok(None);
+    match item {
+        Item::Change(change) if asker.admits(change.key()) => {
+            Ok(Some(held.merge_copy(alloc, change)?))
+        }
+        Item::Change(_) | Item::Floor(_) => raise_or_pass(held, item),
     }
-    Ok(Some(held.merge_copy(alloc, item)?))
 }

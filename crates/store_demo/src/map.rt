@@ -1,10 +1,10 @@
 //! Lines, given to a subscriber's map.
 
-use crate::session::{Failure, Session, print};
-use ds_entry::{Change, Items};
+use crate::session::{Failure, Session, number, print};
+use ds_entry::{Change, Floor, Item, ItemList};
 use ds_join::{JoinFault, Stop};
-use ds_line::{append_change, write_change};
-use ds_names::{Key, Kind, Name};
+use ds_line::{append_item, write_change};
+use ds_names::{Generation, Key, Kind, Name};
 use ds_pattern::{PatternFault, Query};
 use ds_submap::{Count, SubMap};
 use std::alloc::Global;
@@ -25,7 +25,11 @@ pub(crate) fn make(rt: &impl Runtime, session: &mut Session, query: &Query) -> R
 }
 
 /// `take`: the items of a block.
-pub(crate) fn take(rt: &impl Runtime, session: &mut Session, items: &Items) -> Result<(), Failure> {
+pub(crate) fn take(
+    rt: &impl Runtime,
+    session: &mut Session,
+    items: &ItemList,
+) -> Result<(), Failure> {
     let map = session.map.as_mut().ok_or(Failure::BadLine)?;
     let printed = match map.take(session.alloc, items) {
         Ok(Count { done, taken, stale }) => println!(rt; "taken {done} {taken} {stale}"),
@@ -42,19 +46,45 @@ pub(crate) fn take(rt: &impl Runtime, session: &mut Session, items: &Items) -> R
     printed.map_err(|_| Failure::WriteFault)
 }
 
+/// `floor OWNER GENERATION`, in the block of a `take`: the floor of an owner.
+pub(crate) fn read_floor(words: &str) -> Result<Item, Failure> {
+    let (owner, generation) = words.split_once(' ').ok_or(Failure::BadLine)?;
+    let owner = Name::read(owner.as_bytes()).map_err(|_| Failure::BadLine)?;
+    let generation = Generation::of(number(generation)?).ok_or(Failure::BadLine)?;
+    Ok(Item::Floor(Floor { owner, generation }))
+}
+
 /// `entries`: the puts of the map, and how many changes it holds.
 pub(crate) fn print_entries(rt: &impl Runtime, session: &Session) -> Result<(), Failure> {
     let map = session.map.as_ref().ok_or(Failure::BadLine)?;
     let entries = map.entries(session.alloc)?;
     let mut text = Vec::new(session.alloc);
     for index in 0..entries.len() {
-        if let Some(change) = entries.get(index) {
-            append_change(&mut text, change)?;
+        if let Some(item) = entries.get(index) {
+            append_item(&mut text, item)?;
         }
     }
     print(rt, text.as_slice())?;
     let (shown, held) = (entries.len(), map.held().len());
     println!(rt; "entries {shown} of {held}").map_err(|_| Failure::WriteFault)
+}
+
+/// `floor-of OWNER`: the generation of an owner's floor.
+pub(crate) fn print_floor(
+    rt: &impl Runtime,
+    session: &Session,
+    owner: &str,
+) -> Result<(), Failure> {
+    let map = session.map.as_ref().ok_or(Failure::BadLine)?;
+    let owner = Name::read(owner.as_bytes()).map_err(|_| Failure::BadLine)?;
+    let printed = match map.held().floor(&owner) {
+        Some(generation) => {
+            let generation = generation.number();
+            println!(rt; "floor {generation}")
+        }
+        None => println!(rt; "floor -"),
+    };
+    printed.map_err(|_| Failure::WriteFault)
 }
 
 /// `label NAME`: the endpoint of a label, and the change that is held for it.

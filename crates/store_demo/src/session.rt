@@ -1,7 +1,7 @@
 //! Lines, given to a store or to a map.
 
-use crate::map::{clear, make, print_entries, print_label, take};
-use ds_entry::{Items, Value};
+use crate::map::{clear, make, print_entries, print_floor, print_label, read_floor, take};
+use ds_entry::{Item, ItemList, Items, Value};
 use ds_names::{Endpoint, Key, Kind, Name, NoRoom, Version};
 use ds_store::{Command, Refusal, Reply, Store, run};
 use ds_submap::SubMap;
@@ -38,8 +38,8 @@ impl From<AllocError> for Failure {
 enum Block {
     /// `merge`: offers, which are the items of one Merge.
     Merge(Items),
-    /// `take`: offers, which are the items that the map takes.
-    Take(Items),
+    /// `take`: offers and floors, which are the items that the map takes.
+    Take(ItemList),
     /// `run`: commands, which are run as a list.
     Run(Vec<Command>),
 }
@@ -73,9 +73,15 @@ pub(crate) fn answer(rt: &impl Runtime, session: &mut Session, line: &str) -> Re
     if let Some(name) = line.strip_prefix("label ") {
         return print_label(rt, session, name);
     }
+    if let Some(owner) = line.strip_prefix("floor-of ") {
+        return print_floor(rt, session, owner);
+    }
+    if let Some(words) = line.strip_prefix("floor ") {
+        return add_floor(session, words);
+    }
     let alloc = session.alloc;
     match line {
-        "take" => session.block = Some(Block::Take(Items::new(alloc))),
+        "take" => session.block = Some(Block::Take(ItemList::new(alloc))),
         "merge" => session.block = Some(Block::Merge(Items::new(alloc))),
         "run" => session.block = Some(Block::Run(Vec::new(alloc))),
         "end" => return end(rt, session),
@@ -108,7 +114,7 @@ fn open(rt: &impl Runtime, session: &mut Session, words: &str) -> Result<(), Fai
     }
 }
 
-fn number<T: FromStr>(word: &str) -> Result<T, Failure>
+pub(crate) fn number<T: FromStr>(word: &str) -> Result<T, Failure>
 where
     T::Err: Drop,
 {
@@ -126,14 +132,30 @@ fn read(alloc: Global, line: &str) -> Result<ScriptCommand, Failure> {
 
 fn add(alloc: Global, block: &mut Block, command: ScriptCommand) -> Result<(), Failure> {
     match block {
-        Block::Merge(items) | Block::Take(items) => match command {
+        Block::Merge(items) => match command {
             ScriptCommand::Offer(change) => items.push(change).map_err(|_| Failure::NoRoom),
+            _ => Err(Failure::BadLine),
+        },
+        Block::Take(items) => match command {
+            ScriptCommand::Offer(change) => add_item(items, Item::Change(change)),
             _ => Err(Failure::BadLine),
         },
         Block::Run(commands) => {
             let command = command.into_store_command(alloc)?.ok_or(Failure::BadLine)?;
             commands.push(command).map_err(|_| Failure::NoRoom)
         }
+    }
+}
+
+fn add_item(items: &mut ItemList, item: Item) -> Result<(), Failure> {
+    items.push(item).map_err(|_| Failure::NoRoom)
+}
+
+// Adds a floor to the items that the map will take.
+fn add_floor(session: &mut Session, words: &str) -> Result<(), Failure> {
+    match &mut session.block {
+        Some(Block::Take(items)) => add_item(items, read_floor(words)?),
+        Some(Block::Merge(_) | Block::Run(_)) | None => Err(Failure::BadLine),
     }
 }
 

@@ -1,0 +1,10 @@
+use Rattle.std.proofs.Common.{All, IsFalse, take}
+use Rattle.ds_submap.specs.Take.{is_asked}
+use Rattle.ds_submap.proofs.TakeLemmas.{Taking}
+use Rattle.ds_submap.proofs.take.take_front.Given as goal
+
+abbrev pub invariant-loop-i : goal.invariant-loop-i
+invariant-loop-i l = record {
+  taking : Taking l.filter l.fn.held l.items l.i l.held l.count;
+  unasked : All (λ j. IsFalse (is_asked l.filter j)) (take l.i l.items);
+}

@@ -1,0 +1,12 @@
+//! Rows of calls and their answers, with ample memory: maps of subscribers, and floors that come to them.
+//!
+//! A contract can't say that memory is there, so a body that always gives up would be proved; here each call is made and its
+//! answer compared. The rows stand in a crate of their own, since a crate with tests is proved twice.
+#![tactic(auto)]
+
+#[cfg(test)]
+mod floors;
+#[cfg(test)]
+mod given;
+#[cfg(test)]
+mod values;
