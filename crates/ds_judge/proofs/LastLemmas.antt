@@ -1,24 +1,22 @@
 -- What the machine answers of itself wants no memory.
-use Rattle.std.proofs.Common.{◌≡◌, ◌≢◌, ℕ, Bool, List, [], ◌∷◌, length, take, Option, Some, None, refl, sym, ◌∙◌}
+use Rattle.std.proofs.Common.{◌≢◌, ℕ, List, [], ◌∷◌, length, take, Option, Some, None, refl}
 use Rattle.std.specs.Option.{option_map, option_map_or}
-use Rattle.ds_names.specs.declared.key.Key.{Key}
 use Rattle.ds_names.specs.Endpoint.{EndpointRecord}
 use Rattle.ds_entry.specs.declared.body.Value.{Value}
 use Rattle.ds_entry.specs.declared.body.Body.{Body}
 use Rattle.ds_entry.specs.declared.body.Body.TheVariants.{Put, Gone}
 use Rattle.ds_entry.specs.declared.floor.Floor.{Floor}
 use Rattle.ds_entry.specs.declared.item.Item.{Item}
-use Rattle.ds_entry.specs.declared.item.Item.TheVariants.{Floor as Floored}
 use Rattle.ds_entry.specs.Floor.{floor_of}
 use Rattle.ds_machine.specs.State.{State, held, unseen, subscription_at, owed}
 use Rattle.ds_machine.specs.Subscription.{Subscription}
-use Rattle.ds_machine.specs.Order.{first_cause, first_refusal}
+use Rattle.ds_machine.specs.Order.{first_refusal}
 use Rattle.ds_machine.specs.Standing.{standing_of, floor_standing_of}
 use Rattle.ds_machine.specs.Asking.{Request, published, deleted, name_of, asked_in, against_asked, cause_against, against_sweep, sweep_cause}
 use Rattle.ds_machine.specs.Calling.{against_subscribe, against_check, against_scope, against_since, against_page, against_merge}
-use Rattle.ds_machine.specs.Merging.{Course, course, merge_reply, merging}
+use Rattle.ds_machine.specs.Merging.{Course, course, merge_reply}
 use Rattle.ds_machine.specs.Watching.{subscribe_case, check_case, shows}
-use Rattle.ds_machine.specs.Machine.{answer_for, sweep_answer, found_or, live_at, asking, sweeping, outcome}
+use Rattle.ds_machine.specs.Machine.{answer_for, sweep_answer, found_or, live_at, asking, sweeping}
 use Rattle.ds_machine.specs.declared.refusal.Cause.{Cause}
 use Rattle.ds_machine.specs.declared.refusal.Cause.TheVariants as causes
 use Rattle.ds_machine.specs.declared.refusal.Refusal.{Refusal}

@@ -1,13 +1,12 @@
 -- Want of memory is no cause of the one order.
-use Rattle.std.proofs.Common.{◌≡◌, ◌≢◌, ℕ, Bool, true, false, cond, ◌||◌, List, [], ◌∷◌, ◌++◌, map, take, fold, Option, Some, None, refl, sym, ap, ◌∙◌}
+use Rattle.std.proofs.Common.{◌≡◌, ◌≢◌, Bool, true, false, cond, ◌||◌, List, [], ◌∷◌, ◌++◌, map, fold, Option, Some, None, refl, sym, ap, ◌∙◌}
 use Rattle.std.proofs.lemmas.Option.{same_Some}
 use Rattle.std.specs.List.{find, list_any}
-use Rattle.std.specs.Option.{option_map, option_map_or}
-use Rattle.ds_names.specs.declared.version.Version.{Version}
+use Rattle.std.specs.Option.{option_map_or}
 use Rattle.ds_entry.specs.declared.item.Item.{Item}
 use Rattle.ds_entry.specs.declared.item.Item.TheVariants.{Change as Changed, Floor as Floored}
 use Rattle.ds_machine.specs.State.{State}
-use Rattle.ds_machine.specs.Order.{first_cause, first_refusal, by_command, by_version, by_room}
+use Rattle.ds_machine.specs.Order.{by_command, by_version, by_room}
 use Rattle.ds_machine.specs.Standing.{cause_of, standing_of, against_change, floor_standing_of, against_floor}
 use Rattle.ds_machine.specs.Merging.{Course, begun, item_judged, item_merged, course}
 use Rattle.ds_machine.specs.declared.refusal.Cause.{Cause}

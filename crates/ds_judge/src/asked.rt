@@ -177,12 +177,7 @@ fn cause_by_need(need: Need, is_live: bool) -> Option<Cause>
 }
 
 // The first cause by what is held, where the owner is the one who asks.
-fn cause_by_held(
-    standing: &Standing<'_>,
-    owner: &Name,
-    asked: &Asked,
-    body: &Body,
-) -> Option<Cause>
+fn cause_by_held(standing: &Standing<'_>, owner: &Name, asked: &Asked, body: &Body) -> Option<Cause>
     ensures { result ≡ find (against_asked (machine_standing standing.now) (Some owner.now) (request_of asked.now) body.now) (by_held asked.now.version) }
 {
     if let Some(cause) = cause_by_version(standing, owner, asked.version, body) {

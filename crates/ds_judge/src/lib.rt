@@ -25,7 +25,9 @@ pub use change::cause_of_change;
 pub use check::{CheckCase, refusal_of_check, refusal_of_showing};
 pub use floor::{cause_of_floor, cause_of_sweep};
 pub use laws::{outcomes_have_room, want_of_room_is_no_cause};
-pub use reading::{give_since, refusal_of_journal, refusal_of_merge, scope_of_page, scope_of_since};
+pub use reading::{
+    give_since, refusal_of_journal, refusal_of_merge, scope_of_page, scope_of_since,
+};
 pub use scope::{ScopeAsker, ScopeFilter};
 pub use standing::{FloorStanding, Standing};
 pub use subscribe::{SubscribeCase, refusal_of_pattern, take_up};

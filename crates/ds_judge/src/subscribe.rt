@@ -42,11 +42,7 @@ pub fn refusal_of_pattern(fault: PatternFault) -> Refusal
 
 /// Takes up the query of a Subscribe, unless a cause stands against it: BadSub; then its pattern is read, TooLong,
 /// BadPattern, or NoRoom in that one's place; Exists; Worn.
-pub fn take_up(
-    alloc: Global,
-    case: SubscribeCase,
-    query: &Query,
-) -> Result<Filter, Refusal>
+pub fn take_up(alloc: Global, case: SubscribeCase, query: &Query) -> Result<Filter, Refusal>
     ensures value { IfOk result (λ filter. filter ≡ query.now) }
     ensures none { OnOk result (first_refusal (against_subscribe (machine_subscribe case query.now)) ≡ None) }
     ensures place { OnOk result (case.sub < case.places) }
