@@ -1,26 +1,28 @@
 //! Values of each kind come to a map, and tombstones.
 
 use crate::given::{change, count, map, name, takes};
-use ds_entry::{Blob, Body, Text, Value};
-use ds_names::Key;
+use ds_entry::{Blob, Body, Item, Text, Value};
+use ds_names::{Key, Kind};
 use std::alloc::Global;
 use std::process::Abort;
+
+// The change of eth.up of this kind, by eth0's generation 3.
+fn up(rt: &impl Abort, kind: Kind, seq: u32, body: Body) -> Item {
+    let name = name(rt, "eth.up");
+    change(rt, Key { name, kind }, seq, body)
+}
 
 // Stops the test unless a map takes a copy of the value, gives it as an entry, and drops it for its tombstone.
 fn is_kept(rt: &impl Abort, alloc: Global, value: Value, other: Value) {
     let kind = value.kind();
-    let key = Key {
-        name: name(rt, "eth.up"),
-        kind,
-    };
-    let expected = change(rt, key, 1, Body::Put(other));
+    let expected = up(rt, kind, 1, Body::Put(other));
     let mut map = map(rt, alloc, "eth.*", 15);
-    let put = change(rt, key, 1, Body::Put(value));
+    let put = up(rt, kind, 1, Body::Put(value));
     takes(rt, alloc, &mut map, put, count(1, 1, 0));
     let entries = map.entries(alloc).expect(rt, "memory");
     assert!(rt; entries.len() == 1);
     assert!(rt; entries.get(0) == Some(&expected));
-    let gone = change(rt, key, 2, Body::Gone);
+    let gone = up(rt, kind, 2, Body::Gone);
     takes(rt, alloc, &mut map, gone, count(1, 1, 0));
     let entries = map.entries(alloc).expect(rt, "memory");
     assert!(rt; entries.len() == 0);
