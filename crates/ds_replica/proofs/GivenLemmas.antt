@@ -90,7 +90,7 @@ module _ (s : State) (r : IsReached s) where
   ]
 
   -- a reader of some items, unless something stands against it
-  given_unless : (o : Option Refusal) (reply : Reply) (l items : List Item) → items_given reply ≡ Some l → items_given (option_map_or {U = Reply × State} (λ f. (Refused f, s)) o (reply, s)).0 ≡ Some items → l ≡ items
+  pub given_unless : (o : Option Refusal) (reply : Reply) (l items : List Item) → items_given reply ≡ Some l → items_given (option_map_or {U = Reply × State} (λ f. (Refused f, s)) o (reply, s)).0 ≡ Some items → l ≡ items
   given_unless (Some f) reply l items g q = absurd (let n : None ≡ Some items = q in cc)
   given_unless None reply l items g q = some_same l items (sym g ∙ q)
 

@@ -5,3 +5,8 @@ pub mod GoneLemmas
 pub mod GivenLemmas
 pub mod FitLemmas
 pub mod EventLemmas
+pub mod HolderLemmas
+pub mod TurnLemmas
+pub mod StayLemmas
+pub mod MessageLemmas
+pub mod ClashLemmas

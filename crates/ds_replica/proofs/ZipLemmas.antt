@@ -1,6 +1,7 @@
 -- Lists whose items belong together, place by place.
-use Rattle.std.proofs.Common.{◌≡◌, ℕ, zero, suc, List, [], ◌∷◌, ◌++◌, Some, None, refl, subst}
-use Rattle.std.specs.List.{AllZip, slice_get, slice_set}
+use Rattle.std.proofs.Common.{◌≡◌, ℕ, zero, suc, List, [], ◌∷◌, ◌++◌, Some, None, refl, ap, sym, subst, inl, inr}
+use Rattle.std.specs.List.{AllZip, Contains, slice_get, slice_set}
+use Rattle.ds_entry.proofs.Members.{Contains-nil, Contains-cons}
 
 module _ {X Y : Type 0} (R : X → Y → Type 0) where
   pub AllZip-last : (xs : List X) (ys : List Y) (x : X) (y : Y) → AllZip R xs ys → R x y → AllZip R (xs ++ x ∷ []) (ys ++ y ∷ [])
@@ -44,3 +45,11 @@ AllZip-weaker R S f [] [] h = h
 AllZip-weaker R S f [] (y ∷ ys) h = h
 AllZip-weaker R S f (x ∷ xs) [] h = h
 AllZip-weaker R S f (x ∷ xs) (y ∷ ys) h = (f x y h.0, AllZip-weaker R S f xs ys h.1)
+
+-- where an element of a list stands
+pub Contains-at : {X : Type 0} (xs : List X) (x : X) → Contains xs x → (k : ℕ) × (slice_get xs k ≡ Some x)
+Contains-at [] x h = absurd (Contains-nil x h)
+Contains-at (y ∷ ys) x h = elim (Contains-cons y ys x h) [
+  | inl e ↦ (0, ap Some (sym e))
+  | inr k ↦ (let l = Contains-at ys x k in (suc l.0, l.1))
+]

@@ -4,3 +4,6 @@ pub mod Happens
 pub mod Known
 pub mod Fits
 pub mod Headline
+pub mod CaughtUp
+pub mod Turns
+pub mod Messages

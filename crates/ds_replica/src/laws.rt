@@ -1,10 +1,50 @@
 //! Laws over every list of events of a world, over definitions alone.
 
-ghost use Rattle.ds_replica.specs.Headline.{AccountFitsAtStart, EventsFit};
+ghost use Rattle.ds_replica.specs.CaughtUp.{HoldsTheStores, HoldsAtLeast, LabelsAreNewest};
+ghost use Rattle.ds_replica.specs.Headline.{AccountFitsAtStart, EventsFit, EqualWhereKnown, EqualOverEvents, NothingClashes, NothingStops};
+ghost use Rattle.ds_replica.specs.Messages.{SnapshotIsWhole, SinceIsTurn, SinceExtends, PageIsTurn};
+ghost use Rattle.ds_replica.specs.Turns.{TurnsAreRun, WholeStays, KnownStays, NothingBelowFloors, FloorsStand};
 
 /// Of a world that was just made the empty account fits, and over every list of events the account that is extended by
 /// them.
 pub fn accounts_fit()
     ensures start { AccountFitsAtStart }
     ensures events { EventsFit }
+{}
+
+/// Over every list of events, replicas and maps that know the same under a query hold the same under it, and nothing that
+/// is held or on its way contradicts anything else, so that no delivery stops by a clash or by another owner, if all that
+/// Asks brought in is single-numbered.
+pub fn holders_agree()
+    ensures equal { EqualWhereKnown }
+    ensures over_events { EqualOverEvents }
+    ensures clashes { NothingClashes }
+    ensures stops { NothingStops }
+{}
+
+/// A map that was given all that a store accepted under its query, and nothing that the store doesn't know, holds just the
+/// store's entries under its query, and its labels name no older generation; told more, it holds at least that.
+pub fn maps_catch_up()
+    ensures exact { HoldsTheStores }
+    ensures least { HoldsAtLeast }
+    ensures labels { LabelsAreNewest }
+{}
+
+/// In a list of events a store's turns are a run of its machine, what is whole for it stays so, and each message that it
+/// gave leaves out nothing: snapshots and the journal are whole, and pages are what the law of pages asks for.
+pub fn messages_are_whole()
+    ensures turns { TurnsAreRun }
+    ensures stays { WholeStays }
+    ensures snapshot { SnapshotIsWhole }
+    ensures since { SinceIsTurn }
+    ensures extends { SinceExtends }
+    ensures page { PageIsTurn }
+{}
+
+/// What a holder knows it keeps until it is emptied; where it knows a floor, it holds nothing that the floor makes void,
+/// and no event brings such a change.
+pub fn floors_stand()
+    ensures known { KnownStays }
+    ensures below { NothingBelowFloors }
+    ensures events { FloorsStand }
 {}

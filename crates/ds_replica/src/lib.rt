@@ -12,6 +12,6 @@ mod outcome;
 mod seed;
 
 pub use event::{Event, Holder, Side};
-pub use laws::{accounts_fit};
+pub use laws::{accounts_fit, floors_stand, holders_agree, maps_catch_up, messages_are_whole};
 pub use outcome::{EventFault, Outcome};
 pub use seed::Seed;
