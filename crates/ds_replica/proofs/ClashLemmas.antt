@@ -1,6 +1,6 @@
 -- No delivery is stopped by an item that contradicts what is held.
-use Rattle.std.proofs.Common.{◌≡◌, ◌==◌, ℕ, zero, suc, ◌+◌, Bool, true, false, not, ◌&&◌, List, [], ◌∷◌, ◌++◌, length, take, map, Option, Some, None, refl, ap, sym, ◌∙◌, subst, inl, inr, ◌⊎◌, Contains}
-use Rattle.std.specs.List.{AllZip, flat_map, slice_get}
+use Rattle.std.proofs.Common.{◌≡◌, ◌==◌, ℕ, zero, suc, Bool, true, false, not, ◌&&◌, List, [], ◌∷◌, ◌++◌, length, take, map, Option, Some, None, refl, ap, sym, ◌∙◌, subst, inl, inr, Contains}
+use Rattle.std.specs.List.{flat_map, slice_get}
 use Rattle.std.specs.Option.{option_map_or}
 use Rattle.std.specs.declared.cmp.Ordering.{Ordering}
 use Rattle.std.specs.declared.cmp.Ordering.TheVariants.{Less, Equal, Greater}
@@ -13,21 +13,19 @@ use Rattle.ds_names.specs.Version.{version_cmp}
 use Rattle.ds_names.proofs.OrderLemmas.{exact_versions}
 use Rattle.ds_entry.specs.Change.{ChangeRecord}
 use Rattle.ds_entry.specs.ItemCovers.{AreSingleNumbered}
-use Rattle.ds_entry.specs.declared.body.Value.{Value}
 use Rattle.ds_entry.specs.declared.body.Value.TheVariants as values
 use Rattle.ds_entry.specs.declared.body.Body.{Body}
 use Rattle.ds_entry.specs.declared.body.Body.TheVariants.{Put, Gone}
 use Rattle.ds_entry.specs.declared.item.Item.{Item}
 use Rattle.ds_entry.specs.declared.item.Item.TheVariants.{Change as Changed, Floor as Floored}
-use Rattle.ds_entry.proofs.Members.{Contains-head, Contains-tail, Contains-from_take, Contains-from_filter}
+use Rattle.ds_entry.proofs.Members.{Contains-head, Contains-tail, Contains-from_take}
 use Rattle.ds_join.specs.ItemTop.{IsPartOf}
 use Rattle.ds_pattern.specs.Under.{is_under}
-use Rattle.ds_whole.specs.Sent.{Sent}
 use Rattle.ds_whole.proofs.SentLemmas.{Contains-from_under}
 use Rattle.ds_machine.specs.Parts.{held_at}
 use Rattle.ds_machine.specs.State.{State, held, owed}
-use Rattle.ds_machine.specs.Standing.{standing_of, floor_standing_of, on_held, against_change, against_floor, cause_of, is_same_name, is_same_body, is_same_value}
-use Rattle.ds_machine.specs.Order.{by_command, by_version, by_room, first_cause, first_refusal}
+use Rattle.ds_machine.specs.Standing.{standing_of, floor_standing_of, on_held, against_change, against_floor, cause_of, is_same_name, is_same_body}
+use Rattle.ds_machine.specs.Order.{by_command, by_version, by_room, first_refusal}
 use Rattle.ds_machine.specs.Calling.{against_merge}
 use Rattle.ds_machine.specs.Merging.{Course, begun, course, merging}
 use Rattle.ds_machine.specs.Machine.{Step}
@@ -43,20 +41,17 @@ use Rattle.ds_machine.specs.declared.reply.Reply.TheVariants.{Merged, MergeStopp
 use Rattle.ds_machine.proofs.PartLemmas.{found, key_found}
 use Rattle.ds_machine.proofs.ReachedLemmas.{held_is_top}
 use Rattle.ds_machine.proofs.KnownLemmas.{steps_stay_reached}
-use Rattle.ds_replica.specs.declared.event.Side.{Side}
 use Rattle.ds_replica.specs.declared.event.Holder.{Holder}
 use Rattle.ds_replica.specs.declared.event.Holder.TheVariants.{Store, Map}
-use Rattle.ds_replica.specs.declared.event.Event.TheVariants.{Deliver}
-use Rattle.ds_replica.specs.declared.outcome.Outcome.{Outcome}
 use Rattle.ds_replica.specs.declared.outcome.Outcome.TheVariants.{Stopped}
 use Rattle.ds_replica.specs.World.{MapState, World, store_at, map_held}
-use Rattle.ds_replica.specs.Delivery.{Tally, Follows, AreMerged, Ends, StandsAgainst, ended, added}
-use Rattle.ds_replica.specs.Happens.{tally_outcome, IsTaken, TakenByStore, TakenByMap, Delivers, count_of}
+use Rattle.ds_replica.specs.Delivery.{Tally, Follows, AreMerged, Ends, StandsAgainst}
+use Rattle.ds_replica.specs.Happens.{tally_outcome, IsTaken, Delivers, count_of}
 use Rattle.ds_replica.specs.Known.{Account}
 use Rattle.ds_replica.specs.Fits.{FitsMessage, Fits}
 use Rattle.ds_replica.specs.Headline.{IsContradiction, NothingStops}
 use Rattle.ds_replica.proofs.ZipLemmas.{AllZip-at}
-use Rattle.ds_replica.proofs.LeftLemmas.{Took, took}
+use Rattle.ds_replica.proofs.LeftLemmas.{took}
 use Rattle.ds_replica.proofs.GoneLemmas.{step_accepts}
 use Rattle.ds_replica.proofs.FitLemmas.{store_fits}
 use Rattle.ds_replica.proofs.HolderLemmas.{held_within, message_within}

@@ -1,20 +1,19 @@
 -- The account fits over every list of events.
-use Rattle.std.proofs.Common.{◌≡◌, ℕ, ◌≤◌, List, [], ◌∷◌, ◌++◌, length, take, Option, Some, None, refl, ap, sym, ◌∙◌, subst, inl, inr, ◌⊎◌, arith, Contains}
-use Rattle.std.specs.List.{AllZip, slice_get, slice_set}
+use Rattle.std.proofs.Common.{◌≡◌, ℕ, ◌≤◌, List, [], ◌∷◌, ◌++◌, length, take, Option, Some, None, refl, ap, sym, ◌∙◌, subst, arith, Contains}
+use Rattle.std.specs.List.{AllZip, slice_set}
 use Rattle.std.proofs.lemmas.Option.{slice_get_within}
 use Rattle.std.proofs.lemmas.List.Elements.{Contains-append_left}
 use Rattle.ds_entry.specs.declared.item.Item.{Item}
 use Rattle.ds_entry.proofs.Members.{Contains-nil, Contains-from_take}
-use Rattle.ds_join.specs.ItemTop.{IsTop, IsPartOf}
-use Rattle.ds_join.proofs.ItemTopLemmas.{top_of_nothing}
+use Rattle.ds_join.specs.ItemTop.{IsTop}
 use Rattle.ds_pattern.specs.declared.query.Query.{Query}
 use Rattle.ds_pattern.specs.Under.{is_under}
 use Rattle.ds_whole.specs.Under.{under}
-use Rattle.ds_whole.specs.Sent.{Sent, IsSent, given}
+use Rattle.ds_whole.specs.Sent.{Sent, IsSent}
 use Rattle.ds_whole.specs.Taking.{items_of}
 use Rattle.ds_whole.proofs.TakingLemmas.{new_map_is_map}
-use Rattle.ds_machine.specs.State.{State, held}
-use Rattle.ds_machine.specs.Machine.{Step, outcome}
+use Rattle.ds_machine.specs.State.{State}
+use Rattle.ds_machine.specs.Machine.{Step}
 use Rattle.ds_machine.specs.Effect.{learnt_by}
 use Rattle.ds_machine.specs.declared.command.Command.{Command}
 use Rattle.ds_machine.specs.declared.refusal.Refusal.{Refusal}
@@ -27,9 +26,9 @@ use Rattle.ds_replica.specs.declared.event.Event.TheVariants.{Ask, NewMap, Deliv
 use Rattle.ds_replica.specs.declared.outcome.Outcome.{Outcome}
 use Rattle.ds_replica.specs.declared.outcome.Outcome.TheVariants.{Refused}
 use Rattle.ds_replica.specs.World.{MapState, World, store_at, with_state, with_items}
-use Rattle.ds_replica.specs.Delivery.{Tally, Ends, StoreTakes, MapTakes}
-use Rattle.ds_replica.specs.Happens.{items_given, ask_outcome, Asks, new_map, MakesMap, tally_outcome, count_of, IsTaken, TakenByStore, TakenByMap, Delivers, ClearsMap, reopened, Restarts, Happens, HappenAll}
-use Rattle.ds_replica.specs.Known.{StoreAccount, MapAccount, Account, store_of, with_reply, with_account, asked, took, opened, message_items, map_took, map_cleared, delivered, sent_first, extended, extended_all}
+use Rattle.ds_replica.specs.Delivery.{Tally, Ends}
+use Rattle.ds_replica.specs.Happens.{items_given, ask_outcome, Asks, new_map, MakesMap, tally_outcome, count_of, IsTaken, TakenByStore, TakenByMap, Delivers, ClearsMap, reopened, Restarts, Happens}
+use Rattle.ds_replica.specs.Known.{StoreAccount, MapAccount, Account, store_of, with_reply, with_account, asked, took, opened, message_items, map_took, map_cleared, delivered, sent_first, extended}
 use Rattle.ds_replica.specs.Fits.{AreWithin, FitsStore, FitsMap, FitsMessage, Fits}
 use Rattle.ds_replica.specs.Headline.{EventsFit}
 use Rattle.ds_replica.proofs.ZipLemmas.{AllZip-last, AllZip-at, AllZip-both_set}

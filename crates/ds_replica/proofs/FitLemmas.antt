@@ -1,5 +1,5 @@
 -- How what fits goes on.
-use Rattle.std.proofs.Common.{◌≡◌, ℕ, zero, suc, ◌<◌, ◌≤◌, Bool, true, false, cond, List, [], ◌∷◌, ◌++◌, length, take, map, Option, Some, None, refl, ap, sym, ◌∙◌, subst, inl, inr, ◌⊎◌, arith, Contains}
+use Rattle.std.proofs.Common.{◌≡◌, ℕ, zero, suc, ◌≤◌, Bool, true, false, cond, List, [], ◌∷◌, ◌++◌, length, take, Option, Some, None, refl, ap, sym, ◌∙◌, subst, inl, inr, arith, Contains}
 use Rattle.std.specs.List.{AllZip, take-map}
 use Rattle.std.proofs.lemmas.List.{take-take}
 use Rattle.std.proofs.lemmas.List.Elements.{Contains-append_left, Contains-append_right, Contains-append_cases}
@@ -7,7 +7,7 @@ use Rattle.ds_names.specs.declared.key.Key.{Key}
 use Rattle.ds_entry.specs.Item.{passes}
 use Rattle.ds_entry.specs.ItemCovers.{covers}
 use Rattle.ds_entry.specs.declared.item.Item.{Item}
-use Rattle.ds_entry.proofs.Members.{Contains-nil, Contains-head, Contains-from_take, Contains-from_map, Contains-from_filter}
+use Rattle.ds_entry.proofs.Members.{Contains-head, Contains-from_map, Contains-from_filter}
 use Rattle.ds_join.specs.ItemTop.{IsTop, IsPartOf}
 use Rattle.ds_join.proofs.ItemTopLemmas.{held_is_top}
 use Rattle.ds_pattern.specs.declared.query.Query.{Query}
@@ -26,7 +26,7 @@ use Rattle.ds_machine.proofs.KnownLemmas.{steps_stay_reached, known_stays_held}
 use Rattle.ds_replica.specs.declared.event.Side.{Side}
 use Rattle.ds_replica.specs.declared.event.Side.TheVariants.{A, B}
 use Rattle.ds_replica.specs.World.{MapState, World, store_at, with_state, with_items}
-use Rattle.ds_replica.specs.Known.{StoreAccount, MapAccount, Account, store_of, asked, took, took_all, with_account, with_sent}
+use Rattle.ds_replica.specs.Known.{StoreAccount, MapAccount, Account, store_of, asked, took, with_account, with_sent}
 use Rattle.ds_replica.specs.Fits.{AreWithin, FitsStore, FitsMap, FitsMessage, Fits}
 use Rattle.ds_replica.proofs.ZipLemmas.{AllZip-last, AllZip-weaker}
 use Rattle.ds_replica.proofs.LeftLemmas.{step_left}

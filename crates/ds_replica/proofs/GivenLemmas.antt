@@ -1,5 +1,5 @@
 -- What a store gives is what the machine gives, and has taken effect.
-use Rattle.std.proofs.Common.{◌≡◌, ℕ, zero, suc, ◌-◌, not, Bool, true, false, cond, List, [], ◌∷◌, ◌++◌, take, Option, Some, None, refl, ap, sym, ◌∙◌, subst, inl, inr, ◌⊎◌, Contains}
+use Rattle.std.proofs.Common.{◌≡◌, ℕ, zero, suc, ◌-◌, not, Bool, cond, List, [], ◌∷◌, ◌++◌, take, Option, Some, None, refl, ap, sym, ◌∙◌, subst, inl, inr, Contains}
 use Rattle.std.specs.List.{filter}
 use Rattle.std.specs.Option.{option_map_or}
 use Rattle.std.proofs.lemmas.List.Elements.{Contains-append_cases}
@@ -19,7 +19,7 @@ use Rattle.ds_machine.specs.Subscription.{Subscription, is_unseen}
 use Rattle.ds_machine.specs.State.{State, held, cursor, unseen, subscription_at}
 use Rattle.ds_machine.specs.Order.{first_refusal}
 use Rattle.ds_machine.specs.Calling.{against_scope, against_since, against_page, against_check}
-use Rattle.ds_machine.specs.Watching.{shows, checking, checking_at, check_case}
+use Rattle.ds_machine.specs.Watching.{shows, checking, check_case}
 use Rattle.ds_machine.specs.Machine.{outcome, journaling, snapping, paging, MergeWantsRoom, Step}
 use Rattle.ds_machine.specs.Reached.{IsReached}
 use Rattle.ds_machine.specs.Says.{IsReplyTo}
@@ -29,7 +29,7 @@ use Rattle.ds_machine.specs.declared.command.Scope.{Scope}
 use Rattle.ds_machine.specs.declared.command.Command.{Command}
 use Rattle.ds_machine.specs.declared.command.Command.TheVariants.{Publish, Delete, Sweep, Retrieve, NameOf, Subscribe, Check, Since, Snapshot, Page, Merge}
 use Rattle.ds_machine.specs.declared.reply.Reply.{Reply}
-use Rattle.ds_machine.specs.declared.reply.Reply.TheVariants.{Checked, Journaled, Snapped, Paged, Refused, MergeStopped}
+use Rattle.ds_machine.specs.declared.reply.Reply.TheVariants.{Checked, Journaled, Snapped, Paged, Refused}
 use Rattle.ds_machine.proofs.ReachedLemmas.{held_is_top}
 use Rattle.ds_machine.proofs.FitLemmas.{replies_fit}
 use Rattle.ds_replica.specs.Happens.{items_given}

@@ -1,12 +1,11 @@
 -- What a store has become that took items, by Merges one after the other.
-use Rattle.std.proofs.Common.{◌≡◌, ℕ, zero, suc, ◌+◌, ◌<◌, ◌≤◌, List, [], ◌∷◌, ◌++◌, length, take, fold, Option, Some, None, refl, ap, sym, ◌∙◌, subst, inl, inr, ◌⊎◌, arith, Contains, append_assoc, length-append}
+use Rattle.std.proofs.Common.{◌≡◌, ℕ, ◌+◌, ◌<◌, ◌≤◌, List, [], ◌∷◌, ◌++◌, length, take, refl, ap, sym, ◌∙◌, subst, inl, inr, ◌⊎◌, arith, Contains, append_assoc, length-append}
 use Rattle.std.specs.List.{flat_map}
 use Rattle.std.proofs.lemmas.List.{append-nil, take-append-le}
 use Rattle.std.proofs.Math.Seq.{take-append-add}
 use Rattle.std.proofs.lemmas.List.Elements.{Contains-append_left, Contains-append_right, Contains-append_cases}
 use Rattle.ds_entry.specs.declared.item.Item.{Item}
-use Rattle.ds_entry.proofs.Members.{Contains-nil}
-use Rattle.ds_join.specs.ItemTop.{IsTop, IsPartOf}
+use Rattle.ds_join.specs.ItemTop.{IsTop}
 use Rattle.ds_machine.specs.State.{State, held}
 use Rattle.ds_machine.specs.Machine.{Step}
 use Rattle.ds_machine.specs.Reached.{IsReached}
@@ -15,11 +14,11 @@ use Rattle.ds_machine.specs.declared.command.Command.{Command}
 use Rattle.ds_machine.specs.declared.command.Command.TheVariants.{Merge}
 use Rattle.ds_machine.specs.declared.refusal.Refusal.{Refusal}
 use Rattle.ds_machine.specs.declared.reply.Reply.{Reply}
-use Rattle.ds_machine.specs.declared.reply.Reply.TheVariants.{Merged, MergeStopped, Refused, Changed as Accepted, Known, Swept, Found, Named, Subscribed, Checked, Journaled, Snapped, Paged}
+use Rattle.ds_machine.specs.declared.reply.Reply.TheVariants.{Merged, MergeStopped, Refused}
 use Rattle.ds_machine.proofs.EffectLemmas.{step_has_effect}
 use Rattle.ds_machine.proofs.KnownLemmas.{steps_stay_reached, known_stays_held}
 use Rattle.ds_machine.proofs.SaysLemmas.{refused_says, merged_says, merge_stopped_says}
-use Rattle.ds_replica.specs.Delivery.{Tally, Follows, AreMerged, StoreTakes, ended, added}
+use Rattle.ds_replica.specs.Delivery.{Tally, Follows, AreMerged, StoreTakes}
 use Rattle.ds_replica.specs.Known.{took_one, took_all}
 use Rattle.ds_replica.proofs.LeftLemmas.{step_left}
 

@@ -1,23 +1,23 @@
 -- What follows for holders in a world that an account fits.
-use Rattle.std.proofs.Common.{◌≡◌, ℕ, Bool, true, List, [], ◌∷◌, ◌++◌, map, Option, Some, None, refl, ap, sym, ◌∙◌, subst, inl, inr, ◌⊎◌, Contains}
-use Rattle.std.specs.List.{AllZip, slice_get}
+use Rattle.std.proofs.Common.{◌≡◌, ℕ, Bool, List, [], Option, Some, None, refl, ap, sym, ◌∙◌, subst, inl, inr, Contains}
+use Rattle.std.specs.List.{slice_get}
 use Rattle.ds_names.specs.declared.key.Key.{Key}
-use Rattle.ds_entry.specs.Change.{ChangeRecord}
 use Rattle.ds_entry.specs.Item.{passes}
 use Rattle.ds_entry.specs.ItemCovers.{AreSingleNumbered}
 use Rattle.ds_entry.specs.declared.item.Item.{Item}
 use Rattle.ds_entry.specs.declared.item.Item.TheVariants.{Change as Changed}
-use Rattle.ds_entry.proofs.Members.{Contains-nil, Contains-head, Contains-from_filter, Contains-from_map, Contains-map}
+use Rattle.ds_entry.proofs.Members.{Contains-nil, Contains-head, Contains-from_filter, Contains-from_map}
 use Rattle.ds_join.specs.ItemTop.{IsTop, IsPartOf, CoversAll}
 use Rattle.ds_join.proofs.ItemTopLemmas.{top_of_nothing, void_isnt_held}
+use Rattle.ds_feed.specs.Feed.{position}
 use Rattle.ds_pattern.specs.Under.{is_under}
 use Rattle.ds_whole.specs.Under.{under, entries_of}
 use Rattle.ds_whole.specs.Sent.{Sent}
-use Rattle.ds_whole.specs.Taking.{items_of}
 use Rattle.ds_whole.specs.Labels.{label_in, IsNewest}
 use Rattle.ds_whole.proofs.SentLemmas.{from_stood, Contains-from_under}
 use Rattle.ds_whole.proofs.HolderLemmas.{holders_agree}
 use Rattle.ds_whole.proofs.HolderLemmas as wholes
+use Rattle.ds_whole.proofs.WholeLemmas.{more_is_whole, earlier_is_whole}
 use Rattle.ds_whole.proofs.LabelLemmas as labels
 use Rattle.ds_machine.specs.State.{State, held}
 use Rattle.ds_machine.proofs.ReachedLemmas.{held_is_top}
@@ -26,9 +26,9 @@ use Rattle.ds_replica.specs.declared.event.Holder.{Holder}
 use Rattle.ds_replica.specs.declared.event.Holder.TheVariants.{Store, Map}
 use Rattle.ds_replica.specs.World.{MapState, World, store_at, map_held, held_at}
 use Rattle.ds_replica.specs.Known.{MapAccount, Account, store_of, known_by, map_known, known_at}
-use Rattle.ds_replica.specs.Fits.{FitsStore, FitsMap, FitsMessage, Fits}
+use Rattle.ds_replica.specs.Fits.{FitsMap, FitsMessage, Fits}
 use Rattle.ds_replica.specs.Headline.{EqualWhereKnown, EqualOverEvents, IsAbout, NothingClashes}
-use Rattle.ds_replica.specs.CaughtUp.{HasAll, HoldsTheStores, HoldsAtLeast, LabelsAreNewest}
+use Rattle.ds_replica.specs.CaughtUp.{HasAll, WholeIsAll, HoldsTheStores, HoldsAtLeast, LabelsAreNewest}
 use Rattle.ds_replica.specs.Turns.{NothingBelowFloors}
 use Rattle.ds_replica.proofs.ZipLemmas.{Contains-at, AllZip-at, AllZip-at_left, AllZip-none}
 use Rattle.ds_replica.proofs.FitLemmas.{store_fits, own_fits}
@@ -143,6 +143,11 @@ holds_the_stores account w j m side f n all part = let e = exact account w j m s
 
 pub holds_at_least : HoldsAtLeast
 holds_at_least account w j m side f all = least account w j m side f all
+
+pub whole_is_all : WholeIsAll
+whole_is_all account j m side items r there part whole l =
+    let f = (store_of account side).state.feed in
+    record { there = there; whole = more_is_whole f (is_under m.query) items m.taken (position f) part (earlier_is_whole f (is_under m.query) items (position f) r l whole) }
 
 -- ---- labels
 pub labels_are_newest : LabelsAreNewest

@@ -1,5 +1,5 @@
 -- The state that a step leaves is the one that its reply tells.
-use Rattle.std.proofs.Common.{◌≡◌, ℕ, zero, suc, ◌+◌, ◌<◌, ◌≤◌, List, [], ◌∷◌, ◌++◌, length, take, fold, Option, Some, None, refl, ap, sym, ◌∙◌, subst, inl, inr, ◌⊎◌, arith, Contains}
+use Rattle.std.proofs.Common.{◌≡◌, ℕ, suc, ◌+◌, List, [], ◌∷◌, length, take, fold, Option, Some, None, refl, ap, sym, ◌∙◌, subst, inl, inr, ◌⊎◌, arith, Contains}
 use Rattle.std.specs.Option.{option_map_or}
 use Rattle.ds_entry.specs.declared.item.Item.{Item}
 use Rattle.ds_entry.proofs.Members.{Contains-head, Contains-tail}
@@ -20,10 +20,9 @@ use Rattle.ds_machine.specs.declared.command.Command.TheVariants.{Publish, Delet
 use Rattle.ds_machine.specs.declared.reply.Reply.{Reply}
 use Rattle.ds_machine.specs.declared.reply.Reply.TheVariants.{Merged, MergeStopped, Refused}
 use Rattle.ds_machine.proofs.PartLemmas.{take_whole}
-use Rattle.ds_machine.proofs.CourseLemmas.{Went}
 use Rattle.ds_machine.proofs.EffectLemmas.{begun_went}
 use Rattle.ds_machine.proofs.FitLemmas.{replies_fit}
-use Rattle.ds_machine.proofs.SaysLemmas.{refused_says, merged_says}
+use Rattle.ds_machine.proofs.SaysLemmas.{refused_says}
 use Rattle.ds_replica.specs.Known.{took_one, took_all, left_by}
 
 -- ---- a merge goes one item at a time

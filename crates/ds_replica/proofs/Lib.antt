@@ -10,3 +10,5 @@ pub mod TurnLemmas
 pub mod StayLemmas
 pub mod MessageLemmas
 pub mod ClashLemmas
+pub mod RowLemmas
+pub mod BringLemmas

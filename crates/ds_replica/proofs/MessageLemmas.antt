@@ -1,25 +1,21 @@
 -- What the messages are that a store gave.
-use Rattle.std.proofs.Common.{◌≡◌, ℕ, zero, suc, ◌+◌, ◌<◌, ◌≤◌, nat_lt, min, Bool, true, false, not, cond, List, [], ◌∷◌, ◌++◌, length, take, Option, Some, None, refl, ap, sym, ◌∙◌, subst, inl, inr, ◌⊎◌, arith, Contains}
-use Rattle.std.specs.List.{AllZip, filter, slice_get}
+use Rattle.std.proofs.Common.{◌≡◌, ℕ, zero, suc, ◌+◌, nat_lt, min, Bool, cond, List, [], ◌∷◌, ◌++◌, length, take, Option, Some, None, refl, ap, sym, ◌∙◌, subst, arith}
+use Rattle.std.specs.List.{filter, slice_get}
 use Rattle.std.specs.Option.{option_map_or}
 use Rattle.std.proofs.lemmas.List.{append-nil}
 use Rattle.std.proofs.lemmas.Slice.Zip.{AllZip-long}
 use Rattle.ds_names.specs.declared.key.Key.{Key}
-use Rattle.ds_entry.specs.Item.{passes}
 use Rattle.ds_entry.specs.declared.item.Item.{Item}
-use Rattle.ds_join.specs.ItemTop.{IsPartOf}
 use Rattle.ds_feed.specs.declared.cursor.Cursor.{Cursor}
-use Rattle.ds_feed.specs.declared.journal.SinceFault.{SinceFault}
 use Rattle.ds_feed.specs.declared.journal.SinceFault.TheVariants as faults
 use Rattle.ds_feed.specs.Feed.{Feed, position}
-use Rattle.ds_feed.specs.Since.{fault_at, piece, since_of, IsGiven}
+use Rattle.ds_feed.specs.Since.{fault_at, piece, since_of}
 use Rattle.ds_feed.specs.Page.{floors_of, changes_of, still_to_come, snapshot_of, page_of}
-use Rattle.ds_whole.specs.Under.{Keeps}
 use Rattle.ds_whole.specs.Sent.{Sent, given}
-use Rattle.ds_whole.specs.Front.{IsFront, end_of}
+use Rattle.ds_whole.specs.Front.{IsFront}
 use Rattle.ds_whole.specs.Whole.{IsWhole}
-use Rattle.ds_whole.specs.Journaled.{SinceTurn, IsSinceTurn}
-use Rattle.ds_whole.specs.Paged.{PageTurn, IsPageTurn}
+use Rattle.ds_whole.specs.Journaled.{SinceTurn}
+use Rattle.ds_whole.specs.Paged.{PageTurn}
 use Rattle.ds_whole.proofs.WholeLemmas as wholes
 use Rattle.ds_whole.proofs.JournalLemmas as journals
 use Rattle.ds_machine.specs.Scope.{keeps, is_kept}
@@ -27,7 +23,6 @@ use Rattle.ds_machine.specs.State.{State, held, cursor}
 use Rattle.ds_machine.specs.Order.{by_command, by_room, first_refusal}
 use Rattle.ds_machine.specs.Calling.{against_scope, against_since, against_page}
 use Rattle.ds_machine.specs.Machine.{Step, outcome}
-use Rattle.ds_machine.specs.Effect.{GoesOn}
 use Rattle.ds_machine.specs.declared.refusal.Refusal.{Refusal}
 use Rattle.ds_machine.specs.declared.refusal.Refusal.TheVariants as refusals
 use Rattle.ds_machine.specs.declared.command.Scope.{Scope}
@@ -47,8 +42,8 @@ use Rattle.ds_replica.specs.declared.outcome.Outcome.{Outcome}
 use Rattle.ds_replica.specs.declared.outcome.Outcome.TheVariants.{Replied, Made, MapMade, Merged, Stopped, Cleared, Restarted}
 use Rattle.ds_replica.specs.World.{World}
 use Rattle.ds_replica.specs.Happens.{items_given, ask_outcome, Asks}
-use Rattle.ds_replica.specs.Known.{StoreAccount, Account, store_of, asked, with_account, with_sent, with_reply, delivered, sent_first, extended, extended_all}
-use Rattle.ds_replica.specs.Fits.{FitsStore, FitsMessage, Fits}
+use Rattle.ds_replica.specs.Known.{StoreAccount, Account, store_of, with_account, with_sent, delivered, sent_first, extended, extended_all}
+use Rattle.ds_replica.specs.Fits.{FitsStore, FitsMessage}
 use Rattle.ds_replica.specs.Messages.{IsAsked, after, feed_of, IsMessage, SnapshotIsWhole, SinceIsTurn, PageIsTurn, SinceExtends}
 use Rattle.ds_replica.proofs.FitLemmas.{store_fits, own_fits}
 use Rattle.ds_replica.proofs.GivenLemmas.{given_reply, given_unless}

@@ -4,7 +4,7 @@ use Rattle.std.proofs.lemmas.List.{length-replicate}
 use Rattle.ds_entry.proofs.Members.{Contains-nil}
 use Rattle.ds_entry.specs.declared.item.Item.{Item}
 use Rattle.ds_join.proofs.ItemTopLemmas.{top_of_nothing}
-use Rattle.ds_machine.specs.State.{State, opening}
+use Rattle.ds_machine.specs.State.{opening}
 use Rattle.ds_machine.specs.Reached.{IsReached}
 use Rattle.ds_machine.specs.Subscription.{Subscription}
 use Rattle.ds_held.specs.Limits.{LimitsRecord, IsLimits}

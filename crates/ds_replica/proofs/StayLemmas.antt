@@ -1,14 +1,12 @@
 -- What a holder knows it keeps, until it is emptied.
-use Rattle.std.proofs.Common.{◌≡◌, ◌==◌, ℕ, zero, suc, Bool, true, false, List, [], ◌∷◌, ◌++◌, take, Option, Some, None, refl, ap, sym, ◌∙◌, subst, inl, inr, ◌⊎◌, Contains}
+use Rattle.std.proofs.Common.{◌≡◌, ◌==◌, ℕ, zero, suc, true, false, List, [], ◌∷◌, ◌++◌, Option, Some, None, refl, ap, subst, Contains}
 use Rattle.std.specs.List.{list_any, slice_get, slice_set}
 use Rattle.std.proofs.lemmas.Bool.{eqb-false}
 use Rattle.std.proofs.lemmas.List.Elements.{Contains-append_left}
 use Rattle.ds_entry.specs.Item.{passes}
-use Rattle.ds_entry.specs.Change.{ChangeRecord}
 use Rattle.ds_entry.specs.declared.item.Item.{Item}
 use Rattle.ds_entry.proofs.Members.{Contains-nil, Contains-filter, Contains-from_filter}
 use Rattle.ds_join.specs.ItemTop.{IsPartOf}
-use Rattle.ds_pattern.specs.declared.query.Query.{Query}
 use Rattle.ds_pattern.specs.Under.{is_under}
 use Rattle.ds_whole.specs.Sent.{Sent}
 use Rattle.ds_whole.specs.Taking.{sent_under}
@@ -26,7 +24,7 @@ use Rattle.ds_replica.specs.declared.outcome.Outcome.{Outcome}
 use Rattle.ds_replica.specs.declared.outcome.Outcome.TheVariants.{Replied, Made, MapMade, Merged, Stopped, Cleared, Restarted}
 use Rattle.ds_replica.specs.Happens.{reopened}
 use Rattle.ds_replica.specs.Known.{MapAccount, Account, StoreAccount, store_of, known_by, map_known, known_at, with_account, with_reply, opened, map_took, map_cleared, delivered, sent_first, extended, extended_all}
-use Rattle.ds_replica.specs.Turns.{is_side, empties_by, empties, KnownStays, FloorsStand}
+use Rattle.ds_replica.specs.Turns.{empties_by, empties, KnownStays, FloorsStand}
 use Rattle.ds_replica.proofs.TurnLemmas.{neither}
 use Rattle.ds_replica.proofs.HolderLemmas.{nothing_below_floors}
 use Rattle.ds_replica.proofs.EventLemmas.{events_fit}

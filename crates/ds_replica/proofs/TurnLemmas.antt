@@ -1,13 +1,8 @@
 -- A store's turns in a list of events.
-use Rattle.std.proofs.Common.{◌≡◌, ℕ, zero, suc, ◌≤◌, ◌||◌, Bool, true, false, List, [], ◌∷◌, ◌++◌, Option, Some, None, refl, ap, sym, ◌∙◌, subst, inl, inr, ◌⊎◌, Contains}
+use Rattle.std.proofs.Common.{◌≡◌, ℕ, ◌||◌, Bool, true, false, List, [], ◌∷◌, ◌++◌, Option, Some, None, refl, ap, sym, ◌∙◌, subst}
 use Rattle.std.specs.List.{list_any}
-use Rattle.ds_names.specs.declared.key.Key.{Key}
 use Rattle.ds_entry.specs.declared.item.Item.{Item}
-use Rattle.ds_feed.specs.Feed.{Feed, position}
-use Rattle.ds_pattern.specs.declared.query.Query.{Query}
 use Rattle.ds_whole.specs.Front.{IsFront}
-use Rattle.ds_whole.specs.Sent.{Sent}
-use Rattle.ds_whole.specs.Whole.{IsWhole}
 use Rattle.ds_whole.proofs.WholeLemmas as wholes
 use Rattle.ds_machine.specs.State.{State}
 use Rattle.ds_machine.specs.Machine.{Step, Run}
@@ -27,8 +22,8 @@ use Rattle.ds_replica.specs.declared.outcome.Outcome.{Outcome}
 use Rattle.ds_replica.specs.declared.outcome.Outcome.TheVariants.{Refused, Restarted}
 use Rattle.ds_replica.specs.World.{World, MapState, store_at, with_state, with_items}
 use Rattle.ds_replica.specs.Delivery.{Tally, Follows, AreMerged}
-use Rattle.ds_replica.specs.Happens.{Asks, Delivers, TakenByStore, TakenByMap, IsTaken, Restarts, reopened, Happens, HappenAll}
-use Rattle.ds_replica.specs.Known.{Account, store_of, extended, extended_all}
+use Rattle.ds_replica.specs.Happens.{Asks, IsTaken, reopened, Happens, HappenAll}
+use Rattle.ds_replica.specs.Known.{Account, store_of, extended_all}
 use Rattle.ds_replica.specs.Fits.{Fits}
 use Rattle.ds_replica.specs.Turns.{is_side, empties_by, empties, Stays, TurnsAreRun, WholeStays}
 use Rattle.ds_replica.proofs.FitLemmas.{store_fits}

@@ -1,5 +1,5 @@
 -- What a map holds that has taken all of a store, and which endpoints its labels name.
-use Rattle.std.specs.Prelude.{◌≡◌, ℕ, true, List, Some, Contains}
+use Rattle.std.specs.Prelude.{◌≡◌, ℕ, ◌≤◌, true, List, Some, Contains}
 use Rattle.std.specs.List.{slice_get}
 use Rattle.ds_entry.specs.Item.{IsItem}
 use Rattle.ds_entry.specs.ItemCovers.{AreSingleNumbered}
@@ -8,6 +8,7 @@ use Rattle.ds_join.specs.ItemTop.{IsPartOf, CoversAll}
 use Rattle.ds_feed.specs.Feed.{position}
 use Rattle.ds_pattern.specs.Under.{is_under}
 use Rattle.ds_whole.specs.Under.{under, entries_of}
+use Rattle.ds_whole.specs.Sent.{Sent}
 use Rattle.ds_whole.specs.Whole.{IsWhole}
 use Rattle.ds_whole.specs.Labels.{label_key, label_in, IsNewest}
 use Rattle.ds_replica.specs.declared.event.Side.{Side}
@@ -20,6 +21,12 @@ use Rattle.ds_replica.specs.Fits.{Fits}
 pub record HasAll (account : Account) (j : ℕ) (m : MapAccount) (side : Side) : Type 0 where
   pub there : slice_get account.maps j ≡ Some m
   pub whole : IsWhole (store_of account side).state.feed (is_under m.query) m.taken (position (store_of account side).state.feed)
+
+-- a map has all that was given at least some items, in whatever order and however often, that are whole up to that position
+abbrev pub WholeIsAll : Type 0
+WholeIsAll =
+    (account : Account) (j : ℕ) (m : MapAccount) (side : Side) (items : List Sent) (r : ℕ) → slice_get account.maps j ≡ Some m → ((s : Sent) → Contains items s → Contains m.taken s) →
+    IsWhole (store_of account side).state.feed (is_under m.query) items r → position (store_of account side).state.feed ≤ r → HasAll account j m side
 
 -- it was told nothing under its query that the store doesn't know
 abbrev pub HasNothingElse : Account → MapAccount → Side → Type 0

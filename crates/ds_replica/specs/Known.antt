@@ -1,5 +1,5 @@
 -- What each holder knows.
-use Rattle.std.specs.Prelude.{◌≡◌, ℕ, List, [], ◌∷◌, ◌++◌, take, fold, Option, Some, None, slice_set}
+use Rattle.std.specs.Prelude.{ℕ, List, [], ◌∷◌, ◌++◌, take, fold, Option, Some, None, slice_set}
 use Rattle.std.specs.List.{slice_get}
 use Rattle.std.specs.Option.{option_map_or}
 use Rattle.ds_entry.specs.declared.item.Item.{Item}
@@ -11,7 +11,7 @@ use Rattle.ds_whole.specs.Taking.{items_of}
 use Rattle.ds_machine.specs.State.{State, accepts, opening}
 use Rattle.ds_machine.specs.Standing.{cause_of}
 use Rattle.ds_machine.specs.Machine.{outcome}
-use Rattle.ds_machine.specs.Effect.{brought_by, known_after, learnt_by}
+use Rattle.ds_machine.specs.Effect.{brought_by, learnt_by}
 use Rattle.ds_machine.specs.declared.command.Command.{Command}
 use Rattle.ds_machine.specs.declared.reply.Reply.{Reply}
 use Rattle.ds_machine.specs.declared.reply.Reply.TheVariants.{Merged as AllMerged, MergeStopped, Refused as Refusing}

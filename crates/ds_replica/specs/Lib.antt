@@ -5,5 +5,7 @@ pub mod Known
 pub mod Fits
 pub mod Headline
 pub mod CaughtUp
+pub mod Bringing
 pub mod Turns
 pub mod Messages
+pub mod Rows

@@ -1,7 +1,6 @@
 -- A world: two stores, subscribers' maps, and messages.
-use Rattle.std.specs.Prelude.{ℕ, ◌∷◌, ◌++◌, List, [], Option, Some, None}
+use Rattle.std.specs.Prelude.{◌∷◌, ◌++◌, List, [], Option, Some, None}
 use Rattle.std.specs.List.{slice_get}
-use Rattle.std.specs.Option.{option_map_or}
 use Rattle.ds_entry.specs.declared.item.Item.{Item}
 use Rattle.ds_held.specs.Limits.{LimitsRecord}
 use Rattle.ds_pattern.specs.declared.query.Query.{Query}

@@ -1,8 +1,10 @@
 //! Laws over every list of events of a world, over definitions alone.
 
-ghost use Rattle.ds_replica.specs.CaughtUp.{HoldsTheStores, HoldsAtLeast, LabelsAreNewest};
+ghost use Rattle.ds_replica.specs.Bringing.{EventsBringItems};
+ghost use Rattle.ds_replica.specs.CaughtUp.{WholeIsAll, HoldsTheStores, HoldsAtLeast, LabelsAreNewest};
 ghost use Rattle.ds_replica.specs.Headline.{AccountFitsAtStart, EventsFit, EqualWhereKnown, EqualOverEvents, NothingClashes, NothingStops};
 ghost use Rattle.ds_replica.specs.Messages.{SnapshotIsWhole, SinceIsTurn, SinceExtends, PageIsTurn};
+ghost use Rattle.ds_replica.specs.Rows.{ReplicasConverge, ReplicasDiffer, MapsCatchUp, MapsLag, MapsLead};
 ghost use Rattle.ds_replica.specs.Turns.{TurnsAreRun, WholeStays, KnownStays, NothingBelowFloors, FloorsStand};
 
 /// Of a world that was just made the empty account fits, and over every list of events the account that is extended by
@@ -25,9 +27,16 @@ pub fn holders_agree()
 /// A map that was given all that a store accepted under its query, and nothing that the store doesn't know, holds just the
 /// store's entries under its query, and its labels name no older generation; told more, it holds at least that.
 pub fn maps_catch_up()
+    ensures all { WholeIsAll }
     ensures exact { HoldsTheStores }
     ensures least { HoldsAtLeast }
     ensures labels { LabelsAreNewest }
+{}
+
+/// All that Asks bring in over a list of events are changes and floors that keep their rules, where what the commands name
+/// is in its ranges.
+pub fn items_are_brought()
+    ensures events { EventsBringItems }
 {}
 
 /// In a list of events a store's turns are a run of its machine, what is whole for it stays so, and each message that it
@@ -47,4 +56,14 @@ pub fn floors_stand()
     ensures known { KnownStays }
     ensures below { NothingBelowFloors }
     ensures events { FloorsStand }
+{}
+
+/// Worked rows: events after which two replicas know and hold the same, and a map has all of a store; and some in which one
+/// thing that the laws ask for is missing, and the rest isn't enough.
+pub fn rows_happen()
+    ensures converge { ReplicasConverge }
+    ensures differ { ReplicasDiffer }
+    ensures catch_up { MapsCatchUp }
+    ensures lag { MapsLag }
+    ensures lead { MapsLead }
 {}

@@ -12,6 +12,8 @@ mod outcome;
 mod seed;
 
 pub use event::{Event, Holder, Side};
-pub use laws::{accounts_fit, floors_stand, holders_agree, maps_catch_up, messages_are_whole};
+pub use laws::{
+    accounts_fit, floors_stand, holders_agree, items_are_brought, maps_catch_up, messages_are_whole, rows_happen,
+};
 pub use outcome::{EventFault, Outcome};
 pub use seed::Seed;
