@@ -1,0 +1,160 @@
+-- What follows for holders in a world that an account fits.
+use Rattle.std.proofs.Common.{◌≡◌, ℕ, Bool, List, [], Option, Some, None, refl, ap, sym, ◌∙◌, subst, inl, inr, Contains}
+use Rattle.std.specs.List.{slice_get}
+use Rattle.ds_names.specs.declared.key.Key.{Key}
+use Rattle.ds_entry.specs.Item.{passes}
+use Rattle.ds_entry.specs.ItemCovers.{AreSingleNumbered}
+use Rattle.ds_entry.specs.declared.item.Item.{Item}
+use Rattle.ds_entry.specs.declared.item.Item.TheVariants.{Change as Changed}
+use Rattle.ds_entry.proofs.Members.{Contains-nil, Contains-head, Contains-from_filter, Contains-from_map}
+use Rattle.ds_join.specs.ItemTop.{IsTop, IsPartOf, CoversAll}
+use Rattle.ds_join.proofs.ItemTopLemmas.{top_of_nothing, void_isnt_held}
+use Rattle.ds_feed.specs.Feed.{position}
+use Rattle.ds_pattern.specs.Under.{is_under}
+use Rattle.ds_whole.specs.Under.{under, entries_of}
+use Rattle.ds_whole.specs.Sent.{Sent}
+use Rattle.ds_whole.specs.Labels.{label_in, IsNewest}
+use Rattle.ds_whole.proofs.SentLemmas.{from_stood, Contains-from_under}
+use Rattle.ds_whole.proofs.HolderLemmas.{holders_agree}
+use Rattle.ds_whole.proofs.HolderLemmas as wholes
+use Rattle.ds_whole.proofs.WholeLemmas.{more_is_whole, earlier_is_whole}
+use Rattle.ds_whole.proofs.LabelLemmas as labels
+use Rattle.ds_machine.specs.State.{State, held}
+use Rattle.ds_machine.proofs.ReachedLemmas.{held_is_top}
+use Rattle.ds_replica.specs.declared.event.Side.{Side}
+use Rattle.ds_replica.specs.declared.event.Holder.{Holder}
+use Rattle.ds_replica.specs.declared.event.Holder.TheVariants.{Store, Map}
+use Rattle.ds_replica.specs.World.{MapState, World, store_at, map_held, held_at}
+use Rattle.ds_replica.specs.Known.{MapAccount, Account, store_of, known_by, map_known, known_at}
+use Rattle.ds_replica.specs.Fits.{FitsMap, FitsMessage, Fits}
+use Rattle.ds_replica.specs.Headline.{EqualWhereKnown, EqualOverEvents, IsAbout, NothingClashes}
+use Rattle.ds_replica.specs.CaughtUp.{HasAll, WholeIsAll, HoldsTheStores, HoldsAtLeast, LabelsAreNewest}
+use Rattle.ds_replica.specs.Turns.{NothingBelowFloors}
+use Rattle.ds_replica.proofs.ZipLemmas.{Contains-at, AllZip-at, AllZip-at_left, AllZip-none}
+use Rattle.ds_replica.proofs.FitLemmas.{store_fits, own_fits}
+use Rattle.ds_replica.proofs.StartLemmas.{account_fits_at_start}
+use Rattle.ds_replica.proofs.EventLemmas.{events_fit}
+
+module _ (account : Account) (w : World) (f : Fits account w) where
+  -- each holder holds the top of what it knows
+  pub top_at : (h : Holder) → IsTop (held_at w h) (known_at account h)
+  top_at (Store side) = (store_fits account w side f).top
+  top_at (Map j) = by_map (slice_get account.maps j) refl
+    where
+      by_map : (o : Option MapAccount) → slice_get account.maps j ≡ o → IsTop (held_at w (Map j)) (known_at account (Map j))
+      by_map None e =
+          subst (λ (x : Option MapState). IsTop (map_held x) (known_at account (Map j))) (sym (AllZip-none (FitsMap account.brought) account.maps w.maps j f.maps e))
+          (subst (λ (x : Option MapAccount). IsTop [] (map_known x)) (sym e) top_of_nothing)
+      by_map (Some a) e =
+          let m = AllZip-at_left (FitsMap account.brought) account.maps w.maps j a f.maps e in
+          subst (λ (x : Option MapState). IsTop (map_held x) (known_at account (Map j))) (sym m.1)
+          (subst (λ (x : Option MapAccount). IsTop m.0.held (map_known x)) (sym e) m.2.map.top)
+
+  map_within : (a : MapAccount) (m : MapState) → FitsMap account.brought a m → IsPartOf (known_by a) account.brought
+  map_within a m g i h =
+      let s = from_stood _ i h in
+      g.within s.0 (Contains-from_filter (λ (x : Sent). passes (is_under a.query) x.item) a.taken s.0 s.1).0 i s.2
+
+  -- and all that it knows was brought in
+  pub known_within : (h : Holder) → IsPartOf (known_at account h) account.brought
+  known_within (Store side) = (store_fits account w side f).within
+  known_within (Map j) = by_map (slice_get account.maps j) refl
+    where
+      by_map : (o : Option MapAccount) → slice_get account.maps j ≡ o → IsPartOf (known_at account (Map j)) account.brought
+      by_map None e i h = absurd (let n = subst (λ (x : Option MapAccount). Contains (map_known x) i) e h in Contains-nil i n)
+      by_map (Some a) e i h =
+          let m = AllZip-at_left (FitsMap account.brought) account.maps w.maps j a f.maps e in
+          map_within a m.0 m.2 i (subst (λ (x : Option MapAccount). Contains (map_known x) i) e h)
+
+  pub held_within : (h : Holder) → IsPartOf (held_at w h) account.brought
+  held_within h i k = known_within h i ((top_at h).among i k)
+
+  -- each item of a message was brought in
+  pub message_within : (sent : List Sent) (items : List Item) → FitsMessage account.brought sent items → IsPartOf items account.brought
+  message_within sent items m i h =
+      let s = Contains-from_map (λ (x : Sent). x.item) sent i (subst (λ l. Contains l i) (sym m.items_are) h) in
+      subst (Contains account.brought) s.2 (m.within s.0 s.1 s.0.item ((m.sent s.0 s.1).among s.0.item (Contains-head s.0.item [])))
+
+-- part of what is single-numbered is
+pub single_part : (part whole : List Item) → IsPartOf part whole → AreSingleNumbered whole → AreSingleNumbered part
+single_part part whole p n = record {
+  one_change = λ c d h k e v. n.one_change c d (p (Changed c) h) (p (Changed d) k) e v;
+  one_owner = λ c d h k e. n.one_owner c d (p (Changed c) h) (p (Changed d) k) e;
+}
+
+single_under : (query : Key → Bool) (known brought : List Item) → IsPartOf known brought → AreSingleNumbered brought → AreSingleNumbered (under query known)
+single_under query known brought p n = single_part (under query known) brought (λ i h. p i (Contains-from_under query known i h).0) n
+
+-- ---- agreement
+pub equal_where_known : EqualWhereKnown
+equal_where_known account w query h i f n same =
+    holders_agree query (known_at account h) (known_at account i) (held_at w h) (held_at w i) (top_at account w f h) (top_at account w f i)
+    (single_under query (known_at account h) account.brought (known_within account w f h) n) same
+
+pub equal_over_events : EqualOverEvents
+equal_over_events a b limits w events query h i l happen n same =
+    equal_where_known _ w query h i (events_fit _ _ w events (account_fits_at_start a b limits l) happen) n same
+
+-- ---- nothing clashes
+about_within : (account : Account) (w : World) → Fits account w → (i : Item) → IsAbout w i → Contains account.brought i
+about_within account w f i (inl h) = held_within account w f h.0 i h.1
+about_within account w f i (inr m) =
+    let k = Contains-at w.messages m.0 m.1 in
+    let s = AllZip-at (FitsMessage account.brought) account.messages w.messages k.0 m.0 f.messages k.1 in
+    message_within account w f s.0 m.0 s.2 i m.2
+
+pub nothing_clashes : NothingClashes
+nothing_clashes account w c d f n h k e =
+    let x = about_within account w f (Changed c) h in
+    let y = about_within account w f (Changed d) k in
+    (n.one_owner c d x y e, λ v. n.one_change c d x y e v)
+
+-- ---- catch-up
+module _ (account : Account) (w : World) (j : ℕ) (m : MapAccount) (side : Side) (f : Fits account w) (all : HasAll account j m side) where
+  abbrev s : State
+  s = (store_of account side).state
+
+  same : (store_of account side).state ≡ store_at w side
+  same = (store_fits account w side f).state_is
+
+  at : (x : MapState) × (slice_get w.maps j ≡ Some x) × FitsMap account.brought m x
+  at = AllZip-at_left (FitsMap account.brought) account.maps w.maps j m f.maps all.there
+
+  map_is : held_at w (Map j) ≡ at.0.held
+  map_is = ap map_held at.1
+
+  pub exact : AreSingleNumbered account.brought → IsPartOf (under (is_under m.query) (known_by m)) (store_of account side).known → held_at w (Map j) ≡ under (is_under m.query) (held_at w (Store side))
+  exact n part =
+      let own = own_fits account w side f in
+      let equal = (wholes.holds_the_stores s.feed (is_under m.query) m.taken (held s) at.0.held (held_is_top s own.reached) at.2.map all.whole
+          (λ i h. own.top.greatest i (part i h))
+          (single_under (is_under m.query) (known_by m) account.brought (map_within account w f m at.0 at.2) n)).0 in
+      map_is ∙ (equal ∙ ap (λ (x : State). under (is_under m.query) (held x)) same)
+
+  pub least : CoversAll (held_at w (Map j)) (under (is_under m.query) (held_at w (Store side)))
+  least =
+      let own = own_fits account w side f in
+      let covers = wholes.holds_at_least s.feed (is_under m.query) m.taken (held s) at.0.held (held_is_top s own.reached) at.2.map all.whole in
+      subst (λ (x : State). CoversAll (held_at w (Map j)) (under (is_under m.query) (held x))) same
+      (subst (λ l. CoversAll l (under (is_under m.query) (held s))) (sym map_is) covers)
+
+pub holds_the_stores : HoldsTheStores
+holds_the_stores account w j m side f n all part = let e = exact account w j m side f all n part in (e, ap entries_of e)
+
+pub holds_at_least : HoldsAtLeast
+holds_at_least account w j m side f all = least account w j m side f all
+
+pub whole_is_all : WholeIsAll
+whole_is_all account j m side items r there part whole l =
+    let f = (store_of account side).state.feed in
+    record { there = there; whole = more_is_whole f (is_under m.query) items m.taken (position f) part (earlier_is_whole f (is_under m.query) items (position f) r l whole) }
+
+-- ---- labels
+pub labels_are_newest : LabelsAreNewest
+labels_are_newest account w j m side name f n items all part q =
+    subst (λ l. IsNewest (store_of account side).known name (label_in l name)) (sym (exact account w j m side f all n part))
+    (labels.labels_are_newest (is_under m.query) (store_of account side).known (held_at w (Store side)) name (λ i h. items i (known_within account w f (Store side) i h)) (top_at account w f (Store side)) q)
+
+-- ---- floors
+pub nothing_below_floors : NothingBelowFloors
+nothing_below_floors account w h f c fits k l = void_isnt_held (known_at account h) (held_at w h) f c (top_at account w fits h) k l

@@ -1,0 +1,14 @@
+pub mod ZipLemmas
+pub mod StartLemmas
+pub mod LeftLemmas
+pub mod GoneLemmas
+pub mod GivenLemmas
+pub mod FitLemmas
+pub mod EventLemmas
+pub mod HolderLemmas
+pub mod TurnLemmas
+pub mod StayLemmas
+pub mod MessageLemmas
+pub mod ClashLemmas
+pub mod RowLemmas
+pub mod BringLemmas

@@ -1,0 +1,17 @@
+use Rattle.ds_replica.proofs.RowLemmas.{replicas_converge, replicas_differ, maps_catch_up, maps_lag, maps_lead}
+use Rattle.ds_replica.proofs.laws.rows_happen.Goals as goal
+
+pub returns-clause-converge : goal.returns-clause-converge
+returns-clause-converge c = replicas_converge
+
+pub returns-clause-differ : goal.returns-clause-differ
+returns-clause-differ c = replicas_differ
+
+pub returns-clause-catch_up : goal.returns-clause-catch_up
+returns-clause-catch_up c = maps_catch_up
+
+pub returns-clause-lag : goal.returns-clause-lag
+returns-clause-lag c = maps_lag
+
+pub returns-clause-lead : goal.returns-clause-lead
+returns-clause-lead c = maps_lead

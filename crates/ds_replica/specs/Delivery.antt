@@ -1,0 +1,77 @@
+-- What comes of items that are delivered to a store or to a map.
+use Rattle.std.specs.Prelude.{◌≡◌, ◌≢◌, ℕ, ◌+◌, ◌≤◌, true, List, [], ◌∷◌, ◌++◌, length, take, Option, Some, None, Contains}
+use Rattle.std.specs.List.{flat_map, slice_get}
+use Rattle.std.specs.Int.Bits.{bit_or}
+use Rattle.ds_entry.specs.Change.{ChangeRecord}
+use Rattle.ds_entry.specs.Item.{passes}
+use Rattle.ds_entry.specs.declared.item.Item.{Item}
+use Rattle.ds_entry.specs.declared.item.Item.TheVariants.{Change as Changed}
+use Rattle.ds_join.specs.ItemTop.{IsTop}
+use Rattle.ds_pattern.specs.Under.{is_under}
+use Rattle.ds_whole.specs.Under.{under}
+use Rattle.ds_machine.specs.Limits.{most_items}
+use Rattle.ds_machine.specs.State.{State}
+use Rattle.ds_machine.specs.Machine.{Step}
+use Rattle.ds_machine.specs.declared.command.Command.TheVariants.{Merge}
+use Rattle.ds_machine.specs.declared.refusal.Refusal.{Refusal}
+use Rattle.ds_machine.specs.declared.refusal.Refusal.TheVariants.{NotOwner, Clash, Full, NoRoom}
+use Rattle.ds_machine.specs.declared.reply.Reply.{Reply}
+use Rattle.ds_machine.specs.declared.reply.Reply.TheVariants.{Merged, MergeStopped, Refused}
+use Rattle.ds_replica.specs.World.{MapState}
+
+-- how many items of a delivery were done, taken and stale, to which subscriptions something is owed, and what stopped it
+pub record Tally : Type 0 where
+  pub done : ℕ
+  pub taken : ℕ
+  pub stale : ℕ
+  pub owed : ℕ
+  pub stop : Option Refusal
+
+-- of nothing, and of items that stop at the first one left
+abbrev pub ended : ℕ → ℕ → Option Refusal → Tally
+ended done owed stop = record { done = done; taken = 0; stale = 0; owed = owed; stop = stop }
+
+-- of so many items that were done before the others; a mask of both has the bits of either
+abbrev pub added : ℕ → ℕ → ℕ → ℕ → Tally → Tally
+added done taken stale owed later = record { done = done + later.done; taken = taken + later.taken; stale = stale + later.stale; owed = bit_or owed later.owed; stop = later.stop }
+
+-- after a Merge that wasn't stopped the others follow, and after one that was stopped or refused nothing more is asked
+abbrev pub Follows : Reply → State → (Tally → State → Type 0) → Tally → State → Type 0
+Follows (Merged done taken stale owed) mid Others tally new = (later : Tally) × Others later new × (tally ≡ added done taken stale owed later)
+Follows (MergeStopped done fault owed) mid Others tally new = (tally ≡ ended done owed (Some fault)) × (new ≡ mid)
+Follows (Refused fault) mid Others tally new = (tally ≡ ended 0 0 (Some fault)) × (new ≡ mid)
+Follows _ mid Others tally new = ⊥
+
+-- the groups of items go to a store as one Merge each, one after the other
+abbrev pub AreMerged : State → List (List Item) → Tally → State → Type 0
+AreMerged s [] tally new = (tally ≡ ended 0 0 None) × (new ≡ s)
+AreMerged s (group ∷ groups) tally new = (reply : Reply) × (mid : State) × Step s (Merge group) reply mid × Follows reply mid (λ t n. AreMerged mid groups t n) tally new
+
+-- the items go to a store, as Merges of at most 256
+pub record StoreTakes (s : State) (items : List Item) (tally : Tally) (new : State) : Type 0 where
+  pub groups : List (List Item)
+  pub all : flat_map (λ group. group) groups ≡ items
+  pub few : (group : List Item) → Contains groups group → length group ≤ most_items
+  pub merged : AreMerged s groups tally new
+
+-- what is held stands against a change by this fault: another owner of its key, another body at its version, or no room;
+-- against a floor only that there is no room
+abbrev pub StandsAgainst : List Item → Item → Refusal → Type 0
+StandsAgainst held (Changed c) NotOwner = (h : ChangeRecord) × Contains held (Changed h) × (h.key ≡ c.key) × (h.owner ≢ c.owner)
+StandsAgainst held (Changed c) (Clash v) = (h : ChangeRecord) × Contains held (Changed h) × (h.key ≡ c.key) × (h.version ≡ c.version) × (h.body ≢ c.body) × (v ≡ c.version)
+StandsAgainst held i Full = Unit {0}
+StandsAgainst held i NoRoom = Unit {0}
+StandsAgainst held i _ = ⊥
+
+-- all items were done, or the next one is under the query, and something stands against it
+abbrev pub Ends : MapState → List Item → ℕ → Option Refusal → Type 0
+Ends m items done None = done ≡ length items
+Ends m items done (Some fault) = (next : Item) × (slice_get items done ≡ Some next) × (passes (is_under m.query) next ≡ true) × StandsAgainst m.held next fault
+
+-- the items go to a map: it holds the top of what it held and of those that were done and are under its query
+pub record MapTakes (m : MapState) (items : List Item) (tally : Tally) (new : MapState) : Type 0 where
+  pub query : new.query ≡ m.query
+  pub top : IsTop new.held (m.held ++ under (is_under m.query) (take tally.done items))
+  pub counted : tally.taken + tally.stale ≤ tally.done
+  pub owed : tally.owed ≡ 0
+  pub ends : Ends new items tally.done tally.stop

@@ -1,0 +1,11 @@
+pub mod World
+pub mod Delivery
+pub mod Happens
+pub mod Known
+pub mod Fits
+pub mod Headline
+pub mod CaughtUp
+pub mod Bringing
+pub mod Turns
+pub mod Messages
+pub mod Rows

@@ -1,0 +1,75 @@
+-- What the messages that a store gave leave out nothing of, in a list of events.
+use Rattle.std.specs.Prelude.{◌≡◌, ℕ, Bool, List, ◌∷◌, ◌++◌, Option, Some}
+use Rattle.std.specs.List.{slice_get}
+use Rattle.ds_names.specs.declared.key.Key.{Key}
+use Rattle.ds_feed.specs.declared.cursor.Cursor.{Cursor}
+use Rattle.ds_feed.specs.Feed.{Feed, position}
+use Rattle.ds_whole.specs.Under.{Keeps}
+use Rattle.ds_whole.specs.Sent.{Sent, given}
+use Rattle.ds_whole.specs.Whole.{IsWhole}
+use Rattle.ds_whole.specs.Journaled.{SinceTurn, IsSinceTurn}
+use Rattle.ds_whole.specs.Paged.{PageTurn, IsPageTurn}
+use Rattle.ds_machine.specs.Scope.{keeps}
+use Rattle.ds_machine.specs.declared.command.Scope.{Scope}
+use Rattle.ds_machine.specs.declared.command.Command.{Command}
+use Rattle.ds_machine.specs.declared.command.Command.TheVariants.{Since, Snapshot, Page}
+use Rattle.ds_replica.specs.declared.event.Side.{Side}
+use Rattle.ds_replica.specs.declared.event.Holder.TheVariants.{Store}
+use Rattle.ds_replica.specs.declared.event.Event.{Event}
+use Rattle.ds_replica.specs.declared.event.Event.TheVariants.{Ask}
+use Rattle.ds_replica.specs.declared.outcome.Outcome.{Outcome}
+use Rattle.ds_replica.specs.declared.outcome.Outcome.TheVariants.{Made}
+use Rattle.ds_replica.specs.World.{World}
+use Rattle.ds_replica.specs.Happens.{HappenAll}
+use Rattle.ds_replica.specs.Known.{Account, store_of, extended_all}
+use Rattle.ds_replica.specs.Fits.{Fits}
+use Rattle.ds_replica.specs.Turns.{Stays}
+
+-- a store was asked, and gave this message; then these events happened, none of which restarted the store
+pub record IsAsked (account : Account) (w : World) (side : Side) (command : Command) (k : ℕ) (events : List (Event × Outcome)) (late : World) : Type 0 where
+  pub fits : Fits account w
+  pub happen : HappenAll w ((Ask side command, Made k) ∷ events) late
+  pub stays : Stays (Store side) events
+
+-- the account after that
+abbrev pub after : Account → Side → Command → ℕ → List (Event × Outcome) → Account
+after account side command k events = extended_all account ((Ask side command, Made k) ∷ events)
+
+-- what the store has accepted
+abbrev pub feed_of : Account → Side → Feed
+feed_of account side = (store_of account side).state.feed
+
+-- the message still has these items
+abbrev pub IsMessage : Account → ℕ → List Sent → Type 0
+IsMessage account k sent = slice_get account.messages k ≡ Some sent
+
+-- a message with a snapshot, under a scope that keeps all of the query, is whole up to the position at which it was asked for
+abbrev pub SnapshotIsWhole : Type 0
+SnapshotIsWhole =
+    (account : Account) (w late : World) (side : Side) (scope : Scope) (query : Key → Bool) (k : ℕ) (events : List (Event × Outcome)) → IsAsked account w side (Snapshot scope) k events late → Keeps (keeps scope) query →
+    let now = after account side (Snapshot scope) k events in
+    (sent : List Sent) × IsMessage now k sent × IsWhole (feed_of now side) query sent (position (feed_of account side))
+
+-- a message of the journal is a turn of the store, of which the laws of wholeness and of pages speak
+abbrev pub SinceIsTurn : Type 0
+SinceIsTurn =
+    (account : Account) (w late : World) (side : Side) (scope : Scope) (at : Cursor) (max k : ℕ) (events : List (Event × Outcome)) → IsAsked account w side (Since scope at max) k events late →
+    let now = after account side (Since scope at max) k events in
+    (t : SinceTurn) × (t.max ≡ max) × IsSinceTurn (feed_of now side) (keeps scope) at t × IsMessage now k (given t.known t.since.items)
+
+-- and so is a page
+abbrev pub PageIsTurn : Type 0
+PageIsTurn =
+    (account : Account) (w late : World) (side : Side) (scope : Scope) (behind : Option Key) (max k : ℕ) (events : List (Event × Outcome)) → IsAsked account w side (Page scope behind max) k events late →
+    let now = after account side (Page scope behind max) k events in
+    (t : PageTurn) × (t.max ≡ max) × IsPageTurn (feed_of now side) (keeps scope) behind t × IsMessage now k (given t.known t.page.items)
+
+-- items that are whole up to a cursor, with those of a message of the journal from there, under a scope that keeps all of
+-- the query, are whole up to the cursor that came with the message
+abbrev pub SinceExtends : Type 0
+SinceExtends =
+    (account : Account) (w late : World) (side : Side) (scope : Scope) (query : Key → Bool) (at : Cursor) (max k : ℕ) (events : List (Event × Outcome)) (items : List Sent) →
+    IsAsked account w side (Since scope at max) k events late → Keeps (keeps scope) query →
+    let now = after account side (Since scope at max) k events in
+    IsWhole (feed_of now side) query items at.position →
+    (t : SinceTurn) × IsSinceTurn (feed_of now side) (keeps scope) at t × IsMessage now k (given t.known t.since.items) × IsWhole (feed_of now side) query (items ++ given t.known t.since.items) t.since.cursor.position

@@ -1,0 +1,69 @@
+//! Laws over every list of events of a world, over definitions alone.
+
+ghost use Rattle.ds_replica.specs.Bringing.{EventsBringItems};
+ghost use Rattle.ds_replica.specs.CaughtUp.{WholeIsAll, HoldsTheStores, HoldsAtLeast, LabelsAreNewest};
+ghost use Rattle.ds_replica.specs.Headline.{AccountFitsAtStart, EventsFit, EqualWhereKnown, EqualOverEvents, NothingClashes, NothingStops};
+ghost use Rattle.ds_replica.specs.Messages.{SnapshotIsWhole, SinceIsTurn, SinceExtends, PageIsTurn};
+ghost use Rattle.ds_replica.specs.Rows.{ReplicasConverge, ReplicasDiffer, MapsCatchUp, MapsLag, MapsLead};
+ghost use Rattle.ds_replica.specs.Turns.{TurnsAreRun, WholeStays, KnownStays, NothingBelowFloors, FloorsStand};
+
+/// Of a world that was just made the empty account fits, and over every list of events the account that is extended by
+/// them.
+pub fn accounts_fit()
+    ensures start { AccountFitsAtStart }
+    ensures events { EventsFit }
+{}
+
+/// Over every list of events, replicas and maps that know the same under a query hold the same under it, and nothing that
+/// is held or on its way contradicts anything else, so that no delivery stops by a clash or by another owner, if all that
+/// Asks brought in is single-numbered.
+pub fn holders_agree()
+    ensures equal { EqualWhereKnown }
+    ensures over_events { EqualOverEvents }
+    ensures clashes { NothingClashes }
+    ensures stops { NothingStops }
+{}
+
+/// A map that was given all that a store accepted under its query, and nothing that the store doesn't know, holds just the
+/// store's entries under its query, and its labels name no older generation; told more, it holds at least that.
+pub fn maps_catch_up()
+    ensures all { WholeIsAll }
+    ensures exact { HoldsTheStores }
+    ensures least { HoldsAtLeast }
+    ensures labels { LabelsAreNewest }
+{}
+
+/// All that Asks bring in over a list of events are changes and floors that keep their rules, where what the commands name
+/// is in its ranges.
+pub fn items_are_brought()
+    ensures events { EventsBringItems }
+{}
+
+/// In a list of events a store's turns are a run of its machine, what is whole for it stays so, and each message that it
+/// gave leaves out nothing: snapshots and the journal are whole, and pages are what the law of pages asks for.
+pub fn messages_are_whole()
+    ensures turns { TurnsAreRun }
+    ensures stays { WholeStays }
+    ensures snapshot { SnapshotIsWhole }
+    ensures since { SinceIsTurn }
+    ensures extends { SinceExtends }
+    ensures page { PageIsTurn }
+{}
+
+/// What a holder knows it keeps until it is emptied; where it knows a floor, it holds nothing that the floor makes void,
+/// and no event brings such a change.
+pub fn floors_stand()
+    ensures known { KnownStays }
+    ensures below { NothingBelowFloors }
+    ensures events { FloorsStand }
+{}
+
+/// Worked rows: events after which two replicas know and hold the same, and a map has all of a store; and some in which one
+/// thing that the laws ask for is missing, and the rest isn't enough.
+pub fn rows_happen()
+    ensures converge { ReplicasConverge }
+    ensures differ { ReplicasDiffer }
+    ensures catch_up { MapsCatchUp }
+    ensures lag { MapsLag }
+    ensures lead { MapsLead }
+{}
