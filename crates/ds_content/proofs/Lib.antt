@@ -1,0 +1,5 @@
+pub mod FlagLemmas
+pub mod TopLemmas
+pub mod MarkLemmas
+pub mod RoomLemmas
+pub mod SeenLemmas

@@ -1,0 +1,4 @@
+pub mod Content
+pub mod Followed
+pub mod Stands
+pub mod Free

@@ -1,0 +1,5 @@
+//! What a store keeps.
+#![tactic(auto)]
+
+/// Nothing.
+pub fn nothing() {}
