@@ -3,3 +3,4 @@ pub mod TopLemmas
 pub mod MarkLemmas
 pub mod RoomLemmas
 pub mod SeenLemmas
+pub mod HoldingLemmas
