@@ -22,7 +22,7 @@ use Rattle.ds_join.specs.declared.merge.Merge.{Merge}
 use Rattle.ds_join.specs.declared.merge.Merge.TheVariants.{Taken, Known, Stale}
 use Rattle.ds_join.specs.declared.merge.JoinFault.{JoinFault}
 use Rattle.ds_join.specs.declared.merge.JoinFault.TheVariants.{NotOwner, Clash, Full, NoRoom}
-use Rattle.ds_held.specs.Held.{Holding, held_items, held_changes, held_for, held_count, floor_for, floor_count, floor_item, change_item, is_below, is_void_at, IsSound}
+use Rattle.ds_held.specs.Held.{Holding, held_items, held_changes, held_floors, held_for, held_count, floor_for, floor_count, floor_item, change_item, is_below, is_void_at, IsSound}
 use Rattle.ds_held.specs.Merge.{MergeAnswer, AnswersFor}
 use Rattle.ds_held.specs.Raise.{RaiseAnswer, AnswersFloor}
 use Rattle.ds_held.proofs.HeldLemmas.{is_held, change_in, floor_in}
@@ -30,7 +30,6 @@ use Rattle.ds_machine.specs.Parts.{changes_in, floors_in, held_at, floor_at}
 use Rattle.ds_machine.specs.Standing.{HasRoom}
 use Rattle.ds_machine.proofs.PartLemmas.{key_found, key_missing, owner_found, owner_missing}
 use Rattle.ds_content.specs.Free.{IsHigher}
-use Rattle.ds_content.specs.HeldFloors.{held_floors}
 use Rattle.ds_content.specs.Taken.{IsTakenOrNoRoom}
 
 -- ---- the changes and the floors

@@ -4,3 +4,5 @@ pub mod MarkLemmas
 pub mod RoomLemmas
 pub mod SeenLemmas
 pub mod HoldingLemmas
+pub mod OwedLemmas
+pub mod KeptLemmas

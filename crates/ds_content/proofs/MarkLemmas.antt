@@ -17,7 +17,7 @@ use Rattle.ds_machine.specs.Within.{IsWithin}
 use Rattle.ds_machine.specs.Effect.{IsNews}
 use Rattle.ds_machine.proofs.ReachedLemmas.{reached_more}
 use Rattle.ds_content.specs.Content.{ContentRecord}
-use Rattle.ds_content.specs.Followed.{followed_of, followed_by, followed_from, watches, owes}
+use Rattle.ds_content.specs.Followed.{followed_of, followed_by, followed_from, watches}
 use Rattle.ds_content.specs.Stands.{Stands}
 use Rattle.ds_content.proofs.FlagLemmas.{tests_at, flags_same}
 use Rattle.ds_content.proofs.TopLemmas.{held_more, not_held, unshown}
@@ -108,9 +108,3 @@ stands_more x s i new journal u v ws stands is owes others news within t keeps =
       reached = reached_more s i stands.reached news;
       within = within;
     }
-
--- ---- the same subscriptions, whatever marks they have
-pub watch_flags : (i : Item) (hs : List Item) (u : Item → List Bool) (place : ℕ) (ws : List (Option Watching)) → map (owes i) (followed_from hs u place ws) ≡ map (watches i) ws
-watch_flags i hs u place [] = refl
-watch_flags i hs u place (None ∷ ws) = ap (λ l. false ∷ l) (watch_flags i hs u (suc place) ws)
-watch_flags i hs u place (Some w ∷ ws) = ap (λ l. is_item_under w.query i ∷ l) (watch_flags i hs u (suc place) ws)

@@ -12,15 +12,6 @@ abbrev pub followed_of : List Item → Subscription → Followed
 followed_of held sub = record { query = sub.query; stamp = sub.stamp; unseen = map (is_unseen sub.query sub.shown) held }
 
 -- there is a subscription, and the item is under its query
-abbrev pub owes : Item → Option Followed → Bool
-owes i None = false
-owes i (Some f) = is_item_under f.query i
-
--- to which of the subscriptions the item is owed
-abbrev pub owed_for : Item → List (Option Followed) → List Bool
-owed_for i subscriptions = map (owes i) subscriptions
-
--- the same of what is kept of a subscription beside the marks of what is held
 abbrev pub watches : Item → Option Watching → Bool
 watches i None = false
 watches i (Some w) = is_item_under w.query i

@@ -3,4 +3,6 @@ pub mod Followed
 pub mod Stands
 pub mod Free
 pub mod Taken
-pub mod HeldFloors
+pub mod Kept
+pub mod Marking
+pub mod Shown
