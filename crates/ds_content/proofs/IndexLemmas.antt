@@ -1,5 +1,5 @@
 -- What stands beside the item at an index, and whether it is under a query.
-use Rattle.std.proofs.Common.{◌≡◌, ℕ, ◌+◌, ◌<◌, ◌≤◌, Bool, true, false, List, [], length, get_or, Option, Some, None, is_some, refl, ap, sym, ◌∙◌, subst, arith, Contains}
+use Rattle.std.proofs.Common.{◌≡◌, ℕ, suc, ◌∷◌, map, inl, inr, length-append, ◌+◌, ◌<◌, ◌≤◌, Bool, true, false, List, [], length, get_or, Option, Some, None, is_some, refl, ap, sym, ◌∙◌, subst, arith, Contains}
 use Rattle.std.specs.Prelude.{slice_get}
 use Rattle.std.specs.Option.{option_map, option_map_or}
 use Rattle.std.proofs.lemmas.Option.{same_Some}
@@ -7,7 +7,9 @@ use Rattle.ds_entry.specs.Change.{ChangeRecord}
 use Rattle.ds_entry.specs.declared.floor.Floor.{Floor}
 use Rattle.ds_entry.specs.declared.item.Item.{Item}
 use Rattle.ds_entry.specs.declared.item.Item.TheVariants.{Change as Changed, Floor as Floored}
-use Rattle.ds_held.specs.Held.{Holding, held_items, held_changes, held_floors, floor_count, IsSound}
+use Rattle.ds_held.specs.Held.{Holding, held_items, held_changes, held_floors, held_count, floor_count, change_item, IsSound}
+use Rattle.ds_held.specs.Kept.{floored}
+use Rattle.ds_held.specs.Limits.{LimitsRecord, IsLimits}
 use Rattle.ds_held.specs.Marked.{MarkedHolding, mark_for, floor_mark_for, HasMarks}
 use Rattle.ds_held.proofs.HeldLemmas.{is_held}
 use Rattle.ds_pattern.specs.declared.query.Query.{Query}
@@ -17,8 +19,8 @@ use Rattle.ds_machine.specs.Scope.{is_item_under}
 use Rattle.ds_content.specs.Kept.{masks_at}
 use Rattle.ds_content.specs.Shown.{is_to_show}
 use Rattle.ds_content.proofs.FlagLemmas.{past_end, index_among}
-use Rattle.ds_content.proofs.HoldingLemmas.{count_floors}
-use Rattle.ds_content.proofs.RemarkLemmas.{floor_item_at, change_item_at}
+use Rattle.ds_content.proofs.HoldingLemmas.{count_floors, count_changes}
+use Rattle.ds_content.proofs.RemarkLemmas.{items_floored, floor_item_at, change_item_at}
 
 none_mapped : {X Y : Type 0} (f : X → Y) (o : Option X) → option_map f o ≡ None → o ≡ None
 none_mapped f None e = refl
@@ -113,3 +115,32 @@ flag_is h index sub m i e = ap (λ (o : Option Masks). get_or (option_map_or (λ
 
 pub same_item : (o : Option Item) (i j : Item) → o ≡ Some i → Some j ≡ o → j ≡ i
 same_item o i j e f = same_Some j i (f ∙ e)
+
+-- ---- how many items are held
+length_mapped : {X Y : Type 0} (f : X → Y) (xs : List X) → length (map f xs) ≡ length xs
+length_mapped f [] = refl
+length_mapped f (x ∷ xs) = ap suc (length_mapped f xs)
+
+few_keys : (l : LimitsRecord) → IsLimits l → l.keys ≤ 4096
+few_keys l (inl e) = subst (λ (x : LimitsRecord). x.keys ≤ 4096) (sym e) (omega arith)
+few_keys l (inr e) = subst (λ (x : LimitsRecord). x.keys ≤ 4096) (sym e) (omega arith)
+
+pub few_items : (h : Holding) (l : LimitsRecord) (count floors : ℕ) → l ≡ h.limits → IsLimits l → count ≡ held_count h → count ≤ h.limits.keys → floors ≡ floor_count h → floors ≤ 64 → length (held_items h) ≤ 4160
+few_items h l count floors e is c low f few =
+    let bound = few_keys l is in
+    let keys : l.keys ≡ h.limits.keys = ap (λ (x : LimitsRecord). x.keys) e in
+    let both = ap (λ (l : List Item). length l) (items_floored h) in
+    let sum = length-append (map floored (held_floors h)) (map change_item (held_changes h)) in
+    let m = length_mapped floored (held_floors h) in
+    let n = length_mapped change_item (held_changes h) in
+    let fs = count_floors h in
+    let cs = count_changes h in
+    omega (arith, bound, keys, both, sum, m, n, fs, cs, c, low, f, few)
+
+pub none_is : {X : Type 0} (o : Option X) → false ≡ is_some o → o ≡ None
+none_is None e = refl
+none_is (Some x) e = absurd (cc)
+
+pub some_is : {X : Type 0} (o : Option X) → true ≡ is_some o → (x : X) × (o ≡ Some x)
+some_is None e = absurd (cc)
+some_is (Some x) e = (x, refl)

@@ -44,6 +44,26 @@ pub held_sorted : (h : Holding) → IsSound h → IsStrictlySortedBy change_cmp 
 held_sorted h sound =
     changes_sorted (held_changes h) (behind_sorted (map floored (held_floors h)) (map change_item (held_changes h)) (subst (IsStrictlySortedBy item_cmp) (items_floored h) (top_itself h sound).in_order))
 
+-- ---- numbers, and the front of a list
+front : (xs ys : List ChangeRecord) → take (length xs) (xs ++ ys) ≡ xs
+front [] [] = refl
+front [] (y ∷ ys) = refl
+front (x ∷ xs) ys = ap (λ l. x ∷ l) (front xs ys)
+
+le_false : (m n : ℕ) → n < m → nat_le m n ≡ false
+le_false m n l = by_test (nat_le m n) refl
+  where
+    by_test : (b : Bool) → nat_le m n ≡ b → b ≡ false
+    by_test false q = refl
+    by_test true q = let few = leb-true m n q in absurd (omega (arith, few, l))
+
+le_true : (m n : ℕ) → m ≤ n → nat_le m n ≡ true
+le_true m n l = by_test (nat_le m n) refl
+  where
+    by_test : (b : Bool) → nat_le m n ≡ b → b ≡ true
+    by_test true e = refl
+    by_test false e = let more = leb-false m n e in absurd (omega (arith, more, l))
+
 -- ---- one change after the other
 module _ (keep : Key → Bool) (cs : List ChangeRecord) (after : Option Key) (max : ℕ) (start : List Item) where
   pub paged_starts : ArePaged keep cs after after max max start start
@@ -59,13 +79,6 @@ module _ (keep : Key → Bool) (cs : List ChangeRecord) (after : Option Key) (ma
           p.items_are ∙ ap (λ l. start ++ map change_item l) (whole ∙ sym (few_taken max (to_come keep after cs) few)),
           le_true (length (to_come keep after cs)) max few,
         )
-      where
-        le_true : (m n : ℕ) → m ≤ n → nat_le m n ≡ true
-        le_true m n l = by_test (nat_le m n) refl
-          where
-            by_test : (b : Bool) → nat_le m n ≡ b → b ≡ true
-            by_test true e = refl
-            by_test false e = let more = leb-false m n e in absurd (omega (arith, more, l))
 
     module _ (sorted : IsStrictlySortedBy change_cmp cs) (c : ChangeRecord) (found : find (comes_after last) cs ≡ Some c) where
       next : filter (comes_after last) cs ≡ c ∷ filter (comes_after (Some c.key)) cs
@@ -96,18 +109,6 @@ module _ (keep : Key → Bool) (cs : List ChangeRecord) (after : Option Key) (ma
                 p.items_are ∙ ap (λ l. start ++ map change_item l) (sym (ap₂ (λ n (l : List ChangeRecord). take n l) (sym long) (sym all) ∙ front p.done (c ∷ tail))),
                 le_false (length (to_come keep after cs)) max over,
               )
-
-          front : (xs ys : List ChangeRecord) → take (length xs) (xs ++ ys) ≡ xs
-          front [] [] = refl
-          front [] (y ∷ ys) = refl
-          front (x ∷ xs) ys = ap (λ l. x ∷ l) (front xs ys)
-
-          le_false : (m n : ℕ) → n < m → nat_le m n ≡ false
-          le_false m n l = by_test (nat_le m n) refl
-            where
-              by_test : (b : Bool) → nat_le m n ≡ b → b ≡ false
-              by_test false q = refl
-              by_test true q = let few = leb-true m n q in absurd (omega (arith, few, l))
 
       -- it is passed, or given
       pub paged_more : (b : Bool) → keep c.key ≡ b → (more : ℕ) → Some more ≡ more_after b left → (added : List Item) → added ≡ items ++ map change_item (given b left c) → ArePaged keep cs after (Some c.key) max more start added
@@ -141,19 +142,16 @@ module _ (keep : Key → Bool) where
   -- of the changes
   changes_to_come : (after : Option Key) (cs : List ChangeRecord) → still_to_come (passes keep) after (map change_item cs) ≡ map change_item (to_come keep after cs)
   changes_to_come after [] = refl
-  changes_to_come after (c ∷ cs) = by_test (keep c.key) (is_behind after (Changed c)) (comes_after after c) refl refl (behind_is after c)
+  changes_to_come after (c ∷ cs) = by_test (changes_to_come after cs) (keep c.key) (is_behind after (Changed c)) (comes_after after c) refl refl (behind_is after c)
     where
-      rest : still_to_come (passes keep) after (map change_item cs) ≡ map change_item (to_come keep after cs)
-      rest = changes_to_come after cs
-
-      by_test : (k b d : Bool) → keep c.key ≡ k → is_behind after (Changed c) ≡ b → b ≡ d
+      by_test : still_to_come (passes keep) after (map change_item cs) ≡ map change_item (to_come keep after cs) → (k b d : Bool) → keep c.key ≡ k → is_behind after (Changed c) ≡ b → b ≡ d
           → filter (is_behind after) (cond k (Changed c ∷ filter (passes keep) (map change_item cs)) (filter (passes keep) (map change_item cs))) ≡ map change_item (filter (λ (x : ChangeRecord). keep x.key) (cond d (c ∷ filter (comes_after after) cs) (filter (comes_after after) cs)))
-      by_test k true false e f g = absurd (cc)
-      by_test k false true e f g = absurd (cc)
-      by_test true true true e f g = rw (e, f) (ap (λ l. Changed c ∷ l) rest)
-      by_test false true true e f g = rw e rest
-      by_test true false false e f g = rw f rest
-      by_test false false false e f g = rest
+      by_test rest k true false e f g = absurd (cc)
+      by_test rest k false true e f g = absurd (cc)
+      by_test rest true true true e f g = rw (e, f) (ap (λ l. Changed c ∷ l) rest)
+      by_test rest false true true e f g = rw e rest
+      by_test rest true false false e f g = rw f rest
+      by_test rest false false false e f g = rest
 
   no_floors : (cs : List ChangeRecord) → floors_of (map change_item cs) ≡ []
   no_floors [] = refl

@@ -1,6 +1,6 @@
 //! Copies of what is held.
 
-ghost use Rattle.std.specs.Prelude.{◌≡◌, ◌++◌, ◌∷◌, [], Some, filter, is_some, slice_get, IfOk, OnOk};
+ghost use Rattle.std.specs.Prelude.{◌≡◌, ◌++◌, ◌∷◌, [], Some, None, filter, is_some, slice_get, IfOk, OnOk};
 ghost use Rattle.ds_entry.specs.Item.{passes};
 ghost use Rattle.ds_entry.specs.declared.item.Item as entries;
 ghost use Rattle.ds_held.specs.Held.{held_items};
@@ -49,6 +49,7 @@ fn add_at<S: KeyScope>(
 ) -> Result<bool, NoRoom>
     ensures there { IfOk result (λ there. there ≡ is_some (slice_get (held_items held.now) index)) }
     ensures added { OnOk result ((i : entries.Item) → slice_get (held_items held.now) index ≡ Some i → items.new ≡ items.old ++ filter (passes (S.keeps scope.old)) (i ∷ [])) }
+    ensures same { OnOk result (slice_get (held_items held.now) index ≡ None → items.new ≡ items.old) }
     ensures scope { S.keeps scope.new ≡ S.keeps scope.old }
 {
     let Some(item) = copy_at(alloc, held, index)? else {
@@ -70,6 +71,7 @@ pub(super) fn all_under<S: KeyScope>(
     ensures items { IfOk result (λ items. items ≡ filter (passes (S.keeps scope.old)) (held_items held.now)) }
     ensures scope { S.keeps scope.new ≡ S.keeps scope.old }
 {
+    let _keys = held.limits().keys();
     let _count = held.len();
     let _floors = held.floor_count();
     let mut items = ItemList::new(alloc);

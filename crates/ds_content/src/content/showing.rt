@@ -39,6 +39,7 @@ fn show_unseen(
     requires { sub < 128 }
     ensures there { IfOk result (λ there. there ≡ is_some (slice_get (held_items held.now.held) index)) }
     ensures shown { OnOk result ((i : entries.Item) → slice_get (held_items held.now.held) index ≡ Some i → items.new ≡ items.old ++ cond (is_to_show held.now sub i) (i ∷ []) []) }
+    ensures same { OnOk result (slice_get (held_items held.now.held) index ≡ None → items.new ≡ items.old) }
     ensures refused { OnErr result ((i : entries.Item) × (slice_get (held_items held.now.held) index ≡ Some i) × (is_to_show held.now sub i ≡ true)) }
 {
     let content = held.held();
@@ -66,7 +67,9 @@ fn first_unseen(
     ensures first { IfOk result (λ shown. AreFirst held.now sub max shown.items shown.passed) }
     ensures refused { OnErr result (list_any (is_to_show held.now sub) (held_items held.now.held) ≡ true) }
 {
-    let _count = held.held().len();
+    let content = held.held();
+    let _keys = content.limits().keys();
+    let _count = content.len();
     let _floors = held.floor_count();
     let mut items = ItemList::new(alloc);
     let mut passed = 0;
