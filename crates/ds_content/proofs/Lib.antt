@@ -1,0 +1,14 @@
+pub mod FlagLemmas
+pub mod TopLemmas
+pub mod MarkLemmas
+pub mod RoomLemmas
+pub mod SeenLemmas
+pub mod HoldingLemmas
+pub mod OwedLemmas
+pub mod KeptLemmas
+pub mod RemarkLemmas
+pub mod OpenLemmas
+pub mod EnterLemmas
+pub mod ServeLemmas
+pub mod IndexLemmas
+pub mod PagingLemmas

@@ -1,0 +1,28 @@
+-- What a content shows of a subscription, whatever it keeps of it.
+use Rattle.std.specs.Prelude.{ℕ, suc, Bool, false, List, [], ◌∷◌, Option, None, Some, map, slice_index_or}
+use Rattle.std.specs.Option.{option_map}
+use Rattle.ds_entry.specs.declared.item.Item.{Item}
+use Rattle.ds_watch.specs.Followed.{Followed}
+use Rattle.ds_watch.specs.Watching.{Watching}
+use Rattle.ds_machine.specs.Scope.{is_item_under}
+use Rattle.ds_machine.specs.Subscription.{Subscription, is_unseen}
+
+-- what is to be shown to the subscription of what is held
+abbrev pub followed_of : List Item → Subscription → Followed
+followed_of held sub = record { query = sub.query; stamp = sub.stamp; unseen = map (is_unseen sub.query sub.shown) held }
+
+-- there is a subscription, and the item is under its query
+abbrev pub watches : Item → Option Watching → Bool
+watches i None = false
+watches i (Some w) = is_item_under w.query i
+
+-- ---- what is shown of them, where `unseen` has for each held item the flags of those that it is to be shown to
+
+-- of the subscription at the place
+abbrev pub followed_by : List Item → (Item → List Bool) → ℕ → Watching → Followed
+followed_by held unseen place w = record { query = w.query; stamp = w.stamp; unseen = map (λ (i : Item). slice_index_or (unseen i) place false) held }
+
+-- of those at the places from this one on
+abbrev pub followed_from : List Item → (Item → List Bool) → ℕ → List (Option Watching) → List (Option Followed)
+followed_from held unseen place [] = []
+followed_from held unseen place (w ∷ ws) = option_map (followed_by held unseen place) w ∷ followed_from held unseen (suc place) ws

@@ -1,0 +1,48 @@
+-- How a content's fields are seen as its value.
+use Rattle.std.specs.Prelude.{◌≡◌, List, Bool, [], Option, None, is_some, length, map, slice_index_or, Contains}
+use Rattle.std.specs.Option.{option_map_or}
+use Rattle.ds_entry.specs.declared.item.Item.{Item}
+use Rattle.ds_entry.specs.declared.item.Item.TheVariants.{Change as Changed, Floor as Floored}
+use Rattle.ds_held.specs.Held.{held_items}
+use Rattle.ds_held.specs.Marked.{MarkedHolding, mark_for, floor_mark_for}
+use Rattle.ds_watch.specs.Mask.{padded}
+use Rattle.ds_watch.specs.Watching.{Watching}
+use Rattle.ds_watch.specs.declared.masks.Masks.{Masks}
+use Rattle.ds_machine.specs.State.{State}
+use Rattle.ds_content.specs.Content.{ContentRecord}
+use Rattle.ds_content.specs.Followed.{watches, followed_from}
+use Rattle.ds_content.specs.Stands.{Stands}
+use Rattle.ds_content.specs.declared.content.Content.TheInside.{Inside}
+
+-- the masks beside an item
+abbrev pub masks_at : MarkedHolding Masks → Item → Option Masks
+masks_at h (Changed c) = mark_for h c.key
+masks_at h (Floored f) = floor_mark_for h f.owner
+
+-- the flags of those under whose query the held item is
+abbrev pub under_at : MarkedHolding Masks → Item → List Bool
+under_at h i = option_map_or (λ (m : Masks). m.under) (masks_at h i) []
+
+-- the flags of those that the held item is still to be shown to
+abbrev pub unseen_at : MarkedHolding Masks → Item → List Bool
+unseen_at h i = option_map_or (λ (m : Masks). m.unseen) (masks_at h i) []
+
+abbrev pub content_of : Inside → ContentRecord
+content_of s = record {
+  held = held_items s.held.held;
+  journal = s.journal;
+  limits = s.held.held.limits;
+  stamp = s.stamp;
+  subscriptions = followed_from (held_items s.held.held) (unseen_at s.held) 0 s.subscriptions;
+}
+
+-- beside each held item stand the flags of those under whose query it is, and the flags of those that it is to be shown to
+pub record AreMarked (h : MarkedHolding Masks) (ws : List (Option Watching)) : Type 0 where
+  pub under : (i : Item) → Contains (held_items h.held) i → under_at h i ≡ padded (map (watches i) ws)
+  pub long : (i : Item) → Contains (held_items h.held) i → length (unseen_at h i) ≡ 128
+
+-- each subscription has its place, by which what is held is marked, and the content stands for some state
+pub record IsSound (s : Inside) : Type 0 where
+  pub places : length s.subscriptions ≡ s.held.held.limits.subs
+  pub marked : AreMarked s.held s.subscriptions
+  pub stood : (state : State) × Stands (content_of s) state

@@ -1,0 +1,182 @@
+//! The content of a store.
+
+ghost use Rattle.std.specs.Prelude.{◌≡◌, ◌≤◌, length, map, slice_index_or, None, IfOk, IfErr, IfSome, OnOk};
+ghost use Rattle.std.specs.Option.{option_copied, option_map};
+ghost use Rattle.ds_entry.specs.Change.{ChangeRecord, IsChange};
+ghost use Rattle.ds_entry.specs.Void.{is_void};
+ghost use Rattle.ds_entry.specs.declared.floor.Floor.{Floor};
+ghost use Rattle.ds_feed.specs.Kept.{cursor_of, IsRing, IsOpenFault};
+ghost use Rattle.ds_held.specs.Held.{held_items, IsSound};
+ghost use Rattle.ds_machine.specs.Asking.{name_of};
+ghost use Rattle.ds_machine.specs.Limits.{last_place};
+ghost use Rattle.ds_machine.specs.Parts.{changes_in, floors_in, held_at, floor_at};
+ghost use Rattle.ds_machine.specs.State.{State, opening};
+ghost use Rattle.ds_watch.specs.Followed.{Followed};
+ghost use Rattle.ds_content.specs.Stands.{Stands};
+
+use ds_entry::Change;
+use ds_feed::{Cursor, Journal, OpenFault};
+use ds_held::{Held, Limits};
+use ds_index::Labelled;
+use ds_names::{Endpoint, Generation, Key, Name};
+use ds_watch::{Masks, Subscriptions};
+use std::alloc::Global;
+use std::marker::Model;
+
+mod accepting;
+mod copying;
+mod marking;
+mod raising;
+mod reading;
+mod showing;
+mod subscribing;
+
+pub use showing::Shown;
+
+/// All that a store keeps: what it holds, the journal of what took effect, and its subscriptions.
+///
+/// It stands for a state of the store's machine, which keeps every item that took effect. Its calls don't judge: they ask
+/// that nothing stands against what they do.
+#[derive(Drop)]
+pub struct Content {
+    alloc: Global,
+    held: Labelled<Masks>,
+    journal: Journal,
+    stamp: u64,
+    subscriptions: Subscriptions,
+}
+
+impl Model for Content {
+    ghost use Rattle.ds_content.specs.Content.{ContentRecord};
+    ghost use Rattle.ds_content.specs.Kept.{content_of, IsSound};
+
+    ghost Value = { ContentRecord };
+
+    ghost view = { content_of };
+
+    ghost invariant = { IsSound };
+}
+
+impl Content {
+    /// The content of a store of this incarnation that holds nothing yet, and whose first item will have the position
+    /// `first`. BadRing unless the ring is 1 to 4096, then BadFirst above 2^62, and NoRoom last, for the ring.
+    pub fn open(
+        alloc: Global,
+        incarnation: u64,
+        first: u64,
+        ring: u32,
+        limits: Limits,
+    ) -> Result<Content, OpenFault>
+        ensures opened { IfOk result (λ content. Stands content (opening incarnation first ring limits)) }
+        ensures fits { OnOk result (IsRing ring × (first ≤ last_place)) }
+        ensures refused { IfErr result (λ fault. IsOpenFault fault first ring) }
+    {
+        let subs = limits.subs();
+        let journal = Journal::new(alloc, incarnation, first, ring)?;
+        Ok(Content {
+            alloc,
+            held: Labelled::bounded(alloc, limits),
+            journal,
+            stamp: first,
+            subscriptions: Subscriptions::new(subs as usize),
+        })
+    }
+
+    /// Begins again as another incarnation, with nothing held, no subscriptions, and the first position, the ring and the
+    /// limits that it had. It takes no memory.
+    pub fn restart(&mut self, incarnation: u64)
+        ensures { (s : State) → Stands self.old s → Stands self.new (opening incarnation s.feed.first s.feed.ring s.limits) }
+    {
+        let limits = self.held.held().limits();
+        let _cursor = self.journal.cursor();
+        self.journal.restart(incarnation);
+        self.held = Labelled::bounded(self.alloc, limits);
+        self.stamp = self.journal.first();
+        self.subscriptions = Subscriptions::new(limits.subs() as usize);
+    }
+
+    /// What it holds.
+    pub fn held(&self) -> &Held
+        ensures items { held_items result.now ≡ self.now.held }
+        ensures limits { result.now.limits ≡ self.now.limits }
+        ensures sound { IsSound result.now }
+        ensures stood { (s : State) × Stands self.now s }
+    {
+        self.held.held()
+    }
+
+    /// The change that is held for a key.
+    pub fn get(&self, key: &Key) -> Option<&Change>
+        ensures value { option_copied result ≡ held_at self.now.held key.now }
+        ensures change { IfSome (option_copied result) IsChange }
+    {
+        self.held.held().get(key)
+    }
+
+    /// Whether a held floor makes the change void.
+    pub fn is_void(&self, change: &Change) -> bool
+        ensures { result ≡ is_void self.now.held change.now }
+    {
+        self.held.held().is_void(change)
+    }
+
+    /// How many keys are held, those of tombstones too.
+    pub fn count(&self) -> usize
+        ensures count { result ≡ length (changes_in self.now.held) }
+        ensures few { result ≤ self.now.limits.keys }
+    {
+        self.held.held().len()
+    }
+
+    /// How many owners have floors, at most 64.
+    pub fn floor_count(&self) -> usize
+        ensures count { result ≡ length (floors_in self.now.held) }
+        ensures few { result ≤ 64 }
+    {
+        self.held.held().floor_count()
+    }
+
+    /// The generation of an owner's floor.
+    pub fn floor(&self, owner: &Name) -> Option<Generation>
+        ensures { result ≡ option_map (λ (f : Floor). f.generation) (floor_at self.now.held owner.now) }
+    {
+        self.held.held().floor(owner)
+    }
+
+    /// Its limits.
+    pub fn limits(&self) -> Limits
+        ensures { result ≡ self.now.limits }
+    {
+        self.held.held().limits()
+    }
+
+    /// The cursor behind all that took effect.
+    pub fn cursor(&self) -> Cursor
+        ensures value { result ≡ cursor_of self.now.journal }
+        ensures limit { result.position ≤ last_place }
+        ensures stood { (s : State) × Stands self.now s }
+    {
+        self.journal.cursor()
+    }
+
+    /// The last stamp that was given.
+    pub fn stamp(&self) -> u64
+        ensures value { result ≡ self.now.stamp }
+        ensures limit { result ≤ last_place }
+    {
+        self.stamp
+    }
+
+    /// The stamp of the last Subscribe or Check of the subscription with this number. `None` where none is made.
+    pub fn stamp_of(&self, sub: u32) -> Option<u64>
+        ensures { result ≡ option_map (λ (f : Followed). f.stamp) (slice_index_or self.now.subscriptions sub None) }
+    {
+        if sub >= self.held.held().limits().subs() {
+            return None;
+        }
+        match self.subscriptions.get(sub as usize) {
+            Some(subscription) => Some(subscription.stamp()),
+            None => None,
+        }
+    }
+}

@@ -1,0 +1,67 @@
+//! Changes that take effect.
+
+ghost use Rattle.std.specs.Prelude.{◌≡◌, ◌∷◌, [], None, ◌⊎◌, map, IfOk, OnOk, OnErr};
+ghost use Rattle.ds_entry.specs.Change.{ChangeRecord, IsBodyInPlace};
+ghost use Rattle.ds_entry.specs.declared.item.Item.TheVariants.{Change as Changed};
+ghost use Rattle.ds_machine.specs.Parts.{held_at};
+ghost use Rattle.ds_machine.specs.State.{State, accepts};
+ghost use Rattle.ds_machine.specs.Subscription.{is_owed};
+ghost use Rattle.ds_watch.specs.Followed.{owed_for};
+ghost use Rattle.ds_watch.specs.Mask.{padded};
+ghost use Rattle.ds_content.specs.Free.{IsFree};
+ghost use Rattle.ds_content.specs.Stands.{Stands};
+ghost use Rattle.ds_content.specs.Taken.{IsTakenOrNoRoom};
+
+use crate::content::Content;
+use ds_entry::{Change, Item};
+use ds_join::{JoinFault, Merge};
+use ds_names::{Key, NoRoom};
+use ds_watch::{Mask, Masks};
+
+impl Content {
+    /// The subscriptions to which a change of the key is owed. For a held key it asks no pattern, and takes no memory.
+    pub fn owed(&self, key: &Key) -> Result<Mask, NoRoom>
+        ensures value { IfOk result (λ owed. owed ≡ padded (owed_for key.now self.now.subscriptions)) }
+        ensures owed { (s : State) (c : ChangeRecord) → Stands self.now s → c.key ≡ key.now → IfOk result (λ owed. owed ≡ padded (map (is_owed (Changed c ∷ [])) s.subscriptions)) }
+        ensures held { OnErr result (held_at self.now.held key.now ≡ None) }
+    {
+        let _held = self.held.held();
+        match self.held.get(key) {
+            Some((_, masks)) => Ok(masks.under()),
+            None => self.subscriptions.owed(self.alloc, key),
+        }
+    }
+
+    /// A change against which nothing stands takes effect, and is to be shown to all to which it is owed. Want of memory
+    /// changes nothing, and is only met where the key isn't held, or where the journal's copy of the change takes memory.
+    pub fn accept(&mut self, change: Change, owed: Mask) -> Result<(), NoRoom>
+        requires owed { owed ≡ padded (owed_for change.key self.old.subscriptions) }
+        requires free { IsFree self.old change }
+        ensures ok { OnOk result ((s : State) → Stands self.old s → Stands self.new (accepts s (Changed change ∷ []))) }
+        ensures err { OnErr result (self.new ≡ self.old) }
+        ensures wants { OnErr result ((held_at self.old.held change.key ≡ None) ⊎ (¬ IsBodyInPlace change.body)) }
+    {
+        let item = Item::Change(change.copy(self.alloc)?);
+        let _held = self.held.held();
+        taken(self.held.merge(change, Masks::fresh(owed)))?;
+        self.journal.push(item);
+        Ok(())
+    }
+}
+
+/// Only want of memory keeps out an item against which nothing stands.
+pub(super) fn taken(answer: Result<Merge, JoinFault>) -> Result<(), NoRoom>
+    requires { IsTakenOrNoRoom answer }
+    ensures ok { OnOk result (answer ≡ Ok Merge.Taken) }
+    ensures err { OnErr result (answer ≡ Err JoinFault.NoRoom) }
+{
+    match answer {
+        Ok(Merge::Taken) => Ok(()),
+        Ok(Merge::Known) => unreachable!(),
+        Ok(Merge::Stale) => unreachable!(),
+        Err(JoinFault::NotOwner) => unreachable!(),
+        Err(JoinFault::Clash { .. }) => unreachable!(),
+        Err(JoinFault::Full) => unreachable!(),
+        Err(JoinFault::NoRoom) => Err(NoRoom),
+    }
+}

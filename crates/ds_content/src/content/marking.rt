@@ -1,0 +1,145 @@
+//! The masks beside what is held, for all subscriptions.
+
+ghost use Rattle.std.specs.Prelude.{◌≡◌, ◌<◌, ◌≤◌, ◌&&◌, Some, None, length, map, false, slice_get, slice_index_or, IfOk};
+ghost use Rattle.std.specs.Option.{option_map};
+ghost use Rattle.ds_entry.specs.Change.{ChangeRecord};
+ghost use Rattle.ds_entry.specs.declared.floor.Floor.{Floor};
+ghost use Rattle.ds_entry.specs.declared.item.Item as items;
+ghost use Rattle.ds_held.specs.Held.{held_items, held_changes, held_floors};
+ghost use Rattle.ds_held.specs.Marked.{mark_for, floor_mark_for};
+ghost use Rattle.ds_machine.specs.Scope.{is_item_under};
+ghost use Rattle.ds_watch.specs.Masks.{shown_to, made_at};
+ghost use Rattle.ds_content.specs.Kept.{masks_at};
+ghost use Rattle.ds_content.specs.Marking.{IsSet, IsRemarked, AreRemarked};
+
+use ds_held::Held;
+use ds_index::Labelled;
+use ds_names::NoRoom;
+use ds_pattern::{Asker, Filter};
+use ds_watch::Masks;
+use std::alloc::Global;
+
+// The masks beside the floor at the index.
+fn floor_masks(held: &Labelled<Masks>, index: usize) -> Option<Masks>
+    ensures here { (f : Floor) → slice_get (held_floors held.now.held) index ≡ Some f → result ≡ floor_mark_for held.now f.owner }
+    ensures none { slice_get (held_floors held.now.held) index ≡ None → result ≡ None }
+{
+    match held.floor_at(index) {
+        Some((_, masks)) => Some(*masks),
+        None => None,
+    }
+}
+
+// The masks beside the change at the index.
+fn change_masks(held: &Labelled<Masks>, index: usize) -> Option<Masks>
+    ensures here { (c : ChangeRecord) → slice_get (held_changes held.now.held) index ≡ Some c → result ≡ mark_for held.now c.key }
+    ensures none { slice_get (held_changes held.now.held) index ≡ None → result ≡ None }
+{
+    match held.at(index) {
+        Some((_, masks)) => Some(*masks),
+        None => None,
+    }
+}
+
+/// The masks beside the item at the index, floors first and then changes in key order.
+pub(super) fn masks_of(held: &Labelled<Masks>, index: usize) -> Option<Masks>
+    ensures here { (i : items.Item) → slice_get (held_items held.now.held) index ≡ Some i → result ≡ masks_at held.now i }
+    ensures none { slice_get (held_items held.now.held) index ≡ None → result ≡ None }
+{
+    let floors = held.floor_count();
+    if index < floors {
+        floor_masks(held, index)
+    } else {
+        change_masks(held, index - floors)
+    }
+}
+
+// Other masks for the item at the index.
+fn set_masks(held: &mut Labelled<Masks>, index: usize, masks: Masks)
+    ensures { IsSet held.old held.new index masks }
+{
+    let floors = held.floor_count();
+    if index < floors {
+        held.set_floor_mark(index, masks);
+    } else {
+        held.set_mark(index - floors, masks);
+    }
+}
+
+// The item at the index was shown to the subscription with this number.
+fn show_one(held: &mut Labelled<Masks>, index: usize, sub: usize)
+    requires { sub < 128 }
+    ensures { IsRemarked held.old held.new index (shown_to sub) }
+{
+    if let Some(masks) = masks_of(held, index) {
+        set_masks(held, index, masks.shown_to(sub));
+    }
+}
+
+/// The first so many items were shown to the subscription with this number. It takes no memory.
+pub(super) fn show_first(held: &mut Labelled<Masks>, count: usize, sub: usize)
+    requires { sub < 128 }
+    ensures { AreRemarked held.old held.new count (λ k. shown_to sub) }
+{
+    for index in 0..count {
+        show_one(held, index, sub);
+    }
+}
+
+// The subscription with this number was made, and the item at the index is under its query or not.
+fn make_one(
+    held: &mut Labelled<Masks>,
+    index: usize,
+    sub: usize,
+    is_under: bool,
+    initial: bool,
+)
+    requires { sub < 128 }
+    ensures { IsRemarked held.old held.new index (made_at sub is_under initial) }
+{
+    if let Some(masks) = masks_of(held, index) {
+        set_masks(held, index, masks.made_at(sub, is_under, initial));
+    }
+}
+
+/// The subscription with this number was made, where the flags say which held items are under its query. It takes no
+/// memory.
+pub(super) fn make_all(held: &mut Labelled<Masks>, sub: usize, flags: &[bool], initial: bool)
+    requires { sub < 128 }
+    ensures { AreRemarked held.old held.new (length flags.now) (λ k. made_at sub (slice_index_or flags.now k false) initial) }
+{
+    for index in 0..flags.len() {
+        make_one(held, index, sub, flags[index], initial);
+    }
+}
+
+// Whether the held item at the index is under the query, as every floor is.
+fn is_under_at(held: &Held, asker: &mut Asker<'_>, index: usize) -> Option<bool>
+    ensures told { result ≡ option_map (is_item_under asker.old) (slice_get (held_items held.now) index) }
+    ensures same { asker.new ≡ asker.old }
+{
+    let floors = held.floor_count();
+    if index < floors {
+        return Some(true);
+    }
+    match held.at(index - floors) {
+        Some(change) => Some(asker.admits(change.key())),
+        None => None,
+    }
+}
+
+/// Which of the held items are under the query, floors first and then changes in key order.
+pub(super) fn flags_under(
+    alloc: Global,
+    held: &Held,
+    filter: &Filter,
+) -> Result<Vec<bool>, NoRoom>
+    ensures { IfOk result (λ flags. flags.items ≡ map (is_item_under filter.now) (held_items held.now)) }
+{
+    let mut flags = Vec::with_capacity(alloc, held.len())?;
+    let mut asker = filter.asker(alloc)?;
+    while let Some(is_under) = is_under_at(held, &mut asker, flags.len()) {
+        flags.push(is_under)?;
+    }
+    Ok(flags)
+}

@@ -1,0 +1,51 @@
+//! Floors that take effect.
+
+ghost use Rattle.std.specs.Prelude.{◌≡◌, ◌∷◌, [], None, is_some, map, OnOk, OnErr};
+ghost use Rattle.ds_entry.specs.declared.floor.Floor as floors;
+ghost use Rattle.ds_entry.specs.declared.item.Item.TheVariants.{Floor as Floored};
+ghost use Rattle.ds_machine.specs.Parts.{floor_at};
+ghost use Rattle.ds_machine.specs.State.{State, accepts};
+ghost use Rattle.ds_machine.specs.Subscription.{is_owed};
+ghost use Rattle.ds_watch.specs.Mask.{padded};
+ghost use Rattle.ds_content.specs.Free.{IsFloorFree};
+ghost use Rattle.ds_content.specs.Stands.{Stands};
+
+use crate::content::Content;
+use crate::content::accepting::taken;
+use ds_entry::{Floor, Item};
+use ds_names::NoRoom;
+use ds_watch::{Mask, Masks};
+
+impl Content {
+    /// The subscriptions to which a floor is owed: all that are made.
+    pub fn owed_by_floor(&self) -> Mask
+        ensures value { result ≡ padded (map is_some self.now.subscriptions) }
+        ensures owed { (s : State) (f : floors.Floor) → Stands self.now s → result ≡ padded (map (is_owed (Floored f ∷ [])) s.subscriptions) }
+    {
+        self.subscriptions.made()
+    }
+
+    /// A floor against which nothing stands takes effect: it is raised, what it makes void is dropped with its masks, and
+    /// it is to be shown to all to which it is owed. Want of memory changes nothing, and is only met where its owner has no
+    /// floor yet.
+    pub fn raise(&mut self, floor: Floor, owed: Mask) -> Result<(), NoRoom>
+        requires owed { owed ≡ padded (map is_some self.old.subscriptions) }
+        requires free { IsFloorFree self.old floor }
+        ensures ok { OnOk result ((s : State) → Stands self.old s → Stands self.new (accepts s (Floored floor ∷ []))) }
+        ensures err { OnErr result (self.new ≡ self.old) }
+        ensures new_owner { OnErr result (floor_at self.old.held floor.owner ≡ None) }
+    {
+        let item = item_of(&floor);
+        let _held = self.held.held();
+        taken(self.held.raise(floor, Masks::fresh(owed)))?;
+        self.journal.push(item);
+        Ok(())
+    }
+}
+
+// The floor as an item.
+fn item_of(floor: &Floor) -> Item
+    ensures { result ≡ Floored floor.now }
+{
+    Item::Floor(*floor)
+}

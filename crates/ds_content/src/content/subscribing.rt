@@ -1,0 +1,43 @@
+//! Subscriptions that are made.
+
+ghost use Rattle.std.specs.Prelude.{◌≡◌, ◌<◌, IfOk, OnOk, OnErr};
+ghost use Rattle.std.specs.List.{list_any};
+ghost use Rattle.ds_machine.specs.Limits.{last_place};
+ghost use Rattle.ds_machine.specs.Scope.{is_item_under};
+ghost use Rattle.ds_machine.specs.State.{State, subscribes};
+ghost use Rattle.ds_machine.specs.Watching.{shown_at_first};
+ghost use Rattle.ds_content.specs.Stands.{Stands};
+
+use crate::content::Content;
+use crate::content::marking::{flags_under, make_all};
+use ds_names::NoRoom;
+use ds_pattern::Filter;
+use ds_watch::Subscription;
+
+// Whether any of the flags is set.
+fn has_any(flags: &[bool]) -> bool
+    ensures { result ≡ list_any (λ b. b) flags.now }
+{
+    flags.iter().any(|flag| *flag)
+}
+
+impl Content {
+    /// The subscription with this number is made, at the next stamp, in place of the one that was there: with `initial` all
+    /// that is held under its query is to be shown to it, without it only what comes later. It tells whether something is
+    /// held under the query, a floor always is. Want of memory changes nothing.
+    pub fn subscribe(&mut self, sub: u32, filter: Filter, initial: bool) -> Result<bool, NoRoom>
+        requires place { sub < self.old.limits.subs }
+        requires room { self.old.stamp < last_place }
+        ensures ok { OnOk result ((s : State) → Stands self.old s → Stands self.new (subscribes s sub filter (shown_at_first self.old.held initial))) }
+        ensures some { IfOk result (λ some. some ≡ list_any (is_item_under filter) self.old.held) }
+        ensures err { OnErr result (self.new ≡ self.old) }
+    {
+        let flags = flags_under(self.alloc, self.held.held(), &filter)?;
+        let some = has_any(&flags);
+        self.stamp += 1;
+        make_all(&mut self.held, sub as usize, &flags, initial);
+        self.subscriptions
+            .put(sub as usize, Subscription::new(filter, self.stamp));
+        Ok(some)
+    }
+}
