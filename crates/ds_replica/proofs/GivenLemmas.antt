@@ -45,9 +45,9 @@ given_reply s t command reply items (inl (inr w)) e = absurd (let n : None ≡ S
 given_reply s t command reply items (inr w) e = absurd (elim (plain_or_merge command) [
   | inl p ↦ p.room s t reply w
   | inr m ↦ (
-    let v = subst (λ (c : Command). MergeWantsRoom s c reply t) m.1 w in
-    let n : None ≡ Some items = sym (ap items_given v.1.reply_is) ∙ e in
-    cc)
+      let v = subst (λ (c : Command). MergeWantsRoom s c reply t) m.1 w in
+      let n : None ≡ Some items = sym (ap items_given v.1.reply_is) ∙ e in
+      cc)
 ])
 
 -- a command that isn't asked for items gets none

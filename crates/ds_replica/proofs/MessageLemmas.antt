@@ -111,7 +111,7 @@ module _ (account : Account) (w late : World) (side : Side) (command : Command) 
       let place : k ≡ length w.messages = cc in
       let long = AllZip-long (FitsMessage account.brought) account.messages w.messages h.fits.messages in
       let here : slice_get (account.messages ++ given (store_of account side).known items ∷ []) k ≡ Some (given (store_of account side).known items) =
-          ap (slice_get (account.messages ++ given (store_of account side).known items ∷ [])) (place ∙ long) ∙ last_at account.messages (given (store_of account side).known items) in
+      ap (slice_get (account.messages ++ given (store_of account side).known items ∷ [])) (place ∙ long) ∙ last_at account.messages (given (store_of account side).known items) in
       record {
         items = items;
         given_is = is;
@@ -133,7 +133,7 @@ snapshot_is_whole account w late side scope query k events h keep =
       given a.known g.items,
       g.message,
       wholes.whole_stays a.state.feed (feed_of (after account side (Snapshot scope) k events) side) query (given a.known g.items) (position a.state.feed) (front account w late side (Snapshot scope) k events h) (omega arith)
-      (subst (λ (l : List Item). IsWhole a.state.feed query (given a.known l) (position a.state.feed)) same whole),
+          (subst (λ (l : List Item). IsWhole a.state.feed query (given a.known l) (position a.state.feed)) same whole),
     )
 
 -- ---- the journal
@@ -176,7 +176,7 @@ since_extends account w late side scope query at max k events items h keep whole
       t.2,
       t.3,
       subst (λ (l : List Sent). IsWhole now query (items ++ l) t.0.since.cursor.position) (append-nil (given t.0.known t.0.since.items))
-      (journals.sinces_extend now (keeps scope) query items at (t.0 ∷ []) keep (t.2, tt) whole),
+          (journals.sinces_extend now (keeps scope) query items at (t.0 ∷ []) keep (t.2, tt) whole),
     )
 
 -- ---- pages
