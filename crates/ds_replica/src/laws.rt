@@ -2,6 +2,7 @@
 
 ghost use Rattle.ds_replica.specs.Bringing.{EventsBringItems};
 ghost use Rattle.ds_replica.specs.CaughtUp.{WholeIsAll, HoldsTheStores, HoldsAtLeast, LabelsAreNewest};
+ghost use Rattle.ds_replica.specs.Checks.{ChecksAreWhole};
 ghost use Rattle.ds_replica.specs.Headline.{AccountFitsAtStart, EventsFit, EqualWhereKnown, EqualOverEvents, NothingClashes, NothingStops};
 ghost use Rattle.ds_replica.specs.Messages.{SnapshotIsWhole, SinceIsTurn, SinceExtends, PageIsTurn, CheckIsTurn};
 ghost use Rattle.ds_replica.specs.Rows.{ReplicasConverge, ReplicasDiffer, MapsCatchUp, MapsLag, MapsLead};
@@ -50,6 +51,7 @@ pub fn messages_are_whole()
     ensures extends { SinceExtends }
     ensures page { PageIsTurn }
     ensures check { CheckIsTurn }
+    ensures checks { ChecksAreWhole }
 {}
 
 /// What a holder knows it keeps until it is emptied; where it knows a floor, it holds nothing that the floor makes void,
