@@ -46,8 +46,8 @@ module _ (account : Account) (w new : World) (f : Fits account w) where
       (asked_fits account w (asked_by h.reply) h.after (learnt_by a.state command h.reply) a.known f side (items_given h.reply)
       (asked_store account.brought a h.after command h.reply own step)
       (λ items e. message_given (account.brought ++ learnt_by a.state command h.reply) a.known items
-          (λ i k. own.accepted i (given_part a.state h.after command h.reply items own.reached step e i k))
-          (λ i k. Contains-append_left account.brought (learnt_by a.state command h.reply) i (own.within i k)))))
+      (λ i k. own.accepted i (given_part a.state h.after command h.reply items own.reached step e i k))
+      (λ i k. Contains-append_left account.brought (learnt_by a.state command h.reply) i (own.within i k)))))
     where
       a : StoreAccount
       a = store_of account side

@@ -85,7 +85,7 @@ module _ (account : Account) (w : World) (x : StoreAccount) (t : State) (learnt 
   }
 
 -- ---- a message
-items_given_back : (known items : List Item) → items_of (given known items) ≡ items
+pub items_given_back : (known items : List Item) → items_of (given known items) ≡ items
 items_given_back known [] = refl
 items_given_back known (i ∷ items) = ap (λ (l : List Item). i ∷ l) (items_given_back known items)
 

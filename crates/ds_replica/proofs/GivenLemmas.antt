@@ -45,9 +45,9 @@ given_reply s t command reply items (inl (inr w)) e = absurd (let n : None ≡ S
 given_reply s t command reply items (inr w) e = absurd (elim (plain_or_merge command) [
   | inl p ↦ p.room s t reply w
   | inr m ↦ (
-    let v = subst (λ (c : Command). MergeWantsRoom s c reply t) m.1 w in
-    let n : None ≡ Some items = sym (ap items_given v.1.reply_is) ∙ e in
-    cc)
+      let v = subst (λ (c : Command). MergeWantsRoom s c reply t) m.1 w in
+      let n : None ≡ Some items = sym (ap items_given v.1.reply_is) ∙ e in
+      cc)
 ])
 
 -- a command that isn't asked for items gets none
@@ -64,8 +64,9 @@ module _ (s : State) (r : IsReached s) where
   held_accepted : IsPartOf (held s) s.feed.accepted
   held_accepted = (held_is_top s r).among
 
-  check_part : (sub max : ℕ) (items : List Item) → items_given (checking s sub max).0 ≡ Some items → IsPartOf items s.feed.accepted
-  check_part sub max items e x h = held_accepted x (by_case (subscription_at s sub) (first_refusal (against_check (check_case s sub max (subscription_at s sub)))) e)
+  -- a check that gave items was asked for a subscription, and gave the first that are unseen
+  pub check_given : (sub max : ℕ) (items : List Item) → items_given (checking s sub max).0 ≡ Some items → (seer : Subscription) × (subscription_at s sub ≡ Some seer) × (take max (unseen s seer) ≡ items)
+  check_given sub max items e = by_case (subscription_at s sub) refl (first_refusal (against_check (check_case s sub max (subscription_at s sub)))) e
     where
       shown_given : (seer : Subscription) (l : List Item) → items_given (shows s sub seer l).0 ≡ Some l
       shown_given seer [] = refl
@@ -74,12 +75,15 @@ module _ (s : State) (r : IsReached s) where
       out : Option Subscription → Option Refusal → Reply × State
       out o p = option_map_or {U = Reply × State} (λ f. (Refused f, s)) p (option_map_or {U = Reply × State} (λ f. shows s sub f (take max (unseen s f))) o (Refused refusals.NotFound, s))
 
-      by_case : (o : Option Subscription) (p : Option Refusal) → items_given (out o p).0 ≡ Some items → Contains (held s) x
-      by_case o (Some f) q = absurd (let n : None ≡ Some items = q in cc)
-      by_case None None q = absurd (let n : None ≡ Some items = q in cc)
-      by_case (Some seer) None q =
-          let same = some_same (take max (unseen s seer)) items (sym (shown_given seer (take max (unseen s seer))) ∙ q) in
-          (Contains-from_filter (is_unseen seer.query seer.shown) (held s) x (Contains-from_take max (unseen s seer) x (subst (λ (l : List Item). Contains l x) (sym same) h))).0
+      by_case : (o : Option Subscription) → subscription_at s sub ≡ o → (p : Option Refusal) → items_given (out o p).0 ≡ Some items → (seer : Subscription) × (subscription_at s sub ≡ Some seer) × (take max (unseen s seer) ≡ items)
+      by_case o h (Some f) q = absurd (let n : None ≡ Some items = q in cc)
+      by_case None h None q = absurd (let n : None ≡ Some items = q in cc)
+      by_case (Some seer) h None q = (seer, h, some_same (take max (unseen s seer)) items (sym (shown_given seer (take max (unseen s seer))) ∙ q))
+
+  check_part : (sub max : ℕ) (items : List Item) → items_given (checking s sub max).0 ≡ Some items → IsPartOf items s.feed.accepted
+  check_part sub max items e x h =
+      let g = check_given sub max items e in
+      held_accepted x (Contains-from_filter (is_unseen g.0.query g.0.shown) (held s) x (Contains-from_take max (unseen s g.0) x (subst (λ (l : List Item). Contains l x) (sym g.2) h))).0
 
   prefix_part : (test : Item → Bool) (max : ℕ) (items : List Item) → IsPartOf (prefix test max items) items
   prefix_part test zero items x h = absurd (Contains-nil x h)

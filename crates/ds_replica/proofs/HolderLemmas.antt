@@ -127,8 +127,8 @@ module _ (account : Account) (w : World) (j : ℕ) (m : MapAccount) (side : Side
   exact n part =
       let own = own_fits account w side f in
       let equal = (wholes.holds_the_stores s.feed (is_under m.query) m.taken (held s) at.0.held (held_is_top s own.reached) at.2.map all.whole
-          (λ i h. own.top.greatest i (part i h))
-          (single_under (is_under m.query) (known_by m) account.brought (map_within account w f m at.0 at.2) n)).0 in
+      (λ i h. own.top.greatest i (part i h))
+      (single_under (is_under m.query) (known_by m) account.brought (map_within account w f m at.0 at.2) n)).0 in
       map_is ∙ (equal ∙ ap (λ (x : State). under (is_under m.query) (held x)) same)
 
   pub least : CoversAll (held_at w (Map j)) (under (is_under m.query) (held_at w (Store side)))

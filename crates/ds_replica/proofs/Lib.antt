@@ -12,3 +12,4 @@ pub mod MessageLemmas
 pub mod ClashLemmas
 pub mod RowLemmas
 pub mod BringLemmas
+pub mod CheckLemmas

@@ -16,10 +16,12 @@ use Rattle.ds_whole.specs.Front.{IsFront}
 use Rattle.ds_whole.specs.Whole.{IsWhole}
 use Rattle.ds_whole.specs.Journaled.{SinceTurn}
 use Rattle.ds_whole.specs.Paged.{PageTurn}
+use Rattle.ds_whole.specs.Checked.{CheckTurn}
 use Rattle.ds_whole.proofs.WholeLemmas as wholes
 use Rattle.ds_whole.proofs.JournalLemmas as journals
 use Rattle.ds_machine.specs.Scope.{keeps, is_kept}
-use Rattle.ds_machine.specs.State.{State, held, cursor}
+use Rattle.ds_machine.specs.State.{State, held, cursor, unseen}
+use Rattle.ds_machine.specs.Subscription.{Subscription}
 use Rattle.ds_machine.specs.Order.{by_command, by_room, first_refusal}
 use Rattle.ds_machine.specs.Calling.{against_scope, against_since, against_page}
 use Rattle.ds_machine.specs.Machine.{Step, outcome}
@@ -27,7 +29,7 @@ use Rattle.ds_machine.specs.declared.refusal.Refusal.{Refusal}
 use Rattle.ds_machine.specs.declared.refusal.Refusal.TheVariants as refusals
 use Rattle.ds_machine.specs.declared.command.Scope.{Scope}
 use Rattle.ds_machine.specs.declared.command.Command.{Command}
-use Rattle.ds_machine.specs.declared.command.Command.TheVariants.{Since, Snapshot, Page}
+use Rattle.ds_machine.specs.declared.command.Command.TheVariants.{Check, Since, Snapshot, Page}
 use Rattle.ds_machine.specs.declared.reply.Reply.{Reply}
 use Rattle.ds_machine.specs.declared.reply.Reply.TheVariants.{Journaled, Snapped, Paged, Refused}
 use Rattle.ds_machine.proofs.PartLemmas.{missing}
@@ -44,9 +46,9 @@ use Rattle.ds_replica.specs.World.{World}
 use Rattle.ds_replica.specs.Happens.{items_given, ask_outcome, Asks}
 use Rattle.ds_replica.specs.Known.{StoreAccount, Account, store_of, with_account, with_sent, delivered, sent_first, extended, extended_all}
 use Rattle.ds_replica.specs.Fits.{FitsStore, FitsMessage}
-use Rattle.ds_replica.specs.Messages.{IsAsked, after, feed_of, IsMessage, SnapshotIsWhole, SinceIsTurn, PageIsTurn, SinceExtends}
+use Rattle.ds_replica.specs.Messages.{IsAsked, after, feed_of, IsMessage, SnapshotIsWhole, SinceIsTurn, PageIsTurn, SinceExtends, CheckIsTurn}
 use Rattle.ds_replica.proofs.FitLemmas.{store_fits, own_fits}
-use Rattle.ds_replica.proofs.GivenLemmas.{given_reply, given_unless}
+use Rattle.ds_replica.proofs.GivenLemmas.{given_reply, given_unless, check_given}
 use Rattle.ds_replica.proofs.TurnLemmas.{goes_on, front_of}
 
 -- ---- messages stay
@@ -111,7 +113,7 @@ module _ (account : Account) (w late : World) (side : Side) (command : Command) 
       let place : k ≡ length w.messages = cc in
       let long = AllZip-long (FitsMessage account.brought) account.messages w.messages h.fits.messages in
       let here : slice_get (account.messages ++ given (store_of account side).known items ∷ []) k ≡ Some (given (store_of account side).known items) =
-          ap (slice_get (account.messages ++ given (store_of account side).known items ∷ [])) (place ∙ long) ∙ last_at account.messages (given (store_of account side).known items) in
+      ap (slice_get (account.messages ++ given (store_of account side).known items ∷ [])) (place ∙ long) ∙ last_at account.messages (given (store_of account side).known items) in
       record {
         items = items;
         given_is = is;
@@ -133,7 +135,7 @@ snapshot_is_whole account w late side scope query k events h keep =
       given a.known g.items,
       g.message,
       wholes.whole_stays a.state.feed (feed_of (after account side (Snapshot scope) k events) side) query (given a.known g.items) (position a.state.feed) (front account w late side (Snapshot scope) k events h) (omega arith)
-      (subst (λ (l : List Item). IsWhole a.state.feed query (given a.known l) (position a.state.feed)) same whole),
+          (subst (λ (l : List Item). IsWhole a.state.feed query (given a.known l) (position a.state.feed)) same whole),
     )
 
 -- ---- the journal
@@ -176,7 +178,7 @@ since_extends account w late side scope query at max k events items h keep whole
       t.2,
       t.3,
       subst (λ (l : List Sent). IsWhole now query (items ++ l) t.0.since.cursor.position) (append-nil (given t.0.known t.0.since.items))
-      (journals.sinces_extend now (keeps scope) query items at (t.0 ∷ []) keep (t.2, tt) whole),
+          (journals.sinces_extend now (keeps scope) query items at (t.0 ∷ []) keep (t.2, tt) whole),
     )
 
 -- ---- pages
@@ -201,4 +203,29 @@ page_is_turn account w late side scope behind max k events h =
       refl,
       record { front = front account w late side (Page scope behind max) k events h; knows = own.accepted; top = held_is_top a.state own.reached; given = refl },
       subst (λ (l : List Item). IsMessage (after account side (Page scope behind max) k events) k (given a.known l)) (sym same) g.message,
+    )
+
+-- ---- checks
+check_turn : (account : Account) (side : Side) (seer : Subscription) (max : ℕ) → CheckTurn
+check_turn account side seer max = record {
+  feed = feed_of account side;
+  known = (store_of account side).known;
+  held = held (store_of account side).state;
+  max = max;
+  items = take max (unseen (store_of account side).state seer);
+}
+
+pub check_is_turn : CheckIsTurn
+unfolding check_turn
+check_is_turn account w late side sub max k events early h earlier =
+    let a = store_of account side in
+    let own = own_fits account w side h.fits in
+    let g = gave account w late side (Check sub max) k events h in
+    let c = check_given a.state own.reached sub max g.items g.given_is in (
+      c.0,
+      c.1,
+      check_turn account side c.0 max,
+      refl,
+      record { later = earlier; front = front account w late side (Check sub max) k events h; knows = own.accepted; top = held_is_top a.state own.reached; given = refl },
+      subst (λ (l : List Item). IsMessage (after account side (Check sub max) k events) k (given a.known l)) (sym c.2) g.message,
     )

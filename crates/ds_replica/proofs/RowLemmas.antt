@@ -62,22 +62,25 @@ replicas_converge = record {
       (refl, record { reply = Snapped (record { items = driver ∷ []; cursor = record { incarnation = 1; position = 1 } }); after = after_publish; step = inl (inl (record { reply_is = refl; state_is = refl })); outcome_is = refl; world_is = refl }),
       (
         delivered,
-        (refl, record {
-          items = driver ∷ [];
-          there = refl;
-          tally = record { done = 1; taken = 1; stale = 0; owed = 0; stop = None };
-          taken = record {
-            after = accepts (opening 2 0 4 larger) (driver ∷ []);
-            takes = record {
-              groups = (driver ∷ []) ∷ [];
-              all = refl;
-              few = few_there driver;
-              merged = (AllMerged 1 1 0 0, accepts (opening 2 0 4 larger) (driver ∷ []), inl (inl (record { reply_is = refl; state_is = refl })), (record { done = 0; taken = 0; stale = 0; owed = 0; stop = None }, (refl, refl), refl));
+        (
+          refl,
+          record {
+            items = driver ∷ [];
+            there = refl;
+            tally = record { done = 1; taken = 1; stale = 0; owed = 0; stop = None };
+            taken = record {
+              after = accepts (opening 2 0 4 larger) (driver ∷ []);
+              takes = record {
+                groups = (driver ∷ []) ∷ [];
+                all = refl;
+                few = few_there driver;
+                merged = (AllMerged 1 1 0 0, accepts (opening 2 0 4 larger) (driver ∷ []), inl (inl (record { reply_is = refl; state_is = refl })), (record { done = 0; taken = 0; stale = 0; owed = 0; stop = None }, (refl, refl), refl));
+              };
+              world_is = refl;
             };
-            world_is = refl;
-          };
-          outcome_is = refl;
-        }),
+            outcome_is = refl;
+          },
+        ),
         refl,
       ),
     ),
@@ -134,13 +137,16 @@ module _ (query : Query) (e : pattern_fault query ≡ None) where
           (refl, record { reply = Snapped (record { items = floor ∷ []; cursor = record { incarnation = 1; position = 1 } }); after = swept_at 1; step = inl (inl (record { reply_is = refl; state_is = refl })); outcome_is = refl; world_is = refl }),
           (
             record at_a { maps = map_with (floor ∷ []) ∷ []; messages = (floor ∷ []) ∷ [] },
-            (refl, record {
-              items = floor ∷ [];
-              there = refl;
-              tally = record { done = 1; taken = 1; stale = 0; owed = 0; stop = None };
-              taken = record { old = map_with []; there = refl; after = map_with (floor ∷ []); takes = record { query = refl; top = itself; counted = omega arith; owed = refl; ends = refl }; world_is = refl };
-              outcome_is = refl;
-            }),
+            (
+              refl,
+              record {
+                items = floor ∷ [];
+                there = refl;
+                tally = record { done = 1; taken = 1; stale = 0; owed = 0; stop = None };
+                taken = record { old = map_with []; there = refl; after = map_with (floor ∷ []); takes = record { query = refl; top = itself; counted = omega arith; owed = refl; ends = refl }; world_is = refl };
+                outcome_is = refl;
+              },
+            ),
             refl,
           ),
         ),
@@ -166,13 +172,16 @@ module _ (query : Query) (e : pattern_fault query ≡ None) where
           (refl, record { reply = Snapped (record { items = floor ∷ []; cursor = record { incarnation = 2; position = 1 } }); after = swept_at 2; step = inl (inl (record { reply_is = refl; state_is = refl })); outcome_is = refl; world_is = refl }),
           (
             record at_b { maps = map_with (floor ∷ []) ∷ []; messages = (floor ∷ []) ∷ [] },
-            (refl, record {
-              items = floor ∷ [];
-              there = refl;
-              tally = record { done = 1; taken = 1; stale = 0; owed = 0; stop = None };
-              taken = record { old = map_with []; there = refl; after = map_with (floor ∷ []); takes = record { query = refl; top = itself; counted = omega arith; owed = refl; ends = refl }; world_is = refl };
-              outcome_is = refl;
-            }),
+            (
+              refl,
+              record {
+                items = floor ∷ [];
+                there = refl;
+                tally = record { done = 1; taken = 1; stale = 0; owed = 0; stop = None };
+                taken = record { old = map_with []; there = refl; after = map_with (floor ∷ []); takes = record { query = refl; top = itself; counted = omega arith; owed = refl; ends = refl }; world_is = refl };
+                outcome_is = refl;
+              },
+            ),
             refl,
           ),
         ),

@@ -61,12 +61,12 @@ merges_ran [] s new tally m = ran_same s new m.1
 merges_ran (group ∷ groups) s new tally m = followed s m.1 new group (λ t n. AreMerged m.1 groups t n) m.0 tally (λ later a. merges_ran groups m.1 new later a) m.2 m.3
 
 -- ---- events
-items_store : (w : World) (o : Option (List Item)) (side : Side) → store_at (with_items w o) side ≡ store_at w side
+pub items_store : (w : World) (o : Option (List Item)) (side : Side) → store_at (with_items w o) side ≡ store_at w side
 items_store w None side = refl
 items_store w (Some items) A = refl
 items_store w (Some items) B = refl
 
-maps_store : (w : World) (maps : List MapState) (side : Side) → store_at (record w { maps = maps }) side ≡ store_at w side
+pub maps_store : (w : World) (maps : List MapState) (side : Side) → store_at (record w { maps = maps }) side ≡ store_at w side
 maps_store w maps A = refl
 maps_store w maps B = refl
 

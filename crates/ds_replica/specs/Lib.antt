@@ -8,4 +8,5 @@ pub mod CaughtUp
 pub mod Bringing
 pub mod Turns
 pub mod Messages
+pub mod Checks
 pub mod Rows

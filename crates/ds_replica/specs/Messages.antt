@@ -4,15 +4,20 @@ use Rattle.std.specs.List.{slice_get}
 use Rattle.ds_names.specs.declared.key.Key.{Key}
 use Rattle.ds_feed.specs.declared.cursor.Cursor.{Cursor}
 use Rattle.ds_feed.specs.Feed.{Feed, position}
+use Rattle.ds_pattern.specs.Under.{is_under}
 use Rattle.ds_whole.specs.Under.{Keeps}
 use Rattle.ds_whole.specs.Sent.{Sent, given}
+use Rattle.ds_whole.specs.Front.{IsFront}
 use Rattle.ds_whole.specs.Whole.{IsWhole}
+use Rattle.ds_whole.specs.Checked.{CheckTurn, IsCheckTurn}
 use Rattle.ds_whole.specs.Journaled.{SinceTurn, IsSinceTurn}
 use Rattle.ds_whole.specs.Paged.{PageTurn, IsPageTurn}
 use Rattle.ds_machine.specs.Scope.{keeps}
+use Rattle.ds_machine.specs.Subscription.{Subscription}
+use Rattle.ds_machine.specs.State.{subscription_at}
 use Rattle.ds_machine.specs.declared.command.Scope.{Scope}
 use Rattle.ds_machine.specs.declared.command.Command.{Command}
-use Rattle.ds_machine.specs.declared.command.Command.TheVariants.{Since, Snapshot, Page}
+use Rattle.ds_machine.specs.declared.command.Command.TheVariants.{Check, Since, Snapshot, Page}
 use Rattle.ds_replica.specs.declared.event.Side.{Side}
 use Rattle.ds_replica.specs.declared.event.Holder.TheVariants.{Store}
 use Rattle.ds_replica.specs.declared.event.Event.{Event}
@@ -73,3 +78,11 @@ SinceExtends =
     let now = after account side (Since scope at max) k events in
     IsWhole (feed_of now side) query items at.position →
     (t : SinceTurn) × IsSinceTurn (feed_of now side) (keeps scope) at t × IsMessage now k (given t.known t.since.items) × IsWhole (feed_of now side) query (items ++ given t.known t.since.items) t.since.cursor.position
+
+-- and so is a check, of the subscription as the store's state has it when it is asked; `early` is any earlier time
+abbrev pub CheckIsTurn : Type 0
+CheckIsTurn =
+    (account : Account) (w late : World) (side : Side) (sub max k : ℕ) (events : List (Event × Outcome)) (early : Feed) → IsAsked account w side (Check sub max) k events late → IsFront early (feed_of account side) →
+    let now = after account side (Check sub max) k events in
+    (seer : Subscription) × (subscription_at (store_of account side).state sub ≡ Some seer) × (t : CheckTurn) × (t.max ≡ max) × IsCheckTurn early (feed_of now side) (is_under seer.query) seer.shown t
+    × IsMessage now k (given t.known t.items)

@@ -2,8 +2,9 @@
 
 ghost use Rattle.ds_replica.specs.Bringing.{EventsBringItems};
 ghost use Rattle.ds_replica.specs.CaughtUp.{WholeIsAll, HoldsTheStores, HoldsAtLeast, LabelsAreNewest};
+ghost use Rattle.ds_replica.specs.Checks.{ChecksAreWhole};
 ghost use Rattle.ds_replica.specs.Headline.{AccountFitsAtStart, EventsFit, EqualWhereKnown, EqualOverEvents, NothingClashes, NothingStops};
-ghost use Rattle.ds_replica.specs.Messages.{SnapshotIsWhole, SinceIsTurn, SinceExtends, PageIsTurn};
+ghost use Rattle.ds_replica.specs.Messages.{SnapshotIsWhole, SinceIsTurn, SinceExtends, PageIsTurn, CheckIsTurn};
 ghost use Rattle.ds_replica.specs.Rows.{ReplicasConverge, ReplicasDiffer, MapsCatchUp, MapsLag, MapsLead};
 ghost use Rattle.ds_replica.specs.Turns.{TurnsAreRun, WholeStays, KnownStays, NothingBelowFloors, FloorsStand};
 
@@ -40,7 +41,8 @@ pub fn items_are_brought()
 {}
 
 /// In a list of events a store's turns are a run of its machine, what is whole for it stays so, and each message that it
-/// gave leaves out nothing: snapshots and the journal are whole, and pages are what the law of pages asks for.
+/// gave leaves out nothing: snapshots and the journal are whole, and pages and checks are what
+/// the laws of pages and of checks ask for.
 pub fn messages_are_whole()
     ensures turns { TurnsAreRun }
     ensures stays { WholeStays }
@@ -48,6 +50,8 @@ pub fn messages_are_whole()
     ensures since { SinceIsTurn }
     ensures extends { SinceExtends }
     ensures page { PageIsTurn }
+    ensures check { CheckIsTurn }
+    ensures checks { ChecksAreWhole }
 {}
 
 /// What a holder knows it keeps until it is emptied; where it knows a floor, it holds nothing that the floor makes void,

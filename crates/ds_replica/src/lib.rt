@@ -13,7 +13,8 @@ mod seed;
 
 pub use event::{Event, Holder, Side};
 pub use laws::{
-    accounts_fit, floors_stand, holders_agree, items_are_brought, maps_catch_up, messages_are_whole, rows_happen,
+    accounts_fit, floors_stand, holders_agree, items_are_brought, maps_catch_up,
+    messages_are_whole, rows_happen,
 };
 pub use outcome::{EventFault, Outcome};
 pub use seed::Seed;
