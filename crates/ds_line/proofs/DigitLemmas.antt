@@ -42,7 +42,8 @@ hex_below c h = grind (arith, nat_tests)
 digit_there : (c : ℕ) → is_hex_byte c ≡ true → (digit_of c < 16) × (slice_index lower_digits (digit_of c) ≡ c)
 digit_there c h = placed c (is_hex_byte c) h (placed_at 103 c refl (hex_below c h))
 
-bytes_more : (b : ℕ) (rest : List ℕ) → b < 256 → IsBytes rest → IsBytes (b ∷ rest)
+-- one byte more at the front
+pub bytes_more : (b : ℕ) (rest : List ℕ) → b < 256 → IsBytes rest → IsBytes (b ∷ rest)
 bytes_more b rest h hs zero = h
 bytes_more b rest h hs (suc i) = hs i
 
@@ -87,6 +88,10 @@ written_at (suc n) d h lt =
       | inl below ↦ written_at n d parts.1 below
       | inr top ↦ (let e : d ≡ n = omega arith in rw e parts.0)
     ]
+
+-- the digit of a number is one
+pub first_digit : (d : ℕ) → d < 16 → is_hex_byte (slice_index lower_digits d) ≡ true
+first_digit d lt = written_at 16 d refl lt
 
 both : (p q : Bool) → p ≡ true → q ≡ true → (p && q) ≡ true
 both p q h k = rw (h, k) refl

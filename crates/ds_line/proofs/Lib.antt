@@ -1,5 +1,6 @@
 pub mod QuoteLemmas
 pub mod DigitLemmas
+pub mod HexLemmas
 pub mod PartLemmas
 pub mod StepLemmas
 pub mod TextLemmas

@@ -49,17 +49,23 @@ impl Model for Name {
     ghost inverse_ok = { λ a h. block_of-name_of a h };
 }
 
+// Each byte that a name may hold stands at its own place, and a comma at every other place.
+static NAME_BYTES: [u8; 256] = *b"\
+    ,,,,,,,,,,,,,,,,,,,,,,,,,,,,,,,,\
+    ,,,,,,,,,,,,,-.,0123456789,,,,,,\
+    ,ABCDEFGHIJKLMNOPQRSTUVWXYZ,,,,_\
+    ,abcdefghijklmnopqrstuvwxyz,,,,,\
+    ,,,,,,,,,,,,,,,,,,,,,,,,,,,,,,,,\
+    ,,,,,,,,,,,,,,,,,,,,,,,,,,,,,,,,\
+    ,,,,,,,,,,,,,,,,,,,,,,,,,,,,,,,,\
+    ,,,,,,,,,,,,,,,,,,,,,,,,,,,,,,,,";
+
 /// Whether a name may hold the byte.
-#[tactic(auto, unfolding(crate::specs::Name::is_name_byte))]
+#[inline]
 pub fn is_name_byte(b: u8) -> bool
     ensures { result ≡ is_name_byte b }
 {
-    b.is_ascii_digit()
-        || b.is_ascii_uppercase()
-        || b.is_ascii_lowercase()
-        || b == b'.'
-        || b == b'_'
-        || b == b'-'
+    NAME_BYTES[usize::from(b)] != b','
 }
 
 impl Name {
