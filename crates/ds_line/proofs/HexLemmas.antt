@@ -1,5 +1,5 @@
 -- Reading the hex of a blob byte by byte into a block.
-use Rattle.std.proofs.Common.{◌≡◌, ◌≢◌, ℕ, zero, suc, ◌+◌, ◌*◌, ◌/◌, ◌%◌, ◌<◌, ◌≤◌, true, inl, inr, List, [], ◌∷◌, ◌++◌, length, get_or, slice_index, take, drop, refl, sym, ap, subst, ◌∙◌, append_assoc, arith}
+use Rattle.std.proofs.Common.{◌≡◌, ◌≢◌, ℕ, suc, ◌+◌, ◌*◌, ◌/◌, ◌%◌, ◌<◌, ◌≤◌, true, List, [], ◌∷◌, ◌++◌, length, get_or, slice_index, take, drop, refl, sym, ap, subst, ◌∙◌, append_assoc, arith}
 use Rattle.std.proofs.Math.ListN.{set}
 use Rattle.std.proofs.lemmas.Bool.{false≢true}
 use Rattle.std.proofs.lemmas.List.{length-set, length-take-le}
@@ -30,9 +30,9 @@ pair_is h l m n r lt_m lt_n is_h is_l =
     let upper : (m * 16 + n) / 16 ≡ m = omega (arith, lt_m, lt_n) in
     let under : (m * 16 + n) % 16 ≡ n = omega (arith, lt_m, lt_n) in
     sym (ap (λ (d : ℕ). slice_index lower_digits d ∷ slice_index lower_digits ((m * 16 + n) % 16) ∷ r) upper
-        ∙ ap (λ (d : ℕ). slice_index lower_digits m ∷ slice_index lower_digits d ∷ r) under
-        ∙ ap (λ (x : ℕ). x ∷ slice_index lower_digits n ∷ r) is_h
-        ∙ ap (λ (x : ℕ). h ∷ x ∷ r) is_l)
+    ∙ ap (λ (d : ℕ). slice_index lower_digits m ∷ slice_index lower_digits d ∷ r) under
+    ∙ ap (λ (x : ℕ). x ∷ slice_index lower_digits n ∷ r) is_h
+    ∙ ap (λ (x : ℕ). h ∷ x ∷ r) is_l)
 
 -- ---- byte by byte
 

@@ -1,6 +1,5 @@
-use Rattle.std.proofs.Common.{◌≡◌, ◌≢◌, ℕ, ◌+◌, ◌++◌, ◌∷◌, [], ◌<◌, List, slice_index, length, sym, ap, ◌∙◌, arith}
-use Rattle.std.specs.Prelude.{IfNone}
-use Rattle.hex.specs.Hex.{encode_lower, lower_digits}
+use Rattle.std.proofs.Common.{◌≡◌, ◌≢◌, ℕ, ◌+◌, ◌++◌, ◌∷◌, [], ◌<◌, List, length, sym, ap, ◌∙◌, arith}
+use Rattle.hex.specs.Hex.{encode_lower}
 use Rattle.ds_line.proofs.HexLemmas.{too_short, pair_written, pair_is}
 use Rattle.ds_line.proofs.hex_digits.pair_at.Goals as goal
 use Rattle.ds_line.proofs.hex_digits.pair_at.Goals.{then-high-gt15-via-then-high-gt15, then-high-gt15-via-else-high-gt15+then-low-gt15}

@@ -1,8 +1,7 @@
-use Rattle.std.proofs.Common.{◌≡◌, ◌-◌, ◌++◌, List, ℕ, [], ◌∷◌, length, take, drop, refl, sym, ap, append_assoc, append-nil, ◌∙◌, arith}
-use Rattle.std.specs.List.{prefix_len}
+use Rattle.std.proofs.Common.{◌≡◌, ◌-◌, ◌++◌, [], ◌∷◌, take, drop, refl, sym, ap, append_assoc, append-nil, ◌∙◌, arith}
 use Rattle.std.proofs.lemmas.List.{take_at, take_all, length-drop}
 use Rattle.std.proofs.lemmas.List.Sums.{prefix_len-le-length}
-use Rattle.ds_line.specs.Spelling.{escaped, escaped_byte}
+use Rattle.ds_line.specs.Spelling.{escaped_byte}
 use Rattle.ds_line.proofs.PlainLemmas.{is_plain, run_written, run_more}
 use Rattle.ds_line.proofs.writing.append_escaped.Goals as goal
 
