@@ -1,5 +1,7 @@
 pub mod QuoteLemmas
 pub mod DigitLemmas
+pub mod HexLemmas
+pub mod PlainLemmas
 pub mod PartLemmas
 pub mod StepLemmas
 pub mod TextLemmas

@@ -98,18 +98,16 @@ fn blob_at<'a>(
     ensures found { IfOk result (λ r. Found (last_value Mem) r.0 bytes.now r.1.now) }
     ensures stop { IfErr result (λ stop. StopsValue Mem stop bytes.now) }
 {
-    let Some((digits, rest)) = hex_at(bytes) else {
+    let mut block = [0u8; 1024];
+    let Some((len, rest)) = hex_at(bytes, &mut block) else {
         return Err(stop_at(bytes));
     };
     *expected = Expected::End;
     let Some(rest) = read_byte(rest, b'\n') else {
         return Err(stop_at(rest));
     };
-    let Ok(decoded) = hex::decode(alloc, digits) else {
-        return Err(PartFault::NoRoom);
-    };
-    match Blob::of(decoded) {
-        Some(blob) => Ok((Value::Mem(blob), rest)),
-        None => unreachable!(),
+    match Blob::read(alloc, &block[..len]) {
+        Ok(blob) => Ok((Value::Mem(blob), rest)),
+        Err(_) => Err(PartFault::NoRoom),
     }
 }

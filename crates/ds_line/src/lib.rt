@@ -7,6 +7,7 @@
 
 mod expected;
 mod fault;
+mod hex_digits;
 mod item_laws;
 mod item_reading;
 mod item_writing;

@@ -1,13 +1,13 @@
 //! The values of texts and blobs, as they stand in a line.
 
-ghost use Rattle.std.specs.Prelude.{◌≡◌, ◌≢◌, ◌∷◌, ◌++◌, ◌≤◌, ◌*◌, List, ℕ, Ok, IfSome, IfNone, IsTrue, length, take};
-ghost use Rattle.std.specs.List.{prefix_len};
-ghost use Rattle.hex.specs.Hex.{decode_of, encode_lower};
+ghost use Rattle.std.specs.Prelude.{◌≡◌, ◌≢◌, ◌++◌, ◌≤◌, List, ℕ, IfSome, IfNone, IsTrue, take};
+ghost use Rattle.hex.specs.Hex.{encode_lower};
 ghost use Rattle.ds_names.specs.Run.{Begins};
 ghost use Rattle.ds_entry.specs.Value.{is_text_byte, IsText, IsBlob};
-ghost use Rattle.ds_line.specs.Part.{Quoted, Hex, run_of, is_hex_byte};
+ghost use Rattle.ds_line.specs.Part.{Quoted, Hex, run_of};
 ghost use Rattle.ds_line.specs.Spelling.{escaped_byte, quoted};
 
+use crate::hex_digits::{ends_digits, pair_at};
 use ds_names::read_byte;
 
 // Reads one byte of a text as it stands in quotes: `\"` is a quote and `\\` a backslash, and each other printable
@@ -60,29 +60,30 @@ pub fn quoted_at<'a>(bytes: &'a [u8], block: &mut [u8; 256]) -> Option<(usize, &
     Some((256, rest))
 }
 
-// How many digits and letters from `a` to `f` stand at the front.
-fn hex_len(bytes: &[u8]) -> usize
-    ensures { result ≡ prefix_len is_hex_byte bytes.now }
-{
-    bytes
-        .iter()
-        .take_while(|b| matches!(**b, b'0'..=b'9' | b'a'..=b'f'))
-        .count()
-}
-
-/// Reads the hex of a blob at the front, which is the longest run of digits and letters from `a` to `f`, and gives
-/// it with what comes behind it. `None` where that run is the hex of no blob: it is odd, or above 2048 digits.
-pub fn hex_at(bytes: &[u8]) -> Option<(&[u8], &[u8])>
-    ensures found { IfSome result (λ r. Begins (run_of Hex) bytes.now r.0.now r.1.now) }
-    ensures valid { IfSome result (λ r. (blob : List ℕ) × IsBlob blob × (r.0.now ≡ encode_lower blob) × (decode_of r.0.now ≡ Ok blob)) }
+/// Reads the hex of a blob at the front, writes the bytes of the blob to the front of a block, and gives how many they
+/// are and what comes behind the longest run of digits and letters from `a` to `f`. `None` where that run is the hex of
+/// no blob: it is odd, or above 2048 digits.
+pub fn hex_at<'a>(bytes: &'a [u8], block: &mut [u8; 1024]) -> Option<(usize, &'a [u8])>
+    ensures found { IfSome result (λ r. Begins (run_of Hex) bytes.now (encode_lower (take r.0 block.new)) r.1.now) }
+    ensures fits { IfSome result (λ r. r.0 ≤ 1024) }
+    ensures valid { IfSome result (λ r. IsBlob (take r.0 block.new)) }
     ensures none { IfNone result ((blob rest : List ℕ) → IsBlob blob → ¬ Begins (run_of Hex) bytes.now (encode_lower blob) rest) }
 {
-    let (digits, rest) = bytes.split_at(hex_len(bytes));
-    if digits.len() % 2 == 1 {
-        return None;
+    let mut rest = bytes;
+    for len in 0..1024usize {
+        let Some((byte, behind)) = pair_at(rest) else {
+            return if ends_digits(rest) {
+                Some((len, rest))
+            } else {
+                None
+            };
+        };
+        block[len] = byte;
+        rest = behind;
     }
-    if digits.len() > 2048 {
-        return None;
+    if ends_digits(rest) {
+        Some((1024, rest))
+    } else {
+        None
     }
-    Some((digits, rest))
 }

@@ -1,7 +1,7 @@
 //! Writing the line of a change, and the value alone.
 
-ghost use Rattle.std.specs.Prelude.{◌≡◌, ◌≤◌, ◌++◌, List, ℕ, [], ◌∷◌, length, drop, OnOk, OnErr, IfOk};
-ghost use Rattle.std.specs.List.{flat_map};
+ghost use Rattle.std.specs.Prelude.{◌≡◌, ◌==◌, ◌||◌, not, ◌≤◌, ◌++◌, List, ℕ, [], ◌∷◌, length, drop, OnOk, OnErr, IfOk};
+ghost use Rattle.std.specs.List.{flat_map, prefix_len};
 ghost use Rattle.hex.specs.Hex.{encode_lower};
 ghost use Rattle.ds_line.specs.Part.{texts};
 ghost use Rattle.ds_line.specs.Spelling.{body_parts, escaped, escaped_byte, quoted, spelling, value_part};
@@ -138,15 +138,29 @@ fn append_escaped(buffer: &mut Vec<u8>, text: &[u8]) -> Result<(), NoRoom>
     ensures unchanged { OnErr result (buffer.new.items ≡ buffer.old.items) }
 {
     let start = buffer.len();
-    for byte in text {
-        let with_backslash = [b'\\', *byte];
-        let spelled = &with_backslash[spelled_from(*byte)..];
-        if buffer.extend_from_slice(spelled).is_err() {
-            buffer.truncate(start);
-            return Err(NoRoom);
+    let mut rest = text;
+    while let Some((first, behind)) = rest.split_first() {
+        let with_backslash = [b'\\', *first];
+        let spelled = &with_backslash[spelled_from(*first)..];
+        let (plain, more) = behind.split_at(plain_len(behind));
+        match append_all(buffer, &[spelled, plain]) {
+            Ok(()) => rest = more,
+            Err(fault) => {
+                buffer.truncate(start);
+                return Err(fault);
+            }
         }
     }
     Ok(())
+}
+
+// How many bytes at the front stand for themselves in quotes.
+fn plain_len(text: &[u8]) -> usize
+    ensures { result ≡ prefix_len (λ b. not (b == 34 || b == 92)) text.now }
+{
+    text.iter()
+        .take_while(|b| !(**b == b'"' || **b == b'\\'))
+        .count()
 }
 
 // Where a byte as it stands in quotes begins, in a backslash and the byte.

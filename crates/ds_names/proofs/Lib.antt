@@ -1,3 +1,4 @@
 pub mod NameBlockLemmas
 pub mod DecimalLemmas
 pub mod OrderLemmas
+pub mod WordLemmas

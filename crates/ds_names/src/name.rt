@@ -1,6 +1,7 @@
 //! Names of entries and owners.
 
-ghost use Rattle.std.specs.Prelude.{◌≡◌, ℕ, ◌<◌, ◌≤◌, ◌↔◌, length, IsTrue};
+ghost use Rattle.std.specs.Prelude.{◌≡◌, ℕ, ◌*◌, ◌<◌, ◌≤◌, ◌↔◌, length, take, drop, IsTrue};
+ghost use Rattle.std.specs.Int.{from_be_bytes, w64};
 ghost use Rattle.std.specs.Bool.{◌==◌};
 ghost use Rattle.std.proofs.Common.{rules};
 ghost use Rattle.std.proofs.lemmas.Cmp.{nat_list_cmp_total, nat_list_eq_equiv};
@@ -49,17 +50,23 @@ impl Model for Name {
     ghost inverse_ok = { λ a h. block_of-name_of a h };
 }
 
+// Each byte that a name may hold stands at its own place, and a comma at every other place.
+static NAME_BYTES: [u8; 256] = *b"\
+    ,,,,,,,,,,,,,,,,,,,,,,,,,,,,,,,,\
+    ,,,,,,,,,,,,,-.,0123456789,,,,,,\
+    ,ABCDEFGHIJKLMNOPQRSTUVWXYZ,,,,_\
+    ,abcdefghijklmnopqrstuvwxyz,,,,,\
+    ,,,,,,,,,,,,,,,,,,,,,,,,,,,,,,,,\
+    ,,,,,,,,,,,,,,,,,,,,,,,,,,,,,,,,\
+    ,,,,,,,,,,,,,,,,,,,,,,,,,,,,,,,,\
+    ,,,,,,,,,,,,,,,,,,,,,,,,,,,,,,,,";
+
 /// Whether a name may hold the byte.
-#[tactic(auto, unfolding(crate::specs::Name::is_name_byte))]
+#[inline]
 pub fn is_name_byte(b: u8) -> bool
     ensures { result ≡ is_name_byte b }
 {
-    b.is_ascii_digit()
-        || b.is_ascii_uppercase()
-        || b.is_ascii_lowercase()
-        || b == b'.'
-        || b == b'_'
-        || b == b'-'
+    NAME_BYTES[usize::from(b)] != b','
 }
 
 impl Name {
@@ -93,6 +100,33 @@ impl Name {
     }
 }
 
+// How the blocks of two names stand to each other, byte by byte. Eight bytes are compared at a time, as a number. No name
+// has a zero byte, so the zeros behind it change nothing.
+#[inline]
+fn block_order(mine: &[u8; 64], theirs: &[u8; 64]) -> Ordering
+    ensures { result ≡ slice_cmp nat_cmp mine.now theirs.now }
+{
+    for at in 0..8usize {
+        let (one, other) = (word_at(mine, at), word_at(theirs, at));
+        if one != other {
+            return one.cmp(&other);
+        }
+    }
+    Ordering::Equal
+}
+
+// The number that the eight bytes of this place spell, the highest first.
+#[inline(always)]
+fn word_at(block: &[u8; 64], at: usize) -> u64
+    requires { at < 8 }
+    ensures { result ≡ from_be_bytes w64 (take 8 (drop (8 * at) block.now)) }
+{
+    let Some((word, _)) = block[8 * at..].split_first_chunk::<8>() else {
+        unreachable!()
+    };
+    u64::from_be_bytes(*word)
+}
+
 impl PartialEq for Name {
     ghost eq = { pointwise ◌==◌ };
 
@@ -117,7 +151,7 @@ impl Ord for Name {
     ghost matches_eq = { Prim.search (comparing, rules) };
 
     fn cmp(&self, other: &Name) -> Ordering {
-        self.bytes().cmp(other.bytes())
+        block_order(&self.block, &other.block)
     }
 }
 
