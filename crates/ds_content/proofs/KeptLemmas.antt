@@ -11,18 +11,17 @@ use Rattle.ds_names.specs.declared.key.Key.{Key}
 use Rattle.ds_names.specs.Key.{name_cmp, key_cmp}
 use Rattle.ds_names.proofs.OrderLemmas.{keys_total, exact_keys}
 use Rattle.ds_entry.specs.Change.{ChangeRecord}
-use Rattle.ds_entry.specs.Floor.{floor_of}
 use Rattle.ds_entry.specs.declared.floor.Floor.{Floor}
 use Rattle.ds_entry.specs.declared.item.Item.{Item}
 use Rattle.ds_entry.specs.declared.item.Item.TheVariants.{Change as Changed, Floor as Floored}
-use Rattle.ds_entry.proofs.CoversLemmas.{same_key, same_key-refl, same_name, same_name-refl}
+use Rattle.ds_entry.proofs.CoversLemmas.{same_key-refl, same_name, same_name-refl}
 use Rattle.ds_join.specs.ItemTop.{IsTop}
 use Rattle.ds_join.specs.declared.merge.Merge.TheVariants.{Taken}
 use Rattle.ds_held.specs.Held.{Holding, held_items, held_for, floor_for, IsSound}
 use Rattle.ds_held.specs.Marked.{MarkedHolding, mark_for, floor_mark_for, HasMarks}
 use Rattle.ds_held.specs.Merge.{after_merge}
 use Rattle.ds_held.specs.Raise.{after_raise, at_kept_keys, stays}
-use Rattle.ds_held.proofs.HeldLemmas.{is_held, change_in, floor_in}
+use Rattle.ds_held.proofs.HeldLemmas.{is_held, change_in}
 use Rattle.ds_watch.specs.Mask.{padded}
 use Rattle.ds_watch.specs.Masks.{fresh}
 use Rattle.ds_watch.specs.Watching.{Watching}

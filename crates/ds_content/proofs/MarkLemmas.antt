@@ -12,7 +12,7 @@ use Rattle.ds_watch.specs.Followed.{Followed}
 use Rattle.ds_watch.specs.Watching.{Watching}
 use Rattle.ds_machine.specs.Scope.{is_item_under}
 use Rattle.ds_machine.specs.Subscription.{Subscription, is_unseen}
-use Rattle.ds_machine.specs.State.{State, held, accepts, subscription_at}
+use Rattle.ds_machine.specs.State.{State, held, accepts}
 use Rattle.ds_machine.specs.Reached.{IsReached}
 use Rattle.ds_machine.specs.Within.{IsWithin}
 use Rattle.ds_machine.specs.Effect.{IsNews}
@@ -21,7 +21,7 @@ use Rattle.ds_content.specs.Content.{ContentRecord}
 use Rattle.ds_content.specs.Followed.{followed_of, followed_by, followed_from, watches}
 use Rattle.ds_content.specs.Stands.{Stands}
 use Rattle.ds_content.proofs.FlagLemmas.{tests_at, flags_same}
-use Rattle.ds_content.proofs.TopLemmas.{held_more, not_held, unshown}
+use Rattle.ds_content.proofs.TopLemmas.{held_more, unshown}
 
 pub followed_same : {q r : Query} {m n : ℕ} {us vs : List Bool} → q ≡ r → m ≡ n → us ≡ vs → let one : Followed = record { query = q; stamp = m; unseen = us } in one ≡ record { query = r; stamp = n; unseen = vs }
 followed_same a b c = λ i. record { query = a i; stamp = b i; unseen = c i }

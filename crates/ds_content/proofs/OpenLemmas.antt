@@ -23,7 +23,6 @@ use Rattle.ds_machine.specs.State.{State, cursor, opening}
 use Rattle.ds_machine.proofs.WithinLemmas.{opening_is_within}
 use Rattle.ds_machine.specs.Reached.{IsReached}
 use Rattle.ds_machine.specs.Subscription.{Subscription}
-use Rattle.ds_content.specs.Content.{ContentRecord}
 use Rattle.ds_content.specs.Followed.{followed_of, followed_from}
 use Rattle.ds_content.specs.Kept.{AreMarked, unseen_at}
 use Rattle.ds_content.specs.Stands.{Stands}

@@ -1,5 +1,5 @@
 -- Pages of what is held.
-use Rattle.std.proofs.Common.{◌≡◌, ℕ, zero, suc, ◌+◌, ◌-◌, ◌<◌, ◌≤◌, ◌==◌, nat_le, Bool, true, false, not, ◌&&◌, cond, List, [], ◌∷◌, ◌++◌, map, filter, take, length, Option, Some, None, is_none, refl, ap, ap₂, sym, ◌∙◌, subst, arith, append_assoc, append-nil, length-append, eqb-true}
+use Rattle.std.proofs.Common.{◌≡◌, ℕ, zero, suc, ◌+◌, ◌-◌, ◌<◌, ◌≤◌, ◌==◌, nat_le, Bool, true, false, not, cond, List, [], ◌∷◌, ◌++◌, map, filter, take, length, Option, Some, None, is_none, refl, ap, ap₂, sym, ◌∙◌, subst, arith, append_assoc, append-nil, length-append, eqb-true}
 use Rattle.std.proofs.lemmas.Bool.{leb-true, leb-false, eqb-false}
 use Rattle.std.proofs.lemmas.Option.{same_Some}
 use Rattle.std.proofs.lemmas.List.{map-append}
@@ -15,10 +15,10 @@ use Rattle.ds_entry.specs.Item.{item_cmp, passes}
 use Rattle.ds_entry.specs.declared.floor.Floor.{Floor}
 use Rattle.ds_entry.specs.declared.item.Item.{Item}
 use Rattle.ds_entry.specs.declared.item.Item.TheVariants.{Change as Changed, Floor as Floored}
-use Rattle.ds_feed.specs.Page.{is_floor, is_behind, still_to_come, floors_of, changes_of, page_of}
+use Rattle.ds_feed.specs.Page.{is_behind, still_to_come, floors_of, changes_of, page_of}
 use Rattle.ds_feed.specs.declared.cursor.Cursor.{Cursor}
 use Rattle.ds_feed.specs.declared.reading.Page.{Page}
-use Rattle.ds_held.specs.Held.{Holding, held_items, held_changes, held_floors, floor_item, change_item, IsSound}
+use Rattle.ds_held.specs.Held.{Holding, held_items, held_changes, held_floors, change_item, IsSound}
 use Rattle.ds_held.specs.Kept.{floored}
 use Rattle.ds_join.specs.Reading.{comes_after}
 use Rattle.ds_join.proofs.NextLemmas.{left_after, none_left}

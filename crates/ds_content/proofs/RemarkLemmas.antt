@@ -1,7 +1,7 @@
 -- Other masks beside what is held, one index after the other.
 use Rattle.std.proofs.Common.{◌≡◌, ℕ, zero, suc, ◌+◌, ◌-◌, ◌<◌, ◌≤◌, ◌⊎◌, Bool, true, false, cond, ◌&&◌, List, [], ◌∷◌, ◌++◌, length, get_or, set, map, replicate, Option, Some, None, refl, ap, ap₂, sym, ◌∙◌, subst, inl, inr, arith, Contains}
 use Rattle.std.specs.Prelude.{slice_get}
-use Rattle.std.specs.FinMap.{FinMap, get, insert, entries, get-insert}
+use Rattle.std.specs.FinMap.{FinMap, get, get-insert}
 use Rattle.std.specs.Option.{option_map, option_map_or}
 use Rattle.std.specs.Ordering.{eq_by_cmp}
 use Rattle.std.proofs.lemmas.Cmp.{nat_list_cmp_total}
@@ -11,18 +11,13 @@ use Rattle.ds_names.specs.declared.key.Key.{Key}
 use Rattle.ds_names.specs.Key.{name_cmp, key_cmp}
 use Rattle.ds_names.proofs.OrderLemmas.{keys_total}
 use Rattle.ds_entry.specs.Change.{ChangeRecord}
-use Rattle.ds_entry.specs.Floor.{floor_of}
-use Rattle.ds_entry.specs.Item.{item_cmp}
 use Rattle.ds_entry.specs.declared.floor.Floor.{Floor}
 use Rattle.ds_entry.specs.declared.item.Item.{Item}
 use Rattle.ds_entry.specs.declared.item.Item.TheVariants.{Change as Changed, Floor as Floored}
 use Rattle.ds_entry.proofs.CoversLemmas.{same_key, same_key-refl, same_name, same_name-refl}
-use Rattle.ds_entry.proofs.ItemLemmas.{covers-refl}
-use Rattle.ds_join.specs.ItemTop.{IsTop}
-use Rattle.ds_held.specs.Held.{Holding, held_items, held_changes, held_floors, held_for, floor_for, floor_count, floor_item, change_item, IsSound}
-use Rattle.ds_held.specs.Kept.{floored}
+use Rattle.ds_held.specs.Held.{Holding, held_items, held_changes, held_floors, held_for, floor_for, floor_count, IsSound}
 use Rattle.ds_held.specs.Marked.{MarkedHolding, mark_for, floor_mark_for, remarked, floor_remarked}
-use Rattle.ds_held.proofs.HeldLemmas.{is_held, held_is_top}
+use Rattle.ds_held.proofs.HeldLemmas.{is_held}
 use Rattle.ds_pattern.specs.declared.query.Query.{Query}
 use Rattle.ds_watch.specs.Mask.{padded}
 use Rattle.ds_watch.specs.Masks.{shown_to, made_at}

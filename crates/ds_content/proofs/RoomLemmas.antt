@@ -1,7 +1,6 @@
 -- What takes effect is news, and leaves a state within its limits.
-use Rattle.std.proofs.Common.{◌≡◌, ℕ, zero, suc, ◌+◌, ◌<◌, ◌≤◌, Bool, true, false, cond, not, List, [], ◌∷◌, ◌++◌, length, filter, Option, Some, None, refl, ap, sym, ◌∙◌, subst, arith, Contains, length-append}
+use Rattle.std.proofs.Common.{◌≡◌, ℕ, ◌+◌, ◌<◌, ◌≤◌, Bool, true, false, not, [], ◌∷◌, length, filter, Option, Some, None, refl, ap, sym, ◌∙◌, subst, arith, length-append}
 use Rattle.std.specs.Ordering.{is_le}
-use Rattle.ds_names.specs.Version.{version_cmp}
 use Rattle.ds_entry.specs.declared.floor.Floor.{Floor}
 use Rattle.ds_entry.specs.declared.item.Item.{Item}
 use Rattle.ds_entry.specs.declared.item.Item.TheVariants.{Change as Changed, Floor as Floored}
@@ -15,7 +14,6 @@ use Rattle.ds_machine.specs.Limits.{most_floors, last_place}
 use Rattle.ds_machine.specs.Parts.{changes_in, floors_in, held_at, floor_at}
 use Rattle.ds_machine.specs.State.{State, held, position, accepts}
 use Rattle.ds_machine.specs.Standing.{HasRoom}
-use Rattle.ds_machine.specs.Reached.{IsReached}
 use Rattle.ds_machine.specs.Within.{IsWithin}
 use Rattle.ds_machine.specs.Effect.{IsNews}
 use Rattle.ds_machine.proofs.PartLemmas.{key_found, owner_found}

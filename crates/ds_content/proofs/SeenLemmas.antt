@@ -1,5 +1,5 @@
 -- What subscriptions are to be shown when they are made, and after they were shown something.
-use Rattle.std.proofs.Common.{◌≡◌, ℕ, zero, suc, ◌+◌, ◌<◌, ◌≤◌, ◌⊎◌, Bool, true, false, not, cond, ◌&&◌, ◌||◌, List, [], ◌∷◌, ◌++◌, map, filter, length, take, get_or, set, Option, Some, None, is_some, refl, ap, ap₂, sym, ◌∙◌, subst, inl, inr, arith, Contains}
+use Rattle.std.proofs.Common.{◌≡◌, ℕ, zero, suc, ◌+◌, ◌<◌, ◌≤◌, ◌⊎◌, Bool, true, false, not, ◌&&◌, ◌||◌, List, [], ◌∷◌, ◌++◌, map, filter, length, take, get_or, set, Option, Some, None, refl, ap, ap₂, sym, ◌∙◌, subst, inl, inr, arith, Contains}
 use Rattle.std.proofs.lemmas.List.{map-set}
 use Rattle.std.proofs.lemmas.List.Folds.{list_any-append}
 use Rattle.std.specs.Prelude.{slice_get}
@@ -18,7 +18,7 @@ use Rattle.ds_watch.specs.Watching.{Watching, watching}
 use Rattle.ds_machine.specs.Limits.{last_place}
 use Rattle.ds_machine.specs.Scope.{is_item_under}
 use Rattle.ds_machine.specs.Subscription.{Subscription, is_unseen}
-use Rattle.ds_machine.specs.State.{State, held, unseen, subscription_at, subscribes}
+use Rattle.ds_machine.specs.State.{State, held, subscription_at, subscribes}
 use Rattle.ds_machine.specs.Watching.{shown_at_first}
 use Rattle.ds_machine.proofs.ReachedLemmas.{held_is_top, reached_served}
 use Rattle.ds_content.specs.Content.{ContentRecord}

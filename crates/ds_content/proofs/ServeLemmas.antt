@@ -1,5 +1,5 @@
 -- A subscription that was made or shown something: what the content stands for then.
-use Rattle.std.proofs.Common.{◌≡◌, ℕ, zero, suc, ◌+◌, ◌<◌, ◌≤◌, ◌⊎◌, Bool, true, false, cond, ◌&&◌, ◌||◌, List, [], ◌∷◌, ◌++◌, map, filter, length, take, get_or, set, Option, Some, None, is_some, refl, ap, ap₂, sym, ◌∙◌, subst, inl, inr, arith, Contains}
+use Rattle.std.proofs.Common.{◌≡◌, ℕ, zero, suc, ◌+◌, ◌<◌, ◌≤◌, ◌⊎◌, Bool, true, false, cond, ◌||◌, List, [], ◌∷◌, ◌++◌, map, filter, length, take, get_or, set, Option, Some, None, is_some, refl, ap, ap₂, sym, ◌∙◌, subst, inl, inr, arith, Contains}
 use Rattle.std.specs.List.{list_any}
 use Rattle.std.specs.Option.{option_map}
 use Rattle.std.proofs.lemmas.Option.{same_Some}
@@ -12,7 +12,7 @@ use Rattle.ds_join.specs.ItemTop.{IsPartOf}
 use Rattle.ds_pattern.specs.declared.query.Query.{Query}
 use Rattle.ds_watch.specs.Followed.{Followed}
 use Rattle.ds_watch.specs.Masks.{shown_to, made_at}
-use Rattle.ds_watch.specs.Watching.{Watching, watching, stamped}
+use Rattle.ds_watch.specs.Watching.{Watching, watching}
 use Rattle.ds_watch.specs.declared.masks.Masks.{Masks}
 use Rattle.ds_machine.specs.Limits.{last_place}
 use Rattle.ds_machine.specs.Scope.{is_item_under}
@@ -26,11 +26,11 @@ use Rattle.ds_content.specs.Marking.{AreRemarked}
 use Rattle.ds_content.specs.Shown.{flagged, AreUnseen, AreFirst, is_to_show}
 use Rattle.ds_content.specs.Stands.{Stands}
 use Rattle.ds_content.proofs.EnterLemmas.{value_of, few_places}
-use Rattle.ds_content.proofs.FlagLemmas.{taken_first, all_taken, few_taken, filter_same}
+use Rattle.ds_content.proofs.FlagLemmas.{taken_first, all_taken, few_taken}
 use Rattle.ds_content.proofs.HoldingLemmas.{top_itself}
 use Rattle.ds_content.proofs.MarkLemmas.{none_more}
-use Rattle.ds_content.proofs.RemarkLemmas.{check_others, check_first, check_rest, checked_marked, made_flag, made_other, made_marked}
-use Rattle.ds_content.proofs.SeenLemmas.{at_from, made_so, to_show_is, shown_so, stands_subscribed, first_part, place_of, Twin, twin, shown_part}
+use Rattle.ds_content.proofs.RemarkLemmas.{check_others, check_first, check_rest, made_flag, made_other}
+use Rattle.ds_content.proofs.SeenLemmas.{at_from, made_so, to_show_is, shown_so, stands_subscribed, first_part, place_of, twin, shown_part}
 
 -- ---- flags
 flagged_none : (fs : List Bool) → flagged fs [] ≡ []

@@ -1,5 +1,5 @@
 -- How a content's fields are seen as its value.
-use Rattle.std.specs.Prelude.{◌≡◌, List, Bool, [], Option, None, is_some, length, map, slice_index_or, Contains}
+use Rattle.std.specs.Prelude.{◌≡◌, List, Bool, [], Option, length, map, Contains}
 use Rattle.std.specs.Option.{option_map_or}
 use Rattle.ds_entry.specs.declared.item.Item.{Item}
 use Rattle.ds_entry.specs.declared.item.Item.TheVariants.{Change as Changed, Floor as Floored}

@@ -1,14 +1,12 @@
-use Rattle.std.proofs.Common.{◌≡◌, List, Bool, [], ◌∷◌, ◌++◌, None, map, refl, ap, sym, ◌∙◌, subst, inl, Ok, ◌⊎◌, Contains}
+use Rattle.std.proofs.Common.{◌≡◌, [], ◌∷◌, ◌++◌, None, map, refl, ap, sym, ◌∙◌, subst, inl, Ok, ◌⊎◌}
 use Rattle.std.specs.FinMap.{insert}
 use Rattle.std.specs.Result.{OnOk}
 use Rattle.ds_entry.specs.Change.{ChangeRecord, IsBodyInPlace}
-use Rattle.ds_entry.specs.declared.item.Item.{Item}
 use Rattle.ds_entry.specs.declared.item.Item.TheVariants.{Change as Changed}
 use Rattle.ds_feed.specs.Feed as feeds
 use Rattle.ds_feed.specs.Feed.{Feed}
 use Rattle.ds_feed.specs.Kept.{Keeps}
 use Rattle.ds_held.specs.Held.{Holding, held_items}
-use Rattle.ds_held.specs.Limits.{LimitsRecord}
 use Rattle.ds_held.specs.Marked.{marks_after}
 use Rattle.ds_held.specs.Merge.{after_merge, MergeAnswer}
 use Rattle.ds_join.specs.ItemTop.{IsTop}

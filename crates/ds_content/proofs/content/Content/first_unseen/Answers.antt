@@ -1,8 +1,6 @@
-use Rattle.std.proofs.Common.{◌≡◌, true, take, ap, sym, ◌∙◌, subst}
+use Rattle.std.proofs.Common.{◌≡◌, take, ap, sym, ◌∙◌, subst}
 use Rattle.ds_machine.specs.State.{unseen}
-use Rattle.ds_machine.specs.Watching.{has_unseen}
 use Rattle.ds_content.specs.Content.{ContentRecord}
-use Rattle.ds_content.specs.Kept.{content_of}
 use Rattle.ds_content.specs.Shown.{AreUnseen, AreFirst}
 use Rattle.ds_content.specs.Stands.{Stands}
 use Rattle.ds_content.specs.declared.content.showing.Shown.{Shown}

@@ -1,4 +1,4 @@
-use Rattle.std.proofs.Common.{ℕ, Option, Some, List, cond, ap, sym, ◌∙◌}
+use Rattle.std.proofs.Common.{ℕ, Some, List, cond, ap, sym, ◌∙◌}
 use Rattle.std.specs.List.{find}
 use Rattle.std.specs.Option.{option_map}
 use Rattle.ds_entry.specs.Change.{ChangeRecord, rs_name}

@@ -1,4 +1,4 @@
-use Rattle.std.proofs.Common.{◌≡◌, ◌∙◌, Option, None, List, replicate, ap, sym}
+use Rattle.std.proofs.Common.{◌≡◌, ◌∙◌, Option, None, replicate, ap}
 use Rattle.ds_watch.specs.Watching.{Watching}
 use Rattle.ds_machine.specs.State.{opening}
 use Rattle.ds_content.proofs.OpenLemmas.{places_here, none_marked, stands_opening}

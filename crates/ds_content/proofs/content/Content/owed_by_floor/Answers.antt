@@ -1,4 +1,4 @@
-use Rattle.std.proofs.Common.{ap, sym, ◌∙◌}
+use Rattle.std.proofs.Common.{ap, ◌∙◌}
 use Rattle.ds_watch.specs.Mask.{padded}
 use Rattle.ds_content.proofs.EnterLemmas.{made_view}
 use Rattle.ds_content.proofs.OwedLemmas.{floor_owed_as}

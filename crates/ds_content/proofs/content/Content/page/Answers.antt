@@ -1,4 +1,4 @@
-use Rattle.std.proofs.Common.{◌≡◌, ◌++◌, [], Bool, true, false, not, List, Option, Some, None, is_none, refl, map, take, cond, ap, ap₂, sym, ◌∙◌}
+use Rattle.std.proofs.Common.{◌≡◌, ◌++◌, [], Bool, true, false, not, List, Option, Some, None, is_none, refl, map, take, cond, ap, ap₂, ◌∙◌}
 use Rattle.std.specs.Option.{is_some}
 use Rattle.ds_names.specs.declared.key.Key.{Key}
 use Rattle.ds_entry.specs.Item.{passes}
@@ -6,10 +6,8 @@ use Rattle.ds_entry.specs.declared.item.Item.{Item}
 use Rattle.ds_feed.specs.Kept.{cursor_of}
 use Rattle.ds_feed.specs.Page.{page_of}
 use Rattle.ds_feed.specs.declared.cursor.Cursor.{Cursor}
-use Rattle.ds_feed.specs.declared.reading.Page.{Page}
 use Rattle.ds_held.specs.Held.{Holding, held_items, held_changes, held_floors, change_item}
 use Rattle.ds_held.specs.Kept.{floored}
-use Rattle.ds_machine.specs.State.{held, cursor}
 use Rattle.ds_content.specs.Content.{ContentRecord}
 use Rattle.ds_content.specs.Paging.{to_come}
 use Rattle.ds_content.proofs.OpenLemmas.{cursor_is}

@@ -1,4 +1,4 @@
-use Rattle.std.proofs.Common.{◌≡◌, List, Bool, [], ◌∷◌, ◌++◌, None, map, refl, ap, sym, ◌∙◌, subst, Ok, Contains}
+use Rattle.std.proofs.Common.{◌≡◌, [], ◌∷◌, ◌++◌, None, map, ap, sym, ◌∙◌, subst, Ok}
 use Rattle.std.specs.FinMap.{insert}
 use Rattle.std.specs.Result.{OnOk}
 use Rattle.ds_entry.specs.declared.item.Item.{Item}

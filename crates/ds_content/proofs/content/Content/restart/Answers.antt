@@ -1,5 +1,4 @@
-use Rattle.std.proofs.Common.{◌≡◌, ◌≤◌, ◌+◌, ℕ, List, Option, None, length, replicate, ap, sym, ◌∙◌, subst, arith}
-use Rattle.ds_feed.specs.Feed as feeds
+use Rattle.std.proofs.Common.{◌≡◌, ◌≤◌, ◌+◌, Option, None, length, replicate, ap, sym, ◌∙◌, subst, arith}
 use Rattle.ds_feed.specs.Feed.{restarted}
 use Rattle.ds_feed.specs.Kept.{Keeps}
 use Rattle.ds_held.specs.Held.{Holding, held_items}

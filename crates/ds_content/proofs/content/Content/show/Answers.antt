@@ -1,7 +1,6 @@
 use Rattle.std.proofs.Common.{◌≡◌, ◌+◌, ◌<◌, ◌++◌, List, Option, Some, None, true, is_some, length, take, filter, get_or, set, ap, sym, ◌∙◌, subst}
 use Rattle.std.proofs.lemmas.List.{length-set}
 use Rattle.std.specs.Option.{option_map}
-use Rattle.ds_entry.specs.declared.item.Item.{Item}
 use Rattle.ds_held.specs.Held.{Holding, held_items}
 use Rattle.ds_watch.specs.Watching.{Watching, watching, stamped}
 use Rattle.ds_machine.specs.Limits.{last_place}

@@ -1,4 +1,4 @@
-use Rattle.std.proofs.Common.{◌≡◌, ℕ, Option, None, Some, get_or, ap, sym, ◌∙◌}
+use Rattle.std.proofs.Common.{ℕ, Option, None, Some, get_or, ap, sym, ◌∙◌}
 use Rattle.std.specs.Option.{option_map}
 use Rattle.ds_held.specs.Held.{held_items}
 use Rattle.ds_watch.specs.Followed.{Followed}

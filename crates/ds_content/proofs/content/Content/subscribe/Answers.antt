@@ -1,9 +1,8 @@
-use Rattle.std.proofs.Common.{◌≡◌, ◌+◌, ◌<◌, List, Bool, Option, Some, length, map, set, refl, ap, sym, ◌∙◌, subst, arith}
+use Rattle.std.proofs.Common.{◌≡◌, ◌+◌, ◌<◌, List, Option, Some, length, map, set, refl, ap, sym, ◌∙◌, subst}
 use Rattle.std.proofs.lemmas.List.{length-set}
 use Rattle.std.specs.List.{list_any}
 use Rattle.ds_entry.specs.declared.item.Item.{Item}
 use Rattle.ds_held.specs.Held.{Holding, held_items}
-use Rattle.ds_pattern.specs.declared.query.Query.{Query}
 use Rattle.ds_watch.specs.Watching.{Watching, watching}
 use Rattle.ds_machine.specs.Limits.{last_place}
 use Rattle.ds_machine.specs.Scope.{is_item_under}

@@ -1,5 +1,4 @@
-use Rattle.std.proofs.Common.{◌≡◌, ◌+◌, ◌<◌, arith}
-use Rattle.ds_held.specs.Held.{floor_count}
+use Rattle.std.proofs.Common.{arith}
 use Rattle.ds_content.proofs.IndexLemmas.{floor_copied, no_floor_copied, change_copied, no_change_copied}
 use Rattle.ds_content.proofs.content.copying.copy_at.Goals as goal
 

@@ -1,6 +1,5 @@
-use Rattle.std.proofs.Common.{◌≡◌, ◌+◌, ◌<◌, Bool, Some, None, ap, sym, ◌∙◌, arith}
+use Rattle.std.proofs.Common.{Bool, Some, None, ap, ◌∙◌, arith}
 use Rattle.ds_names.specs.declared.key.Key.{Key}
-use Rattle.ds_held.specs.Held.{floor_count}
 use Rattle.ds_pattern.specs.Under.{is_under}
 use Rattle.ds_content.proofs.IndexLemmas.{floor_under, change_under}
 use Rattle.ds_content.proofs.content.marking.is_under_at.Goals as goal

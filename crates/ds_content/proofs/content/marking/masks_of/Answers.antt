@@ -1,4 +1,4 @@
-use Rattle.std.proofs.Common.{◌≡◌, ◌+◌, ◌<◌, arith}
+use Rattle.std.proofs.Common.{◌<◌, arith}
 use Rattle.ds_held.specs.Held.{floor_count}
 use Rattle.ds_content.proofs.IndexLemmas.{floor_beside, floor_none, change_beside, change_none}
 use Rattle.ds_content.proofs.content.marking.masks_of.Goals as goal

@@ -1,4 +1,4 @@
-use Rattle.std.proofs.Common.{◌≡◌, ◌+◌, ◌<◌, arith}
+use Rattle.std.proofs.Common.{◌<◌, arith}
 use Rattle.ds_held.specs.Held.{floor_count}
 use Rattle.ds_content.proofs.RemarkLemmas.{set_floor, set_change}
 use Rattle.ds_content.proofs.content.marking.set_masks.Goals as goal

@@ -1,10 +1,9 @@
-use Rattle.std.proofs.Common.{◌≡◌, ◌<◌, ◌≤◌, ◌+◌, ◌++◌, ◌∷◌, [], Option, None, Some, Bool, true, false, cond, List, filter, take, length, length-append, is_some, inl, inr, ap, sym, ◌∙◌, arith}
+use Rattle.std.proofs.Common.{◌≡◌, ◌<◌, ◌≤◌, ◌++◌, ◌∷◌, [], None, Bool, true, false, cond, List, length, length-append, inl, inr, ap, sym, ◌∙◌, arith}
 use Rattle.std.specs.List.{list_any, slice_get}
 use Rattle.std.proofs.lemmas.Option.{slice_get_within}
 use Rattle.ds_entry.specs.declared.item.Item.{Item}
 use Rattle.ds_entry.proofs.Members.{list_any-from_Contains}
 use Rattle.ds_held.specs.Held.{Holding, held_items, held_count}
-use Rattle.ds_held.specs.Limits.{LimitsRecord}
 use Rattle.ds_content.specs.Shown.{is_to_show}
 use Rattle.ds_content.proofs.FlagLemmas.{past_end, index_among, filter_more}
 use Rattle.ds_content.proofs.IndexLemmas.{few_items, none_is, some_is}
