@@ -1,9 +1,7 @@
 -- The checks of a subscription in a list of events.
-use Rattle.std.proofs.Common.{◌≡◌, ◌==◌, ℕ, suc, ◌+◌, ◌<◌, nat_le, Bool, true, false, ◌&&◌, ◌||◌, cond, List, [], ◌∷◌, ◌++◌, length, take, Option, Some, None, refl, ap, sym, ◌∙◌, subst, inl, inr, ◌⊎◌, arith, append_assoc, append-nil, get_or-set_same, get_or-set_other}
-use Rattle.std.proofs.lemmas.Bool.{leb-false}
+use Rattle.std.proofs.Common.{◌≡◌, ◌==◌, ℕ, suc, ◌<◌, Bool, true, false, ◌&&◌, ◌||◌, cond, List, [], ◌∷◌, ◌++◌, length, take, Option, Some, None, refl, ap, sym, ◌∙◌, subst, inl, inr, ◌⊎◌, arith, append_assoc, append-nil}
 use Rattle.std.proofs.lemmas.Bool.Decides.{eqb_tells}
 use Rattle.std.specs.List.{list_any}
-use Rattle.std.specs.Option.{option_map_or}
 use Rattle.ds_entry.specs.declared.item.Item.{Item}
 use Rattle.ds_feed.specs.Feed.{Feed, position}
 use Rattle.ds_pattern.specs.declared.query.Query.{Query}
@@ -17,332 +15,34 @@ use Rattle.ds_whole.specs.Checked.{CheckTurn, IsCheckTurn, AreChecks, check_item
 use Rattle.ds_whole.proofs.WholeLemmas.{front_same, front_later}
 use Rattle.ds_whole.proofs.CheckLemmas as wholes
 use Rattle.ds_machine.specs.Subscription.{Subscription}
-use Rattle.ds_machine.specs.State.{State, held, unseen, subscription_at, subscribes as serves}
-use Rattle.ds_machine.specs.Order.{by_command, by_room, first_refusal}
-use Rattle.ds_machine.specs.Calling.{SubscribeCase, against_subscribe, against_check}
-use Rattle.ds_machine.specs.Watching.{owed_at_first, shown_at_first, subscribe_case, shows, check_case}
+use Rattle.ds_machine.specs.State.{State, held, unseen}
 use Rattle.ds_machine.specs.Machine.{Step}
-use Rattle.ds_machine.specs.Reached.{IsReached}
-use Rattle.ds_machine.specs.Effect.{AreNews, Effect, GoesOn, uses}
-use Rattle.ds_machine.specs.declared.refusal.Refusal.{Refusal}
-use Rattle.ds_machine.specs.declared.refusal.Refusal.TheVariants as refusals
-use Rattle.ds_machine.specs.declared.command.Command.{Command}
-use Rattle.ds_machine.specs.declared.command.Command.TheVariants.{Subscribe, Check, Merge}
+use Rattle.ds_machine.specs.Effect.{AreNews, GoesOn}
+use Rattle.ds_machine.specs.declared.command.Command.TheVariants.{Subscribe, Check}
 use Rattle.ds_machine.specs.declared.reply.Reply.{Reply}
-use Rattle.ds_machine.specs.declared.reply.Reply.TheVariants.{Subscribed, Checked, Merged, MergeStopped, Refused}
-use Rattle.ds_machine.proofs.PartLemmas.{missing}
-use Rattle.ds_machine.proofs.EffectLemmas.{step_has_effect}
-use Rattle.ds_machine.proofs.KnownLemmas.{steps_stay_reached}
-use Rattle.ds_machine.proofs.FitLemmas.{replies_fit}
-use Rattle.ds_machine.proofs.SaysLemmas.{refused_says}
+use Rattle.ds_machine.specs.declared.reply.Reply.TheVariants.{Subscribed}
 use Rattle.ds_replica.specs.declared.event.Side.{Side}
-use Rattle.ds_replica.specs.declared.event.Side.TheVariants.{A, B}
 use Rattle.ds_replica.specs.declared.event.Holder.{Holder}
-use Rattle.ds_replica.specs.declared.event.Holder.TheVariants.{Store, Map}
+use Rattle.ds_replica.specs.declared.event.Holder.TheVariants.{Store}
 use Rattle.ds_replica.specs.declared.event.Event.{Event}
-use Rattle.ds_replica.specs.declared.event.Event.TheVariants.{Ask, NewMap, Deliver, ClearMap, RestartStore}
+use Rattle.ds_replica.specs.declared.event.Event.TheVariants.{Ask}
 use Rattle.ds_replica.specs.declared.outcome.Outcome.{Outcome}
-use Rattle.ds_replica.specs.declared.outcome.Outcome.TheVariants.{Replied, Made, Refused as Refusing}
-use Rattle.ds_replica.specs.declared.outcome.EventFault.{EventFault}
-use Rattle.ds_replica.specs.World.{MapState, World, store_at, with_state}
-use Rattle.ds_replica.specs.Delivery.{Tally, Follows, AreMerged}
-use Rattle.ds_replica.specs.Happens.{items_given, event_fault, ask_outcome, Asks, IsTaken, reopened, Happens, HappenAll}
+use Rattle.ds_replica.specs.declared.outcome.Outcome.TheVariants.{Replied, Made}
+use Rattle.ds_replica.specs.World.{World, store_at, with_state}
+use Rattle.ds_replica.specs.Happens.{items_given, ask_outcome, Happens, HappenAll}
 use Rattle.ds_replica.specs.Known.{Account, store_of, message_items, extended, extended_all}
 use Rattle.ds_replica.specs.Fits.{Fits}
 use Rattle.ds_replica.specs.Turns.{is_side, empties_by, empties, Stays}
 use Rattle.ds_replica.specs.Messages.{IsAsked, feed_of, IsMessage}
 use Rattle.ds_replica.specs.Checks.{subscribes_by, subscribes, sent_in, check_sent, checked, ChecksAreWhole}
-use Rattle.ds_replica.proofs.GivenLemmas.{given_reply, check_given}
+use Rattle.ds_replica.proofs.GivenLemmas.{check_given}
 use Rattle.ds_replica.proofs.FitLemmas.{store_fits, own_fits, items_given_back}
 use Rattle.ds_replica.proofs.EventLemmas.{event_fits, events_fit}
-use Rattle.ds_replica.proofs.TurnLemmas.{neither, items_store, maps_store, goes_on, front_of}
+use Rattle.ds_replica.proofs.TurnLemmas.{neither, items_store, goes_on, front_of}
 use Rattle.ds_machine.proofs.ReachedLemmas.{held_is_top}
 use Rattle.ds_replica.proofs.MessageLemmas.{gave, front}
-
--- ---- a subscription, and what was shown to it
-pub record Shows (s : State) (sub : ℕ) (query : Query) (shown : List Item) : Type 0 where
-  pub seer : Subscription
-  pub here : subscription_at s sub ≡ Some seer
-  pub query_is : seer.query ≡ query
-  pub shown_is : seer.shown ≡ shown
-
-still_shows : (s t : State) (sub : ℕ) (query : Query) (shown : List Item) → subscription_at t sub ≡ subscription_at s sub → Shows s sub query shown → Shows t sub query shown
-still_shows s t sub query shown e h = record { seer = h.seer; here = e ∙ h.here; query_is = h.query_is; shown_is = h.shown_is }
-
-same_seer : (f g : Subscription) → Some f ≡ Some g → f ≡ g
-same_seer f g e = cc
-
-same_items : (xs ys : List Item) → Some xs ≡ Some ys → xs ≡ ys
-same_items xs ys e = cc
-
--- a step leaves every subscription that its command doesn't name
-place_kept : (s t : State) (sub : ℕ) (command : Command) (reply : Reply) → IsReached s → Step s command reply t → uses sub command ≡ false → subscription_at t sub ≡ subscription_at s sub
-place_kept s t sub command reply r step e = by_effect (step_has_effect s t command reply r step)
-  where
-    by_effect : Effect s command reply t → subscription_at t sub ≡ subscription_at s sub
-    by_effect (inl g) = ap (λ (x : State). subscription_at x sub) g.state_is
-    by_effect (inr v) =
-        ap (λ (x : State). subscription_at x sub) v.state_is
-        ∙ get_or-set_other s.subscriptions v.sub sub (Some (record { query = v.query; stamp = s.stamp + 1; shown = v.shown })) None
-        (λ q. let n : true ≡ false = sym v.used ∙ (ap (λ (j : ℕ). uses j command) (sym q) ∙ e) in cc)
-
--- a subscription that was written
-written : (s : State) (sub : ℕ) (query : Query) (shown : List Item) → IsReached s → nat_le s.limits.subs sub ≡ false
-    → subscription_at (serves s sub query shown) sub ≡ Some (record { query = query; stamp = s.stamp + 1; shown = shown })
-written s sub query shown r e =
-    let l : sub < s.limits.subs = leb-false s.limits.subs sub e in
-    get_or-set_same s.subscriptions sub (Some (record { query = query; stamp = s.stamp + 1; shown = shown })) None (omega (arith, l, r.places))
-
-module _ (s t : State) (sub : ℕ) (r : IsReached s) where
-  -- with INITIAL nothing counts as shown
-  begins_shown : (query : Query) (overwrite : Bool) (stamp owed : ℕ) → Step s (Subscribe sub query true overwrite) (Subscribed stamp owed) t → Shows t sub query []
-  begins_shown query overwrite stamp owed (inl (inl is)) = by_cause (first_refusal (against_subscribe x)) refl is.reply_is is.state_is
-    where
-      x : SubscribeCase
-      x = subscribe_case s sub query overwrite
-
-      out : Option Refusal → Reply × State
-      out o = option_map_or {U = Reply × State} (λ refusal. (Refused refusal, s)) o (Subscribed (s.stamp + 1) (owed_at_first (held s) sub query true), serves s sub query (shown_at_first (held s) true))
-
-      by_cause : (o : Option Refusal) → first_refusal (against_subscribe x) ≡ o → Subscribed stamp owed ≡ (out o).0 → t ≡ (out o).1 → Shows t sub query []
-      by_cause (Some refusal) q e f = absurd (let n : Subscribed stamp owed ≡ Refused refusal = e in cc)
-      by_cause None q e f =
-          record {
-            seer = record { query = query; stamp = s.stamp + 1; shown = [] };
-            here = ap (λ (y : State). subscription_at y sub) f ∙ written s sub query [] r (missing (against_subscribe x) (by_command ++ by_room) refusals.BadSub q (0, omega arith, refl));
-            query_is = refl;
-            shown_is = refl;
-          }
-  begins_shown query overwrite stamp owed (inl (inr w)) = absurd (let n : Subscribed stamp owed ≡ Refused _ = w.reply_is in cc)
-  begins_shown query overwrite stamp owed (inr w) = absurd w
-
-  -- a Check adds what it gave
-  check_shows : (query : Query) (max : ℕ) (reply : Reply) (items shown : List Item) → Step s (Check sub max) reply t → items_given reply ≡ Some items → Shows s sub query shown → Shows t sub query (shown ++ items)
-  check_shows query max reply items shown (inl (inl is)) e h = by_case (subscription_at s sub) refl (first_refusal (against_check (check_case s sub max (subscription_at s sub)))) refl is.reply_is is.state_is
-    where
-      out : Option Subscription → Option Refusal → Reply × State
-      out o p = option_map_or {U = Reply × State} (λ f. (Refused f, s)) p (option_map_or {U = Reply × State} (λ f. shows s sub f (take max (unseen s f))) o (Refused refusals.NotFound, s))
-
-      none : (refusal : Refusal) → reply ≡ Refused refusal → ⊥
-      none refusal q = let n : None ≡ Some items = sym (ap items_given q) ∙ e in cc
-
-      by_items : (f : Subscription) → subscription_at s sub ≡ Some f → nat_le s.limits.subs sub ≡ false → (l : List Item) → reply ≡ (shows s sub f l).0 → t ≡ (shows s sub f l).1 → Shows t sub query (shown ++ items)
-      by_items f here place [] q g =
-          let same : [] ≡ items = same_items [] items (sym (ap items_given q) ∙ e) in
-          subst (λ (l : List Item). Shows t sub query (shown ++ l)) same
-          (subst (Shows t sub query) (sym (append-nil shown)) (still_shows s t sub query shown (ap (λ (y : State). subscription_at y sub) g) h))
-      by_items f here place (i ∷ l) q g =
-          let same : i ∷ l ≡ items = same_items (i ∷ l) items (sym (ap items_given q) ∙ e) in
-          let seer : f ≡ h.seer = same_seer f h.seer (sym here ∙ h.here) in
-          subst (λ (l : List Item). Shows t sub query (shown ++ l)) same
-          (record {
-            seer = record { query = f.query; stamp = s.stamp + 1; shown = f.shown ++ i ∷ l };
-            here = ap (λ (y : State). subscription_at y sub) g ∙ written s sub f.query (f.shown ++ i ∷ l) r place;
-            query_is = ap (λ (y : Subscription). y.query) seer ∙ h.query_is;
-            shown_is = ap (λ (k : List Item). k ++ i ∷ l) (ap (λ (y : Subscription). y.shown) seer ∙ h.shown_is);
-          })
-
-      by_case : (o : Option Subscription) → subscription_at s sub ≡ o → (p : Option Refusal) → first_refusal (against_check (check_case s sub max (subscription_at s sub))) ≡ p → reply ≡ (out o p).0 → t ≡ (out o p).1 → Shows t sub query (shown ++ items)
-      by_case o here (Some refusal) m q g = absurd (none refusal q)
-      by_case None here None m q g = absurd (none refusals.NotFound q)
-      by_case (Some f) here None m q g = by_items f here (missing (against_check (check_case s sub max (subscription_at s sub))) (by_command ++ by_room) refusals.BadSub m (0, omega arith, refl)) (take max (unseen s f)) q g
-  check_shows query max reply items shown (inl (inr w)) e h = absurd (let n : None ≡ Some items = sym (ap items_given w.reply_is) ∙ e in cc)
-  check_shows query max reply items shown (inr w) e h = absurd w
-
-  -- a Check that gave nothing was refused
-  unchecked : (max : ℕ) (reply : Reply) → Step s (Check sub max) reply t → items_given reply ≡ None → t ≡ s
-  unchecked max (Refused refusal) step e = refused_says s t (Check sub max) refusal step
-  unchecked max (Checked items before after) step e = absurd (let n : Some items ≡ None = e in cc)
-  unchecked max reply step e = absurd (replies_fit s t (Check sub max) reply step)
-
-  -- nor was the subscription made, where the reply doesn't say so
-  unmade : (n : ℕ) (query : Query) (initial overwrite : Bool) (reply : Reply) → Step s (Subscribe n query initial overwrite) reply t → ((stamp owed : ℕ) → reply ≡ Subscribed stamp owed → ⊥) → t ≡ s
-  unmade n query initial overwrite (Refused refusal) step e = refused_says s t (Subscribe n query initial overwrite) refusal step
-  unmade n query initial overwrite (Subscribed stamp owed) step e = absurd (e stamp owed refl)
-  unmade n query initial overwrite reply step e = absurd (replies_fit s t (Subscribe n query initial overwrite) reply step)
-
--- ---- sides
-side_itself : (side : Side) → is_side side side ≡ true
-side_itself A = refl
-side_itself B = refl
-
-one_side : (s side : Side) → is_side s side ≡ true → s ≡ side
-one_side A A e = refl
-one_side A B e = absurd (let n : false ≡ true = e in cc)
-one_side B A e = absurd (let n : false ≡ true = e in cc)
-one_side B B e = refl
-
-store_put : (w : World) (side : Side) (t : State) → store_at (with_state w side t) side ≡ t
-store_put w A t = refl
-store_put w B t = refl
-
-store_other : (w : World) (s side : Side) (t : State) → is_side s side ≡ false → store_at (with_state w s t) side ≡ store_at w side
-store_other w A A t e = absurd (let n : true ≡ false = e in cc)
-store_other w A B t e = refl
-store_other w B A t e = refl
-store_other w B B t e = absurd (let n : true ≡ false = e in cc)
-
-itself : (n : ℕ) → (n == n) ≡ true
-itself n = elim (eqb_tells n n) [ inl y ↦ y.0 | inr d ↦ absurd (d.1 refl) ]
-
-and_false : (a b : Bool) → b ≡ false → a && b ≡ false
-and_false true b e = e
-and_false false b e = refl
-
-and_true : (a b : Bool) → a ≡ true → b ≡ true → a && b ≡ true
-and_true true b e f = f
-and_true false b e f = e
-
--- ---- one event
--- what isn't asked of the subscription at this side gave it nothing
-check_none : (side : Side) (sub : ℕ) (account : Account) (s : Side) (command : Command) (out : Outcome) → is_side s side && uses sub command ≡ false → check_sent side sub account (Ask s command) out ≡ []
-check_none side sub account s (Check n max) (Made k) e = ap (λ (b : Bool). cond b (sent_in (extended account (Ask s (Check n max)) (Made k)) k) []) e
-check_none side sub account s (Check n max) out e = refl
-check_none side sub account s command out e = refl
-
-module _ (account : Account) (w new : World) (side : Side) (sub : ℕ) (query : Query) (shown : List Item) (f : Fits account w) (h : Shows (store_at w side) sub query shown) where
-  reached : IsReached (store_at w side)
-  reached = (store_fits account w side f).reached
-
-  with_none : (l : List Sent) → l ≡ [] → subscription_at (store_at new side) sub ≡ subscription_at (store_at w side) sub → Shows (store_at new side) sub query (shown ++ items_of l)
-  with_none l e q =
-      subst (λ (x : List Sent). Shows (store_at new side) sub query (shown ++ items_of x)) (sym e)
-      (subst (Shows (store_at new side) sub query) (sym (append-nil shown)) (still_shows (store_at w side) (store_at new side) sub query shown q h))
-
-  same_place : store_at new side ≡ store_at w side → subscription_at (store_at new side) sub ≡ subscription_at (store_at w side) sub
-  same_place e = ap (λ (x : State). subscription_at x sub) e
-
-  after_is : (command : Command) (out : Outcome) (a : Asks w side command out new) → store_at new side ≡ a.after
-  after_is command out a = ap (λ (x : World). store_at x side) a.world_is ∙ (items_store (with_state w side a.after) (items_given a.reply) side ∙ store_put w side a.after)
-
-  ask_elsewhere : (s : Side) (command : Command) (out : Outcome) → is_side s side ≡ false → Asks w s command out new → Shows (store_at new side) sub query (shown ++ items_of (check_sent side sub account (Ask s command) out))
-  ask_elsewhere s command out e a =
-      with_none (check_sent side sub account (Ask s command) out) (check_none side sub account s command out (ap (λ (b : Bool). b && uses sub command) e))
-      (same_place (ap (λ (x : World). store_at x side) a.world_is ∙ (items_store (with_state w s a.after) (items_given a.reply) side ∙ store_other w s side a.after e)))
-
-  ask_unused : (command : Command) (out : Outcome) → uses sub command ≡ false → Asks w side command out new → Shows (store_at new side) sub query (shown ++ items_of (check_sent side sub account (Ask side command) out))
-  ask_unused command out e a =
-      with_none (check_sent side sub account (Ask side command) out) (check_none side sub account side command out (and_false (is_side side side) (uses sub command) e))
-      (ap (λ (x : State). subscription_at x sub) (after_is command out a) ∙ place_kept (store_at w side) a.after sub command a.reply reached a.step e)
-
-  ask_subscribe : (q : Query) (initial overwrite : Bool) (out : Outcome) → subscribes_by side sub (Ask side (Subscribe sub q initial overwrite)) out ≡ false → Asks w side (Subscribe sub q initial overwrite) out new
-      → Shows (store_at new side) sub query (shown ++ items_of (check_sent side sub account (Ask side (Subscribe sub q initial overwrite)) out))
-  ask_subscribe q initial overwrite out e a =
-      with_none [] refl (same_place (after_is (Subscribe sub q initial overwrite) out a ∙ unmade (store_at w side) a.after sub reached sub q initial overwrite a.reply a.step not_made))
-    where
-      not_made : (stamp owed : ℕ) → a.reply ≡ Subscribed stamp owed → ⊥
-      not_made stamp owed is =
-          let told : out ≡ Replied (Subscribed stamp owed) = a.outcome_is ∙ ap (λ (x : Reply). ask_outcome w x (items_given x)) is in
-          let yes : is_side side side && (sub == sub) ≡ true = and_true (is_side side side) (sub == sub) (side_itself side) (itself sub) in
-          let n : true ≡ false = sym yes ∙ (sym (ap (subscribes_by side sub (Ask side (Subscribe sub q initial overwrite))) told) ∙ e) in
-          cc
-
-  ask_check : (max : ℕ) (out : Outcome) → event_fault w (Ask side (Check sub max)) ≡ None → (a : Asks w side (Check sub max) out new) → Shows (store_at new side) sub query (shown ++ items_of (check_sent side sub account (Ask side (Check sub max)) out))
-  ask_check max out none a = by_given (items_given a.reply) refl a.outcome_is
-    where
-      own : State
-      own = (store_of account side).state
-
-      by_given : (o : Option (List Item)) → items_given a.reply ≡ o → out ≡ ask_outcome w a.reply o → Shows (store_at new side) sub query (shown ++ items_of (check_sent side sub account (Ask side (Check sub max)) out))
-      by_given None e q =
-          with_none (check_sent side sub account (Ask side (Check sub max)) out) (ap (check_sent side sub account (Ask side (Check sub max))) q)
-          (same_place (after_is (Check sub max) out a ∙ unchecked (store_at w side) a.after sub reached max a.reply a.step e))
-      by_given (Some items) e q =
-          let k = length w.messages in
-          let asked : IsAsked account w side (Check sub max) k [] new = record { fits = f; happen = (new, (none, subst (λ (o : Outcome). Asks w side (Check sub max) o new) q a), refl); stays = refl } in
-          let g = gave account w new side (Check sub max) k [] asked in
-          let step = subst (λ (s : State). Step s (Check sub max) a.reply a.after) (sym (store_fits account w side f).state_is) a.step in
-          let reply = given_reply (store_of account side).state a.after (Check sub max) a.reply items step e in
-          let same : g.items ≡ items = same_items g.items items (sym g.given_is ∙ (sym (ap items_given reply) ∙ e)) in
-          let test = and_true (is_side side side) (sub == sub) (side_itself side) (itself sub) in
-          let sent : check_sent side sub account (Ask side (Check sub max)) out ≡ given (store_of account side).known g.items =
-          ap (check_sent side sub account (Ask side (Check sub max))) q
-          ∙ (ap (λ (b : Bool). cond b (sent_in (extended account (Ask side (Check sub max)) (Made k)) k) []) test ∙ ap message_items g.message) in
-          let all : items_of (check_sent side sub account (Ask side (Check sub max)) out) ≡ items = ap items_of sent ∙ (items_given_back (store_of account side).known g.items ∙ same) in
-          subst (λ (l : List Item). Shows (store_at new side) sub query (shown ++ l)) (sym all)
-          (subst (λ (s : State). Shows s sub query (shown ++ items)) (sym (after_is (Check sub max) out a)) (check_shows (store_at w side) a.after sub reached query max a.reply items shown a.step e h))
-
-  by_number : (n : ℕ) (P : ℕ → Type 0) → ((n == sub) ≡ false → P n) → P sub → P n
-  by_number n P other here = elim (eqb_tells n sub) [ inl y ↦ subst P (sym y.1) here | inr d ↦ other d.0 ]
-
-  ask_here : (command : Command) (out : Outcome) → event_fault w (Ask side command) ≡ None → subscribes_by side sub (Ask side command) out ≡ false → Asks w side command out new
-      → Shows (store_at new side) sub query (shown ++ items_of (check_sent side sub account (Ask side command) out))
-  ask_here (Check n max) out none e a = elim (eqb_tells n sub) [
-    | inl y ↦ subst (λ (m : ℕ). event_fault w (Ask side (Check m max)) ≡ None → Asks w side (Check m max) out new → Shows (store_at new side) sub query (shown ++ items_of (check_sent side sub account (Ask side (Check m max)) out)))
-        (sym y.1) (λ none a. ask_check max out none a) none a
-    | inr d ↦ ask_unused (Check n max) out d.0 a
-  ]
-  ask_here (Subscribe n q initial overwrite) out none e a = elim (eqb_tells n sub) [
-    | inl y ↦ subst (λ (m : ℕ). subscribes_by side sub (Ask side (Subscribe m q initial overwrite)) out ≡ false → Asks w side (Subscribe m q initial overwrite) out new → Shows (store_at new side) sub query (shown ++ items_of (check_sent side sub account (Ask side (Subscribe m q initial overwrite)) out)))
-        (sym y.1) (λ e a. ask_subscribe q initial overwrite out e a) e a
-    | inr d ↦ ask_unused (Subscribe n q initial overwrite) out d.0 a
-  ]
-  ask_here command out none e a = ask_unused command out refl a
-
-  ask_shows : (s : Side) (command : Command) (out : Outcome) → event_fault w (Ask s command) ≡ None → subscribes_by side sub (Ask s command) out ≡ false → Asks w s command out new
-      → Shows (store_at new side) sub query (shown ++ items_of (check_sent side sub account (Ask s command) out))
-  ask_shows s command out none e a = by_side (is_side s side) refl
-    where
-      by_side : (b : Bool) → is_side s side ≡ b → Shows (store_at new side) sub query (shown ++ items_of (check_sent side sub account (Ask s command) out))
-      by_side false q = ask_elsewhere s command out q a
-      by_side true q =
-          subst (λ (x : Side). event_fault w (Ask x command) ≡ None → subscribes_by side sub (Ask x command) out ≡ false → Asks w x command out new → Shows (store_at new side) sub query (shown ++ items_of (check_sent side sub account (Ask x command) out)))
-          (sym (one_side s side q)) (λ none e a. ask_here command out none e a) none e a
-
--- ---- every event
-followed_kept : (sub : ℕ) (s mid new : State) (group : List Item) (Others : Tally → State → Type 0) (reply : Reply) (tally : Tally) → IsReached s
-    → ((later : Tally) → IsReached mid → Others later new → subscription_at new sub ≡ subscription_at mid sub) → Step s (Merge group) reply mid → Follows reply mid Others tally new → subscription_at new sub ≡ subscription_at s sub
-followed_kept sub s mid new group Others (Merged done taken stale owed) tally r others step f =
-    others f.0 (steps_stay_reached s mid (Merge group) (Merged done taken stale owed) r step) f.1 ∙ place_kept s mid sub (Merge group) (Merged done taken stale owed) r step refl
-followed_kept sub s mid new group Others (MergeStopped done fault owed) tally r others step f = ap (λ (x : State). subscription_at x sub) f.1 ∙ place_kept s mid sub (Merge group) (MergeStopped done fault owed) r step refl
-followed_kept sub s mid new group Others (Refused fault) tally r others step f = ap (λ (x : State). subscription_at x sub) f.1 ∙ place_kept s mid sub (Merge group) (Refused fault) r step refl
-followed_kept sub s mid new group Others _ tally r others step f = absurd f
-
-merges_kept : (sub : ℕ) (groups : List (List Item)) (s new : State) (tally : Tally) → IsReached s → AreMerged s groups tally new → subscription_at new sub ≡ subscription_at s sub
-merges_kept sub [] s new tally r m = ap (λ (x : State). subscription_at x sub) m.1
-merges_kept sub (group ∷ groups) s new tally r m =
-    followed_kept sub s m.1 new group (λ t n. AreMerged m.1 groups t n) m.0 tally r (λ later q a. merges_kept sub groups m.1 new later q a) m.2 m.3
-
-refused_none : (side : Side) (sub : ℕ) (account : Account) (s : Side) (command : Command) (fault : EventFault) → check_sent side sub account (Ask s command) (Refusing fault) ≡ []
-refused_none side sub account s (Check n max) fault = refl
-refused_none side sub account s command fault = refl
-
-module _ (account : Account) (w new : World) (side : Side) (sub : ℕ) (query : Query) (shown : List Item) (f : Fits account w) (h : Shows (store_at w side) sub query shown) where
-  unchanged : store_at new side ≡ store_at w side → Shows (store_at new side) sub query (shown ++ [])
-  unchanged e = with_none account w new side sub query shown f h [] refl (ap (λ (x : State). subscription_at x sub) e)
-
-  maps_shows : (maps : List MapState) → new ≡ record w { maps = maps } → Shows (store_at new side) sub query (shown ++ [])
-  maps_shows maps e = unchanged (ap (λ (x : World). store_at x side) e ∙ maps_store w maps side)
-
-  taken_shows : (holder : Holder) (items : List Item) (tally : Tally) → IsTaken w holder items tally new → Shows (store_at new side) sub query (shown ++ [])
-  taken_shows (Map j) items tally t = maps_shows _ t.world_is
-  taken_shows (Store s) items tally t = by_side (is_side s side) refl
-    where
-      at_new : store_at new side ≡ store_at (with_state w s t.after) side
-      at_new = ap (λ (x : World). store_at x side) t.world_is
-
-      kept : subscription_at t.after sub ≡ subscription_at (store_at w s) sub
-      kept = merges_kept sub t.takes.groups (store_at w s) t.after tally (store_fits account w s f).reached t.takes.merged
-
-      by_side : (b : Bool) → is_side s side ≡ b → Shows (store_at new side) sub query (shown ++ [])
-      by_side false q = unchanged (at_new ∙ store_other w s side t.after q)
-      by_side true q =
-          with_none account w new side sub query shown f h [] refl
-          (ap (λ (x : State). subscription_at x sub) (at_new ∙ (ap (λ (x : Side). store_at (with_state w x t.after) side) (one_side s side q) ∙ store_put w side t.after)) ∙ (kept ∙ ap (λ (x : Side). subscription_at (store_at w x) sub) (one_side s side q)))
-
-  event_shows : (event : Event) (out : Outcome) → Happens w event out new → empties_by (Store side) event out ≡ false → subscribes_by side sub event out ≡ false → Shows (store_at new side) sub query (shown ++ items_of (check_sent side sub account event out))
-  event_shows (Ask s command) (Refusing fault) a e n =
-      with_none account w new side sub query shown f h (check_sent side sub account (Ask s command) (Refusing fault)) (refused_none side sub account s command fault) (ap (λ (x : World). subscription_at (store_at x side) sub) a.1)
-  event_shows (Ask s command) out a e n = ask_shows account w new side sub query shown f h s command out a.0 n a.1
-  event_shows (NewMap q) (Refusing fault) a e n = unchanged (ap (λ (x : World). store_at x side) a.1)
-  event_shows (NewMap q) out a e n = maps_shows _ a.1.world_is
-  event_shows (Deliver k holder count) (Refusing fault) a e n = unchanged (ap (λ (x : World). store_at x side) a.1)
-  event_shows (Deliver k holder count) out a e n = taken_shows holder _ a.1.tally a.1.taken
-  event_shows (ClearMap j) (Refusing fault) a e n = unchanged (ap (λ (x : World). store_at x side) a.1)
-  event_shows (ClearMap j) out a e n = maps_shows _ a.1.world_is
-  event_shows (RestartStore s incarnation) (Refusing fault) a e n = unchanged (ap (λ (x : World). store_at x side) a.1)
-  event_shows (RestartStore s incarnation) out a e n =
-      unchanged (ap (λ (x : World). store_at x side) a.1.world_is ∙ store_other w s side (reopened (store_at w s) incarnation) (sym (ap (empties_by (Store side) (RestartStore s incarnation)) a.1.outcome_is) ∙ e))
+use Rattle.ds_replica.proofs.SeerLemmas.{Shows, same_seer, begins_shown, side_itself, one_side, store_put, itself, and_false, and_true}
+use Rattle.ds_replica.proofs.ShowLemmas.{check_none, event_shows}
 
 -- ---- checks, one after the other
 -- the event is a Check of the subscription that made a message, or gave it nothing

@@ -12,4 +12,6 @@ pub mod MessageLemmas
 pub mod ClashLemmas
 pub mod RowLemmas
 pub mod BringLemmas
+pub mod SeerLemmas
+pub mod ShowLemmas
 pub mod CheckLemmas
