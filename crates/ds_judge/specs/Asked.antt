@@ -28,6 +28,7 @@ over_none NotLive = true
 over_none Any = true
 over_none Live = false
 
+-- the caller, the key and the version, and whether the change may come over a live entry and over none
 abbrev pub request_of : Asked → Request
 request_of a = record { caller = a.caller; key = a.key; version = a.version; over_live = over_live a.need; over_none = over_none a.need }
 

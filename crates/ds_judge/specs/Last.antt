@@ -70,6 +70,7 @@ IsLast s command reply = Unit {0}
 abbrev pub NoRoomIsNoCause : Type 0
 NoRoomIsNoCause = (version : Option Version) (stands : Cause → Bool) → first_cause version stands ≢ Some (causes.Refused NoRoom)
 
+-- nor in the order of refusals alone
 abbrev pub NoRoomIsNoRefusal : Type 0
 NoRoomIsNoRefusal = (stands : Refusal → Bool) → first_refusal stands ≢ Some NoRoom
 
@@ -77,9 +78,10 @@ NoRoomIsNoRefusal = (stands : Refusal → Bool) → first_refusal stands ≢ Som
 abbrev pub OutcomesAreLast : Type 0
 OutcomesAreLast = (s : State) (command : Command) → IsLast s command (outcome s command).0
 
--- a command with a scope may tell it where its pattern is read, and where no cause stands
+-- the pattern is read, so that memory may be wanted for it
 abbrev pub PatternMayLackRoom : Type 0
 PatternMayLackRoom = (scope : Scope) (stands : Refusal → Bool) → ReadsPattern scope stands → MayLackFor scope stands
 
+-- nothing stands, so that memory may be wanted for what is given
 abbrev pub BehindMayLackRoom : Type 0
 BehindMayLackRoom = (scope : Scope) (stands : Refusal → Bool) → first_refusal stands ≡ None → MayLackFor scope stands
