@@ -26,10 +26,11 @@ use Rattle.ds_held.proofs.HeldLemmas.{is_held, change_in, floor_in}
 use Rattle.ds_watch.specs.Mask.{padded}
 use Rattle.ds_watch.specs.Masks.{fresh}
 use Rattle.ds_watch.specs.Watching.{Watching}
+use Rattle.ds_watch.specs.Watching as keys
 use Rattle.ds_watch.specs.declared.masks.Masks.{Masks}
 use Rattle.ds_content.specs.Followed.{watches}
 use Rattle.ds_content.specs.Kept.{AreMarked, masks_at, under_at, unseen_at}
-use Rattle.ds_content.proofs.OwedLemmas.{padded_flag, padded_long}
+use Rattle.ds_content.proofs.OwedLemmas.{key_watches, padded_flag, padded_long}
 
 -- ---- an item that took effect, and has its fresh masks, where what else is held has those that it had
 module _ (old new : MarkedHolding Masks) (i : Item) (owed : List Bool) (top : IsTop (held_items new.held) (held_items old.held ++ i ∷ [])) (here : masks_at new i ≡ Some (fresh owed))
@@ -121,6 +122,13 @@ module _ (h : MarkedHolding Masks) (marked : HasMarks h) (sound : IsSound h.held
       by_held : (o : Option ChangeRecord) → held_for h.held key ≡ o → (c : ChangeRecord) × Contains (held_items h.held) (Changed c) × (c.key ≡ key)
       by_held None q = absurd (let no : true ≡ false = sym (ap is_some e) ∙ marked.keys key ∙ ap is_some q in cc)
       by_held (Some c) q = (c, change_in h.held key c q, sound.own key c q)
+
+  pub known_owed : (ws : List (Option Watching)) → AreMarked h ws → (key : Key) (m : Masks) → mark_for h key ≡ Some m → m.under ≡ padded (map (keys.watches key) ws)
+  known_owed ws are key m e =
+      let r = known_under key m e in
+      sym (ap (λ (o : Option Masks). option_map_or (λ (x : Masks). x.under) o []) e)
+      ∙ ap (λ (k : Key). option_map_or (λ (x : Masks). x.under) (mark_for h k) []) (sym r.2)
+      ∙ are.under (Changed r.0) r.1 ∙ ap padded (key_watches r.0 ws) ∙ ap (λ (k : Key). padded (map (keys.watches k) ws)) r.2
 
   -- a key without masks isn't held
   pub not_known : (key : Key) → mark_for h key ≡ None → held_for h.held key ≡ None

@@ -6,3 +6,9 @@ pub mod SeenLemmas
 pub mod HoldingLemmas
 pub mod OwedLemmas
 pub mod KeptLemmas
+pub mod RemarkLemmas
+pub mod OpenLemmas
+pub mod EnterLemmas
+pub mod ServeLemmas
+pub mod IndexLemmas
+pub mod PagingLemmas

@@ -5,6 +5,7 @@ use Rattle.std.specs.Option.{option_map}
 use Rattle.ds_entry.specs.declared.item.Item.{Item}
 use Rattle.ds_feed.specs.Feed as feeds
 use Rattle.ds_feed.specs.Kept.{Kept, Keeps}
+use Rattle.ds_held.specs.Limits.{LimitsRecord}
 use Rattle.ds_join.specs.ItemTop.{IsTop, IsPartOf}
 use Rattle.ds_pattern.specs.declared.query.Query.{Query}
 use Rattle.ds_watch.specs.Followed.{Followed}
@@ -89,11 +90,11 @@ module _ (s : State) (i : Item) (r : IsReached s) (news : IsNews s.feed.accepted
     follow ws here e = all_follow 0 ws s.subscriptions (λ k. ap (λ n. get_or (v i) n false) (none_more k) ∙ here k) e (λ k seer f. (r.served k seer f).shown)
 
 -- ---- the state with the item
-pub stands_more : (x : ContentRecord) (s : State) (i : Item) (new : List Item) (journal : Kept) (u v : Item → List Bool) (ws : List (Option Watching)) → Stands x s → x.subscriptions ≡ followed_from x.held u 0 ws
+pub stands_more : (x : ContentRecord) (s : State) (i : Item) (new : List Item) (journal : Kept) (limits : LimitsRecord) (u v : Item → List Bool) (ws : List (Option Watching)) → Stands x s → x.subscriptions ≡ followed_from x.held u 0 ws
     → ((k : ℕ) → get_or (v i) k false ≡ watches i (get_or ws k None)) → ((y : Item) → Contains new y → Contains x.held y → v y ≡ u y)
-    → IsNews s.feed.accepted i → IsWithin (accepts s (i ∷ [])) → IsTop new (x.held ++ i ∷ []) → Keeps journal (feeds.accepts s.feed i)
-    → Stands (record x { held = new; journal = journal; subscriptions = followed_from new v 0 ws }) (accepts s (i ∷ []))
-stands_more x s i new journal u v ws stands is owes others news within t keeps =
+    → IsNews s.feed.accepted i → IsWithin (accepts s (i ∷ [])) → IsTop new (x.held ++ i ∷ []) → Keeps journal (feeds.accepts s.feed i) → limits ≡ x.limits
+    → Stands (record { held = new; journal = journal; limits = limits; stamp = x.stamp; subscriptions = followed_from new v 0 ws }) (accepts s (i ∷ []))
+stands_more x s i new journal limits u v ws stands is owes others news within t keeps bounds =
     let joined : IsTop new (held s ++ i ∷ []) = subst (λ hs. IsTop new (hs ++ i ∷ [])) stands.held t in
     let now : new ≡ held (accepts s (i ∷ [])) = held_more s i new stands.reached news joined in
     let same : followed_from (held s) u 0 ws ≡ map (option_map (followed_of (held s))) s.subscriptions =
@@ -102,7 +103,7 @@ stands_more x s i new journal u v ws stands is owes others news within t keeps =
     record {
       held = now;
       journal = keeps;
-      limits = stands.limits;
+      limits = bounds ∙ stands.limits;
       stamp = stands.stamp;
       subscriptions = follow s i stands.reached news new joined u v kept ws owes same ∙ ap (λ hs. map (option_map (followed_of hs)) s.subscriptions) now;
       reached = reached_more s i stands.reached news;

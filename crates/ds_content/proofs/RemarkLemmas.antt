@@ -1,5 +1,5 @@
 -- Other masks beside what is held, one index after the other.
-use Rattle.std.proofs.Common.{◌≡◌, ℕ, zero, suc, ◌+◌, ◌-◌, ◌<◌, ◌≤◌, ◌⊎◌, Bool, true, false, cond, ◌&&◌, List, [], ◌∷◌, ◌++◌, length, get_or, set, map, Option, Some, None, refl, ap, ap₂, sym, ◌∙◌, subst, inl, inr, arith, Contains}
+use Rattle.std.proofs.Common.{◌≡◌, ℕ, zero, suc, ◌+◌, ◌-◌, ◌<◌, ◌≤◌, ◌⊎◌, Bool, true, false, cond, ◌&&◌, List, [], ◌∷◌, ◌++◌, length, get_or, set, map, replicate, Option, Some, None, refl, ap, ap₂, sym, ◌∙◌, subst, inl, inr, arith, Contains}
 use Rattle.std.specs.Prelude.{slice_get}
 use Rattle.std.specs.FinMap.{FinMap, get, insert, entries, get-insert}
 use Rattle.std.specs.Option.{option_map, option_map_or}
@@ -20,6 +20,7 @@ use Rattle.ds_entry.proofs.CoversLemmas.{same_key, same_key-refl, same_name, sam
 use Rattle.ds_entry.proofs.ItemLemmas.{covers-refl}
 use Rattle.ds_join.specs.ItemTop.{IsTop}
 use Rattle.ds_held.specs.Held.{Holding, held_items, held_changes, held_floors, held_for, floor_for, floor_count, floor_item, change_item, IsSound}
+use Rattle.ds_held.specs.Kept.{floored}
 use Rattle.ds_held.specs.Marked.{MarkedHolding, mark_for, floor_mark_for, remarked, floor_remarked}
 use Rattle.ds_held.proofs.HeldLemmas.{is_held, held_is_top}
 use Rattle.ds_pattern.specs.declared.query.Query.{Query}
@@ -55,23 +56,18 @@ map_both : {X Y Z : Type 0} (f : Y → Z) (g : X → Y) (h : X → Z) (xs : List
 map_both f g h [] e = refl
 map_both f g h (x ∷ xs) e = ap₂ ◌∷◌ (sym (e x)) (map_both f g h xs e)
 
-floored : Floor → Item
-floored f = Floored f
-
-items_are : (h : Holding) → held_items h ≡ map floored (held_floors h) ++ map change_item (held_changes h)
-unfolding floored
-items_are h = ap (λ l. l ++ map change_item (held_changes h)) (map_both floored (λ (e : List ℕ × ℕ). floor_of e.0 e.1) floor_item (entries h.floors) (λ e. refl))
+pub items_floored : (h : Holding) → held_items h ≡ map floored (held_floors h) ++ map change_item (held_changes h)
+items_floored h = ap (λ l. l ++ map change_item (held_changes h)) (map_both floored (λ (e : List ℕ × ℕ). floor_of e.0 e.1) floor_item (entries h.floors) (λ e. refl))
 
 pub floor_item_at : (h : Holding) (k : ℕ) → k < floor_count h → slice_get (held_items h) k ≡ option_map (λ f. Floored f) (slice_get (held_floors h) k)
-unfolding floored
 floor_item_at h k l =
     let n = count_floors h in
-    ap (λ l. slice_get l k) (items_are h) ∙ at_front floored change_item (held_floors h) (held_changes h) k (omega (arith, n, l))
+    ap (λ l. slice_get l k) (items_floored h) ∙ at_front floored change_item (held_floors h) (held_changes h) k (omega (arith, n, l))
 
 pub change_item_at : (h : Holding) (k j : ℕ) → k ≡ floor_count h + j → slice_get (held_items h) k ≡ option_map (λ c. Changed c) (slice_get (held_changes h) j)
 change_item_at h k j e =
     let n = count_floors h in
-    ap (λ l. slice_get l k) (items_are h) ∙ at_back floored change_item (held_floors h) (held_changes h) k j (omega (arith, n, e))
+    ap (λ l. slice_get l k) (items_floored h) ∙ at_back floored change_item (held_floors h) (held_changes h) k j (omega (arith, n, e))
 
 pub top_itself : (h : Holding) → IsSound h → IsTop (held_items h) (held_items h)
 top_itself h sound = held_is_top h sound (held_items h) (λ i k. k) (λ i k. (i, k, covers-refl i))
@@ -221,3 +217,86 @@ same_watches i [] (suc sub) w stamp e = refl
 same_watches i (x ∷ ws) zero w stamp e = ap (λ o. watches i o ∷ map (watches i) ws) (sym e)
 same_watches i (x ∷ ws) (suc sub) w stamp e = ap (λ l. watches i x ∷ l) (same_watches i ws sub w stamp e)
 
+-- ---- after something was shown
+module _ (old new : MarkedHolding Masks) (count sub : ℕ) (all : AreRemarked old new count (λ k. shown_to sub)) where
+  -- at each index the masks are those after it was shown, or those that they were
+  by_index : (P : Option Masks → Option Masks → Type 0) → ((o : Option Masks) → P (option_map (shown_to sub) o) o) → ((o : Option Masks) → P o o)
+      → (i : Item) → Contains (held_items old.held) i → P (masks_at new i) (masks_at old i)
+  by_index P shown same i h =
+      let at = index_of (held_items old.held) i h in
+      by_place at.0 at.1 (below_or_not at.0 count)
+    where
+      by_place : (k : ℕ) → slice_get (held_items old.held) k ≡ Some i → (k < count) ⊎ (count ≤ k) → P (masks_at new i) (masks_at old i)
+      by_place k e (inl l) = subst (λ o. P o (masks_at old i)) (sym (all.first k i e l)) (shown (masks_at old i))
+      by_place k e (inr m) = subst (λ o. P o (masks_at old i)) (sym (all.rest k i e m)) (same (masks_at old i))
+
+  there : (i : Item) → Contains (held_items new.held) i → Contains (held_items old.held) i
+  there i h = subst (λ (x : Holding). Contains (held_items x) i) all.held h
+
+  check_under : (i : Item) → Contains (held_items old.held) i → under_at new i ≡ under_at old i
+  check_under = by_index (λ o p. option_map_or (λ (m : Masks). m.under) o [] ≡ option_map_or (λ (m : Masks). m.under) p []) (shown_under sub) (λ o. refl)
+
+  check_long : (i : Item) → Contains (held_items old.held) i → length (unseen_at new i) ≡ length (unseen_at old i)
+  check_long = by_index (λ o p. length (option_map_or (λ (m : Masks). m.unseen) o []) ≡ length (option_map_or (λ (m : Masks). m.unseen) p [])) (shown_long sub) (λ o. refl)
+
+  pub check_others : (i : Item) → Contains (held_items old.held) i → (k : ℕ) → (k ≡ sub → ⊥) → get_or (unseen_at new i) k false ≡ get_or (unseen_at old i) k false
+  check_others i h k n =
+      by_index (λ o p. get_or (option_map_or (λ (m : Masks). m.unseen) o []) k false ≡ get_or (option_map_or (λ (m : Masks). m.unseen) p []) k false) (λ o. shown_others sub k o n) (λ o. refl) i h
+
+  pub check_first : (k : ℕ) (i : Item) → slice_get (held_items old.held) k ≡ Some i → k < count → get_or (unseen_at new i) sub false ≡ false
+  check_first k i e l = ap (λ (o : Option Masks). get_or (option_map_or (λ (m : Masks). m.unseen) o []) sub false) (all.first k i e l) ∙ shown_here sub (masks_at old i)
+
+  pub check_rest : (k : ℕ) (i : Item) → slice_get (held_items old.held) k ≡ Some i → count ≤ k → get_or (unseen_at new i) sub false ≡ get_or (unseen_at old i) sub false
+  check_rest k i e m = ap (λ (o : Option Masks). get_or (option_map_or (λ (m : Masks). m.unseen) o []) sub false) (all.rest k i e m)
+
+  pub checked_marked : (ws : List (Option Watching)) (w : Watching) (stamp : ℕ) → get_or ws sub None ≡ Some w → AreMarked old ws → AreMarked new (set ws sub (Some (watching w.query stamp)))
+  checked_marked ws w stamp here are = record {
+    under = λ i h. check_under i (there i h) ∙ are.under i (there i h) ∙ ap padded (sym (same_watches i ws sub w stamp here));
+    long = λ i h. check_long i (there i h) ∙ are.long i (there i h);
+  }
+
+-- ---- after a subscription was made
+set_padded : (fs rest : List Bool) (sub : ℕ) (b : Bool) → sub < length fs → set (fs ++ rest) sub b ≡ set fs sub b ++ rest
+set_padded [] rest sub b l = absurd (omega arith)
+set_padded (f ∷ fs) rest zero b l = refl
+set_padded (f ∷ fs) rest (suc sub) b l = ap (λ t. f ∷ t) (set_padded fs rest sub b (omega arith))
+
+padded_set : (fs : List Bool) (sub : ℕ) (b : Bool) → sub < length fs → set (padded fs) sub b ≡ padded (set fs sub b)
+padded_set fs sub b l =
+    set_padded fs (replicate (128 - length fs) false) sub b l ∙ ap (λ n. set fs sub b ++ replicate (128 - n) false) (sym (length-set fs sub b))
+
+module _ (old new : MarkedHolding Masks) (sub : ℕ) (place : sub < 128) (q : Query) (initial : Bool) (flags : List Bool) (is : flags ≡ map (is_item_under q) (held_items old.held))
+    (all : AreRemarked old new (length flags) (λ k. made_at sub (get_or flags k false) initial)) where
+  -- each held item has the masks after it was made
+  made_each : (i : Item) → Contains (held_items old.held) i → masks_at new i ≡ option_map (made_at sub (is_item_under q i) initial) (masks_at old i)
+  made_each i h =
+      let at = index_of (held_items old.held) i h in
+      let within : at.0 < length (held_items old.held) = slice_get_within (held_items old.held) at.0 i at.1 in
+      let long : length flags ≡ length (held_items old.held) = ap (λ (fs : List Bool). length fs) is ∙ length-map (held_items old.held) (is_item_under q) in
+      let flag : get_or flags at.0 false ≡ is_item_under q i =
+      ap (λ (fs : List Bool). get_or fs at.0 false) is ∙ get_or-map (is_item_under q) (held_items old.held) at.0 i false within
+      ∙ ap (is_item_under q) (get_or_from_slice_get (held_items old.held) at.0 i i at.1) in
+      all.first at.0 i at.1 (omega (arith, within, long)) ∙ ap (λ b. option_map (made_at sub b initial) (masks_at old i)) flag
+
+  here_too : (i : Item) → Contains (held_items new.held) i → Contains (held_items old.held) i
+  here_too i h = subst (λ (x : Holding). Contains (held_items x) i) all.held h
+
+  pub made_flag : (i : Item) → Contains (held_items old.held) i → length (unseen_at old i) ≡ 128 → get_or (unseen_at new i) sub false ≡ is_item_under q i && initial
+  made_flag i h long =
+      ap (λ (o : Option Masks). get_or (option_map_or (λ (m : Masks). m.unseen) o []) sub false) (made_each i h) ∙ made_here sub (is_item_under q i) initial (masks_at old i) place long
+
+  pub made_other : (i : Item) → Contains (held_items old.held) i → (k : ℕ) → (k ≡ sub → ⊥) → get_or (unseen_at new i) k false ≡ get_or (unseen_at old i) k false
+  made_other i h k n =
+      ap (λ (o : Option Masks). get_or (option_map_or (λ (m : Masks). m.unseen) o []) k false) (made_each i h) ∙ made_others sub k (is_item_under q i) initial (masks_at old i) n
+
+  -- and the content is marked by its subscriptions
+  pub made_marked : (ws : List (Option Watching)) (w : Watching) → sub < length ws → w.query ≡ q → AreMarked old ws → AreMarked new (set ws sub (Some w))
+  made_marked ws w within same are = record {
+    under = λ i h.
+        (let k = here_too i h in
+        let few : sub < length (map (watches i) ws) = subst (λ n. sub < n) (sym (length-map ws (watches i))) within in
+        ap (λ (o : Option Masks). option_map_or (λ (m : Masks). m.under) o []) (made_each i k) ∙ made_under sub (is_item_under q i) initial (masks_at old i) (are.long i k)
+        ∙ ap₂ (λ fs b. set fs sub b) (are.under i k) (ap (λ (x : Query). is_item_under x i) (sym same)) ∙ padded_set (map (watches i) ws) sub (is_item_under w.query i) few
+        ∙ ap padded (sym (map-set (watches i) ws sub (Some w))));
+    long = λ i h. ap (λ (o : Option Masks). length (option_map_or (λ (m : Masks). m.unseen) o [])) (made_each i (here_too i h)) ∙ made_long sub (is_item_under q i) initial (masks_at old i) ∙ are.long i (here_too i h);
+  }

@@ -6,3 +6,4 @@ pub mod Taken
 pub mod Kept
 pub mod Marking
 pub mod Shown
+pub mod Paging

@@ -1,8 +1,12 @@
 -- What is to be shown to a subscription first.
-use Rattle.std.specs.Prelude.{◌≡◌, ℕ, ◌≤◌, ◌⊎◌, Bool, true, false, List, [], ◌∷◌, length, take, slice_index_or, Some, None}
+use Rattle.std.specs.Prelude.{◌≡◌, ℕ, ◌≤◌, ◌⊎◌, Bool, true, false, List, [], ◌∷◌, length, take, filter, slice_index_or, Some, None}
 use Rattle.ds_entry.specs.declared.item.Item.{Item}
+use Rattle.ds_held.specs.Held.{held_items}
+use Rattle.ds_held.specs.Marked.{MarkedHolding}
 use Rattle.ds_watch.specs.Followed.{Followed}
+use Rattle.ds_watch.specs.declared.masks.Masks.{Masks}
 use Rattle.ds_content.specs.Content.{ContentRecord}
+use Rattle.ds_content.specs.Kept.{unseen_at}
 
 -- the items whose flag is set
 abbrev pub flagged : List Bool → List Item → List Item
@@ -14,3 +18,13 @@ flagged (false ∷ flags) (i ∷ items) = flagged flags items
 -- of the first `passed` held items these are still to be shown to the subscription at the place
 abbrev pub AreUnseen : ContentRecord → ℕ → List Item → ℕ → Type 0
 AreUnseen content sub items passed = (f : Followed) → slice_index_or content.subscriptions sub None ≡ Some f → items ≡ flagged f.unseen (take passed content.held)
+
+-- the item is still to be shown to the subscription at the place
+abbrev pub is_to_show : MarkedHolding Masks → ℕ → Item → Bool
+is_to_show h sub i = slice_index_or (unseen_at h i) sub false
+
+-- of the first `passed` items these are still to be shown to the subscription: `max` of them, or all
+pub record AreFirst (h : MarkedHolding Masks) (sub max : ℕ) (items : List Item) (passed : ℕ) : Type 0 where
+  pub shown : items ≡ filter (is_to_show h sub) (take passed (held_items h.held))
+  pub few : length items ≤ max
+  pub enough : (length items ≡ max) ⊎ (length (held_items h.held) ≤ passed)

@@ -16,15 +16,23 @@ ghost use Rattle.ds_content.specs.Stands.{Stands};
 
 use ds_entry::Change;
 use ds_feed::{Cursor, Journal, OpenFault};
-use ds_held::Marked as Labelled;
 use ds_held::{Held, Limits};
+use ds_index::Labelled;
 use ds_names::{Endpoint, Generation, Key, Name};
 use ds_watch::{Masks, Subscriptions};
 use std::alloc::Global;
 use std::marker::Model;
 
 mod accepting;
+mod copying;
+mod marking;
+mod paging;
 mod raising;
+mod reading;
+mod showing;
+mod subscribing;
+
+pub use showing::Shown;
 
 /// All that a store keeps: what it holds, the journal of what took effect, and its subscriptions.
 ///

@@ -7,4 +7,4 @@
 
 mod content;
 
-pub use content::Content;
+pub use content::{Content, Shown};

@@ -2,19 +2,44 @@
 
 ghost use Rattle.std.specs.Prelude.{◌≡◌, ◌<◌, ◌≤◌, ◌&&◌, Some, None, length, map, false, slice_get, slice_index_or, IfOk};
 ghost use Rattle.std.specs.Option.{option_map};
+ghost use Rattle.ds_entry.specs.Change.{ChangeRecord};
+ghost use Rattle.ds_entry.specs.declared.floor.Floor.{Floor};
 ghost use Rattle.ds_entry.specs.declared.item.Item as items;
-ghost use Rattle.ds_held.specs.Held.{held_items};
+ghost use Rattle.ds_held.specs.Held.{held_items, held_changes, held_floors};
+ghost use Rattle.ds_held.specs.Marked.{mark_for, floor_mark_for};
 ghost use Rattle.ds_machine.specs.Scope.{is_item_under};
 ghost use Rattle.ds_watch.specs.Masks.{shown_to, made_at};
 ghost use Rattle.ds_content.specs.Kept.{masks_at};
 ghost use Rattle.ds_content.specs.Marking.{IsSet, IsRemarked, AreRemarked};
 
 use ds_held::Held;
-use ds_held::Marked as Labelled;
+use ds_index::Labelled;
 use ds_names::NoRoom;
 use ds_pattern::{Asker, Filter};
 use ds_watch::Masks;
 use std::alloc::Global;
+
+// The masks beside the floor at the index.
+fn floor_masks(held: &Labelled<Masks>, index: usize) -> Option<Masks>
+    ensures here { (f : Floor) → slice_get (held_floors held.now.held) index ≡ Some f → result ≡ floor_mark_for held.now f.owner }
+    ensures none { slice_get (held_floors held.now.held) index ≡ None → result ≡ None }
+{
+    match held.floor_at(index) {
+        Some((_, masks)) => Some(*masks),
+        None => None,
+    }
+}
+
+// The masks beside the change at the index.
+fn change_masks(held: &Labelled<Masks>, index: usize) -> Option<Masks>
+    ensures here { (c : ChangeRecord) → slice_get (held_changes held.now.held) index ≡ Some c → result ≡ mark_for held.now c.key }
+    ensures none { slice_get (held_changes held.now.held) index ≡ None → result ≡ None }
+{
+    match held.at(index) {
+        Some((_, masks)) => Some(*masks),
+        None => None,
+    }
+}
 
 /// The masks beside the item at the index, floors first and then changes in key order.
 pub(super) fn masks_of(held: &Labelled<Masks>, index: usize) -> Option<Masks>
@@ -23,15 +48,9 @@ pub(super) fn masks_of(held: &Labelled<Masks>, index: usize) -> Option<Masks>
 {
     let floors = held.floor_count();
     if index < floors {
-        match held.floor_at(index) {
-            Some((_, masks)) => Some(*masks),
-            None => None,
-        }
+        floor_masks(held, index)
     } else {
-        match held.at(index - floors) {
-            Some((_, masks)) => Some(*masks),
-            None => None,
-        }
+        change_masks(held, index - floors)
     }
 }
 

@@ -35,10 +35,17 @@ impl Content {
         ensures err { OnErr result (self.new ≡ self.old) }
         ensures new_owner { OnErr result (floor_at self.old.held floor.owner ≡ None) }
     {
-        let item = Item::Floor(floor);
+        let item = item_of(&floor);
         let _held = self.held.held();
         taken(self.held.raise(floor, Masks::fresh(owed)))?;
         self.journal.push(item);
         Ok(())
     }
+}
+
+// The floor as an item.
+fn item_of(floor: &Floor) -> Item
+    ensures { result ≡ Floored floor.now }
+{
+    Item::Floor(*floor)
 }

@@ -1,16 +1,24 @@
 //! What is shown to subscriptions.
 
-ghost use Rattle.std.specs.Prelude.{◌≡◌, ◌<◌, ◌++◌, Some, None, true, is_some, take, slice_index_or, IfOk, OnErr};
+ghost use Rattle.std.specs.Prelude.{◌≡◌, ◌<◌, ◌++◌, Some, None, true, ◌∷◌, [], cond, is_some, take, slice_get, slice_index_or, IfOk, OnOk, OnErr};
+ghost use Rattle.std.specs.List.{list_any};
 ghost use Rattle.ds_machine.specs.Limits.{last_place};
 ghost use Rattle.ds_machine.specs.State.{State, subscribes, subscription_at, unseen};
 ghost use Rattle.ds_machine.specs.Subscription.{Subscription as Seer};
 ghost use Rattle.ds_machine.specs.Watching.{has_unseen};
-ghost use Rattle.ds_content.specs.Shown.{AreUnseen};
+ghost use Rattle.ds_entry.specs.declared.item.Item as entries;
+ghost use Rattle.ds_held.specs.Held.{held_items};
+ghost use Rattle.ds_content.specs.Shown.{AreUnseen, AreFirst, is_to_show};
 ghost use Rattle.ds_content.specs.Stands.{Stands};
 
 use crate::content::Content;
-use crate::content::marking::show_first;
+use crate::content::copying::copy_at;
+use crate::content::marking::{masks_of, show_first};
 use ds_entry::ItemList;
+use ds_index::Labelled;
+use ds_names::NoRoom;
+use ds_watch::Masks;
+use std::alloc::Global;
 
 /// What is shown, and how many held items were passed for that, from the first on.
 #[derive(Debug, Drop)]
@@ -19,7 +27,74 @@ pub struct Shown {
     pub passed: usize,
 }
 
+// The item at the index is shown where it is still to be shown to the subscription with this number. It tells whether there
+// is one.
+fn show_unseen(
+    alloc: Global,
+    items: &mut ItemList,
+    held: &Labelled<Masks>,
+    index: usize,
+    sub: usize,
+) -> Result<bool, NoRoom>
+    requires { sub < 128 }
+    ensures there { IfOk result (λ there. there ≡ is_some (slice_get (held_items held.now.held) index)) }
+    ensures shown { OnOk result ((i : entries.Item) → slice_get (held_items held.now.held) index ≡ Some i → items.new ≡ items.old ++ cond (is_to_show held.now sub i) (i ∷ []) []) }
+    ensures same { OnOk result (slice_get (held_items held.now.held) index ≡ None → items.new ≡ items.old) }
+    ensures refused { OnErr result ((i : entries.Item) × (slice_get (held_items held.now.held) index ≡ Some i) × (is_to_show held.now sub i ≡ true)) }
+{
+    let content = held.held();
+    let Some(masks) = masks_of(held, index) else {
+        return Ok(false);
+    };
+    if !masks.is_unseen(sub) {
+        return Ok(true);
+    }
+    let Some(item) = copy_at(alloc, content, index)? else {
+        return Ok(false);
+    };
+    items.push(item)?;
+    Ok(true)
+}
+
+// The first `max` held items that are to be shown to the subscription with this number.
+fn first_unseen(
+    alloc: Global,
+    held: &Labelled<Masks>,
+    sub: usize,
+    max: usize,
+) -> Result<Shown, NoRoom>
+    requires { sub < 128 }
+    ensures first { IfOk result (λ shown. AreFirst held.now sub max shown.items shown.passed) }
+    ensures refused { OnErr result (list_any (is_to_show held.now sub) (held_items held.now.held) ≡ true) }
+{
+    let content = held.held();
+    let _keys = content.limits().keys();
+    let _count = content.len();
+    let _floors = held.floor_count();
+    let mut items = ItemList::new(alloc);
+    let mut passed = 0;
+    while items.len() < max {
+        if !show_unseen(alloc, &mut items, held, passed, sub)? {
+            return Ok(Shown { items, passed });
+        }
+        passed += 1;
+    }
+    Ok(Shown { items, passed })
+}
+
 impl Content {
+    /// The first `max` held items that are still to be shown to the subscription with this number, floors first and then
+    /// changes in key order. It takes memory for these alone, so want of it says that there are some.
+    pub fn first_unseen(&self, sub: u32, max: u32) -> Result<Shown, NoRoom>
+        requires { sub < self.now.limits.subs }
+        ensures unseen { IfOk result (λ shown. AreUnseen self.now sub shown.items shown.passed) }
+        ensures first { (s : State) (seer : Seer) → Stands self.now s → subscription_at s sub ≡ Some seer → IfOk result (λ shown. shown.items ≡ take max (unseen s seer)) }
+        ensures refused { (s : State) (seer : Seer) → Stands self.now s → subscription_at s sub ≡ Some seer → OnErr result (has_unseen s seer ≡ true) }
+    {
+        let _held = self.held.held();
+        first_unseen(self.alloc, &self.held, sub as usize, max as usize)
+    }
+
     /// These items were shown to the subscription with this number, at the next stamp. It takes no memory.
     pub fn show(&mut self, sub: u32, shown: &Shown)
         requires made { is_some (slice_index_or self.old.subscriptions sub None) ≡ true }
@@ -27,6 +102,7 @@ impl Content {
         requires room { self.old.stamp < last_place }
         ensures { (s : State) (seer : Seer) → Stands self.old s → subscription_at s sub ≡ Some seer → Stands self.new (subscribes s sub seer.query (seer.shown ++ shown.now.items)) }
     {
+        let _held = self.held.held();
         show_first(&mut self.held, shown.passed, sub as usize);
         self.stamp += 1;
         self.subscriptions.set_stamp(sub as usize, self.stamp);

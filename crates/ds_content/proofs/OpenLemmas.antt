@@ -1,0 +1,116 @@
+-- What a content stands for where it begins, and small facts of what it gives.
+use Rattle.std.proofs.Common.{◌≡◌, ℕ, zero, suc, ◌≤◌, Bool, List, [], ◌∷◌, ◌++◌, map, length, get_or, replicate, Option, Some, None, Result, Ok, Err, IfOk, refl, ap, ap₂, sym, ◌∙◌, subst, arith, Contains}
+use Rattle.std.proofs.lemmas.List.{length-replicate}
+use Rattle.std.specs.FinMap.{entries, len, len-entries, len-empty}
+use Rattle.std.specs.Option.{option_map}
+use Rattle.std.specs.Result.{OnErr}
+use Rattle.ds_names.specs.declared.key.Key.{Key}
+use Rattle.ds_names.specs.Key.{name_cmp, key_cmp}
+use Rattle.ds_entry.specs.Change.{ChangeRecord}
+use Rattle.ds_entry.specs.Floor.{floor_of}
+use Rattle.ds_entry.specs.declared.floor.Floor.{Floor}
+use Rattle.ds_entry.specs.declared.item.Item.{Item}
+use Rattle.ds_entry.proofs.Members.{Contains-nil}
+use Rattle.ds_feed.specs.Feed as feeds
+use Rattle.ds_feed.specs.Kept.{Kept, Keeps}
+use Rattle.ds_held.specs.Held.{Holding, held_items, nothing_held, floor_item, change_item}
+use Rattle.ds_held.specs.Limits.{LimitsRecord, IsLimits}
+use Rattle.ds_held.specs.Marked.{MarkedHolding, nothing_marked}
+use Rattle.ds_watch.specs.Watching.{Watching}
+use Rattle.ds_watch.specs.declared.masks.Masks.{Masks}
+use Rattle.ds_machine.specs.Limits.{last_place}
+use Rattle.ds_machine.specs.State.{State, opening}
+use Rattle.ds_machine.proofs.WithinLemmas.{opening_is_within}
+use Rattle.ds_machine.specs.Reached.{IsReached}
+use Rattle.ds_machine.specs.Subscription.{Subscription}
+use Rattle.ds_content.specs.Content.{ContentRecord}
+use Rattle.ds_content.specs.Followed.{followed_of, followed_from}
+use Rattle.ds_content.specs.Kept.{AreMarked, unseen_at}
+use Rattle.ds_content.specs.Stands.{Stands}
+
+no_length : {X : Type 0} (xs : List X) → length xs ≡ 0 → xs ≡ []
+no_length [] e = refl
+no_length (x ∷ xs) e = absurd (omega (arith, e))
+
+no_floors : (h : Holding) → len h.floors ≡ 0 → entries h.floors ≡ []
+no_floors h e = no_length (entries h.floors) (omega (arith, len-entries h.floors, e))
+
+no_changes : (h : Holding) → len h.changes ≡ 0 → entries h.changes ≡ []
+no_changes h e = no_length (entries h.changes) (omega (arith, len-entries h.changes, e))
+
+pub nothing_is_held : (limits : LimitsRecord) → held_items (nothing_held limits) ≡ []
+nothing_is_held limits =
+    let h = nothing_held limits in
+    ap₂ (λ (fs : List (List ℕ × ℕ)) (es : List (Key × ChangeRecord)). map floor_item fs ++ map change_item (map (λ (e : Key × ChangeRecord). e.1) es)) (no_floors h (len-empty name_cmp ℕ)) (no_changes h (len-empty key_cmp ChangeRecord))
+
+-- ---- the opening state
+not_nothing : {X : Type 0} (front back : List X) (x : X) → [] ≡ front ++ x ∷ back → ⊥
+not_nothing [] back x e = cc
+not_nothing (y ∷ front) back x e = cc
+
+none_at : (n k : ℕ) → get_or (replicate {A = Option Subscription} n None) k None ≡ None
+none_at zero k = refl
+none_at (suc n) zero = refl
+none_at (suc n) (suc k) = none_at n k
+
+no_seer : (n k : ℕ) (seer : Subscription) → get_or (replicate n None) k None ≡ Some seer → ⊥
+no_seer n k seer e = let no : None ≡ Some seer = sym (none_at n k) ∙ e in cc
+
+opening_is_reached : (incarnation first ring : ℕ) (limits : LimitsRecord) → IsLimits limits → IsReached (opening incarnation first ring limits)
+opening_is_reached incarnation first ring limits bounds = record {
+  limits = bounds;
+  places = length-replicate {A = Option Subscription} limits.subs None;
+  owners = λ front back i e. absurd (not_nothing front back i e);
+  exact = λ i j h. absurd (Contains-nil i h);
+  served = λ k seer e. absurd (no_seer limits.subs k seer e);
+}
+
+none_from : (hs gs : List Item) (u : Item → List Bool) (place n : ℕ) → followed_from hs u place (replicate n None) ≡ map (option_map (followed_of gs)) (replicate n None)
+none_from hs gs u place zero = refl
+none_from hs gs u place (suc n) = ap (λ fs. None ∷ fs) (none_from hs gs u (suc place) n)
+
+-- ---- where nothing is held and no subscription is made
+module _ (h : MarkedHolding Masks) (ws : List (Option Watching)) (limits : LimitsRecord) (nothing : h ≡ nothing_marked limits) (none : ws ≡ replicate limits.subs None) where
+  nothing_here : held_items h.held ≡ []
+  nothing_here = ap (λ (x : MarkedHolding Masks). held_items x.held) nothing ∙ nothing_is_held limits
+
+  pub bounds_here : h.held.limits ≡ limits
+  bounds_here = ap (λ (x : MarkedHolding Masks). x.held.limits) nothing
+
+  pub places_here : length ws ≡ h.held.limits.subs
+  places_here = ap (λ (l : List (Option Watching)). length l) none ∙ length-replicate {A = Option Watching} limits.subs None ∙ ap (λ (l : LimitsRecord). l.subs) (sym bounds_here)
+
+  pub none_marked : AreMarked h ws
+  none_marked = record {
+    under = λ i k. absurd (Contains-nil i (subst (λ (l : List Item). Contains l i) nothing_here k));
+    long = λ i k. absurd (Contains-nil i (subst (λ (l : List Item). Contains l i) nothing_here k));
+  }
+
+  pub stands_opening : (journal : Kept) (incarnation first ring stamp : ℕ) → Keeps journal (feeds.opening incarnation first ring) → stamp ≡ first → IsLimits limits → first ≤ last_place
+      → Stands (record { held = held_items h.held; journal = journal; limits = h.held.limits; stamp = stamp; subscriptions = followed_from (held_items h.held) (unseen_at h) 0 ws }) (opening incarnation first ring limits)
+  stands_opening journal incarnation first ring stamp keeps is bounds low = record {
+    held = nothing_here;
+    journal = keeps;
+    limits = bounds_here;
+    stamp = is;
+    subscriptions = ap (followed_from (held_items h.held) (unseen_at h) 0) none ∙ none_from (held_items h.held) [] (unseen_at h) 0 limits.subs;
+    reached = opening_is_reached incarnation first ring limits bounds;
+    within = opening_is_within incarnation first ring limits low;
+  }
+
+-- ---- small facts
+pub on_err : {T E : Type 0} (r : Result T E) (P : Type 0) → P → OnErr r P
+on_err (Ok x) P p = tt
+on_err (Err e) P p = p
+
+pub if_ok : {A E : Type 0} (P Q : A → Type 0) (r : Result A E) → ((x : A) → P x → Q x) → IfOk r P → IfOk r Q
+if_ok P Q (Ok x) f p = f x p
+if_ok P Q (Err e) f p = tt
+
+pub generation_of : (owner : List ℕ) (o : Option ℕ) → o ≡ option_map (λ (f : Floor). f.generation) (option_map (floor_of owner) o)
+generation_of owner None = refl
+generation_of owner (Some g) = refl
+
+pub if_err : {T E : Type 0} {P Q : Type 0} (r : Result T E) → (P → Q) → OnErr r P → OnErr r Q
+if_err (Ok x) f p = tt
+if_err (Err e) f p = f p

@@ -1,0 +1,30 @@
+use Rattle.std.proofs.Common.{◌≡◌, true, take, ap, sym, ◌∙◌, subst}
+use Rattle.ds_machine.specs.State.{unseen}
+use Rattle.ds_machine.specs.Watching.{has_unseen}
+use Rattle.ds_content.specs.Content.{ContentRecord}
+use Rattle.ds_content.specs.Kept.{content_of}
+use Rattle.ds_content.specs.Shown.{AreUnseen, AreFirst}
+use Rattle.ds_content.specs.Stands.{Stands}
+use Rattle.ds_content.specs.declared.content.showing.Shown.{Shown}
+use Rattle.ds_content.proofs.OpenLemmas.{if_ok, if_err}
+use Rattle.ds_content.proofs.ServeLemmas.{seat_here, are_unseen, first_are, to_show, some_to_show}
+use Rattle.ds_content.proofs.content.Content.first_unseen.Goals as goal
+
+pub first_unseen-requires : goal.first_unseen-requires
+first_unseen-requires c =
+    (seat_here c.self.inside.held c.self.inside.journal c.self.inside.stamp c.self.inside.subscriptions c.args.self.now c.self.view_is c.self.invariant.stood.0 c.self.invariant.stood.1 c.self.invariant.places c.args.sub c.requires).1
+
+pub returns-clause-unseen : goal.returns-clause-unseen
+returns-clause-unseen c =
+    if_ok (λ (x : Shown). AreFirst c.self.inside.held c.args.sub c.args.max x.items x.passed) (λ (x : Shown). AreUnseen c.args.self.now c.args.sub x.items x.passed) c.first_unseen.result
+    (λ x first. subst (λ (v : ContentRecord). AreUnseen v c.args.sub x.items x.passed) c.self.view_is (are_unseen c.self.inside.held c.self.inside.subscriptions c.args.sub c.self.inside.journal c.self.inside.stamp x.items x.passed first.shown)) c.first_unseen.ensures.first
+
+pub returns-clause-first : goal.returns-clause-first
+returns-clause-first c = λ s seer stands here.
+    if_ok (λ (x : Shown). AreFirst c.self.inside.held c.args.sub c.args.max x.items x.passed) (λ (x : Shown). x.items ≡ take c.args.max (unseen s seer)) c.first_unseen.result
+    (λ x first. first_are c.self.inside.held c.args.sub c.args.max x.items x.passed first
+    ∙ ap (take c.args.max) (to_show c.self.inside.held c.self.inside.subscriptions c.args.sub c.held-held.ensures.sound c.self.inside.journal c.self.inside.stamp s (subst (λ (v : ContentRecord). Stands v s) (sym c.self.view_is) stands) seer here)) c.first_unseen.ensures.first
+
+pub returns-clause-refused : goal.returns-clause-refused
+returns-clause-refused c = λ s seer stands here.
+    if_err c.first_unseen.result (some_to_show c.self.inside.held c.self.inside.subscriptions c.args.sub c.held-held.ensures.sound c.self.inside.journal c.self.inside.stamp s (subst (λ (v : ContentRecord). Stands v s) (sym c.self.view_is) stands) seer here) c.first_unseen.ensures.refused

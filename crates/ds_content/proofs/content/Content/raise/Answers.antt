@@ -1,0 +1,99 @@
+use Rattle.std.proofs.Common.{◌≡◌, List, Bool, [], ◌∷◌, ◌++◌, None, map, refl, ap, sym, ◌∙◌, subst, Ok, Contains}
+use Rattle.std.specs.FinMap.{insert}
+use Rattle.std.specs.Result.{OnOk}
+use Rattle.ds_entry.specs.declared.item.Item.{Item}
+use Rattle.ds_entry.specs.declared.item.Item.TheVariants.{Floor as Floored}
+use Rattle.ds_feed.specs.Feed as feeds
+use Rattle.ds_feed.specs.Feed.{Feed}
+use Rattle.ds_feed.specs.Kept.{Keeps}
+use Rattle.ds_held.specs.Held.{Holding, held_items}
+use Rattle.ds_held.specs.Marked.{marks_raised, floor_marks_after}
+use Rattle.ds_held.specs.Raise.{after_raise, at_kept_keys, RaiseAnswer}
+use Rattle.ds_join.specs.ItemTop.{IsTop}
+use Rattle.ds_join.specs.declared.merge.Merge.TheVariants.{Taken}
+use Rattle.ds_machine.specs.Parts.{floor_at}
+use Rattle.ds_machine.specs.State.{State, accepts}
+use Rattle.ds_watch.specs.Mask.{padded}
+use Rattle.ds_watch.specs.Masks.{fresh}
+use Rattle.ds_watch.specs.declared.masks.Masks.{Masks}
+use Rattle.ds_content.specs.Content.{ContentRecord}
+use Rattle.ds_content.specs.Followed.{watches}
+use Rattle.ds_content.specs.Free.{IsFloorFree}
+use Rattle.ds_content.specs.Kept.{content_of}
+use Rattle.ds_content.specs.Stands.{Stands}
+use Rattle.ds_content.proofs.EnterLemmas.{effect, marked_then, places_then, floor_view}
+use Rattle.ds_content.proofs.HoldingLemmas.{floor_taken, floor_new}
+use Rattle.ds_content.proofs.KeptLemmas.{floor_here, floor_kept}
+use Rattle.ds_content.proofs.OpenLemmas.{on_err}
+use Rattle.ds_content.proofs.RoomLemmas.{floor_enters}
+use Rattle.ds_content.proofs.content.Content.raise.Goals as goal
+use Rattle.ds_content.proofs.content.Content.raise.Goals.{In_ok-taken, After-push}
+
+free : (c : In_ok-taken) → IsFloorFree (content_of c.self.inside) c.args.floor
+free c = subst (λ (v : ContentRecord). IsFloorFree v c.args.floor) (sym c.self.view_is) c.requires.free
+
+pub taken-requires : goal.taken-requires
+taken-requires c =
+    let f : IsFloorFree (content_of c.self.inside) c.args.floor = subst (λ (v : ContentRecord). IsFloorFree v c.args.floor) (sym c.self.view_is) c.requires.free in
+    floor_taken c.self.inside.held.held c.held-held.ensures.sound c.args.floor c.raise.result f.higher c.raise.ensures.answer
+
+pub returns-in_err-taken-clause-new_owner : goal.returns-in_err-taken-clause-new_owner
+returns-in_err-taken-clause-new_owner c =
+    let new : floor_at (held_items c.self.inside.held.held) c.args.floor.owner ≡ None =
+    floor_new c.self.inside.held.held c.held-held.ensures.sound c.args.floor (subst (λ r. RaiseAnswer c.self.inside.held.held c.args.floor r) c.in_err-taken.ensures.err c.raise.ensures.answer) in
+    on_err c.from_residual.result (floor_at c.args.self.now.held c.args.floor.owner ≡ None) (subst (λ (v : ContentRecord). floor_at v.held c.args.floor.owner ≡ None) c.self.view_is new)
+
+-- what is held is the top with the floor
+joined : (c : In_ok-taken) → IsTop (held_items c.raise.new.self.held) (held_items c.self.inside.held.held ++ Floored c.args.floor ∷ [])
+joined c = subst (λ r. OnOk r (IsTop (held_items c.raise.new.self.held) (held_items c.self.inside.held.held ++ Floored c.args.floor ∷ []))) c.in_ok-taken.ensures.ok c.raise.ensures.joined
+
+held : (c : In_ok-taken) → c.raise.new.self.held ≡ after_raise c.self.inside.held.held c.args.floor (Ok Taken)
+held c = c.raise.ensures.held ∙ ap (λ r. after_raise c.self.inside.held.held c.args.floor r) c.in_ok-taken.ensures.ok
+
+-- what it makes void was dropped with its masks
+marks : (c : In_ok-taken) → c.raise.new.self.marks ≡ at_kept_keys c.args.floor c.self.inside.held.held.changes c.self.inside.held.marks
+marks c = c.raise.ensures.marks ∙ ap (λ r. marks_raised c.self.inside.held.held.changes c.self.inside.held.marks c.args.floor r) c.in_ok-taken.ensures.ok
+
+-- its own masks came with it
+floors : (c : In_ok-taken) → c.raise.new.self.floor_marks ≡ insert c.self.inside.held.floor_marks c.args.floor.owner (fresh c.args.owed)
+floors c =
+    c.raise.ensures.floor_marks ∙ ap (λ r. floor_marks_after c.self.inside.held.floor_marks c.args.floor.owner c.fresh.result r) c.in_ok-taken.ensures.ok
+    ∙ ap (λ (m : Masks). insert c.self.inside.held.floor_marks c.args.floor.owner m) c.fresh.ensures
+
+-- it is owed to all that are made
+owes : (c : In_ok-taken) → c.args.owed ≡ padded (map (watches (Floored c.args.floor)) c.self.inside.subscriptions)
+owes c = c.requires.owed ∙ floor_view c.self.inside.held c.self.inside.journal c.self.inside.stamp c.self.inside.subscriptions c.args.self.now c.self.view_is c.args.floor
+
+pushed : (c : After-push) → (f : Feed) → Keeps c.self.inside.journal f → Keeps c.push.new.self (feeds.accepts f (Floored c.args.floor))
+pushed c f keeps = subst (λ (i : Item). Keeps c.push.new.self (feeds.accepts f i)) c.item_of-item.ensures (c.push.ensures f keeps)
+
+pub returns-clause-ok : goal.returns-clause-ok
+returns-clause-ok c = λ s stands.
+    let b = (goal.at.returns-clause-ok c).In_ok-taken in
+    let d = (goal.at.returns-clause-ok c).After-push in
+    let old = c.self.inside.held in
+    let new = c.raise.new.self in
+    effect old new c.self.inside.journal c.push.new.self c.self.inside.stamp c.self.inside.subscriptions (Floored c.args.floor) c.args.owed (joined b) (ap (λ (h : Holding). h.limits) (held b))
+    (floor_here old new c.args.floor c.args.owed c.raise.ensures.sound (held b) (marks b) (floors b))
+    (floor_kept old new c.args.floor c.args.owed c.raise.ensures.sound (held b) (marks b) (floors b)) (owes b) (pushed d)
+    (λ t stood. floor_enters (content_of c.self.inside) t c.args.floor stood (free b)) s (subst (λ (v : ContentRecord). Stands v s) (sym c.self.view_is) stands)
+
+pub invariant_of-self-2 : goal.invariant_of-self-2
+invariant_of-self-2 c =
+    let b = (goal.at.invariant_of-self-2 c).In_ok-taken in
+    let d = (goal.at.invariant_of-self-2 c).After-push in
+    let old = c.self.inside.held in
+    let new = c.raise.new.self in
+    let here = floor_here old new c.args.floor c.args.owed c.raise.ensures.sound (held b) (marks b) (floors b) in
+    let kept = floor_kept old new c.args.floor c.args.owed c.raise.ensures.sound (held b) (marks b) (floors b) in
+    let bounds : new.held.limits ≡ old.held.limits = ap (λ (h : Holding). h.limits) (held b) in
+    let enters = λ (t : State) (stood : Stands (content_of c.self.inside) t). floor_enters (content_of c.self.inside) t c.args.floor stood (free b) in
+    let stood = c.self.invariant.stood in
+    record {
+      places = places_then old new c.self.inside.journal c.push.new.self c.self.inside.stamp c.self.inside.subscriptions (Floored c.args.floor) c.args.owed (joined b) bounds here kept (owes b) (pushed d) enters c.self.invariant.places;
+      marked = marked_then old new c.self.inside.journal c.push.new.self c.self.inside.stamp c.self.inside.subscriptions (Floored c.args.floor) c.args.owed (joined b) bounds here kept (owes b) (pushed d) enters stood.0 stood.1 c.self.invariant.places c.self.invariant.marked;
+      stood = (
+        accepts stood.0 (Floored c.args.floor ∷ []),
+        effect old new c.self.inside.journal c.push.new.self c.self.inside.stamp c.self.inside.subscriptions (Floored c.args.floor) c.args.owed (joined b) bounds here kept (owes b) (pushed d) enters stood.0 stood.1,
+      );
+    }

@@ -1,0 +1,11 @@
+use Rattle.std.proofs.Common.{ap, sym, subst}
+use Rattle.ds_watch.specs.Masks.{made_at}
+use Rattle.ds_watch.specs.declared.masks.Masks.{Masks}
+use Rattle.ds_content.specs.Marking.{IsSet}
+use Rattle.ds_content.proofs.RemarkLemmas.{set_is_remarked}
+use Rattle.ds_content.proofs.content.marking.make_one.Goals as goal
+
+pub returns-in-Some : goal.returns-in-Some
+returns-in-Some c =
+    set_is_remarked c.args.held.now c.set_masks.new.held c.args.index (made_at c.args.sub c.args.is_under c.args.initial) c.in-Some.masks c.in-Some.ensures.here
+    (subst (λ (m : Masks). IsSet c.args.held.now c.set_masks.new.held c.args.index m) c.made_at.ensures.made c.set_masks.ensures)

@@ -1,0 +1,83 @@
+//! Copies of what is held.
+
+ghost use Rattle.std.specs.Prelude.{◌≡◌, ◌++◌, ◌∷◌, [], Some, None, filter, is_some, slice_get, IfOk, OnOk};
+ghost use Rattle.ds_entry.specs.Item.{passes};
+ghost use Rattle.ds_entry.specs.declared.item.Item as entries;
+ghost use Rattle.ds_held.specs.Held.{held_items};
+
+use ds_entry::{Item, ItemList};
+use ds_feed::KeyScope;
+use ds_held::Held;
+use ds_names::NoRoom;
+use std::alloc::Global;
+
+/// The item at the index once more, floors first and then changes in key order. `None` behind the last one.
+pub(super) fn copy_at(alloc: Global, held: &Held, index: usize) -> Result<Option<Item>, NoRoom>
+    ensures { IfOk result (λ item. item ≡ slice_get (held_items held.now) index) }
+{
+    let floors = held.floor_count();
+    if index < floors {
+        return match held.floor_at(index) {
+            Some(floor) => Ok(Some(Item::Floor(floor))),
+            None => Ok(None),
+        };
+    }
+    match held.at(index - floors) {
+        Some(change) => Ok(Some(Item::Change(change.copy(alloc)?))),
+        None => Ok(None),
+    }
+}
+
+// Whether the item is under the scope, as every floor is.
+fn is_under<S: KeyScope>(scope: &mut S, item: &Item) -> bool
+    ensures told { result ≡ passes (S.keeps scope.old) item.now }
+    ensures scope { S.keeps scope.new ≡ S.keeps scope.old }
+{
+    match item {
+        Item::Change(change) => scope.admits(change.key()),
+        Item::Floor(_) => true,
+    }
+}
+
+// Adds the item at the index where it is under the scope. It tells whether there is one.
+fn add_at<S: KeyScope>(
+    alloc: Global,
+    held: &Held,
+    index: usize,
+    scope: &mut S,
+    items: &mut ItemList,
+) -> Result<bool, NoRoom>
+    ensures there { IfOk result (λ there. there ≡ is_some (slice_get (held_items held.now) index)) }
+    ensures added { OnOk result ((i : entries.Item) → slice_get (held_items held.now) index ≡ Some i → items.new ≡ items.old ++ filter (passes (S.keeps scope.old)) (i ∷ [])) }
+    ensures same { OnOk result (slice_get (held_items held.now) index ≡ None → items.new ≡ items.old) }
+    ensures scope { S.keeps scope.new ≡ S.keeps scope.old }
+{
+    let Some(item) = copy_at(alloc, held, index)? else {
+        return Ok(false);
+    };
+    if !is_under(scope, &item) {
+        return Ok(true);
+    }
+    items.push(item)?;
+    Ok(true)
+}
+
+/// All that is held under the scope, floors first and then changes in key order.
+pub(super) fn all_under<S: KeyScope>(
+    alloc: Global,
+    held: &Held,
+    scope: &mut S,
+) -> Result<ItemList, NoRoom>
+    ensures items { IfOk result (λ items. items ≡ filter (passes (S.keeps scope.old)) (held_items held.now)) }
+    ensures scope { S.keeps scope.new ≡ S.keeps scope.old }
+{
+    let _keys = held.limits().keys();
+    let _count = held.len();
+    let _floors = held.floor_count();
+    let mut items = ItemList::new(alloc);
+    let mut index = 0;
+    while add_at(alloc, held, index, scope, &mut items)? {
+        index += 1;
+    }
+    Ok(items)
+}

@@ -1,0 +1,111 @@
+//! Pages of what is held.
+
+ghost use Rattle.std.specs.Prelude.{◌≡◌, ◌++◌, [], cond, map, take, length, nat_le, is_none, IfOk, OnOk};
+ghost use Rattle.std.specs.Option.{option_copied};
+ghost use Rattle.ds_entry.specs.Item.{passes};
+ghost use Rattle.ds_feed.specs.Kept.{cursor_of};
+ghost use Rattle.ds_feed.specs.Page.{page_of};
+ghost use Rattle.ds_held.specs.Held.{change_item, held_changes, held_floors};
+ghost use Rattle.ds_held.specs.Kept.{floored};
+ghost use Rattle.ds_machine.specs.State.{State, held as held_in, cursor as cursor_behind};
+ghost use Rattle.ds_content.specs.Paging.{to_come, more_after, given};
+ghost use Rattle.ds_content.specs.Stands.{Stands};
+
+use crate::content::Content;
+use ds_entry::{Change, Item, ItemList};
+use ds_feed::{KeyScope, Page};
+use ds_held::Held;
+use ds_names::{Key, NoRoom};
+use std::alloc::Global;
+
+// All held floors, for the first page.
+fn first_floors(alloc: Global, held: &Held, first: bool) -> Result<ItemList, NoRoom>
+    ensures { IfOk result (λ items. items ≡ cond first (map floored (held_floors held.now)) []) }
+{
+    let mut items = ItemList::new(alloc);
+    if !first {
+        return Ok(items);
+    }
+    let _floors = held.floor_count();
+    let mut index = 0;
+    while let Some(floor) = held.floor_at(index) {
+        items.push(Item::Floor(floor))?;
+        index += 1;
+    }
+    Ok(items)
+}
+
+// Adds the change where it is under the scope, and tells how many more may be added. `None` where it is under the scope and
+// no more may be.
+fn add_change<S: KeyScope>(
+    alloc: Global,
+    scope: &mut S,
+    change: &Change,
+    items: &mut ItemList,
+    left: u32,
+) -> Result<Option<u32>, NoRoom>
+    ensures more { IfOk result (λ more. more ≡ more_after (S.keeps scope.old change.now.key) left) }
+    ensures added { OnOk result (items.new ≡ items.old ++ map change_item (given (S.keeps scope.old change.now.key) left change.now)) }
+    ensures scope { S.keeps scope.new ≡ S.keeps scope.old }
+{
+    if !scope.admits(change.key()) {
+        return Ok(Some(left));
+    }
+    if left == 0 {
+        return Ok(None);
+    }
+    items.push(Item::Change(change.copy(alloc)?))?;
+    Ok(Some(left - 1))
+}
+
+// Adds the first `max` held changes behind the key that are under the scope, and tells whether no more follow. Each is found
+// by a search.
+fn add_changes<S: KeyScope>(
+    alloc: Global,
+    held: &Held,
+    scope: &mut S,
+    after: Option<Key>,
+    max: u32,
+    items: &mut ItemList,
+) -> Result<bool, NoRoom>
+    ensures added { OnOk result (items.new ≡ items.old ++ map change_item (take max (to_come (S.keeps scope.old) after (held_changes held.now)))) }
+    ensures last { IfOk result (λ last. last ≡ nat_le (length (to_come (S.keeps scope.old) after (held_changes held.now))) max) }
+    ensures scope { S.keeps scope.new ≡ S.keeps scope.old }
+{
+    let _count = held.len();
+    let mut last = after;
+    let mut left = max;
+    while let Some(change) = held.first_after(last.as_ref()) {
+        let Some(more) = add_change(alloc, scope, change, items, left)? else {
+            return Ok(false);
+        };
+        left = more;
+        last = Some(*change.key());
+    }
+    Ok(true)
+}
+
+impl Content {
+    /// The first `max` changes behind the key of what is held under the scope, in key order; where there is no key, behind all
+    /// floors. It tells whether no more follow, and the cursor behind all that took effect. It looks at nothing in front of
+    /// the key.
+    pub fn page<S: KeyScope>(
+        &self,
+        scope: &mut S,
+        after: Option<Key>,
+        max: u32,
+    ) -> Result<Page, NoRoom>
+        ensures given { IfOk result (λ page. page ≡ page_of (passes (S.keeps scope.old)) after max self.now.held (cursor_of self.now.journal)) }
+        ensures stands { (s : State) → Stands self.now s → IfOk result (λ page. page ≡ page_of (passes (S.keeps scope.old)) after max (held_in s) (cursor_behind s)) }
+        ensures scope { S.keeps scope.new ≡ S.keeps scope.old }
+    {
+        let held = self.held.held();
+        let mut items = first_floors(self.alloc, held, after.is_none())?;
+        let last = add_changes(self.alloc, held, scope, after, max, &mut items)?;
+        Ok(Page {
+            items,
+            last,
+            cursor: self.journal.cursor(),
+        })
+    }
+}
