@@ -1,5 +1,5 @@
 -- What no cause stands against is a change.
-use Rattle.std.proofs.Common.{◌≡◌, ◌≢◌, ℕ, ◌<◌, Bool, true, false, not, ◌&&◌, ◌==◌, nat_le, List, ◌++◌, map, Option, Some, None, IfNone, refl, ap, sym, arith, Contains}
+use Rattle.std.proofs.Common.{◌≡◌, ◌≢◌, ℕ, ◌<◌, Bool, true, false, not, ◌&&◌, ◌==◌, nat_le, List, ◌++◌, map, Option, Some, None, IfNone, refl, ap, ap₂, sym, ◌∙◌, arith, Contains}
 use Rattle.std.proofs.lemmas.Bool.Decides.{nat_tests}
 use Rattle.std.specs.Option.{unwrap_or}
 use Rattle.std.specs.Cmp.Lexicographic.{other_text}
@@ -12,7 +12,7 @@ use Rattle.ds_entry.specs.declared.body.Body.{Body}
 use Rattle.ds_entry.specs.declared.body.Body.TheVariants.{Put, Gone}
 use Rattle.ds_entry.specs.declared.change.EntryFault.{EntryFault}
 use Rattle.ds_entry.specs.declared.change.EntryFault.TheVariants as faults
-use Rattle.ds_entry.specs.Change.{kind_of, rs_name, IsOfKind, IsLabelBody, IsBelowSweeps}
+use Rattle.ds_entry.specs.Change.{ChangeRecord, kind_of, rs_name, IsOfKind, IsLabelBody, IsBelowSweeps}
 use Rattle.ds_entry.specs.ChangeFault.{IsFaultOf}
 use Rattle.ds_entry.specs.Void.{is_label}
 use Rattle.ds_machine.specs.Order.{first_cause, by_command, by_version, by_room}
@@ -22,7 +22,8 @@ use Rattle.ds_machine.specs.declared.refusal.Cause.{Cause}
 use Rattle.ds_machine.specs.declared.refusal.Cause.TheVariants as causes
 use Rattle.ds_machine.specs.declared.refusal.Refusal.TheVariants as refusals
 use Rattle.ds_machine.proofs.PartLemmas.{missing}
-use Rattle.ds_judge.specs.Asked.{NamesRs, IsMade}
+use Rattle.ds_entry.proofs.CoversLemmas.{same_name-refl}
+use Rattle.ds_judge.specs.Asked.{is_void_under, NamesRs, IsMade}
 
 both : (a b : Bool) → a && b ≡ true → (a ≡ true) × (b ≡ true)
 both true b e = (refl, e)
@@ -124,3 +125,9 @@ module _ (t : Standing) (caller : Option (List ℕ)) (a : Request) (body : Body)
 pub made_asked : (r : Option Cause) (t : Standing) (caller : Option (List ℕ)) (a : Request) (body : Body) → r ≡ first_cause (Some a.version) (against_asked t caller a body) → IfNone r (NamesRs caller a.caller → IsMade (change_asked caller a body))
 made_asked None t caller a body e = λ named. no_fault t caller a body named (let back : first_cause (Some a.version) (against_asked t caller a body) ≡ None = cc in back)
 made_asked (Some cause) t caller a body e = tt
+
+-- ---- a floor over what is asked for
+pub void_by_epoch : (floor : Option ℕ) (generation : ℕ) → floor ≡ Some generation → (c : ChangeRecord) → is_label c.key.kind ≡ false → (m n : ℕ) → m ≡ c.version.epoch → n ≡ generation → nat_le m n ≡ is_void_under floor c
+void_by_epoch floor generation e c l m n p q =
+    ap₂ nat_le p q
+    ∙ sym (ap (λ (o : Option ℕ). is_void_under o c) e ∙ ap₂ (λ (x y : Bool). not x && (y && nat_le c.version.epoch generation)) l (same_name-refl c.owner c.owner refl))

@@ -13,7 +13,8 @@ use Rattle.ds_machine.specs.declared.refusal.Cause.{Cause}
 use Rattle.ds_machine.specs.declared.refusal.Cause.TheVariants as causes
 use Rattle.ds_machine.specs.declared.refusal.Refusal.{Refusal}
 use Rattle.ds_machine.specs.declared.refusal.Refusal.TheVariants as refusals
-use Rattle.ds_judge.specs.Last.{NoRoomIsNoCause, NoRoomIsNoRefusal}
+use Rattle.ds_machine.specs.declared.command.Scope.TheVariants.{All, Under}
+use Rattle.ds_judge.specs.Last.{NoRoomIsNoCause, NoRoomIsNoRefusal, PatternMayLackRoom, BehindMayLackRoom}
 
 -- what is found isn't one of those of which there are none
 none_found : {X : Type 0} (p q : X → Bool) (xs : List X) (x : X) → list_any q xs ≡ false → find p xs ≡ Some x → q x ≡ false
@@ -74,3 +75,19 @@ course_on k (i ∷ items) n = course_on (item_merged k i) items (merged_on k i n
 
 pub no_course : (s : State) (items : List Item) → (course s items).stop ≢ Some refusals.NoRoom
 no_course s items = course_on (begun s) items (λ e. cc)
+
+-- ---- where a command with a scope may tell it
+pub pattern_may : PatternMayLackRoom
+pattern_may All stands e = absurd e
+pattern_may (Under query) stands e = e
+
+front : (a b c : Bool) (rest : Option Refusal)
+    → cond a (Some refusals.BadSub) (cond b (Some refusals.TooMany) (cond c (Some refusals.TooLong) rest)) ≡ None → cond a (Some refusals.BadSub) (cond b (Some refusals.TooMany) (cond c (Some refusals.TooLong) None)) ≡ None
+front true b c rest e = absurd (cc)
+front false true c rest e = absurd (cc)
+front false false true rest e = absurd (cc)
+front false false false rest e = refl
+
+pub behind_may : BehindMayLackRoom
+behind_may All stands e = e
+behind_may (Under query) stands e = front (stands refusals.BadSub) (stands refusals.TooMany) (stands refusals.TooLong) _ e

@@ -4,6 +4,8 @@ use Rattle.ds_names.specs.declared.version.Version.{Version}
 use Rattle.ds_names.specs.Endpoint.{EndpointRecord}
 use Rattle.ds_entry.specs.Change.{ChangeRecord, rs_name}
 use Rattle.ds_entry.specs.ChangeFault.{IsFaultOf}
+use Rattle.ds_entry.specs.Floor.{floor_of}
+use Rattle.ds_entry.specs.Void.{voids}
 use Rattle.ds_entry.specs.declared.change.EntryFault.{EntryFault}
 use Rattle.ds_machine.specs.Order.{by_version, by_room}
 use Rattle.ds_machine.specs.Asking.{Request, is_rs}
@@ -36,6 +38,11 @@ cause_by_need need is_live = cond (is_live && not (over_live need)) (Some (Refus
 -- the causes that stand against a change of this version by what is held
 abbrev pub by_held : Version → List Cause
 by_held v = by_version (Some v) ++ map Refused by_room
+
+-- a floor of the change's owner at this generation, where there is one, makes it void
+abbrev pub is_void_under : Option ℕ → ChangeRecord → Bool
+is_void_under None c = false
+is_void_under (Some generation) c = voids (floor_of c.owner generation) c
 
 -- the name is RS's where the caller is RS
 abbrev pub NamesRs : Option (List ℕ) → EndpointRecord → Type 0

@@ -76,3 +76,10 @@ NoRoomIsNoRefusal = (stands : Refusal → Bool) → first_refusal stands ≢ Som
 -- the machine's own answers want no memory
 abbrev pub OutcomesAreLast : Type 0
 OutcomesAreLast = (s : State) (command : Command) → IsLast s command (outcome s command).0
+
+-- a command with a scope may tell it where its pattern is read, and where no cause stands
+abbrev pub PatternMayLackRoom : Type 0
+PatternMayLackRoom = (scope : Scope) (stands : Refusal → Bool) → ReadsPattern scope stands → MayLackFor scope stands
+
+abbrev pub BehindMayLackRoom : Type 0
+BehindMayLackRoom = (scope : Scope) (stands : Refusal → Bool) → first_refusal stands ≡ None → MayLackFor scope stands

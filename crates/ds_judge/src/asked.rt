@@ -1,13 +1,14 @@
 //! What callers ask: publishing and deleting.
 
-ghost use Rattle.std.specs.Prelude.{◌≡◌, Option, Some, None, IfNone, cond};
+ghost use Rattle.std.specs.Prelude.{◌≡◌, ℕ, List, Option, Some, None, IfNone, cond};
 ghost use Rattle.std.specs.Option.{option_copied};
 ghost use Rattle.std.specs.List.{find};
 ghost use Rattle.ds_entry.specs.Change.{rs_name};
 ghost use Rattle.ds_entry.specs.Void.{is_label};
+ghost use Rattle.ds_entry.specs.declared.body.Body.{Body};
 ghost use Rattle.ds_machine.specs.Order.{first_cause};
 ghost use Rattle.ds_machine.specs.Asking.{published, deleted, is_rs, is_of_kind, is_label_body, is_label_change, is_callers_version, is_live, change_asked, against_asked};
-ghost use Rattle.ds_judge.specs.Asked.{request_of, cause_by_need, by_held, NamesRs, IsMade};
+ghost use Rattle.ds_judge.specs.Asked.{request_of, cause_by_need, by_held, is_void_under, NamesRs, IsMade};
 ghost use Rattle.ds_judge.specs.Standing.{machine_standing, IsFree};
 
 use crate::change::{cause_by_room, cause_by_version};
@@ -15,7 +16,7 @@ use crate::limits::LAST_SEQ;
 use crate::standing::Standing;
 use ds_entry::{Body, Change, Value};
 use ds_machine::{Cause, Refusal};
-use ds_names::{Endpoint, Key, Kind, Name, Version};
+use ds_names::{Endpoint, Generation, Key, Kind, Name, Version};
 
 /// What the entry has to be before a change: not live, anything, or live.
 #[derive(Clone, Copy, Debug)]
@@ -78,12 +79,25 @@ fn rs_name() -> Name
 /// The name of an endpoint, where `label` is the least name whose live label holds it: RS is `rs`, whatever labels there
 /// are.
 pub fn name_of(endpoint: Endpoint, label: Option<&Name>) -> Option<Name>
-    ensures { result ≡ cond (is_rs endpoint) (Some rs_name) (option_copied label.entry) }
+    ensures value { result ≡ cond (is_rs endpoint) (Some rs_name) (option_copied label.entry) }
+    ensures rs { NamesRs result endpoint }
 {
     if is_rs(endpoint) {
         return Some(rs_name());
     }
     label.copied()
+}
+
+/// Whether a floor of the caller's at this generation makes the change void that is asked for, where there is one.
+pub fn is_void_under(floor: Option<Generation>, asked: &Asked) -> bool
+    ensures { (caller : List ℕ) (body : Body) → result ≡ is_void_under floor (change_asked (Some caller) (request_of asked.now) body) }
+{
+    match floor {
+        Some(floor) => {
+            !is_label(asked.key.kind) && asked.version.epoch.number() <= floor.number()
+        }
+        None => false,
+    }
 }
 
 /// The change that is asked for, in the name of the caller. That no cause stands against it says that its parts make a
