@@ -26,6 +26,7 @@ use std::marker::Model;
 mod accepting;
 mod copying;
 mod marking;
+mod naming;
 mod paging;
 mod raising;
 mod reading;

@@ -66,8 +66,8 @@ pub(crate) fn is_rs(endpoint: Endpoint) -> bool
     endpoint == Endpoint::rs()
 }
 
-// The name of RS.
-fn rs_name() -> Name
+/// The name of RS.
+pub fn rs_name() -> Name
     ensures { result ≡ rs_name }
 {
     match Name::read(b"rs") {

@@ -21,7 +21,7 @@ mod subscribe;
 
 pub use answer::{answer_to, passed_as, sweep_answer};
 pub use asked::{
-    Asked, Need, cause_of_asked, change_asked, deleted, is_void_under, name_of, published,
+    Asked, Need, cause_of_asked, change_asked, deleted, is_void_under, name_of, published, rs_name,
 };
 pub use change::cause_of_change;
 pub use check::{CheckCase, refusal_of_check, refusal_of_showing};

@@ -138,7 +138,7 @@ impl Store {
             Command::Check { sub, max } => self.check(sub, max),
             Command::Since { scope, cursor, max } => self.since(&scope, cursor, max),
             Command::Snapshot { scope } => self.snapshot(&scope),
-            Command::Page { scope, after, max } => self.page(&scope, after.as_ref(), max),
+            Command::Page { scope, after, max } => self.page(&scope, after, max),
             Command::Merge { items } => self.merge(&items),
         }
     }

@@ -1,26 +1,65 @@
 //! What callers ask: publishing and deleting.
 
-ghost use Rattle.std.specs.Prelude.{◌≡◌, None};
-ghost use Rattle.std.specs.Option.{option_copied};
-ghost use Rattle.ds_machine.specs.Asking.{cause_against};
+ghost use Rattle.std.specs.Prelude.{◌≡◌, List, ℕ, None, Option, IfNone};
+ghost use Rattle.ds_machine.specs.Asking.{against_asked, cause_against, change_asked, name_of};
 ghost use Rattle.ds_machine.specs.Machine.{Answers, asking};
+ghost use Rattle.ds_machine.specs.Order.{first_cause};
 ghost use Rattle.ds_machine.specs.State.{State};
-ghost use Rattle.ds_judge.specs.Asked.{request_of};
+ghost use Rattle.ds_judge.specs.Asked.{request_of, IsMade, NamesRs};
+ghost use Rattle.ds_judge.specs.Standing.{machine_standing};
+ghost use Rattle.ds_content.specs.Free.{IsFree};
 ghost use Rattle.ds_content.specs.Stands.{Stands};
+ghost use Rattle.ds_keeper.specs.Standing.{standing_in};
 
 use crate::store::Store;
-use ds_entry::{Body, Change};
-use ds_judge::{Asked, Standing, answer_to, cause_of_asked, change_asked};
-use ds_machine::{Refusal, Reply};
-use ds_names::{Key, NoRoom};
+use ds_entry::Body;
+use ds_judge::{
+    Asked, Standing, answer_to, cause_of_asked, change_asked, is_void_under, name_of, rs_name,
+};
+use ds_machine::{Cause, Refusal, Reply};
+use ds_names::{Endpoint, Name, NoRoom};
 
 impl Store {
+    // The name of an endpoint.
+    pub(super) fn name_of(&self, endpoint: Endpoint) -> Option<Name>
+        ensures { result ≡ name_of self.now.held endpoint }
+    {
+        name_of(endpoint, self.content.label_of(endpoint))
+    }
+
+    // What is there before what a caller of this name asks for.
+    fn standing_before(&self, asked: &Asked, caller: Option<Name>) -> Standing<'_>
+        ensures { (body : Body) → machine_standing result ≡ standing_in self.now (change_asked caller (request_of asked.now) body) }
+    {
+        let owner = match caller {
+            Some(name) => name,
+            None => rs_name(),
+        };
+        Standing {
+            held: self.content.get(&asked.key),
+            void: is_void_under(self.content.floor(&owner), asked),
+            count: self.content.count(),
+            most: self.content.limits().keys(),
+            position: self.content.cursor().position,
+        }
+    }
+
+    // The first cause against what a caller of this name asks for.
+    fn cause_against(&self, asked: &Asked, body: &Body, caller: Option<Name>) -> Option<Cause>
+        ensures first { result ≡ first_cause (Some asked.now.version) (against_asked (standing_in self.now (change_asked caller (request_of asked.now) body.now)) caller (request_of asked.now) body.now) }
+        ensures free { IfNone result (IsFree self.now (change_asked caller (request_of asked.now) body.now)) }
+        ensures made { IfNone result (NamesRs caller asked.now.caller → IsMade (change_asked caller (request_of asked.now) body.now)) }
+    {
+        let standing = self.standing_before(asked, caller);
+        cause_of_asked(&standing, caller, asked, body)
+    }
+
     // What a caller asks for takes effect, unless a cause stands against it.
     pub(super) fn ask(&mut self, asked: &Asked, body: Body) -> Reply
         ensures step { (s : State) → Stands self.old s → (t : State) × Answers s (asking s (request_of asked.now) body) result t × Stands self.new t }
         ensures last { result ≡ Reply.Refused Refusal.NoRoom → (s : State) → Stands self.old s → cause_against s (request_of asked.now) body ≡ None }
     {
-        let caller = self.content.name_of(asked.caller);
+        let caller = self.name_of(asked.caller);
         if let Some(cause) = self.cause_against(asked, &body, caller) {
             return answer_to(cause);
         }
