@@ -12,14 +12,14 @@ use Rattle.ds_entry.specs.declared.floor.Floor.{Floor}
 use Rattle.ds_entry.specs.declared.item.Item.{Item}
 use Rattle.ds_entry.proofs.Members.{Contains-nil}
 use Rattle.ds_feed.specs.Feed as feeds
-use Rattle.ds_feed.specs.Kept.{Kept, Keeps}
+use Rattle.ds_feed.specs.Kept.{Kept, Keeps, cursor_of}
 use Rattle.ds_held.specs.Held.{Holding, held_items, nothing_held, floor_item, change_item}
 use Rattle.ds_held.specs.Limits.{LimitsRecord, IsLimits}
 use Rattle.ds_held.specs.Marked.{MarkedHolding, nothing_marked}
 use Rattle.ds_watch.specs.Watching.{Watching}
 use Rattle.ds_watch.specs.declared.masks.Masks.{Masks}
 use Rattle.ds_machine.specs.Limits.{last_place}
-use Rattle.ds_machine.specs.State.{State, opening}
+use Rattle.ds_machine.specs.State.{State, cursor, opening}
 use Rattle.ds_machine.proofs.WithinLemmas.{opening_is_within}
 use Rattle.ds_machine.specs.Reached.{IsReached}
 use Rattle.ds_machine.specs.Subscription.{Subscription}
@@ -114,3 +114,6 @@ generation_of owner (Some g) = refl
 pub if_err : {T E : Type 0} {P Q : Type 0} (r : Result T E) → (P → Q) → OnErr r P → OnErr r Q
 if_err (Ok x) f p = tt
 if_err (Err e) f p = f p
+
+pub cursor_is : (j : Kept) (s : State) → Keeps j s.feed → cursor_of j ≡ cursor s
+cursor_is j s keeps = λ i. record { incarnation = keeps.incarnation i; position = keeps.position i }

@@ -1,6 +1,7 @@
 -- Pages of what is held.
 use Rattle.std.proofs.Common.{◌≡◌, ℕ, zero, suc, ◌+◌, ◌-◌, ◌<◌, ◌≤◌, ◌==◌, nat_le, Bool, true, false, not, ◌&&◌, cond, List, [], ◌∷◌, ◌++◌, map, filter, take, length, Option, Some, None, is_none, refl, ap, ap₂, sym, ◌∙◌, subst, arith, append_assoc, append-nil, length-append, eqb-true}
 use Rattle.std.proofs.lemmas.Bool.{leb-true, leb-false, eqb-false}
+use Rattle.std.proofs.lemmas.Option.{same_Some}
 use Rattle.std.proofs.lemmas.List.{map-append}
 use Rattle.std.specs.Prelude.{slice_get}
 use Rattle.std.specs.List.{find}
@@ -22,7 +23,7 @@ use Rattle.ds_held.specs.Kept.{floored}
 use Rattle.ds_join.specs.Reading.{comes_after}
 use Rattle.ds_join.proofs.NextLemmas.{left_after, none_left}
 use Rattle.ds_content.specs.Paging.{to_come, more_after, given, ArePaged}
-use Rattle.ds_content.proofs.FlagLemmas.{few_taken}
+use Rattle.ds_content.proofs.FlagLemmas.{few_taken, past_end}
 use Rattle.ds_content.proofs.RemarkLemmas.{top_itself, items_floored}
 
 -- ---- the held changes are in order
@@ -194,3 +195,23 @@ module _ (keep : Key → Bool) where
       page_same cursor (is ∙ ap₂ (λ l m. l ++ m) (sym (floors_first after fs cs)) (sym (take_mapped max (to_come keep after cs)) ∙ ap (take max) (sym changes)))
       (end ∙ ap (λ n. nat_le n max) (sym (length_mapped (to_come keep after cs)) ∙ ap (λ (l : List Item). length l) (sym changes)))
       ∙ ap (λ l. page_of (passes keep) after max l cursor) (sym (items_floored h))
+
+-- ---- the floors of the first page
+floor_next : (n : ℕ) (fs : List Floor) (f : Floor) → slice_get fs n ≡ Some f → take (n + 1) fs ≡ take n fs ++ f ∷ []
+floor_next n [] f e = absurd (cc)
+floor_next zero (g ∷ fs) f e = ap (λ (y : Floor). y ∷ []) (same_Some g f e)
+floor_next (suc n) (g ∷ fs) f e =
+    let more = floor_next n fs f e in
+    let next : suc n + 1 ≡ suc (n + 1) = omega arith in
+    ap (λ m. take m (g ∷ fs)) next ∙ ap (λ (l : List Floor). g ∷ l) more
+
+pub floors_more : (fs : List Floor) (n : ℕ) (f : Floor) (items more : List Item) → items ≡ map floored (take n fs) → slice_get fs n ≡ Some f → more ≡ items ++ Floored f ∷ [] → more ≡ map floored (take (n + 1) fs)
+floors_more fs n f items more e at is =
+    is ∙ ap (λ l. l ++ Floored f ∷ []) e ∙ sym (map-append floored (take n fs) (f ∷ [])) ∙ ap (map floored) (sym (floor_next n fs f at))
+
+pub floors_all : (fs : List Floor) (n : ℕ) (items : List Item) → items ≡ map floored (take n fs) → slice_get fs n ≡ None → items ≡ map floored fs
+floors_all fs n items e none = e ∙ ap (map floored) (few_taken n fs (past_end fs n none))
+
+-- ---- the change that follows, where the last key is read from a copy
+pub found_next : (cs : List ChangeRecord) (o last : Option Key) (p : Option ChangeRecord) → o ≡ last → p ≡ find (comes_after o) cs → find (comes_after last) cs ≡ p
+found_next cs o last p same e = ap (λ (k : Option Key). find (comes_after k) cs) (sym same) ∙ sym e

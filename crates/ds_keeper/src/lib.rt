@@ -9,8 +9,8 @@
 
 mod run;
 mod store;
-mod threads;
+// mod threads;
 
 pub use run::run;
 pub use store::Store;
-pub use threads::stores_cross_threads;
+// pub use threads::stores_cross_threads;

@@ -89,6 +89,7 @@ impl Mask {
     pub fn number(self) -> u128
         ensures { result ≡ mask self }
     {
-        self.bits
+        let Mask { bits } = self;
+        bits
     }
 }

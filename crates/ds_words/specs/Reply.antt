@@ -2,7 +2,7 @@
 use Rattle.std.specs.Prelude.{ℕ, ◌==◌, if◌then◌else◌, List, [], ◌∷◌, ◌++◌, length, codes}
 use Rattle.std.specs.List.{flat_map}
 use Rattle.std.specs.Fmt.{decimal}
-use Rattle.std.specs.Int.{w64, to_be_bytes}
+use Rattle.std.specs.Int.{w128, to_be_bytes}
 use Rattle.hex.specs.Hex.{encode_lower}
 use Rattle.ds_names.specs.declared.version.Version.{Version}
 use Rattle.ds_entry.specs.Change.{ChangeRecord}
@@ -89,9 +89,9 @@ reply_words wording (Merged done taken stale owed) = merged wording done taken s
 reply_words wording (MergeStopped done fault owed) = stopped wording done fault
 reply_words wording (Refused fault) = refused fault
 
--- the eight bytes of a mask, the greatest first, in lower-case hex
+-- the sixteen bytes of a mask, the greatest first, in lower-case hex
 abbrev pub mask_hex : ℕ → List ℕ
-mask_hex mask = encode_lower (to_be_bytes w64 mask)
+mask_hex mask = encode_lower (to_be_bytes w128 mask)
 
 -- a line for what is owed, unless nothing is
 abbrev pub owed_line : ℕ → List ℕ

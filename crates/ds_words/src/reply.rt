@@ -209,14 +209,14 @@ fn refusal_word(refusal: Refusal) -> &'static [u8]
 }
 
 // Appends the line of what is owed, where something is, or nothing.
-fn append_owed(buffer: &mut Vec<u8>, mask: u64) -> Result<(), NoRoom>
+fn append_owed(buffer: &mut Vec<u8>, mask: u128) -> Result<(), NoRoom>
     ensures written { OnOk result (buffer.new.items ≡ buffer.old.items ++ owed_line mask) }
     ensures unchanged { OnErr result (buffer.new.items ≡ buffer.old.items) }
 {
     if mask == 0 {
         return Ok(());
     }
-    let mut digits = [0u8; 16];
+    let mut digits = [0u8; 32];
     match hex::encode_to_slice(mask.to_be_bytes(), &mut digits) {
         Ok(()) => append_all(buffer, &[b"owed ", &digits, b"\n"]),
         Err(_) => unreachable!(),

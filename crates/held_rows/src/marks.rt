@@ -29,9 +29,10 @@ fn marks_go_with_what_is_dropped(rt: HostRuntime) {
 
 // Stops the test unless the floor stands at the index, with the mark.
 fn floor_at(rt: &impl Abort, marked: &Marked<u32>, index: usize, floor: Floor, mark: u32) {
-    let (there, beside) = marked.floor_at(index).expect(rt, "a floor");
-    assert!(rt; there == floor);
-    assert!(rt; *beside == mark);
+    match marked.floor_at(index) {
+        Some((there, beside)) => assert!(rt; there == floor && *beside == mark),
+        None => panic!(rt; "no floor"),
+    }
 }
 
 #[test]

@@ -1,20 +1,37 @@
-//! Names of endpoints.
+//! The names of endpoints.
 
 ghost use Rattle.std.specs.Prelude.{◌≡◌};
-ghost use Rattle.std.specs.List.{find};
-ghost use Rattle.std.specs.Option.{option_copied, option_map};
-ghost use Rattle.ds_entry.specs.Change.{ChangeRecord};
-ghost use Rattle.ds_join.specs.Label.{names_endpoint};
-ghost use Rattle.ds_machine.specs.Parts.{changes_in};
+ghost use Rattle.ds_entry.specs.Change.{rs_name};
+ghost use Rattle.ds_machine.specs.Asking.{is_rs, name_of};
 
 use crate::content::Content;
 use ds_names::{Endpoint, Name};
 
+// Whether the endpoint is that of RS.
+fn is_rs(endpoint: Endpoint) -> bool
+    ensures { result ≡ is_rs endpoint }
+{
+    endpoint == Endpoint::rs()
+}
+
+// The name of RS.
+fn rs_name() -> Name
+    ensures { result ≡ rs_name }
+{
+    match Name::read(b"rs") {
+        Ok(name) => name,
+        Err(_) => unreachable!(),
+    }
+}
+
 impl Content {
-    /// The least name whose live label holds an endpoint. It takes no memory, and asks no other key.
-    pub fn label_of(&self, endpoint: Endpoint) -> Option<&Name>
-        ensures { option_copied result ≡ option_map (λ (c : ChangeRecord). c.key.name) (find (names_endpoint endpoint) (changes_in self.now.held)) }
+    /// The name of an endpoint: RS is `rs`, another one the least name whose live label holds it. It takes no memory.
+    pub fn name_of(&self, endpoint: Endpoint) -> Option<Name>
+        ensures { result ≡ name_of self.now.held endpoint }
     {
-        self.held.name_of(endpoint)
+        if is_rs(endpoint) {
+            return Some(rs_name());
+        }
+        self.held.name_of(endpoint).copied()
     }
 }

@@ -1,0 +1,41 @@
+use Rattle.std.proofs.Common.{◌≡◌, ◌++◌, [], Bool, List, is_none, map, take, cond, ap, ap₂, sym, ◌∙◌}
+use Rattle.ds_names.specs.declared.key.Key.{Key}
+use Rattle.ds_entry.specs.Item.{passes}
+use Rattle.ds_entry.specs.declared.item.Item.{Item}
+use Rattle.ds_feed.specs.Kept.{cursor_of}
+use Rattle.ds_feed.specs.Page.{page_of}
+use Rattle.ds_feed.specs.declared.cursor.Cursor.{Cursor}
+use Rattle.ds_feed.specs.declared.reading.Page.{Page}
+use Rattle.ds_held.specs.Held.{Holding, held_items, held_changes, held_floors, change_item}
+use Rattle.ds_held.specs.Kept.{floored}
+use Rattle.ds_machine.specs.State.{held, cursor}
+use Rattle.ds_content.specs.Content.{ContentRecord}
+use Rattle.ds_content.specs.Paging.{to_come}
+use Rattle.ds_content.proofs.OpenLemmas.{cursor_is}
+use Rattle.ds_content.proofs.PagingLemmas.{page_is}
+use Rattle.ds_content.proofs.content.Content.page.Goals as goal
+
+pub returns-clause-given : goal.returns-clause-given
+returns-clause-given g c =
+    let keep = g.S.KeyScope.keeps c.args.scope.now in
+    let h = c.held-held.result.now in
+    page_is keep h c.args.after c.args.max c.cursor.result c.add_changes.new.items c.in_ok-last.last
+    (c.in_ok-last.ensures.added
+    ∙ ap (λ (l : List Item). l ++ map change_item (take c.args.max (to_come keep c.args.after (held_changes h)))) (c.in_ok-items.ensures ∙ ap (λ (b : Bool). cond b (map floored (held_floors h)) []) c.is_none.ensures))
+    c.in_ok-last.ensures.last
+    ∙ ap (λ (x : Holding). page_of (passes keep) c.args.after c.args.max (held_items x) c.cursor.result) c.held-held.ensures.value
+    ∙ ap (λ (k : Cursor). page_of (passes keep) c.args.after c.args.max (held_items c.self.inside.held.held) k) c.cursor.ensures.value
+    ∙ ap (λ (v : ContentRecord). page_of (passes keep) c.args.after c.args.max v.held (cursor_of v.journal)) c.self.view_is
+
+pub returns-clause-stands : goal.returns-clause-stands
+returns-clause-stands g c = λ s stands.
+    let keep = g.S.KeyScope.keeps c.args.scope.now in
+    let h = c.held-held.result.now in
+    page_is keep h c.args.after c.args.max c.cursor.result c.add_changes.new.items c.in_ok-last.last
+    (c.in_ok-last.ensures.added
+    ∙ ap (λ (l : List Item). l ++ map change_item (take c.args.max (to_come keep c.args.after (held_changes h)))) (c.in_ok-items.ensures ∙ ap (λ (b : Bool). cond b (map floored (held_floors h)) []) c.is_none.ensures))
+    c.in_ok-last.ensures.last
+    ∙ ap (λ (x : Holding). page_of (passes keep) c.args.after c.args.max (held_items x) c.cursor.result) c.held-held.ensures.value
+    ∙ ap (λ (k : Cursor). page_of (passes keep) c.args.after c.args.max (held_items c.self.inside.held.held) k) c.cursor.ensures.value
+    ∙ ap (λ (v : ContentRecord). page_of (passes keep) c.args.after c.args.max v.held (cursor_of v.journal)) c.self.view_is
+    ∙ ap₂ (λ (hs : List Item) (k : Cursor). page_of (passes keep) c.args.after c.args.max hs k) stands.held (cursor_is c.args.self.now.journal s stands.journal)

@@ -1,0 +1,21 @@
+use Rattle.std.proofs.Common.{◌≡◌, ◌<◌, ◌+◌, [], None, Some, map, length, cond, ap, sym, ◌∙◌, arith}
+use Rattle.std.specs.List.{slice_get}
+use Rattle.std.proofs.lemmas.Option.{slice_get_within}
+use Rattle.ds_held.specs.Held.{held_floors}
+use Rattle.ds_held.specs.Kept.{floored}
+use Rattle.ds_content.proofs.PagingLemmas.{floors_more, floors_all}
+use Rattle.ds_content.proofs.content.paging.first_floors.Goals as goal
+
+pub loop-floor-preserved : goal.loop-floor-preserved
+loop-floor-preserved c =
+    let fs = held_floors c.args.held.now in
+    let within : c.loop-floor.index < length fs = slice_get_within fs c.loop-floor.index c.in-Some.floor (sym c.in-Some.ensures) in
+    record {
+      copied = floors_more fs c.loop-floor.index c.in-Some.floor c.loop-floor.items c.push.new.self c.loop-floor.invariant.copied (sym c.in-Some.ensures) c.in_ok-push.ensures.ok;
+      within = omega (arith, within);
+    }
+
+pub returns : goal.returns
+returns c =
+    floors_all (held_floors c.args.held.now) c.loop-floor.index c.loop-floor.items c.loop-floor.invariant.copied (sym c.in_default.ensures)
+    ∙ sym (ap (λ b. cond b (map floored (held_floors c.args.held.now)) []) c.if-not-first.false)
