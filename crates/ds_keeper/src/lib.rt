@@ -7,10 +7,10 @@
 //! snapshots, pages and merges are of this project.
 #![tactic(auto)]
 
-mod run;
+mod runs;
 mod store;
-// mod threads;
+mod threads;
 
-pub use run::run;
+pub use runs::run;
 pub use store::Store;
-// pub use threads::stores_cross_threads;
+pub use threads::stores_cross_threads;

@@ -1,7 +1,7 @@
 //! What callers ask: publishing and deleting.
 
 ghost use Rattle.std.specs.Prelude.{◌≡◌, List, ℕ, None, Option, IfNone};
-ghost use Rattle.ds_machine.specs.Asking.{against_asked, cause_against, change_asked, name_of};
+ghost use Rattle.ds_machine.specs.Asking.{against_asked, cause_against, change_asked};
 ghost use Rattle.ds_machine.specs.Machine.{Answers, asking};
 ghost use Rattle.ds_machine.specs.Order.{first_cause};
 ghost use Rattle.ds_machine.specs.State.{State};
@@ -14,19 +14,12 @@ ghost use Rattle.ds_keeper.specs.Standing.{standing_in};
 use crate::store::Store;
 use ds_entry::Body;
 use ds_judge::{
-    Asked, Standing, answer_to, cause_of_asked, change_asked, is_void_under, name_of, rs_name,
+    Asked, Standing, answer_to, cause_of_asked, change_asked, is_void_under, rs_name,
 };
 use ds_machine::{Cause, Refusal, Reply};
-use ds_names::{Endpoint, Name, NoRoom};
+use ds_names::{Name, NoRoom};
 
 impl Store {
-    // The name of an endpoint.
-    pub(super) fn name_of(&self, endpoint: Endpoint) -> Option<Name>
-        ensures { result ≡ name_of self.now.held endpoint }
-    {
-        name_of(endpoint, self.content.label_of(endpoint))
-    }
-
     // What is there before what a caller of this name asks for.
     fn standing_before(&self, asked: &Asked, caller: Option<Name>) -> Standing<'_>
         ensures { (body : Body) → machine_standing result ≡ standing_in self.now (change_asked caller (request_of asked.now) body) }
@@ -59,7 +52,7 @@ impl Store {
         ensures step { (s : State) → Stands self.old s → (t : State) × Answers s (asking s (request_of asked.now) body) result t × Stands self.new t }
         ensures last { result ≡ Reply.Refused Refusal.NoRoom → (s : State) → Stands self.old s → cause_against s (request_of asked.now) body ≡ None }
     {
-        let caller = self.name_of(asked.caller);
+        let caller = self.content.name_of(asked.caller);
         if let Some(cause) = self.cause_against(asked, &body, caller) {
             return answer_to(cause);
         }

@@ -36,7 +36,7 @@ impl Store {
         ensures answer { (s : State) → Stands self.now s → Answers s (naming s endpoint) result s }
         ensures in_place { result ≢ Reply.Refused Refusal.NoRoom }
     {
-        match self.name_of(endpoint) {
+        match self.content.name_of(endpoint) {
             Some(name) => Reply::Named(name),
             None => Reply::Refused(Refusal::NotFound),
         }
