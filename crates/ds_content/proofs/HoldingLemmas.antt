@@ -1,7 +1,8 @@
 -- What is held, as a holder keeps it and as items.
-use Rattle.std.proofs.Common.{◌≡◌, ◌≢◌, ℕ, suc, ◌<◌, Bool, true, false, List, [], ◌∷◌, ◌++◌, map, length, Option, Some, None, Result, Ok, Err, refl, ap, sym, ◌∙◌, subst, inl, inr, ◌⊎◌, arith, Contains}
+use Rattle.std.proofs.Common.{◌≡◌, ◌≢◌, ℕ, zero, suc, ◌+◌, ap₂, ◌<◌, Bool, true, false, List, [], ◌∷◌, ◌++◌, map, length, Option, Some, None, Result, Ok, Err, refl, ap, sym, ◌∙◌, subst, inl, inr, ◌⊎◌, arith, Contains}
 use Rattle.std.proofs.lemmas.Cmp.{tied_itself}
 use Rattle.std.proofs.lemmas.Option.{same_Some}
+use Rattle.std.specs.Prelude.{slice_get}
 use Rattle.std.specs.FinMap.{entries, len-entries}
 use Rattle.std.specs.List.{list_any}
 use Rattle.std.specs.Option.{option_map}
@@ -17,15 +18,17 @@ use Rattle.ds_entry.specs.declared.floor.Floor.{Floor}
 use Rattle.ds_entry.specs.declared.item.Item.{Item}
 use Rattle.ds_entry.specs.declared.item.Item.TheVariants.{Change as Changed, Floor as Floored}
 use Rattle.ds_entry.proofs.Members.{Contains-from_list_any, none_pass}
-use Rattle.ds_entry.proofs.ItemLemmas.{voids-is}
+use Rattle.ds_entry.proofs.ItemLemmas.{voids-is, covers-refl}
+use Rattle.ds_join.specs.ItemTop.{IsTop}
 use Rattle.ds_join.specs.declared.merge.Merge.{Merge}
 use Rattle.ds_join.specs.declared.merge.Merge.TheVariants.{Taken, Known, Stale}
 use Rattle.ds_join.specs.declared.merge.JoinFault.{JoinFault}
 use Rattle.ds_join.specs.declared.merge.JoinFault.TheVariants.{NotOwner, Clash, Full, NoRoom}
 use Rattle.ds_held.specs.Held.{Holding, held_items, held_changes, held_floors, held_for, held_count, floor_for, floor_count, floor_item, change_item, is_below, is_void_at, IsSound}
+use Rattle.ds_held.specs.Kept.{floored}
 use Rattle.ds_held.specs.Merge.{MergeAnswer, AnswersFor}
 use Rattle.ds_held.specs.Raise.{RaiseAnswer, AnswersFloor}
-use Rattle.ds_held.proofs.HeldLemmas.{is_held, change_in, floor_in}
+use Rattle.ds_held.proofs.HeldLemmas.{is_held, change_in, floor_in, held_is_top}
 use Rattle.ds_machine.specs.Parts.{changes_in, floors_in, held_at, floor_at}
 use Rattle.ds_machine.specs.Standing.{HasRoom}
 use Rattle.ds_machine.proofs.PartLemmas.{key_found, key_missing, owner_found, owner_missing}
@@ -189,3 +192,40 @@ raise_no_room (Some g) count generation a = absurd a
 
 pub floor_new : (h : Holding) (sound : IsSound h) (f : Floor) → RaiseAnswer h f (Err NoRoom) → floor_at (held_items h) f.owner ≡ None
 floor_new h sound f answer = floor_at-is h sound f.owner ∙ ap (option_map (floor_of f.owner)) (raise_no_room (floor_for h f.owner) (floor_count h) f.generation answer)
+
+-- ---- the item at an index
+module _ {X Y : Type 0} (f : X → Item) (g : Y → Item) where
+  at_front : (xs : List X) (ys : List Y) (k : ℕ) → k < length xs → slice_get (map f xs ++ map g ys) k ≡ option_map f (slice_get xs k)
+  at_front [] ys k l = absurd (omega arith)
+  at_front (x ∷ xs) ys zero l = refl
+  at_front (x ∷ xs) ys (suc k) l = at_front xs ys k (omega arith)
+
+  at_all : (ys : List Y) (k : ℕ) → slice_get (map g ys) k ≡ option_map g (slice_get ys k)
+  at_all [] k = refl
+  at_all (y ∷ ys) zero = refl
+  at_all (y ∷ ys) (suc k) = at_all ys k
+
+  at_back : (xs : List X) (ys : List Y) (k j : ℕ) → k ≡ length xs + j → slice_get (map f xs ++ map g ys) k ≡ option_map g (slice_get ys j)
+  at_back [] ys k j e = let same : k ≡ j = omega (arith, e) in ap (slice_get (map g ys)) same ∙ at_all ys j
+  at_back (x ∷ xs) ys zero j e = absurd (omega (arith, e))
+  at_back (x ∷ xs) ys (suc k) j e = at_back xs ys k j (omega (arith, e))
+
+map_both : {X Y Z : Type 0} (f : Y → Z) (g : X → Y) (h : X → Z) (xs : List X) → ((x : X) → f (g x) ≡ h x) → map h xs ≡ map f (map g xs)
+map_both f g h [] e = refl
+map_both f g h (x ∷ xs) e = ap₂ ◌∷◌ (sym (e x)) (map_both f g h xs e)
+
+pub items_floored : (h : Holding) → held_items h ≡ map floored (held_floors h) ++ map change_item (held_changes h)
+items_floored h = ap (λ l. l ++ map change_item (held_changes h)) (map_both floored (λ (e : List ℕ × ℕ). floor_of e.0 e.1) floor_item (entries h.floors) (λ e. refl))
+
+pub floor_item_at : (h : Holding) (k : ℕ) → k < floor_count h → slice_get (held_items h) k ≡ option_map (λ f. Floored f) (slice_get (held_floors h) k)
+floor_item_at h k l =
+    let n = count_floors h in
+    ap (λ l. slice_get l k) (items_floored h) ∙ at_front floored change_item (held_floors h) (held_changes h) k (omega (arith, n, l))
+
+pub change_item_at : (h : Holding) (k j : ℕ) → k ≡ floor_count h + j → slice_get (held_items h) k ≡ option_map (λ c. Changed c) (slice_get (held_changes h) j)
+change_item_at h k j e =
+    let n = count_floors h in
+    ap (λ l. slice_get l k) (items_floored h) ∙ at_back floored change_item (held_floors h) (held_changes h) k j (omega (arith, n, e))
+
+pub top_itself : (h : Holding) → IsSound h → IsTop (held_items h) (held_items h)
+top_itself h sound = held_is_top h sound (held_items h) (λ i k. k) (λ i k. (i, k, covers-refl i))

@@ -19,8 +19,7 @@ use Rattle.ds_machine.specs.Scope.{is_item_under}
 use Rattle.ds_content.specs.Kept.{masks_at}
 use Rattle.ds_content.specs.Shown.{is_to_show}
 use Rattle.ds_content.proofs.FlagLemmas.{past_end, index_among}
-use Rattle.ds_content.proofs.HoldingLemmas.{count_floors, count_changes}
-use Rattle.ds_content.proofs.RemarkLemmas.{items_floored, floor_item_at, change_item_at}
+use Rattle.ds_content.proofs.HoldingLemmas.{count_floors, count_changes, items_floored, floor_item_at, change_item_at}
 
 none_mapped : {X Y : Type 0} (f : X → Y) (o : Option X) → option_map f o ≡ None → o ≡ None
 none_mapped f None e = refl

@@ -39,10 +39,6 @@ pub and_true : (b : Bool) → b && true ≡ b
 and_true true = refl
 and_true false = refl
 
-
-
-
-
 module _ (s : State) (i : Item) (r : IsReached s) (news : IsNews s.feed.accepted i) (new : List Item) (t : IsTop new (held s ++ i ∷ [])) where
   -- it is to be shown where it is under the query
   unseen_now : (q : Query) (shown : List Item) → IsPartOf shown s.feed.accepted → is_unseen q shown i ≡ is_item_under q i

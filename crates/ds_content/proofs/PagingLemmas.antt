@@ -24,7 +24,7 @@ use Rattle.ds_join.specs.Reading.{comes_after}
 use Rattle.ds_join.proofs.NextLemmas.{left_after, none_left}
 use Rattle.ds_content.specs.Paging.{to_come, more_after, given, ArePaged}
 use Rattle.ds_content.proofs.FlagLemmas.{few_taken, past_end}
-use Rattle.ds_content.proofs.RemarkLemmas.{top_itself, items_floored}
+use Rattle.ds_content.proofs.HoldingLemmas.{top_itself, items_floored}
 
 -- ---- the held changes are in order
 along_changes : (x : ChangeRecord) (cs : List ChangeRecord) → AllByRecursion (λ y. item_cmp (Changed x) y ≡ Less) (map change_item cs) → AllByRecursion (λ y. change_cmp x y ≡ Less) cs

@@ -33,44 +33,7 @@ use Rattle.ds_content.specs.Followed.{watches}
 use Rattle.ds_content.specs.Kept.{AreMarked, masks_at, under_at, unseen_at}
 use Rattle.ds_content.specs.Marking.{IsSet, IsRemarked, AreRemarked}
 use Rattle.ds_content.proofs.FlagLemmas.{apart, index_of, index_among, cleared, below_or_not, below_or_at}
-use Rattle.ds_content.proofs.HoldingLemmas.{count_floors}
-
--- ---- the item at an index
-module _ {X Y : Type 0} (f : X → Item) (g : Y → Item) where
-  at_front : (xs : List X) (ys : List Y) (k : ℕ) → k < length xs → slice_get (map f xs ++ map g ys) k ≡ option_map f (slice_get xs k)
-  at_front [] ys k l = absurd (omega arith)
-  at_front (x ∷ xs) ys zero l = refl
-  at_front (x ∷ xs) ys (suc k) l = at_front xs ys k (omega arith)
-
-  at_all : (ys : List Y) (k : ℕ) → slice_get (map g ys) k ≡ option_map g (slice_get ys k)
-  at_all [] k = refl
-  at_all (y ∷ ys) zero = refl
-  at_all (y ∷ ys) (suc k) = at_all ys k
-
-  at_back : (xs : List X) (ys : List Y) (k j : ℕ) → k ≡ length xs + j → slice_get (map f xs ++ map g ys) k ≡ option_map g (slice_get ys j)
-  at_back [] ys k j e = let same : k ≡ j = omega (arith, e) in ap (slice_get (map g ys)) same ∙ at_all ys j
-  at_back (x ∷ xs) ys zero j e = absurd (omega (arith, e))
-  at_back (x ∷ xs) ys (suc k) j e = at_back xs ys k j (omega (arith, e))
-
-map_both : {X Y Z : Type 0} (f : Y → Z) (g : X → Y) (h : X → Z) (xs : List X) → ((x : X) → f (g x) ≡ h x) → map h xs ≡ map f (map g xs)
-map_both f g h [] e = refl
-map_both f g h (x ∷ xs) e = ap₂ ◌∷◌ (sym (e x)) (map_both f g h xs e)
-
-pub items_floored : (h : Holding) → held_items h ≡ map floored (held_floors h) ++ map change_item (held_changes h)
-items_floored h = ap (λ l. l ++ map change_item (held_changes h)) (map_both floored (λ (e : List ℕ × ℕ). floor_of e.0 e.1) floor_item (entries h.floors) (λ e. refl))
-
-pub floor_item_at : (h : Holding) (k : ℕ) → k < floor_count h → slice_get (held_items h) k ≡ option_map (λ f. Floored f) (slice_get (held_floors h) k)
-floor_item_at h k l =
-    let n = count_floors h in
-    ap (λ l. slice_get l k) (items_floored h) ∙ at_front floored change_item (held_floors h) (held_changes h) k (omega (arith, n, l))
-
-pub change_item_at : (h : Holding) (k j : ℕ) → k ≡ floor_count h + j → slice_get (held_items h) k ≡ option_map (λ c. Changed c) (slice_get (held_changes h) j)
-change_item_at h k j e =
-    let n = count_floors h in
-    ap (λ l. slice_get l k) (items_floored h) ∙ at_back floored change_item (held_floors h) (held_changes h) k j (omega (arith, n, e))
-
-pub top_itself : (h : Holding) → IsSound h → IsTop (held_items h) (held_items h)
-top_itself h sound = held_is_top h sound (held_items h) (λ i k. k) (λ i k. (i, k, covers-refl i))
+use Rattle.ds_content.proofs.HoldingLemmas.{floor_item_at, change_item_at, top_itself}
 
 -- ---- other masks for one item
 module _ (old new : MarkedHolding Masks) (sound : IsSound old.held) (index : ℕ) (m : Masks) (held : new.held ≡ old.held) where

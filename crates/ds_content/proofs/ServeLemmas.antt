@@ -27,8 +27,9 @@ use Rattle.ds_content.specs.Shown.{flagged, AreUnseen, AreFirst, is_to_show}
 use Rattle.ds_content.specs.Stands.{Stands}
 use Rattle.ds_content.proofs.EnterLemmas.{value_of, few_places}
 use Rattle.ds_content.proofs.FlagLemmas.{taken_first, all_taken, few_taken, filter_same}
+use Rattle.ds_content.proofs.HoldingLemmas.{top_itself}
 use Rattle.ds_content.proofs.MarkLemmas.{none_more}
-use Rattle.ds_content.proofs.RemarkLemmas.{top_itself, check_others, check_first, check_rest, checked_marked, made_flag, made_other, made_marked}
+use Rattle.ds_content.proofs.RemarkLemmas.{check_others, check_first, check_rest, checked_marked, made_flag, made_other, made_marked}
 use Rattle.ds_content.proofs.SeenLemmas.{at_from, made_so, to_show_is, shown_so, stands_subscribed, first_part, place_of, Twin, twin, shown_part}
 
 -- ---- flags

@@ -87,13 +87,7 @@ pub(super) fn show_first(held: &mut Labelled<Masks>, count: usize, sub: usize)
 }
 
 // The subscription with this number was made, and the item at the index is under its query or not.
-fn make_one(
-    held: &mut Labelled<Masks>,
-    index: usize,
-    sub: usize,
-    is_under: bool,
-    initial: bool,
-)
+fn make_one(held: &mut Labelled<Masks>, index: usize, sub: usize, is_under: bool, initial: bool)
     requires { sub < 128 }
     ensures { IsRemarked held.old held.new index (made_at sub is_under initial) }
 {
@@ -129,11 +123,7 @@ fn is_under_at(held: &Held, asker: &mut Asker<'_>, index: usize) -> Option<bool>
 }
 
 /// Which of the held items are under the query, floors first and then changes in key order.
-pub(super) fn flags_under(
-    alloc: Global,
-    held: &Held,
-    filter: &Filter,
-) -> Result<Vec<bool>, NoRoom>
+pub(super) fn flags_under(alloc: Global, held: &Held, filter: &Filter) -> Result<Vec<bool>, NoRoom>
     ensures { IfOk result (λ flags. flags.items ≡ map (is_item_under filter.now) (held_items held.now)) }
 {
     let mut flags = Vec::with_capacity(alloc, held.len())?;
