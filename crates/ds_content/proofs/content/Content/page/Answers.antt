@@ -1,4 +1,5 @@
-use Rattle.std.proofs.Common.{◌≡◌, ◌++◌, [], Bool, List, is_none, map, take, cond, ap, ap₂, sym, ◌∙◌}
+use Rattle.std.proofs.Common.{◌≡◌, ◌++◌, [], Bool, true, false, not, List, Option, Some, None, is_none, refl, map, take, cond, ap, ap₂, sym, ◌∙◌}
+use Rattle.std.specs.Option.{is_some}
 use Rattle.ds_names.specs.declared.key.Key.{Key}
 use Rattle.ds_entry.specs.Item.{passes}
 use Rattle.ds_entry.specs.declared.item.Item.{Item}
@@ -15,13 +16,19 @@ use Rattle.ds_content.proofs.OpenLemmas.{cursor_is}
 use Rattle.ds_content.proofs.PagingLemmas.{page_is}
 use Rattle.ds_content.proofs.content.Content.page.Goals as goal
 
+none_told : (told : Bool) (after : Option Key) → is_some after ≡ not told → told ≡ is_none after
+none_told true None e = refl
+none_told false None e = absurd (cc)
+none_told true (Some key) e = absurd (cc)
+none_told false (Some key) e = refl
+
 pub returns-clause-given : goal.returns-clause-given
 returns-clause-given g c =
     let keep = g.S.KeyScope.keeps c.args.scope.now in
     let h = c.held-held.result.now in
     page_is keep h c.args.after c.args.max c.cursor.result c.add_changes.new.items c.in_ok-last.last
     (c.in_ok-last.ensures.added
-    ∙ ap (λ (l : List Item). l ++ map change_item (take c.args.max (to_come keep c.args.after (held_changes h)))) (c.in_ok-items.ensures ∙ ap (λ (b : Bool). cond b (map floored (held_floors h)) []) c.is_none.ensures))
+    ∙ ap (λ (l : List Item). l ++ map change_item (take c.args.max (to_come keep c.args.after (held_changes h)))) (c.in_ok-items.ensures ∙ ap (λ (b : Bool). cond b (map floored (held_floors h)) []) (none_told c.is_none.result c.args.after c.is_none.ensures)))
     c.in_ok-last.ensures.last
     ∙ ap (λ (x : Holding). page_of (passes keep) c.args.after c.args.max (held_items x) c.cursor.result) c.held-held.ensures.value
     ∙ ap (λ (k : Cursor). page_of (passes keep) c.args.after c.args.max (held_items c.self.inside.held.held) k) c.cursor.ensures.value
@@ -33,7 +40,7 @@ returns-clause-stands g c = λ s stands.
     let h = c.held-held.result.now in
     page_is keep h c.args.after c.args.max c.cursor.result c.add_changes.new.items c.in_ok-last.last
     (c.in_ok-last.ensures.added
-    ∙ ap (λ (l : List Item). l ++ map change_item (take c.args.max (to_come keep c.args.after (held_changes h)))) (c.in_ok-items.ensures ∙ ap (λ (b : Bool). cond b (map floored (held_floors h)) []) c.is_none.ensures))
+    ∙ ap (λ (l : List Item). l ++ map change_item (take c.args.max (to_come keep c.args.after (held_changes h)))) (c.in_ok-items.ensures ∙ ap (λ (b : Bool). cond b (map floored (held_floors h)) []) (none_told c.is_none.result c.args.after c.is_none.ensures)))
     c.in_ok-last.ensures.last
     ∙ ap (λ (x : Holding). page_of (passes keep) c.args.after c.args.max (held_items x) c.cursor.result) c.held-held.ensures.value
     ∙ ap (λ (k : Cursor). page_of (passes keep) c.args.after c.args.max (held_items c.self.inside.held.held) k) c.cursor.ensures.value
