@@ -1,6 +1,6 @@
 //! Scopes whose patterns were read.
 
-ghost use Rattle.std.specs.Prelude.{◌≡◌, None, Err, IfOk, IfErr, OnOk};
+ghost use Rattle.std.specs.Prelude.{◌≡◌, None, Err, IfOk, IfErr, OnOk, IsOk};
 ghost use Rattle.std.specs.List.{find};
 ghost use Rattle.ds_machine.specs.Order.{first_refusal};
 ghost use Rattle.ds_machine.specs.Calling.{against_scope};
@@ -51,9 +51,10 @@ impl ScopeFilter {
         }
     }
 
-    /// What asks the scope about many keys. It takes memory, but for the scope of all keys.
+    /// What asks the scope about many keys. It takes memory, but for the scope of all keys, where it never fails.
     pub fn asker(&self, alloc: Global) -> Result<ScopeAsker<'_>, NoRoom>
-        ensures { IfOk result (λ asker. asker_scope asker ≡ scope_of self.now) }
+        ensures asks { IfOk result (λ asker. asker_scope asker ≡ scope_of self.now) }
+        ensures all { scope_of self.now ≡ Scope.All → IsOk result }
     {
         match self {
             ScopeFilter::All => Ok(ScopeAsker::All),
