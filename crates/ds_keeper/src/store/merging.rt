@@ -1,9 +1,8 @@
 //! Merges of what another holder gives.
 
-ghost use Rattle.std.specs.Prelude.{◌≡◌, ◌∷◌, [], None, Some, Err, IfNone, map};
+ghost use Rattle.std.specs.Prelude.{◌≡◌, ◌∷◌, [], None, Err, IfNone, map};
 ghost use Rattle.ds_entry.specs.declared.item.Item.TheVariants.{Change as Changed, Floor as Floored};
-ghost use Rattle.ds_machine.specs.Order.{first_cause};
-ghost use Rattle.ds_machine.specs.Standing.{against_change, against_floor, cause_of};
+ghost use Rattle.ds_machine.specs.Standing.{cause_of};
 ghost use Rattle.ds_machine.specs.State.{State};
 ghost use Rattle.ds_machine.specs.Machine.{Step};
 ghost use Rattle.ds_machine.specs.Subscription.{is_owed};
@@ -13,7 +12,7 @@ ghost use Rattle.ds_judge.specs.Standing.{machine_standing};
 ghost use Rattle.ds_content.specs.Free.{IsFree, IsFloorFree};
 ghost use Rattle.ds_content.specs.Stands.{Stands};
 ghost use Rattle.ds_keeper.specs.Merging.{MergesItem, owed_after, stale_by, taken_by};
-ghost use Rattle.ds_keeper.specs.Standing.{standing_in, floor_standing_in};
+ghost use Rattle.ds_keeper.specs.Standing.{standing_in};
 
 use crate::store::Store;
 use ds_entry::{Change, Floor, Item, ItemList};
@@ -41,7 +40,7 @@ impl Store {
 
     // The first cause against a change that another holder gave.
     fn cause_of_change(&self, change: &Change) -> Option<Cause>
-        ensures first { result ≡ first_cause (Some change.now.version) (against_change (standing_in self.now change.now) change.now) }
+        ensures first { (s : State) → Stands self.now s → result ≡ cause_of s (Changed change.now) }
         ensures free { IfNone result (IsFree self.now change.now) }
     {
         let standing = self.standing(change);
@@ -50,7 +49,7 @@ impl Store {
 
     // The first cause against a floor that another holder gave.
     fn cause_of_floor(&self, floor: &Floor) -> Option<Cause>
-        ensures first { result ≡ first_cause None (against_floor (floor_standing_in self.now floor.now) floor.now) }
+        ensures first { (s : State) → Stands self.now s → result ≡ cause_of s (Floored floor.now) }
         ensures free { IfNone result (IsFloorFree self.now floor.now) }
     {
         let standing = self.floor_standing(floor);

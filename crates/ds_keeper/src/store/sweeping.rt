@@ -1,11 +1,10 @@
 //! Sweeps, which raise a floor under what a dead owner left.
 
-ghost use Rattle.std.specs.Prelude.{◌≡◌, ◌≤◌, ◌&&◌, None, IfNone, is_some, length};
+ghost use Rattle.std.specs.Prelude.{◌≡◌, ◌&&◌, IfNone, is_some, length};
 ghost use Rattle.ds_entry.specs.Void.{voids};
 ghost use Rattle.ds_join.specs.Reading.{value_of};
-ghost use Rattle.ds_machine.specs.Asking.{against_sweep};
+ghost use Rattle.ds_machine.specs.Asking.{sweep_cause};
 ghost use Rattle.ds_machine.specs.Machine.{Answers, sweeping, dropped};
-ghost use Rattle.ds_machine.specs.Order.{first_cause};
 ghost use Rattle.ds_machine.specs.State.{State};
 ghost use Rattle.ds_judge.specs.Last.{IsLast};
 ghost use Rattle.ds_judge.specs.Standing.{machine_floor_standing};
@@ -60,7 +59,7 @@ impl Store {
 
     // The first cause against a sweep.
     fn cause_of_sweep(&self, caller: Endpoint, floor: &Floor) -> Option<Cause>
-        ensures first { result ≡ first_cause None (against_sweep (floor_standing_in self.now floor.now) caller floor.now) }
+        ensures first { (s : State) → Stands self.now s → result ≡ sweep_cause s caller floor.now }
         ensures free { IfNone result (IsFloorFree self.now floor.now) }
     {
         let standing = self.floor_standing(floor);

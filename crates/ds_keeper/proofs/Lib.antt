@@ -1,0 +1,3 @@
+pub mod StandingLemmas
+pub mod AnswerLemmas
+pub mod CountLemmas
