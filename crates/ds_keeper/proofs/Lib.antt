@@ -1,3 +1,4 @@
 pub mod StandingLemmas
 pub mod AnswerLemmas
 pub mod CountLemmas
+pub mod MergeLemmas

@@ -52,6 +52,12 @@ void_is h sound held e c =
     ∙ sym (ap (λ o. is_void_under o c) (ap (option_map (λ (f : Floor). f.generation)) (floor_at-is h sound c.owner) ∙ generation_back c.owner (floor_for h c.owner))))
 
 -- ---- standings
+abbrev pub floor_told : Option Floor → ℕ → ℕ → FloorStanding
+floor_told held count position = record { held = held; count = count; position = position }
+
+pub floor_told_same : (v : ContentRecord) (f : Floor) (o : Option Floor) (count position : ℕ) → o ≡ floor_at v.held f.owner → count ≡ length (floors_in v.held) → position ≡ v.journal.position → floor_told o count position ≡ floor_standing_in v f
+floor_told_same v f o count position p q r = λ i. record { held = p i; count = q i; position = r i }
+
 abbrev pub told : Option ChangeRecord → Bool → ℕ → ℕ → ℕ → Standing
 told held void count most position = record { held = held; void = void; count = count; most = most; position = position }
 
