@@ -2,3 +2,4 @@ pub mod StandingLemmas
 pub mod AnswerLemmas
 pub mod CountLemmas
 pub mod MergeLemmas
+pub mod WatchLemmas
