@@ -1,12 +1,10 @@
 -- What a Subscribe and a Check are answered, in the words of a store's content.
-use Rattle.std.proofs.Common.{◌≡◌, ℕ, zero, suc, ◌+◌, ◌<◌, ◌||◌, ◌&&◌, nat_lt, nat_le, Bool, true, false, cond, List, [], ◌∷◌, ◌++◌, filter, length, take, get_or, Option, Some, None, is_some, refl, ap, ap₂, sym, ◌∙◌, subst, inl, inr, ◌⊎◌, arith}
-use Rattle.std.proofs.lemmas.Bool.Decides.{nat_tests}
+use Rattle.std.proofs.Common.{◌≡◌, ℕ, zero, suc, ◌+◌, ◌<◌, ◌||◌, ◌&&◌, Bool, true, false, cond, List, [], ◌∷◌, ◌++◌, filter, length, take, get_or, Option, Some, None, is_some, refl, ap, ap₂, sym, ◌∙◌, subst, inl, inr, ◌⊎◌, arith}
 use Rattle.std.specs.List.{list_any}
-use Rattle.std.specs.Option.{option_map, option_map_or, option_or}
+use Rattle.std.specs.Option.{option_map, option_map_or, option_or, unwrap_or}
 use Rattle.ds_entry.specs.declared.item.Item.{Item}
 use Rattle.ds_pattern.specs.declared.query.Query.{Query}
 use Rattle.ds_watch.specs.Followed.{Followed}
-use Rattle.ds_machine.specs.Limits.{last_place}
 use Rattle.ds_machine.specs.Order.{first_refusal}
 use Rattle.ds_machine.specs.Calling.{SubscribeCase, CheckCase, against_subscribe, against_check}
 use Rattle.ds_machine.specs.Subscription.{Subscription, is_unseen}
@@ -17,12 +15,15 @@ use Rattle.ds_machine.specs.declared.refusal.Refusal.{Refusal}
 use Rattle.ds_machine.specs.declared.refusal.Refusal.TheVariants as refusals
 use Rattle.ds_machine.specs.declared.reply.Reply.{Reply}
 use Rattle.ds_machine.specs.declared.reply.Reply.TheVariants.{Subscribed, Checked, Refused}
+use Rattle.ds_machine.specs.declared.command.Command.TheVariants.{Check}
+use Rattle.ds_judge.specs.Last.{IsLast}
 use Rattle.ds_judge.specs.Refused.{IsRefusedFor}
 use Rattle.ds_judge.specs.Cases.{refusal_of_showing}
 use Rattle.ds_content.specs.Content.{ContentRecord}
 use Rattle.ds_content.specs.Followed.{followed_of}
 use Rattle.ds_content.specs.Stands.{Stands}
 use Rattle.ds_content.proofs.SeenLemmas.{place_of}
+use Rattle.ds_keeper.proofs.AnswerLemmas.{last_of}
 
 mapped_some : {X Y : Type 0} (f : X → Y) (o : Option X) → is_some (option_map f o) ≡ is_some o
 mapped_some f None = refl
@@ -103,23 +104,45 @@ seen_at v s sub n stands e = by_place (subscription_at s sub) refl
         record { seer = seer; here = q; stamp_is = one }
 
 -- ---- what is shown
-any_passes : (p : Item → Bool) (xs : List Item) → list_any p xs ≡ nat_lt 0 (length (filter p xs))
+-- there are some
+abbrev pub are_some : List Item → Bool
+are_some [] = false
+are_some (i ∷ items) = true
+
+any_passes : (p : Item → Bool) (xs : List Item) → list_any p xs ≡ are_some (filter p xs)
 any_passes p [] = refl
 any_passes p (x ∷ xs) = by_test (p x) (any_passes p xs)
   where
-    by_test : (b : Bool) → list_any p xs ≡ nat_lt 0 (length (filter p xs)) → b || list_any p xs ≡ nat_lt 0 (length (cond b (x ∷ filter p xs) (filter p xs)))
+    by_test : (b : Bool) → list_any p xs ≡ are_some (filter p xs) → b || list_any p xs ≡ are_some (cond b (x ∷ filter p xs) (filter p xs))
     by_test true e = refl
     by_test false e = e
 
-some_taken : (n : ℕ) (xs : List Item) → 0 < n → nat_lt 0 (length (take n xs)) ≡ nat_lt 0 (length xs)
+some_taken : (n : ℕ) (xs : List Item) → 0 < n → are_some (take n xs) ≡ are_some xs
 some_taken zero xs l = absurd (omega arith)
 some_taken (suc n) [] l = refl
 some_taken (suc n) (x ∷ xs) l = refl
 
 -- something is shown where something is to be shown
-pub some_is : (s : State) (seer : Subscription) (max : ℕ) (items : List Item) → 0 < max → items ≡ take max (unseen s seer) → nat_lt 0 (length items) ≡ has_unseen s seer
+pub some_is : (s : State) (seer : Subscription) (max : ℕ) (items : List Item) → 0 < max → items ≡ take max (unseen s seer) → are_some items ≡ has_unseen s seer
 some_is s seer max items l e =
-    ap (λ (xs : List Item). nat_lt 0 (length xs)) e ∙ some_taken max (unseen s seer) l ∙ sym (any_passes (is_unseen seer.query seer.shown) (held s))
+    ap are_some e ∙ some_taken max (unseen s seer) l ∙ sym (any_passes (is_unseen seer.query seer.shown) (held s))
+
+pub no_items : (items : List Item) → length items ≡ 0 → items ≡ []
+no_items [] e = refl
+no_items (i ∷ items) e = absurd (omega (arith, e))
+
+pub some_items : (items : List Item) → 0 < length items → are_some items ≡ true
+some_items [] l = absurd (omega (arith, l))
+some_items (i ∷ items) l = refl
+
+-- what could not be shown for want of memory is refused for what stands, and for want of memory where nothing does
+pub check_short : (s : State) (sub max : ℕ) (o : Option Refusal) → first_refusal (against_check (check_case s sub max (subscription_at s sub))) ≡ o → Answers s (checking s sub max) (Refused (unwrap_or o refusals.NoRoom)) s
+check_short s sub max None e = inr (record { reply_is = refl; state_is = refl })
+check_short s sub max (Some r) e = inl (check_refused s sub max r e)
+
+pub short_last : (s : State) (sub max : ℕ) (o : Option Refusal) → first_refusal (against_check (check_case s sub max (subscription_at s sub))) ≡ o → IsLast s (Check sub max) (Refused (unwrap_or o refusals.NoRoom))
+short_last s sub max None e = e
+short_last s sub max (Some r) e = last_of s (Check sub max) (Refused r) s (check_refused s sub max r e)
 
 module _ (s : State) (sub max : ℕ) (seer : Subscription) (here : subscription_at s sub ≡ Some seer) where
   abbrev checked_with : Option Refusal → Reply × State
@@ -136,11 +159,11 @@ module _ (s : State) (sub max : ℕ) (seer : Subscription) (here : subscription_
       let now : checking s sub max ≡ (Checked [] seer.stamp seer.stamp, s) = checking_is none ∙ ap (shows s sub seer) (sym e ∙ empty) in
       record { reply_is = ap₂ (λ a b. Checked a b b) empty stamp ∙ sym (ap (λ (x : Reply × State). x.0) now); state_is = sym (ap (λ (x : Reply × State). x.1) now) }
 
-  shows_some : (items : List Item) → nat_lt 0 (length items) ≡ true → shows s sub seer items ≡ (Checked items seer.stamp (s.stamp + 1), subscribes s sub seer.query (seer.shown ++ items))
+  shows_some : (items : List Item) → are_some items ≡ true → shows s sub seer items ≡ (Checked items seer.stamp (s.stamp + 1), subscribes s sub seer.query (seer.shown ++ items))
   shows_some [] l = absurd (cc)
   shows_some (i ∷ items) l = refl
 
-  pub check_done : (n m : ℕ) (items : List Item) → first_refusal (against_check (check_case s sub max (subscription_at s sub))) ≡ None → items ≡ take max (unseen s seer) → nat_lt 0 (length items) ≡ true → n ≡ seer.stamp → m ≡ s.stamp + 1
+  pub check_done : (n m : ℕ) (items : List Item) → first_refusal (against_check (check_case s sub max (subscription_at s sub))) ≡ None → items ≡ take max (unseen s seer) → are_some items ≡ true → n ≡ seer.stamp → m ≡ s.stamp + 1
       → IsOutcome (checking s sub max) (Checked items n m) (subscribes s sub seer.query (seer.shown ++ items))
   check_done n m items none e some stamp next =
       let now : checking s sub max ≡ (Checked items seer.stamp (s.stamp + 1), subscribes s sub seer.query (seer.shown ++ items)) = checking_is none ∙ ap (shows s sub seer) (sym e) ∙ shows_some items some in

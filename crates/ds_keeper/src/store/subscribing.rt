@@ -74,21 +74,19 @@ impl Store {
         };
         let stamp = self.content.stamp();
         let Ok(shown) = self.content.first_unseen(sub, max) else {
-            return Reply::Refused(match refusal_of_showing(true, stamp) {
-                Some(refusal) => refusal,
-                None => Refusal::NoRoom,
-            });
+            let worn = refusal_of_showing(true, stamp);
+            return Reply::Refused(worn.unwrap_or(Refusal::NoRoom));
         };
-        let some = shown.items.len() > 0;
-        if let Some(refusal) = refusal_of_showing(some, stamp) {
-            return Reply::Refused(refusal);
-        }
-        if !some {
+        let count = shown.items.len();
+        if count == 0 {
             return Reply::Checked {
                 items: shown.items,
                 before,
                 after: before,
             };
+        }
+        if let Some(refusal) = refusal_of_showing(true, stamp) {
+            return Reply::Refused(refusal);
         }
         self.content.show(sub, &shown);
         Reply::Checked {
