@@ -3,3 +3,4 @@ pub mod AnswerLemmas
 pub mod CountLemmas
 pub mod MergeLemmas
 pub mod WatchLemmas
+pub mod ReadingLemmas
