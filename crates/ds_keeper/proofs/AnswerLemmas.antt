@@ -1,5 +1,5 @@
 -- What commands are answered, in the words of a store's content.
-use Rattle.std.proofs.Common.{◌≡◌, ℕ, Bool, List, [], ◌∷◌, map, length, Option, Some, None, is_some, Err, IfNone, refl, ap, ap₂, sym, ◌∙◌, subst, inl, inr}
+use Rattle.std.proofs.Common.{◌≡◌, ◌≢◌, ℕ, Bool, List, [], ◌∷◌, map, length, Option, Some, None, is_some, Err, IfNone, refl, ap, ap₂, sym, ◌∙◌, subst, inl, inr}
 use Rattle.std.specs.Option.{option_map, option_map_or, option_and_then}
 use Rattle.ds_names.specs.declared.key.Key.{Key}
 use Rattle.ds_names.specs.declared.kind.Kind.{Kind}
@@ -28,12 +28,14 @@ use Rattle.ds_machine.specs.declared.command.Command.{Command}
 use Rattle.ds_machine.specs.declared.reply.Reply.{Reply}
 use Rattle.ds_machine.specs.declared.reply.Reply.TheVariants as replies
 use Rattle.ds_machine.proofs.PartLemmas.{key_found}
-use Rattle.ds_judge.specs.Last.{IsLast}
+use Rattle.ds_machine.specs.Says.{IsAskedReply}
+use Rattle.ds_judge.specs.Last.{IsLast, MayLackRoom}
 use Rattle.ds_judge.specs.Passed.{passed_as}
 use Rattle.ds_judge.proofs.LastLemmas.{last}
 use Rattle.ds_content.specs.Content.{ContentRecord}
 use Rattle.ds_content.specs.Stands.{Stands}
 use Rattle.ds_keeper.specs.InPlace.{IsKindInPlace}
+use Rattle.ds_keeper.proofs.ReadingLemmas.{refused_last}
 
 -- what the machine itself answers tells want of memory only where it may
 pub last_of : (s : State) (command : Command) (reply : Reply) (t : State) → IsOutcome (outcome s command) reply t → IsLast s command reply
@@ -100,3 +102,25 @@ found_in_place hs key c value e change put p =
     let here : key ≡ c.key = (key_found hs key c e).1 in
     let of : IsOfKind c.key.kind (Put value) = subst (λ (b : Body). IsOfKind c.key.kind b) put change.kind in
     kind_in_place c.key.kind value of (subst (λ (k : Key). IsKindInPlace k.kind) here p)
+
+-- ---- where want of memory is told
+-- of what a caller asks
+pub asked_last : (s : State) (command : Command) (reply : Reply) → IsAskedReply reply → (reply ≡ replies.Refused refusals.NoRoom → MayLackRoom s command) → IsLast s command reply
+asked_last s command (replies.Changed owed) fit may = tt
+asked_last s command replies.Known fit may = tt
+asked_last s command (replies.Refused r) fit may = refused_last s command r (λ e. may (ap (λ (x : Refusal). replies.Refused x) e))
+asked_last s command (replies.Swept count owed) fit may = absurd fit
+asked_last s command (replies.Found value) fit may = absurd fit
+asked_last s command (replies.Named name) fit may = absurd fit
+asked_last s command (replies.Subscribed stamp owed) fit may = absurd fit
+asked_last s command (replies.Checked items before after) fit may = absurd fit
+asked_last s command (replies.Journaled since) fit may = absurd fit
+asked_last s command (replies.Snapped snapshot) fit may = absurd fit
+asked_last s command (replies.Paged page) fit may = absurd fit
+asked_last s command (replies.Merged done taken stale owed) fit may = absurd fit
+asked_last s command (replies.MergeStopped done fault owed) fit may = absurd fit
+
+-- of an answer that never tells it
+pub never_last : (s : State) (command : Command) (reply : Reply) (t : State) → Answers s (outcome s command) reply t → reply ≢ replies.Refused refusals.NoRoom → IsLast s command reply
+never_last s command reply t (inl is) never = last_of s command reply t is
+never_last s command reply t (inr wants) never = absurd (never wants.reply_is)

@@ -4,3 +4,5 @@ pub mod CountLemmas
 pub mod MergeLemmas
 pub mod WatchLemmas
 pub mod ReadingLemmas
+pub mod RunLemmas
+pub mod CrossingLemmas

@@ -105,7 +105,7 @@ impl Store {
         ensures last { (s : State) → Stands self.old s → IsLast s command result }
         ensures fits { IsReplyTo command result }
     {
-        let _stood = self.content.cursor();
+        let _stood = self.cursor();
         match command {
             Command::Publish {
                 caller,

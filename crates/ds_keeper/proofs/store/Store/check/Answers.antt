@@ -67,8 +67,8 @@ returns-then-count-eq0-clause-step c = λ s stands.
     let none = left ∙ ap (λ b. refusal_of_showing b s.stamp) shown in
     (s, inl (check_empty s c.args.sub c.args.max seen.seer seen.here c.in-Some-before.before c.in-Ok.shown.items none items empty seen.stamp_is), stands)
 
-pub returns-in-Some-refusal_of_showing-2-clause-step : goal.returns-in-Some-refusal_of_showing-2-clause-step
-returns-in-Some-refusal_of_showing-2-clause-step c = λ s stands.
+pub returns-in-Some-refusal_of_showing-clause-step : goal.returns-in-Some-refusal_of_showing-clause-step
+returns-in-Some-refusal_of_showing-clause-step c = λ s stands.
     let v = c.self.inside.content in
     let here : Stands v s = subst (λ (x : ContentRecord). Stands x s) (sym c.self.view_is) stands in
     let places = c.subs.ensures.count ∙ ap (λ l. l.subs) (c.limits.ensures ∙ here.limits) in
