@@ -177,7 +177,7 @@ MERGE = [
     case("worn of floors", begins(2) + HELD + "offer ! eth0 2", merge("! eth0 2", "! eth0 3"), "stopped 1 worn"),
     case("known and stale by floors", begins(1) + "offer ! eth0 3", merge("! eth0 3", "! eth0 2", NEW), "merged 3 0 2"),
     case("of a floor and what it makes void", "offer ! eth0 2\n" + HELD + SUB, merge("! eth0 3", NEW, SAME), "merged 3 1 2" + OWED),
-    case("of a floor of another owner", "offer ! tty 2\n" + HELD, merge("! tty 3", "! eth0 2"), "merged 2 2 0", "stopped 1 noroom"),
+    case("of a floor of another owner", "offer ! tty 2\n" + HELD, merge("! tty 3", "! eth0 2"), "merged 2 2 0", "stopped 1 noroom", "merged 2 2 0"),
 ]
 
 OFFER = [
