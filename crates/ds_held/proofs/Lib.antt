@@ -8,4 +8,7 @@ pub mod JoinLemmas
 pub mod LeftLemmas
 pub mod KeptLemmas
 pub mod DropLemmas
+pub mod RowMarkLemmas
 pub mod MarkLemmas
+pub mod FloorMarkLemmas
+pub mod MemoryLemmas

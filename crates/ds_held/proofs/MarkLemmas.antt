@@ -1,17 +1,14 @@
 -- Marks beside changes.
-use Rattle.std.proofs.Common.{◌≡◌, ℕ, zero, suc, ◌<◌, ◌≤◌, List, [], ◌∷◌, length, set, map, true, false, cond, Option, Some, None, is_some, Result, Ok, Err, refl, sym, ap, ◌∙◌, subst, arith, length-set}
-use Rattle.std.proofs.lemmas.Option.{same_Some, get_or_from_slice_get}
-use Rattle.std.proofs.lemmas.List.Edits.{length-insert}
+use Rattle.std.proofs.Common.{◌≡◌, ℕ, ◌<◌, ◌≤◌, List, [], ◌∷◌, length, set, map, true, false, cond, Option, Some, None, is_some, Result, Ok, Err, refl, sym, ap, ◌∙◌, subst, arith, length-set}
 use Rattle.std.specs.List.{slice_get}
 use Rattle.std.specs.Option.{option_map, IfSome}
 use Rattle.std.specs.Result.{MatchResult}
 use Rattle.std.specs.Prelude.{⊤}
-use Rattle.std.specs.declared.cmp.Ordering.TheVariants.{Equal}
 use Rattle.std.specs.Ordering.{eq_by_cmp, is_eq}
 use Rattle.std.specs.Cmp.{tied_itself}
-use Rattle.std.specs.FinMap.{FinMap, find, put, get, from_entries, get-from_entries, get-entries, get-insert, entries, entries_sorted, same_map, is_sorted}
+use Rattle.std.specs.FinMap.{FinMap, find, get, get-from_entries, get-entries, entries, entries_sorted, same_map, is_sorted}
 use Rattle.std.specs.FinMap as finite
-use Rattle.std.specs.FinMap.Entries.{by_order, find-put, below_all}
+use Rattle.std.specs.FinMap.Entries.{below_all}
 use lib.Dec.{T}
 use Rattle.ds_names.specs.declared.key.Key.{Key}
 use Rattle.ds_names.specs.Key.{key_cmp}
@@ -27,10 +24,10 @@ use Rattle.ds_held.specs.Held.{Holding, held_changes, held_for, held_count, noth
 use Rattle.ds_held.specs.Merge.{AnswersFor, MergeAnswer}
 use Rattle.ds_held.specs.Raise.{at_kept_keys}
 use Rattle.ds_held.specs.Kept.{keyed, by_key, changes_of, AreKeysRising, IsPlace, IsPut, put_at, list_after, left_by}
-use Rattle.ds_held.specs.Marked.{MarkedHolding, nothing_marked, marks_after, marks_raised, remarked}
+use Rattle.ds_held.specs.Marked.{marks_after, marks_raised, remarked}
 use Rattle.ds_held.specs.Beside.{marked_keys, marks_beside, marks_left, IsBeside}
 use Rattle.ds_held.proofs.EntryLemmas.{both, unlike}
-use Rattle.ds_held.proofs.PlaceLemmas.{later, rest_place, rest_gap, before_gap, behind_gap, at_place, tied_place}
+use Rattle.ds_held.proofs.RowMarkLemmas.{none_from, place_from_get, find_mark, marked_too, marks_put, each_put, marks_at, marks_past}
 use Rattle.ds_held.proofs.KeptLemmas.{change_there, change_none, changes_are, kept_nothing, none_more}
 use Rattle.ds_held.proofs.LeftLemmas.{marks_are_left, each_left}
 
@@ -84,38 +81,8 @@ module _ (h : Holding) (sound : IsSound h) where
       subst (λ o. AnswersFor o (is_void_at h c) (held_count h) h.limits.keys c (Err NoRoom)) (sym none)
       (none_more (is_void_at h c) (held_count h) h.limits.keys c (subst (λ o. AnswersFor o (is_void_at h c) (held_count h) h.limits.keys c (Ok Taken)) none a))
 
-within_from : (xs : List ChangeRecord) (i : ℕ) (c : ChangeRecord) → slice_get xs i ≡ Some c → i < length xs
-within_from [] i c e = absurd (cc)
-within_from (x ∷ xs) zero c e = omega arith
-within_from (x ∷ xs) (suc i) c e = omega (arith, within_from xs i c e)
-
--- an element stands at the place of its key
-pub place_from_get : (xs : List ChangeRecord) (i : ℕ) (c : ChangeRecord) → slice_get xs i ≡ Some c → IsPlace xs c.key (Ok i)
-place_from_get xs i c e = (within_from xs i c e, λ d. subst (λ (x : ChangeRecord). key_cmp x.key c.key ≡ Equal) (sym (get_or_from_slice_get xs i c d e)) (tied_itself keys_total c.key))
-
-none_from : {X : Type 0} (o : Option X) → is_some o ≡ false → o ≡ None
-none_from None e = refl
-none_from (Some x) e = absurd (cc)
-
 -- ---- what is found beside a key
 module _ {M : Type 0} where
-  find_mark : (cs : List ChangeRecord) (ms : List M) (key : Key) (i : ℕ) → AreKeysRising cs → length ms ≡ length cs → IsPlace cs key (Ok i) → find key_cmp key (marked_keys cs ms) ≡ slice_get ms i
-  find_mark [] ms key i s e p = absurd (omega (arith, p.0))
-  find_mark (c ∷ cs) [] key i s e p = absurd (omega (arith, e))
-  find_mark (c ∷ cs) (m ∷ ms) key zero s e p = ap (λ r. cond (is_eq r) (Some m) (find key_cmp key (marked_keys cs ms))) (tied_place key_cmp keys_total exact_keys keyed c cs key p)
-  find_mark (c ∷ cs) (m ∷ ms) key (suc i) s e p =
-      ap (λ r. cond (is_eq r) (Some m) (find key_cmp key (marked_keys cs ms))) (later key_cmp keys_total exact_keys keyed c cs key i s p)
-      ∙ find_mark cs ms key i (both _ _ s).1 (omega (arith, e)) (rest_place key_cmp keys_total exact_keys keyed c cs key i p)
-
-  marked_too : (cs : List ChangeRecord) (ms : List M) (key : Key) → length ms ≡ length cs → is_some (find key_cmp key (marked_keys cs ms)) ≡ is_some (find key_cmp key (by_key cs))
-  marked_too [] ms key e = refl
-  marked_too (c ∷ cs) [] key e = absurd (omega (arith, e))
-  marked_too (c ∷ cs) (m ∷ ms) key e =
-      elim (eq_by_cmp key_cmp key c.key) as (λ b. is_some (cond b (Some m) (find key_cmp key (marked_keys cs ms))) ≡ is_some (cond b (Some c) (find key_cmp key (by_key cs)))) [
-        | true ↦ refl
-        | false ↦ marked_too cs ms key (omega (arith, e))
-      ]
-
   module _ (h : Holding) (ms : List M) (beside : IsBeside h ms) where
     mark_is : (key : Key) → get (marks_beside (held_changes h) ms) key ≡ find key_cmp key (marked_keys (held_changes h) ms)
     mark_is key = get-from_entries keys_total (marked_keys (held_changes h) ms) key
@@ -123,18 +90,18 @@ module _ {M : Type 0} where
     -- just the held keys have marks
     pub marked_held : (key : Key) → is_some (get (marks_beside (held_changes h) ms) key) ≡ is_some (held_for h key)
     marked_held key =
-        ap is_some (mark_is key) ∙ marked_too (held_changes h) ms key beside.each
+        ap is_some (mark_is key) ∙ marked_too key_cmp keys_total exact_keys keyed (held_changes h) ms key beside.each
         ∙ ap is_some (sym (get-from_entries keys_total (by_key (held_changes h)) key)) ∙ ap (λ (m : FinMap key_cmp ChangeRecord). is_some (get m key)) (changes_held h beside.sound)
 
     pub mark_found : (key : Key) (i : ℕ) → IsPlace (held_changes h) key (Ok i) → get (marks_beside (held_changes h) ms) key ≡ slice_get ms i
-    mark_found key i p = mark_is key ∙ find_mark (held_changes h) ms key i (rising_held h beside.sound) beside.each p
+    mark_found key i p = mark_is key ∙ find_mark key_cmp keys_total exact_keys keyed (held_changes h) ms key i (rising_held h beside.sound) beside.each p
 
     pub mark_missing : (key : Key) (i : ℕ) → IsPlace (held_changes h) key (Err i) → get (marks_beside (held_changes h) ms) key ≡ None
     mark_missing key i p = none_from (get (marks_beside (held_changes h) ms) key) (marked_held key ∙ ap is_some (held_missing h beside.sound key i p))
 
     -- and a change and a mark at one index stand beside each other
     mark_at : (i : ℕ) (c : ChangeRecord) (m : M) → slice_get (held_changes h) i ≡ Some c → slice_get ms i ≡ Some m → get (marks_beside (held_changes h) ms) c.key ≡ Some m
-    mark_at i c m e f = mark_found c.key i (place_from_get (held_changes h) i c e) ∙ f
+    mark_at i c m e f = mark_found c.key i (place_from_get key_cmp keys_total exact_keys keyed (held_changes h) i c e) ∙ f
 
     pub beside_at : {P : Type 0} (r : Option P) (c : P → ChangeRecord) (m : P → M) (i : ℕ) → option_map c r ≡ slice_get (held_changes h) i → option_map m r ≡ slice_get ms i → IfSome r (λ p. get (marks_beside (held_changes h) ms) (c p).key ≡ Some (m p))
     beside_at None c m i e f = tt
@@ -143,48 +110,16 @@ module _ {M : Type 0} where
     pub beside_set : (i : ℕ) (m : M) → IsBeside h (set ms i m)
     beside_set i m = record { sound = beside.sound; each = omega (arith, length-set ms i m, beside.each) }
 
--- ---- a mark at its place
-module _ {M : Type 0} where
-  marked_put : (cs : List ChangeRecord) (ms : List M) (c : ChangeRecord) (m : M) (place : Result ℕ ℕ) → AreKeysRising cs → length ms ≡ length cs → IsPlace cs c.key place → marked_keys (put_at cs place c) (put_at ms place m) ≡ put key_cmp c.key m (marked_keys cs ms)
-  marked_put [] ms c m (Ok i) s e p = absurd (omega (arith, p.0))
-  marked_put [] [] c m (Err zero) s e p = refl
-  marked_put [] (n ∷ ns) c m (Err zero) s e p = absurd (omega (arith, e))
-  marked_put [] ms c m (Err (suc i)) s e p = absurd (omega (arith, p.0))
-  marked_put (x ∷ xs) [] c m place s e p = absurd (omega (arith, e))
-  marked_put (x ∷ xs) (n ∷ ns) c m (Ok zero) s e p =
-      ap (λ (k : Key). (k, m) ∷ marked_keys xs ns) (sym (at_place key_cmp keys_total exact_keys keyed x xs c.key p))
-      ∙ sym (ap (λ r. by_order r ((c.key, m) ∷ (x.key, n) ∷ marked_keys xs ns) ((x.key, m) ∷ marked_keys xs ns) ((x.key, n) ∷ put key_cmp c.key m (marked_keys xs ns))) (tied_place key_cmp keys_total exact_keys keyed x xs c.key p))
-  marked_put (x ∷ xs) (n ∷ ns) c m (Ok (suc i)) s e p =
-      ap (λ l. (x.key, n) ∷ l) (marked_put xs ns c m (Ok i) (both _ _ s).1 (omega (arith, e)) (rest_place key_cmp keys_total exact_keys keyed x xs c.key i p))
-      ∙ sym (ap (λ r. by_order r ((c.key, m) ∷ (x.key, n) ∷ marked_keys xs ns) ((x.key, m) ∷ marked_keys xs ns) ((x.key, n) ∷ put key_cmp c.key m (marked_keys xs ns))) (later key_cmp keys_total exact_keys keyed x xs c.key i s p))
-  marked_put (x ∷ xs) (n ∷ ns) c m (Err zero) s e p =
-      sym (ap (λ r. by_order r ((c.key, m) ∷ (x.key, n) ∷ marked_keys xs ns) ((x.key, m) ∷ marked_keys xs ns) ((x.key, n) ∷ put key_cmp c.key m (marked_keys xs ns))) (behind_gap key_cmp keys_total exact_keys keyed x xs c.key p))
-  marked_put (x ∷ xs) (n ∷ ns) c m (Err (suc i)) s e p =
-      ap (λ l. (x.key, n) ∷ l) (marked_put xs ns c m (Err i) (both _ _ s).1 (omega (arith, e)) (rest_gap key_cmp keys_total exact_keys keyed x xs c.key i p))
-      ∙ sym (ap (λ r. by_order r ((c.key, m) ∷ (x.key, n) ∷ marked_keys xs ns) ((x.key, m) ∷ marked_keys xs ns) ((x.key, n) ∷ put key_cmp c.key m (marked_keys xs ns))) (before_gap key_cmp keys_total exact_keys keyed x xs c.key i p))
-
-  from_put : (es : List (Key × M)) (k : Key) (m : M) → from_entries {R = key_cmp} (put key_cmp k m es) ≡ finite.insert (from_entries es) k m
-  from_put es k m = same_map keys_total exact_keys _ _ (λ q.
-      get-from_entries keys_total (put key_cmp k m es) q ∙ find-put key_cmp keys_total q k m es
-      ∙ sym (get-insert keys_total (from_entries es) k m q ∙ ap (cond (eq_by_cmp key_cmp q k) (Some m)) (get-from_entries keys_total es q)))
-
-  each_put : (cs : List ChangeRecord) (ms : List M) (c : ChangeRecord) (m : M) (place : Result ℕ ℕ) → length ms ≡ length cs → IsPlace cs c.key place → length (put_at ms place m) ≡ length (put_at cs place c)
-  each_put cs ms c m (Ok i) e p = omega (arith, length-set ms i m, length-set cs i c, e)
-  each_put cs ms c m (Err i) e p =
-      let within : i ≤ length ms = omega (arith, e, p.0) in
-      omega (arith, length-insert ms i m within, length-insert cs i c p.0, e)
-
 -- ---- what a merge of a change and its mark leaves
 module _ {M : Type 0} (h : Holding) (ms : List M) (beside : IsBeside h ms) (c : ChangeRecord) (place : Result ℕ ℕ) (at : IsPlace (held_changes h) c.key place) (m : M) where
   merged_each : (r : Result Merge JoinFault) → length (list_after ms (put_at ms place m) r) ≡ length (list_after (held_changes h) (put_at (held_changes h) place c) r)
-  merged_each (Ok Taken) = each_put (held_changes h) ms c m place beside.each at
+  merged_each (Ok Taken) = each_put key_cmp keys_total exact_keys keyed (held_changes h) ms c m place beside.each at
   merged_each (Ok Known) = beside.each
   merged_each (Ok Stale) = beside.each
   merged_each (Err fault) = beside.each
 
   merged_marks : (r : Result Merge JoinFault) → marks_beside (list_after (held_changes h) (put_at (held_changes h) place c) r) (list_after ms (put_at ms place m) r) ≡ marks_after (marks_beside (held_changes h) ms) c.key m r
-  merged_marks (Ok Taken) =
-      ap (λ es. from_entries {R = key_cmp} es) (marked_put (held_changes h) ms c m place (rising_held h beside.sound) beside.each at) ∙ from_put (marked_keys (held_changes h) ms) c.key m
+  merged_marks (Ok Taken) = marks_put key_cmp keys_total exact_keys keyed (held_changes h) ms c m place (rising_held h beside.sound) beside.each at
   merged_marks (Ok Known) = refl
   merged_marks (Ok Stale) = refl
   merged_marks (Err fault) = refl
@@ -220,30 +155,13 @@ module _ {M : Type 0} (h : Holding) (ms : List M) (beside : IsBeside h ms) (f : 
     marks_kept = ap (λ l. marks_beside l ns) list ∙ ap (marks_beside (list_after (held_changes h) (left_by f (held_changes h)) r)) marks ∙ raised_marks r
 
 -- ---- another mark at an index
-set_same : (xs : List ChangeRecord) (i : ℕ) (c : ChangeRecord) → slice_get xs i ≡ Some c → set xs i c ≡ xs
-set_same [] i c e = absurd (cc)
-set_same (x ∷ xs) zero c e = ap (λ y. y ∷ xs) (sym (same_Some x c e))
-set_same (x ∷ xs) (suc i) c e = ap (λ l. x ∷ l) (set_same xs i c e)
-
-none_past : (xs : List ChangeRecord) (i : ℕ) → slice_get xs i ≡ None → length xs ≤ i
-none_past [] i e = omega arith
-none_past (x ∷ xs) zero e = absurd (cc)
-none_past (x ∷ xs) (suc i) e = omega (arith, none_past xs i e)
-
 module _ {M : Type 0} where
-  set_past : (ms : List M) (i : ℕ) (m : M) → length ms ≤ i → set ms i m ≡ ms
-  set_past [] i m w = refl
-  set_past (n ∷ ns) zero m w = absurd (omega (arith, w))
-  set_past (n ∷ ns) (suc i) m w = ap (λ l. n ∷ l) (set_past ns i m (omega (arith, w)))
-
   pub marks_set : (cs : List ChangeRecord) (ms : List M) (i : ℕ) (m : M) → AreKeysRising cs → length ms ≡ length cs → marks_beside cs (set ms i m) ≡ remarked (marks_beside cs ms) (slice_get cs i) m
   marks_set cs ms i m s e = by_found (slice_get cs i) refl
     where
       by_found : (o : Option ChangeRecord) → slice_get cs i ≡ o → marks_beside cs (set ms i m) ≡ remarked (marks_beside cs ms) o m
-      by_found None q = ap (marks_beside cs) (set_past ms i m (omega (arith, none_past cs i q, e)))
-      by_found (Some c) q =
-          ap (λ l. marks_beside l (set ms i m)) (sym (set_same cs i c q))
-          ∙ ap (λ es. from_entries {R = key_cmp} es) (marked_put cs ms c m (Ok i) s e (place_from_get cs i c q)) ∙ from_put (marked_keys cs ms) c.key m
+      by_found None q = marks_past key_cmp keys_total exact_keys keyed cs ms i m e q
+      by_found (Some c) q = marks_at key_cmp keys_total exact_keys keyed cs ms i c m s e q
 
   -- ---- nothing
   pub beside_nothing : (lim : LimitsRecord) (h : Holding) (ms : List M) → h ≡ nothing_held lim → ms ≡ [] → IsBeside h ms
@@ -252,14 +170,8 @@ module _ {M : Type 0} where
     each = ap length (sym (changes_are [] [] lim tt));
   }))
 
-  marks_nothing : (lim : LimitsRecord) (h : Holding) (ms : List M) → h ≡ nothing_held lim → ms ≡ [] → marks_beside (held_changes h) ms ≡ finite.empty
+  pub marks_nothing : (lim : LimitsRecord) (h : Holding) (ms : List M) → h ≡ nothing_held lim → ms ≡ [] → marks_beside (held_changes h) ms ≡ finite.empty
   marks_nothing lim h ms e f = ap (λ (g : Holding). marks_beside (held_changes g) ms) e ∙ ap (marks_beside (held_changes (nothing_held lim))) f ∙ ap (λ l. marks_beside {M = M} l []) (changes_are [] [] lim tt)
-
-  abbrev marked_of : Holding → List M → MarkedHolding M
-  marked_of h ms = record { held = h; marks = marks_beside (held_changes h) ms }
-
-  pub nothing_is : (lim : LimitsRecord) (h : Holding) (ms : List M) → h ≡ nothing_held lim → ms ≡ [] → marked_of h ms ≡ nothing_marked lim
-  nothing_is lim h ms e f = λ i. record { held = e i; marks = marks_nothing lim h ms e f i }
 
 -- ---- room for a mark
 pub room_there : (xs : List ChangeRecord) (key : Key) (n cap : ℕ) (p : Result ℕ ℕ) → IsPlace xs key p → n ≡ length xs → MatchResult p (λ i. ⊤) (λ i. n < cap) → MatchResult p (λ i. i < n) (λ i. (i ≤ n) × (n < cap))

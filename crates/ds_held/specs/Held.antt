@@ -6,6 +6,7 @@ use Rattle.ds_names.specs.Key.{name_cmp, key_cmp}
 use Rattle.ds_entry.specs.Change.{ChangeRecord}
 use Rattle.ds_entry.specs.Floor.{floor_of}
 use Rattle.ds_entry.specs.Void.{voids}
+use Rattle.ds_entry.specs.declared.floor.Floor.{Floor}
 use Rattle.ds_entry.specs.declared.item.Item.{Item}
 use Rattle.ds_entry.specs.declared.item.Item.TheVariants.{Change as Changed, Floor as Floored}
 use Rattle.ds_held.specs.Limits.{LimitsRecord}
@@ -43,6 +44,10 @@ held_for h key = get h.changes key
 -- the generation of the owner's floor
 abbrev pub floor_for : Holding → List ℕ → Option ℕ
 floor_for h owner = get h.floors owner
+
+-- the held floors, in the order of their owners' names
+abbrev pub held_floors : Holding → List Floor
+held_floors h = map (λ (e : List ℕ × ℕ). floor_of e.0 e.1) (entries h.floors)
 
 -- the number of held keys, those of tombstones too; floors aren't counted
 abbrev pub held_count : Holding → ℕ

@@ -6,3 +6,4 @@ pub mod Join
 pub mod Marked
 pub mod Kept
 pub mod Beside
+pub mod Memory

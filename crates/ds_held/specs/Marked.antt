@@ -1,34 +1,40 @@
--- What a holder with marks holds: beside each change a mark of the caller's.
-use Rattle.std.specs.Prelude.{◌≡◌, Option, Some, None, is_some, Result, Ok, Err}
+-- What a holder with marks holds: beside each change and each floor a mark of the caller's.
+use Rattle.std.specs.Prelude.{◌≡◌, List, ℕ, Option, Some, None, is_some, Result, Ok, Err}
 use Rattle.std.specs.FinMap.{FinMap, empty, get, insert}
 use Rattle.ds_names.specs.declared.key.Key.{Key}
-use Rattle.ds_names.specs.Key.{key_cmp}
+use Rattle.ds_names.specs.Key.{name_cmp, key_cmp}
 use Rattle.ds_entry.specs.Change.{ChangeRecord}
 use Rattle.ds_entry.specs.declared.floor.Floor.{Floor}
 use Rattle.ds_join.specs.declared.merge.Merge.{Merge}
 use Rattle.ds_join.specs.declared.merge.Merge.TheVariants.{Taken, Known, Stale}
 use Rattle.ds_join.specs.declared.merge.JoinFault.{JoinFault}
 use Rattle.ds_held.specs.Limits.{LimitsRecord}
-use Rattle.ds_held.specs.Held.{Holding, held_for, nothing_held}
+use Rattle.ds_held.specs.Held.{Holding, held_for, floor_for, nothing_held}
 use Rattle.ds_held.specs.Raise.{at_kept_keys}
 
--- what is held, and from each held key its mark
+-- what is held, from each held key its mark, and from each owner the mark of its floor
 pub record MarkedHolding (M : Type 0) : Type 0 where
   pub held : Holding
   pub marks : FinMap key_cmp M
+  pub floor_marks : FinMap name_cmp M
 
 module _ {M : Type 0} where
   -- the mark of the key
   abbrev pub mark_for : MarkedHolding M → Key → Option M
   mark_for h key = get h.marks key
 
+  -- the mark of the owner's floor
+  abbrev pub floor_mark_for : MarkedHolding M → List ℕ → Option M
+  floor_mark_for h owner = get h.floor_marks owner
+
   -- nothing is held
   abbrev pub nothing_marked : LimitsRecord → MarkedHolding M
-  nothing_marked limits = record { held = nothing_held limits; marks = empty }
+  nothing_marked limits = record { held = nothing_held limits; marks = empty; floor_marks = empty }
 
-  -- each held key has a mark, and no other key has one
-  abbrev pub HasMarks : MarkedHolding M → Type 0
-  HasMarks h = (key : Key) → is_some (mark_for h key) ≡ is_some (held_for h.held key)
+  -- each held key has a mark, and each owner whose floor is held, and no other key or owner has one
+  pub record HasMarks (h : MarkedHolding M) : Type 0 where
+    pub keys : (key : Key) → is_some (mark_for h key) ≡ is_some (held_for h.held key)
+    pub owners : (owner : List ℕ) → is_some (floor_mark_for h owner) ≡ is_some (floor_for h.held owner)
 
   -- a change that is taken has the mark that came with it; after any other answer nothing has changed
   abbrev pub marks_after : FinMap key_cmp M → Key → M → Result Merge JoinFault → FinMap key_cmp M
@@ -44,7 +50,19 @@ module _ {M : Type 0} where
   marks_raised changes old f (Ok Stale) = old
   marks_raised changes old f (Err fault) = old
 
+  -- and has the mark that came with it, in place of the one of its owner's floor before; after any other answer nothing has changed
+  abbrev pub floor_marks_after : FinMap name_cmp M → List ℕ → M → Result Merge JoinFault → FinMap name_cmp M
+  floor_marks_after old owner mark (Ok Taken) = insert old owner mark
+  floor_marks_after old owner mark (Ok Known) = old
+  floor_marks_after old owner mark (Ok Stale) = old
+  floor_marks_after old owner mark (Err fault) = old
+
   -- the marks with another one for the change, where there is a change
   abbrev pub remarked : FinMap key_cmp M → Option ChangeRecord → M → FinMap key_cmp M
   remarked old None mark = old
   remarked old (Some c) mark = insert old c.key mark
+
+  -- the marks with another one for the floor, where there is a floor
+  abbrev pub floor_remarked : FinMap name_cmp M → Option Floor → M → FinMap name_cmp M
+  floor_remarked old None mark = old
+  floor_remarked old (Some f) mark = insert old f.owner mark

@@ -1,6 +1,6 @@
 //! Floors in the order of their owners' names.
 
-ghost use Rattle.std.specs.Prelude.{◌≡◌, ◌≤◌, ◌<◌, ℕ, Result, Ok, length, vec_len, slice_index_or, slice_set};
+ghost use Rattle.std.specs.Prelude.{◌≡◌, ◌≤◌, ◌<◌, ℕ, Result, Ok, length, vec_len, slice_get, slice_index_or, slice_set};
 ghost use Rattle.std.specs.FinMap.{get, len};
 ghost use Rattle.std.specs.List.{insert};
 ghost use Rattle.ds_names.specs.Key.{name_cmp};
@@ -15,14 +15,21 @@ use ds_names::{Generation, Name};
 use std::cmp::Ordering;
 
 // The most owners that have floors.
-const MOST_FLOORS: usize = 64;
+pub(crate) const MOST_FLOORS: usize = 64;
 
 // Where the floor of an owner stands, or else where it would.
-fn place_of(floors: &[Floor], owner: &Name) -> Result<usize, usize>
+pub(crate) fn place_of(floors: &[Floor], owner: &Name) -> Result<usize, usize>
     requires { AreOwnersRising floors.now }
     ensures { IsFloorPlace floors.now owner.now result }
 {
     floors.binary_search_by(|floor| floor.owner.cmp(owner))
+}
+
+// The floor at an index.
+pub(crate) fn nth_floor(floors: &[Floor], index: usize) -> Option<Floor>
+    ensures { result ≡ slice_get floors.now index }
+{
+    floors.get(index).copied()
 }
 
 // The generation of an owner's floor.

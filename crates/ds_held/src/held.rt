@@ -1,6 +1,6 @@
 //! Holders of changes and floors.
 
-ghost use Rattle.std.specs.Prelude.{◌≡◌, ◌≤◌, ◌++◌, ◌∷◌, [], length, All, Ok, IfOk, IfErr, IfSome, OnOk, option_and_then, slice_get, take};
+ghost use Rattle.std.specs.Prelude.{◌≡◌, ◌≤◌, ◌++◌, ◌∷◌, [], All, IfOk, IfErr, IfSome, OnOk, option_and_then, slice_get, take};
 ghost use Rattle.std.specs.Option.{option_copied, option_map};
 ghost use Rattle.std.specs.List.{find};
 ghost use Rattle.ds_entry.specs.Change.{ChangeRecord, IsChange, IsValue};
@@ -9,27 +9,26 @@ ghost use Rattle.ds_join.specs.Reading.{value_of, comes_after};
 ghost use Rattle.ds_join.specs.Label.{names_endpoint};
 ghost use Rattle.ds_join.specs.ItemTop.{IsTop};
 ghost use Rattle.ds_join.specs.ItemJoin.{IsJoin};
-ghost use Rattle.ds_join.specs.declared.merge.Merge.TheVariants.{Taken};
-ghost use Rattle.ds_held.specs.Beside.{marks_left};
-ghost use Rattle.ds_held.specs.Held.{held_changes, held_items, held_for, held_count, floor_for, nothing_held, IsSound};
+ghost use Rattle.ds_held.specs.Held.{held_changes, held_items, held_floors, held_for, held_count, floor_for, floor_count, is_void_at, nothing_held, IsSound};
 ghost use Rattle.ds_held.specs.Join.{AreMerged, IsStopped};
-ghost use Rattle.ds_held.specs.Kept.{left_by, list_after, put_at, IsPlace, IsPut};
 ghost use Rattle.ds_held.specs.Limits.{larger};
 ghost use Rattle.ds_held.specs.Merge.{after_merge, IsRefused, MergeAnswer};
 ghost use Rattle.ds_held.specs.Raise.{after_raise, RaiseAnswer};
 
-use crate::floors::floor_at;
+use crate::floors::{floor_at, is_void, nth_floor};
 use crate::join::join_into;
 use crate::limits::Limits;
-use crate::list::{merge_copy, merge_into, outlook, put};
-use crate::order::{change_at, first_of, name_of, nth, place_of};
+use crate::list::{merge_copy, merge_into};
+use crate::order::{change_at, first_of, name_of, nth};
 use crate::reading::copy_all;
-use crate::void::{raise_beside, raise_into};
+use crate::void::raise_into;
 use ds_entry::{Body, Change, Floor, ItemList, Value};
 use ds_join::{JoinFault, Merge, Stop};
 use ds_names::{Endpoint, Generation, Key, Name, NoRoom};
 use std::alloc::Global;
 use std::marker::Model;
+
+mod beside;
 
 /// For each owner the greatest floor that came, and for each key the change with the greatest version of those that no
 /// floor makes void, tombstones too; at most 64 floors, and as many keys as its limits say.
@@ -119,6 +118,29 @@ impl Held {
         ensures sound { IsSound self.now }
     {
         floor_at(&self.floors, owner)
+    }
+
+    /// How many owners have floors, at most 64.
+    pub fn floor_count(&self) -> usize
+        ensures count { result ≡ floor_count self.now }
+        ensures few { result ≤ 64 }
+        ensures sound { IsSound self.now }
+    {
+        self.floors.len()
+    }
+
+    /// The floor at an index from 0, in the order of the owners' names. `None` behind the last one.
+    pub fn floor_at(&self, index: usize) -> Option<Floor>
+        ensures { result ≡ slice_get (held_floors self.now) index }
+    {
+        nth_floor(&self.floors, index)
+    }
+
+    /// Whether the floor of its owner makes the change void.
+    pub fn is_void(&self, change: &Change) -> bool
+        ensures { result ≡ is_void_at self.now change.now }
+    {
+        is_void(&self.floors, change)
     }
 
     /// The change that is held for a key.
@@ -235,64 +257,6 @@ impl Held {
             self.limits,
             &other.floors,
             &other.changes,
-        )
-    }
-
-    // Where the change of a key stands, or else where it would.
-    pub(crate) fn place(&self, key: &Key) -> Result<usize, usize>
-        ensures { IsPlace (held_changes self.now) key.now result }
-    {
-        place_of(&self.changes, key)
-    }
-
-    // What a change, whose place is told, is answered, where there is memory for it.
-    pub(crate) fn outlook(
-        &self,
-        place: Result<usize, usize>,
-        change: &Change,
-    ) -> Result<Merge, JoinFault>
-        requires { IsPlace (held_changes self.now) change.now.key place }
-        ensures { MergeAnswer self.now change.now result }
-    {
-        outlook(&self.floors, &self.changes, self.limits, place, change)
-    }
-
-    // Puts a change that is to be taken at its place.
-    pub(crate) fn put(
-        &mut self,
-        place: Result<usize, usize>,
-        change: Change,
-    ) -> Result<Merge, JoinFault>
-        requires place { IsPlace (held_changes self.old) change.key place }
-        requires taken { MergeAnswer self.old change (Ok Taken) }
-        ensures put { IsPut place result }
-        ensures after { self.new ≡ after_merge self.old change result }
-        ensures list { held_changes self.new ≡ list_after (held_changes self.old) (put_at (held_changes self.old) place change) result }
-        ensures sound { IsSound self.new }
-        ensures change { IsChange change }
-    {
-        put(&mut self.changes, place, change)
-    }
-
-    // Raises a floor, and drops the marks of the changes that it makes void with them.
-    pub(crate) fn raise_beside<M: Drop>(
-        &mut self,
-        marks: &mut Vec<M>,
-        floor: Floor,
-    ) -> Result<Merge, JoinFault>
-        requires { length marks.old.items ≡ length (held_changes self.old) }
-        ensures answer { RaiseAnswer self.old floor result }
-        ensures after { self.new ≡ after_raise self.old floor result }
-        ensures list { held_changes self.new ≡ list_after (held_changes self.old) (left_by floor (held_changes self.old)) result }
-        ensures marks { marks.new.items ≡ list_after marks.old.items (marks_left floor (held_changes self.old) marks.old.items) result }
-        ensures sound { IsSound self.new }
-    {
-        raise_beside(
-            &mut self.floors,
-            &mut self.changes,
-            marks,
-            self.limits,
-            floor,
         )
     }
 }

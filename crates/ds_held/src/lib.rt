@@ -9,6 +9,7 @@
 mod floors;
 mod held;
 mod join;
+mod laws;
 mod limits;
 mod list;
 mod marked;
@@ -17,5 +18,6 @@ mod reading;
 mod void;
 
 pub use held::Held;
+pub use laws::held_places_need_no_room;
 pub use limits::Limits;
 pub use marked::Marked;

@@ -4,7 +4,7 @@ use Rattle.std.specs.declared.cmp.Ordering.{Ordering}
 use Rattle.std.specs.declared.cmp.Ordering.TheVariants.{Less, Equal, Greater}
 use Rattle.std.specs.Ordering.{nat_cmp, is_eq, eq_by_cmp, ordering_then, ordering_reverse}
 use Rattle.std.specs.Cmp.{tied_itself}
-use Rattle.std.specs.FinMap.{get-insert, get-empty}
+use Rattle.std.specs.FinMap.{FinMap, empty, get, insert, values, get-insert, get-empty}
 use Rattle.std.specs.List.{find}
 use Rattle.std.specs.List.Sorted.{IsStrictlySortedBy}
 use Rattle.std.specs.Option.{option_map}
@@ -32,7 +32,7 @@ use Rattle.ds_join.specs.declared.merge.Merge.{Merge}
 use Rattle.ds_join.specs.declared.merge.Merge.TheVariants.{Taken, Known, Stale}
 use Rattle.ds_join.specs.declared.merge.JoinFault.{JoinFault}
 use Rattle.ds_join.specs.declared.merge.JoinFault.TheVariants.{NoRoom}
-use Rattle.ds_join.specs.Held.{Holding, held_changes, held_for, held_count, nothing_held, IsOwn}
+use Rattle.ds_join.specs.Held.{Holding, held_changes, held_for, held_count}
 use Rattle.ds_join.specs.Label.{names_endpoint, is_label_of}
 use Rattle.ds_join.specs.Merge.{MergeAnswer, AnswersNew, AnswersFor, after_merge}
 use Rattle.ds_join.specs.Reading.{value_of, value_in}
@@ -54,14 +54,14 @@ pub label_key_is : (key : Key) → key.kind ≡ Label → key ≡ label_key key.
 label_key_is key e = λ i. record { name = key.name; kind = e i }
 
 -- ---- after a change was taken
-module _ (old : Holding) (c : ChangeRecord) where
-  abbrev pub taken : Holding
-  taken = after_merge old c (Ok Taken)
+module _ (old : FinMap key_cmp ChangeRecord) (c : ChangeRecord) where
+  abbrev pub taken : FinMap key_cmp ChangeRecord
+  taken = insert old c.key c
 
   holder_after : (name : List ℕ) (b : Bool) → eq_by_cmp key_cmp (label_key name) c.key ≡ b → holder_for taken name ≡ cond b (Some (endpoint_in c)) (holder_for old name)
-  holder_after name b e = ap (option_map endpoint_in) (get-insert keys_total old.changes c.key c (label_key name) ∙ ap (λ t. cond t (Some c) (held_for old (label_key name))) e) ∙ by_test b
+  holder_after name b e = ap (option_map endpoint_in) (get-insert keys_total old c.key c (label_key name) ∙ ap (λ t. cond t (Some c) (get old (label_key name))) e) ∙ by_test b
     where
-      by_test : (b : Bool) → option_map endpoint_in (cond b (Some c) (held_for old (label_key name))) ≡ cond b (Some (endpoint_in c)) (holder_for old name)
+      by_test : (b : Bool) → option_map endpoint_in (cond b (Some c) (get old (label_key name))) ≡ cond b (Some (endpoint_in c)) (holder_for old name)
       by_test true = refl
       by_test false = refl
 
@@ -91,7 +91,7 @@ module _ (old : Holding) (c : ChangeRecord) where
         same_pair (sym (same_Some (endpoint_in c) p.endpoint (sym (holder_after p.name true e) ∙ h))) (ap (λ (k : Key). k.name) (same_key (label_key p.name) c.key e)) ∙ sym is
 
     -- a new label was
-    pub new_indexed : held_for old c.key ≡ None → IsAdded names news after → IsIndexed taken news
+    pub new_indexed : get old c.key ≡ None → IsAdded names news after → IsIndexed taken news
     new_indexed none added = record {
       listed = λ p e. by_listed p (eq_by_cmp key_cmp (label_key p.name) c.key) refl e;
       held = λ p h. elim (added.only p h) [ inl e ↦ after_held p e | inr k ↦ by_held p (eq_by_cmp key_cmp (label_key p.name) c.key) refl k ];
@@ -102,13 +102,13 @@ module _ (old : Holding) (c : ChangeRecord) where
         by_listed p false e h = added.keeps p (i.listed p (sym (holder_after p.name false e) ∙ h))
 
         by_held : (p : Named) (b : Bool) → eq_by_cmp key_cmp (label_key p.name) c.key ≡ b → Contains names p → holder_for taken p.name ≡ Some p.endpoint
-        by_held p true e k = none_is (sym (ap (λ (key : Key). option_map endpoint_in (held_for old key)) (same_key (label_key p.name) c.key e) ∙ ap (option_map endpoint_in) none) ∙ i.held p k)
+        by_held p true e k = none_is (sym (ap (λ (key : Key). option_map endpoint_in (get old key)) (same_key (label_key p.name) c.key e) ∙ ap (option_map endpoint_in) none) ∙ i.held p k)
         by_held p false e k = holder_after p.name false e ∙ i.held p k
 
-    pub not_listed : held_for old c.key ≡ None → Contains names after → ⊥
+    pub not_listed : get old c.key ≡ None → Contains names after → ⊥
     not_listed none h =
         none_is
-        (sym (ap (λ (q : Named). holder_for old q.name) is ∙ ap (λ (key : Key). option_map endpoint_in (held_for old key)) (sym (label_key_is c.key label)) ∙ ap (option_map endpoint_in) none) ∙ i.held after h)
+        (sym (ap (λ (q : Named). holder_for old q.name) is ∙ ap (λ (key : Key). option_map endpoint_in (get old key)) (sym (label_key_is c.key label)) ∙ ap (option_map endpoint_in) none) ∙ i.held after h)
 
     -- a label took the place of the one that was held
     module _ (before : Named) (name : before.name ≡ c.key.name) (held : holder_for old before.name ≡ Some before.endpoint) where
@@ -150,15 +150,15 @@ pub room_wanted : (old : Holding) (c : ChangeRecord) → held_for old c.key ≡ 
 room_wanted old c none few = subst (λ o. AnswersFor o (held_count old) c (Err NoRoom)) (sym none) few
 
 -- the labels are listed as they are held after the change of another key
-pub unlabelled_indexed : (old : Holding) (c : ChangeRecord) (r : Result Merge JoinFault) (names : List Named) → IsIndexed old names → (c.key.kind ≡ Label → ⊥) → IsIndexed (after_merge old c r) names
-unlabelled_indexed old c (Ok Taken) names i other = other_indexed old c names i other
+pub unlabelled_indexed : (old : Holding) (c : ChangeRecord) (r : Result Merge JoinFault) (names : List Named) → IsIndexed old.changes names → (c.key.kind ≡ Label → ⊥) → IsIndexed (after_merge old c r).changes names
+unlabelled_indexed old c (Ok Taken) names i other = other_indexed old.changes c names i other
 unlabelled_indexed old c (Ok Known) names i other = i
 unlabelled_indexed old c (Ok Stale) names i other = i
 unlabelled_indexed old c (Err fault) names i other = i
 
-pub nothing_indexed : (h : Holding) (names : List Named) → h ≡ nothing_held → names ≡ [] → IsIndexed h names
-nothing_indexed h names e f = record {
-  listed = λ p q. none_is (sym (ap (λ (x : Holding). holder_for x p.name) e ∙ ap (option_map endpoint_in) (get-empty key_cmp (label_key p.name))) ∙ q);
+pub nothing_indexed : (changes : FinMap key_cmp ChangeRecord) (names : List Named) → changes ≡ empty → names ≡ [] → IsIndexed changes names
+nothing_indexed changes names e f = record {
+  listed = λ p q. none_is (sym (ap (λ (x : FinMap key_cmp ChangeRecord). holder_for x p.name) e ∙ ap (option_map endpoint_in) (get-empty key_cmp (label_key p.name))) ∙ q);
   held = λ p k. absurd (Contains-nil p (subst (λ (l : List Named). Contains l p) f k));
 }
 
@@ -246,7 +246,10 @@ label_kind e kind (Put (values.Str t)) k h = none_is h
 label_kind e kind (Put (values.Mem b)) k h = none_is h
 label_kind e kind Gone k h = none_is h
 
-module _ (h : Holding) (own : IsOwn h) (fit : All IsChange (held_changes h)) (names : List Named) (sorted : IsStrictlySortedBy named_cmp names) (i : IsIndexed h names) (e : EndpointRecord) where
+module _ (changes : FinMap key_cmp ChangeRecord) (own : (key : Key) (c : ChangeRecord) → get changes key ≡ Some c → c.key ≡ key) (fit : All IsChange (values changes)) (names : List Named) (sorted : IsStrictlySortedBy named_cmp names) (i : IsIndexed changes names) (e : EndpointRecord) where
+  abbrev h : Holding
+  h = record { changes = changes }
+
   -- a held label of the endpoint is listed
   held_label : (c : ChangeRecord) → In c (held_changes h) → names_endpoint e c ≡ true → c.key ≡ label_key c.key.name
   held_label c k t =

@@ -1,6 +1,6 @@
 //! Holders of changes that name endpoints.
 
-ghost use Rattle.std.specs.Prelude.{◌≡◌, ◌≢◌, ◌<◌, ◌++◌, ◌∷◌, [], true, false, Some, None, Ok, Err, IfSome, OnOk, slice_get};
+ghost use Rattle.std.specs.Prelude.{◌≡◌, ◌<◌, ◌++◌, ◌∷◌, [], Some, None, Ok, Err, IfSome, OnOk, slice_get};
 ghost use Rattle.std.specs.Option.{option_map, option_copied};
 ghost use Rattle.std.specs.List.{find};
 ghost use Rattle.ds_names.specs.declared.kind.Kind.{Kind};
@@ -14,10 +14,10 @@ ghost use Rattle.ds_index.specs.Named.{named_at};
 ghost use Rattle.ds_index.specs.Indexed.{endpoint_in, label_key, IsIndexed};
 
 use crate::index::Index;
-use crate::named::Named;
-use ds_entry::{Body, Change, Value};
+use crate::named::{Named, endpoint_in, is_label};
+use ds_entry::Change;
 use ds_join::{Held, JoinFault, Marked, Merge};
-use ds_names::{Endpoint, Key, Kind, Name, NoRoom};
+use ds_names::{Endpoint, Key, Name, NoRoom};
 use std::alloc::Global;
 use std::marker::Model;
 
@@ -47,17 +47,7 @@ impl<M> Model for Indexed<M> {
 
     ghost view = { λ h. h.held };
 
-    ghost invariant = { λ h. IsIndexed h.held.held h.index.names };
-}
-
-// The endpoint that a change leaves.
-fn endpoint_in(change: &Change) -> Option<Endpoint>
-    ensures { result ≡ endpoint_in change.now }
-{
-    match change.body() {
-        Body::Put(Value::Label(endpoint)) => Some(*endpoint),
-        _ => None,
-    }
+    ghost invariant = { λ h. IsIndexed h.held.held.changes h.index.names };
 }
 
 // Merges the change of a label that is held as `before`.
@@ -68,7 +58,7 @@ fn merge_over<M: Drop>(
     change: Change,
     mark: M,
 ) -> Result<Merge, JoinFault>
-    requires indexed { IsIndexed held.old.held index.old.names }
+    requires indexed { IsIndexed held.old.held.changes index.old.names }
     requires label { change.key ≡ label_key before.now.name }
     requires before { option_map endpoint_in (held_for held.old.held change.key) ≡ Some before.now.endpoint }
     ensures answer { MergeAnswer held.old.held change result }
@@ -76,7 +66,7 @@ fn merge_over<M: Drop>(
     ensures marks { held.new.marks ≡ marks_after held.old.marks change.key mark result }
     ensures joined { OnOk result (IsTop (held_changes held.new.held) (held_changes held.old.held ++ change ∷ [])) }
     ensures change { IsChange change }
-    ensures indexed { IsIndexed held.new.held index.new.names }
+    ensures indexed { IsIndexed held.new.held.changes index.new.names }
 {
     let after = Named {
         endpoint: endpoint_in(&change),
@@ -100,7 +90,7 @@ fn merge_new<M: Drop>(
     change: Change,
     mark: M,
 ) -> Result<Merge, JoinFault>
-    requires indexed { IsIndexed held.old.held index.old.names }
+    requires indexed { IsIndexed held.old.held.changes index.old.names }
     requires label { change.key.kind ≡ Kind.Label }
     requires new { held_for held.old.held change.key ≡ None }
     ensures answer { MergeAnswer held.old.held change result }
@@ -108,7 +98,7 @@ fn merge_new<M: Drop>(
     ensures marks { held.new.marks ≡ marks_after held.old.marks change.key mark result }
     ensures joined { OnOk result (IsTop (held_changes held.new.held) (held_changes held.old.held ++ change ∷ [])) }
     ensures change { IsChange change }
-    ensures indexed { IsIndexed held.new.held index.new.names }
+    ensures indexed { IsIndexed held.new.held.changes index.new.names }
 {
     if held.held().len() >= MOST_KEYS {
         return held.merge(change, mark);
@@ -131,17 +121,6 @@ fn merge_new<M: Drop>(
     }
 }
 
-// Whether keys of the kind are labels'.
-fn is_label(kind: Kind) -> bool
-    ensures yes { result ≡ true → kind ≡ Kind.Label }
-    ensures no { result ≡ false → kind ≢ Kind.Label }
-{
-    match kind {
-        Kind::Label => true,
-        Kind::U32 | Kind::Str | Kind::Mem => false,
-    }
-}
-
 // What is listed of a label that is held.
 fn listed_of<M: Drop>(held: &Marked<M>, key: &Key) -> Option<Named>
     ensures { result ≡ option_map (λ (c : ChangeRecord). named_at (endpoint_in c) key.now.name) (held_for held.now.held key.now) }
@@ -160,13 +139,13 @@ fn merge_indexed<M: Drop>(
     change: Change,
     mark: M,
 ) -> Result<Merge, JoinFault>
-    requires { IsIndexed held.old.held index.old.names }
+    requires { IsIndexed held.old.held.changes index.old.names }
     ensures answer { MergeAnswer held.old.held change result }
     ensures held { held.new.held ≡ after_merge held.old.held change result }
     ensures marks { held.new.marks ≡ marks_after held.old.marks change.key mark result }
     ensures joined { OnOk result (IsTop (held_changes held.new.held) (held_changes held.old.held ++ change ∷ [])) }
     ensures change { IsChange change }
-    ensures indexed { IsIndexed held.new.held index.new.names }
+    ensures indexed { IsIndexed held.new.held.changes index.new.names }
 {
     let key = *change.key();
     if !is_label(key.kind) {

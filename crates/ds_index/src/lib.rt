@@ -6,6 +6,8 @@
 
 mod index;
 mod indexed;
+mod labelled;
 mod named;
 
 pub use indexed::Indexed;
+pub use labelled::Labelled;

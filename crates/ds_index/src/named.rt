@@ -1,9 +1,12 @@
 //! Labels with their endpoints, and their order.
 
-ghost use Rattle.std.specs.Prelude.{◌≡◌};
+ghost use Rattle.std.specs.Prelude.{◌≡◌, ◌≢◌, true, false};
+ghost use Rattle.ds_names.specs.declared.kind.Kind.{Kind};
 ghost use Rattle.ds_index.specs.Named.{slot_of, generation_of, holder_cmp, named_cmp, is_behind, begins_behind, is_of};
+ghost use Rattle.ds_index.specs.Indexed.{endpoint_in};
 
-use ds_names::{Endpoint, Name};
+use ds_entry::{Body, Change, Value};
+use ds_names::{Endpoint, Kind, Name};
 use std::cmp::Ordering;
 
 /// A label's name with the endpoint that it holds, if it is live.
@@ -80,4 +83,25 @@ pub(crate) fn is_of(endpoint: Endpoint, named: &Named) -> bool
         compare_endpoints(&named.endpoint, &Some(endpoint)),
         Ordering::Equal
     )
+}
+
+/// The endpoint that a change leaves.
+pub(crate) fn endpoint_in(change: &Change) -> Option<Endpoint>
+    ensures { result ≡ endpoint_in change.now }
+{
+    match change.body() {
+        Body::Put(Value::Label(endpoint)) => Some(*endpoint),
+        _ => None,
+    }
+}
+
+/// Whether keys of the kind are labels'.
+pub(crate) fn is_label(kind: Kind) -> bool
+    ensures yes { result ≡ true → kind ≡ Kind.Label }
+    ensures no { result ≡ false → kind ≢ Kind.Label }
+{
+    match kind {
+        Kind::Label => true,
+        Kind::U32 | Kind::Str | Kind::Mem => false,
+    }
 }

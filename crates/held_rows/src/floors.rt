@@ -1,7 +1,7 @@
 //! A driver dies, and its floor is raised.
 
 use crate::given::{floor, generation, gone, holder, key, label, name, put, takes};
-use ds_held::{Held, Limits, Marked};
+use ds_held::{Held, Limits};
 use ds_join::{JoinFault, Merge};
 use std::process::Abort;
 
@@ -63,21 +63,6 @@ fn sixty_four_owners_have_floors(rt: HostRuntime) {
     takes(&rt, &mut held, put(&rt, "mtu", "eth0", 1, 0));
     held.clear();
     raises(&rt, &mut held, "eth0", 1, Merge::Taken);
-}
-
-#[test]
-fn marks_go_with_what_is_dropped(rt: HostRuntime) {
-    let mut marked: Marked<u32> = Marked::new(rt.alloc());
-    assert!(rt; marked.merge(put(&rt, "mac", "eth0", 4, 1), 1) == Ok(Merge::Taken));
-    assert!(rt; marked.merge(put(&rt, "mtu", "eth0", 3, 7), 2) == Ok(Merge::Taken));
-    assert!(rt; marked.merge(put(&rt, "tty", "tty", 3, 7), 3) == Ok(Merge::Taken));
-    assert!(rt; marked.raise(floor(&rt, "eth0", 3)) == Ok(Merge::Taken));
-    marked.set_mark(0, 4);
-    let mac = marked.get(&key(&rt, "mac")).map(|(_, mark)| *mark);
-    let tty = marked.at(1).map(|(_, mark)| *mark);
-    assert!(rt; mac == Some(4));
-    assert!(rt; tty == Some(3));
-    assert!(rt; marked.held().len() == 2);
 }
 
 #[test]

@@ -10,3 +10,5 @@ mod floors;
 mod given;
 #[cfg(test)]
 mod joins;
+#[cfg(test)]
+mod marks;

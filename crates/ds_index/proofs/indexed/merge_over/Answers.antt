@@ -16,6 +16,6 @@ returns-in-Ok-Taken-clause-indexed g c =
     let held : c.merge.new.self.held ≡ after_merge old c.args.change (Ok Taken) = subst (λ (r : Merge). c.merge.new.self.held ≡ after_merge old c.args.change (Ok r)) c.in-Ok-Taken.field-0-is c.in-Ok-Taken.ensures.held in
     let after = named_at c.endpoint_in.result c.key.result.now.name in
     let before = c.args.before.now in
-    subst (λ (h : Holding). IsIndexed h c.replace.new.self.names) (sym held)
-    (over_indexed old c.args.change c.args.index.now.names c.replace.new.self.names after c.requires.indexed (ap (λ (k : Key). k.kind) c.requires.label) (same_pair c.endpoint_in.ensures (ap (λ (k : Key). k.name) c.key.ensures.value)) before (sym (ap (λ (k : Key). k.name) c.requires.label))
+    subst (λ (h : Holding). IsIndexed h.changes c.replace.new.self.names) (sym held)
+    (over_indexed old.changes c.args.change c.args.index.now.names c.replace.new.self.names after c.requires.indexed (ap (λ (k : Key). k.kind) c.requires.label) (same_pair c.endpoint_in.ensures (ap (λ (k : Key). k.name) c.key.ensures.value)) before (sym (ap (λ (k : Key). k.name) c.requires.label))
     (ap (λ (k : Key). option_map endpoint_in (held_for old k)) (sym c.requires.label) ∙ c.requires.before) c.replace.ensures)

@@ -2,7 +2,7 @@ use Rattle.std.proofs.Common.{◌≡◌, true, length, vec_len, vec_capacity, ap
 use Rattle.ds_held.specs.Held.{held_changes}
 use Rattle.ds_held.specs.Kept.{put_at}
 use Rattle.ds_held.proofs.MarkLemmas.{room_there, put_is_taken}
-use Rattle.ds_held.proofs.marked.put_marked.Goals as goal
+use Rattle.ds_held.proofs.marked.putting.put_marked.Goals as goal
 
 pub put_mark-requires : goal.put_mark-requires
 put_mark-requires g c =

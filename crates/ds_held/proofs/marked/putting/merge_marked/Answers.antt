@@ -6,7 +6,7 @@ use Rattle.ds_held.specs.Held.{held_changes}
 use Rattle.ds_held.specs.Kept.{IsPlace}
 use Rattle.ds_held.specs.Merge.{MergeAnswer}
 use Rattle.ds_held.proofs.MarkLemmas.{put_answers, beside_merged, marks_merged}
-use Rattle.ds_held.proofs.marked.merge_marked.Goals as goal
+use Rattle.ds_held.proofs.marked.putting.merge_marked.Goals as goal
 
 pub put_marked-requires-clause-place : goal.put_marked-requires-clause-place
 put_marked-requires-clause-place g c = subst (λ (k : Key). IsPlace (held_changes c.args.held.now) k c.place-place.result) c.key.ensures.value c.place-place.ensures

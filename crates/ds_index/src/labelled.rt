@@ -1,0 +1,166 @@
+//! Holders of changes and floors that name endpoints.
+
+ghost use Rattle.std.specs.Prelude.{◌≡◌, ◌≤◌, ◌++◌, ◌∷◌, [], Some, IfSome, OnOk, slice_get};
+ghost use Rattle.std.specs.Option.{option_map, option_copied};
+ghost use Rattle.std.specs.List.{find};
+ghost use Rattle.ds_entry.specs.Change.{ChangeRecord, IsChange};
+ghost use Rattle.ds_entry.specs.declared.item.Item.TheVariants.{Change as Changed, Floor as Floored};
+ghost use Rattle.ds_join.specs.ItemTop.{IsTop};
+ghost use Rattle.ds_join.specs.Label.{names_endpoint};
+ghost use Rattle.ds_held.specs.Held.{held_changes, held_floors, held_for, held_items, floor_count, IsSound};
+ghost use Rattle.ds_held.specs.Marked.{mark_for, floor_mark_for, nothing_marked, marks_after, marks_raised, floor_marks_after, remarked, floor_remarked, HasMarks};
+ghost use Rattle.ds_held.specs.Merge.{MergeAnswer, after_merge};
+ghost use Rattle.ds_held.specs.Raise.{RaiseAnswer, after_raise};
+
+use crate::index::Index;
+use ds_entry::{Change, Floor};
+use ds_held::{Held, Limits, Marked};
+use ds_join::{JoinFault, Merge};
+use ds_names::{Endpoint, Key, Name};
+use merging::merge_labelled;
+use std::alloc::Global;
+use std::marker::Model;
+
+mod merging;
+
+/// What a [`Marked`] holds, with the endpoint of each held label.
+#[derive(Drop)]
+pub struct Labelled<M> {
+    held: Marked<M>,
+    index: Index,
+}
+
+impl<M> Model for Labelled<M> {
+    ghost use Rattle.std.specs.FinMap as map;
+    ghost use Rattle.std.specs.Coded.{code_by, coded×};
+    ghost use Rattle.ds_names.specs.Key.{name_cmp, key_cmp};
+    ghost use Rattle.ds_names.specs.contracts.key.Key.{the_row as key_row};
+    ghost use Rattle.ds_names.specs.contracts.name.Name.{the_row as name_row};
+    ghost use Rattle.ds_held.specs.Held.{Holding};
+    ghost use Rattle.ds_held.specs.contracts.held.Held.{the_row as held_row};
+    ghost use Rattle.ds_held.specs.Marked.{MarkedHolding};
+    ghost use Rattle.ds_index.specs.Indexed.{IsIndexed};
+
+    ghost Value = { MarkedHolding M };
+
+    ghost coded = { code_by (Holding × (map.FinMap key_cmp M × map.FinMap name_cmp M)) (coded× held_row.coded (coded× (map.code key_row.coded M.code) (map.code name_row.coded M.code))) (λ h. (h.held, (h.marks, h.floor_marks))) (λ p. record { held = p.0; marks = p.1.0; floor_marks = p.1.1 }) (λ h i. h) };
+
+    ghost view = { λ h. h.held };
+
+    ghost invariant = { λ h. IsIndexed h.held.held.changes h.index.names };
+}
+
+impl<M: Drop> Labelled<M> {
+    /// A holder of nothing, with these limits. It takes no memory.
+    pub fn bounded(alloc: Global, limits: Limits) -> Labelled<M>
+        ensures { result ≡ nothing_marked limits }
+    {
+        Labelled {
+            held: Marked::bounded(alloc, limits),
+            index: Index::new(alloc),
+        }
+    }
+
+    /// What is held, without the marks.
+    pub fn held(&self) -> &Held
+        ensures value { result.now ≡ self.now.held }
+        ensures sound { IsSound self.now.held }
+        ensures marked { HasMarks self.now }
+    {
+        self.held.held()
+    }
+
+    /// The change that is held for a key, and its mark.
+    pub fn get(&self, key: &Key) -> Option<(&Change, &M)>
+        ensures change { option_map (λ p. p.0.now) result ≡ held_for self.now.held key.now }
+        ensures mark { option_map (λ p. p.1.now) result ≡ mark_for self.now key.now }
+        ensures sound { IsSound self.now.held }
+        ensures valid { IfSome result (λ p. IsChange p.0.now) }
+    {
+        self.held.get(key)
+    }
+
+    /// The change at an index from 0, in the order of the keys, and its mark. `None` behind the last one.
+    pub fn at(&self, index: usize) -> Option<(&Change, &M)>
+        ensures change { option_map (λ p. p.0.now) result ≡ slice_get (held_changes self.now.held) index }
+        ensures mark { IfSome result (λ p. mark_for self.now p.0.now.key ≡ Some p.1.now) }
+        ensures sound { IsSound self.now.held }
+        ensures valid { IfSome result (λ p. IsChange p.0.now) }
+    {
+        self.held.at(index)
+    }
+
+    /// How many owners have floors, at most 64.
+    pub fn floor_count(&self) -> usize
+        ensures count { result ≡ floor_count self.now.held }
+        ensures few { result ≤ 64 }
+        ensures sound { IsSound self.now.held }
+    {
+        self.held.floor_count()
+    }
+
+    /// The floor at an index from 0, in the order of the owners' names, and its mark. `None` behind the last one.
+    pub fn floor_at(&self, index: usize) -> Option<(Floor, &M)>
+        ensures floor { option_map (λ p. p.0) result ≡ slice_get (held_floors self.now.held) index }
+        ensures mark { IfSome result (λ p. floor_mark_for self.now p.0.owner ≡ Some p.1.now) }
+        ensures sound { IsSound self.now.held }
+    {
+        self.held.floor_at(index)
+    }
+
+    /// The least name whose live label holds an endpoint. It takes no memory, and asks no other key.
+    ///
+    /// MINIX 3's DS names an endpoint by whichever label it finds first; that it is the least one is of this project.
+    pub fn name_of(&self, endpoint: Endpoint) -> Option<&Name>
+        ensures { option_copied result ≡ option_map (λ (c : ChangeRecord). c.key.name) (find (names_endpoint endpoint) (held_changes self.now.held)) }
+    {
+        let _count = self.held.held().len();
+        self.index.name_of(endpoint)
+    }
+
+    /// Merges a change, as [`Marked::merge`] does. The change of a held label takes no memory for its endpoint.
+    pub fn merge(&mut self, change: Change, mark: M) -> Result<Merge, JoinFault>
+        ensures answer { MergeAnswer self.old.held change result }
+        ensures held { self.new.held ≡ after_merge self.old.held change result }
+        ensures marks { self.new.marks ≡ marks_after self.old.marks change.key mark result }
+        ensures floor_marks { self.new.floor_marks ≡ self.old.floor_marks }
+        ensures joined { OnOk result (IsTop (held_items self.new.held) (held_items self.old.held ++ Changed change ∷ [])) }
+        ensures sound { IsSound self.new.held }
+        ensures change { IsChange change }
+    {
+        merge_labelled(&mut self.held, &mut self.index, change, mark)
+    }
+
+    /// Raises the floor of an owner, as [`Marked::raise`] does. It drops no label.
+    pub fn raise(&mut self, floor: Floor, mark: M) -> Result<Merge, JoinFault>
+        ensures answer { RaiseAnswer self.old.held floor result }
+        ensures held { self.new.held ≡ after_raise self.old.held floor result }
+        ensures marks { self.new.marks ≡ marks_raised self.old.held.changes self.old.marks floor result }
+        ensures floor_marks { self.new.floor_marks ≡ floor_marks_after self.old.floor_marks floor.owner mark result }
+        ensures joined { OnOk result (IsTop (held_items self.new.held) (held_items self.old.held ++ Floored floor ∷ [])) }
+        ensures sound { IsSound self.new.held }
+    {
+        let _held = self.held.held();
+        self.held.raise(floor, mark)
+    }
+
+    /// Another mark for the change at an index, in the order of the keys. It takes no memory, and changes nothing behind the
+    /// last one.
+    pub fn set_mark(&mut self, index: usize, mark: M)
+        ensures held { self.new.held ≡ self.old.held }
+        ensures marks { self.new.marks ≡ remarked self.old.marks (slice_get (held_changes self.old.held) index) mark }
+        ensures floor_marks { self.new.floor_marks ≡ self.old.floor_marks }
+    {
+        self.held.set_mark(index, mark);
+    }
+
+    /// Another mark for the floor at an index, in the order of the owners' names. It takes no memory, and changes nothing
+    /// behind the last one.
+    pub fn set_floor_mark(&mut self, index: usize, mark: M)
+        ensures held { self.new.held ≡ self.old.held }
+        ensures marks { self.new.marks ≡ self.old.marks }
+        ensures floor_marks { self.new.floor_marks ≡ floor_remarked self.old.floor_marks (slice_get (held_floors self.old.held) index) mark }
+    {
+        self.held.set_floor_mark(index, mark);
+    }
+}
