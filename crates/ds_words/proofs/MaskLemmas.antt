@@ -1,9 +1,9 @@
 -- The lines of masks.
-use Rattle.std.proofs.Common.{◌≡◌, ℕ, ◌-◌, ◌/◌, ◌<◌, ◌==◌, if◌then◌else◌, inl, inr, Bool, false, List, [], ◌++◌, drop, codes, Result, OnOk, refl, sym, ap, subst, ◌∙◌, arith}
+use Rattle.std.proofs.Common.{◌≡◌, ℕ, ◌-◌, ◌/◌, ◌<◌, if◌then◌else◌, inl, inr, Bool, List, [], ◌++◌, drop, codes, Result, OnOk, refl, sym, ap, subst, ◌∙◌, arith}
 use Rattle.std.specs.Int.{w128, to_be_bytes, bytes_high_first}
 use Rattle.std.proofs.lemmas.Bool.{ne_eqb}
 use Rattle.hex.specs.Hex.{encode_lower}
-use Rattle.ds_held.specs.Limits.{LimitsRecord, IsLimits, smaller, larger}
+use Rattle.ds_held.specs.Limits.{LimitsRecord, IsLimits}
 use Rattle.ds_words.specs.Lines.{ended}
 use Rattle.ds_words.specs.Reply.{mask_hex, owed_line}
 use Rattle.ds_words.proofs.ResultLemmas.{on_ok}

@@ -12,8 +12,8 @@ use crate::command::ScriptCommand;
 use crate::owed::owed_by;
 use crate::shown::{append_checked, append_journaled, append_paged, append_snapped};
 use crate::wording::Wording;
-use ds_line::{append_all, append_value};
 use ds_held::Limits;
+use ds_line::{append_all, append_value};
 use ds_machine::{Refusal, Reply};
 use ds_names::{NoRoom, Version};
 use itoa::Buffer;
@@ -236,6 +236,7 @@ fn append_owed(buffer: &mut Vec<u8>, mask: u128, limits: Limits) -> Result<(), N
     if mask == 0 {
         return Ok(());
     }
+    // A byte has the bits of eight subscriptions, and the last bytes those of the first ones.
     let count = limits.subs() as usize / 8;
     append_mask(buffer, &mask.to_be_bytes(), 16 - count)
 }

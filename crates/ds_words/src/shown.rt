@@ -74,7 +74,15 @@ pub(crate) fn append_snapped(buffer: &mut Vec<u8>, snapshot: &Snapshot) -> Resul
     append_listed(
         buffer,
         &snapshot.items,
-        &[b"snapshot ", count, b" ", incarnation, b" ", position, b"\n"],
+        &[
+            b"snapshot ",
+            count,
+            b" ",
+            incarnation,
+            b" ",
+            position,
+            b"\n",
+        ],
     )
 }
 
@@ -95,7 +103,15 @@ pub(crate) fn append_paged(buffer: &mut Vec<u8>, page: &Page) -> Result<(), NoRo
     append_listed(
         buffer,
         &page.items,
-        &[b"page ", count, page_mark(page.last), incarnation, b" ", position, b"\n"],
+        &[
+            b"page ",
+            count,
+            page_mark(page.last),
+            incarnation,
+            b" ",
+            position,
+            b"\n",
+        ],
     )
 }
 
@@ -107,11 +123,7 @@ fn page_mark(last: bool) -> &'static [u8]
 }
 
 // Appends the line of each item, and some texts behind them, or nothing.
-fn append_listed(
-    buffer: &mut Vec<u8>,
-    items: &ItemList,
-    texts: &[&[u8]],
-) -> Result<(), NoRoom>
+fn append_listed(buffer: &mut Vec<u8>, items: &ItemList, texts: &[&[u8]]) -> Result<(), NoRoom>
     ensures written { OnOk result (buffer.new.items ≡ buffer.old.items ++ (flat_map item_spelling items.now ++ flat_map (λ text. text.now) texts.now)) }
     ensures unchanged { OnErr result (buffer.new.items ≡ buffer.old.items) }
 {
