@@ -7,6 +7,9 @@ pub mod QueryLemmas
 pub mod OneLemmas
 pub mod LineLemmas
 pub mod SubscriptionLemmas
+pub mod WorldPieceLemmas
+pub mod WorldLemmas
 pub mod OfferLemmas
+pub mod StandLemmas
 pub mod CommandLemmas
 pub mod LawLemmas

@@ -20,7 +20,8 @@ use Rattle.ds_words.specs.Lines.{ended, IsUnbroken}
 use Rattle.ds_words.specs.declared.fault.CommandFault.{CommandFault}
 use Rattle.ds_words.specs.declared.fault.CommandFault.TheVariants.{BadLine, NoRoom}
 use Rattle.ds_words.specs.declared.command.ScriptCommand.{ScriptCommand}
-use Rattle.ds_words.specs.declared.command.ScriptCommand.TheVariants.{Offer, Show, All, Publish, Delete, Sweep, Retrieve, NameOf, Subscribe, Check, Map, Entries}
+use Rattle.ds_words.specs.declared.command.ScriptCommand.TheVariants.{Offer, Show, All, Publish, Delete, Sweep, Retrieve, NameOf, Subscribe, Check, Map, Entries, Ring, Side, Clear, Restart, Deliver}
+use Rattle.ds_words.specs.World.{ring_word, side_line_word, clear_word, restart_word, deliver_word, side_word, holder_word, IsHolder, portion_part, IsPortion}
 
 -- `offer`
 abbrev pub offer_word : List ℕ
@@ -106,6 +107,11 @@ word_of (Subscribe sub query initial overwrite) = subscribe_word
 word_of (Check sub max) = check_word
 word_of (Map query) = map_word
 word_of (Entries map) = entries_word
+word_of (Ring ring) = ring_word
+word_of (Side side) = side_line_word
+word_of (Clear map) = clear_word
+word_of (Restart side incarnation) = restart_word
+word_of (Deliver message holder portion) = deliver_word
 
 -- the parts behind it: what the command takes, and the newline
 abbrev pub behind_word : ScriptCommand → List Part
@@ -127,6 +133,12 @@ behind_word (Subscribe sub query initial overwrite) =
 behind_word (Check sub max) = space ∷ part Number (decimal sub) ∷ space ∷ part Number (decimal max) ∷ newline ∷ []
 behind_word (Map query) = space ∷ (query_parts query ++ newline ∷ [])
 behind_word (Entries map) = space ∷ part Number (decimal map) ∷ newline ∷ []
+behind_word (Ring ring) = space ∷ part Number (decimal ring) ∷ newline ∷ []
+behind_word (Side side) = space ∷ part Word (side_word side) ∷ newline ∷ []
+behind_word (Clear map) = space ∷ part Number (decimal map) ∷ newline ∷ []
+behind_word (Restart side incarnation) = space ∷ part Word (side_word side) ∷ space ∷ part Number (decimal incarnation) ∷ newline ∷ []
+behind_word (Deliver message holder portion) =
+    space ∷ part Number (decimal message) ∷ space ∷ part Word (holder_word holder) ∷ space ∷ portion_part portion ∷ newline ∷ []
 
 -- the parts of a command's line: its word, and what it takes
 abbrev pub command_parts : ScriptCommand → List Part
@@ -159,6 +171,11 @@ IsCommand (Subscribe sub query initial overwrite) = (sub < 2 ^ 32) × IsQuery qu
 IsCommand (Check sub max) = (sub < 2 ^ 32) × (max < 2 ^ 32)
 IsCommand (Map query) = IsQuery query
 IsCommand (Entries map) = map < 2 ^ 64
+IsCommand (Ring ring) = (0 < ring) × (ring ≤ 4096)
+IsCommand (Side side) = Unit {0}
+IsCommand (Clear map) = map < 2 ^ 64
+IsCommand (Restart side incarnation) = incarnation < 2 ^ 64
+IsCommand (Deliver message holder portion) = (message < 2 ^ 64) × IsHolder holder × IsPortion portion
 
 -- the command has a text, a blob or a pattern
 abbrev pub TakesMemory : ScriptCommand → Type 0
@@ -182,6 +199,11 @@ is_plain (Subscribe sub query initial overwrite) = false
 is_plain (Check sub max) = true
 is_plain (Map query) = true
 is_plain (Entries map) = true
+is_plain (Ring ring) = true
+is_plain (Side side) = true
+is_plain (Clear map) = true
+is_plain (Restart side incarnation) = true
+is_plain (Deliver message holder portion) = true
 
 -- what the line asks of a store: an offer is a Merge of one item
 abbrev pub store_command : ScriptCommand → Option Command
@@ -197,6 +219,11 @@ store_command (Subscribe sub query initial overwrite) = Some (commands.Subscribe
 store_command (Check sub max) = Some (commands.Check sub max)
 store_command (Map query) = None
 store_command (Entries map) = None
+store_command (Ring ring) = None
+store_command (Side side) = None
+store_command (Clear map) = None
+store_command (Restart side incarnation) = None
+store_command (Deliver message holder portion) = None
 
 -- ---- a line with its newline
 

@@ -12,7 +12,7 @@ use std::alloc::Global;
 
 impl ScriptCommand {
     /// The store's command of the line, with copies of what the line has. `None` for a line that asks nothing of a
-    /// store: `show`, `all`, `map` and `entries`. An `offer` is a Merge of one item. NoRoom: out of memory for the
+    /// store: `show`, `all`, `map`, `entries`, and what acts on a world. An `offer` is a Merge of one item. NoRoom: out of memory for the
     /// copies of an item, a value or a pattern, and for no other line.
     pub fn store_command(&self, alloc: Global) -> Result<Option<Command>, NoRoom>
         ensures command { IfOk result (λ command. command ≡ store_command self.now) }

@@ -14,6 +14,7 @@ use crate::lines::{
 };
 use crate::pieces::Rest;
 use crate::word::{Word, word_of};
+use crate::world_lines::{clear_at, deliver_at, restart_at, ring_at, side_at};
 use ds_line::{Expected, PartFault, word_at};
 use std::alloc::Global;
 
@@ -93,5 +94,10 @@ fn behind_word(alloc: Global, word: Word, rest: &mut Rest) -> Result<ScriptComma
         Word::Check => check_at(rest),
         Word::Map => map_at(alloc, rest),
         Word::Entries => entries_at(rest),
+        Word::Ring => ring_at(rest),
+        Word::Side => side_at(rest),
+        Word::Clear => clear_at(rest),
+        Word::Restart => restart_at(rest),
+        Word::Deliver => deliver_at(rest),
     }
 }
