@@ -1,5 +1,5 @@
 -- A command's line: its word, and what the command takes behind it.
-use Rattle.std.proofs.Common.{◌≡◌, ◌≢◌, ℕ, suc, ◌+◌, ◌-◌, ◌≤◌, true, List, [], ◌∷◌, ◌++◌, length, refl, sym, ap, subst, ◌∙◌, arith, append_assoc, append-nil, length-append}
+use Rattle.std.proofs.Common.{◌≡◌, ◌≢◌, ℕ, suc, ◌+◌, ◌-◌, ◌≤◌, true, List, [], ◌∷◌, ◌++◌, length, Option, None, Some, refl, sym, ap, subst, ◌∙◌, arith, append_assoc, append-nil, length-append}
 use Rattle.std.specs.List.{All, list_all}
 use Rattle.std.specs.Char.{is_ascii_alphanumeric}
 use Rattle.std.specs.Fmt.{decimal}
@@ -18,10 +18,12 @@ use Rattle.ds_line.proofs.LineLemmas.{stand_length}
 use Rattle.ds_line.proofs.ItemLemmas.{item_ends}
 use Rattle.ds_line.proofs.PieceLemmas.{stand_texts}
 use Rattle.ds_words.specs.declared.command.ScriptCommand.{ScriptCommand}
-use Rattle.ds_words.specs.declared.command.ScriptCommand.TheVariants.{Offer, Show, All as Everything, Publish, Delete, Sweep, Retrieve, NameOf, Subscribe, Check, Map, Entries, Ring, Side as OnSide, Clear, Restart, Deliver}
+use Rattle.ds_words.specs.declared.command.ScriptCommand.TheVariants.{Offer, Show, All as Everything, Publish, Delete, Sweep, Retrieve, NameOf, Subscribe, Check, Map, Entries, Ring, Side as OnSide, Clear, Restart, Deliver, Since, Snapshot}
 use Rattle.ds_words.specs.declared.word.Word.TheVariants as words
 use Rattle.ds_words.specs.declared.word.Word.{Word as CommandWord}
-use Rattle.ds_words.specs.Command.{word_of, behind_word, command_parts, IsCommand, IsCommandFault, initial_word, mode_word, key_parts, version_parts, query_parts}
+use Rattle.ds_words.specs.Command.{word_of, behind_word, command_parts, IsCommand, IsCommandFault, initial_word, mode_word, key_parts, version_parts}
+use Rattle.ds_words.specs.Query.{query_parts}
+use Rattle.ds_words.specs.Scope.{scope_parts}
 use Rattle.ds_words.specs.Pieces.{taken_by, text_of}
 use Rattle.ds_words.specs.World.{side_word, holder_word, portion_part}
 use Rattle.ds_words.proofs.StandLemmas.{command_stands}
@@ -46,6 +48,8 @@ word_is (OnSide side) = refl
 word_is (Clear map) = refl
 word_is (Restart side incarnation) = refl
 word_is (Deliver message holder portion) = refl
+word_is (Since scope cursor max) = refl
+word_is (Snapshot scope) = refl
 
 -- each command begins with one of the words
 pub word_there : (command : ScriptCommand) → (word : CommandWord) × (word_of command ≡ text_of word)
@@ -66,6 +70,8 @@ word_there (OnSide side) = (words.Side, refl)
 word_there (Clear map) = (words.Clear, refl)
 word_there (Restart side incarnation) = (words.Restart, refl)
 word_there (Deliver message holder portion) = (words.Deliver, refl)
+word_there (Since scope cursor max) = (words.Since, refl)
+word_there (Snapshot scope) = (words.Snapshot, refl)
 
 pub text_is : (word : CommandWord) → list_all is_ascii_alphanumeric (text_of word) ≡ true
 text_is words.Offer = refl
@@ -85,6 +91,8 @@ text_is words.Side = refl
 text_is words.Clear = refl
 text_is words.Restart = refl
 text_is words.Deliver = refl
+text_is words.Since = refl
+text_is words.Snapshot = refl
 
 -- two words at one front are one
 pub one_word : (command : ScriptCommand) (line word r s : List ℕ) → list_all is_ascii_alphanumeric word ≡ true → Begins is_ascii_alphanumeric line (word_of command) r → Begins is_ascii_alphanumeric line word s → (word_of command ≡ word) × (r ≡ s)
@@ -110,6 +118,8 @@ word_begins (OnSide side) line is = record { parts = is; ends = refl }
 word_begins (Clear map) line is = record { parts = is; ends = refl }
 word_begins (Restart side incarnation) line is = record { parts = is; ends = refl }
 word_begins (Deliver message holder portion) line is = record { parts = is; ends = refl }
+word_begins (Since scope cursor max) line is = record { parts = is; ends = refl }
+word_begins (Snapshot scope) line is = record { parts = is; ends = refl }
 
 -- ---- the line can't be read
 
@@ -196,6 +206,11 @@ newline_last (Ring ring) is = last_newline (space ∷ part Number (decimal ring)
 newline_last (OnSide side) is = last_newline (space ∷ part Word (side_word side) ∷ [])
 newline_last (Clear map) is = last_newline (space ∷ part Number (decimal map) ∷ [])
 newline_last (Restart side incarnation) is = last_newline (space ∷ part Word (side_word side) ∷ space ∷ part Number (decimal incarnation) ∷ [])
+newline_last (Since None cursor max) is = last_newline (space ∷ byte 42 ∷ space ∷ part Number (decimal cursor.incarnation) ∷ space ∷ part Number (decimal cursor.position) ∷ space ∷ part Number (decimal max) ∷ [])
+newline_last (Since (Some query) cursor max) is =
+    last_newline (space ∷ (query_parts query ++ space ∷ part Number (decimal cursor.incarnation) ∷ space ∷ part Number (decimal cursor.position) ∷ space ∷ part Number (decimal max) ∷ []))
+newline_last (Snapshot None) is = last_newline (space ∷ byte 42 ∷ [])
+newline_last (Snapshot (Some query)) is = last_newline (space ∷ query_parts query)
 newline_last (Deliver message holder portion) is = last_newline (space ∷ part Number (decimal message) ∷ space ∷ part Word (holder_word holder) ∷ space ∷ portion_part portion ∷ [])
 
 -- the command is all of the line

@@ -10,6 +10,9 @@ pub mod SubscriptionLemmas
 pub mod WorldPieceLemmas
 pub mod WorldLemmas
 pub mod OfferLemmas
+pub mod OpenLemmas
+pub mod ScopeLemmas
+pub mod ScopeLineLemmas
 pub mod StandLemmas
 pub mod CommandLemmas
 pub mod LawLemmas

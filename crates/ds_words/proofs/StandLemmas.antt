@@ -1,5 +1,5 @@
 -- What a command takes stands where its parts are spelled out.
-use Rattle.std.proofs.Common.{List, [], ◌∷◌, ◌++◌, refl}
+use Rattle.std.proofs.Common.{List, [], ◌∷◌, ◌++◌, Option, None, Some, refl}
 use Rattle.std.specs.Fmt.{decimal}
 use Rattle.ds_names.specs.Endpoint.{endpoint_text}
 use Rattle.ds_names.specs.declared.key.Key.{Key}
@@ -10,9 +10,11 @@ use Rattle.ds_line.specs.Spelling.{space, newline, kind_word, quoted, body_parts
 use Rattle.ds_line.specs.ItemSpelling.{item_parts}
 use Rattle.ds_line.proofs.LineLemmas.{AllStand, part_stands, byte_stands, name_stands, body_stands}
 use Rattle.ds_words.specs.declared.command.ScriptCommand.{ScriptCommand}
-use Rattle.ds_words.specs.declared.command.ScriptCommand.TheVariants.{Offer, Show, All as Everything, Publish, Delete, Sweep, Retrieve, NameOf, Subscribe, Check, Map, Entries, Ring, Side as OnSide, Clear, Restart, Deliver}
+use Rattle.ds_words.specs.declared.command.ScriptCommand.TheVariants.{Offer, Show, All as Everything, Publish, Delete, Sweep, Retrieve, NameOf, Subscribe, Check, Map, Entries, Ring, Side as OnSide, Clear, Restart, Deliver, Since, Snapshot}
 use Rattle.ds_words.specs.declared.world.Portion.{Portion}
 use Rattle.ds_words.specs.declared.world.Portion.TheVariants.{Whole, First}
+use Rattle.ds_pattern.specs.declared.query.Query.{Query}
+use Rattle.ds_words.specs.Scope.{scope_parts}
 use Rattle.ds_words.specs.World.{side_word, holder_word, portion_part}
 use Rattle.ds_words.specs.Command.{behind_word, initial_word, mode_word, key_parts, version_parts}
 use Rattle.ds_words.proofs.OfferLemmas.{item_stands}
@@ -30,6 +32,13 @@ delete_stands key version =
     (byte_stands 46 from_seq []
     (part_stands (part Number (decimal version.seq)) (newline ∷ []) [] refl
     (byte_stands 10 [] [] refl)))))))
+
+scope_stands : (scope : Option Query) (more : List Part) → AllStand (space ∷ more) [] → AllStand (scope_parts scope ++ space ∷ more) []
+scope_stands None more h = byte_stands 42 (space ∷ more) [] h
+scope_stands (Some query) more h =
+    let from_kinds : List Part = part Number (decimal query.kinds) ∷ space ∷ more in
+    part_stands (part Quoted (quoted query.text)) (space ∷ from_kinds) [] refl
+    (byte_stands 32 from_kinds [] (part_stands (part Number (decimal query.kinds)) (space ∷ more) [] refl h))
 
 portion_stands : (portion : Portion) → AllStand (portion_part portion ∷ newline ∷ []) []
 portion_stands Whole = byte_stands 42 (newline ∷ []) [] (byte_stands 10 [] [] refl)
@@ -146,3 +155,24 @@ command_stands (Deliver message holder portion) =
     (byte_stands 32 from_holder []
     (part_stands (part Word (holder_word holder)) (space ∷ from_portion) [] refl
     (byte_stands 32 from_portion [] (portion_stands portion)))))
+command_stands (Since scope cursor max) =
+    let from_max : List Part = part Number (decimal max) ∷ newline ∷ [] in
+    let from_position : List Part = part Number (decimal cursor.position) ∷ space ∷ from_max in
+    let from_incarnation : List Part = part Number (decimal cursor.incarnation) ∷ space ∷ from_position in
+    byte_stands 32 (scope_parts scope ++ space ∷ from_incarnation) []
+    (scope_stands scope from_incarnation
+    (byte_stands 32 from_incarnation []
+    (part_stands (part Number (decimal cursor.incarnation)) (space ∷ from_position) [] refl
+    (byte_stands 32 from_position []
+    (part_stands (part Number (decimal cursor.position)) (space ∷ from_max) [] refl
+    (byte_stands 32 from_max []
+    (part_stands (part Number (decimal max)) (newline ∷ []) [] refl
+    (byte_stands 10 [] [] refl))))))))
+command_stands (Snapshot None) = byte_stands 32 (byte 42 ∷ newline ∷ []) [] (byte_stands 42 (newline ∷ []) [] (byte_stands 10 [] [] refl))
+command_stands (Snapshot (Some query)) =
+    let from_kinds : List Part = part Number (decimal query.kinds) ∷ newline ∷ [] in
+    byte_stands 32 (part Quoted (quoted query.text) ∷ space ∷ from_kinds) []
+    (part_stands (part Quoted (quoted query.text)) (space ∷ from_kinds) [] refl
+    (byte_stands 32 from_kinds []
+    (part_stands (part Number (decimal query.kinds)) (newline ∷ []) [] refl
+    (byte_stands 10 [] [] refl))))

@@ -29,6 +29,14 @@ restart_word = codes "restart"
 abbrev pub deliver_word : List ℕ
 deliver_word = codes "deliver"
 
+-- `since`
+abbrev pub since_word : List ℕ
+since_word = codes "since"
+
+-- `snapshot`
+abbrev pub snapshot_word : List ℕ
+snapshot_word = codes "snapshot"
+
 -- `a` or `b`
 abbrev pub side_word : Side → List ℕ
 side_word A = codes "a"

@@ -2,6 +2,7 @@
 
 use crate::world::{Holder, Portion, Side};
 use ds_entry::{Item, Value};
+use ds_feed::Cursor;
 use ds_names::{Endpoint, Generation, Key, Name, Version};
 use ds_pattern::Query;
 
@@ -85,5 +86,16 @@ pub enum ScriptCommand {
         message: u64,
         holder: Holder,
         portion: Portion,
+    },
+    /// `since SCOPE INCARNATION POSITION MAX`: asks for what took effect under the scope from a cursor on. A scope is `*`,
+    /// for all keys, which is `None`, or a pattern and kinds.
+    Since {
+        scope: Option<Query>,
+        cursor: Cursor,
+        max: u32,
+    },
+    /// `snapshot SCOPE`: asks for all that is held under the scope.
+    Snapshot {
+        scope: Option<Query>,
     },
 }

@@ -17,6 +17,8 @@ mod pieces;
 mod query;
 mod reading;
 mod reply;
+mod scope;
+mod scope_lines;
 mod shown;
 mod split;
 mod word;

@@ -24,6 +24,8 @@ pub enum Word {
     Clear,
     Restart,
     Deliver,
+    Since,
+    Snapshot,
 }
 
 /// The command's word that a text is.
@@ -75,6 +77,10 @@ fn world_word_of(text: &[u8]) -> Option<Word>
         Some(Word::Restart)
     } else if text == b"deliver".as_slice() {
         Some(Word::Deliver)
+    } else if text == b"since".as_slice() {
+        Some(Word::Since)
+    } else if text == b"snapshot".as_slice() {
+        Some(Word::Snapshot)
     } else {
         None
     }
