@@ -1,0 +1,133 @@
+-- What no cause stands against is a change.
+use Rattle.std.proofs.Common.{◌≡◌, ◌≢◌, ℕ, ◌<◌, Bool, true, false, not, ◌&&◌, ◌==◌, nat_le, List, ◌++◌, map, Option, Some, None, IfNone, refl, ap, ap₂, sym, ◌∙◌, arith, Contains}
+use Rattle.std.proofs.lemmas.Bool.Decides.{nat_tests}
+use Rattle.std.specs.Option.{unwrap_or}
+use Rattle.std.specs.Cmp.Lexicographic.{other_text}
+use Rattle.ds_names.specs.declared.kind.Kind.{Kind}
+use Rattle.ds_names.specs.declared.kind.Kind.TheVariants.{Label, U32, Str, Mem}
+use Rattle.ds_names.specs.declared.version.Version.{Version}
+use Rattle.ds_names.specs.Kind.{kind_place}
+use Rattle.ds_entry.specs.declared.body.Value.TheVariants as values
+use Rattle.ds_entry.specs.declared.body.Body.{Body}
+use Rattle.ds_entry.specs.declared.body.Body.TheVariants.{Put, Gone}
+use Rattle.ds_entry.specs.declared.change.EntryFault.{EntryFault}
+use Rattle.ds_entry.specs.declared.change.EntryFault.TheVariants as faults
+use Rattle.ds_entry.specs.Change.{ChangeRecord, kind_of, rs_name, IsOfKind, IsLabelBody, IsBelowSweeps}
+use Rattle.ds_entry.specs.ChangeFault.{IsFaultOf}
+use Rattle.ds_entry.specs.Void.{is_label}
+use Rattle.ds_machine.specs.Order.{first_cause, by_command, by_version, by_room}
+use Rattle.ds_machine.specs.Standing.{Standing, is_same_name}
+use Rattle.ds_machine.specs.Asking.{Request, against_asked, change_asked, is_of_kind, is_label_body, is_label_change, is_callers_version, is_rs}
+use Rattle.ds_machine.specs.declared.refusal.Cause.{Cause}
+use Rattle.ds_machine.specs.declared.refusal.Cause.TheVariants as causes
+use Rattle.ds_machine.specs.declared.refusal.Refusal.TheVariants as refusals
+use Rattle.ds_machine.proofs.PartLemmas.{missing}
+use Rattle.ds_entry.proofs.CoversLemmas.{same_name-refl}
+use Rattle.ds_judge.specs.Asked.{is_void_under, NamesRs, IsMade}
+
+both : (a b : Bool) → a && b ≡ true → (a ≡ true) × (b ≡ true)
+both true b e = (refl, e)
+both false b e = absurd (cc)
+
+negated : (b : Bool) → not b ≡ false → b ≡ true
+negated true e = refl
+negated false e = absurd (cc)
+
+refuted : (b : Bool) → not b ≡ true → b ≡ false
+refuted true e = absurd (cc)
+refuted false e = refl
+
+excluded : (a b : Bool) → a && not b ≡ false → a ≡ true → b ≡ true
+excluded true b e t = negated b e
+excluded false b e t = absurd (cc)
+
+same_number : (a b : ℕ) → (a == b) ≡ true → a ≡ b
+same_number a b e = grind (arith, nat_tests)
+
+positive : (n : ℕ) → not (n == 0) ≡ true → 0 < n
+positive n e = grind (arith, nat_tests)
+
+below : (n : ℕ) → not (nat_le 4294967295 n) ≡ true → n < 4294967295
+below n e = grind (arith, nat_tests)
+
+same_kind : (a b : Kind) → (kind_place a == kind_place b) ≡ true → a ≡ b
+same_kind Label Label e = refl
+same_kind U32 U32 e = refl
+same_kind Str Str e = refl
+same_kind Mem Mem e = refl
+same_kind Label U32 e = absurd (cc)
+same_kind Label Str e = absurd (cc)
+same_kind Label Mem e = absurd (cc)
+same_kind U32 Label e = absurd (cc)
+same_kind U32 Str e = absurd (cc)
+same_kind U32 Mem e = absurd (cc)
+same_kind Str Label e = absurd (cc)
+same_kind Str U32 e = absurd (cc)
+same_kind Str Mem e = absurd (cc)
+same_kind Mem Label e = absurd (cc)
+same_kind Mem U32 e = absurd (cc)
+same_kind Mem Str e = absurd (cc)
+
+of_kind : (kind : Kind) (body : Body) → is_of_kind kind body ≡ true → IsOfKind kind body
+of_kind kind (Put value) e = same_kind (kind_of value) kind e
+of_kind kind Gone e = tt
+
+label_body : (version : Version) (body : Body) → is_label_body version body ≡ true → IsLabelBody version body
+label_body version (Put (values.Label e)) t = let b = both (version.seq == 0) (version.epoch == e.generation) t in (same_number version.seq 0 b.0, same_number version.epoch e.generation b.1)
+label_body version (Put (values.U32 n)) t = absurd (cc)
+label_body version (Put (values.Str s)) t = absurd (cc)
+label_body version (Put (values.Mem s)) t = absurd (cc)
+label_body version Gone t = same_number version.seq 1 t
+
+no_label : (kind : Kind) → kind ≢ Label → not (is_label kind) ≡ true
+no_label Label n = absurd (n refl)
+no_label U32 n = refl
+no_label Str n = refl
+no_label Mem n = refl
+
+below_sweeps : (version : Version) (body : Body) → version.seq < 4294967295 → IsBelowSweeps version body
+below_sweeps version (Put value) l = l
+below_sweeps version Gone l = tt
+
+-- all causes in their order
+abbrev order : Version → List Cause
+order v = map causes.Refused by_command ++ by_version (Some v) ++ map causes.Refused by_room
+
+module _ (t : Standing) (caller : Option (List ℕ)) (a : Request) (body : Body) (named : NamesRs caller a.caller) where
+  no_fault : first_cause (Some a.version) (against_asked t caller a body) ≡ None → IsMade (change_asked caller a body)
+  no_fault e fault is = by_fault fault is
+      (free (causes.Refused refusals.BadKind) (4, omega arith, refl)) (free (causes.Refused refusals.BadLabel) (5, omega arith, refl))
+      (free (causes.Refused refusals.BadVersion) (6, omega arith, refl)) (free (causes.Refused refusals.NotAllowed) (8, omega arith, refl))
+    where
+      free : (cause : Cause) → Contains (order a.version) cause → against_asked t caller a body cause ≡ false
+      free cause h = missing (against_asked t caller a body) (order a.version) cause e h
+
+      by_fault : (fault : EntryFault) → IsFaultOf fault (change_asked caller a body) → not (is_of_kind a.key.kind body) ≡ false → is_label a.key.kind && not (is_label_change a body) ≡ false
+          → not (is_label a.key.kind) && not (is_callers_version a) ≡ false → is_label a.key.kind && not (is_rs a.caller) ≡ false → ⊥
+      by_fault faults.BadKind is k l v r = is (of_kind a.key.kind body (negated (is_of_kind a.key.kind body) k))
+      by_fault faults.BadLabel is k l v r =
+          let labels : is_label a.key.kind ≡ true = ap is_label is.1 in
+          let change = excluded (is_label a.key.kind) (is_label_change a body) l labels in
+          let from_rs = excluded (is_label a.key.kind) (is_rs a.caller) r labels in
+          let name = both (not (is_same_name a.key.name rs_name)) (not (a.version.epoch == 0) && is_label_body a.version body) change in
+          let rest = both (not (a.version.epoch == 0)) (is_label_body a.version body) name.1 in
+          is.2 (record {
+            owner = ap (λ (o : Option (List ℕ)). unwrap_or o rs_name) (named from_rs);
+            name = other_text a.key.name rs_name (sym (refuted (is_same_name a.key.name rs_name) name.0));
+            epoch = positive a.version.epoch rest.0;
+            body = label_body a.version body rest.1;
+          })
+      by_fault faults.BadVersion is k l v r =
+          let version = excluded (not (is_label a.key.kind)) (is_callers_version a) v (no_label a.key.kind is.1) in
+          let number = both (a.version.epoch == a.caller.generation) (not (nat_le 4294967295 a.version.seq)) version in
+          is.2 (below_sweeps a.version body (below a.version.seq number.1))
+
+pub made_asked : (r : Option Cause) (t : Standing) (caller : Option (List ℕ)) (a : Request) (body : Body) → r ≡ first_cause (Some a.version) (against_asked t caller a body) → IfNone r (NamesRs caller a.caller → IsMade (change_asked caller a body))
+made_asked None t caller a body e = λ named. no_fault t caller a body named (let back : first_cause (Some a.version) (against_asked t caller a body) ≡ None = cc in back)
+made_asked (Some cause) t caller a body e = tt
+
+-- ---- a floor over what is asked for
+pub void_by_epoch : (floor : Option ℕ) (generation : ℕ) → floor ≡ Some generation → (c : ChangeRecord) → is_label c.key.kind ≡ false → (m n : ℕ) → m ≡ c.version.epoch → n ≡ generation → nat_le m n ≡ is_void_under floor c
+void_by_epoch floor generation e c l m n p q =
+    ap₂ nat_le p q
+    ∙ sym (ap (λ (o : Option ℕ). is_void_under o c) e ∙ ap₂ (λ (x y : Bool). not x && (y && nat_le c.version.epoch generation)) l (same_name-refl c.owner c.owner refl))

@@ -1,0 +1,53 @@
+-- What a caller asks, as the machine has it.
+use Rattle.std.specs.Prelude.{◌≡◌, ℕ, Bool, true, false, not, ◌&&◌, cond, List, ◌++◌, map, Option, Some, None}
+use Rattle.ds_names.specs.declared.version.Version.{Version}
+use Rattle.ds_names.specs.Endpoint.{EndpointRecord}
+use Rattle.ds_entry.specs.Change.{ChangeRecord, rs_name}
+use Rattle.ds_entry.specs.ChangeFault.{IsFaultOf}
+use Rattle.ds_entry.specs.Floor.{floor_of}
+use Rattle.ds_entry.specs.Void.{voids}
+use Rattle.ds_entry.specs.declared.change.EntryFault.{EntryFault}
+use Rattle.ds_machine.specs.Order.{by_version, by_room}
+use Rattle.ds_machine.specs.Asking.{Request, is_rs}
+use Rattle.ds_machine.specs.declared.refusal.Cause.{Cause}
+use Rattle.ds_machine.specs.declared.refusal.Cause.TheVariants.{Refused}
+use Rattle.ds_machine.specs.declared.refusal.Refusal.TheVariants.{Exists, NotFound}
+use Rattle.ds_judge.specs.declared.asked.Asked.{Asked}
+use Rattle.ds_judge.specs.declared.asked.Need.{Need}
+use Rattle.ds_judge.specs.declared.asked.Need.TheVariants.{NotLive, Any, Live}
+
+-- a change may come where an entry is live
+abbrev pub over_live : Need → Bool
+over_live NotLive = false
+over_live Any = true
+over_live Live = true
+
+-- a change may come where none is
+abbrev pub over_none : Need → Bool
+over_none NotLive = true
+over_none Any = true
+over_none Live = false
+
+abbrev pub request_of : Asked → Request
+request_of a = record { caller = a.caller; key = a.key; version = a.version; over_live = over_live a.need; over_none = over_none a.need }
+
+-- the cause where an entry is live and mustn't be, or isn't and must
+abbrev pub cause_by_need : Need → Bool → Option Cause
+cause_by_need need is_live = cond (is_live && not (over_live need)) (Some (Refused Exists)) (cond (not is_live && not (over_none need)) (Some (Refused NotFound)) None)
+
+-- the causes that stand against a change of this version by what is held
+abbrev pub by_held : Version → List Cause
+by_held v = by_version (Some v) ++ map Refused by_room
+
+-- a floor of the change's owner at this generation, where there is one, makes it void
+abbrev pub is_void_under : Option ℕ → ChangeRecord → Bool
+is_void_under None c = false
+is_void_under (Some generation) c = voids (floor_of c.owner generation) c
+
+-- the name is RS's where the caller is RS
+abbrev pub NamesRs : Option (List ℕ) → EndpointRecord → Type 0
+NamesRs name caller = is_rs caller ≡ true → name ≡ Some rs_name
+
+-- the parts make a change
+abbrev pub IsMade : ChangeRecord → Type 0
+IsMade c = (fault : EntryFault) → ¬ IsFaultOf fault c

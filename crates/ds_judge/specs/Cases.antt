@@ -1,0 +1,28 @@
+-- What a Subscribe and a Check meet, as the machine has it.
+use Rattle.std.specs.Prelude.{◌≡◌, ℕ, ◌<◌, ◌≤◌, Bool, true, ◌&&◌, cond, nat_le, Option, Some, None}
+use Rattle.ds_pattern.specs.declared.query.Query.{Query}
+use Rattle.ds_machine.specs.Limits.{most_items, last_place}
+use Rattle.ds_machine.specs.Calling as machine
+use Rattle.ds_machine.specs.declared.refusal.Refusal.{Refusal}
+use Rattle.ds_machine.specs.declared.refusal.Refusal.TheVariants.{Worn}
+use Rattle.ds_judge.specs.declared.subscribe.SubscribeCase.{SubscribeCase}
+use Rattle.ds_judge.specs.declared.check.CheckCase.{CheckCase}
+
+-- a Subscribe with its query
+abbrev pub machine_subscribe : SubscribeCase → Query → machine.SubscribeCase
+machine_subscribe x query = record { places = x.places; taken = x.taken; stamp = x.stamp; sub = x.sub; query = query; overwrite = x.overwrite }
+
+-- a Check, with whether something is to be shown, and the last stamp
+abbrev pub machine_check : CheckCase → Bool → ℕ → machine.CheckCase
+machine_check x some stamp = record { places = x.places; taken = x.taken; some = some; stamp = stamp; sub = x.sub; max = x.max }
+
+-- what stands against showing something
+abbrev pub refusal_of_showing : Bool → ℕ → Option Refusal
+refusal_of_showing some stamp = cond (some && nat_le last_place stamp) (Some Worn) None
+
+-- there is a subscription at its place, and it asks for 1 to 256 items
+pub record IsCheckable (x : CheckCase) : Type 0 where
+  pub place : x.sub < x.places
+  pub some : 0 < x.max
+  pub few : x.max ≤ most_items
+  pub made : x.taken ≡ true

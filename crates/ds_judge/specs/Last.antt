@@ -1,0 +1,85 @@
+-- Where a store may answer that memory is wanting: behind every cause that stands.
+use Rattle.std.specs.Prelude.{◌≡◌, ◌≢◌, ℕ, Bool, true, List, [], ◌∷◌, Option, Some, None, is_some, slice_get, take}
+use Rattle.std.specs.List.{find}
+use Rattle.ds_names.specs.declared.version.Version.{Version}
+use Rattle.ds_entry.specs.Floor.{floor_of}
+use Rattle.ds_entry.specs.declared.body.Body.TheVariants.{Put, Gone}
+use Rattle.ds_entry.specs.declared.item.Item.{Item}
+use Rattle.ds_machine.specs.State.{State, held, subscription_at}
+use Rattle.ds_machine.specs.Order.{first_cause, first_refusal}
+use Rattle.ds_machine.specs.Standing.{cause_of}
+use Rattle.ds_machine.specs.Asking.{published, deleted, name_of, cause_against, sweep_cause}
+use Rattle.ds_machine.specs.Calling.{against_subscribe, against_check, against_scope, against_since, against_page}
+use Rattle.ds_machine.specs.Merging.{course}
+use Rattle.ds_machine.specs.Watching.{subscribe_case, check_case}
+use Rattle.ds_machine.specs.Machine.{live_at, outcome}
+use Rattle.ds_machine.specs.declared.refusal.Cause.{Cause}
+use Rattle.ds_machine.specs.declared.refusal.Cause.TheVariants as causes
+use Rattle.ds_machine.specs.declared.refusal.Refusal.{Refusal}
+use Rattle.ds_machine.specs.declared.refusal.Refusal.TheVariants.{BadSub, TooMany, TooLong, NoRoom}
+use Rattle.ds_machine.specs.declared.command.Scope.{Scope}
+use Rattle.ds_machine.specs.declared.command.Scope.TheVariants.{All, Under}
+use Rattle.ds_machine.specs.declared.command.Command.{Command}
+use Rattle.ds_machine.specs.declared.command.Command.TheVariants.{Publish, Delete, Sweep, Retrieve, NameOf, Subscribe, Check, Since, Snapshot, Page, Merge}
+use Rattle.ds_machine.specs.declared.reply.Reply.{Reply}
+use Rattle.ds_machine.specs.declared.reply.Reply.TheVariants.{MergeStopped, Refused}
+
+-- the causes that are judged before a pattern is read, which may take memory
+abbrev pub before_patterns : List Refusal
+before_patterns = BadSub ∷ TooMany ∷ TooLong ∷ []
+
+-- the scope has a pattern, and no cause stands that is judged before it
+abbrev pub ReadsPattern : Scope → (Refusal → Bool) → Type 0
+ReadsPattern All stands = ⊥
+ReadsPattern (Under query) stands = find stands before_patterns ≡ None
+
+-- where a command with a scope may be refused for want of memory: no cause stands against it, or, where its scope has a
+-- pattern, none that is judged before the pattern
+abbrev pub MayLackFor : Scope → (Refusal → Bool) → Type 0
+MayLackFor All stands = first_refusal stands ≡ None
+MayLackFor (Under query) stands = find stands before_patterns ≡ None
+
+-- where a command may be refused for want of memory: no cause stands against it, or, where it has a pattern, none that is
+-- judged before the pattern (a Merge never is: it is stopped at an item)
+abbrev pub MayLackRoom : State → Command → Type 0
+MayLackRoom s (Publish caller key version value overwrite) = cause_against s (published caller key version overwrite) (Put value) ≡ None
+MayLackRoom s (Delete caller key version) = cause_against s (deleted caller key version) Gone ≡ None
+MayLackRoom s (Sweep caller owner generation) = sweep_cause s caller (floor_of owner generation) ≡ None
+MayLackRoom s (Retrieve key) = is_some (live_at s key) ≡ true
+MayLackRoom s (NameOf endpoint) = is_some (name_of (held s) endpoint) ≡ true
+MayLackRoom s (Subscribe sub query initial overwrite) = find (against_subscribe (subscribe_case s sub query overwrite)) before_patterns ≡ None
+MayLackRoom s (Check sub max) = first_refusal (against_check (check_case s sub max (subscription_at s sub))) ≡ None
+MayLackRoom s (Since scope at max) = MayLackFor scope (against_since s.feed scope at max)
+MayLackRoom s (Snapshot scope) = MayLackFor scope (against_scope scope)
+MayLackRoom s (Page scope after max) = MayLackFor scope (against_page scope max)
+MayLackRoom s (Merge items) = ⊥
+
+-- the item behind so many of a Merge would take effect: no cause stands against it, and it isn't known or stale
+pub record TakesNext (s : State) (items : List Item) (done : ℕ) : Type 0 where
+  pub item : Item
+  pub is_next : slice_get items done ≡ Some item
+  pub none : cause_of (course s (take done items)).state item ≡ None
+
+-- want of memory is told only there, and a Merge is stopped for it only at an item that would take effect
+abbrev pub IsLast : State → Command → Reply → Type 0
+IsLast s command (Refused NoRoom) = MayLackRoom s command
+IsLast s (Merge items) (MergeStopped done NoRoom owed) = TakesNext s items done
+IsLast s command reply = Unit {0}
+
+-- want of memory isn't in the one order
+abbrev pub NoRoomIsNoCause : Type 0
+NoRoomIsNoCause = (version : Option Version) (stands : Cause → Bool) → first_cause version stands ≢ Some (causes.Refused NoRoom)
+
+abbrev pub NoRoomIsNoRefusal : Type 0
+NoRoomIsNoRefusal = (stands : Refusal → Bool) → first_refusal stands ≢ Some NoRoom
+
+-- the machine's own answers want no memory
+abbrev pub OutcomesAreLast : Type 0
+OutcomesAreLast = (s : State) (command : Command) → IsLast s command (outcome s command).0
+
+-- a command with a scope may tell it where its pattern is read, and where no cause stands
+abbrev pub PatternMayLackRoom : Type 0
+PatternMayLackRoom = (scope : Scope) (stands : Refusal → Bool) → ReadsPattern scope stands → MayLackFor scope stands
+
+abbrev pub BehindMayLackRoom : Type 0
+BehindMayLackRoom = (scope : Scope) (stands : Refusal → Bool) → first_refusal stands ≡ None → MayLackFor scope stands

@@ -1,0 +1,34 @@
+-- Refusals of patterns and of cursors.
+use Rattle.std.specs.Prelude.{◌≡◌, ◌⊎◌, Option, Some, None}
+use Rattle.std.specs.Option.{option_map}
+use Rattle.ds_pattern.specs.declared.pattern.PatternFault.{PatternFault}
+use Rattle.ds_pattern.specs.declared.pattern.PatternFault.TheVariants as patterns
+use Rattle.ds_feed.specs.Feed.{Feed}
+use Rattle.ds_feed.specs.Since.{fault_at}
+use Rattle.ds_feed.specs.declared.cursor.Cursor.{Cursor}
+use Rattle.ds_feed.specs.declared.journal.SinceFault.{SinceFault}
+use Rattle.ds_feed.specs.declared.journal.SinceFault.TheVariants as faults
+use Rattle.ds_machine.specs.declared.refusal.Refusal.{Refusal}
+use Rattle.ds_machine.specs.declared.refusal.Refusal.TheVariants.{TooLong, BadPattern, OldCursor, Ahead, Behind, NoRoom}
+
+-- memory was wanted, or this refusal stands
+abbrev pub IsRefusedFor : Option Refusal → Refusal → Type 0
+IsRefusedFor stands refusal = (refusal ≡ NoRoom) ⊎ (stands ≡ Some refusal)
+
+-- the refusal of a query whose pattern isn't read
+abbrev pub refusal_of_pattern : PatternFault → Refusal
+refusal_of_pattern patterns.TooLong = TooLong
+refusal_of_pattern patterns.BadPattern = BadPattern
+refusal_of_pattern patterns.NoRoom = NoRoom
+
+-- the refusal of a cursor
+abbrev pub refusal_of_journal : SinceFault → Refusal
+refusal_of_journal faults.OldCursor = OldCursor
+refusal_of_journal faults.Ahead = Ahead
+refusal_of_journal faults.Behind = Behind
+refusal_of_journal faults.NoRoom = NoRoom
+
+-- the cursor is refused for this, or memory is wanting where it isn't refused
+abbrev pub IsJournalRefusal : Feed → Cursor → Refusal → Type 0
+IsJournalRefusal f at NoRoom = fault_at f at ≡ None
+IsJournalRefusal f at refusal = option_map refusal_of_journal (fault_at f at) ≡ Some refusal

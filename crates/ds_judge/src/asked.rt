@@ -1,0 +1,249 @@
+//! What callers ask: publishing and deleting.
+
+ghost use Rattle.std.specs.Prelude.{◌≡◌, ℕ, List, Option, Some, None, IfNone, cond};
+ghost use Rattle.std.specs.Option.{option_copied};
+ghost use Rattle.std.specs.List.{find};
+ghost use Rattle.ds_entry.specs.Change.{rs_name};
+ghost use Rattle.ds_entry.specs.Void.{is_label};
+ghost use Rattle.ds_entry.specs.declared.body.Body.{Body};
+ghost use Rattle.ds_machine.specs.Order.{first_cause};
+ghost use Rattle.ds_machine.specs.Asking.{published, deleted, is_rs, is_of_kind, is_label_body, is_label_change, is_callers_version, is_live, change_asked, against_asked};
+ghost use Rattle.ds_judge.specs.Asked.{request_of, cause_by_need, by_held, is_void_under, NamesRs, IsMade};
+ghost use Rattle.ds_judge.specs.Standing.{machine_standing, IsFree};
+
+use crate::change::{cause_by_room, cause_by_version};
+use crate::limits::LAST_SEQ;
+use crate::standing::Standing;
+use ds_entry::{Body, Change, Value};
+use ds_machine::{Cause, Refusal};
+use ds_names::{Endpoint, Generation, Key, Kind, Name, Version};
+
+/// What the entry has to be before a change: not live, anything, or live.
+#[derive(Clone, Copy, Debug)]
+pub enum Need {
+    NotLive,
+    Any,
+    Live,
+}
+
+/// What a caller asks, by a Publish or a Delete, beside the body of the change.
+#[derive(Clone, Copy, Debug)]
+pub struct Asked {
+    pub caller: Endpoint,
+    pub key: Key,
+    pub version: Version,
+    pub need: Need,
+}
+
+/// What a Publish asks, beside its put: without `overwrite` only where nothing is live.
+pub fn published(caller: Endpoint, key: Key, version: Version, overwrite: bool) -> Asked
+    ensures { request_of result ≡ published caller key version overwrite }
+{
+    Asked {
+        caller,
+        key,
+        version,
+        need: if overwrite { Need::Any } else { Need::NotLive },
+    }
+}
+
+/// What a Delete asks, beside its tombstone: only of what is live.
+pub fn deleted(caller: Endpoint, key: Key, version: Version) -> Asked
+    ensures { request_of result ≡ deleted caller key version }
+{
+    Asked {
+        caller,
+        key,
+        version,
+        need: Need::Live,
+    }
+}
+
+/// Whether the endpoint is that of RS.
+pub(crate) fn is_rs(endpoint: Endpoint) -> bool
+    ensures { result ≡ is_rs endpoint }
+{
+    endpoint == Endpoint::rs()
+}
+
+/// The name of RS.
+pub fn rs_name() -> Name
+    ensures { result ≡ rs_name }
+{
+    match Name::read(b"rs") {
+        Ok(name) => name,
+        Err(_) => unreachable!(),
+    }
+}
+
+/// The name of an endpoint, where `label` is the least name whose live label holds it: RS is `rs`, whatever labels there
+/// are.
+pub fn name_of(endpoint: Endpoint, label: Option<&Name>) -> Option<Name>
+    ensures value { result ≡ cond (is_rs endpoint) (Some rs_name) (option_copied label.entry) }
+    ensures rs { NamesRs result endpoint }
+{
+    if is_rs(endpoint) {
+        return Some(rs_name());
+    }
+    label.copied()
+}
+
+/// Whether a floor of the caller's at this generation makes the change void that is asked for, where there is one.
+pub fn is_void_under(floor: Option<Generation>, asked: &Asked) -> bool
+    ensures { (caller : List ℕ) (body : Body) → result ≡ is_void_under floor (change_asked (Some caller) (request_of asked.now) body) }
+{
+    match floor {
+        Some(floor) => {
+            !is_label(asked.key.kind) && asked.version.epoch.number() <= floor.number()
+        }
+        None => false,
+    }
+}
+
+/// The change that is asked for, in the name of the caller. That no cause stands against it says that its parts make a
+/// change.
+pub fn change_asked(asked: &Asked, body: Body, caller: Option<Name>) -> Change
+    requires { IsMade (change_asked caller (request_of asked.now) body) }
+    ensures { result ≡ change_asked caller (request_of asked.now) body }
+{
+    let owner = match caller {
+        Some(name) => name,
+        None => rs_name(),
+    };
+    match Change::make(asked.key, owner, asked.version, body) {
+        Ok(change) => change,
+        Err(_) => unreachable!(),
+    }
+}
+
+// Whether the kind is a label's.
+fn is_label(kind: Kind) -> bool
+    ensures { result ≡ is_label kind }
+{
+    match kind {
+        Kind::Label => true,
+        Kind::U32 | Kind::Str | Kind::Mem => false,
+    }
+}
+
+// Whether a put has a value of the kind.
+fn is_of_kind(kind: Kind, body: &Body) -> bool
+    ensures { result ≡ is_of_kind kind body.now }
+{
+    match body {
+        Body::Put(value) => value.kind() == kind,
+        Body::Gone => true,
+    }
+}
+
+// Whether a label may be put, or be gone, at the version.
+fn is_label_body(version: &Version, body: &Body) -> bool
+    ensures { result ≡ is_label_body version.now body.now }
+{
+    match body {
+        Body::Put(Value::Label(endpoint)) => {
+            version.seq == 0 && version.epoch == endpoint.generation()
+        }
+        Body::Put(_) => false,
+        Body::Gone => version.seq == 1,
+    }
+}
+
+// Whether what is asked for keeps the rule of labels.
+fn is_label_change(asked: &Asked, body: &Body) -> bool
+    ensures { result ≡ is_label_change (request_of asked.now) body.now }
+{
+    let rs = b"rs".as_slice();
+    let name = asked.key.name.bytes();
+    let epoch = asked.version.epoch.number();
+    name != rs && epoch != 0 && is_label_body(&asked.version, body)
+}
+
+// Whether the version is one that the caller gives.
+fn is_callers_version(asked: &Asked) -> bool
+    ensures { result ≡ is_callers_version (request_of asked.now) }
+{
+    asked.version.epoch == asked.caller.generation() && asked.version.seq < LAST_SEQ
+}
+
+// Whether the held change leaves a value.
+fn is_live(held: Option<&Change>) -> bool
+    ensures { result ≡ is_live (option_copied held.entry) }
+{
+    match held {
+        Some(change) => match change.body() {
+            Body::Put(_) => true,
+            Body::Gone => false,
+        },
+        None => false,
+    }
+}
+
+// The cause where the entry isn't as it has to be before the change.
+fn cause_by_need(need: Need, is_live: bool) -> Option<Cause>
+    ensures { result ≡ cause_by_need need is_live }
+{
+    match need {
+        Need::NotLive if is_live => Some(Cause::Refused(Refusal::Exists)),
+        Need::Live if !is_live => Some(Cause::Refused(Refusal::NotFound)),
+        _ => None,
+    }
+}
+
+// The first cause by what is held, where the owner is the one who asks.
+fn cause_by_held(standing: &Standing<'_>, owner: &Name, asked: &Asked, body: &Body) -> Option<Cause>
+    ensures { result ≡ find (against_asked (machine_standing standing.now) (Some owner.now) (request_of asked.now) body.now) (by_held asked.now.version) }
+{
+    if let Some(cause) = cause_by_version(standing, owner, asked.version, body) {
+        return Some(cause);
+    }
+    if let Some(cause) = cause_by_need(asked.need, is_live(standing.held)) {
+        return Some(cause);
+    }
+    cause_by_room(standing)
+}
+
+// The first cause by what is asked, by who asks, and by what is held.
+fn first_cause_of(
+    standing: &Standing<'_>,
+    caller: Option<Name>,
+    asked: &Asked,
+    body: &Body,
+) -> Option<Cause>
+    ensures { result ≡ first_cause (Some asked.now.version) (against_asked (machine_standing standing.now) caller (request_of asked.now) body.now) }
+{
+    let is_label = is_label(asked.key.kind);
+    if !is_of_kind(asked.key.kind, body) {
+        return Some(Cause::Refused(Refusal::BadKind));
+    }
+    if is_label && !is_label_change(asked, body) {
+        return Some(Cause::Refused(Refusal::BadLabel));
+    }
+    if !is_label && !is_callers_version(asked) {
+        return Some(Cause::Refused(Refusal::BadVersion));
+    }
+    let Some(owner) = caller else {
+        return Some(Cause::Refused(Refusal::NoCaller));
+    };
+    if is_label && !is_rs(asked.caller) {
+        return Some(Cause::Refused(Refusal::NotAllowed));
+    }
+    cause_by_held(standing, &owner, asked, body)
+}
+
+/// The first cause against what a caller asks for, where `caller` is its name: BadKind, BadLabel, BadVersion, NoCaller,
+/// NotAllowed, and then by what is held NotOwner, Clash, Stale, Known, Exists, NotFound, Full, Worn. Where there is none, the
+/// change that is asked for can be made, has room for its key or takes the place of what is held there, no floor makes it
+/// void, and the position is below 2^62.
+pub fn cause_of_asked(
+    standing: &Standing<'_>,
+    caller: Option<Name>,
+    asked: &Asked,
+    body: &Body,
+) -> Option<Cause>
+    ensures first { result ≡ first_cause (Some asked.now.version) (against_asked (machine_standing standing.now) caller (request_of asked.now) body.now) }
+    ensures free { IfNone result (IsFree (machine_standing standing.now) (change_asked caller (request_of asked.now) body.now)) }
+    ensures made { IfNone result (NamesRs caller asked.now.caller → IsMade (change_asked caller (request_of asked.now) body.now)) }
+{
+    first_cause_of(standing, caller, asked, body)
+}

@@ -1,0 +1,71 @@
+//! What stands against a change.
+
+ghost use Rattle.std.specs.Prelude.{◌≡◌, None, IfNone};
+ghost use Rattle.std.specs.List.{find};
+ghost use Rattle.ds_names.specs.declared.key.Key.{Key};
+ghost use Rattle.ds_entry.specs.Change.{change_of};
+ghost use Rattle.ds_machine.specs.Order.{first_cause, by_version};
+ghost use Rattle.ds_machine.specs.Standing.{against_change};
+ghost use Rattle.ds_judge.specs.Standing.{machine_standing, cause_by_room, IsFree};
+
+use crate::limits::LAST_PLACE;
+use crate::standing::Standing;
+use ds_entry::{Body, Change};
+use ds_machine::{Cause, Refusal};
+use ds_names::{Name, Version};
+use std::cmp::Ordering;
+
+// The first cause against a change of these parts by what is held for its key and by floors.
+pub(crate) fn cause_by_version(
+    standing: &Standing<'_>,
+    owner: &Name,
+    version: Version,
+    body: &Body,
+) -> Option<Cause>
+    ensures { (key : Key) → result ≡ find (against_change (machine_standing standing.now) (change_of key owner.now version body.now)) (by_version (Some version)) }
+{
+    let Some(held) = standing.held else {
+        return if standing.void {
+            Some(Cause::Refused(Refusal::Stale))
+        } else {
+            None
+        };
+    };
+    if held.owner() != owner {
+        return Some(Cause::Refused(Refusal::NotOwner));
+    }
+    match held.version().compare(&version) {
+        Ordering::Equal if held.body() != body => Some(Cause::Refused(Refusal::Clash { version })),
+        Ordering::Greater => Some(Cause::Refused(Refusal::Stale)),
+        Ordering::Less | Ordering::Equal if standing.void => Some(Cause::Refused(Refusal::Stale)),
+        Ordering::Equal => Some(Cause::Known),
+        Ordering::Less => None,
+    }
+}
+
+// The first cause by the room that is left: no free key, or no position.
+pub(crate) fn cause_by_room(standing: &Standing<'_>) -> Option<Cause>
+    ensures { result ≡ cause_by_room (machine_standing standing.now) }
+{
+    if standing.held.is_none() && standing.count >= standing.most {
+        return Some(Cause::Refused(Refusal::Full));
+    }
+    if standing.position >= LAST_PLACE {
+        return Some(Cause::Refused(Refusal::Worn));
+    }
+    None
+}
+
+/// The first cause against a change that another holder gave: NotOwner, Clash, Stale (a greater version is held, or a floor
+/// makes it void), Known, Full, Worn. Where there is none, the change has room for its key or takes the place of what is
+/// held there, no floor makes it void, and the position is below 2^62.
+pub fn cause_of_change(standing: &Standing<'_>, change: &Change) -> Option<Cause>
+    ensures first { result ≡ first_cause (Some change.now.version) (against_change (machine_standing standing.now) change.now) }
+    ensures free { IfNone result (IsFree (machine_standing standing.now) change.now) }
+{
+    let version = change.version();
+    if let Some(cause) = cause_by_version(standing, change.owner(), version, change.body()) {
+        return Some(cause);
+    }
+    cause_by_room(standing)
+}

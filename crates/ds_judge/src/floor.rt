@@ -1,0 +1,42 @@
+//! What stands against a floor.
+
+ghost use Rattle.std.specs.Prelude.{◌≡◌, None, IfNone};
+ghost use Rattle.ds_machine.specs.Order.{first_cause};
+ghost use Rattle.ds_machine.specs.Standing.{against_floor};
+ghost use Rattle.ds_machine.specs.Asking.{against_sweep};
+ghost use Rattle.ds_judge.specs.Standing.{machine_floor_standing, IsFreeFloor};
+
+use crate::asked::is_rs;
+use crate::limits::{LAST_PLACE, MOST_FLOORS};
+use crate::standing::FloorStanding;
+use ds_entry::Floor;
+use ds_machine::{Cause, Refusal};
+use ds_names::Endpoint;
+
+/// The first cause against a floor that another holder gave: Stale below the one that is held of its owner, Known at it,
+/// Full where none is held and 64 of other owners are, Worn. Where there is none, it is above the one that is held or there
+/// is room for it, and the position is below 2^62.
+pub fn cause_of_floor(standing: &FloorStanding, floor: &Floor) -> Option<Cause>
+    ensures first { result ≡ first_cause None (against_floor (machine_floor_standing floor.now.owner standing.now) floor.now) }
+    ensures free { IfNone result (IsFreeFloor standing.now floor.now.generation) }
+{
+    let generation = floor.generation.number();
+    match standing.held {
+        Some(held) if generation < held.number() => Some(Cause::Refused(Refusal::Stale)),
+        Some(held) if generation == held.number() => Some(Cause::Known),
+        None if standing.count >= MOST_FLOORS => Some(Cause::Refused(Refusal::Full)),
+        _ if standing.position >= LAST_PLACE => Some(Cause::Refused(Refusal::Worn)),
+        _ => None,
+    }
+}
+
+/// The first cause against a Sweep: NotAllowed from all but RS, and then as against its floor.
+pub fn cause_of_sweep(standing: &FloorStanding, caller: Endpoint, floor: &Floor) -> Option<Cause>
+    ensures first { result ≡ first_cause None (against_sweep (machine_floor_standing floor.now.owner standing.now) caller floor.now) }
+    ensures free { IfNone result (IsFreeFloor standing.now floor.now.generation) }
+{
+    if !is_rs(caller) {
+        return Some(Cause::Refused(Refusal::NotAllowed));
+    }
+    cause_of_floor(standing, floor)
+}

@@ -1,0 +1,67 @@
+//! What stands against a Subscribe.
+
+ghost use Rattle.std.specs.Prelude.{◌≡◌, ◌<◌, None, Err, IfOk, IfErr, OnOk};
+ghost use Rattle.std.specs.List.{find};
+ghost use Rattle.ds_machine.specs.Limits.{last_place};
+ghost use Rattle.ds_machine.specs.Order.{first_refusal};
+ghost use Rattle.ds_machine.specs.Calling.{against_subscribe};
+ghost use Rattle.ds_judge.specs.Refused.{IsRefusedFor, refusal_of_pattern};
+ghost use Rattle.ds_judge.specs.Cases.{machine_subscribe};
+ghost use Rattle.ds_judge.specs.Last.{before_patterns};
+
+use crate::limits::LAST_PLACE;
+use ds_machine::Refusal;
+use ds_pattern::{Filter, PatternFault, Query};
+use std::alloc::Global;
+
+/// A Subscribe, beside its query, with what it meets.
+#[derive(Clone, Copy, Debug)]
+pub struct SubscribeCase {
+    /// How many places there are for subscriptions.
+    pub places: u32,
+    /// Whether there is a subscription at its place.
+    pub taken: bool,
+    /// The last stamp.
+    pub stamp: u64,
+    /// Its place.
+    pub sub: u32,
+    /// Whether it may be made over another one.
+    pub overwrite: bool,
+}
+
+/// The refusal of a query whose pattern isn't read.
+pub fn refusal_of_pattern(fault: PatternFault) -> Refusal
+    ensures { result ≡ refusal_of_pattern fault }
+{
+    match fault {
+        PatternFault::TooLong => Refusal::TooLong,
+        PatternFault::BadPattern => Refusal::BadPattern,
+        PatternFault::NoRoom => Refusal::NoRoom,
+    }
+}
+
+/// Takes up the query of a Subscribe, unless a cause stands against it: BadSub; then its pattern is read, TooLong,
+/// BadPattern, or NoRoom in that one's place; Exists; Worn.
+pub fn take_up(alloc: Global, case: SubscribeCase, query: &Query) -> Result<Filter, Refusal>
+    ensures value { IfOk result (λ filter. filter ≡ query.now) }
+    ensures none { OnOk result (first_refusal (against_subscribe (machine_subscribe case query.now)) ≡ None) }
+    ensures place { OnOk result (case.sub < case.places) }
+    ensures room { OnOk result (case.stamp < last_place) }
+    ensures refused { IfErr result (IsRefusedFor (first_refusal (against_subscribe (machine_subscribe case query.now)))) }
+    ensures last { result ≡ Err Refusal.NoRoom → find (against_subscribe (machine_subscribe case query.now)) before_patterns ≡ None }
+{
+    if case.sub >= case.places {
+        return Err(Refusal::BadSub);
+    }
+    let filter = match Filter::read(alloc, query) {
+        Ok(filter) => filter,
+        Err(fault) => return Err(refusal_of_pattern(fault)),
+    };
+    if case.taken && !case.overwrite {
+        return Err(Refusal::Exists);
+    }
+    if case.stamp >= LAST_PLACE {
+        return Err(Refusal::Worn);
+    }
+    Ok(filter)
+}
