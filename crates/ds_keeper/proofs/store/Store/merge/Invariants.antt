@@ -1,0 +1,22 @@
+use Rattle.std.proofs.Common.{◌≡◌, ◌≤◌, ◌-◌, map, length, take}
+use Rattle.ds_watch.specs.Mask.{padded}
+use Rattle.ds_machine.specs.State.{State}
+use Rattle.ds_machine.specs.Subscription.{is_owed}
+use Rattle.ds_machine.specs.Merging.{course}
+use Rattle.ds_content.specs.Stands.{Stands}
+use Rattle.ds_keeper.proofs.MergeLemmas.{Reached}
+use Rattle.ds_keeper.proofs.store.Store.merge.Given as goal
+
+-- the items so far are merged, and those to which they are owed are told
+abbrev pub invariant-loop-item : goal.invariant-loop-item
+invariant-loop-item l = record {
+  few : length l.items ≤ 256;
+  within : l.done ≤ length l.items;
+  taken : l.taken ≤ l.done;
+  stale : l.stale ≤ l.done;
+  owed : (s : State) → Stands l.fn.self s → l.owed ≡ padded (map (is_owed (course s (take l.done l.items)).taken) s.subscriptions);
+  reached : (s : State) → Stands l.fn.self s → Reached (course s (take l.done l.items)) l.done l.taken l.stale × Stands l.self (course s (take l.done l.items)).state;
+}
+
+abbrev pub decreases-loop-item : goal.decreases-loop-item
+decreases-loop-item l = length l.items - l.done

@@ -1,0 +1,70 @@
+//! What callers ask: publishing and deleting.
+
+ghost use Rattle.std.specs.Prelude.{◌≡◌, None, IfNone};
+ghost use Rattle.ds_machine.specs.Asking.{cause_against, change_asked, name_of};
+ghost use Rattle.ds_machine.specs.Machine.{Answers, asking};
+ghost use Rattle.ds_machine.specs.State.{State};
+ghost use Rattle.ds_judge.specs.Asked.{request_of, IsMade};
+ghost use Rattle.ds_judge.specs.Standing.{machine_standing};
+ghost use Rattle.ds_content.specs.Free.{IsFree};
+ghost use Rattle.ds_content.specs.Stands.{Stands};
+ghost use Rattle.ds_keeper.specs.Standing.{standing_in};
+
+use crate::store::Store;
+use ds_entry::Body;
+use ds_judge::{
+    Asked, Standing, answer_to, cause_of_asked, change_asked, is_void_under, rs_name,
+};
+use ds_machine::{Cause, Refusal, Reply};
+use ds_names::{Name, NoRoom};
+
+impl Store {
+    // What is there before what a caller of this name asks for.
+    fn standing_before(&self, asked: &Asked, caller: &Option<Name>) -> Standing<'_>
+        ensures { (body : Body) → machine_standing result ≡ standing_in self.now (change_asked caller.now (request_of asked.now) body) }
+    {
+        let _held = self.content.held();
+        let owner = match caller {
+            Some(name) => *name,
+            None => rs_name(),
+        };
+        Standing {
+            held: self.content.get(&asked.key),
+            void: is_void_under(self.content.floor(&owner), asked),
+            count: self.content.count(),
+            most: self.content.limits().keys(),
+            position: self.content.cursor().position,
+        }
+    }
+
+    // The first cause against what a caller asks for.
+    fn cause_against(&self, asked: &Asked, body: &Body) -> Option<Cause>
+        ensures first { (s : State) → Stands self.now s → result ≡ cause_against s (request_of asked.now) body.now }
+        ensures free { IfNone result (IsFree self.now (change_asked (name_of self.now.held asked.now.caller) (request_of asked.now) body.now)) }
+        ensures made { IfNone result (IsMade (change_asked (name_of self.now.held asked.now.caller) (request_of asked.now) body.now)) }
+    {
+        let caller = self.content.name_of(asked.caller);
+        let standing = self.standing_before(asked, &caller);
+        cause_of_asked(&standing, caller, asked, body)
+    }
+
+    // What a caller asks for takes effect, unless a cause stands against it.
+    pub(super) fn ask(&mut self, asked: &Asked, body: Body) -> Reply
+        ensures step { (s : State) → Stands self.old s → (t : State) × Answers s (asking s (request_of asked.now) body) result t × Stands self.new t }
+        ensures last { result ≡ Reply.Refused Refusal.NoRoom → (s : State) → Stands self.old s → cause_against s (request_of asked.now) body ≡ None }
+    {
+        if let Some(cause) = self.cause_against(asked, &body) {
+            return answer_to(cause);
+        }
+        let Ok(owed) = self.content.owed(&asked.key) else {
+            return Reply::Refused(Refusal::NoRoom);
+        };
+        let change = change_asked(asked, body, self.content.name_of(asked.caller));
+        match self.content.accept(change, owed) {
+            Ok(()) => Reply::Changed {
+                owed: owed.number(),
+            },
+            Err(NoRoom) => Reply::Refused(Refusal::NoRoom),
+        }
+    }
+}

@@ -1,0 +1,88 @@
+//! What readers are given: the journal from a cursor on, and what is held, whole or in pages.
+
+ghost use Rattle.std.specs.Prelude.{◌≡◌, IfOk, IfErr};
+ghost use Rattle.ds_machine.specs.State.{State};
+ghost use Rattle.ds_machine.specs.Machine.{Answers, journaling, snapping, paging};
+ghost use Rattle.ds_machine.specs.Scope.{is_kept};
+ghost use Rattle.ds_feed.specs.Since.{IsGiven};
+ghost use Rattle.ds_judge.specs.Last.{IsLast};
+ghost use Rattle.ds_judge.specs.Refused.{IsJournalRefusal};
+ghost use Rattle.ds_judge.specs.Scopes.{scope_of};
+ghost use Rattle.ds_content.specs.Stands.{Stands};
+
+use crate::store::Store;
+use ds_feed::{AllKeys, Cursor, Since, SinceFault};
+use ds_judge::{ScopeFilter, refusal_of_journal, scope_of_page, scope_of_since};
+use ds_machine::{Command, Refusal, Reply, Scope};
+use ds_names::{Key, NoRoom};
+
+impl Store {
+    // What took effect under a scope that was read: OldCursor, Ahead or Behind, and NoRoom where none of them stands.
+    fn give_since(&self, filter: &ScopeFilter, cursor: Cursor, max: u32) -> Result<Since, Refusal>
+        ensures given { (s : State) → Stands self.now s → IfOk result (IsGiven s.feed (is_kept (scope_of filter.now)) cursor max) }
+        ensures refused { (s : State) → Stands self.now s → IfErr result (IsJournalRefusal s.feed cursor) }
+    {
+        let given = match filter.asker(self.alloc) {
+            Ok(mut asker) => self.content.since(&mut asker, cursor, max),
+            Err(NoRoom) => match self.content.since(&mut AllKeys, cursor, 0) {
+                Ok(_) => Err(SinceFault::NoRoom),
+                Err(fault) => Err(fault),
+            },
+        };
+        match given {
+            Ok(since) => Ok(since),
+            Err(fault) => Err(refusal_of_journal(fault)),
+        }
+    }
+
+    // What took effect under the scope from the cursor on, up to `max` items.
+    pub(super) fn since(&self, scope: &Scope, cursor: Cursor, max: u32) -> Reply
+        ensures answer { (s : State) → Stands self.now s → Answers s (journaling s scope.now cursor max) result s }
+        ensures last { (s : State) → Stands self.now s → IsLast s (Command.Since scope.now cursor max) result }
+    {
+        let filter = match scope_of_since(self.alloc, scope, max) {
+            Ok(filter) => filter,
+            Err(refusal) => return Reply::Refused(refusal),
+        };
+        match self.give_since(&filter, cursor, max) {
+            Ok(since) => Reply::Journaled(since),
+            Err(refusal) => Reply::Refused(refusal),
+        }
+    }
+
+    // All that is held under the scope.
+    pub(super) fn snapshot(&self, scope: &Scope) -> Reply
+        ensures answer { (s : State) → Stands self.now s → Answers s (snapping s scope.now) result s }
+        ensures last { (s : State) → Stands self.now s → IsLast s (Command.Snapshot scope.now) result }
+    {
+        let filter = match ScopeFilter::read(self.alloc, scope) {
+            Ok(filter) => filter,
+            Err(refusal) => return Reply::Refused(refusal),
+        };
+        let Ok(mut asker) = filter.asker(self.alloc) else {
+            return Reply::Refused(Refusal::NoRoom);
+        };
+        match self.content.snapshot(&mut asker) {
+            Ok(snapshot) => Reply::Snapped(snapshot),
+            Err(NoRoom) => Reply::Refused(Refusal::NoRoom),
+        }
+    }
+
+    // The first `max` changes behind the key of what is held under the scope, with all floors on the first page.
+    pub(super) fn page(&self, scope: &Scope, after: Option<Key>, max: u32) -> Reply
+        ensures answer { (s : State) → Stands self.now s → Answers s (paging s scope.now after max) result s }
+        ensures last { (s : State) → Stands self.now s → IsLast s (Command.Page scope.now after max) result }
+    {
+        let filter = match scope_of_page(self.alloc, scope, max) {
+            Ok(filter) => filter,
+            Err(refusal) => return Reply::Refused(refusal),
+        };
+        let Ok(mut asker) = filter.asker(self.alloc) else {
+            return Reply::Refused(Refusal::NoRoom);
+        };
+        match self.content.page(&mut asker, after, max) {
+            Ok(page) => Reply::Paged(page),
+            Err(NoRoom) => Reply::Refused(Refusal::NoRoom),
+        }
+    }
+}

@@ -1,0 +1,98 @@
+//! Subscriptions and their checks.
+
+ghost use Rattle.std.specs.Prelude.{◌≡◌, ◌<◌, ◌^◌, ◌&&◌, cond};
+ghost use Rattle.ds_machine.specs.State.{State};
+ghost use Rattle.ds_machine.specs.Machine.{Answers};
+ghost use Rattle.ds_machine.specs.Watching.{subscribing, checking};
+ghost use Rattle.ds_judge.specs.Last.{IsLast};
+ghost use Rattle.ds_content.specs.Stands.{Stands};
+
+use crate::store::Store;
+use ds_judge::{CheckCase, SubscribeCase, refusal_of_check, refusal_of_showing, take_up};
+use ds_machine::{Command, Refusal, Reply};
+use ds_names::NoRoom;
+use ds_pattern::Query;
+
+// The bit of the subscription, where with INITIAL something is to be shown to it.
+fn own_bit(sub: u32, initial: bool, some: bool) -> u128
+    requires { sub < 128 }
+    ensures { result ≡ cond (initial && some) (2 ^ sub) 0 }
+{
+    if initial && some { 1 << sub } else { 0 }
+}
+
+impl Store {
+    // A subscription is made at the place, over another one only with `overwrite`.
+    pub(super) fn subscribe(
+        &mut self,
+        sub: u32,
+        query: &Query,
+        initial: bool,
+        overwrite: bool,
+    ) -> Reply
+        ensures step { (s : State) → Stands self.old s → (t : State) × Answers s (subscribing s sub query.now initial overwrite) result t × Stands self.new t }
+        ensures last { (s : State) → Stands self.old s → IsLast s (Command.Subscribe sub query.now initial overwrite) result }
+    {
+        let stamp = self.content.stamp();
+        let case = SubscribeCase {
+            places: self.content.limits().subs(),
+            taken: self.content.stamp_of(sub).is_some(),
+            stamp,
+            sub,
+            overwrite,
+        };
+        let filter = match take_up(self.alloc, case, query) {
+            Ok(filter) => filter,
+            Err(refusal) => return Reply::Refused(refusal),
+        };
+        match self.content.subscribe(sub, filter, initial) {
+            Ok(some) => Reply::Subscribed {
+                stamp: stamp + 1,
+                owed: own_bit(sub, initial, some),
+            },
+            Err(NoRoom) => Reply::Refused(Refusal::NoRoom),
+        }
+    }
+
+    // The first `max` items that are to be shown to the subscription at the place are shown.
+    pub(super) fn check(&mut self, sub: u32, max: u32) -> Reply
+        ensures step { (s : State) → Stands self.old s → (t : State) × Answers s (checking s sub max) result t × Stands self.new t }
+        ensures last { (s : State) → Stands self.old s → IsLast s (Command.Check sub max) result }
+    {
+        let before = self.content.stamp_of(sub);
+        let case = CheckCase {
+            places: self.content.limits().subs(),
+            taken: before.is_some(),
+            sub,
+            max,
+        };
+        if let Some(refusal) = refusal_of_check(case) {
+            return Reply::Refused(refusal);
+        }
+        let Some(before) = before else {
+            return Reply::Refused(Refusal::NotFound);
+        };
+        let stamp = self.content.stamp();
+        let Ok(shown) = self.content.first_unseen(sub, max) else {
+            let worn = refusal_of_showing(true, stamp);
+            return Reply::Refused(worn.unwrap_or(Refusal::NoRoom));
+        };
+        let count = shown.items.len();
+        if count == 0 {
+            return Reply::Checked {
+                items: shown.items,
+                before,
+                after: before,
+            };
+        }
+        if let Some(refusal) = refusal_of_showing(true, stamp) {
+            return Reply::Refused(refusal);
+        }
+        self.content.show(sub, &shown);
+        Reply::Checked {
+            items: shown.items,
+            before,
+            after: stamp + 1,
+        }
+    }
+}
