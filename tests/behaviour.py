@@ -35,9 +35,9 @@ GOOD = [
     b"sweep 0/2 eth0 3",
     b"retrieve boot u32",
     b"nameof 0/2",
-    b'subscribe 63 "a" 15 first new',
+    b'subscribe 127 "a" 15 first new',
     b'subscribe 0 "" 1 later over',
-    b"check 63 256",
+    b"check 127 256",
     b'map "a" 8',
     b"entries 18446744073709551615",
 ]
@@ -204,7 +204,7 @@ def a_hundred_thousand_checks(program):
     with tempfile.TemporaryFile() as script:
         script.write(b'subscribe 0 "k" 2 later new\n' + b"".join(b"offer k u32 o 1.%d = 0\ncheck 0 1\n" % at for at in turns))
         script.seek(0)
-        shown = (b"taken\nowed 0000000000000001\nk u32 o 1.%d = 0\nchecked 1 %d %d\n" % (at, at, at + 1) for at in turns)
+        shown = (b"taken\nowed 00000000000000000000000000000001\nk u32 o 1.%d = 0\nchecked 1 %d %d\n" % (at, at, at + 1) for at in turns)
         expect(end(begin(program, limit=MEMORY, stdin=script)), b"subscribed 1\n" + b"".join(shown), 0)
 
 
@@ -229,17 +229,31 @@ def a_pattern_that_is_too_large(program):
 def costly_subscriptions(program):
     """Subscriptions at all places to patterns that are just not too costly: each answer to others is as without them."""
     patterns = [b"(?:a?){39}=", b"(?:(?:a?){19}){2}=", b"(?:[ab]{0,25}){0,2}=", rb"\\w{4}=", rb"\\d{60}=", b"[ab]*a[ab]{20}="]
-    names = [b"a" * 54 + format(at, "010b").encode().translate(bytes.maketrans(b"01", b"ab")) for at in range(1023)]
-    subscribes = [b'subscribe %d "%s" 15 first new\n' % (at, patterns[at % len(patterns)]) for at in range(64)]
+    names = [b"a" * 52 + format(at, "012b").encode().translate(bytes.maketrans(b"01", b"ab")) for at in range(4095)]
+    subscribes = [b'subscribe %d "%s" 15 first new\n' % (at, patterns[at % len(patterns)]) for at in range(128)]
     others = [b"publish 0/2 new driver label 3.0 = 3/16\n"]
     others += [b"publish 3/16 new %s u32 3.1 = %d\n" % (name, at) for at, name in enumerate(names)]
-    others += [b"sweep 0/2 driver 3\n", b"check 63 256\n", b"all\n"]
+    others += [b"sweep 0/2 driver 3\n", b"check 127 256\n", b"all\n"]
     answers_alone, status = model.replay(b"".join(others))
     lines = answers_alone.split(b"\n")
-    assert lines[1024:1026] == [b"swept 1023", b"refused notfound"] and status == 0
-    lines[1025] = b"checked 0 64 64"
-    subscribed = [b"subscribed %d" % stamp for stamp in range(1, 65)]
+    assert lines[4096:4098] == [b"swept 4095", b"refused notfound"] and status == 0
+    lines[4097] = b"checked 0 128 128"
+    subscribed = [b"subscribed %d" % stamp for stamp in range(1, 129)]
     expect(end(begin(program, limit=MEMORY), b"".join(subscribes + others)), b"\n".join(subscribed + lines), 0)
+
+
+def a_full_store_under_all_subscriptions(program):
+    """As many keys as there may be, each owed to as many subscriptions as there may be, and shown to the last of them."""
+    names = [b"k%04d" % at for at in range(4096)]
+    subscribes = [b'subscribe %d "k.*" 2 later new\n' % at for at in range(128)]
+    offers = [b"offer %s u32 o 1.0 = 1\n" % name for name in names]
+    rest = [b"offer z u32 o 1.0 = 1\n", *[b"check 127 256\n"] * 17, b"offer k0000 u32 o 1.1 -\n", b"check 0 1\n", b"check 128 1\n"]
+    told = [b"subscribed %d\n" % stamp for stamp in range(1, 129)] + [b"taken\nowed " + b"f" * 32 + b"\n"] * 4096 + [b"refused full\n"]
+    for turn in range(16):
+        told += [b"%s u32 o 1.0 = 1\n" % name for name in names[256 * turn : 256 * turn + 256]]
+        told += [b"checked 256 %d %d\n" % (128 + turn, 129 + turn)]
+    told += [b"checked 0 144 144\n", b"taken\nowed " + b"f" * 32 + b"\n", b"k0000 u32 o 1.1 -\nchecked 1 1 145\n", b"refused badsub\n"]
+    expect(end(begin(program, limit=MEMORY), b"".join(subscribes + offers + rest)), b"".join(told), 0)
 
 
 def hostile_patterns(program):
@@ -520,12 +534,12 @@ def command_by_chance(chance):
     mode = chance.choice([b"new", b"over", b"over"])
     label = b"label %d.%d = %d/%d" % (generation, chance.random() < 0.1, generation + (chance.random() < 0.1), slot)
     query = b'"%s" %d' % (chance.choice([b".*", b"m.*", b"eth0|id", b"[a-z]+\\\\d", b""]), chance.randrange(1, 16))
-    sub = chance.randrange(8) + 56 * chance.randrange(2)
+    sub = chance.randrange(8) + 120 * chance.randrange(2)
     return chance.choice(
         [
             b"subscribe %d %s %s %s" % (sub, query, chance.choice([b"first", b"later"]), mode),
             *[b"check %d %d" % (sub, chance.choice([1, 1, 1, 2, 256, 257]))] * 2,
-            *[chance.choice([b"map " + query, b"entries 0", b"check 64 0"])] * (chance.random() < 0.2),
+            *[chance.choice([b"map " + query, b"entries 0", b"check 128 0"])] * (chance.random() < 0.2),
             *[b"publish 0/2 %s %s %s" % (mode, driver, label)] * 2,
             b"publish %s %s %s %s" % (caller, mode, driver, label),
             b"delete 0/2 %s label %d.1" % (driver, generation),
@@ -551,6 +565,7 @@ ALL = [
     a_long_show,
     a_pattern_that_is_too_large,
     costly_subscriptions,
+    a_full_store_under_all_subscriptions,
     hostile_patterns,
     a_reader_that_fails,
     a_reader_that_is_closed,

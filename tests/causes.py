@@ -9,7 +9,7 @@ from dataclasses import dataclass, replace
 from typing import List, Tuple
 
 LAST = 2**62  # where positions and stamps end
-MOST_KEYS = 1024
+MOST_KEYS = 4096
 MOST_ITEMS = 256  # of one Merge
 
 
@@ -74,7 +74,7 @@ PUBLISH = [
     case("worn", begins(1) + ETH, 'publish 3/17 new id str 3.0 = "up"', "refused worn"),
     case("worn over a label", begins(1) + ETH, "publish 0/2 over eth0 label 4.0 = 4/17", "refused worn"),
     case("of the first key", "", "publish 0/2 new eth0 label 3.0 = 3/17", "taken", NOROOM),
-    case("of a held key", ETH + ID + SUB, 'publish 3/17 over id str 3.2 = "down"', "taken\nowed 0000000000000001"),
+    case("of a held key", ETH + ID + SUB, 'publish 3/17 over id str 3.2 = "down"', "taken\nowed 00000000000000000000000000000001"),
 ]
 
 DELETE = [
@@ -95,7 +95,7 @@ DELETE = [
 SWEEP = [
     case("notallowed", begins(2) + ETH + MTU, "sweep 3/17 eth0 3", "refused notallowed"),
     case("worn", begins(2) + ETH + MTU, "sweep 0/2 eth0 3", "refused worn"),
-    case("of two entries", ETH + MTU + ID + SUB, "sweep 0/2 eth0 3", "swept 2\nowed 0000000000000001"),
+    case("of two entries", ETH + MTU + ID + SUB, "sweep 0/2 eth0 3", "swept 2\nowed 00000000000000000000000000000001"),
     case("of nothing", begins(2) + ETH + MTU, "sweep 0/2 eth0 2", "swept 0"),
 ]
 
@@ -115,18 +115,18 @@ NAME_OF = [
 LONG = "(" * 129  # too long, and no pattern
 
 SUBSCRIBE = [
-    case("badsub", begins(0), f'subscribe 64 "{LONG}" 15 first new', "refused badsub"),
-    case("badsub, with a pattern", begins(0), 'subscribe 64 "eth.*" 15 first new', "refused badsub"),
+    case("badsub", begins(0), f'subscribe 128 "{LONG}" 15 first new', "refused badsub"),
+    case("badsub, with a pattern", begins(0), 'subscribe 128 "eth.*" 15 first new', "refused badsub"),
     case("toolong", begins(1) + SUB, f'subscribe 0 "{LONG}" 15 first new', "refused toolong"),
     case("badpattern by a byte", begins(1) + SUB, 'subscribe 0 "\x01" 15 first new', "refused badpattern"),
     case("badpattern", begins(1) + SUB, 'subscribe 0 "(" 15 first new', "refused badpattern", "refused badpattern", NOROOM),
     case("exists", begins(1) + SUB, 'subscribe 0 "eth.*" 15 first new', "refused exists", NOROOM),
     case("worn", begins(1) + SUB, 'subscribe 0 "eth.*" 15 first over', "refused worn", NOROOM),
-    case("of what is held", ETH, 'subscribe 0 "eth.*" 15 first new', "subscribed 1\nowed 0000000000000001", NOROOM),
+    case("of what is held", ETH, 'subscribe 0 "eth.*" 15 first new', "subscribed 1\nowed 00000000000000000000000000000001", NOROOM),
 ]
 
 CHECK = [
-    case("badsub", begins(0), "check 64 0", "refused badsub"),
+    case("badsub", begins(0), "check 128 0", "refused badsub"),
     case("toomany of none", begins(0), "check 0 0", "refused toomany"),
     case("toomany", begins(0), "check 0 257", "refused toomany"),
     case("notfound", begins(0), "check 0 1", "refused notfound"),
@@ -149,7 +149,7 @@ MERGE = [
     case("full", begins(MOST_KEYS) + full(), merge("tty0 u32 tty 1.0 = 0", NEW), "stopped 1 full"),
     case("worn", begins(1) + HELD, merge(OLDER, NEW), "stopped 1 worn"),
     case("known and stale", begins(1) + HELD, merge(SAME, OLDER), "merged 2 0 1"),
-    case("of a number of a held key", "offer mtu u32 eth0 3.0 = 7\n" + SUB, merge("mtu u32 eth0 3.1 = 8"), "merged 1 1 0\nowed 0000000000000001"),
+    case("of a number of a held key", "offer mtu u32 eth0 3.0 = 7\n" + SUB, merge("mtu u32 eth0 3.1 = 8"), "merged 1 1 0\nowed 00000000000000000000000000000001"),
     case("of a new key behind a known one", HELD, merge(SAME, NEW), "merged 2 1 0", "stopped 1 noroom"),
     case("of a new key before another owner's", HELD, merge(NEW, FOREIGN), "stopped 1 notowner", "stopped 0 noroom"),
     case("of another owner's before a new key", HELD, merge(FOREIGN, NEW), "stopped 0 notowner"),

@@ -6,9 +6,9 @@ import re
 
 from . import lines
 
-MOST_KEYS = 1024
+MOST_KEYS = 4096
 MOST_MAPS = 64
-MOST_SUBSCRIPTIONS = 64
+MOST_SUBSCRIPTIONS = 128
 MOST_CHECKED = 256  # changes of one check
 MOST_PATTERN = 128  # bytes
 RS = (0, 2)  # the endpoint of RS
@@ -246,4 +246,4 @@ def line_of(key, owner, version, value):
 def mask(numbers):
     """The line of a mask with these bits, or none where there are none."""
     bits = sum(1 << number for number in numbers)
-    return [b"owed %016x" % bits] if bits else []
+    return [b"owed %032x" % bits] if bits else []

@@ -136,7 +136,7 @@ module _ (old : FinMap key_cmp ChangeRecord) (c : ChangeRecord) where
           by_held p false e k n = holder_after p.name false e ∙ i.held p k
 
 -- a full holder takes no other key
-pub full_same : (old : Holding) (c : ChangeRecord) (r : Result Merge JoinFault) → MergeAnswer old c r → held_for old c.key ≡ None → 1024 ≤ held_count old → after_merge old c r ≡ old
+pub full_same : (old : Holding) (c : ChangeRecord) (r : Result Merge JoinFault) → MergeAnswer old c r → held_for old c.key ≡ None → 4096 ≤ held_count old → after_merge old c r ≡ old
 full_same old c r answer none full = by_answer r (subst (λ o. AnswersFor o (held_count old) c r) none answer)
   where
     by_answer : (r : Result Merge JoinFault) → AnswersNew (held_count old) r → after_merge old c r ≡ old
@@ -146,7 +146,7 @@ full_same old c r answer none full = by_answer r (subst (λ o. AnswersFor o (hel
     by_answer (Err fault) a = refl
 
 -- no room is told of a new key alone, and of one for which the holder has a place
-pub room_wanted : (old : Holding) (c : ChangeRecord) → held_for old c.key ≡ None → held_count old < 1024 → MergeAnswer old c (Err NoRoom)
+pub room_wanted : (old : Holding) (c : ChangeRecord) → held_for old c.key ≡ None → held_count old < 4096 → MergeAnswer old c (Err NoRoom)
 room_wanted old c none few = subst (λ o. AnswersFor o (held_count old) c (Err NoRoom)) (sym none) few
 
 -- the labels are listed as they are held after the change of another key

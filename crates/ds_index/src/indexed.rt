@@ -22,7 +22,7 @@ use std::alloc::Global;
 use std::marker::Model;
 
 // The most keys that are held.
-const MOST_KEYS: usize = 1024;
+const MOST_KEYS: usize = 4096;
 
 /// What a [`Marked`] holds, with the endpoint of each held label.
 #[derive(Drop)]

@@ -15,5 +15,5 @@ pub valid_changes : (xs : List ChangeRecord) → IsKept xs → All IsChange (hel
 valid_changes xs kept = subst (All IsChange) (sym (held_is xs kept.rising)) kept.valid
 
 -- as many changes in the order of the keys
-pub few_held : (xs : List ChangeRecord) → IsKept xs → length (held_changes (holding_of xs)) ≤ 1024
-few_held xs kept = subst (λ (l : List ChangeRecord). length l ≤ 1024) (sym (held_is xs kept.rising)) kept.few
+pub few_held : (xs : List ChangeRecord) → IsKept xs → length (held_changes (holding_of xs)) ≤ 4096
+few_held xs kept = subst (λ (l : List ChangeRecord). length l ≤ 4096) (sym (held_is xs kept.rising)) kept.few

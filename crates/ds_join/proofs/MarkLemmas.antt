@@ -228,17 +228,17 @@ module _ {M : Type 0} (h : Holding) (ms : List M) (beside : IsBeside h ms) where
   beside_set i m = record { own = beside.own; each = omega (arith, length-set ms i m, beside.each) }
 
   module _ (c : ChangeRecord) (place : Result ℕ ℕ) (at : IsPlace (held_changes h) c.key place) where
-    pub few_held_marks : (p : Result ℕ ℕ) → place ≡ p → MatchResult p (λ i. ⊥) (λ i. length ms < 1024) → MergeAnswer h c (Err NoRoom)
+    pub few_held_marks : (p : Result ℕ ℕ) → place ≡ p → MatchResult p (λ i. ⊥) (λ i. length ms < 4096) → MergeAnswer h c (Err NoRoom)
     few_held_marks (Ok i) e w = absurd w
     few_held_marks (Err i) e w =
         subst (λ o. AnswersFor o (held_count h) c (Err NoRoom)) (sym (held_missing h c.key i beside.own (subst (IsPlace (held_changes h) c.key) e at)))
         (omega (arith, count_held h, beside.each, w))
 
-    pub room_there : (n cap : ℕ) (p : Result ℕ ℕ) → place ≡ p → n ≡ length ms → MergeAnswer h c (Ok Taken) → MatchResult p (λ i. ⊤) (λ i. length ms < 1024 → n < cap) → MatchResult p (λ i. i < n) (λ i. (i ≤ n) × (n < cap))
+    pub room_there : (n cap : ℕ) (p : Result ℕ ℕ) → place ≡ p → n ≡ length ms → MergeAnswer h c (Ok Taken) → MatchResult p (λ i. ⊤) (λ i. length ms < 4096 → n < cap) → MatchResult p (λ i. i < n) (λ i. (i ≤ n) × (n < cap))
     room_there n cap (Ok i) e l a w = let there = subst (IsPlace (held_changes h) c.key) e at in omega (arith, there.0, beside.each, l)
     room_there n cap (Err i) e l a w =
         let there = subst (IsPlace (held_changes h) c.key) e at in
-        let few : held_count h < 1024 = subst (λ o. AnswersFor o (held_count h) c (Ok Taken)) (held_missing h c.key i beside.own there) a in
+        let few : held_count h < 4096 = subst (λ o. AnswersFor o (held_count h) c (Ok Taken)) (held_missing h c.key i beside.own there) a in
         (omega (arith, there.0, beside.each, l), w (omega (arith, count_held h, beside.each, few)))
 
     module _ (m : M) (r : Result Merge JoinFault) (new : Holding) (ns : List M) (own : IsOwn new) (marks : ns ≡ list_after ms place m r) (list : held_changes new ≡ changes_after (held_changes h) (put_at (held_changes h) place c) r) where

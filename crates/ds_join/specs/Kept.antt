@@ -21,10 +21,10 @@ by_key changes = map {B = Key × ChangeRecord} (λ (c : ChangeRecord). (c.key, c
 abbrev pub holding_of : List ChangeRecord → Holding
 holding_of changes = record { changes = from_entries (by_key changes) }
 
--- what the list of a holder keeps: changes whose keys rise, at most 1024
+-- what the list of a holder keeps: changes whose keys rise, at most 4096
 pub record IsKept (changes : List ChangeRecord) : Type 0 where
   pub rising : T (is_sorted key_cmp (by_key changes))
-  pub few : length changes ≤ 1024
+  pub few : length changes ≤ 4096
   pub valid : All IsChange changes
 
 -- where the change of the key stands in the list, or else where it would

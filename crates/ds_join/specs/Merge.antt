@@ -12,13 +12,13 @@ use Rattle.ds_join.specs.Held.{Holding, held_for, held_count}
 
 -- the answer to a change of a key that isn't held, where `count` keys are
 abbrev pub AnswersNew : ℕ → Result Merge JoinFault → Type 0
-AnswersNew count (Ok Taken) = count < 1024
+AnswersNew count (Ok Taken) = count < 4096
 AnswersNew count (Ok Known) = ⊥
 AnswersNew count (Ok Stale) = ⊥
 AnswersNew count (Err NotOwner) = ⊥
 AnswersNew count (Err (Clash v)) = ⊥
-AnswersNew count (Err Full) = count ≡ 1024
-AnswersNew count (Err NoRoom) = count < 1024
+AnswersNew count (Err Full) = count ≡ 4096
+AnswersNew count (Err NoRoom) = count < 4096
 
 -- the answer to the change `c`, where `h` is held for its key: never for want of room
 abbrev pub AnswersHeld : ChangeRecord → ChangeRecord → Result Merge JoinFault → Type 0

@@ -23,7 +23,7 @@ use ds_names::{Endpoint, Key, Name, NoRoom};
 use std::alloc::Global;
 use std::marker::Model;
 
-/// For each key the change with the greatest version that came, tombstones too; at most 1024 keys.
+/// For each key the change with the greatest version that came, tombstones too; at most 4096 keys.
 #[derive(Debug, Drop)]
 pub struct Held {
     changes: Vec<Change>,
@@ -67,10 +67,10 @@ impl Held {
         self.changes.clear();
     }
 
-    /// How many keys are held, those of tombstones too: at most 1024.
+    /// How many keys are held, those of tombstones too: at most 4096.
     pub fn len(&self) -> usize
         ensures count { result ≡ held_count self.now }
-        ensures few { result ≤ 1024 }
+        ensures few { result ≤ 4096 }
         ensures own { IsOwn self.now }
         ensures changes { All IsChange (held_changes self.now) }
     {

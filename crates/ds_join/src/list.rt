@@ -19,7 +19,7 @@ use std::alloc::Global;
 use std::cmp::Ordering;
 
 // The most keys that are held, those of tombstones too.
-pub(crate) const MOST_KEYS: usize = 1024;
+pub(crate) const MOST_KEYS: usize = 4096;
 
 // The change of a key.
 pub(crate) fn change_at<'a>(changes: &'a [Change], key: &Key) -> Option<&'a Change>
@@ -67,7 +67,7 @@ fn replace(changes: &mut Vec<Change>, i: usize, change: Change) -> Result<Merge,
 // Merges the change of a key that isn't held, and belongs at an index.
 fn add(changes: &mut Vec<Change>, i: usize, change: Change) -> Result<Merge, JoinFault>
     requires within { i ≤ vec_len changes.old }
-    requires few { vec_len changes.old ≤ 1024 }
+    requires few { vec_len changes.old ≤ 4096 }
     ensures answer { AnswersNew (length changes.old.items) result }
     ensures items { changes.new.items ≡ changes_after changes.old.items (insert changes.old.items i change) result }
 {

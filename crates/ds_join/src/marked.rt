@@ -132,8 +132,8 @@ fn pair_at<'a, M>(held: &'a Held, marks: &'a [M], index: usize) -> Option<(&'a C
 // Makes room for a mark at a place, where one more key may be held.
 fn make_room<M>(marks: &mut Vec<M>, place: Result<usize, usize>) -> bool
     ensures items { marks.new.items ≡ marks.old.items }
-    ensures room { result ≡ true → MatchResult place (λ i. ⊤) (λ i. length marks.old.items < 1024 → vec_len marks.new < vec_capacity marks.new) }
-    ensures refused { result ≡ false → MatchResult place (λ i. ⊥) (λ i. length marks.old.items < 1024) }
+    ensures room { result ≡ true → MatchResult place (λ i. ⊤) (λ i. length marks.old.items < 4096 → vec_len marks.new < vec_capacity marks.new) }
+    ensures refused { result ≡ false → MatchResult place (λ i. ⊥) (λ i. length marks.old.items < 4096) }
 {
     match place {
         Ok(_) => true,

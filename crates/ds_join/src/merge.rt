@@ -23,8 +23,8 @@ pub enum JoinFault {
     /// The change that is held for its key has the same version and another body.
     #[error("the key has another change of the same version")]
     Clash { version: Version },
-    /// Its key isn't held, and 1024 other keys are.
-    #[error("1024 keys are held")]
+    /// Its key isn't held, and 4096 other keys are.
+    #[error("no more keys can be held")]
     Full,
     /// There was no memory for it: its key isn't held, or, where someone else keeps it, it would be taken
     /// and couldn't be copied.

@@ -63,7 +63,7 @@ module _ (old new : FinMap key_cmp Masks) (c : ChangeRecord) (owed : List Bool) 
   other_under : (key : Key) → eq_by_cmp key_cmp key c.key ≡ false → under_at new key ≡ under_at old key
   other_under key e = ap (λ (o : Option Masks). option_map_or (λ (m : Masks). m.under) o []) (at_key key false e)
 
-  module _ (hs news : List ChangeRecord) (top : IsTop news (hs ++ c ∷ [])) (ws : List (Option Watching)) (long : length ws ≡ 64) (owes : owed ≡ map (watches c.key) ws) (are : AreMarked hs old ws) where
+  module _ (hs news : List ChangeRecord) (top : IsTop news (hs ++ c ∷ [])) (ws : List (Option Watching)) (long : length ws ≡ 128) (owes : owed ≡ map (watches c.key) ws) (are : AreMarked hs old ws) where
     held_before : (x : ChangeRecord) → Contains news x → eq_by_cmp key_cmp x.key c.key ≡ false → Contains hs x
     held_before x h e =
         elim (Contains-push_cases hs c x (top.among x h)) [
@@ -77,7 +77,7 @@ module _ (old new : FinMap key_cmp Masks) (c : ChangeRecord) (owed : List Bool) 
         ap (under_at new) key ∙ fresh_under ∙ owes ∙ ap (λ (k : Key). map (watches k) ws) (sym key)
     under_after x h false e = other_under x.key e ∙ are.under x (held_before x h e)
 
-    long_after : (x : ChangeRecord) → Contains news x → (b : Bool) → eq_by_cmp key_cmp x.key c.key ≡ b → length (unseen_at new x.key) ≡ 64
+    long_after : (x : ChangeRecord) → Contains news x → (b : Bool) → eq_by_cmp key_cmp x.key c.key ≡ b → length (unseen_at new x.key) ≡ 128
     long_after x h true e =
         let key = same_key x.key c.key e in
         ap (λ (k : Key). length (unseen_at new k)) key ∙ ap (λ (fs : List Bool). length fs) (fresh_unseen ∙ owes) ∙ length-map ws (watches c.key) ∙ long

@@ -32,7 +32,7 @@ none_of (Some sub ∷ subs) = ap (λ l. false ∷ l) (none_of subs)
 pub as_many : (v : Content) (s : State) → Stands v s → length v.subscriptions ≡ length s.subscriptions
 as_many v s stands = ap (λ (l : List (Option Followed)). length l) stands.subscriptions ∙ length-map s.subscriptions (option_map (followed_of (tops s.accepted)))
 
-pub nothing_owed : (v : Content) (s : State) → length v.subscriptions ≡ 64 → Stands v s → replicate 64 false ≡ map (is_owed []) s.subscriptions
+pub nothing_owed : (v : Content) (s : State) → length v.subscriptions ≡ 128 → Stands v s → replicate 128 false ≡ map (is_owed []) s.subscriptions
 nothing_owed v s long stands = ap (λ n. replicate n false) (sym (sym (as_many v s stands) ∙ long)) ∙ none_of s.subscriptions
 
 -- ---- one change more
@@ -60,7 +60,7 @@ folded subs xs (y ∷ ys) =
     ap (λ l. fold either l (map (λ (c : ChangeRecord). map (is_owed (c ∷ [])) subs) ys)) (sym (either_owed xs (y ∷ []) subs))
     ∙ folded subs (xs ++ y ∷ []) ys ∙ ap (λ l. map (is_owed l) subs) (append_assoc xs (y ∷ []) ys)
 
-pub all_owed : (v : Content) (s : State) (changes : List ChangeRecord) → length v.subscriptions ≡ 64 → Stands v s → any_of (owed_each v.subscriptions changes) ≡ map (is_owed changes) s.subscriptions
+pub all_owed : (v : Content) (s : State) (changes : List ChangeRecord) → length v.subscriptions ≡ 128 → Stands v s → any_of (owed_each v.subscriptions changes) ≡ map (is_owed changes) s.subscriptions
 all_owed v s changes long stands =
     ap₂ (λ a b. fold either a b) (nothing_owed v s long stands) (each_as v s changes stands) ∙ folded s.subscriptions [] changes
 

@@ -100,7 +100,7 @@ shown_others : (sub k : ℕ) (o : Option Masks) → (k ≡ sub → ⊥) → get_
 shown_others sub k None n = refl
 shown_others sub k (Some m) n = get_or-set_other m.unseen sub k false false n
 
-made_under : (sub : ℕ) (u i : Bool) (o : Option Masks) → length (option_map_or (λ (m : Masks). m.unseen) o []) ≡ 64
+made_under : (sub : ℕ) (u i : Bool) (o : Option Masks) → length (option_map_or (λ (m : Masks). m.unseen) o []) ≡ 128
     → option_map_or (λ (m : Masks). m.under) (option_map (made_at sub u i) o) [] ≡ set (option_map_or (λ (m : Masks). m.under) o []) sub u
 made_under sub u i None long = absurd (omega (arith, long))
 made_under sub u i (Some m) long = refl
@@ -109,7 +109,7 @@ made_long : (sub : ℕ) (u i : Bool) (o : Option Masks) → length (option_map_o
 made_long sub u i None = refl
 made_long sub u i (Some m) = length-set m.unseen sub (u && i)
 
-made_here : (sub : ℕ) (u i : Bool) (o : Option Masks) → sub < 64 → length (option_map_or (λ (m : Masks). m.unseen) o []) ≡ 64 → get_or (option_map_or (λ (m : Masks). m.unseen) (option_map (made_at sub u i) o) []) sub false ≡ u && i
+made_here : (sub : ℕ) (u i : Bool) (o : Option Masks) → sub < 128 → length (option_map_or (λ (m : Masks). m.unseen) o []) ≡ 128 → get_or (option_map_or (λ (m : Masks). m.unseen) (option_map (made_at sub u i) o) []) sub false ≡ u && i
 made_here sub u i None l long = absurd (omega (arith, long))
 made_here sub u i (Some m) l long = get_or-set_same m.unseen sub (u && i) false (omega (arith, long, l))
 
@@ -160,7 +160,7 @@ module _ (old new : MarkedHolding Masks) (count sub : ℕ) (all : AreRemarked ol
   }
 
 -- ---- after a Subscribe
-module _ (old new : MarkedHolding Masks) (sub : ℕ) (place : sub < 64) (q : Query) (initial : Bool) (flags : List Bool) (is : flags ≡ map (λ (c : ChangeRecord). is_under q c.key) (held_changes old.held))
+module _ (old new : MarkedHolding Masks) (sub : ℕ) (place : sub < 128) (q : Query) (initial : Bool) (flags : List Bool) (is : flags ≡ map (λ (c : ChangeRecord). is_under q c.key) (held_changes old.held))
     (all : AreRemarked old new (length flags) (λ k. made_at sub (get_or flags k false) initial)) where
   -- each held key has the masks after it was made
   made_each : (c : ChangeRecord) → Contains (held_changes old.held) c → get new.marks c.key ≡ option_map (made_at sub (is_under q c.key) initial) (get old.marks c.key)
@@ -173,7 +173,7 @@ module _ (old new : MarkedHolding Masks) (sub : ℕ) (place : sub < 64) (q : Que
       ∙ ap (λ (x : ChangeRecord). is_under q x.key) (get_or_from_slice_get (held_changes old.held) at.0 c c at.1) in
       all.first at.0 c at.1 (omega (arith, within, long)) ∙ ap (λ b. option_map (made_at sub b initial) (get old.marks c.key)) flag
 
-  pub made_flag : (c : ChangeRecord) → Contains (held_changes old.held) c → length (unseen_at old.marks c.key) ≡ 64 → get_or (unseen_at new.marks c.key) sub false ≡ is_under q c.key && initial
+  pub made_flag : (c : ChangeRecord) → Contains (held_changes old.held) c → length (unseen_at old.marks c.key) ≡ 128 → get_or (unseen_at new.marks c.key) sub false ≡ is_under q c.key && initial
   made_flag c h long =
       ap (λ (o : Option Masks). get_or (option_map_or (λ (m : Masks). m.unseen) o []) sub false) (made_each c h) ∙ made_here sub (is_under q c.key) initial (get old.marks c.key) place long
 

@@ -150,8 +150,8 @@ none_from : (hs gs : List ChangeRecord) (u : Key → List Bool) (place n : ℕ) 
 none_from hs gs u place zero = refl
 none_from hs gs u place (suc n) = ap (λ fs. None ∷ fs) (none_from hs gs u (suc place) n)
 
-pub none_followed : (hs gs : List ChangeRecord) (u : Key → List Bool) (ws : List (Option Watching)) → ws ≡ replicate 64 None → followed_from hs u 0 ws ≡ map (option_map (followed_of gs)) (replicate 64 None)
-none_followed hs gs u ws e = ap (followed_from hs u 0) e ∙ none_from hs gs u 0 64
+pub none_followed : (hs gs : List ChangeRecord) (u : Key → List Bool) (ws : List (Option Watching)) → ws ≡ replicate 128 None → followed_from hs u 0 ws ≡ map (option_map (followed_of gs)) (replicate 128 None)
+none_followed hs gs u ws e = ap (followed_from hs u 0) e ∙ none_from hs gs u 0 128
 
 -- nothing is marked where nothing is held
 pub none_marked : (hs : List ChangeRecord) (marks : FinMap key_cmp Masks) (ws : List (Option Watching)) → hs ≡ [] → AreMarked hs marks ws

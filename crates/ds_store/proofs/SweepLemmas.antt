@@ -186,7 +186,7 @@ few_pass test (x ∷ xs) =
     let rest = few_pass test xs in
     elim (test x) as (λ b. length (cond b (x ∷ filter test xs) (filter test xs)) ≤ length (x ∷ xs)) [ true ↦ omega (arith, rest) | false ↦ omega (arith, rest) ]
 
-pub few_tombstones : (held : List ChangeRecord) (owner : List ℕ) (generation : ℕ) → length held ≤ 1024 → length (tombstones held owner generation) ≤ 1024
+pub few_tombstones : (held : List ChangeRecord) (owner : List ℕ) (generation : ℕ) → length held ≤ 4096 → length (tombstones held owner generation) ≤ 4096
 few_tombstones held owner generation few =
     let same : length (tombstones held owner generation) ≡ length (filter (is_swept owner generation) held) = length-map (filter (is_swept owner generation) held) (tombstone generation) in
     let pass = few_pass (is_swept owner generation) held in

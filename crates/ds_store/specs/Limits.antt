@@ -3,11 +3,11 @@ use Rattle.std.specs.Prelude.{ℕ, ◌^◌}
 
 -- the places of subscriptions
 abbrev pub places : ℕ
-places = 64
+places = 128
 
 -- the most keys that are held
 abbrev pub most_keys : ℕ
-most_keys = 1024
+most_keys = 4096
 
 -- the most items of one Merge, and of one Check
 abbrev pub most_items : ℕ

@@ -39,7 +39,7 @@ pub enum Command {
     NameOf {
         endpoint: Endpoint,
     },
-    /// Makes the subscription of this number below 64, over another one only with `overwrite`. With `initial`
+    /// Makes the subscription of this number below 128, over another one only with `overwrite`. With `initial`
     /// all that is held under the query is to be shown to it, without it only what comes later. BadSub, TooLong,
     /// BadPattern, Exists, or Worn where the stamp would pass 2^62.
     Subscribe {
@@ -66,14 +66,14 @@ pub enum Command {
 pub enum Reply {
     /// The change took effect.
     Changed {
-        owed: u64,
+        owed: u128,
     },
     /// The change is held already.
     Known,
     /// So many entries were ended.
     Swept {
         count: usize,
-        owed: u64,
+        owed: u128,
     },
     /// The value of a live entry.
     Found(Value),
@@ -82,7 +82,7 @@ pub enum Reply {
     /// The subscription was made, and has this stamp. `owed` is its own bit where something is to be shown.
     Subscribed {
         stamp: u64,
-        owed: u64,
+        owed: u128,
     },
     /// What is shown, tombstones too, with the subscription's stamp before and after: one stamp where nothing
     /// is shown.
@@ -96,13 +96,13 @@ pub enum Reply {
         done: usize,
         taken: usize,
         stale: usize,
-        owed: u64,
+        owed: u128,
     },
     /// The first items were done, and the next one was refused.
     MergeStopped {
         done: usize,
         fault: Refusal,
-        owed: u64,
+        owed: u128,
     },
     /// The command was refused, and nothing changed.
     Refused(Refusal),
@@ -110,7 +110,7 @@ pub enum Reply {
 
 impl Reply {
     /// The mask of the subscriptions to which a notice is owed: of none, where the reply has no mask.
-    pub fn owed(&self) -> u64
+    pub fn owed(&self) -> u128
         ensures { result ≡ owed_by self.now }
     {
         match self {

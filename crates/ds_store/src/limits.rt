@@ -1,9 +1,9 @@
 //! The limits of a store.
 
 /// The places of subscriptions.
-pub(crate) const PLACES: u32 = 64;
+pub(crate) const PLACES: u32 = 128;
 /// The most keys that are held.
-pub(crate) const MOST_KEYS: usize = 1024;
+pub(crate) const MOST_KEYS: usize = 4096;
 /// The most items of one Merge, and of one Check.
 pub(crate) const MOST_ITEMS: usize = 256;
 /// The most changes that a journal keeps.

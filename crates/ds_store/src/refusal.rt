@@ -6,7 +6,7 @@ use thiserror::Error;
 /// Why a command was refused, in the order in which the causes are judged, or why no store was opened.
 #[derive(Clone, Copy, Debug, PartialEq, Eq, Error)]
 pub enum Refusal {
-    /// The number of a subscription isn't below 64.
+    /// The number of a subscription isn't below 128.
     #[error("no number of a subscription")]
     BadSub,
     /// A Merge has more than 256 items, or a Check doesn't ask for 1 to 256.
@@ -49,8 +49,8 @@ pub enum Refusal {
     /// There is no live entry of the key, no live label that holds the endpoint, or no such subscription.
     #[error("there is none")]
     NotFound,
-    /// The key isn't held, and 1024 other keys are.
-    #[error("1024 keys are held")]
+    /// The key isn't held, and 4096 other keys are.
+    #[error("no more keys can be held")]
     Full,
     /// The position would pass 2^62, or the stamp would.
     #[error("all positions or stamps are used")]

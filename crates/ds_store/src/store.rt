@@ -12,7 +12,7 @@ ghost use Rattle.ds_store.specs.Kept.{IsTakenOrNoRoom};
 ghost use Rattle.ds_store.specs.Stands.{Stands, IsOpenFault, IsRing};
 
 use crate::command::{Command, Reply};
-use crate::limits::{LAST_PLACE, LONGEST_RING};
+use crate::limits::{LAST_PLACE, LONGEST_RING, PLACES};
 use crate::refusal::Refusal;
 use crate::search::name_of;
 use asking::{deleted, published};
@@ -81,7 +81,7 @@ impl Store {
             ring,
             incarnation,
             stamp: first,
-            subscriptions: Subscriptions::new(),
+            subscriptions: Subscriptions::new(PLACES as usize),
         })
     }
 

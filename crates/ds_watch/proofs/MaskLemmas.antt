@@ -51,18 +51,18 @@ flags_or a b =
     let n = flags_long b in
     let r = flags_long (bit_or a b) in
     either_by_place (flags a) (flags b) (flags (bit_or a b)) (m ∙ sym n) (r ∙ sym m)
-    (λ i l. let k : i < 64 = omega arith in flag_at (bit_or a b) i k ∙ has_or a b i ∙ sym (ap₂ (λ x y. x || y) (flag_at a i k) (flag_at b i k)))
+    (λ i l. let k : i < 128 = omega arith in flag_at (bit_or a b) i k ∙ has_or a b i ∙ sym (ap₂ (λ x y. x || y) (flag_at a i k) (flag_at b i k)))
 
-pub or_small : (a b : ℕ) → a < 2 ^ 64 → b < 2 ^ 64 → bit_or a b < 2 ^ 64
+pub or_small : (a b : ℕ) → a < 2 ^ 128 → b < 2 ^ 128 → bit_or a b < 2 ^ 128
 or_small a b l m =
-    small_from_bits 64 (bit_or a b) (λ i k. bit_at_or a b i ∙ ap₂ (λ x y. max x y) (bit_at_above a 64 i l k) (bit_at_above b 64 i m k))
+    small_from_bits 128 (bit_or a b) (λ i k. bit_at_or a b i ∙ ap₂ (λ x y. max x y) (bit_at_above a 128 i l k) (bit_at_above b 128 i m k))
 
 -- ---- no mask
-pub flags_none : flags 0 ≡ replicate 64 false
+pub flags_none : flags 0 ≡ replicate 128 false
 flags_none =
     let long = flags_long 0 in
-    same_flags (flags 0) (replicate 64 false) (long ∙ sym (length-replicate 64 false))
-    (λ i l. let k : i < 64 = omega arith in flag_at 0 i k ∙ ap (λ n. n == 1) (bit_at-zero i) ∙ sym (get_or-replicate 64 i false false k))
+    same_flags (flags 0) (replicate 128 false) (long ∙ sym (length-replicate 128 false))
+    (λ i l. let k : i < 128 = omega arith in flag_at 0 i k ∙ ap (λ n. n == 1) (bit_at-zero i) ∙ sym (get_or-replicate 128 i false false k))
 
 -- ---- one bit
 eq_or_not : (i k : ℕ) → (i ≡ k) ⊎ (i ≢ k)
@@ -72,41 +72,41 @@ eq_or_not (suc i) zero = inr (λ e. omega (arith, e))
 eq_or_not (suc i) (suc k) = elim (eq_or_not i k) [ inl e ↦ inl (ap suc e) | inr other ↦ inr (λ e. other (omega (arith, e))) ]
 
 -- a number whose bits are another's but for one
-pub flags_set : (m n k : ℕ) (b : Bool) → k < 64 → has_bit m k ≡ b → ((i : ℕ) → i < 64 → i ≢ k → bit_at m i ≡ bit_at n i) → flags m ≡ set (flags n) k b
+pub flags_set : (m n k : ℕ) (b : Bool) → k < 128 → has_bit m k ≡ b → ((i : ℕ) → i < 128 → i ≢ k → bit_at m i ≡ bit_at n i) → flags m ≡ set (flags n) k b
 flags_set m n k b l here rest =
     let longm = flags_long m in
     let longn = flags_long n in
     let longs = length-set (flags n) k b in
     same_flags (flags m) (set (flags n) k b) (longm ∙ sym (longs ∙ longn))
-    (λ i j. let w : i < 64 = omega arith in flag_at m i w ∙ by_place i w (eq_or_not i k))
+    (λ i j. let w : i < 128 = omega arith in flag_at m i w ∙ by_place i w (eq_or_not i k))
   where
-    by_place : (i : ℕ) → i < 64 → (i ≡ k) ⊎ (i ≢ k) → has_bit m i ≡ get_or (set (flags n) k b) i false
+    by_place : (i : ℕ) → i < 128 → (i ≡ k) ⊎ (i ≢ k) → has_bit m i ≡ get_or (set (flags n) k b) i false
     by_place i w (inl e) =
         let long = flags_long n in
         ap (has_bit m) e ∙ here ∙ sym (ap (λ j. get_or (set (flags n) k b) j false) e ∙ get_or-set_same (flags n) k b false (omega arith))
     by_place i w (inr other) = ap (λ x. x == 1) (rest i w other) ∙ sym (get_or-set_other (flags n) k i b false other ∙ flag_at n i w)
 
 -- `bits | 1 << k`
-pub bit_set : (n k : ℕ) → k < 64 → flags (bit_or n (1 * 2 ^ k % 2 ^ bits w128)) ≡ set (flags n) k true
+pub bit_set : (n k : ℕ) → k < 128 → flags (bit_or n (1 * 2 ^ k % 2 ^ bits w128)) ≡ set (flags n) k true
 bit_set n k l =
     flags_set (bit_or n (1 * 2 ^ k % 2 ^ bits w128)) n k true l (ap (λ x. x == 1) (bit_at_set_same w128 n k (omega arith)))
     (λ i j other. bit_at_set_other w128 n k (omega arith) i other)
 
-pub set_small : (n k : ℕ) → k < 64 → n < 2 ^ 64 → bit_or n (1 * 2 ^ k % 2 ^ bits w128) < 2 ^ 64
+pub set_small : (n k : ℕ) → k < 128 → n < 2 ^ 128 → bit_or n (1 * 2 ^ k % 2 ^ bits w128) < 2 ^ 128
 set_small n k l small =
-    small_from_bits 64 (bit_or n (1 * 2 ^ k % 2 ^ bits w128))
-    (λ i j. bit_at_set_other w128 n k (omega arith) i (λ e. omega (arith, e)) ∙ bit_at_above n 64 i small j)
+    small_from_bits 128 (bit_or n (1 * 2 ^ k % 2 ^ bits w128))
+    (λ i j. bit_at_set_other w128 n k (omega arith) i (λ e. omega (arith, e)) ∙ bit_at_above n 128 i small j)
 
 -- `bits & !(1 << k)`
-pub bit_cleared : (n k : ℕ) → k < 64 → flags (bit_and n (bit_not w128 (1 * 2 ^ k % 2 ^ bits w128))) ≡ set (flags n) k false
+pub bit_cleared : (n k : ℕ) → k < 128 → flags (bit_and n (bit_not w128 (1 * 2 ^ k % 2 ^ bits w128))) ≡ set (flags n) k false
 bit_cleared n k l =
     flags_set (bit_and n (bit_not w128 (1 * 2 ^ k % 2 ^ bits w128))) n k false l (ap (λ x. x == 1) (bit_at_clear_same w128 n k (omega arith)))
     (λ i j other. bit_at_clear_other w128 n k (omega arith) i (omega arith) other)
 
-pub clear_small : (n k : ℕ) → k < 64 → n < 2 ^ 64 → bit_and n (bit_not w128 (1 * 2 ^ k % 2 ^ bits w128)) < 2 ^ 64
+pub clear_small : (n k : ℕ) → k < 128 → n < 2 ^ 128 → bit_and n (bit_not w128 (1 * 2 ^ k % 2 ^ bits w128)) < 2 ^ 128
 clear_small n k l small =
-    small_from_bits 64 (bit_and n (bit_not w128 (1 * 2 ^ k % 2 ^ bits w128)))
-    (λ i j. bit_at_and n (bit_not w128 (1 * 2 ^ k % 2 ^ bits w128)) i ∙ none (bit_at n i) (bit_at (bit_not w128 (1 * 2 ^ k % 2 ^ bits w128)) i) (bit_at_above n 64 i small j))
+    small_from_bits 128 (bit_and n (bit_not w128 (1 * 2 ^ k % 2 ^ bits w128)))
+    (λ i j. bit_at_and n (bit_not w128 (1 * 2 ^ k % 2 ^ bits w128)) i ∙ none (bit_at n i) (bit_at (bit_not w128 (1 * 2 ^ k % 2 ^ bits w128)) i) (bit_at_above n 128 i small j))
   where
     none : (x y : ℕ) → x ≡ 0 → min x y ≡ 0
     none x y e = omega (arith, e)
@@ -115,7 +115,7 @@ nonzero : (p : ℕ) → 0 < p → not (p == 0) ≡ true
 nonzero p h = grind (arith, nat_tests)
 
 -- `bits & 1 << k` isn't 0
-pub tested : (n k : ℕ) → k < 64 → not (bit_and n (1 * 2 ^ k % 2 ^ bits w128) == 0) ≡ has_bit n k
+pub tested : (n k : ℕ) → k < 128 → not (bit_and n (1 * 2 ^ k % 2 ^ bits w128) == 0) ≡ has_bit n k
 tested n k l =
     let one : 1 * 2 ^ k % 2 ^ bits w128 ≡ 2 ^ k = one_shl k 128 (omega arith) in
     ap (λ x. not (bit_and n x == 0)) one ∙ ap (λ x. not (x == 0)) (and_pow n k) ∙ by_bit (bit_at n k) (bit_at-lt n k)
@@ -126,5 +126,5 @@ tested n k l =
     by_bit (suc (suc x)) h = absurd (omega arith)
 
 -- the flag of a place that was set
-pub set_here : (fs : List Bool) (k : ℕ) (b : Bool) → length fs ≡ 64 → k < 64 → get_or (set fs k b) k false ≡ b
+pub set_here : (fs : List Bool) (k : ℕ) (b : Bool) → length fs ≡ 128 → k < 128 → get_or (set fs k b) k false ≡ b
 set_here fs k b long l = get_or-set_same fs k b false (omega (arith, long))

@@ -1,5 +1,6 @@
 -- Lists by their places.
-use Rattle.std.proofs.Common.{◌≡◌, ℕ, zero, suc, ◌<◌, Bool, false, ◌||◌, List, [], ◌∷◌, map, length, get_or, replicate, refl, ap₂, arith}
+use Rattle.std.proofs.Common.{◌≡◌, ℕ, zero, suc, ◌<◌, Bool, false, ◌||◌, List, [], ◌∷◌, map, take, length, get_or, replicate, refl, ap₂, arith}
+use Rattle.std.proofs.lemmas.List.{length-take}
 use Rattle.ds_watch.specs.Mask.{either}
 
 pub either_by_place : (ms ns rs : List Bool) → length ms ≡ length ns → length rs ≡ length ms → ((k : ℕ) → k < length ms → get_or rs k false ≡ get_or ms k false || get_or ns k false) → rs ≡ either ms ns
@@ -21,3 +22,9 @@ replicate_by_place x d zero [] l h = refl
 replicate_by_place x d zero (y ∷ ys) l h = absurd (omega arith)
 replicate_by_place x d (suc n) [] l h = absurd (omega arith)
 replicate_by_place x d (suc n) (y ∷ ys) l h = ap₂ ◌∷◌ (h 0 (omega arith)) (replicate_by_place x d n ys (omega arith) (λ k m. h (suc k) (omega arith)))
+
+-- a place of the first ones
+pub place_within : {X : Type 0} (n i : ℕ) (xs : List X) → i < length (take n xs) → (i < n) × (i < length xs)
+place_within n i xs l =
+    let few = length-take n xs in
+    (omega (arith, l, few), omega (arith, l, few))

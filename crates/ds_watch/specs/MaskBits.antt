@@ -7,13 +7,13 @@ use Rattle.std.proofs.lemmas.Nat.Bits.{bit_at_lowest, bit_at-suc, bit_at-zero, b
 use Rattle.std.specs.Int.{bit_at}
 use Rattle.ds_watch.specs.Mask.{mask, has_bit, flags}
 
-pub flags_long : (n : ℕ) → length (flags n) ≡ 64
+pub flags_long : (n : ℕ) → length (flags n) ≡ 128
 unfolding flags
-flags_long n = length-map-range_with_len (has_bit n) 0 64
+flags_long n = length-map-range_with_len (has_bit n) 0 128
 
-pub flag_at : (n i : ℕ) → i < 64 → get_or (flags n) i false ≡ has_bit n i
+pub flag_at : (n i : ℕ) → i < 128 → get_or (flags n) i false ≡ has_bit n i
 unfolding flags
-flag_at n i l = get_or-map-range_with_len (has_bit n) 0 64 i i false l (omega arith)
+flag_at n i l = get_or-map-range_with_len (has_bit n) 0 128 i i false l (omega arith)
 
 lowest : (b : Bool) (m : ℕ) → (cond b 1 0 + 2 * m) % 2 ≡ cond b 1 0
 lowest true m = omega arith
@@ -46,11 +46,11 @@ as_bit zero l = refl
 as_bit (suc zero) l = refl
 as_bit (suc (suc n)) l = absurd (omega arith)
 
-small_at : (m k : ℕ) → m < 2 ^ k → k ≡ 64 → m < 2 ^ 64
-small_at m k h e = let at : 2 ^ k ≡ 2 ^ 64 = ap (λ n. 2 ^ n) e in omega (arith, h, at)
+small_at : (m k : ℕ) → m < 2 ^ k → k ≡ 128 → m < 2 ^ 128
+small_at m k h e = let at : 2 ^ k ≡ 2 ^ 128 = ap (λ n. 2 ^ n) e in omega (arith, h, at)
 
 -- the mask of a number's flags is the number
-pub mask_flags : (n : ℕ) → n < 2 ^ 64 → mask (flags n) ≡ n
+pub mask_flags : (n : ℕ) → n < 2 ^ 128 → mask (flags n) ≡ n
 mask_flags n small =
-    same_from_bits_below 64 (mask (flags n)) n (small_at (mask (flags n)) (length (flags n)) (mask_small (flags n)) (flags_long n)) small
+    same_from_bits_below 128 (mask (flags n)) n (small_at (mask (flags n)) (length (flags n)) (mask_small (flags n)) (flags_long n)) small
     (λ i l. mask_bit (flags n) i ∙ ap (λ b. cond b 1 0) (flag_at n i l) ∙ as_bit (bit_at n i) (bit_at-lt n i))

@@ -5,7 +5,7 @@ ghost use Rattle.ds_watch.specs.Mask.{mask, either};
 
 use std::marker::Model;
 
-/// Some of the subscriptions, each by the bit of its number. Of the 128 bits 64 are used.
+/// Some of the subscriptions, each by the bit of its number.
 #[derive(Clone, Copy, Debug)]
 pub struct Mask {
     bits: u128,
@@ -20,7 +20,7 @@ impl Model for Mask {
 
     ghost view = { λ m. flags m.bits };
 
-    ghost invariant = { λ m. m.bits < 2 ^ 64 };
+    ghost invariant = { λ m. m.bits < 2 ^ 128 };
 
     ghost inverse = { λ fs. record { bits = mask fs } };
 
@@ -30,14 +30,14 @@ impl Model for Mask {
 impl Mask {
     /// None of the subscriptions.
     pub fn none() -> Mask
-        ensures { result ≡ replicate 64 false }
+        ensures { result ≡ replicate 128 false }
     {
         Mask { bits: 0 }
     }
 
     /// Whether the subscription with this number is one of them.
     pub fn has(self, sub: usize) -> bool
-        requires { sub < 64 }
+        requires { sub < 128 }
         ensures { result ≡ slice_index_or self sub false }
     {
         self.bits & (1 << sub) != 0
@@ -45,7 +45,7 @@ impl Mask {
 
     /// These with or without the subscription with this number.
     pub fn put(self, sub: usize, is_in: bool) -> Mask
-        requires { sub < 64 }
+        requires { sub < 128 }
         ensures value { result ≡ slice_set self sub is_in }
         ensures here { slice_index_or result sub false ≡ is_in }
     {
@@ -58,7 +58,7 @@ impl Mask {
 
     // These and the subscription with this number.
     fn with(self, sub: usize) -> Mask
-        requires { sub < 64 }
+        requires { sub < 128 }
         ensures value { result ≡ slice_set self sub true }
         ensures here { slice_index_or result sub false ≡ true }
     {
@@ -69,7 +69,7 @@ impl Mask {
 
     // These without the subscription with this number.
     fn without(self, sub: usize) -> Mask
-        requires { sub < 64 }
+        requires { sub < 128 }
         ensures value { result ≡ slice_set self sub false }
         ensures here { slice_index_or result sub false ≡ false }
     {
@@ -86,9 +86,10 @@ impl Mask {
     }
 
     /// The mask as a number, in which the bit of a subscription is its number.
-    pub fn number(self) -> u64
+    pub fn number(self) -> u128
         ensures { result ≡ mask self }
     {
-        self.bits as u64
+        let Mask { bits } = self;
+        bits
     }
 }

@@ -32,7 +32,7 @@ impl Masks {
 
     /// Whether it is to be shown to the subscription with this number.
     pub fn is_unseen(self, sub: usize) -> bool
-        requires { sub < 64 }
+        requires { sub < 128 }
         ensures { result ≡ slice_index_or self.unseen sub false }
     {
         self.unseen.has(sub)
@@ -40,7 +40,7 @@ impl Masks {
 
     /// After it was shown to the subscription with this number.
     pub fn shown_to(self, sub: usize) -> Masks
-        requires { sub < 64 }
+        requires { sub < 128 }
         ensures { result ≡ shown_to sub self }
     {
         Masks {
@@ -52,7 +52,7 @@ impl Masks {
     /// After the subscription with this number was made, where its key is under the query or not. It is then
     /// to be shown to it with `initial` alone.
     pub fn made_at(self, sub: usize, is_under: bool, initial: bool) -> Masks
-        requires { sub < 64 }
+        requires { sub < 128 }
         ensures made { result ≡ made_at sub is_under initial self }
         ensures here { slice_index_or result.unseen sub false ≡ is_under && initial }
     {

@@ -1,7 +1,8 @@
 //! The places of all subscriptions.
 
-ghost use Rattle.std.specs.Prelude.{◌≡◌, ◌<◌, None, Some, map, replicate, slice_index_or, slice_set, IfOk};
+ghost use Rattle.std.specs.Prelude.{◌≡◌, ◌<◌, ◌≤◌, None, Some, is_some, length, map, replicate, slice_index_or, slice_set, IfOk};
 ghost use Rattle.std.specs.Option.{option_map, option_copied};
+ghost use Rattle.ds_watch.specs.Mask.{padded};
 ghost use Rattle.ds_watch.specs.Watching.{watches, stamped};
 
 use crate::mask::Mask;
@@ -10,71 +11,89 @@ use ds_names::{Key, NoRoom};
 use std::alloc::Global;
 use std::marker::Model;
 
-// How many subscriptions there can be.
-const PLACES: usize = 64;
+// How many subscriptions there can be at most.
+const MOST_PLACES: usize = 128;
 
-/// A place for each of 64 subscriptions.
+/// A place for each subscription, of which there are at most 128.
 #[derive(Drop)]
 pub struct Subscriptions {
-    places: [Option<Subscription>; PLACES],
+    places: [Option<Subscription>; MOST_PLACES],
+    count: usize,
 }
 
 impl Model for Subscriptions {
-    ghost use Rattle.std.specs.Prelude.{◌≡◌, List, Option, length};
+    ghost use Rattle.std.specs.Prelude.{◌≡◌, ◌≤◌, List, Option, length, take};
     ghost use Rattle.ds_watch.specs.Watching.{Watching};
 
     ghost Value = { List (Option Watching) };
 
-    ghost view = { λ s. s.places };
+    ghost view = { λ s. take s.count s.places };
 
-    ghost invariant = { λ s. length s.places ≡ 64 };
+    ghost invariant = { λ s. (length s.places ≡ 128) × (s.count ≤ 128) };
 }
 
 impl Subscriptions {
-    /// No subscription is made yet. It takes no memory.
-    pub fn new() -> Subscriptions
-        ensures { result ≡ replicate 64 None }
+    /// So many places, at which no subscription is made yet. It takes no memory.
+    pub fn new(places: usize) -> Subscriptions
+        requires { places ≤ 128 }
+        ensures { result ≡ replicate places None }
     {
         Subscriptions {
             places: Default::default(),
+            count: places,
         }
     }
 
     /// The subscription with this number.
     pub fn get(&self, sub: usize) -> Option<&Subscription>
-        requires { sub < 64 }
+        requires { sub < length self.now }
         ensures { option_copied result ≡ slice_index_or self.now sub None }
     {
+        let _count = self.count;
         self.places[sub].as_ref()
     }
 
     /// The subscription with this number is made anew. It takes no memory.
     pub fn put(&mut self, sub: usize, subscription: Subscription)
-        requires { sub < 64 }
+        requires { sub < length self.old }
         ensures { self.new ≡ slice_set self.old sub (Some subscription) }
     {
+        let _count = self.count;
         self.places[sub] = Some(subscription);
     }
 
     /// The subscription with this number was checked, at this stamp.
     pub fn set_stamp(&mut self, sub: usize, stamp: u64)
-        requires { sub < 64 }
+        requires { sub < length self.old }
         ensures { self.new ≡ slice_set self.old sub (option_map (stamped stamp) (slice_index_or self.old sub None)) }
     {
+        let _count = self.count;
         if let Some(subscription) = &mut self.places[sub] {
             subscription.set_stamp(stamp);
         }
     }
 
-    /// The subscriptions to which changes of the key are owed. It asks their patterns, which takes memory.
+    /// The subscriptions to which changes of the key are owed, of which none stands behind the last place. It
+    /// asks their patterns, which takes memory.
     pub fn owed(&self, alloc: Global, key: &Key) -> Result<Mask, NoRoom>
-        ensures { IfOk result (λ owed. owed ≡ map (watches key.now) self.now) }
+        ensures { IfOk result (λ owed. owed ≡ padded (map (watches key.now) self.now)) }
     {
         let mut owed = Mask::none();
-        for i in 0..PLACES {
+        for i in 0..self.count {
             owed = owed.put(i, is_owed(alloc, &self.places[i], key)?);
         }
         Ok(owed)
+    }
+
+    /// The subscriptions that are made: what is owed whatever the key is owed to each of them.
+    pub fn made(&self) -> Mask
+        ensures { result ≡ padded (map is_some self.now) }
+    {
+        let mut made = Mask::none();
+        for i in 0..self.count {
+            made = made.put(i, self.places[i].is_some());
+        }
+        made
     }
 }
 

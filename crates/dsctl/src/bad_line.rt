@@ -169,7 +169,7 @@ fn wanted(expected: Expected) -> &'static str {
         Expected::Mode => "`new` or `over` was expected",
         Expected::Equals => "`=` and a value were expected",
         Expected::Generation => "GENERATION was expected, 0 to 2097151 with no zero before it",
-        Expected::Sub => "SUB was expected, 0 to 63 (four for each of 16 servers)",
+        Expected::Sub => "SUB was expected, 0 to 127 (eight for each of 16 servers)",
         Expected::Max => "MAX was expected, 1 to 256",
         Expected::Pattern => {
             "PATTERN was expected, in quotes, with \\\" and \\\\ for a quote and a backslash"

@@ -40,7 +40,7 @@ The other answers are `taken`, `known` for a repeat, `stale`, and `refused` with
 ENDPOINT are GENERATION/SLOT; 0/2 is RS, which alone publishes labels and sweeps. An entry but a label
 has its caller's generation as its epoch.
 
-SUB is 0 to 63, four for each of 16 servers; MAX is 1 to 256. PATTERN is a regular expression in quotes that
+SUB is 0 to 127, eight for each of 16 servers; MAX is 1 to 256. PATTERN is a regular expression in quotes that
 matches a whole name, with \\\" and \\\\ for a quote and a backslash; KINDS is the sum of 1 for label, 2 for
 u32, 4 for str and 8 for mem; J counts maps from 0, 64 at most. Behind an answer stands `owed MASK` where
 something came under the queries of some subscriptions: in hex, with the bit of each SUB.
@@ -71,8 +71,8 @@ Lines of a script (`dsctl --help` explains them):
   show                                            print the entries
   all                                             print tombstones too
 
-Limits: NAME 64 bytes, str 256, mem 1024, PATTERN 128, a line 4096; 1024 keys,
-64 subscriptions (SUB 0 to 63, four a server), 64 maps, MAX 256.";
+Limits: NAME 64 bytes, str 256, mem 1024, PATTERN 128, a line 4096; 4096 keys,
+128 subscriptions (SUB 0 to 127, eight a server), 64 maps, MAX 256.";
 
 pub(crate) const AFTER_HELP: &str = "\
 Example session (lines behind `>` are typed, the others are printed):
@@ -88,7 +88,7 @@ Example session (lines behind `>` are typed, the others are printed):
   shown 2
 
 Words behind `refused`, in the order in which they are judged:
-  badsub      SUB is above 63
+  badsub      SUB is above 127
   mapsfull    64 maps are there already
   nomap       there is no map J: `map` makes them, and counts from 0
   toomany     MAX is 0, or above 256: ask for 256, and again
@@ -105,7 +105,7 @@ Words behind `refused`, in the order in which they are judged:
   stale       a greater version is held: the change comes too late
   exists      say `over` to replace it
   notfound    there is no such live entry, label or subscription
-  full        1024 keys are held, tombstones too
+  full        4096 keys are held, tombstones too
   noroom      memory was wanting, or PATTERN compiles to too much: `[a-z0-9]`
               takes far less than `\\w`
 

@@ -79,17 +79,25 @@ fn is_copied(rt: &impl Abort, alloc: Global, value: Value) {
 
 #[test]
 fn a_full_holder(rt: HostRuntime) {
-    let mut held = holder(&rt, rt.alloc(), "a", 1024);
+    let mut held = holder(&rt, rt.alloc(), "a", 4096);
     assert!(rt; held.merge(put(&rt, "b", 3, 17)) == Err(JoinFault::Full));
     takes(&rt, &mut held, put(&rt, "a7", 4, 17));
-    let mut left = holder(&rt, rt.alloc(), "a", 600);
-    let right = holder(&rt, rt.alloc(), "b", 600);
+    let mut few = holder(&rt, rt.alloc(), "a", 600);
+    joins(
+        &rt,
+        rt.alloc(),
+        &mut few,
+        &holder(&rt, rt.alloc(), "b", 600),
+    );
+    assert!(rt; few.len() == 1200);
+    let mut left = holder(&rt, rt.alloc(), "a", 2400);
+    let right = holder(&rt, rt.alloc(), "b", 2400);
     let stop = Stop {
-        done: 424,
+        done: 1696,
         fault: JoinFault::Full,
     };
     assert!(rt; left.join(rt.alloc(), &right) == Err(stop));
-    assert!(rt; left.len() == 1024);
+    assert!(rt; left.len() == 4096);
     left.clear();
     assert!(rt; left.len() == 0);
 }

@@ -13,8 +13,8 @@ use ds_store::{Command, Reply, Store};
 use std::process::ExitCode;
 use std::rt::Runtime;
 
-// The first of the four subscriptions of server 5.
-const INET: u32 = 20;
+// The first of the eight subscriptions of server 5.
+const INET: u32 = 40;
 
 fn main(rt: HostRuntime) -> ExitCode {
     match example(&rt) {

@@ -18,7 +18,7 @@ const ROWS: [Row; 4] = [
     },
     Row {
         script: b"subscribe 5 \"eth.*\" 15 later new\noffer eth0 label rs 3.1 -\ncheck 5 4\nmap \".*\" 15\nentries 0\n",
-        answers: b"subscribed 1\ntaken\nowed 0000000000000020\neth0 label rs 3.1 -\nchecked 1 1 2\nmap 0\nshown 0\n",
+        answers: b"subscribed 1\ntaken\nowed 00000000000000000000000000000020\neth0 label rs 3.1 -\nchecked 1 1 2\nmap 0\nshown 0\n",
         end: Ok(5),
     },
     Row {

@@ -38,7 +38,7 @@ fn has_any(flags: &[bool]) -> bool
 }
 
 // The bit of the subscription, where with INITIAL something is to be shown to it.
-fn own_bit(sub: u32, initial: bool, some: bool) -> u64
+fn own_bit(sub: u32, initial: bool, some: bool) -> u128
     requires { sub < places }
     ensures { result ≡ cond (initial && some) (2 ^ sub) 0 }
 {

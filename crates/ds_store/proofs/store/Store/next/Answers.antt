@@ -13,5 +13,5 @@ returns-clause-in_order c = subst (λ (hs : List ChangeRecord). IsStrictlySorted
 
 pub returns-clause-few : goal.returns-clause-few
 returns-clause-few c =
-    let few : length (held_changes c.held-held.result.now) ≤ 1024 = omega (arith, count_held c.held-held.result.now, c.len-count.ensures.count, c.len-count.ensures.few) in
-    subst (λ (hs : List ChangeRecord). length hs ≤ 1024) (ap held_changes c.held-held.ensures.value ∙ ap (λ (v : Content). v.held) c.self.view_is) few
+    let few : length (held_changes c.held-held.result.now) ≤ 4096 = omega (arith, count_held c.held-held.result.now, c.len-count.ensures.count, c.len-count.ensures.few) in
+    subst (λ (hs : List ChangeRecord). length hs ≤ 4096) (ap held_changes c.held-held.ensures.value ∙ ap (λ (v : Content). v.held) c.self.view_is) few

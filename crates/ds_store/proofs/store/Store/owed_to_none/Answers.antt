@@ -8,6 +8,6 @@ use Rattle.ds_store.proofs.store.Store.owed_to_none.Goals as goal
 
 pub returns : goal.returns
 returns c = λ s stands.
-    let long : length c.args.self.now.subscriptions ≡ 64 =
+    let long : length c.args.self.now.subscriptions ≡ 128 =
     ap (λ (v : Content). length v.subscriptions) (sym c.self.view_is) ∙ length_from (held_changes c.self.inside.held.held) (unseen_at c.self.inside.held.marks) 0 c.self.inside.subscriptions ∙ c.self.invariant.places in
     c.none.ensures ∙ nothing_owed c.args.self.now s long stands

@@ -20,7 +20,7 @@ returns-clause-step c = λ s stands.
     let at : c.self.inside.position ≡ v.position = ap (λ (x : Content). x.position) c.self.view_is in
     let fits : v.position + length (tombstones v.held c.args.owner.now c.args.generation) ≤ last_place = omega (arith, at, c.if-count-self.false, c.count_swept-count.ensures.count, c.self.invariant.position) in
     let all = tombstones v.held c.args.owner.now c.args.generation in
-    let long : length v.subscriptions ≡ 64 =
+    let long : length v.subscriptions ≡ 128 =
     ap (λ (x : Content). length x.subscriptions) (sym c.self.view_is) ∙ length_from (held_changes c.self.inside.held.held) (unseen_at c.self.inside.held.marks) 0 c.self.inside.subscriptions ∙ c.self.invariant.places in
     let bits : c.number.result ≡ owed s (tombstones (tops s.accepted) c.args.owner.now c.args.generation) =
     c.number.ensures ∙ ap mask (c.end_all-owed.ensures.owed ∙ all_owed v s all long stands) ∙ ap (λ (hs : List ChangeRecord). owed s (tombstones hs c.args.owner.now c.args.generation)) stands.held in (

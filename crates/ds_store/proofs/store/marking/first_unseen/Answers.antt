@@ -16,7 +16,7 @@ pub overflow_add-passed : goal.overflow_add-passed
 overflow_add-passed c =
     let hs = held_changes c.args.held.now.held in
     let within : c.loop-alloc.passed < length hs = slice_get_within hs c.loop-alloc.passed c.in-Some.change.now (sym c.in-Some.ensures.change) in
-    let short : length hs ≤ 1024 = omega (arith, count_held c.held.result.now, c.len-count.ensures.count, c.len-count.ensures.few, ap (λ (h : Holding). length (held_changes h)) c.held.ensures.value) in
+    let short : length hs ≤ 4096 = omega (arith, count_held c.held.result.now, c.len-count.ensures.count, c.len-count.ensures.few, ap (λ (h : Holding). length (held_changes h)) c.held.ensures.value) in
     omega (arith, within, short)
 
 pub loop-alloc-smaller : goal.loop-alloc-smaller

@@ -1,11 +1,12 @@
-use Rattle.std.proofs.Common.{◌≡◌, ℕ, ◌<◌, None, false, length, get_or}
+use Rattle.std.proofs.Common.{◌≡◌, ℕ, ◌<◌, ◌≤◌, None, false, length, get_or}
 use Rattle.ds_watch.specs.Watching.{watches}
 use Rattle.ds_watch.proofs.subscriptions.Subscriptions.owed.Given as goal
 
--- the flags so far are those of the places
+-- the flags so far are those of the places, and behind them none is set
 abbrev pub invariant-loop-i : goal.invariant-loop-i
 invariant-loop-i l = record {
-  long : length l.owed ≡ 64;
-  places : length l.self-inside.places ≡ 64;
+  long : length l.owed ≡ 128;
+  places : length l.self-inside.places ≡ 128;
   done : (k : ℕ) → k < l.i → get_or l.owed k false ≡ watches l.key (get_or l.self-inside.places k None);
+  rest : (k : ℕ) → l.i ≤ k → get_or l.owed k false ≡ false;
 }

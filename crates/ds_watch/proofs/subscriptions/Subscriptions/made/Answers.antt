@@ -1,0 +1,20 @@
+use Rattle.std.proofs.Common.{List, Bool, Option, None, is_some, false, map, length, replicate, get_or, ap, ◌∙◌, arith}
+use Rattle.std.proofs.lemmas.List.{length-replicate}
+use Rattle.ds_watch.specs.Mask.{padded}
+use Rattle.ds_watch.specs.Watching.{Watching}
+use Rattle.ds_watch.proofs.PaddedLemmas.{padded_by_place, no_flag}
+use Rattle.ds_watch.proofs.subscriptions.Subscriptions.made.Goals as goal
+
+pub returns : goal.returns
+returns c =
+    let i = c.loop-i.invariant in
+    padded_by_place (is_some) None c.self.inside.count c.self.inside.places c.loop-i.made i.long i.places (omega arith) (λ k l. i.done k (omega arith)) (λ k l. i.rest k (omega arith))
+    ∙ ap (λ (ws : List (Option Watching)). padded (map (is_some) ws)) c.self.view_is
+
+pub loop-i-init : goal.loop-i-init
+loop-i-init c = record {
+  long = ap (λ (fs : List Bool). length fs) c.none-made.ensures ∙ length-replicate {A = Bool} 128 false;
+  places = c.self.invariant.0;
+  done = λ k l. absurd (omega (arith, l));
+  rest = λ k l. ap (λ (fs : List Bool). get_or fs k false) c.none-made.ensures ∙ no_flag 128 k;
+}
