@@ -3,15 +3,15 @@
 use ds_names::Kind;
 
 /// A part of a line, by what it says. Readers of lines note the part that they read next, so that where one can't be
-/// read it is the part that was expected. Those of changes stand first; the others are for whoever reads lines of its
-/// own.
+/// read it is the part that was expected. Those of changes and floors stand first; the others are for whoever reads lines
+/// of its own.
 #[derive(Clone, Copy, Debug, PartialEq, Eq)]
 pub enum Expected {
     /// The space before another part.
     Space,
     Name,
     Kind,
-    /// The owner of a change.
+    /// The owner of a change or a floor.
     Owner,
     Epoch,
     /// The dot between an epoch and a sequence number.

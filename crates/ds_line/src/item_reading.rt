@@ -6,10 +6,11 @@ ghost use Rattle.ds_line.specs.FloorPiece.{ReadsFloor};
 ghost use Rattle.ds_line.specs.ItemFault.{IsItemFaultIn};
 ghost use Rattle.ds_line.specs.ItemSpelling.{item_spelling};
 
+use crate::expected::Expected;
 use crate::fault::LineFault;
 use crate::part_fault::{PartFault, stop_at};
 use crate::parts::{behind_name, name_at};
-use crate::reading::read_change;
+use crate::reading::read_change_noting;
 use ds_entry::{Floor, Item};
 use ds_names::{Generation, read_byte, read_decimal};
 use std::alloc::Global;
@@ -25,13 +26,29 @@ pub fn read_item(alloc: Global, bytes: &[u8]) -> Result<(Item, usize), LineFault
     ensures length { IfOk result (λ r. r.1 ≡ length (item_spelling r.0)) }
     ensures fault { IfErr result (λ fault. IsItemFaultIn fault bytes.now) }
 {
+    let mut expected = Expected::Name;
+    read_item_noting(alloc, bytes, &mut expected)
+}
+
+/// Reads an item as `read_item` does, and notes the part that it reads next: at BadLine it is the part that begins at
+/// the place.
+pub fn read_item_noting(
+    alloc: Global,
+    bytes: &[u8],
+    expected: &mut Expected,
+) -> Result<(Item, usize), LineFault>
+    ensures line { IfOk result (λ r. IsItem r.0) }
+    ensures found { IfOk result (λ r. take r.1 bytes.now ≡ item_spelling r.0) }
+    ensures length { IfOk result (λ r. r.1 ≡ length (item_spelling r.0)) }
+    ensures fault { IfErr result (λ fault. IsItemFaultIn fault bytes.now) }
+{
     let Some(_behind) = read_byte(bytes, b'!') else {
-        return match read_change(alloc, bytes) {
+        return match read_change_noting(alloc, bytes, expected) {
             Ok((change, length)) => Ok((Item::Change(change), length)),
             Err(fault) => Err(fault),
         };
     };
-    match floor_at(bytes) {
+    match floor_at(bytes, expected) {
         Ok((floor, left)) => {
             let length = bytes.len() - left;
             Ok((Item::Floor(floor), length))
@@ -45,28 +62,34 @@ pub fn read_item(alloc: Global, bytes: &[u8]) -> Result<(Item, usize), LineFault
 }
 
 // Reads a floor from its mark on, and gives how many bytes are left behind its line.
-fn floor_at(bytes: &[u8]) -> Result<(Floor, usize), PartFault>
+fn floor_at(bytes: &[u8], expected: &mut Expected) -> Result<(Floor, usize), PartFault>
     ensures { ReadsFloor bytes.now result }
 {
+    *expected = Expected::Name;
     let Some(rest) = read_byte(bytes, b'!') else {
         return Err(stop_at(bytes));
     };
+    *expected = Expected::Space;
     let Some(at) = read_byte(rest, b' ') else {
         return Err(stop_at(rest));
     };
+    *expected = Expected::Owner;
     let Some(owner) = name_at(at) else {
         return Err(stop_at(at));
     };
     let rest = behind_name(at, &owner);
+    *expected = Expected::Space;
     let Some(at) = read_byte(rest, b' ') else {
         return Err(stop_at(rest));
     };
+    *expected = Expected::Generation;
     let Some((number, rest)) = read_decimal(at, 2097151) else {
         return Err(stop_at(at));
     };
     let Some(generation) = Generation::of(number as u32) else {
         return Err(stop_at(at));
     };
+    *expected = Expected::End;
     let Some(rest) = read_byte(rest, b'\n') else {
         return Err(stop_at(rest));
     };

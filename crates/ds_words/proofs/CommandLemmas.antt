@@ -11,14 +11,15 @@ use Rattle.ds_names.specs.declared.key.Key.{Key}
 use Rattle.ds_names.specs.declared.version.Version.{Version}
 use Rattle.ds_entry.specs.declared.body.Body.TheVariants.{Put}
 use Rattle.ds_line.specs.Part.{Part, part, byte, texts, Word, Name, Number, Endpoint, Quoted}
-use Rattle.ds_line.specs.Spelling.{space, newline, kind_word, quoted, value_part, body_parts, change_parts}
+use Rattle.ds_line.specs.Spelling.{space, newline, kind_word, quoted, value_part, body_parts}
+use Rattle.ds_line.specs.ItemSpelling.{item_parts}
 use Rattle.ds_line.specs.LastNewline.{EndsLine}
 use Rattle.ds_line.specs.FaultPlace.{Stand}
 use Rattle.ds_line.specs.Piece.{Found, Breaks, StopsIn}
 use Rattle.ds_line.specs.declared.part_fault.PartFault.TheVariants.{BadPart}
 use Rattle.ds_line.proofs.PartLemmas.{part_one}
-use Rattle.ds_line.proofs.LineLemmas.{AllStand, stand_length, part_stands, byte_stands, name_stands, body_stands, change_stands}
-use Rattle.ds_line.proofs.NewlineLemmas.{line_ends}
+use Rattle.ds_line.proofs.LineLemmas.{AllStand, stand_length, part_stands, byte_stands, name_stands, body_stands}
+use Rattle.ds_line.proofs.ItemLemmas.{item_ends}
 use Rattle.ds_line.proofs.PieceLemmas.{stand_texts}
 use Rattle.ds_words.specs.declared.command.ScriptCommand.{ScriptCommand}
 use Rattle.ds_words.specs.declared.command.ScriptCommand.TheVariants.{Offer, Show, All as Everything, Publish, Delete, Sweep, Retrieve, NameOf, Subscribe, Check, Map, Entries}
@@ -26,11 +27,12 @@ use Rattle.ds_words.specs.declared.word.Word.TheVariants as words
 use Rattle.ds_words.specs.declared.word.Word.{Word as CommandWord}
 use Rattle.ds_words.specs.Command.{word_of, behind_word, command_parts, IsCommand, IsCommandFault, initial_word, mode_word, key_parts, version_parts, query_parts}
 use Rattle.ds_words.specs.Pieces.{taken_by, text_of}
+use Rattle.ds_words.proofs.OfferLemmas.{item_stands}
 
 -- ---- words
 
 word_is : (command : ScriptCommand) → list_all is_ascii_alphanumeric (word_of command) ≡ true
-word_is (Offer c) = refl
+word_is (Offer i) = refl
 word_is Show = refl
 word_is Everything = refl
 word_is (Publish caller key version value overwrite) = refl
@@ -45,7 +47,7 @@ word_is (Entries map) = refl
 
 -- each command begins with one of the words
 pub word_there : (command : ScriptCommand) → (word : CommandWord) × (word_of command ≡ text_of word)
-word_there (Offer c) = (words.Offer, refl)
+word_there (Offer i) = (words.Offer, refl)
 word_there Show = (words.Show, refl)
 word_there Everything = (words.All, refl)
 word_there (Publish caller key version value overwrite) = (words.Publish, refl)
@@ -93,7 +95,7 @@ delete_stands key version =
     (byte_stands 10 [] [] refl)))))))
 
 pub command_stands : (command : ScriptCommand) → AllStand (behind_word command) []
-command_stands (Offer c) = byte_stands 32 (change_parts c) [] (change_stands c [])
+command_stands (Offer i) = byte_stands 32 (item_parts i) [] (item_stands i [])
 command_stands Show = byte_stands 10 [] [] refl
 command_stands Everything = byte_stands 10 [] [] refl
 command_stands (Publish caller key version value overwrite) =
@@ -179,7 +181,7 @@ command_stands (Entries map) =
 
 -- the line's word stands at its front
 pub word_begins : (command : ScriptCommand) (line : List ℕ) → line ≡ texts (command_parts command) → Begins is_ascii_alphanumeric line (word_of command) (texts (behind_word command))
-word_begins (Offer c) line is = record { parts = is; ends = refl }
+word_begins (Offer i) line is = record { parts = is; ends = refl }
 word_begins Show line is = record { parts = is; ends = refl }
 word_begins Everything line is = record { parts = is; ends = refl }
 word_begins (Publish caller key version value overwrite) line is = record { parts = is; ends = refl }
@@ -259,7 +261,7 @@ last_newline : (parts : List Part) → (front : List ℕ) × (texts (parts ++ ne
 last_newline parts = (texts parts, flat_map-append (λ (p : Part). p.text) parts (newline ∷ []))
 
 newline_last : (command : ScriptCommand) → IsCommand command → (front : List ℕ) × (texts (behind_word command) ≡ front ++ 10 ∷ [])
-newline_last (Offer c) is = let e = line_ends c is in (32 ∷ e.front, ap (λ (t : List ℕ). 32 ∷ t) e.parts)
+newline_last (Offer i) is = let e = item_ends i is in (32 ∷ e.front, ap (λ (t : List ℕ). 32 ∷ t) e.parts)
 newline_last Show is = ([], refl)
 newline_last Everything is = ([], refl)
 newline_last (Publish caller key version value overwrite) is =

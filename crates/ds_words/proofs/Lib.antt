@@ -1,6 +1,7 @@
 pub mod ResultLemmas
 pub mod NewlineLemmas
-pub mod ChangeLemmas
+pub mod ItemLemmas
+pub mod MaskLemmas
 pub mod PieceLemmas
 pub mod QueryLemmas
 pub mod OneLemmas

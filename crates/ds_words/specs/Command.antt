@@ -6,14 +6,16 @@ use Rattle.ds_names.specs.Endpoint.{IsEndpoint, endpoint_text}
 use Rattle.ds_names.specs.declared.key.Key.{Key}
 use Rattle.ds_names.specs.declared.version.Version.{Version}
 use Rattle.ds_entry.specs.declared.body.Body.TheVariants.{Put}
-use Rattle.ds_entry.specs.Change.{IsChange, IsBodyInPlace, IsInPlace}
+use Rattle.ds_entry.specs.Change.{IsInPlace}
+use Rattle.ds_entry.specs.Item.{IsItem, IsItemInPlace}
 use Rattle.ds_line.specs.Part.{Part, part, byte, texts, Word, Name, Number, Endpoint, Quoted}
-use Rattle.ds_line.specs.Spelling.{space, newline, kind_word, quoted, body_parts, change_parts}
+use Rattle.ds_line.specs.Spelling.{space, newline, kind_word, quoted, body_parts}
+use Rattle.ds_line.specs.ItemSpelling.{item_parts}
 use Rattle.ds_line.specs.FaultPlace.{IsFaultPlace}
 use Rattle.ds_line.specs.Piece.{IsValueOf}
 use Rattle.ds_pattern.specs.declared.query.Query.{Query}
-use Rattle.ds_store.specs.declared.command.Command.{Command}
-use Rattle.ds_store.specs.declared.command.Command.TheVariants as commands
+use Rattle.ds_machine.specs.declared.command.Command.{Command}
+use Rattle.ds_machine.specs.declared.command.Command.TheVariants as commands
 use Rattle.ds_words.specs.Lines.{ended, IsUnbroken}
 use Rattle.ds_words.specs.declared.fault.CommandFault.{CommandFault}
 use Rattle.ds_words.specs.declared.fault.CommandFault.TheVariants.{BadLine, NoRoom}
@@ -92,7 +94,7 @@ query_parts query = part Quoted (quoted query.text) ∷ space ∷ part Number (d
 
 -- the word of a command
 abbrev pub word_of : ScriptCommand → List ℕ
-word_of (Offer c) = offer_word
+word_of (Offer i) = offer_word
 word_of Show = show_word
 word_of All = all_word
 word_of (Publish caller key version value overwrite) = publish_word
@@ -107,7 +109,7 @@ word_of (Entries map) = entries_word
 
 -- the parts behind it: what the command takes, and the newline
 abbrev pub behind_word : ScriptCommand → List Part
-behind_word (Offer c) = space ∷ change_parts c
+behind_word (Offer i) = space ∷ item_parts i
 behind_word Show = newline ∷ []
 behind_word All = newline ∷ []
 behind_word (Publish caller key version value overwrite) =
@@ -145,7 +147,7 @@ pub record IsQuery (query : Query) : Type 0 where
 -- What a command takes is valid. But for an offer, the rules of labels and of sequence numbers aren't judged here: the
 -- store judges what is published.
 abbrev pub IsCommand : ScriptCommand → Type 0
-IsCommand (Offer c) = IsChange c
+IsCommand (Offer i) = IsItem i
 IsCommand Show = Unit {0}
 IsCommand All = Unit {0}
 IsCommand (Publish caller key version value overwrite) = IsEndpoint caller × IsName key.name × IsVersion version × IsValueOf key.kind value
@@ -160,15 +162,15 @@ IsCommand (Entries map) = map < 2 ^ 64
 
 -- the command has a text, a blob or a pattern
 abbrev pub TakesMemory : ScriptCommand → Type 0
-TakesMemory (Offer c) = ¬ IsBodyInPlace c.body
+TakesMemory (Offer i) = ¬ IsItemInPlace i
 TakesMemory (Publish caller key version value overwrite) = ¬ IsInPlace value
 TakesMemory (Subscribe sub query initial overwrite) = Unit {0}
 TakesMemory (Map query) = Unit {0}
 TakesMemory _ = ⊥
 
--- what the line asks of a store takes no memory: it has no change, no value and no pattern, or the line asks nothing
+-- what the line asks of a store takes no memory: it has no item, no value and no pattern, or the line asks nothing
 abbrev pub is_plain : ScriptCommand → Bool
-is_plain (Offer c) = false
+is_plain (Offer i) = false
 is_plain Show = true
 is_plain All = true
 is_plain (Publish caller key version value overwrite) = false
@@ -183,7 +185,7 @@ is_plain (Entries map) = true
 
 -- what the line asks of a store: an offer is a Merge of one item
 abbrev pub store_command : ScriptCommand → Option Command
-store_command (Offer c) = Some (commands.Merge (c ∷ []))
+store_command (Offer i) = Some (commands.Merge (i ∷ []))
 store_command Show = None
 store_command All = None
 store_command (Publish caller key version value overwrite) = Some (commands.Publish caller key version value overwrite)

@@ -1,4 +1,5 @@
 pub mod Lines
 pub mod Command
+pub mod Owed
 pub mod Pieces
 pub mod Reply

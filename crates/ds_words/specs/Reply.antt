@@ -1,17 +1,23 @@
 -- The lines that answer a command, by the reply that a store gives to it.
-use Rattle.std.specs.Prelude.{ℕ, ◌==◌, if◌then◌else◌, List, [], ◌∷◌, ◌++◌, length, codes}
+use Rattle.std.specs.Prelude.{ℕ, ◌/◌, ◌==◌, if◌then◌else◌, Bool, true, false, List, [], ◌∷◌, ◌++◌, length, codes}
 use Rattle.std.specs.List.{flat_map}
 use Rattle.std.specs.Fmt.{decimal}
-use Rattle.std.specs.Int.{w128, to_be_bytes}
+use Rattle.std.specs.Int.{bytes_high_first}
 use Rattle.hex.specs.Hex.{encode_lower}
 use Rattle.ds_names.specs.declared.version.Version.{Version}
-use Rattle.ds_entry.specs.Change.{ChangeRecord}
-use Rattle.ds_line.specs.Spelling.{spelling, value_part}
-use Rattle.ds_store.specs.Owes.{owed_by}
-use Rattle.ds_store.specs.declared.refusal.Refusal.{Refusal}
-use Rattle.ds_store.specs.declared.refusal.Refusal.TheVariants as refusals
-use Rattle.ds_store.specs.declared.command.Reply.{Reply}
-use Rattle.ds_store.specs.declared.command.Reply.TheVariants.{Changed, Known, Swept, Found, Named, Subscribed, Checked, Merged, MergeStopped, Refused}
+use Rattle.ds_entry.specs.declared.item.Item.{Item}
+use Rattle.ds_line.specs.Spelling.{value_part}
+use Rattle.ds_line.specs.ItemSpelling.{item_spelling}
+use Rattle.ds_feed.specs.declared.cursor.Cursor.{Cursor}
+use Rattle.ds_feed.specs.declared.reading.Since.{Since}
+use Rattle.ds_feed.specs.declared.reading.Snapshot.{Snapshot}
+use Rattle.ds_feed.specs.declared.reading.Page.{Page}
+use Rattle.ds_held.specs.Limits.{LimitsRecord}
+use Rattle.ds_machine.specs.declared.refusal.Refusal.{Refusal}
+use Rattle.ds_machine.specs.declared.refusal.Refusal.TheVariants as refusals
+use Rattle.ds_machine.specs.declared.reply.Reply.{Reply}
+use Rattle.ds_machine.specs.declared.reply.Reply.TheVariants.{Changed, Known, Swept, Found, Named, Subscribed, Checked, Journaled, Snapped, Paged, Merged, MergeStopped, Refused}
+use Rattle.ds_words.specs.Owed.{owed_by}
 use Rattle.ds_words.specs.declared.command.ScriptCommand.{ScriptCommand}
 use Rattle.ds_words.specs.declared.command.ScriptCommand.TheVariants as asked
 use Rattle.ds_words.specs.declared.wording.Wording.{Wording}
@@ -34,6 +40,9 @@ refusal_word (refusals.Clash version) = codes "clash"
 refusal_word refusals.Stale = codes "stale"
 refusal_word refusals.Exists = codes "exists"
 refusal_word refusals.NotFound = codes "notfound"
+refusal_word refusals.OldCursor = codes "oldcursor"
+refusal_word refusals.Ahead = codes "ahead"
+refusal_word refusals.Behind = codes "behind"
 refusal_word refusals.Full = codes "full"
 refusal_word refusals.Worn = codes "worn"
 refusal_word refusals.NoRoom = codes "noroom"
@@ -59,7 +68,7 @@ refused refusal = codes "refused " ++ refusal_words refusal
 
 -- An offer's Merge is told by what became of its one item, each other command's by its counts.
 abbrev pub wording : ScriptCommand → Wording
-wording (asked.Offer c) = AsOffer
+wording (asked.Offer i) = AsOffer
 wording _ = AsMerge
 
 -- what became of a Merge, by how many items are done, took effect and were stale
@@ -76,6 +85,27 @@ stopped AsMerge done fault = codes "stopped " ++ (decimal done ++ 32 ∷ refusal
 abbrev pub checked : ℕ → ℕ → ℕ → List ℕ
 checked count before after = codes "checked " ++ (decimal count ++ 32 ∷ (decimal before ++ 32 ∷ decimal after))
 
+-- the incarnation and the position of a cursor
+abbrev pub cursor_text : Cursor → List ℕ
+cursor_text cursor = decimal cursor.incarnation ++ 32 ∷ decimal cursor.position
+
+-- how many items are given, and the cursor behind what was looked at
+abbrev pub journaled : Since → List ℕ
+journaled since = codes "since " ++ (decimal (length since.items) ++ 32 ∷ cursor_text since.cursor)
+
+-- how many items are held, and the cursor from which the journal goes on
+abbrev pub snapped : Snapshot → List ℕ
+snapped snapshot = codes "snapshot " ++ (decimal (length snapshot.items) ++ 32 ∷ cursor_text snapshot.cursor)
+
+-- whether it is the last page
+abbrev pub page_mark : Bool → List ℕ
+page_mark true = codes " last "
+page_mark false = codes " more "
+
+-- how many items are on the page, whether it is the last one, and the cursor at its time
+abbrev pub paged : Page → List ℕ
+paged page = codes "page " ++ (decimal (length page.items) ++ (page_mark page.last ++ cursor_text page.cursor))
+
 -- what the reply says
 abbrev pub reply_words : Wording → Reply → List ℕ
 reply_words wording (Changed owed) = codes "taken"
@@ -85,30 +115,36 @@ reply_words wording (Found value) = codes "found " ++ (value_part value).text
 reply_words wording (Named name) = codes "named " ++ name
 reply_words wording (Subscribed stamp owed) = codes "subscribed " ++ decimal stamp
 reply_words wording (Checked items before after) = checked (length items) before after
+reply_words wording (Journaled since) = journaled since
+reply_words wording (Snapped snapshot) = snapped snapshot
+reply_words wording (Paged page) = paged page
 reply_words wording (Merged done taken stale owed) = merged wording done taken stale
 reply_words wording (MergeStopped done fault owed) = stopped wording done fault
 reply_words wording (Refused fault) = refused fault
 
--- the sixteen bytes of a mask, the greatest first, in lower-case hex
-abbrev pub mask_hex : ℕ → List ℕ
-mask_hex mask = encode_lower (to_be_bytes w128 mask)
+-- the bytes of a mask, one for eight subscriptions, the greatest first, in lower-case hex
+abbrev pub mask_hex : LimitsRecord → ℕ → List ℕ
+mask_hex limits mask = encode_lower (bytes_high_first (limits.subs / 8) mask)
 
 -- a line for what is owed, unless nothing is
-abbrev pub owed_line : ℕ → List ℕ
-owed_line mask = if mask == 0 then [] else ended (codes "owed " ++ mask_hex mask)
+abbrev pub owed_line : LimitsRecord → ℕ → List ℕ
+owed_line limits mask = if mask == 0 then [] else ended (codes "owed " ++ mask_hex limits mask)
 
--- the changes that the reply shows, tombstones too
-abbrev pub shown_by : Reply → List ChangeRecord
+-- the items that the reply gives, floors and tombstones too
+abbrev pub shown_by : Reply → List Item
 shown_by (Checked items before after) = items
+shown_by (Journaled since) = since.items
+shown_by (Snapped snapshot) = snapshot.items
+shown_by (Paged page) = page.items
 shown_by _ = []
 
--- the lines of the reply: those of the changes that it shows, its words, and what is owed
-abbrev pub reply_lines : Wording → Reply → List ℕ
-reply_lines wording reply = flat_map spelling (shown_by reply) ++ (ended (reply_words wording reply) ++ owed_line (owed_by reply))
+-- the lines of the reply: those of the items that it gives, its words, and what is owed
+abbrev pub reply_lines : Wording → Reply → LimitsRecord → List ℕ
+reply_lines wording reply limits = flat_map item_spelling (shown_by reply) ++ (ended (reply_words wording reply) ++ owed_line limits (owed_by reply))
 
 -- the lines that answer the command
-abbrev pub reply_text : ScriptCommand → Reply → List ℕ
-reply_text command reply = reply_lines (wording command) reply
+abbrev pub reply_text : ScriptCommand → Reply → LimitsRecord → List ℕ
+reply_text command reply limits = reply_lines (wording command) reply limits
 
 -- the answer for want of memory
 abbrev pub refused_noroom : List ℕ

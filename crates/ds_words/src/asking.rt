@@ -1,25 +1,25 @@
 //! What a line asks of a store.
 
 ghost use Rattle.std.specs.Prelude.{◌≡◌, ◌∷◌, [], true, false, IfOk, OnErr};
-ghost use Rattle.ds_store.specs.declared.command.Command.TheVariants as commands;
+ghost use Rattle.ds_machine.specs.declared.command.Command.TheVariants as commands;
 ghost use Rattle.ds_words.specs.Command.{is_plain, store_command};
 
 use crate::command::ScriptCommand;
-use ds_entry::{Change, Items};
+use ds_entry::{Item, ItemList};
+use ds_machine::Command;
 use ds_names::NoRoom;
-use ds_store::Command;
 use std::alloc::Global;
 
 impl ScriptCommand {
     /// The store's command of the line, with copies of what the line has. `None` for a line that asks nothing of a
     /// store: `show`, `all`, `map` and `entries`. An `offer` is a Merge of one item. NoRoom: out of memory for the
-    /// copies of a change, a value or a pattern, and for no other line.
+    /// copies of an item, a value or a pattern, and for no other line.
     pub fn store_command(&self, alloc: Global) -> Result<Option<Command>, NoRoom>
         ensures command { IfOk result (λ command. command ≡ store_command self.now) }
         ensures room { OnErr result (is_plain self.now ≡ false) }
     {
         match self {
-            ScriptCommand::Offer(change) => Ok(Some(merge_of(alloc, change.copy(alloc)?)?)),
+            ScriptCommand::Offer(item) => Ok(Some(merge_of(alloc, item.copy(alloc)?)?)),
             ScriptCommand::Publish {
                 caller,
                 key,
@@ -55,7 +55,7 @@ impl ScriptCommand {
         ensures room { OnErr result (is_plain self ≡ false) }
     {
         match self {
-            ScriptCommand::Offer(change) => Ok(Some(merge_of(alloc, change)?)),
+            ScriptCommand::Offer(item) => Ok(Some(merge_of(alloc, item)?)),
             ScriptCommand::Publish {
                 caller,
                 key,
@@ -122,10 +122,10 @@ impl ScriptCommand {
 }
 
 // A Merge of one item.
-fn merge_of(alloc: Global, change: Change) -> Result<Command, NoRoom>
-    ensures { IfOk result (λ command. command ≡ commands.Merge (change ∷ [])) }
+fn merge_of(alloc: Global, item: Item) -> Result<Command, NoRoom>
+    ensures { IfOk result (λ command. command ≡ commands.Merge (item ∷ [])) }
 {
-    let mut items = Items::new(alloc);
-    items.push(change)?;
+    let mut items = ItemList::new(alloc);
+    items.push(item)?;
     Ok(Command::Merge { items })
 }

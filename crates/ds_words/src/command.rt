@@ -1,17 +1,17 @@
 //! The lines of a script.
 
-use ds_entry::{Change, Value};
+use ds_entry::{Item, Value};
 use ds_names::{Endpoint, Generation, Key, Name, Version};
 use ds_pattern::Query;
 
 /// One line of a script, with its parts.
 #[derive(Debug, PartialEq, Eq, Drop)]
 pub enum ScriptCommand {
-    /// `offer CHANGE`: merges the change into what is held.
-    Offer(Change),
+    /// `offer ITEM`: merges the item, a change or a floor, into what is held.
+    Offer(Item),
     /// `show`: prints the puts that are held.
     Show,
-    /// `all`: prints all that is held, tombstones too.
+    /// `all`: prints all that is held, floors and tombstones too.
     All,
     /// `publish CALLER new NAME KIND EPOCH.SEQ = VALUE`, or `over` for `new`: puts a value in the caller's name.
     Publish {
@@ -27,7 +27,7 @@ pub enum ScriptCommand {
         key: Key,
         version: Version,
     },
-    /// `sweep CALLER OWNER GENERATION`: ends the entries of a dead owner.
+    /// `sweep CALLER OWNER GENERATION`: raises the floor under the entries of a dead owner.
     Sweep {
         caller: Endpoint,
         owner: Name,
@@ -49,7 +49,7 @@ pub enum ScriptCommand {
         initial: bool,
         overwrite: bool,
     },
-    /// `check SUB MAX`: asks for changes that the subscription is still to be shown.
+    /// `check SUB MAX`: asks for items that the subscription is still to be shown.
     Check {
         sub: u32,
         max: u32,

@@ -1,21 +1,22 @@
 //! The words of scripts and traces: commands on lines, and the lines that answer a store's replies.
 //!
-//! A line is one command with what it takes: `offer CHANGE` merges a change, as a replica that is told of it would;
+//! A line is one command with what it takes: `offer ITEM` merges a change or a floor, as a replica that is told of it would;
 //! `publish`, `delete`, `sweep`, `retrieve` and `nameof` ask for what a process or RS asks of MINIX 3's data store, and
 //! `subscribe` and `check` what a subscriber asks for; `show` and `all` ask for what is held, `map` and `entries` for a
 //! map of a query and what stands in it. The lines and their answers are of this project.
 #![tactic(auto)]
 
 mod asking;
-mod checked;
 mod command;
 mod fault;
 mod laws;
 mod lines;
+mod owed;
 mod pieces;
 mod query;
 mod reading;
 mod reply;
+mod shown;
 mod split;
 mod word;
 mod wording;
@@ -23,6 +24,7 @@ mod wording;
 pub use command::ScriptCommand;
 pub use fault::CommandFault;
 pub use laws::lines_have_one_command;
+pub use owed::owed_by;
 pub use reading::{LONGEST_LINE, read_command, read_line};
 pub use reply::{append_noroom, append_reply, write_reply};
 pub use split::split_line;

@@ -6,7 +6,7 @@ ghost use Rattle.ds_words.specs.Pieces.{Takes};
 use crate::command::ScriptCommand;
 use crate::pieces::Rest;
 use crate::query::query_of;
-use ds_line::{Expected, LineFault, PartFault, read_change_noting, stop_at};
+use ds_line::{Expected, LineFault, PartFault, read_item_noting, stop_at};
 use ds_names::read_byte;
 use std::alloc::Global;
 
@@ -34,8 +34,8 @@ pub(crate) fn offer_at(alloc: Global, rest: &mut Rest) -> Result<ScriptCommand, 
     let Some(text) = read_byte(rest.bytes, b' ') else {
         return Err(stop_at(rest.bytes));
     };
-    match read_change_noting(alloc, text, &mut rest.expected) {
-        Ok((change, _)) => Ok(ScriptCommand::Offer(change)),
+    match read_item_noting(alloc, text, &mut rest.expected) {
+        Ok((item, _)) => Ok(ScriptCommand::Offer(item)),
         Err(LineFault::BadLine { place }) => Err(PartFault::BadPart {
             left: text.len() - place,
         }),

@@ -1,43 +1,57 @@
 //! Printing what a store replies.
 
-ghost use Rattle.std.specs.Prelude.{◌≡◌, ◌++◌, codes, IfOk, OnOk, OnErr};
+ghost use Rattle.std.specs.Prelude.{◌≡◌, ◌≤◌, ◌++◌, drop, codes, IfOk, OnOk, OnErr};
 ghost use Rattle.std.specs.List.{flat_map};
-ghost use Rattle.ds_line.specs.Spelling.{spelling};
+ghost use Rattle.hex.specs.Hex.{encode_lower};
+ghost use Rattle.ds_line.specs.ItemSpelling.{item_spelling};
 ghost use Rattle.ds_words.specs.Lines.{ended};
 ghost use Rattle.ds_words.specs.declared.wording.Wording.TheVariants.{AsOffer, AsMerge};
 ghost use Rattle.ds_words.specs.Reply.{refusal_word, refusal_words, refused, merged, stopped, reply_words, shown_by, owed_line, reply_lines, reply_text, refused_noroom};
 
-use crate::checked::append_checked;
 use crate::command::ScriptCommand;
+use crate::owed::owed_by;
+use crate::shown::{append_checked, append_journaled, append_paged, append_snapped};
 use crate::wording::Wording;
+use ds_held::Limits;
 use ds_line::{append_all, append_value};
+use ds_machine::{Refusal, Reply};
 use ds_names::{NoRoom, Version};
-use ds_store::{Refusal, Reply};
 use itoa::Buffer;
 use std::alloc::Global;
 
-/// Writes the lines that answer a command to which a store gave the reply.
+/// Writes the lines that answer a command to which a store of these limits gave the reply.
 ///
 /// A change that took effect is `taken`. An offer, which is a Merge of one item, is told by what became of that item, and
-/// a Merge of any other command by how many items are done, took effect and were stale. Before the words of a check stand
-/// the changes that it shows, each on its line. Where notices are owed, a last line gives the mask of their subscriptions.
-/// The lines are of this project.
-pub fn write_reply(alloc: Global, command: &ScriptCommand, reply: &Reply) -> Result<Vec<u8>, NoRoom>
-    ensures { IfOk result (λ text. text.items ≡ reply_text command.now reply.now) }
+/// a Merge of any other command by how many items are done, took effect and were stale. Before the words of a check, of
+/// what the journal has since a cursor, of a snapshot and of a page stand the items that they give, each on its line.
+/// Where notices are owed, a last line gives the mask of their subscriptions, a byte for eight of the limits, the greatest
+/// byte first. The lines are of this project.
+pub fn write_reply(
+    alloc: Global,
+    command: &ScriptCommand,
+    reply: &Reply,
+    limits: Limits,
+) -> Result<Vec<u8>, NoRoom>
+    ensures { IfOk result (λ text. text.items ≡ reply_text command.now reply.now limits) }
 {
     let mut text = Vec::new(alloc);
-    append_reply(&mut text, command.wording(), reply)?;
+    append_reply(&mut text, command.wording(), reply, limits)?;
     Ok(text)
 }
 
 /// Appends the lines of a reply. Where there is no room for all of them, the buffer is as it was.
-pub fn append_reply(buffer: &mut Vec<u8>, wording: Wording, reply: &Reply) -> Result<(), NoRoom>
-    ensures written { OnOk result (buffer.new.items ≡ buffer.old.items ++ reply_lines wording reply.now) }
+pub fn append_reply(
+    buffer: &mut Vec<u8>,
+    wording: Wording,
+    reply: &Reply,
+    limits: Limits,
+) -> Result<(), NoRoom>
+    ensures written { OnOk result (buffer.new.items ≡ buffer.old.items ++ reply_lines wording reply.now limits) }
     ensures unchanged { OnErr result (buffer.new.items ≡ buffer.old.items) }
 {
     let start = buffer.len();
     append_words(buffer, wording, reply)?;
-    let written = append_owed(buffer, reply.owed());
+    let written = append_owed(buffer, owed_by(reply), limits);
     if written.is_err() {
         buffer.truncate(start);
     }
@@ -54,7 +68,7 @@ pub fn append_noroom(buffer: &mut Vec<u8>) -> Result<(), NoRoom>
 
 // Appends the lines of a reply but for what is owed, or nothing.
 fn append_words(buffer: &mut Vec<u8>, wording: Wording, reply: &Reply) -> Result<(), NoRoom>
-    ensures written { OnOk result (buffer.new.items ≡ buffer.old.items ++ (flat_map spelling (shown_by reply.now) ++ ended (reply_words wording reply.now))) }
+    ensures written { OnOk result (buffer.new.items ≡ buffer.old.items ++ (flat_map item_spelling (shown_by reply.now) ++ ended (reply_words wording reply.now))) }
     ensures unchanged { OnErr result (buffer.new.items ≡ buffer.old.items) }
 {
     match reply {
@@ -77,6 +91,9 @@ fn append_words(buffer: &mut Vec<u8>, wording: Wording, reply: &Reply) -> Result
             before,
             after,
         } => append_checked(buffer, items, *before, *after),
+        Reply::Journaled(since) => append_journaled(buffer, since),
+        Reply::Snapped(snapshot) => append_snapped(buffer, snapshot),
+        Reply::Paged(page) => append_paged(buffer, page),
         Reply::Merged {
             done,
             taken,
@@ -200,6 +217,9 @@ fn refusal_word(refusal: Refusal) -> &'static [u8]
         Refusal::Stale => b"stale",
         Refusal::Exists => b"exists",
         Refusal::NotFound => b"notfound",
+        Refusal::OldCursor => b"oldcursor",
+        Refusal::Ahead => b"ahead",
+        Refusal::Behind => b"behind",
         Refusal::Full => b"full",
         Refusal::Worn => b"worn",
         Refusal::NoRoom => b"noroom",
@@ -209,16 +229,29 @@ fn refusal_word(refusal: Refusal) -> &'static [u8]
 }
 
 // Appends the line of what is owed, where something is, or nothing.
-fn append_owed(buffer: &mut Vec<u8>, mask: u128) -> Result<(), NoRoom>
-    ensures written { OnOk result (buffer.new.items ≡ buffer.old.items ++ owed_line mask) }
+fn append_owed(buffer: &mut Vec<u8>, mask: u128, limits: Limits) -> Result<(), NoRoom>
+    ensures written { OnOk result (buffer.new.items ≡ buffer.old.items ++ owed_line limits mask) }
     ensures unchanged { OnErr result (buffer.new.items ≡ buffer.old.items) }
 {
     if mask == 0 {
         return Ok(());
     }
-    let mut digits = [0u8; 32];
-    match hex::encode_to_slice(mask.to_be_bytes(), &mut digits) {
-        Ok(()) => append_all(buffer, &[b"owed ", &digits, b"\n"]),
+    // A byte has the bits of eight subscriptions, and the last bytes those of the first ones.
+    let count = limits.subs() as usize / 8;
+    append_mask(buffer, &mask.to_be_bytes(), 16 - count)
+}
+
+// Appends the line of a mask, without its first bytes, or nothing.
+fn append_mask(buffer: &mut Vec<u8>, bytes: &[u8; 16], first: usize) -> Result<(), NoRoom>
+    requires { first ≤ 16 }
+    ensures written { OnOk result (buffer.new.items ≡ buffer.old.items ++ ended (codes "owed " ++ encode_lower (drop first bytes.now))) }
+    ensures unchanged { OnErr result (buffer.new.items ≡ buffer.old.items) }
+{
+    let bytes = &bytes[first..];
+    let mut block = [0u8; 32];
+    let digits = &mut block[..2 * bytes.len()];
+    match hex::encode_to_slice(bytes, digits) {
+        Ok(()) => append_all(buffer, &[b"owed ", digits, b"\n"]),
         Err(_) => unreachable!(),
     }
 }

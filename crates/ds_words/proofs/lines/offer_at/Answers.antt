@@ -1,7 +1,7 @@
 use Rattle.std.proofs.Common.{subst}
-use Rattle.ds_line.specs.FaultPlace.{IsFaultIn}
+use Rattle.ds_line.specs.ItemFault.{IsItemFaultIn}
 use Rattle.ds_line.specs.declared.fault.LineFault.{LineFault}
-use Rattle.ds_words.proofs.OfferLemmas.{offer_no_space, offer_no_change, place_fits, offer_found, offer_no_room}
+use Rattle.ds_words.proofs.OfferLemmas.{offer_no_space, offer_no_item, place_fits, offer_found, offer_no_room}
 use Rattle.ds_words.specs.Command.{offer_word}
 use Rattle.ds_words.proofs.PieceLemmas.{no_want}
 use Rattle.ds_words.proofs.LineLemmas.{takes_stop}
@@ -12,14 +12,14 @@ returns-in_default c =
     takes_stop offer_word c.args.rest.now.bytes.now c.stop_at.result (no_want c.stop_at.result _ c.stop_at.ensures) (offer_no_space c.stop_at.result c.args.rest.now.bytes.now c.stop_at.ensures c.in_default.ensures.none)
 
 pub returns-in-Ok : goal.returns-in-Ok
-returns-in-Ok c = (_, offer_found c.args.rest.now.bytes.now c.in-Some.text.now c.in-Ok.change c.in-Ok.field-0-1 c.in-Some.ensures.found c.in-Ok.ensures.line c.in-Ok.ensures.found)
+returns-in-Ok c = (_, offer_found c.args.rest.now.bytes.now c.in-Some.text.now c.in-Ok.item c.in-Ok.field-0-1 c.in-Some.ensures.found c.in-Ok.ensures.line c.in-Ok.ensures.found)
 
 pub overflow_sub-result : goal.overflow_sub-result
-overflow_sub-result c = place_fits c.in-Some.text.now c.in-Err-BadLine.place (subst (λ (f : LineFault). IsFaultIn f c.in-Some.text.now) c.in-Err-BadLine.field-0-is c.in-Err-BadLine.ensures.fault)
+overflow_sub-result c = place_fits c.in-Some.text.now c.in-Err-BadLine.place (subst (λ (f : LineFault). IsItemFaultIn f c.in-Some.text.now) c.in-Err-BadLine.field-0-is c.in-Err-BadLine.ensures.fault)
 
 pub returns-in-Err-BadLine : goal.returns-in-Err-BadLine
 returns-in-Err-BadLine c =
-    offer_no_change c.args.rest.now.bytes.now c.in-Some.text.now c.in-Err-BadLine.place c.in-Some.ensures.found (subst (λ (f : LineFault). IsFaultIn f c.in-Some.text.now) c.in-Err-BadLine.field-0-is c.in-Err-BadLine.ensures.fault)
+    offer_no_item c.args.rest.now.bytes.now c.in-Some.text.now c.in-Err-BadLine.place c.in-Some.ensures.found (subst (λ (f : LineFault). IsItemFaultIn f c.in-Some.text.now) c.in-Err-BadLine.field-0-is c.in-Err-BadLine.ensures.fault)
 
 pub returns-in-Err-NoRoom : goal.returns-in-Err-NoRoom
-returns-in-Err-NoRoom c = offer_no_room c.args.rest.now.bytes.now c.in-Some.text.now c.in-Some.ensures.found (subst (λ (f : LineFault). IsFaultIn f c.in-Some.text.now) c.in-Err-NoRoom.field-0-is c.in-Err-NoRoom.ensures.fault)
+returns-in-Err-NoRoom c = offer_no_room c.args.rest.now.bytes.now c.in-Some.text.now c.in-Some.ensures.found (subst (λ (f : LineFault). IsItemFaultIn f c.in-Some.text.now) c.in-Err-NoRoom.field-0-is c.in-Err-NoRoom.ensures.fault)

@@ -3,7 +3,7 @@ use Rattle.ds_line.specs.FloorPiece.{ReadsFloor}
 use Rattle.ds_line.specs.declared.part_fault.PartFault.{PartFault}
 use Rattle.ds_line.proofs.FloorLemmas.{floor_taken, break_left}
 use Rattle.ds_line.proofs.ItemLemmas.{change_faults, floor_faults}
-use Rattle.ds_line.proofs.item_reading.read_item.Goals as goal
+use Rattle.ds_line.proofs.item_reading.read_item_noting.Goals as goal
 
 pub returns-in-Err-clause-fault : goal.returns-in-Err-clause-fault
 returns-in-Err-clause-fault c = change_faults c.in-Err.fault c.args.bytes.now c.in_default.ensures.none c.in-Err.ensures.fault

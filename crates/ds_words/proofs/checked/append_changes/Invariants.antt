@@ -1,7 +1,0 @@
-use Rattle.std.proofs.Common.{◌≡◌, ◌++◌, take}
-use Rattle.std.specs.List.{flat_map}
-use Rattle.ds_line.specs.Spelling.{spelling}
-use Rattle.ds_words.proofs.checked.append_changes.Given as goal
-
-abbrev pub invariant-loop-index : goal.invariant-loop-index
-invariant-loop-index l = l.buffer.items ≡ l.fn.buffer.items ++ flat_map spelling (take l.index l.items)
