@@ -2,7 +2,7 @@
 
 ghost use Rattle.std.specs.Prelude.{◌≡◌, ◌<◌, ◌≤◌, ◌^◌, ◌↔◌, IsTrue, IsOk, IfOk, IfErr, MatchOption};
 ghost use Rattle.ds_names.specs.Name.{IsName};
-ghost use Rattle.ds_entry.specs.Change.{ChangeRecord, change_of, IsChange, IsLabelChange, IsLabelBody, IsBelowSweeps, IsOfKind, IsBody, IsBodyInPlace};
+ghost use Rattle.ds_entry.specs.Change.{ChangeRecord, change_of, rs_name, IsChange, IsLabelChange, IsLabelBody, IsBelowSweeps, IsOfKind, IsBody, IsBodyInPlace};
 ghost use Rattle.ds_entry.specs.ChangeFault.{IsFaultOf};
 
 use crate::body::{Body, Value};
@@ -24,6 +24,16 @@ pub enum EntryFault {
     /// A put of another kind with the sequence number 4294967295, which only tombstones of sweeps have.
     #[error("the sequence number is left to sweeps")]
     BadVersion,
+}
+
+/// The name of the reincarnation server, which owns the labels.
+pub fn rs_name() -> Name
+    ensures { result ≡ rs_name }
+{
+    match Name::read(b"rs") {
+        Ok(name) => name,
+        Err(_) => unreachable!(),
+    }
 }
 
 /// One change of the entry under a key: who owns it, which version it is, and what it leaves there.

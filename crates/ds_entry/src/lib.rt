@@ -17,7 +17,7 @@ mod text;
 
 pub use blob::{Blob, BlobFault};
 pub use body::{Body, Value};
-pub use change::{Change, EntryFault};
+pub use change::{Change, EntryFault, rs_name};
 pub use floor::Floor;
 pub use item::Item;
 pub use item_list::ItemList;

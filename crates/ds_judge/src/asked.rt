@@ -14,7 +14,7 @@ ghost use Rattle.ds_judge.specs.Standing.{machine_standing, IsFree};
 use crate::change::{cause_by_room, cause_by_version};
 use crate::limits::LAST_SEQ;
 use crate::standing::Standing;
-use ds_entry::{Body, Change, Value};
+use ds_entry::{Body, Change, Value, rs_name};
 use ds_machine::{Cause, Refusal};
 use ds_names::{Endpoint, Generation, Key, Kind, Name, Version};
 
@@ -64,16 +64,6 @@ pub(crate) fn is_rs(endpoint: Endpoint) -> bool
     ensures { result ≡ is_rs endpoint }
 {
     endpoint == Endpoint::rs()
-}
-
-// The name of RS.
-fn rs_name() -> Name
-    ensures { result ≡ rs_name }
-{
-    match Name::read(b"rs") {
-        Ok(name) => name,
-        Err(_) => unreachable!(),
-    }
 }
 
 /// The name of an endpoint, where `label` is the least name whose live label holds it: RS is `rs`, whatever labels there

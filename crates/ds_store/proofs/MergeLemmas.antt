@@ -1,24 +1,38 @@
 -- How a merge goes on.
-use Rattle.std.proofs.Common.{◌≡◌, ℕ, ◌+◌, ◌<◌, ◌≤◌, List, [], ◌∷◌, length, take, drop, get_or, fold, Option, Some, None, Ok, Err, refl, ap, ap₂, sym, ◌∙◌, subst, inl, inr, arith, length-append, ◌⊎◌, true, not, cond, nat_le}
+use Rattle.std.proofs.Common.{◌≡◌, ℕ, zero, suc, ◌+◌, ◌-◌, ◌<◌, ◌≤◌, Bool, true, false, List, [], ◌∷◌, ◌++◌, map, length, take, drop, get_or, fold, replicate, Option, Some, None, Ok, Err, refl, ap, ap₂, sym, ◌∙◌, subst, inl, inr, arith, length-append, ◌⊎◌, not, cond, nat_le, ◌||◌}
 use Rattle.std.proofs.lemmas.List.Sums.{fold_more, fold-append}
-use Rattle.std.proofs.lemmas.List.{take-append-drop, take_all}
+use Rattle.std.proofs.lemmas.List.{take-append-drop, take_all, length-map}
+use Rattle.std.proofs.lemmas.List.Folds.{list_any-append}
 use Rattle.std.proofs.lemmas.Bool.Decides.{nat_tests}
 use Rattle.std.proofs.lemmas.Option.{slice_get_within, get_or_from_slice_get, slice_get_cases}
 use Rattle.std.specs.Prelude.{slice_get}
 use Rattle.std.specs.Option.{option_map_or}
-use Rattle.ds_entry.specs.Change.{ChangeRecord}
+use Rattle.ds_entry.specs.declared.item.Item.{Item}
 use Rattle.ds_join.specs.declared.merge.Merge.{Merge}
 use Rattle.ds_join.specs.declared.merge.Merge.TheVariants.{Taken, Known, Stale}
-use Rattle.ds_store.specs.Limits.{most_items}
-use Rattle.ds_store.specs.State.{State, owed}
-use Rattle.ds_store.specs.Judging.{first_refusal, against_merge}
-use Rattle.ds_store.specs.declared.command.Command.TheVariants.{Merge as Merges}
-use Rattle.ds_store.specs.declared.command.Reply.TheVariants.{Merged, MergeStopped}
-use Rattle.ds_store.specs.declared.refusal.Refusal.TheVariants as refusals
-use Rattle.ds_store.specs.Machine.{Course, begun, course, item_merged, item_judged, cause_of, MergesItem, IsStopped, passed_as, taken_by, stale_by, merging, merge_reply, Step}
-use Rattle.ds_store.specs.declared.judging.Cause.{Cause}
-use Rattle.ds_store.specs.declared.judging.Cause.TheVariants as causes
-use Rattle.ds_store.specs.declared.refusal.Refusal.{Refusal}
+use Rattle.ds_watch.specs.Mask.{mask, either, padded}
+use Rattle.ds_watch.proofs.PaddedLemmas.{padded_number}
+use Rattle.ds_machine.specs.Limits.{most_items}
+use Rattle.ds_machine.specs.Scope.{is_item_under}
+use Rattle.ds_machine.specs.Subscription.{Subscription, is_owed}
+use Rattle.ds_machine.specs.State.{State, owed}
+use Rattle.ds_machine.specs.Order.{first_refusal}
+use Rattle.ds_machine.specs.Calling.{against_merge}
+use Rattle.ds_machine.specs.Standing.{cause_of}
+use Rattle.ds_machine.specs.Merging.{Course, begun, course, item_merged, item_judged, merging, merge_reply}
+use Rattle.ds_machine.specs.Machine.{Step}
+use Rattle.ds_machine.specs.declared.command.Command.TheVariants.{Merge as Merges}
+use Rattle.ds_machine.specs.declared.reply.Reply.TheVariants.{Merged, MergeStopped}
+use Rattle.ds_machine.specs.declared.refusal.Cause.{Cause}
+use Rattle.ds_machine.specs.declared.refusal.Cause.TheVariants as causes
+use Rattle.ds_machine.specs.declared.refusal.Refusal.{Refusal}
+use Rattle.ds_machine.specs.declared.refusal.Refusal.TheVariants as refusals
+use Rattle.ds_judge.specs.Passed.{passed_as}
+use Rattle.ds_judge.specs.Last.{IsLast, TakesNext}
+use Rattle.ds_content.specs.Content.{ContentRecord}
+use Rattle.ds_content.specs.Stands.{Stands}
+use Rattle.ds_content.proofs.EnterLemmas.{few_places}
+use Rattle.ds_store.specs.Merging.{MergesItem, IsStopped, owed_after, taken_by, stale_by}
 
 -- the counts of a merge that wasn't stopped
 pub record Reached (k : Course) (d n m : ℕ) : Type 0 where
@@ -30,10 +44,10 @@ pub record Reached (k : Course) (d n m : ℕ) : Type 0 where
 pub not_begun : (s : State) → Reached (begun s) 0 0 0
 not_begun s = record { stop = refl; done = refl; taken = refl; stale = refl }
 
-pub judged : (k : Course) (c : ChangeRecord) (o : Option Cause) → k.stop ≡ None → cause_of k.state c ≡ o → item_merged k c ≡ item_judged k c o
+pub judged : (k : Course) (c : Item) (o : Option Cause) → k.stop ≡ None → cause_of k.state c ≡ o → item_merged k c ≡ item_judged k c o
 judged k c o e f = ap₂ (λ stop x. option_map_or (λ (r : Refusal). k) stop (item_judged k c x)) e f
 
-pub item_done : (k : Course) (c : ChangeRecord) (join : Merge) (t : State) (d n m : ℕ) → Reached k d n m → MergesItem k.state c (Ok join) t → Reached (item_merged k c) (d + 1) (n + taken_by join) (m + stale_by join) × ((item_merged k c).state ≡ t)
+pub item_done : (k : Course) (c : Item) (join : Merge) (t : State) (d n m : ℕ) → Reached k d n m → MergesItem k.state c (Ok join) t → Reached (item_merged k c) (d + 1) (n + taken_by join) (m + stale_by join) × ((item_merged k c).state ≡ t)
 item_done k c Taken t d n m r is =
     subst (λ (x : Course). Reached x (d + 1) (n + 1) (m + 0) × (x.state ≡ t)) (sym (judged k c None r.stop is.0)) (
       record { stop = r.stop; done = ap (λ x. x + 1) r.done; taken = omega (arith, r.taken, length-append k.taken (c ∷ [])); stale = omega (arith, r.stale) },
@@ -50,21 +64,21 @@ item_done k c Stale t d n m r is =
       sym is.1,
     )
 
-pub course_more : (s : State) (items : List ChangeRecord) (i : ℕ) (d : ChangeRecord) → i < length items → course s (take (i + 1) items) ≡ item_merged (course s (take i items)) (get_or items i d)
+pub course_more : (s : State) (items : List Item) (i : ℕ) (d : Item) → i < length items → course s (take (i + 1) items) ≡ item_merged (course s (take i items)) (get_or items i d)
 course_more s items i d l = fold_more item_merged (begun s) items i d l
 
 -- ---- a merge that is stopped
-stopped_by : (k : Course) (c : ChangeRecord) (fault : Refusal) → passed_as (causes.Refused fault) ≡ Err fault → item_judged k c (Some (causes.Refused fault)) ≡ record k { stop = Some fault }
+stopped_by : (k : Course) (c : Item) (fault : Refusal) → passed_as (causes.Refused fault) ≡ Err fault → item_judged k c (Some (causes.Refused fault)) ≡ record k { stop = Some fault }
 stopped_by k c refusals.Stale e = absurd (cc)
 stopped_by k c _ e = refl
 
-stays : (k : Course) (r : Refusal) (items : List ChangeRecord) → k.stop ≡ Some r → fold item_merged k items ≡ k
+stays : (k : Course) (r : Refusal) (items : List Item) → k.stop ≡ Some r → fold item_merged k items ≡ k
 stays k r [] e = refl
 stays k r (c ∷ items) e =
     let same : item_merged k c ≡ k = ap (λ stop. option_map_or (λ (x : Refusal). k) stop (item_judged k c (cause_of k.state c))) e in
     ap (λ (x : Course). fold item_merged x items) same ∙ stays k r items e
 
-pub course_stopped : (s : State) (items : List ChangeRecord) (i : ℕ) (d : ChangeRecord) (fault : Refusal) → i < length items → (course s (take i items)).stop ≡ None → IsStopped (course s (take i items)).state (get_or items i d) fault
+pub course_stopped : (s : State) (items : List Item) (i : ℕ) (d : Item) (fault : Refusal) → i < length items → (course s (take i items)).stop ≡ None → IsStopped (course s (take i items)).state (get_or items i d) fault
     → course s items ≡ record (course s (take i items)) { stop = Some fault }
 course_stopped s items i d fault l e is =
     let k = course s (take i items) in
@@ -75,11 +89,11 @@ course_stopped s items i d fault l e is =
     ∙ ap (λ (x : Course). fold item_merged x (drop (i + 1) items)) (course_more s items i d l ∙ there) ∙ stays (record k { stop = Some fault }) fault (drop (i + 1) items) refl
 
 -- ---- the next item
-pub next_course : (s : State) (items : List ChangeRecord) (i : ℕ) (c : ChangeRecord) → slice_get items i ≡ Some c → course s (take (i + 1) items) ≡ item_merged (course s (take i items)) c
+pub next_course : (s : State) (items : List Item) (i : ℕ) (c : Item) → slice_get items i ≡ Some c → course s (take (i + 1) items) ≡ item_merged (course s (take i items)) c
 next_course s items i c at =
     course_more s items i c (slice_get_within items i c at) ∙ ap (item_merged (course s (take i items))) (get_or_from_slice_get items i c c at)
 
-pub next_reached : (s : State) (items : List ChangeRecord) (i : ℕ) (c : ChangeRecord) (join : Merge) (t : State) (n m x y : ℕ) → slice_get items i ≡ Some c → Reached (course s (take i items)) i n m → MergesItem (course s (take i items)).state c (Ok join) t → x ≡ taken_by join → y ≡ stale_by join
+pub next_reached : (s : State) (items : List Item) (i : ℕ) (c : Item) (join : Merge) (t : State) (n m x y : ℕ) → slice_get items i ≡ Some c → Reached (course s (take i items)) i n m → MergesItem (course s (take i items)).state c (Ok join) t → x ≡ taken_by join → y ≡ stale_by join
     → Reached (course s (take (i + 1) items)) (i + 1) (n + x) (m + y) × (t ≡ (course s (take (i + 1) items)).state)
 next_reached s items i c join t n m x y at r is e f =
     let same = next_course s items i c at in
@@ -94,7 +108,7 @@ none_against n few =
     ap (λ b. cond (not b) (Some refusals.TooMany) None) e
 
 -- ---- the answers
-pub merge_stopped : (s : State) (items : List ChangeRecord) (i : ℕ) (c : ChangeRecord) (fault : Refusal) (t : State) (n m o : ℕ) → o ≡ owed s (course s (take i items)).taken → length items ≤ most_items → slice_get items i ≡ Some c
+pub merge_stopped : (s : State) (items : List Item) (i : ℕ) (c : Item) (fault : Refusal) (t : State) (n m o : ℕ) → o ≡ owed s (course s (take i items)).taken → length items ≤ most_items → slice_get items i ≡ Some c
     → Reached (course s (take i items)) i n m → MergesItem (course s (take i items)).state c (Err fault) t → Step s (Merges items) (MergeStopped i fault o) t
 merge_stopped s items i c fault t n m o owes few at r is = by_fault is.1
   where
@@ -118,14 +132,14 @@ merge_stopped s items i c fault t n m o owes few at r is = by_fault is.1
     by_fault (inr stop) =
         let this : get_or items i c ≡ c = get_or_from_slice_get items i c c at in
         let there : course s items ≡ record k { stop = Some fault } =
-        course_stopped s items i c fault (slice_get_within items i c at) r.stop (subst (λ (x : ChangeRecord). IsStopped k.state x fault) (sym this) stop) in
+        course_stopped s items i c fault (slice_get_within items i c at) r.stop (subst (λ (x : Item). IsStopped k.state x fault) (sym this) stop) in
         let reply : (merging s items (first_refusal (against_merge (length items)))).0 ≡ MergeStopped i fault o =
         ap (λ x. (merging s items x).0) (none_against (length items) few) ∙ ap (merge_reply s) there ∙ ap₂ (λ d b. MergeStopped d fault b) r.done (sym nothing) in
         let state : (merging s items (first_refusal (against_merge (length items)))).1 ≡ k.state =
         ap (λ x. (merging s items x).1) (none_against (length items) few) ∙ ap (λ (x : Course). x.state) there in
         inl (inl (record { reply_is = sym reply; state_is = is.0 ∙ sym state }))
 
-pub merge_done : (s : State) (items : List ChangeRecord) (i n m o : ℕ) → o ≡ owed s (course s (take i items)).taken → length items ≤ most_items → slice_get items i ≡ None → i ≤ length items
+pub merge_done : (s : State) (items : List Item) (i n m o : ℕ) → o ≡ owed s (course s (take i items)).taken → length items ≤ most_items → slice_get items i ≡ None → i ≤ length items
     → Reached (course s (take i items)) i n m → Step s (Merges items) (Merged i n m o) (course s (take i items)).state
 merge_done s items i n m o owes few gone within r =
     let k = course s (take i items) in
@@ -141,7 +155,7 @@ merge_done s items i n m o owes few gone within r =
     ap (λ x. (merging s items x).1) (none_against (length items) few) ∙ ap (λ (x : Course). x.state) whole in
     inl (inl (record { reply_is = sym reply; state_is = sym state }))
   where
-    past : (xs : List ChangeRecord) (j : ℕ) → slice_get xs j ≡ None → length xs ≤ j
+    past : (xs : List Item) (j : ℕ) → slice_get xs j ≡ None → length xs ≤ j
     past xs j e = elim ((slice_get_cases xs j).1) [ inl h ↦ absurd (let no : None ≡ Some h.0 = sym e ∙ h.2 in cc) | inr h ↦ h.0 ]
 
 pub taken_within : (join : Merge) (n d x : ℕ) → x ≡ taken_by join → n ≤ d → n + x ≤ d + 1
@@ -153,3 +167,100 @@ pub stale_within : (join : Merge) (n d x : ℕ) → x ≡ stale_by join → n �
 stale_within Taken n d x e h = omega (arith, e, h)
 stale_within Known n d x e h = omega (arith, e, h)
 stale_within Stale n d x e h = omega (arith, e, h)
+
+-- ---- to whom the items are owed that were taken
+either_owed : (xs ys : List Item) (subs : List (Option Subscription)) → map (is_owed (xs ++ ys)) subs ≡ either (map (is_owed xs) subs) (map (is_owed ys) subs)
+either_owed xs ys [] = refl
+either_owed xs ys (None ∷ subs) = ap (λ l. false ∷ l) (either_owed xs ys subs)
+either_owed xs ys (Some sub ∷ subs) = ap₂ ◌∷◌ (list_any-append (is_item_under sub.query) xs ys) (either_owed xs ys subs)
+
+neither : (n : ℕ) → either (replicate n false) (replicate n false) ≡ replicate n false
+neither zero = refl
+neither (suc n) = ap (λ l. false ∷ l) (neither n)
+
+either_behind : (f g : Option Subscription → Bool) (subs : List (Option Subscription)) (n : ℕ) → either (map f subs ++ replicate n false) (map g subs ++ replicate n false) ≡ either (map f subs) (map g subs) ++ replicate n false
+either_behind f g [] n = neither n
+either_behind f g (sub ∷ subs) n = ap (λ l. (f sub || g sub) ∷ l) (either_behind f g subs n)
+
+-- the padded flags of both
+pub padded_either : (xs ys : List Item) (subs : List (Option Subscription)) → either (padded (map (is_owed xs) subs)) (padded (map (is_owed ys) subs)) ≡ padded (map (is_owed (xs ++ ys)) subs)
+padded_either xs ys subs =
+    let n : 128 - length (map (is_owed xs) subs) ≡ 128 - length subs = ap (λ m. 128 - m) (length-map subs (is_owed xs)) in
+    let m : 128 - length (map (is_owed ys) subs) ≡ 128 - length subs = ap (λ m. 128 - m) (length-map subs (is_owed ys)) in
+    let both : 128 - length (map (is_owed (xs ++ ys)) subs) ≡ 128 - length subs = ap (λ m. 128 - m) (length-map subs (is_owed (xs ++ ys))) in
+    ap₂ (λ a b. either (map (is_owed xs) subs ++ replicate a false) (map (is_owed ys) subs ++ replicate b false)) n m ∙ either_behind (is_owed xs) (is_owed ys) subs (128 - length subs)
+    ∙ ap₂ (λ l a. l ++ replicate a false) (sym (either_owed xs ys subs)) (sym both)
+
+none_of : (subs : List (Option Subscription)) (n : ℕ) → replicate (length subs + n) false ≡ map (is_owed []) subs ++ replicate n false
+none_of [] n = let e : 0 + n ≡ n = omega arith in ap (λ m. replicate m false) e
+none_of (None ∷ subs) n = let e : length (None ∷ subs) + n ≡ suc (length subs + n) = omega arith in ap (λ m. replicate m false) e ∙ ap (λ l. false ∷ l) (none_of subs n)
+none_of (Some sub ∷ subs) n = let e : length (Some sub ∷ subs) + n ≡ suc (length subs + n) = omega arith in ap (λ m. replicate m false) e ∙ ap (λ l. false ∷ l) (none_of subs n)
+
+-- nothing is owed to none
+pub nothing_owed : (v : ContentRecord) (s : State) → Stands v s → replicate 128 false ≡ padded (map (is_owed []) s.subscriptions)
+nothing_owed v s stands =
+    let places : length s.subscriptions ≡ v.limits.subs = stands.reached.places ∙ sym (ap (λ l. l.subs) stands.limits) in
+    let few = few_places v s (length s.subscriptions) stands places in
+    let n = length-map s.subscriptions (is_owed []) in
+    let long : 128 ≡ length s.subscriptions + (128 - length (map (is_owed []) s.subscriptions)) = omega (arith, few, n) in
+    ap (λ m. replicate m false) long ∙ none_of s.subscriptions (128 - length (map (is_owed []) s.subscriptions))
+
+-- ---- the places stay through a merge
+judged_places : (k : Course) (i : Item) (o : Option Cause) → (item_judged k i o).state.subscriptions ≡ k.state.subscriptions
+judged_places k i None = refl
+judged_places k i (Some causes.Known) = refl
+judged_places k i (Some (causes.Refused r)) = by_refusal r
+  where
+    by_refusal : (r : Refusal) → (item_judged k i (Some (causes.Refused r))).state.subscriptions ≡ k.state.subscriptions
+    by_refusal refusals.Stale = refl
+    by_refusal _ = refl
+
+merged_places : (k : Course) (i : Item) → (item_merged k i).state.subscriptions ≡ k.state.subscriptions
+merged_places k i = by_stop k.stop
+  where
+    by_stop : (o : Option Refusal) → (option_map_or {U = Course} (λ stop. k) o (item_judged k i (cause_of k.state i))).state.subscriptions ≡ k.state.subscriptions
+    by_stop None = judged_places k i (cause_of k.state i)
+    by_stop (Some r) = refl
+
+fold_places : (k : Course) (items : List Item) → (fold item_merged k items).state.subscriptions ≡ k.state.subscriptions
+fold_places k [] = refl
+fold_places k (i ∷ items) = fold_places (item_merged k i) items ∙ merged_places k i
+
+pub course_places : (s : State) (items : List Item) → (course s items).state.subscriptions ≡ s.subscriptions
+course_places s items = fold_places (begun s) items
+
+-- those to which an item is owed are added where it is taken
+pub item_owed : (k : Course) (i : Item) (join : Merge) (t : State) (subs : List (Option Subscription)) (flags more : List Bool) → k.stop ≡ None → MergesItem k.state i (Ok join) t
+    → flags ≡ padded (map (is_owed k.taken) subs) → more ≡ padded (map (is_owed (i ∷ [])) subs) → owed_after (Ok join) flags more ≡ padded (map (is_owed (item_merged k i).taken) subs)
+item_owed k i Taken t subs flags more stop is e f =
+    ap₂ either e f ∙ padded_either k.taken (i ∷ []) subs ∙ ap (λ (x : Course). padded (map (is_owed x.taken) subs)) (sym (judged k i None stop is.0))
+item_owed k i Known t subs flags more stop is e f = e ∙ ap (λ (x : Course). padded (map (is_owed x.taken) subs)) (sym (judged k i (Some causes.Known) stop is.0))
+item_owed k i Stale t subs flags more stop is e f = e ∙ ap (λ (x : Course). padded (map (is_owed x.taken) subs)) (sym (judged k i (Some (causes.Refused refusals.Stale)) stop is.0))
+
+pub course_number : (s : State) (k : Course) (n : ℕ) (flags : List Bool) → n ≡ mask flags → flags ≡ padded (map (is_owed k.taken) s.subscriptions) → n ≡ owed s k.taken
+course_number s k n flags e f = e ∙ ap mask f ∙ padded_number (map (is_owed k.taken) s.subscriptions)
+
+-- ---- where it is stopped for want of memory
+pub stopped_last : (s : State) (items : List Item) (i : ℕ) (item : Item) (fault : Refusal) (o : ℕ) → slice_get items i ≡ Some item → (fault ≡ refusals.NoRoom → cause_of (course s (take i items)).state item ≡ None) → IsLast s (Merges items) (MergeStopped i fault o)
+stopped_last s items i item refusals.NoRoom o at none = record { item = item; is_next = at; none = none refl }
+stopped_last s items i item refusals.BadSub o at none = tt
+stopped_last s items i item refusals.TooMany o at none = tt
+stopped_last s items i item refusals.TooLong o at none = tt
+stopped_last s items i item refusals.BadPattern o at none = tt
+stopped_last s items i item refusals.BadKind o at none = tt
+stopped_last s items i item refusals.BadLabel o at none = tt
+stopped_last s items i item refusals.BadVersion o at none = tt
+stopped_last s items i item refusals.NoCaller o at none = tt
+stopped_last s items i item refusals.NotAllowed o at none = tt
+stopped_last s items i item refusals.NotOwner o at none = tt
+stopped_last s items i item (refusals.Clash v) o at none = tt
+stopped_last s items i item refusals.Stale o at none = tt
+stopped_last s items i item refusals.Exists o at none = tt
+stopped_last s items i item refusals.NotFound o at none = tt
+stopped_last s items i item refusals.OldCursor o at none = tt
+stopped_last s items i item refusals.Ahead o at none = tt
+stopped_last s items i item refusals.Behind o at none = tt
+stopped_last s items i item refusals.Full o at none = tt
+stopped_last s items i item refusals.Worn o at none = tt
+stopped_last s items i item refusals.BadRing o at none = tt
+stopped_last s items i item refusals.BadFirst o at none = tt

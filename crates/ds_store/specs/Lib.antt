@@ -1,17 +1,5 @@
-pub mod Limits
-pub mod State
-pub mod Content
-pub mod Judging
-pub mod Machine
-pub mod Last
+pub mod Opening
+pub mod InPlace
+pub mod Standing
+pub mod Merging
 pub mod Run
-pub mod Owes
-pub mod Reached
-pub mod Effect
-pub mod Says
-pub mod Stands
--- what bodies alone speak of: how a store keeps its content
-pub mod Owed
-pub mod Kept
-pub mod Asked
-pub mod Remarked

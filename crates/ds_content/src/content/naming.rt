@@ -1,10 +1,10 @@
 //! The names of endpoints.
 
 ghost use Rattle.std.specs.Prelude.{◌≡◌};
-ghost use Rattle.ds_entry.specs.Change.{rs_name};
 ghost use Rattle.ds_machine.specs.Asking.{is_rs, name_of};
 
 use crate::content::Content;
+use ds_entry::rs_name;
 use ds_names::{Endpoint, Name};
 
 // Whether the endpoint is that of RS.
@@ -12,16 +12,6 @@ fn is_rs(endpoint: Endpoint) -> bool
     ensures { result ≡ is_rs endpoint }
 {
     endpoint == Endpoint::rs()
-}
-
-// The name of RS.
-fn rs_name() -> Name
-    ensures { result ≡ rs_name }
-{
-    match Name::read(b"rs") {
-        Ok(name) => name,
-        Err(_) => unreachable!(),
-    }
 }
 
 impl Content {

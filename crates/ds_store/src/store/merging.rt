@@ -1,55 +1,77 @@
 //! Merges of what another holder gives.
 
-ghost use Rattle.std.specs.Prelude.{◌≡◌, ◌<◌, length, None, IfNone};
-ghost use Rattle.ds_store.specs.Limits.{last_place};
-ghost use Rattle.ds_store.specs.State.{State};
-ghost use Rattle.ds_watch.specs.Followed.{owed_for};
-ghost use Rattle.ds_store.specs.Machine.{Step, MergesItem, cause_of, taken_by, stale_by, passed_as};
-ghost use Rattle.ds_store.specs.Last.{IsLast};
-ghost use Rattle.ds_store.specs.Owed.{owed_after};
-ghost use Rattle.ds_store.specs.Judging.{first_cause, standing_of, held_at, against_change, TakesEffect};
-ghost use Rattle.ds_store.specs.Stands.{Stands};
+ghost use Rattle.std.specs.Prelude.{◌≡◌, ◌∷◌, [], None, Err, IfNone, map};
+ghost use Rattle.ds_entry.specs.declared.item.Item.TheVariants.{Change as Changed, Floor as Floored};
+ghost use Rattle.ds_machine.specs.Standing.{cause_of};
+ghost use Rattle.ds_machine.specs.State.{State};
+ghost use Rattle.ds_machine.specs.Machine.{Step};
+ghost use Rattle.ds_machine.specs.Subscription.{is_owed};
+ghost use Rattle.ds_watch.specs.Mask.{padded};
+ghost use Rattle.ds_judge.specs.Last.{IsLast};
+ghost use Rattle.ds_judge.specs.Standing.{machine_standing};
+ghost use Rattle.ds_content.specs.Free.{IsFree, IsFloorFree};
+ghost use Rattle.ds_content.specs.Stands.{Stands};
+ghost use Rattle.ds_store.specs.Merging.{MergesItem, owed_after, stale_by, taken_by};
+ghost use Rattle.ds_store.specs.Standing.{standing_in};
 
-use crate::command::{Command, Reply};
-use crate::judging::{Cause, judge_change};
-use crate::limits::MOST_ITEMS;
-use crate::refusal::Refusal;
 use crate::store::Store;
-use ds_entry::{Change, Items};
+use ds_entry::{Change, Floor, Item, ItemList};
 use ds_join::Merge;
-use ds_names::{Key, NoRoom};
+use ds_judge::{
+    Standing, cause_of_change, cause_of_floor, passed_as, refusal_of_merge,
+};
+use ds_machine::{Cause, Command, Refusal, Reply};
+use ds_names::NoRoom;
 use ds_watch::Mask;
 
 impl Store {
-    // The first cause against a change that another holder gave.
-    fn cause_of(&self, change: &Change) -> Option<Cause>
-        ensures first { result ≡ first_cause change.now.version (against_change (standing_of self.now.held self.now.position change.now.key) change.now) }
-        ensures taken { IfNone result (TakesEffect (held_at self.now.held change.now.key) (length self.now.held) change.now) }
-        ensures room { IfNone result (self.now.position < last_place) }
+    // What is there before a change.
+    fn standing(&self, change: &Change) -> Standing<'_>
+        ensures { machine_standing result ≡ standing_in self.now change.now }
     {
-        let held = self.held.held();
-        let count = held.len();
-        let held = held.get(change.key());
-        judge_change(held, count, self.position, change)
+        Standing {
+            held: self.content.get(change.key()),
+            void: self.content.is_void(change),
+            count: self.content.count(),
+            most: self.content.limits().keys(),
+            position: self.content.cursor().position,
+        }
     }
 
-    // One item of a merge: it takes effect, is passed over, or is refused. Those to which it is owed are added.
-    fn merge_item(&mut self, item: &Change, total: &mut Mask) -> Result<Merge, Refusal>
-        ensures owed { total.new ≡ owed_after result total.old (owed_for item.now.key self.old.subscriptions) }
-        ensures queries { (key : Key) → owed_for key self.new.subscriptions ≡ owed_for key self.old.subscriptions }
-        ensures step { (s : State) → Stands self.old s → (t : State) × MergesItem s item.now result t × Stands self.new t }
-        ensures last { result ≡ Err Refusal.NoRoom → (s : State) → Stands self.old s → cause_of s item.now ≡ None }
+    // The first cause against a change that another holder gave.
+    fn cause_of_change(&self, change: &Change) -> Option<Cause>
+        ensures first { (s : State) → Stands self.now s → result ≡ cause_of s (Changed change.now) }
+        ensures free { IfNone result (IsFree self.now change.now) }
     {
-        if let Some(cause) = self.cause_of(item) {
+        let standing = self.standing(change);
+        cause_of_change(&standing, change)
+    }
+
+    // The first cause against a floor that another holder gave.
+    fn cause_of_floor(&self, floor: &Floor) -> Option<Cause>
+        ensures first { (s : State) → Stands self.now s → result ≡ cause_of s (Floored floor.now) }
+        ensures free { IfNone result (IsFloorFree self.now floor.now) }
+    {
+        let standing = self.floor_standing(floor);
+        cause_of_floor(&standing, floor)
+    }
+
+    // A change of a merge: it takes effect, is passed over, or is refused. Those to which it is owed are added.
+    fn merge_change(&mut self, change: &Change, total: &mut Mask) -> Result<Merge, Refusal>
+        ensures owed { (s : State) → Stands self.old s → total.new ≡ owed_after result total.old (padded (map (is_owed (Changed change.now ∷ [])) s.subscriptions)) }
+        ensures step { (s : State) → Stands self.old s → (t : State) × MergesItem s (Changed change.now) result t × Stands self.new t }
+        ensures last { result ≡ Err Refusal.NoRoom → (s : State) → Stands self.old s → cause_of s (Changed change.now) ≡ None }
+    {
+        if let Some(cause) = self.cause_of_change(change) {
             return passed_as(cause);
         }
-        let Ok(owed) = self.owed(item.key()) else {
+        let Ok(owed) = self.content.owed(change.key()) else {
             return Err(Refusal::NoRoom);
         };
-        let Ok(change) = item.copy(self.alloc) else {
+        let Ok(change) = change.copy(self.alloc) else {
             return Err(Refusal::NoRoom);
         };
-        match self.accept(change, owed) {
+        match self.content.accept(change, owed) {
             Ok(()) => {
                 total.add(owed);
                 Ok(Merge::Taken)
@@ -58,15 +80,46 @@ impl Store {
         }
     }
 
+    // A floor of a merge, likewise. It is owed to every subscription that is made.
+    fn merge_floor(&mut self, floor: Floor, total: &mut Mask) -> Result<Merge, Refusal>
+        ensures owed { (s : State) → Stands self.old s → total.new ≡ owed_after result total.old (padded (map (is_owed (Floored floor ∷ [])) s.subscriptions)) }
+        ensures step { (s : State) → Stands self.old s → (t : State) × MergesItem s (Floored floor) result t × Stands self.new t }
+        ensures last { result ≡ Err Refusal.NoRoom → (s : State) → Stands self.old s → cause_of s (Floored floor) ≡ None }
+    {
+        if let Some(cause) = self.cause_of_floor(&floor) {
+            return passed_as(cause);
+        }
+        let owed = self.content.owed_by_floor();
+        match self.content.raise(floor, owed) {
+            Ok(()) => {
+                total.add(owed);
+                Ok(Merge::Taken)
+            }
+            Err(NoRoom) => Err(Refusal::NoRoom),
+        }
+    }
+
+    // An item of a merge.
+    fn merge_item(&mut self, item: &Item, total: &mut Mask) -> Result<Merge, Refusal>
+        ensures owed { (s : State) → Stands self.old s → total.new ≡ owed_after result total.old (padded (map (is_owed (item.now ∷ [])) s.subscriptions)) }
+        ensures step { (s : State) → Stands self.old s → (t : State) × MergesItem s item.now result t × Stands self.new t }
+        ensures last { result ≡ Err Refusal.NoRoom → (s : State) → Stands self.old s → cause_of s item.now ≡ None }
+    {
+        match item {
+            Item::Change(change) => self.merge_change(change, total),
+            Item::Floor(floor) => self.merge_floor(*floor, total),
+        }
+    }
+
     // The items take effect in order, up to the first that is refused.
-    pub(super) fn merge(&mut self, items: &Items) -> Reply
+    pub(super) fn merge(&mut self, items: &ItemList) -> Reply
         ensures step { (s : State) → Stands self.old s → (t : State) × Step s (Command.Merge items.now) result t × Stands self.new t }
         ensures last { (s : State) → Stands self.old s → IsLast s (Command.Merge items.now) result }
     {
-        if items.len() > MOST_ITEMS {
-            return Reply::Refused(Refusal::TooMany);
+        if let Some(refusal) = refusal_of_merge(items.len()) {
+            return Reply::Refused(refusal);
         }
-        let mut owed = self.owed_to_none();
+        let mut owed = Mask::none();
         let mut done = 0;
         let mut taken = 0;
         let mut stale = 0;
@@ -111,16 +164,5 @@ fn stale_by(join: Merge) -> usize
     match join {
         Merge::Stale => 1,
         Merge::Taken | Merge::Known => 0,
-    }
-}
-
-// What becomes of an item against which this stands: a merge passes over what is known or stale.
-fn passed_as(cause: Cause) -> Result<Merge, Refusal>
-    ensures { result ≡ passed_as cause }
-{
-    match cause {
-        Cause::Known => Ok(Merge::Known),
-        Cause::Refused(Refusal::Stale) => Ok(Merge::Stale),
-        Cause::Refused(refusal) => Err(refusal),
     }
 }

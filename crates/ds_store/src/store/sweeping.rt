@@ -1,149 +1,87 @@
-//! Sweeps, which end the entries of an owner that is dead.
+//! Sweeps, which raise a floor under what a dead owner left.
 
-ghost use Rattle.std.specs.Prelude.{◌≡◌, ◌<◌, ◌≤◌, ◌+◌, ◌++◌, ◌∷◌, [], length, is_some, true, IfSome};
-ghost use Rattle.std.specs.Option.{option_copied};
-ghost use Rattle.std.specs.List.{find};
-ghost use Rattle.std.specs.List.Sorted.{IsStrictlySortedBy};
-ghost use Rattle.ds_entry.specs.Change.{IsChange};
-ghost use Rattle.ds_entry.specs.Covers.{change_cmp};
-ghost use Rattle.ds_join.specs.Reading.{comes_after};
-ghost use Rattle.ds_join.specs.Top.{IsTop};
-ghost use Rattle.ds_store.specs.Limits.{most_keys, last_place};
-ghost use Rattle.ds_store.specs.State.{State, accepts};
-ghost use Rattle.ds_store.specs.Owed.{any_of};
-ghost use Rattle.ds_watch.specs.Followed.{owed_for, owed_each};
-ghost use Rattle.ds_store.specs.Judging.{held_at, is_swept, tombstone, tombstones, TakesPlace};
-ghost use Rattle.ds_store.specs.Machine.{Step};
-ghost use Rattle.ds_store.specs.Last.{IsLast};
-ghost use Rattle.ds_store.specs.Stands.{Stands};
+ghost use Rattle.std.specs.Prelude.{◌≡◌, ◌&&◌, IfNone, is_some, length};
+ghost use Rattle.ds_entry.specs.Void.{voids};
+ghost use Rattle.ds_join.specs.Reading.{value_of};
+ghost use Rattle.ds_machine.specs.Asking.{sweep_cause};
+ghost use Rattle.ds_machine.specs.Machine.{Answers, sweeping, dropped};
+ghost use Rattle.ds_machine.specs.State.{State};
+ghost use Rattle.ds_judge.specs.Last.{IsLast};
+ghost use Rattle.ds_judge.specs.Standing.{machine_floor_standing};
+ghost use Rattle.ds_content.specs.Free.{IsFloorFree};
+ghost use Rattle.ds_content.specs.Stands.{Stands};
+ghost use Rattle.ds_store.specs.Standing.{floor_standing_in};
 
-use crate::command::{Command, Reply};
-use crate::judging::{is_label, is_put, is_rs};
-use crate::limits::{LAST_PLACE, SWEEPS_SEQ};
-use crate::refusal::Refusal;
 use crate::store::Store;
-use ds_entry::{Body, Change};
-use ds_names::{Endpoint, Generation, Key, Name, NoRoom, Version};
-use ds_watch::Mask;
+use ds_entry::{Body, Change, Floor};
+use ds_judge::{FloorStanding, cause_of_sweep, sweep_answer};
+use ds_machine::{Cause, Command, Refusal, Reply};
+use ds_names::{Endpoint, NoRoom};
 
-// Whether a sweep ends the entry.
-fn is_swept(change: &Change, owner: &Name, generation: Generation) -> bool
-    ensures { result ≡ is_swept owner.now generation change.now }
+// Whether the floor drops the change, and the change leaves a value.
+fn is_dropped(floor: &Floor, change: &Change) -> bool
+    ensures { result ≡ voids floor.now change.now && is_some (value_of change.now) }
 {
-    is_put(change)
-        && !is_label(change.key())
-        && change.owner() == owner
-        && change.version().epoch <= generation
-}
-
-// The tombstone that a sweep leaves for the entry.
-fn tombstone(change: &Change, owner: &Name, generation: Generation) -> Change
-    requires { is_swept owner.now generation change.now ≡ true }
-    ensures { result ≡ tombstone generation change.now }
-{
-    let version = Version {
-        epoch: generation,
-        seq: SWEEPS_SEQ,
-    };
-    match Change::make(*change.key(), *change.owner(), version, Body::Gone) {
-        Ok(change) => change,
-        Err(_) => unreachable!(),
+    match change.body() {
+        Body::Put(_) => floor.voids(change),
+        Body::Gone => false,
     }
 }
 
 impl Store {
-    // What is held after a key, in key order.
-    fn next(&self, last: Option<&Key>) -> Option<&Change>
-        ensures value { option_copied result ≡ find (comes_after (option_copied last.entry)) self.now.held }
-        ensures change { IfSome (option_copied result) IsChange }
-        ensures in_order { IsStrictlySortedBy change_cmp self.now.held }
-        ensures few { length self.now.held ≤ most_keys }
+    // How many puts the floor drops.
+    fn count_dropped(&self, floor: &Floor) -> usize
+        ensures { result ≡ length (dropped self.now.held floor.now) }
     {
-        let held = self.held.held();
-        let _count = held.len();
-        held.first_after(last)
-    }
-
-    // How many entries a sweep ends.
-    fn count_swept(&self, owner: &Name, generation: Generation) -> usize
-        ensures count { result ≡ length (tombstones self.now.held owner.now generation) }
-        ensures few { result ≤ most_keys }
-    {
+        let held = self.content.held();
+        let most = held.len();
         let mut count = 0;
-        let mut last: Option<Key> = None;
-        while let Some(change) = self.next(last.as_ref()) {
-            if is_swept(change, owner, generation) {
-                count += 1;
+        for index in 0..most {
+            if let Some(change) = held.at(index) {
+                if is_dropped(floor, change) {
+                    count += 1;
+                }
             }
-            last = Some(*change.key());
         }
         count
     }
 
-    // The subscriptions to which a change of a held key is owed. It takes no memory.
-    fn owed_held(&self, key: &Key) -> Mask
-        requires { is_some (held_at self.now.held key.now) ≡ true }
-        ensures { result ≡ owed_for key.now self.now.subscriptions }
+    // What is there before a floor.
+    pub(super) fn floor_standing(&self, floor: &Floor) -> FloorStanding
+        ensures { machine_floor_standing floor.now.owner result ≡ floor_standing_in self.now floor.now }
     {
-        match self.owed(key) {
-            Ok(owed) => owed,
-            Err(NoRoom) => unreachable!(),
+        FloorStanding {
+            held: self.content.floor(&floor.owner),
+            count: self.content.floor_count(),
+            position: self.content.cursor().position,
         }
     }
 
-    // A change takes the place of a held one, which takes no memory.
-    fn replace(&mut self, change: Change, owed: Mask)
-        requires owed { owed ≡ owed_for change.key self.old.subscriptions }
-        requires place { TakesPlace (held_at self.old.held change.key) change }
-        requires room { self.old.position < last_place }
-        ensures stands { (s : State) → Stands self.old s → Stands self.new (accepts s (change ∷ [])) }
-        ensures owed { (key : Key) → owed_for key self.new.subscriptions ≡ owed_for key self.old.subscriptions }
-        ensures held { IsTop self.new.held (self.old.held ++ change ∷ []) }
-        ensures position { self.new.position ≡ self.old.position + 1 }
+    // The first cause against a sweep.
+    fn cause_of_sweep(&self, caller: Endpoint, floor: &Floor) -> Option<Cause>
+        ensures first { (s : State) → Stands self.now s → result ≡ sweep_cause s caller floor.now }
+        ensures free { IfNone result (IsFloorFree self.now floor.now) }
     {
-        match self.accept(change, owed) {
-            Ok(()) => {}
-            Err(NoRoom) => unreachable!(),
-        }
+        let standing = self.floor_standing(floor);
+        cause_of_sweep(&standing, caller, floor)
     }
 
-    // The tombstones of a sweep take effect in key order. It gives the subscriptions to which any is owed.
-    fn end_all(&mut self, owner: &Name, generation: Generation) -> Mask
-        requires { self.old.position + length (tombstones self.old.held owner.now generation) ≤ last_place }
-        ensures stands { (s : State) → Stands self.old s → Stands self.new (accepts s (tombstones self.old.held owner.now generation)) }
-        ensures owed { result ≡ any_of (owed_each self.old.subscriptions (tombstones self.old.held owner.now generation)) }
+    // RS raises the floor of an owner. It is owed to every subscription that is made.
+    pub(super) fn sweep(&mut self, caller: Endpoint, floor: Floor) -> Reply
+        ensures step { (s : State) → Stands self.old s → (t : State) × Answers s (sweeping s caller floor) result t × Stands self.new t }
+        ensures last { (s : State) → Stands self.old s → IsLast s (Command.Sweep caller floor.owner floor.generation) result }
     {
-        let mut total = Mask::none();
-        let mut last: Option<Key> = None;
-        while let Some(change) = self.next(last.as_ref()) {
-            let key = *change.key();
-            if is_swept(change, owner, generation) {
-                let tombstone = tombstone(change, owner, generation);
-                let owed = self.owed_held(&key);
-                self.replace(tombstone, owed);
-                total.add(owed);
-            }
-            last = Some(key);
+        if let Some(cause) = self.cause_of_sweep(caller, &floor) {
+            return sweep_answer(cause);
         }
-        total
-    }
-
-    // RS ends all live entries of an owner, labels aside, up to a generation.
-    pub(super) fn sweep(&mut self, caller: Endpoint, owner: &Name, generation: Generation) -> Reply
-        ensures step { (s : State) → Stands self.old s → (t : State) × Step s (Command.Sweep caller owner.now generation) result t × Stands self.new t }
-        ensures last { (s : State) → Stands self.old s → IsLast s (Command.Sweep caller owner.now generation) result }
-    {
-        if !is_rs(caller) {
-            return Reply::Refused(Refusal::NotAllowed);
-        }
-        let count = self.count_swept(owner, generation);
-        if count as u64 > LAST_PLACE - self.position {
-            return Reply::Refused(Refusal::Worn);
-        }
-        let owed = self.end_all(owner, generation);
-        Reply::Swept {
-            count,
-            owed: owed.number(),
+        let count = self.count_dropped(&floor);
+        let owed = self.content.owed_by_floor();
+        match self.content.raise(floor, owed) {
+            Ok(()) => Reply::Swept {
+                count,
+                owed: owed.number(),
+            },
+            Err(NoRoom) => Reply::Refused(Refusal::NoRoom),
         }
     }
 }

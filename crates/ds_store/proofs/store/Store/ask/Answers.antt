@@ -1,30 +1,40 @@
-use Rattle.std.proofs.Common.{◌≡◌, ◌∷◌, [], ap, sym, ◌∙◌}
-use Rattle.ds_names.specs.declared.key.Key.{Key}
-use Rattle.ds_entry.specs.Change.{ChangeRecord}
-use Rattle.ds_store.specs.Asked.{request_of}
-use Rattle.ds_store.specs.State.{accepts, owed}
-use Rattle.ds_watch.specs.Mask.{mask}
-use Rattle.ds_watch.specs.Followed.{owed_for}
-use Rattle.ds_store.specs.Judging.{standing_of}
-use Rattle.ds_store.proofs.AnswerLemmas.{asked_taken}
-use Rattle.ds_store.proofs.LastLemmas.{asked_for_no_room}
-use Rattle.ds_store.proofs.MarkLemmas.{owed_as}
+use Rattle.std.proofs.Common.{◌≡◌, ℕ, [], ◌∷◌, Some, refl, ap, sym, ◌∙◌, subst, inl, inr}
+use Rattle.ds_entry.specs.declared.item.Item.TheVariants.{Change as Changed}
+use Rattle.ds_machine.specs.State.{State, accepts, owed}
+use Rattle.ds_machine.specs.Asking.{against_asked, change_asked, name_of, asked_in}
+use Rattle.ds_machine.specs.Standing.{standing_of}
+use Rattle.ds_machine.specs.Machine.{Answers, asking}
+use Rattle.ds_machine.specs.State as states
+use Rattle.ds_machine.specs.declared.refusal.Cause.{Cause}
+use Rattle.ds_machine.specs.declared.reply.Reply.{Reply}
+use Rattle.ds_judge.specs.Asked.{request_of}
+use Rattle.ds_judge.proofs.RoomLemmas.{no_cause}
+use Rattle.ds_content.specs.Content.{ContentRecord}
+use Rattle.ds_content.specs.Stands.{Stands}
+use Rattle.ds_store.proofs.AnswerLemmas.{answered_no_room, asked_taken, owed_number}
 use Rattle.ds_store.proofs.store.Store.ask.Goals as goal
-
-pub returns-in-Ok-accept-clause-step : goal.returns-in-Ok-accept-clause-step
-returns-in-Ok-accept-clause-step c = λ s stands.
-    let v = c.args.self.now in
-    let change = c.change_asked-change.result in
-    let key : c.args.asked.now.key ≡ change.key = ap (λ (x : ChangeRecord). x.key) (sym c.change_asked-change.ensures) in
-    let bits : c.number.result ≡ owed s (change ∷ []) =
-    c.number.ensures ∙ ap mask (c.in-Ok.ensures.owed ∙ ap (λ (k : Key). owed_for k v.subscriptions) key ∙ owed_as v s change stands) in (
-      accepts s (change ∷ []),
-      asked_taken v s (request_of c.args.asked.now) c.args.body c.caller_of-caller.result c.cause_against.result stands c.caller_of-caller.ensures c.cause_against.ensures.first change c.number.result c.in_default.is c.change_asked-change.ensures bits,
-      c.in-Ok-accept.ensures.ok s stands,
-    )
+use Rattle.ds_store.proofs.store.Store.ask.Goals.{in-Ok-accept, in-Err}
 
 pub returns-in-Some-clause-last : goal.returns-in-Some-clause-last
 returns-in-Some-clause-last c = λ e s stands.
-    let v = c.args.self.now in
     let a = request_of c.args.asked.now in
-    absurd (asked_for_no_room (standing_of v.held v.position a.key) c.caller_of-caller.result a c.args.body c.in-Some.cause (sym c.cause_against.ensures.first ∙ c.in-Some.is) (sym c.answer_to.ensures ∙ e))
+    let room = answered_no_room c.in-Some.cause (sym c.answer_to.ensures ∙ e) in
+    absurd (no_cause (Some a.version) (against_asked (standing_of s (asked_in s a c.args.body)) (name_of (states.held s) a.caller) a c.args.body)
+    (sym (c.cause_against.ensures.first s stands) ∙ c.in-Some.is ∙ ap (λ (x : Cause). Some x) room))
+
+pub returns-clause-step : goal.returns-clause-step
+returns-clause-step c = λ s stands.
+    let v = c.self.inside.content in
+    let a = request_of c.args.asked.now in
+    let here : Stands v s = subst (λ (x : ContentRecord). Stands x s) (sym c.self.view_is) stands in
+    let change = c.change_asked-change.result in
+    let none = sym (c.cause_against.ensures.first s stands) ∙ c.in_default.is in
+    elim c.match-accept.branch [
+      | in-Ok-accept w ↦
+          (let bits : w.number.result ≡ owed s (Changed change ∷ []) = owed_number s (Changed change) c.in-Ok.owed w.number.result w.number.ensures (c.in-Ok.ensures.owed s change here (ap (λ x. x.key) c.change_asked-change.ensures)) in
+          (accepts s (Changed change ∷ []),
+          subst (λ (r : Reply). Answers s (asking s a c.args.body) r (accepts s (Changed change ∷ []))) (sym w.result-is)
+          (asked_taken v s a c.args.body change w.number.result here none (c.change_asked-change.ensures ∙ ap (λ m. change_asked m a c.args.body) c.name_of.ensures) bits),
+          w.in-Ok-accept.ensures.ok s here))
+      | in-Err w ↦ (s, inr (record { reply_is = w.result-is; state_is = refl }), subst (λ (x : ContentRecord). Stands x s) (sym w.in-Err.ensures.err) here)
+    ]

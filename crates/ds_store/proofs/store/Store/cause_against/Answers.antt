@@ -1,20 +1,20 @@
-use Rattle.std.proofs.Common.{◌≡◌, ◌<◌, ◌∙◌, IfNone, ap, subst}
-use Rattle.std.specs.Option.{option_copied}
-use Rattle.ds_join.specs.Held.{held_changes}
-use Rattle.ds_store.specs.Asked.{request_of}
-use Rattle.ds_store.specs.Content.{Content}
-use Rattle.ds_store.specs.Limits.{last_place}
-use Rattle.ds_store.specs.Judging.{Standing, standing, standing_of, first_cause, against_asked, change_asked, TakesEffect}
-use Rattle.ds_store.proofs.AnswerLemmas.{standing_held}
+use Rattle.std.proofs.Common.{◌≡◌, IfNone, ap, ◌∙◌, subst}
+use Rattle.ds_machine.specs.Asking.{change_asked, name_of}
+use Rattle.ds_judge.specs.Asked.{request_of}
+use Rattle.ds_judge.specs.Standing.{machine_standing}
+use Rattle.ds_content.specs.Content.{ContentRecord}
+use Rattle.ds_content.specs.Free.{IsFree}
+use Rattle.ds_store.proofs.StandingLemmas.{asked_cause, none_free}
 use Rattle.ds_store.proofs.store.Store.cause_against.Goals as goal
 
-pub returns : goal.returns
-returns c =
-    let same : standing (option_copied c.get-held.result) c.len-count.result c.self.inside.position ≡ standing_of c.args.self.now.held c.args.self.now.position c.args.asked.now.key =
-    standing_held c.held-held.result.now c.args.self.now c.args.asked.now.key (option_copied c.get-held.result) c.len-count.result c.self.inside.position c.len-count.ensures.own
-    (ap held_changes c.held-held.ensures.value ∙ ap (λ (v : Content). v.held) c.self.view_is) (ap (λ (v : Content). v.position) c.self.view_is) c.get-held.ensures.value c.len-count.ensures.count in
-    record {
-      first = c.judge.ensures.first ∙ ap (λ (t : Standing). first_cause c.args.asked.now.version (against_asked t c.args.caller.now (request_of c.args.asked.now) c.args.body.now)) same;
-      taken = subst (λ (t : Standing). IfNone c.judge.result (TakesEffect t.held t.count (change_asked c.args.caller.now (request_of c.args.asked.now) c.args.body.now))) same c.judge.ensures.taken;
-      room = subst (λ (t : Standing). IfNone c.judge.result (t.position < last_place)) same c.judge.ensures.room;
-    }
+pub returns-clause-first : goal.returns-clause-first
+returns-clause-first c = λ s stands.
+    let named = c.name_of-caller.ensures ∙ ap (λ (x : ContentRecord). name_of x.held c.args.asked.now.caller) c.self.view_is in
+    asked_cause c.args.self.now s (request_of c.args.asked.now) c.args.body.now c.name_of-caller.result (machine_standing c.standing_before-standing.result) c.cause_of_asked.result stands named (c.standing_before-standing.ensures c.args.body.now) c.cause_of_asked.ensures.first
+
+pub returns-clause-free : goal.returns-clause-free
+returns-clause-free c =
+    let a = request_of c.args.asked.now in
+    let named = c.name_of-caller.ensures ∙ ap (λ (x : ContentRecord). name_of x.held c.args.asked.now.caller) c.self.view_is in
+    subst (λ m. IfNone c.cause_of_asked.result (IsFree c.args.self.now (change_asked m a c.args.body.now))) named
+    (none_free c.cause_of_asked.result c.args.self.now (change_asked c.name_of-caller.result a c.args.body.now) (machine_standing c.standing_before-standing.result) (c.standing_before-standing.ensures c.args.body.now) c.cause_of_asked.ensures.free)

@@ -1,64 +1,92 @@
-use Rattle.std.proofs.Common.{◌≡◌, ◌<◌, ◌-◌, ◌+◌, Some, None, length, map, take, ap, sym, ◌∙◌, subst, arith}
+use Rattle.std.proofs.Common.{◌≡◌, ℕ, ◌+◌, ◌-◌, ◌<◌, ◌≤◌, [], ◌∷◌, length, map, take, Some, None, Err, ap, sym, ◌∙◌, subst, arith}
+use Rattle.std.proofs.lemmas.Option.{slice_get_within}
 use Rattle.std.specs.Prelude.{slice_get}
 use Rattle.std.specs.Option.{option_copied}
-use Rattle.std.proofs.lemmas.Option.{slice_get_within}
-use Rattle.ds_store.specs.State.{State}
-use Rattle.ds_watch.specs.Subscription.{is_owed}
-use Rattle.ds_watch.specs.Mask.{mask}
-use Rattle.ds_store.specs.Stands.{Stands}
-use Rattle.ds_store.specs.Machine.{Course, course}
-use Rattle.ds_store.proofs.MergeLemmas.{next_course, next_reached, merge_stopped, merge_done, taken_within, stale_within}
-use Rattle.ds_store.proofs.MarkLemmas.{owed_as}
-use Rattle.ds_store.proofs.OwedLemmas.{item_owed}
+use Rattle.ds_watch.specs.Mask.{mask, padded}
+use Rattle.ds_machine.specs.State.{State, owed}
+use Rattle.ds_machine.specs.Subscription.{is_owed}
+use Rattle.ds_machine.specs.Merging.{Course, course}
+use Rattle.ds_content.specs.Stands.{Stands}
+use Rattle.ds_store.proofs.MergeLemmas.{not_begun, nothing_owed, merge_stopped, merge_done, taken_within, stale_within, next_course, next_reached, item_owed, course_places, course_number, stopped_last}
 use Rattle.ds_store.proofs.store.Store.merge.Goals as goal
+
+pub loop-item-init : goal.loop-item-init
+loop-item-init c = record {
+  few = omega (arith, c.len.ensures, c.in_default.ensures.few);
+  within = omega arith;
+  taken = omega arith;
+  stale = omega arith;
+  owed = λ s stands. c.none-owed.ensures ∙ nothing_owed c.args.self.now s stands;
+  reached = λ s stands. (not_begun s, stands);
+}
 
 pub returns-in-Err-clause-step : goal.returns-in-Err-clause-step
 returns-in-Err-clause-step c = λ s stands.
+    let items = c.args.items.now in
+    let i = c.loop-item.done in
+    let k = course s (take i items) in
     let at = c.loop-item.invariant.reached s stands in
-    let next = c.in-Err.ensures.step (course s (take c.loop-item.done c.args.items.now)).state at.1 in
-    let item : slice_get c.args.items.now c.loop-item.done ≡ Some c.in-Some.item.now = sym (subst (λ o. option_copied o ≡ slice_get c.args.items.now c.loop-item.done) c.in-Some.is c.get.ensures) in (
+    let next = c.in-Err.ensures.step k.state at.1 in
+    let item : slice_get items i ≡ Some c.in-Some-get.item.now = sym (subst (λ o. option_copied o ≡ slice_get items i) c.in-Some-get.is c.get.ensures) in
+    let flags = c.in-Err.ensures.owed k.state at.1 ∙ c.loop-item.invariant.owed s stands in (
       next.0,
-      merge_stopped s c.args.items.now c.loop-item.done c.in-Some.item.now c.in-Err.fault next.0 c.loop-item.taken c.loop-item.stale c.number.result (c.number.ensures ∙ ap mask (c.in-Err.ensures.owed ∙ c.loop-item.invariant.owed s stands)) c.loop-item.invariant.few item at.0 next.1,
+      merge_stopped s items i c.in-Some-get.item.now c.in-Err.fault next.0 c.loop-item.taken c.loop-item.stale c.number.result (course_number s k c.number.result c.merge_item.new.total c.number.ensures flags) c.loop-item.invariant.few item at.0 next.1,
       next.2,
     )
 
+pub returns-in-Err-clause-last : goal.returns-in-Err-clause-last
+returns-in-Err-clause-last c = λ s stands.
+    let items = c.args.items.now in
+    let i = c.loop-item.done in
+    let k = course s (take i items) in
+    let at = c.loop-item.invariant.reached s stands in
+    let item : slice_get items i ≡ Some c.in-Some-get.item.now = sym (subst (λ o. option_copied o ≡ slice_get items i) c.in-Some-get.is c.get.ensures) in
+    stopped_last s items i c.in-Some-get.item.now c.in-Err.fault c.number.result item (λ e. c.merge_item.ensures.last (c.in-Err.is ∙ ap (λ f. Err f) e) k.state at.1)
+
 pub loop-item-smaller : goal.loop-item-smaller
 loop-item-smaller c =
-    let item : slice_get c.args.items.now c.loop-item.done ≡ Some c.in-Some.item.now = sym (subst (λ o. option_copied o ≡ slice_get c.args.items.now c.loop-item.done) c.in-Some.is c.get.ensures) in
-    let within : c.loop-item.done < length c.args.items.now = slice_get_within c.args.items.now c.loop-item.done c.in-Some.item.now item in
-    let fewer : length c.args.items.now - (c.loop-item.done + 1) < length c.args.items.now - c.loop-item.done = omega arith in
+    let items = c.args.items.now in
+    let i = c.loop-item.done in
+    let item : slice_get items i ≡ Some c.in-Some-get.item.now = sym (subst (λ o. option_copied o ≡ slice_get items i) c.in-Some-get.is c.get.ensures) in
+    let within : i < length items = slice_get_within items i c.in-Some-get.item.now item in
+    let fewer : length items - (i + 1) < length items - i = omega arith in
     fewer
 
 pub loop-item-preserved : goal.loop-item-preserved
 loop-item-preserved c =
-    let item : slice_get c.args.items.now c.loop-item.done ≡ Some c.in-Some.item.now = sym (subst (λ o. option_copied o ≡ slice_get c.args.items.now c.loop-item.done) c.in-Some.is c.get.ensures) in
-    let within : c.loop-item.done < length c.args.items.now = slice_get_within c.args.items.now c.loop-item.done c.in-Some.item.now item in
+    let items = c.args.items.now in
+    let i = c.loop-item.done in
+    let it = c.in-Some-get.item.now in
+    let item : slice_get items i ≡ Some it = sym (subst (λ o. option_copied o ≡ slice_get items i) c.in-Some-get.is c.get.ensures) in
+    let within : i < length items = slice_get_within items i it item in
     record {
       few = c.loop-item.invariant.few;
       within = omega (arith, within);
-      taken = taken_within c.in-Ok.join c.loop-item.taken c.loop-item.done c.taken_by-taken.result c.taken_by-taken.ensures c.loop-item.invariant.taken;
-      stale = stale_within c.in-Ok.join c.loop-item.stale c.loop-item.done c.stale_by-stale.result c.stale_by-stale.ensures c.loop-item.invariant.stale;
-      queries = λ key. c.merge_item.ensures.queries key ∙ c.loop-item.invariant.queries key;
+      taken = taken_within c.in-Ok.join c.loop-item.taken i c.taken_by-taken.result c.taken_by-taken.ensures c.loop-item.invariant.taken;
+      stale = stale_within c.in-Ok.join c.loop-item.stale i c.stale_by-stale.result c.stale_by-stale.ensures c.loop-item.invariant.stale;
       owed = λ s stands.
           (let at = c.loop-item.invariant.reached s stands in
-          let k = course s (take c.loop-item.done c.args.items.now) in
+          let k = course s (take i items) in
           let next = c.in-Ok.ensures.step k.state at.1 in
-          let more = c.loop-item.invariant.queries c.in-Some.item.now.key ∙ owed_as c.args.self.now s c.in-Some.item.now stands in
-          c.in-Ok.ensures.owed
-          ∙ item_owed k c.in-Some.item.now c.in-Ok.join next.0 s.subscriptions _ _ at.0.stop next.1 (c.loop-item.invariant.owed s stands) more
-          ∙ ap (λ (x : Course). map (is_owed x.taken) s.subscriptions) (sym (next_course s c.args.items.now c.loop-item.done c.in-Some.item.now item)));
+          let more = ap (λ l. padded (map (is_owed (it ∷ [])) l)) (course_places s (take i items)) in
+          c.in-Ok.ensures.owed k.state at.1
+          ∙ item_owed k it c.in-Ok.join next.0 s.subscriptions _ _ at.0.stop next.1 (c.loop-item.invariant.owed s stands) more
+          ∙ ap (λ (x : Course). padded (map (is_owed x.taken) s.subscriptions)) (sym (next_course s items i it item)));
       reached = λ s stands.
           (let at = c.loop-item.invariant.reached s stands in
-          let next = c.in-Ok.ensures.step (course s (take c.loop-item.done c.args.items.now)).state at.1 in
-          let there = next_reached s c.args.items.now c.loop-item.done c.in-Some.item.now c.in-Ok.join next.0 c.loop-item.taken c.loop-item.stale c.taken_by-taken.result c.stale_by-stale.result item at.0 next.1 c.taken_by-taken.ensures c.stale_by-stale.ensures in
+          let next = c.in-Ok.ensures.step (course s (take i items)).state at.1 in
+          let there = next_reached s items i it c.in-Ok.join next.0 c.loop-item.taken c.loop-item.stale c.taken_by-taken.result c.stale_by-stale.result item at.0 next.1 c.taken_by-taken.ensures c.stale_by-stale.ensures in
           (there.0, subst (λ (t : State). Stands c.merge_item.new.self t) there.1 next.2));
     }
 
 pub returns-clause-step : goal.returns-clause-step
 returns-clause-step c = λ s stands.
+    let items = c.args.items.now in
+    let i = c.loop-item.done in
+    let k = course s (take i items) in
     let at = c.loop-item.invariant.reached s stands in
-    let gone : slice_get c.args.items.now c.loop-item.done ≡ None = sym (subst (λ o. option_copied o ≡ slice_get c.args.items.now c.loop-item.done) c.in_default.is c.get.ensures) in (
-      (course s (take c.loop-item.done c.args.items.now)).state,
-      merge_done s c.args.items.now c.loop-item.done c.loop-item.taken c.loop-item.stale c.number-2.result (c.number-2.ensures ∙ ap mask (c.loop-item.invariant.owed s stands)) c.loop-item.invariant.few gone c.loop-item.invariant.within at.0,
+    let gone : slice_get items i ≡ None = sym (subst (λ o. option_copied o ≡ slice_get items i) c.in_default-get.is c.get.ensures) in (
+      k.state,
+      merge_done s items i c.loop-item.taken c.loop-item.stale c.number-2.result (course_number s k c.number-2.result c.loop-item.owed c.number-2.ensures (c.loop-item.invariant.owed s stands)) c.loop-item.invariant.few gone c.loop-item.invariant.within at.0,
       at.1,
     )

@@ -1,10 +1,9 @@
 use Rattle.std.proofs.Common.{◌≡◌, ◌≤◌, ◌-◌, map, length, take}
-use Rattle.ds_names.specs.declared.key.Key.{Key}
-use Rattle.ds_store.specs.State.{State}
-use Rattle.ds_watch.specs.Subscription.{is_owed}
-use Rattle.ds_watch.specs.Followed.{owed_for}
-use Rattle.ds_store.specs.Stands.{Stands}
-use Rattle.ds_store.specs.Machine.{course}
+use Rattle.ds_watch.specs.Mask.{padded}
+use Rattle.ds_machine.specs.State.{State}
+use Rattle.ds_machine.specs.Subscription.{is_owed}
+use Rattle.ds_machine.specs.Merging.{course}
+use Rattle.ds_content.specs.Stands.{Stands}
 use Rattle.ds_store.proofs.MergeLemmas.{Reached}
 use Rattle.ds_store.proofs.store.Store.merge.Given as goal
 
@@ -15,8 +14,7 @@ invariant-loop-item l = record {
   within : l.done ≤ length l.items;
   taken : l.taken ≤ l.done;
   stale : l.stale ≤ l.done;
-  queries : (key : Key) → owed_for key l.self.subscriptions ≡ owed_for key l.fn.self.subscriptions;
-  owed : (s : State) → Stands l.fn.self s → l.owed ≡ map (is_owed (course s (take l.done l.items)).taken) s.subscriptions;
+  owed : (s : State) → Stands l.fn.self s → l.owed ≡ padded (map (is_owed (course s (take l.done l.items)).taken) s.subscriptions);
   reached : (s : State) → Stands l.fn.self s → Reached (course s (take l.done l.items)) l.done l.taken l.stale × Stands l.self (course s (take l.done l.items)).state;
 }
 

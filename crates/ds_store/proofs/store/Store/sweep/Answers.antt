@@ -1,30 +1,41 @@
-use Rattle.std.proofs.Common.{◌≡◌, ◌+◌, ◌≤◌, true, List, length, ap, sym, ◌∙◌, arith}
-use Rattle.ds_entry.specs.Change.{ChangeRecord}
-use Rattle.ds_join.specs.Held.{held_changes}
-use Rattle.ds_join.specs.Top.{tops}
-use Rattle.ds_watch.specs.Mask.{mask}
-use Rattle.ds_store.proofs.OwedLemmas.{all_owed}
-use Rattle.ds_store.specs.Content.{Content}
-use Rattle.ds_store.specs.Kept.{unseen_at}
-use Rattle.ds_store.specs.Limits.{last_place}
-use Rattle.ds_store.specs.State.{accepts, owed}
-use Rattle.ds_store.specs.Judging.{is_rs, tombstones}
-use Rattle.ds_store.proofs.CheckLemmas.{length_from}
-use Rattle.ds_store.proofs.SweepLemmas.{sweep_done}
+use Rattle.std.proofs.Common.{◌≡◌, ℕ, [], ◌∷◌, length, Some, None, refl, ap, sym, ◌∙◌, subst, inl, inr}
+use Rattle.ds_entry.specs.declared.item.Item.TheVariants.{Floor as Floored}
+use Rattle.ds_machine.specs.State.{State, accepts, owed}
+use Rattle.ds_machine.specs.Machine.{Answers, IsOutcome, sweeping, sweep_answer, dropped}
+use Rattle.ds_machine.specs.declared.command.Command.TheVariants.{Sweep}
+use Rattle.ds_machine.specs.declared.reply.Reply.{Reply}
+use Rattle.ds_judge.specs.Last.{IsLast}
+use Rattle.ds_content.specs.Content.{ContentRecord}
+use Rattle.ds_content.specs.Stands.{Stands}
+use Rattle.ds_store.proofs.AnswerLemmas.{last_of, sweep_refused, sweep_taken, owed_number}
 use Rattle.ds_store.proofs.store.Store.sweep.Goals as goal
+use Rattle.ds_store.proofs.store.Store.sweep.Goals.{in-Ok, in-Err}
+
+pub returns-in-Some-clause-step : goal.returns-in-Some-clause-step
+returns-in-Some-clause-step c = λ s stands.
+    let f = c.args.floor in
+    let cause = sym (c.cause_of_sweep.ensures.first s stands) ∙ c.in-Some.is in
+    (s, inl (subst (λ (r : Reply). IsOutcome (sweeping s c.args.caller f) r s) (sym c.sweep_answer.ensures) (sweep_refused s c.args.caller f c.in-Some.cause cause)), stands)
+
+pub returns-in-Some-clause-last : goal.returns-in-Some-clause-last
+returns-in-Some-clause-last c = λ s stands.
+    let f = c.args.floor in
+    let cause = sym (c.cause_of_sweep.ensures.first s stands) ∙ c.in-Some.is in
+    last_of s (Sweep c.args.caller f.owner f.generation) c.sweep_answer.result s (subst (λ (r : Reply). IsOutcome (sweeping s c.args.caller f) r s) (sym c.sweep_answer.ensures) (sweep_refused s c.args.caller f c.in-Some.cause cause))
 
 pub returns-clause-step : goal.returns-clause-step
 returns-clause-step c = λ s stands.
-    let v = c.args.self.now in
-    let rs : is_rs c.args.caller ≡ true = sym c.is_rs.ensures ∙ c.if-not-is_rs.false in
-    let at : c.self.inside.position ≡ v.position = ap (λ (x : Content). x.position) c.self.view_is in
-    let fits : v.position + length (tombstones v.held c.args.owner.now c.args.generation) ≤ last_place = omega (arith, at, c.if-count-self.false, c.count_swept-count.ensures.count, c.self.invariant.position) in
-    let all = tombstones v.held c.args.owner.now c.args.generation in
-    let long : length v.subscriptions ≡ 128 =
-    ap (λ (x : Content). length x.subscriptions) (sym c.self.view_is) ∙ length_from (held_changes c.self.inside.held.held) (unseen_at c.self.inside.held.marks) 0 c.self.inside.subscriptions ∙ c.self.invariant.places in
-    let bits : c.number.result ≡ owed s (tombstones (tops s.accepted) c.args.owner.now c.args.generation) =
-    c.number.ensures ∙ ap mask (c.end_all-owed.ensures.owed ∙ all_owed v s all long stands) ∙ ap (λ (hs : List ChangeRecord). owed s (tombstones hs c.args.owner.now c.args.generation)) stands.held in (
-      accepts s (tombstones v.held c.args.owner.now c.args.generation),
-      sweep_done v s c.args.caller c.args.owner.now c.args.generation stands c.count_swept-count.result c.number.result rs fits c.count_swept-count.ensures.count bits,
-      c.end_all-owed.ensures.stands s stands,
-    )
+    let v = c.self.inside.content in
+    let f = c.args.floor in
+    let here : Stands v s = subst (λ (x : ContentRecord). Stands x s) (sym c.self.view_is) stands in
+    let none = sym (c.cause_of_sweep.ensures.first s stands) ∙ c.in_default.is in
+    let counted = c.count_dropped-count.ensures ∙ ap (λ (x : ContentRecord). length (dropped x.held f)) (sym c.self.view_is) in
+    elim c.match-raise.branch [
+      | in-Ok w ↦
+          (let bits : w.number.result ≡ owed s (Floored f ∷ []) = owed_number s (Floored f) c.owed_by_floor-owed.result w.number.result w.number.ensures (c.owed_by_floor-owed.ensures.owed s f here) in
+          (accepts s (Floored f ∷ []),
+          subst (λ (r : Reply). Answers s (sweeping s c.args.caller f) r (accepts s (Floored f ∷ []))) (sym w.result-is)
+          (inl (sweep_taken v s c.args.caller f c.count_dropped-count.result w.number.result here none counted bits)),
+          w.in-Ok.ensures.ok s here))
+      | in-Err w ↦ (s, inr (record { reply_is = w.result-is; state_is = refl }), subst (λ (x : ContentRecord). Stands x s) (sym w.in-Err.ensures.err) here)
+    ]

@@ -1,0 +1,170 @@
+-- What a Subscribe and a Check are answered, in the words of a store's content.
+use Rattle.std.proofs.Common.{◌≡◌, ℕ, zero, suc, ◌+◌, ◌<◌, ◌||◌, ◌&&◌, Bool, true, false, cond, List, [], ◌∷◌, ◌++◌, filter, length, take, get_or, Option, Some, None, is_some, refl, ap, ap₂, sym, ◌∙◌, subst, inl, inr, ◌⊎◌, arith}
+use Rattle.std.specs.List.{list_any}
+use Rattle.std.specs.Option.{option_map, option_map_or, option_or, unwrap_or}
+use Rattle.ds_entry.specs.declared.item.Item.{Item}
+use Rattle.ds_pattern.specs.declared.query.Query.{Query}
+use Rattle.ds_watch.specs.Followed.{Followed}
+use Rattle.ds_machine.specs.Order.{first_refusal}
+use Rattle.ds_machine.specs.Calling.{SubscribeCase, CheckCase, against_subscribe, against_check}
+use Rattle.ds_machine.specs.Subscription.{Subscription, is_unseen}
+use Rattle.ds_machine.specs.State.{State, held, unseen, subscription_at, subscribes}
+use Rattle.ds_machine.specs.Watching.{subscribe_case, subscribing, owed_at_first, shown_at_first, check_case, checking, checking_at, shows, has_unseen}
+use Rattle.ds_machine.specs.Machine.{Answers, IsOutcome}
+use Rattle.ds_machine.specs.declared.refusal.Refusal.{Refusal}
+use Rattle.ds_machine.specs.declared.refusal.Refusal.TheVariants as refusals
+use Rattle.ds_machine.specs.declared.reply.Reply.{Reply}
+use Rattle.ds_machine.specs.declared.reply.Reply.TheVariants.{Subscribed, Checked, Refused}
+use Rattle.ds_machine.specs.declared.command.Command.TheVariants.{Check}
+use Rattle.ds_judge.specs.Last.{IsLast}
+use Rattle.ds_judge.specs.Refused.{IsRefusedFor}
+use Rattle.ds_judge.specs.Cases.{refusal_of_showing}
+use Rattle.ds_content.specs.Content.{ContentRecord}
+use Rattle.ds_content.specs.Followed.{followed_of}
+use Rattle.ds_content.specs.Stands.{Stands}
+use Rattle.ds_content.proofs.SeenLemmas.{place_of}
+use Rattle.ds_store.proofs.AnswerLemmas.{last_of}
+
+mapped_some : {X Y : Type 0} (f : X → Y) (o : Option X) → is_some (option_map f o) ≡ is_some o
+mapped_some f None = refl
+mapped_some f (Some x) = refl
+
+-- there is a subscription where it has a stamp
+pub taken_is : (v : ContentRecord) (s : State) (sub : ℕ) (o : Option ℕ) → Stands v s → o ≡ option_map (λ (f : Followed). f.stamp) (get_or v.subscriptions sub None) → is_some o ≡ is_some (subscription_at s sub)
+taken_is v s sub o stands e =
+    ap is_some e ∙ mapped_some (λ (f : Followed). f.stamp) (get_or v.subscriptions sub None) ∙ ap is_some (place_of v s stands sub) ∙ mapped_some (followed_of (held s)) (subscription_at s sub)
+
+-- ---- a Subscribe
+abbrev pub subscribe_of : ℕ → Bool → ℕ → ℕ → Query → Bool → SubscribeCase
+subscribe_of places taken stamp sub query overwrite = record { places = places; taken = taken; stamp = stamp; sub = sub; query = query; overwrite = overwrite }
+
+pub subscribe_same : (s : State) (sub : ℕ) (query : Query) (overwrite : Bool) (places : ℕ) (taken : Bool) (stamp : ℕ) → places ≡ s.limits.subs → taken ≡ is_some (subscription_at s sub) → stamp ≡ s.stamp
+    → subscribe_of places taken stamp sub query overwrite ≡ subscribe_case s sub query overwrite
+subscribe_same s sub query overwrite places taken stamp p q r = λ i. record { places = p i; taken = q i; stamp = r i; sub = sub; query = query; overwrite = overwrite }
+
+module _ (s : State) (sub : ℕ) (query : Query) (initial overwrite : Bool) where
+  abbrev subscribed_with : Option Refusal → Reply × State
+  subscribed_with o = option_map_or (λ refusal. (Refused refusal, s)) o (Subscribed (s.stamp + 1) (owed_at_first (held s) sub query initial), subscribes s sub query (shown_at_first (held s) initial))
+
+  pub subscribe_refused : (x : SubscribeCase) (r : Refusal) → x ≡ subscribe_case s sub query overwrite → IsRefusedFor (first_refusal (against_subscribe x)) r → Answers s (subscribing s sub query initial overwrite) (Refused r) s
+  subscribe_refused x r same (inl e) = inr (record { reply_is = ap (λ y. Refused y) e; state_is = refl })
+  subscribe_refused x r same (inr e) =
+      let now : first_refusal (against_subscribe (subscribe_case s sub query overwrite)) ≡ Some r = ap (λ (y : SubscribeCase). first_refusal (against_subscribe y)) (sym same) ∙ e in
+      inl (record { reply_is = sym (ap (λ o. (subscribed_with o).0) now); state_is = sym (ap (λ o. (subscribed_with o).1) now) })
+
+  pub subscribe_made : (v : ContentRecord) (x : SubscribeCase) (n bits : ℕ) → Stands v s → x ≡ subscribe_case s sub query overwrite → first_refusal (against_subscribe x) ≡ None → n ≡ v.stamp + 1 → bits ≡ owed_at_first v.held sub query initial
+      → Answers s (subscribing s sub query initial overwrite) (Subscribed n bits) (subscribes s sub query (shown_at_first v.held initial))
+  subscribe_made v x n bits stands same none e owes =
+      let now : first_refusal (against_subscribe (subscribe_case s sub query overwrite)) ≡ None = ap (λ (y : SubscribeCase). first_refusal (against_subscribe y)) (sym same) ∙ none in
+      inl (record {
+        reply_is = ap₂ (λ a b. Subscribed a b) (e ∙ ap (λ m. m + 1) stands.stamp) (owes ∙ ap (λ hs. owed_at_first hs sub query initial) stands.held) ∙ sym (ap (λ o. (subscribed_with o).0) now);
+        state_is = ap (λ hs. subscribes s sub query (shown_at_first hs initial)) stands.held ∙ sym (ap (λ o. (subscribed_with o).1) now);
+      })
+
+-- ---- a Check
+abbrev pub check_of : ℕ → Bool → Bool → ℕ → ℕ → ℕ → CheckCase
+check_of places taken some stamp sub max = record { places = places; taken = taken; some = some; stamp = stamp; sub = sub; max = max }
+
+-- something is to be shown to the subscription at the place
+abbrev pub is_shown : State → Option Subscription → Bool
+is_shown s seer = option_map_or (has_unseen s) seer false
+
+-- what stands against a Check, where what stands before showing is known
+pub check_judged : (s : State) (sub max : ℕ) (places : ℕ) (taken : Bool) (r : Option Refusal) → places ≡ s.limits.subs → taken ≡ is_some (subscription_at s sub)
+    → ((some : Bool) (stamp : ℕ) → first_refusal (against_check (check_of places taken some stamp sub max)) ≡ option_or r (refusal_of_showing some stamp))
+    → first_refusal (against_check (check_case s sub max (subscription_at s sub))) ≡ option_or r (refusal_of_showing (is_shown s (subscription_at s sub)) s.stamp)
+check_judged s sub max places taken r p q first =
+    let some = is_shown s (subscription_at s sub) in
+    let same : check_of places taken some s.stamp sub max ≡ check_case s sub max (subscription_at s sub) = λ i. record { places = p i; taken = q i; some = some; stamp = s.stamp; sub = sub; max = max } in
+    sym (ap (λ (x : CheckCase). first_refusal (against_check x)) same) ∙ first some s.stamp
+
+pub check_refused : (s : State) (sub max : ℕ) (r : Refusal) → first_refusal (against_check (check_case s sub max (subscription_at s sub))) ≡ Some r → IsOutcome (checking s sub max) (Refused r) s
+check_refused s sub max r e =
+    let rest = option_map_or (λ f. shows s sub f (take max (unseen s f))) (subscription_at s sub) (Refused refusals.NotFound, s) in
+    let result : Option Refusal → Reply × State = λ o. option_map_or (λ x. (Refused x, s)) o rest in
+    record { reply_is = sym (ap (λ o. (result o).0) e); state_is = sym (ap (λ o. (result o).1) e) }
+
+-- the subscription with a stamp
+pub record Seen (s : State) (sub stamp : ℕ) : Type 0 where
+  pub seer : Subscription
+  pub here : subscription_at s sub ≡ Some seer
+  pub stamp_is : stamp ≡ seer.stamp
+
+pub seen_at : (v : ContentRecord) (s : State) (sub n : ℕ) → Stands v s → Some n ≡ option_map (λ (f : Followed). f.stamp) (get_or v.subscriptions sub None) → Seen s sub n
+seen_at v s sub n stands e = by_place (subscription_at s sub) refl
+  where
+    there : Some n ≡ option_map (λ (f : Followed). f.stamp) (option_map (followed_of (held s)) (subscription_at s sub))
+    there = e ∙ ap (option_map (λ (f : Followed). f.stamp)) (place_of v s stands sub)
+
+    by_place : (o : Option Subscription) → subscription_at s sub ≡ o → Seen s sub n
+    by_place None q = absurd (let no : Some n ≡ None = there ∙ ap (λ o. option_map (λ (f : Followed). f.stamp) (option_map (followed_of (held s)) o)) q in cc)
+    by_place (Some seer) q =
+        let same : Some n ≡ Some seer.stamp = there ∙ ap (λ o. option_map (λ (f : Followed). f.stamp) (option_map (followed_of (held s)) o)) q in
+        let one : n ≡ seer.stamp = cc in
+        record { seer = seer; here = q; stamp_is = one }
+
+-- ---- what is shown
+-- there are some
+abbrev pub are_some : List Item → Bool
+are_some [] = false
+are_some (i ∷ items) = true
+
+any_passes : (p : Item → Bool) (xs : List Item) → list_any p xs ≡ are_some (filter p xs)
+any_passes p [] = refl
+any_passes p (x ∷ xs) = by_test (p x) (any_passes p xs)
+  where
+    by_test : (b : Bool) → list_any p xs ≡ are_some (filter p xs) → b || list_any p xs ≡ are_some (cond b (x ∷ filter p xs) (filter p xs))
+    by_test true e = refl
+    by_test false e = e
+
+some_taken : (n : ℕ) (xs : List Item) → 0 < n → are_some (take n xs) ≡ are_some xs
+some_taken zero xs l = absurd (omega arith)
+some_taken (suc n) [] l = refl
+some_taken (suc n) (x ∷ xs) l = refl
+
+-- something is shown where something is to be shown
+pub some_is : (s : State) (seer : Subscription) (max : ℕ) (items : List Item) → 0 < max → items ≡ take max (unseen s seer) → are_some items ≡ has_unseen s seer
+some_is s seer max items l e =
+    ap are_some e ∙ some_taken max (unseen s seer) l ∙ sym (any_passes (is_unseen seer.query seer.shown) (held s))
+
+pub no_items : (items : List Item) → length items ≡ 0 → items ≡ []
+no_items [] e = refl
+no_items (i ∷ items) e = absurd (omega (arith, e))
+
+pub some_items : (items : List Item) → 0 < length items → are_some items ≡ true
+some_items [] l = absurd (omega (arith, l))
+some_items (i ∷ items) l = refl
+
+-- what could not be shown for want of memory is refused for what stands, and for want of memory where nothing does
+pub check_short : (s : State) (sub max : ℕ) (o : Option Refusal) → first_refusal (against_check (check_case s sub max (subscription_at s sub))) ≡ o → Answers s (checking s sub max) (Refused (unwrap_or o refusals.NoRoom)) s
+check_short s sub max None e = inr (record { reply_is = refl; state_is = refl })
+check_short s sub max (Some r) e = inl (check_refused s sub max r e)
+
+pub short_last : (s : State) (sub max : ℕ) (o : Option Refusal) → first_refusal (against_check (check_case s sub max (subscription_at s sub))) ≡ o → IsLast s (Check sub max) (Refused (unwrap_or o refusals.NoRoom))
+short_last s sub max None e = e
+short_last s sub max (Some r) e = last_of s (Check sub max) (Refused r) s (check_refused s sub max r e)
+
+module _ (s : State) (sub max : ℕ) (seer : Subscription) (here : subscription_at s sub ≡ Some seer) where
+  abbrev checked_with : Option Refusal → Reply × State
+  checked_with o = option_map_or (λ r. (Refused r, s)) o (shows s sub seer (take max (unseen s seer)))
+
+  -- a Check of what nothing stands against shows the first
+  pub checking_is : first_refusal (against_check (check_case s sub max (subscription_at s sub))) ≡ None → checking s sub max ≡ shows s sub seer (take max (unseen s seer))
+  checking_is none =
+      let at : first_refusal (against_check (check_case s sub max (Some seer))) ≡ None = ap (λ o. first_refusal (against_check (check_case s sub max o))) (sym here) ∙ none in
+      ap (checking_at s sub max) here ∙ ap checked_with at
+
+  pub check_empty : (n : ℕ) (items : List Item) → first_refusal (against_check (check_case s sub max (subscription_at s sub))) ≡ None → items ≡ take max (unseen s seer) → items ≡ [] → n ≡ seer.stamp → IsOutcome (checking s sub max) (Checked items n n) s
+  check_empty n items none e empty stamp =
+      let now : checking s sub max ≡ (Checked [] seer.stamp seer.stamp, s) = checking_is none ∙ ap (shows s sub seer) (sym e ∙ empty) in
+      record { reply_is = ap₂ (λ a b. Checked a b b) empty stamp ∙ sym (ap (λ (x : Reply × State). x.0) now); state_is = sym (ap (λ (x : Reply × State). x.1) now) }
+
+  shows_some : (items : List Item) → are_some items ≡ true → shows s sub seer items ≡ (Checked items seer.stamp (s.stamp + 1), subscribes s sub seer.query (seer.shown ++ items))
+  shows_some [] l = absurd (cc)
+  shows_some (i ∷ items) l = refl
+
+  pub check_done : (n m : ℕ) (items : List Item) → first_refusal (against_check (check_case s sub max (subscription_at s sub))) ≡ None → items ≡ take max (unseen s seer) → are_some items ≡ true → n ≡ seer.stamp → m ≡ s.stamp + 1
+      → IsOutcome (checking s sub max) (Checked items n m) (subscribes s sub seer.query (seer.shown ++ items))
+  check_done n m items none e some stamp next =
+      let now : checking s sub max ≡ (Checked items seer.stamp (s.stamp + 1), subscribes s sub seer.query (seer.shown ++ items)) = checking_is none ∙ ap (shows s sub seer) (sym e) ∙ shows_some items some in
+      record { reply_is = ap₂ (λ a b. Checked items a b) stamp next ∙ sym (ap (λ (x : Reply × State). x.0) now); state_is = sym (ap (λ (x : Reply × State). x.1) now) }

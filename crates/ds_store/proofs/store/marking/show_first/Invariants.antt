@@ -1,7 +1,0 @@
-use Rattle.ds_watch.specs.Masks.{shown_to}
-use Rattle.ds_store.specs.Remarked.{AreRemarked}
-use Rattle.ds_store.proofs.store.marking.show_first.Given as goal
-
--- the changes so far were shown
-abbrev pub invariant-loop-index : goal.invariant-loop-index
-invariant-loop-index l = AreRemarked l.fn.held l.held l.index (λ k. shown_to l.sub)
