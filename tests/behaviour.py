@@ -17,7 +17,7 @@ import terminal
 
 PUT = b"offer eth0 label rs 3.0 = 3/17"
 TOMBSTONE = b"offer eth0 label rs 3.1 -"
-# A good line of each kind, a tombstone that only sweeps make, and a line of each other command.
+# A good line of each kind, a tombstone with the number that no put has, a floor, and a line of each other command.
 GOOD = [
     PUT,
     TOMBSTONE,
@@ -25,6 +25,7 @@ GOOD = [
     b'offer id str eth0 3.0 = "a\\"b\\\\ ~"',
     b"offer mac mem eth0 3.1 = 00ff",
     b"offer mtu u32 eth0 3.4294967295 -",
+    b"offer ! eth0 3",
     b"show",
     b"all",
     b"publish 0/2 new eth0 label 3.0 = 3/17",
@@ -208,6 +209,19 @@ def a_hundred_thousand_checks(program):
         expect(end(begin(program, limit=MEMORY, stdin=script)), b"subscribed 1\n" + b"".join(shown), 0)
 
 
+def fifty_thousand_floors(program):
+    """Floors that are raised above one new entry each, and shown, in little memory: what they drop makes room."""
+    turns = range(1, 50001)
+    with tempfile.TemporaryFile() as script:
+        script.write(b'subscribe 0 "" 2 later new\n')
+        script.write(b"".join(b"offer k%d str o %d.0 = \"%d\"\noffer ! o %d\ncheck 0 2\n" % (at, at, at, at) for at in turns))
+        script.write(b"all\n")
+        script.seek(0)
+        told = (b"taken\ntaken\nowed 00000000000000000000000000000001\n! o %d\nchecked 1 %d %d\n" % (at, at, at + 1) for at in turns)
+        wanted = b"subscribed 1\n" + b"".join(told) + b"! o 50000\nshown 1\n"
+        expect(end(begin(program, limit=MEMORY, stdin=script)), wanted, 0)
+
+
 def a_long_show(program):
     """Many lists in a row, far longer together than the memory that is there."""
     names = [b"driver-%04d".ljust(64, b"-") % at for at in range(1000)]
@@ -237,7 +251,7 @@ def costly_subscriptions(program):
     answers_alone, status = model.replay(b"".join(others))
     lines = answers_alone.split(b"\n")
     assert lines[4096:4098] == [b"swept 4095", b"refused notfound"] and status == 0
-    lines[4097] = b"checked 0 128 128"
+    lines[4097:4098] = [b"owed " + b"f" * 32, b"! driver 3", b"checked 1 128 129"]  # a floor is under every query
     subscribed = [b"subscribed %d" % stamp for stamp in range(1, 129)]
     expect(end(begin(program, limit=MEMORY), b"".join(subscribes + others)), b"\n".join(subscribed + lines), 0)
 
@@ -482,6 +496,8 @@ def scripts_by_chance(program):
         script = [b"offer %s %s" % (name_by_chance(chance), change_by_chance(chance)) for _ in range(300)]
         for _ in range(12):
             script.insert(chance.randrange(300), chance.choice([b"show", b"all"]))
+        for _ in range(6):
+            script.insert(chance.randrange(300), b"offer ! " + floor_by_chance(chance))
         if chance.random() < 0.3:
             script[chance.randrange(300)] = b"offer eth0 label rs 1.2 -"
         scripts.append(b"\n".join(script))
@@ -510,6 +526,11 @@ def change_by_chance(chance):
     return b"%s %s %d.%d %s" % (kind, owner, chance.randrange(3), chance.randrange(3), body)
 
 
+def floor_by_chance(chance):
+    """A floor of one of the owners, above which there are generations."""
+    return b"%s %d" % (chance.choice([b"eth0", b"tty", b"rs"]), chance.choice([0, 0, 1]))
+
+
 def body_by_chance(chance):
     """The version and the body of a label change."""
     generation = chance.randrange(1, 9)
@@ -535,6 +556,7 @@ def command_by_chance(chance):
     label = b"label %d.%d = %d/%d" % (generation, chance.random() < 0.1, generation + (chance.random() < 0.1), slot)
     query = b'"%s" %d' % (chance.choice([b".*", b"m.*", b"eth0|id", b"[a-z]+\\\\d", b""]), chance.randrange(1, 16))
     sub = chance.randrange(8) + 120 * chance.randrange(2)
+    swept = generation - (chance.random() < 0.9)
     return chance.choice(
         [
             b"subscribe %d %s %s %s" % (sub, query, chance.choice([b"first", b"later"]), mode),
@@ -543,7 +565,8 @@ def command_by_chance(chance):
             *[b"publish 0/2 %s %s %s" % (mode, driver, label)] * 2,
             b"publish %s %s %s %s" % (caller, mode, driver, label),
             b"delete 0/2 %s label %d.1" % (driver, generation),
-            b"sweep %s %s %d" % (chance.choice([b"0/2", b"0/2", caller]), driver, generation),
+            b"sweep %s %s %d" % (chance.choice([b"0/2", b"0/2", caller]), driver, swept),
+            *[b"offer ! %s %d" % (driver, swept)] * (chance.random() < 0.5),
             b"nameof " + caller,
             b"retrieve %s %s" % chance.choice([(entry, kind), (driver, b"label")]),
             b"offer %s %s %s %d.%d = %s" % (entry, kind, driver, generation, seq, value),
@@ -562,6 +585,7 @@ ALL = [
     a_line_without_end,
     a_million_lines,
     a_hundred_thousand_checks,
+    fifty_thousand_floors,
     a_long_show,
     a_pattern_that_is_too_large,
     costly_subscriptions,

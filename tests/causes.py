@@ -48,6 +48,12 @@ def full():
     return ETH + "\n".join(merge(*it) for it in blocks)
 
 
+def floors(count):
+    """The floors of so many owners, at generation 1."""
+    return "".join(f"offer ! o{n} 1\n" for n in range(count))
+
+
+MOST_FLOORS = 64
 NOROOM = "refused noroom"
 ETH = "publish 0/2 new eth0 label 3.0 = 3/17\n"
 MTU = "publish 3/17 new mtu u32 3.1 = 1500\n"  # of eth0
@@ -56,25 +62,29 @@ GONE = "delete 3/17 mtu u32 3.2\n"
 TTY = "publish 0/2 new tty label 3.0 = 3/18\n"
 OTHER = "offer mtu u32 tty 3.1 = 1500\n"  # of tty
 SUB = 'subscribe 0 ".*" 15 first new\n'
+FLOOR = "sweep 0/2 eth0 3\n"  # under which eth0 still lives
+OWED = "\nowed 00000000000000000000000000000001"
 
 PUBLISH = [
     case("badkind", begins(0), "mismatch", "refused badkind"),
     case("badlabel", begins(0), "publish 9/99 new eth0 label 3.1 = 3/17", "refused badlabel"),
     case("badversion", begins(1) + "offer mtu u32 tty 3.0 = 7", 'publish 9/99 new mtu u32 3.0 = 7', "refused badversion"),
-    case("badversion of a sweep", begins(1) + ETH, 'publish 3/17 new id str 3.4294967295 = "up"', "refused badversion"),
+    case("badversion of the last number", begins(1) + ETH, 'publish 3/17 new id str 3.4294967295 = "up"', "refused badversion"),
     case("nocaller of a label", begins(0), "publish 9/99 new eth0 label 3.0 = 3/17", "refused nocaller"),
     case("nocaller", begins(1) + "offer id str tty 9.0 = \"up\"", 'publish 9/99 new id str 9.0 = "down"', "refused nocaller"),
     case("notallowed", begins(2) + ETH + TTY, "publish 3/17 new tty label 3.0 = 3/17", "refused notallowed"),
     case("notowner", begins(2) + ETH + OTHER, "publish 3/17 new mtu u32 3.1 = 7", "refused notowner"),
+    case("notowner of a void change", begins(3) + ETH + OTHER + FLOOR, "publish 3/17 new mtu u32 3.1 = 7", "refused notowner"),
     case("clash", begins(2) + ETH + ID, 'publish 3/17 new id str 3.1 = "down"', "refused clash 3.1"),
     case("stale", begins(2) + ETH + ID, 'publish 3/17 new id str 3.0 = "down"', "refused stale"),
+    case("stale by a floor", begins(MOST_KEYS + 1) + full() + "\n" + FLOOR, 'publish 3/17 new id str 3.0 = "up"', "refused stale"),
     case("known", begins(2) + ETH + ID, 'publish 3/17 new id str 3.1 = "up"', "known"),
     case("exists", begins(2) + ETH + ID, 'publish 3/17 new id str 3.2 = "down"', "refused exists"),
     case("full", begins(MOST_KEYS) + full(), 'publish 3/17 new id str 3.0 = "up"', "refused full"),
     case("worn", begins(1) + ETH, 'publish 3/17 new id str 3.0 = "up"', "refused worn"),
     case("worn over a label", begins(1) + ETH, "publish 0/2 over eth0 label 4.0 = 4/17", "refused worn"),
     case("of the first key", "", "publish 0/2 new eth0 label 3.0 = 3/17", "taken", NOROOM),
-    case("of a held key", ETH + ID + SUB, 'publish 3/17 over id str 3.2 = "down"', "taken\nowed 00000000000000000000000000000001"),
+    case("of a held key", ETH + ID + SUB, 'publish 3/17 over id str 3.2 = "down"', "taken" + OWED),
 ]
 
 DELETE = [
@@ -83,8 +93,10 @@ DELETE = [
     case("nocaller", begins(1) + ETH, "delete 9/99 eth0 label 3.1", "refused nocaller"),
     case("notallowed", begins(1) + ETH, "delete 3/17 tty label 3.1", "refused notallowed"),
     case("notowner", begins(2) + ETH + OTHER, "delete 3/17 mtu u32 3.1", "refused notowner"),
+    case("notowner of a void change", begins(3) + ETH + OTHER + FLOOR, "delete 3/17 mtu u32 3.1", "refused notowner"),
     case("clash", begins(2) + ETH + MTU, "delete 3/17 mtu u32 3.1", "refused clash 3.1"),
     case("stale", begins(3) + ETH + MTU + GONE, "delete 3/17 mtu u32 3.1", "refused stale"),
+    case("stale by a floor", begins(3) + ETH + MTU + FLOOR, "delete 3/17 mtu u32 3.2", "refused stale"),
     case("known", begins(3) + ETH + MTU + GONE, "delete 3/17 mtu u32 3.2", "known"),
     case("notfound", begins(MOST_KEYS) + full(), "delete 3/17 mtu u32 3.1", "refused notfound"),
     case("notfound of a tombstone", begins(3) + ETH + MTU + GONE, "delete 3/17 mtu u32 3.3", "refused notfound"),
@@ -93,10 +105,15 @@ DELETE = [
 ]
 
 SWEEP = [
-    case("notallowed", begins(2) + ETH + MTU, "sweep 3/17 eth0 3", "refused notallowed"),
+    case("notallowed", begins(1 + MOST_FLOORS) + ETH + floors(MOST_FLOORS), "sweep 3/17 eth0 3", "refused notallowed"),
+    case("notallowed of a lower floor", begins(2) + ETH + FLOOR, "sweep 3/17 eth0 2", "refused notallowed"),
+    case("full", begins(MOST_FLOORS) + floors(MOST_FLOORS), "sweep 0/2 eth0 3", "refused full"),
     case("worn", begins(2) + ETH + MTU, "sweep 0/2 eth0 3", "refused worn"),
-    case("of two entries", ETH + MTU + ID + SUB, "sweep 0/2 eth0 3", "swept 2\nowed 00000000000000000000000000000001"),
-    case("of nothing", begins(2) + ETH + MTU, "sweep 0/2 eth0 2", "swept 0"),
+    case("worn where the owner's is the last floor", begins(MOST_FLOORS) + floors(MOST_FLOORS), "sweep 0/2 o0 2", "refused worn"),
+    case("of two entries", ETH + MTU + ID + SUB, "sweep 0/2 eth0 3", "swept 2" + OWED, NOROOM),
+    case("of two entries above a floor", ETH + MTU + ID + SUB + "sweep 0/2 eth0 2", "sweep 0/2 eth0 3", "swept 2" + OWED),
+    case("of an equal floor", begins(2) + ETH + FLOOR, "sweep 0/2 eth0 3", "swept 0"),
+    case("of a lower floor", begins(2) + ETH + FLOOR, "sweep 0/2 eth0 0", "swept 0"),
 ]
 
 RETRIEVE = [
@@ -122,17 +139,8 @@ SUBSCRIBE = [
     case("badpattern", begins(1) + SUB, 'subscribe 0 "(" 15 first new', "refused badpattern", "refused badpattern", NOROOM),
     case("exists", begins(1) + SUB, 'subscribe 0 "eth.*" 15 first new', "refused exists", NOROOM),
     case("worn", begins(1) + SUB, 'subscribe 0 "eth.*" 15 first over', "refused worn", NOROOM),
-    case("of what is held", ETH, 'subscribe 0 "eth.*" 15 first new', "subscribed 1\nowed 00000000000000000000000000000001", NOROOM),
-]
-
-CHECK = [
-    case("badsub", begins(0), "check 128 0", "refused badsub"),
-    case("toomany of none", begins(0), "check 0 0", "refused toomany"),
-    case("toomany", begins(0), "check 0 257", "refused toomany"),
-    case("notfound", begins(0), "check 0 1", "refused notfound"),
-    case("worn", begins(1) + SUB + 'offer id str eth0 3.1 = "up"', "check 0 1", "refused worn"),
-    case("of nothing", begins(1) + SUB, "check 0 1", f"checked 0 {LAST} {LAST}"),
-    case("of a text", SUB + 'offer id str eth0 3.1 = "up"', "check 0 1", 'id str eth0 3.1 = "up"\nchecked 1 1 2', NOROOM),
+    case("of what is held", ETH, 'subscribe 0 "eth.*" 15 first new', "subscribed 1" + OWED, NOROOM),
+    case("of a floor alone", "offer ! eth0 3", 'subscribe 0 "tty" 1 first new', "subscribed 1" + OWED, NOROOM),
 ]
 
 SAME = 'id str eth0 3.1 = "up"'
@@ -142,6 +150,18 @@ FOREIGN = 'id str tty 3.1 = "down"'
 NEW = 'mac str eth0 3.1 = "new"'
 HELD = "offer " + SAME + "\n"
 
+CHECK = [
+    case("badsub", begins(0), "check 128 0", "refused badsub"),
+    case("toomany of none", begins(0), "check 0 0", "refused toomany"),
+    case("toomany", begins(0), "check 0 257", "refused toomany"),
+    case("notfound", begins(0), "check 0 1", "refused notfound"),
+    case("worn", begins(1) + SUB + 'offer id str eth0 3.1 = "up"', "check 0 1", "refused worn"),
+    case("of nothing", begins(1) + SUB, "check 0 1", f"checked 0 {LAST} {LAST}"),
+    case("of a text", SUB + 'offer id str eth0 3.1 = "up"', "check 0 1", 'id str eth0 3.1 = "up"\nchecked 1 1 2', NOROOM),
+    case("of a floor", SUB + HELD + "offer ! tty 3", "check 0 1", "! tty 3\nchecked 1 1 2", NOROOM),
+    case("worn of a floor", begins(1) + SUB + "offer ! tty 3", "check 0 1", "refused worn"),
+]
+
 MERGE = [
     case("toomany", begins(1) + HELD, merge(*[FOREIGN] * (MOST_ITEMS + 1)), "refused toomany"),
     case("notowner", begins(1) + HELD, merge(SAME, OLDER, FOREIGN), "stopped 2 notowner"),
@@ -149,10 +169,15 @@ MERGE = [
     case("full", begins(MOST_KEYS) + full(), merge("tty0 u32 tty 1.0 = 0", NEW), "stopped 1 full"),
     case("worn", begins(1) + HELD, merge(OLDER, NEW), "stopped 1 worn"),
     case("known and stale", begins(1) + HELD, merge(SAME, OLDER), "merged 2 0 1"),
-    case("of a number of a held key", "offer mtu u32 eth0 3.0 = 7\n" + SUB, merge("mtu u32 eth0 3.1 = 8"), "merged 1 1 0\nowed 00000000000000000000000000000001"),
+    case("of a number of a held key", "offer mtu u32 eth0 3.0 = 7\n" + SUB, merge("mtu u32 eth0 3.1 = 8"), "merged 1 1 0" + OWED),
     case("of a new key behind a known one", HELD, merge(SAME, NEW), "merged 2 1 0", "stopped 1 noroom"),
     case("of a new key before another owner's", HELD, merge(NEW, FOREIGN), "stopped 1 notowner", "stopped 0 noroom"),
     case("of another owner's before a new key", HELD, merge(FOREIGN, NEW), "stopped 0 notowner"),
+    case("full of floors", begins(MOST_FLOORS) + floors(MOST_FLOORS), merge("! o0 1", "! o0 0", "! eth0 3"), "stopped 2 full"),
+    case("worn of floors", begins(2) + HELD + "offer ! eth0 2", merge("! eth0 2", "! eth0 3"), "stopped 1 worn"),
+    case("known and stale by floors", begins(1) + "offer ! eth0 3", merge("! eth0 3", "! eth0 2", NEW), "merged 3 0 2"),
+    case("of a floor and what it makes void", "offer ! eth0 2\n" + HELD + SUB, merge("! eth0 3", NEW, SAME), "merged 3 1 2" + OWED),
+    case("of a floor of another owner", "offer ! tty 2\n" + HELD, merge("! tty 3", "! eth0 2"), "merged 2 2 0", "stopped 1 noroom", "merged 2 2 0"),
 ]
 
 OFFER = [
@@ -161,6 +186,14 @@ OFFER = [
     case("full", begins(MOST_KEYS) + full(), "offer " + NEW, "refused full"),
     case("worn", begins(1) + HELD, "offer " + NEW, "refused worn"),
     case("of a new key", HELD, "offer " + NEW, "taken", NOROOM),
+    case("notowner of a void change", begins(2) + HELD + "offer ! tty 3", "offer " + FOREIGN, "refused notowner"),
+    case("full of a floor", begins(MOST_FLOORS) + floors(MOST_FLOORS), "offer ! eth0 3", "refused full"),
+    case("worn of a floor", begins(1) + HELD, "offer ! eth0 3", "refused worn"),
+    case("known of a floor", begins(MOST_FLOORS) + floors(MOST_FLOORS), "offer ! o63 1", "known"),
+    case("stale of a floor", begins(MOST_FLOORS) + floors(MOST_FLOORS), "offer ! o63 0", "stale"),
+    case("stale by a floor", begins(1) + "offer ! eth0 3", "offer " + NEW, "stale"),
+    case("of a floor", HELD + SUB, "offer ! eth0 3", "taken" + OWED, NOROOM),
+    case("of a higher floor", HELD + SUB + "offer ! eth0 2", "offer ! eth0 3", "taken" + OWED),
 ]
 
 COMMANDS = {

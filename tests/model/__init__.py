@@ -1,10 +1,10 @@
 """A second opinion on `dsctl replay`, written from the rules of the script format and of the store, and not from the program."""
-from .lines import BadLine, read
+from .lines import BadLine, Floor, read
 from .store import Store
 
 
-def replay(script):
-    """Answers a script: what is written, and the status."""
+def replay(script, keep_going=False):
+    """Answers a script: what is written, and the status. A bad line ends it, unless it is to keep going."""
     given = script.split(b"\n")
     if not given[-1]:
         given.pop()
@@ -15,6 +15,8 @@ def replay(script):
         except BadLine as bad:
             answers.append(b"badline %d %d" % (number, bad.place))
             status = 1
+            if keep_going:
+                continue
             break
         answers += store.answer(command, taken)
     return b"".join(it + b"\n" for it in answers), status

@@ -4,6 +4,7 @@ A bad line is named by the byte where its first part begins that can't be read. 
 value as it is spelled.
 """
 import re
+from collections import namedtuple
 
 LONGEST = 4096  # bytes of a line, its newline not counted
 MOST_GENERATION = 2097151
@@ -22,6 +23,11 @@ HEX = re.compile(rb"[0-9a-f]*")
 QUOTED = re.compile(rb'"(?:[ !#-\[\]-~]|\\["\\])*"|')
 PATTERN = re.compile(rb'"(?:[^"\\\n]|\\["\\])*"|')
 BYTE = re.compile(rb".?", re.DOTALL)
+
+
+# An item: a change, its value as it is spelled and None for a tombstone, or the floor of an owner.
+Change = namedtuple("Change", "key owner version value")
+Floor = namedtuple("Floor", "owner generation")
 
 
 class BadLine(Exception):
@@ -124,7 +130,7 @@ def value(reader, kind, is_good=lambda it: True):
 
 
 def change(reader):
-    """A change: its key, its owner, its version, and its value as it is spelled, which is None for a tombstone."""
+    """A change."""
     entry = name(reader)
     reader.byte(b" ")
     kind = KINDS.index(reader.part(WORD, lambda it: it in KINDS and (it, entry) != (b"label", b"rs")))
@@ -142,7 +148,18 @@ def change(reader):
     if mark == b"=":
         own = b"%d/" % epoch  # a label's generation is its epoch
         spelled = reader.behind_space(value, kind, lambda it: not is_label or it.startswith(own))
-    return (entry, kind), owner, (epoch, seq), spelled
+    return Change((entry, kind), owner, (epoch, seq), spelled)
+
+
+def floor(reader):
+    """A floor."""
+    reader.byte(b"!")
+    return Floor(reader.behind_space(name), reader.behind_space(number, MOST_GENERATION))
+
+
+def offer(reader):
+    """What an `offer` takes: no name begins with a floor's mark."""
+    return (floor(reader) if reader.line.startswith(b"!", reader.at) else change(reader),)
 
 
 def put(reader):
@@ -188,7 +205,7 @@ def check(reader):
 
 # What each command takes behind its word and a space; `show` and `all` take nothing.
 COMMANDS = {
-    b"offer": change,
+    b"offer": offer,
     b"show": None,
     b"all": None,
     b"publish": put,

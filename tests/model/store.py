@@ -7,9 +7,10 @@ import re
 from . import lines
 
 MOST_KEYS = 4096
+MOST_FLOORS = 64
 MOST_MAPS = 64
 MOST_SUBSCRIPTIONS = 128
-MOST_CHECKED = 256  # changes of one check
+MOST_CHECKED = 256  # items of one check
 MOST_PATTERN = 128  # bytes
 RS = (0, 2)  # the endpoint of RS
 LABEL = 0  # the place of the kind `label`
@@ -43,7 +44,7 @@ class Query:
 
 
 class Subscription:
-    """A query, the stamp of the last subscribe or check, and every version of a key that was shown."""
+    """A query, the stamp of the last subscribe or check, and the line of every item that was shown."""
 
     def __init__(self, query, stamp, shown):
         self.query = query
@@ -54,11 +55,13 @@ class Subscription:
 class Store:
     """What is held: a dictionary from keys to (owner, version, value), the value being None for a tombstone.
 
-    `subscriptions` is a dictionary from numbers, `maps` how many maps there are: nothing is delivered to them.
+    `floors` is a dictionary from owners to generations, `subscriptions` one from numbers, `maps` how many maps there are:
+    nothing is delivered to them.
     """
 
     def __init__(self):
         self.held = {}
+        self.floors = {}
         self.stamp = 0
         self.subscriptions = {}
         self.maps = 0
@@ -70,27 +73,26 @@ class Store:
         except Refused as refused:
             return [b"refused " + str(refused).encode()]
 
-    # ---- changes that others made ----
+    # ---- items that others made ----
 
-    def offer(self, key, owner, version, value):
-        """Merges one change."""
+    def offer(self, item):
+        """Merges one item."""
         try:
-            return self.take(key, owner, version, value)
+            return self.take_floor(*item) if isinstance(item, lines.Floor) else self.take(*item)
         except Stale:
             return [b"stale"]
 
     def take(self, key, owner, version, value, overwrite=True, is_deletion=False):
         """Takes a change over, or says what stands against it."""
         has = self.held.get(key)
-        if has:
-            if owner != has[0]:
-                raise Refused("notowner")
-            if version == has[1]:
-                if value == has[2]:
-                    return [b"known"]
-                raise Refused("clash %d.%d" % version)
-            if version < has[1]:
-                raise Stale("stale")
+        if has and owner != has[0]:
+            raise Refused("notowner")
+        if self.is_void(key, owner, version) or has and version < has[1]:
+            raise Stale("stale")
+        if has and version == has[1]:
+            if value == has[2]:
+                return [b"known"]
+            raise Refused("clash %d.%d" % version)
         is_live = has is not None and has[2] is not None
         if is_live and not overwrite:
             raise Refused("exists")
@@ -99,7 +101,31 @@ class Store:
         if not has and len(self.held) == MOST_KEYS:
             raise Refused("full")
         self.held[key] = (owner, version, value)
-        return [b"taken"] + self.owed([key])
+        return [b"taken"] + self.owed(key)
+
+    def take_floor(self, owner, generation):
+        """Takes a floor over, or says what stands against it."""
+        standing = self.floors.get(owner, -1)
+        if generation < standing:
+            raise Stale("stale")
+        if generation == standing:
+            return [b"known"]
+        self.raise_floor(owner, generation)
+        return [b"taken"] + mask(self.subscriptions)
+
+    # ---- floors ----
+
+    def is_void(self, key, owner, version):
+        """Whether a floor of the owner ended the generation of such a change. No label is ever void."""
+        return key[1] != LABEL and version[0] <= self.floors.get(owner, -1)
+
+    def raise_floor(self, owner, generation):
+        """Raises the floor of an owner, and gives how many puts it dropped: tombstones are dropped, too."""
+        if owner not in self.floors and len(self.floors) == MOST_FLOORS:
+            raise Refused("full")
+        self.floors[owner] = generation
+        dropped = [key for key, (of, version, _) in self.held.items() if self.is_void(key, of, version)]
+        return sum(self.held.pop(key)[2] is not None for key in dropped)
 
     # ---- changes that a caller asks for ----
 
@@ -135,28 +161,22 @@ class Store:
         return min((name for (name, kind), (_, _, value) in self.held.items() if kind == LABEL and value == spelled), default=None)
 
     def sweep(self, caller, owner, generation):
-        """Ends what a dead owner left."""
+        """Raises the floor of a dead owner, where that isn't as high already."""
         if caller != RS:
             raise Refused("notallowed")
-        swept = [
-            key
-            for key, (of, (epoch, _), value) in self.held.items()
-            if key[1] != LABEL and of == owner and epoch <= generation and value is not None
-        ]
-        for key in swept:
-            self.held[key] = (owner, (generation, lines.MOST_NUMBER), None)
-        return [b"swept %d" % len(swept)] + self.owed(swept)
+        if generation <= self.floors.get(owner, -1):
+            return [b"swept 0"]
+        return [b"swept %d" % self.raise_floor(owner, generation)] + mask(self.subscriptions)
 
     # ---- subscriptions ----
 
-    def owed(self, keys):
-        """The line of the subscriptions that have one of the keys under their query, if there are any."""
-        return mask(number for number, it in self.subscriptions.items() if any(it.query.admits(key) for key in keys))
+    def owed(self, key):
+        """The line of the subscriptions that have the key under their query, if there are any."""
+        return mask(number for number, it in self.subscriptions.items() if it.query.admits(key))
 
-    def unseen(self, subscription):
-        """The keys that the subscription wasn't shown as they are now, in order."""
-        seen = subscription.shown
-        return [key for key in sorted(self.held) if subscription.query.admits(key) and (key, self.held[key][1]) not in seen]
+    def under(self, query):
+        """The lines of the floors, which are under every query, and then of the changes under this one, each in order."""
+        return self.floor_lines() + [line_of(key, *self.held[key]) for key in sorted(self.held) if query.admits(key)]
 
     def subscribe(self, sub, query, initial, overwrite):
         """Begins to follow a query, from what is held on or from now on."""
@@ -166,13 +186,12 @@ class Store:
         if sub in self.subscriptions and not overwrite:
             raise Refused("exists")
         self.stamp += 1
-        shown = set() if initial else {(key, version) for key, (_, version, _) in self.held.items()}
-        self.subscriptions[sub] = Subscription(asked, self.stamp, shown)
-        is_owed = initial and any(asked.admits(key) for key in self.held)
-        return [b"subscribed %d" % self.stamp] + mask([sub] if is_owed else [])
+        there = self.under(asked)
+        self.subscriptions[sub] = Subscription(asked, self.stamp, set() if initial else set(there))
+        return [b"subscribed %d" % self.stamp] + mask([sub] if initial and there else [])
 
     def check(self, sub, most):
-        """Shows the first changes that weren't shown."""
+        """Shows the first items that weren't shown."""
         if sub >= MOST_SUBSCRIPTIONS:
             raise Refused("badsub")
         if not 1 <= most <= MOST_CHECKED:
@@ -180,12 +199,13 @@ class Store:
         if sub not in self.subscriptions:
             raise Refused("notfound")
         subscription = self.subscriptions[sub]
-        shown, before = self.unseen(subscription)[:most], subscription.stamp
+        unseen = [line for line in self.under(subscription.query) if line not in subscription.shown]
+        shown, before = unseen[:most], subscription.stamp
         if shown:
             self.stamp += 1
             subscription.stamp = self.stamp
-            subscription.shown |= {(key, self.held[key][1]) for key in shown}
-        return [line_of(key, *self.held[key]) for key in shown] + [b"checked %d %d %d" % (len(shown), before, subscription.stamp)]
+            subscription.shown.update(shown)
+        return shown + [b"checked %d %d %d" % (len(shown), before, subscription.stamp)]
 
     # ---- maps ----
 
@@ -221,26 +241,34 @@ class Store:
 
     def show(self):
         """The puts that are held."""
-        return self.listed(lambda value: value is not None)
+        return counted(self.changes(lambda value: value is not None))
 
     def all(self):
         """All that is held."""
-        return self.listed(lambda value: True)
+        return counted(self.floor_lines() + self.changes(lambda value: True))
 
-    def listed(self, is_shown):
-        """The lines of what is held, in order of the names' bytes and then the kinds, and then their number."""
-        shown = [line_of(key, *self.held[key]) for key in sorted(self.held) if is_shown(self.held[key][2])]
-        return shown + [b"shown %d" % len(shown)]
+    def changes(self, is_shown):
+        """The lines of the changes that are held, in order of the names' bytes and then the kinds."""
+        return [line_of(key, *self.held[key]) for key in sorted(self.held) if is_shown(self.held[key][2])]
+
+    def floor_lines(self):
+        """The lines of the floors that are held, in order of the owners' names."""
+        return [b"! %s %d" % it for it in sorted(self.floors.items())]
 
 
 class Stale(Refused):
-    """A change that is older than what is held: an offer of it is no fault."""
+    """An item that is older than what is held: an offer of it is no fault."""
 
 
 def line_of(key, owner, version, value):
     """The line of a change."""
     body = b"-" if value is None else b"= " + value
     return b"%s %s %s %d.%d %s" % (key[0], lines.KINDS[key[1]], owner, *version, body)
+
+
+def counted(shown):
+    """The lines, and then their number."""
+    return shown + [b"shown %d" % len(shown)]
 
 
 def mask(numbers):
