@@ -32,11 +32,9 @@ use Rattle.ds_join.specs.declared.merge.Merge.{Merge}
 use Rattle.ds_join.specs.declared.merge.Merge.TheVariants.{Taken, Known, Stale}
 use Rattle.ds_join.specs.declared.merge.JoinFault.{JoinFault}
 use Rattle.ds_join.specs.declared.merge.JoinFault.TheVariants.{NoRoom}
-use Rattle.ds_join.specs.Held.{Holding, held_changes, held_for, held_count}
 use Rattle.ds_join.specs.Label.{names_endpoint, is_label_of}
-use Rattle.ds_join.specs.Merge.{MergeAnswer, AnswersNew, AnswersFor, after_merge}
 use Rattle.ds_join.specs.Reading.{value_of, value_in}
-use Rattle.ds_join.proofs.HeldLemmas.{held_in_order, Contains-held, held_at_key, from_along}
+use Rattle.ds_join.proofs.MapLemmas.{held_in_order, Contains-held, held_at_key, from_along}
 use Rattle.ds_index.specs.declared.named.Named.{Named}
 use Rattle.ds_index.specs.Named.{named_at, named_cmp, holder_cmp, is_of}
 use Rattle.ds_index.specs.Index.{IsAdded, IsReplaced}
@@ -135,27 +133,6 @@ module _ (old : FinMap key_cmp ChangeRecord) (c : ChangeRecord) where
               absurd (n (same_pair (same_Some p.endpoint before.endpoint (sym (i.held p k) ∙ ap (holder_for old) same ∙ held)) same))
           by_held p false e k n = holder_after p.name false e ∙ i.held p k
 
--- a full holder takes no other key
-pub full_same : (old : Holding) (c : ChangeRecord) (r : Result Merge JoinFault) → MergeAnswer old c r → held_for old c.key ≡ None → 4096 ≤ held_count old → after_merge old c r ≡ old
-full_same old c r answer none full = by_answer r (subst (λ o. AnswersFor o (held_count old) c r) none answer)
-  where
-    by_answer : (r : Result Merge JoinFault) → AnswersNew (held_count old) r → after_merge old c r ≡ old
-    by_answer (Ok Taken) few = absurd (omega (arith, few, full))
-    by_answer (Ok Known) a = refl
-    by_answer (Ok Stale) a = refl
-    by_answer (Err fault) a = refl
-
--- no room is told of a new key alone, and of one for which the holder has a place
-pub room_wanted : (old : Holding) (c : ChangeRecord) → held_for old c.key ≡ None → held_count old < 4096 → MergeAnswer old c (Err NoRoom)
-room_wanted old c none few = subst (λ o. AnswersFor o (held_count old) c (Err NoRoom)) (sym none) few
-
--- the labels are listed as they are held after the change of another key
-pub unlabelled_indexed : (old : Holding) (c : ChangeRecord) (r : Result Merge JoinFault) (names : List Named) → IsIndexed old.changes names → (c.key.kind ≡ Label → ⊥) → IsIndexed (after_merge old c r).changes names
-unlabelled_indexed old c (Ok Taken) names i other = other_indexed old.changes c names i other
-unlabelled_indexed old c (Ok Known) names i other = i
-unlabelled_indexed old c (Ok Stale) names i other = i
-unlabelled_indexed old c (Err fault) names i other = i
-
 pub nothing_indexed : (changes : FinMap key_cmp ChangeRecord) (names : List Named) → changes ≡ empty → names ≡ [] → IsIndexed changes names
 nothing_indexed changes names e f = record {
   listed = λ p q. none_is (sym (ap (λ (x : FinMap key_cmp ChangeRecord). holder_for x p.name) e ∙ ap (option_map endpoint_in) (get-empty key_cmp (label_key p.name))) ∙ q);
@@ -247,24 +224,21 @@ label_kind e kind (Put (values.Mem b)) k h = none_is h
 label_kind e kind Gone k h = none_is h
 
 module _ (changes : FinMap key_cmp ChangeRecord) (own : (key : Key) (c : ChangeRecord) → get changes key ≡ Some c → c.key ≡ key) (fit : All IsChange (values changes)) (names : List Named) (sorted : IsStrictlySortedBy named_cmp names) (i : IsIndexed changes names) (e : EndpointRecord) where
-  abbrev h : Holding
-  h = record { changes = changes }
-
   -- a held label of the endpoint is listed
-  held_label : (c : ChangeRecord) → In c (held_changes h) → names_endpoint e c ≡ true → c.key ≡ label_key c.key.name
+  held_label : (c : ChangeRecord) → In c (values changes) → names_endpoint e c ≡ true → c.key ≡ label_key c.key.name
   held_label c k t =
-      label_key_is c.key (label_kind e c.key.kind c.body (All-contains IsChange (held_changes h) c fit (Contains-from_In c (held_changes h) k)).kind (value_holds e (value_of c) t))
+      label_key_is c.key (label_kind e c.key.kind c.body (All-contains IsChange (values changes) c fit (Contains-from_In c (values changes) k)).kind (value_holds e (value_of c) t))
 
-  held_listed : (c : ChangeRecord) → In c (held_changes h) → names_endpoint e c ≡ true → In (named_at (Some e) c.key.name) names
+  held_listed : (c : ChangeRecord) → In c (values changes) → names_endpoint e c ≡ true → In (named_at (Some e) c.key.name) names
   held_listed c k t =
       In-from_Contains (named_at (Some e) c.key.name) names
       (i.listed (named_at (Some e) c.key.name)
-      (ap (λ (key : Key). option_map endpoint_in (held_for h key)) (sym (held_label c k t)) ∙ ap (option_map endpoint_in) (held_at_key h c own (Contains-from_In c (held_changes h) k)) ∙ ap (λ o. Some o) (value_holds e (value_of c) t)))
+      (ap (λ (key : Key). option_map endpoint_in (get changes key)) (sym (held_label c k t)) ∙ ap (option_map endpoint_in) (held_at_key changes own c (Contains-from_In c (values changes) k)) ∙ ap (λ o. Some o) (value_holds e (value_of c) t)))
 
   -- and a listed one of the endpoint is held
   pub record Holder (name : List ℕ) : Type 0 where
     pub change : ChangeRecord
-    pub among : In change (held_changes h)
+    pub among : In change (values changes)
     pub holds : names_endpoint e change ≡ true
     pub key : change.key ≡ label_key name
 
@@ -272,14 +246,14 @@ module _ (changes : FinMap key_cmp ChangeRecord) (own : (key : Key) (c : ChangeR
   of_endpoint p t = same_holder p.endpoint (Some e) (tied_holder (holder_cmp p.endpoint (Some e)) t)
 
   listed_held : (p : Named) → In p names → is_of e p ≡ true → Holder p.name
-  listed_held p k t = by_held (held_for h (label_key p.name)) refl
+  listed_held p k t = by_held (get changes (label_key p.name)) refl
     where
-      by_held : (o : Option ChangeRecord) → held_for h (label_key p.name) ≡ o → Holder p.name
+      by_held : (o : Option ChangeRecord) → get changes (label_key p.name) ≡ o → Holder p.name
       by_held None q = none_is (sym (ap (option_map endpoint_in) q) ∙ i.held p (Contains-from_In p names k))
       by_held (Some c) q =
           let holds : endpoint_in c ≡ Some e =
           same_Some (endpoint_in c) (Some e) (sym (ap (option_map endpoint_in) q) ∙ i.held p (Contains-from_In p names k) ∙ ap (λ o. Some o) (of_endpoint p t)) in
-          record { change = c; among = In-from_Contains c (held_changes h) (Contains-held h (label_key p.name) c q); holds = holds_value e (value_of c) holds; key = own (label_key p.name) c q }
+          record { change = c; among = In-from_Contains c (values changes) (Contains-held changes (label_key p.name) c q); holds = holds_value e (value_of c) holds; key = own (label_key p.name) c q }
 
   is_of_itself : (name : List ℕ) → is_of e (named_at (Some e) name) ≡ true
   is_of_itself name = ap is_eq (tied_itself holders_total (Some e))
@@ -295,10 +269,10 @@ module _ (changes : FinMap key_cmp ChangeRecord) (own : (key : Key) (c : ChangeR
       by_order Equal m = absurd (let no : Equal ≡ Less = m in cc)
       by_order Greater m = absurd (let no : Greater ≡ Less = m in cc)
 
-  pub name_found : option_map (λ (p : Named). p.name) (find (is_of e) names) ≡ option_map (λ (c : ChangeRecord). c.key.name) (find (names_endpoint e) (held_changes h))
-  name_found = by_found (find (is_of e) names) refl (find (names_endpoint e) (held_changes h)) refl
+  pub name_found : option_map (λ (p : Named). p.name) (find (is_of e) names) ≡ option_map (λ (c : ChangeRecord). c.key.name) (find (names_endpoint e) (values changes))
+  name_found = by_found (find (is_of e) names) refl (find (names_endpoint e) (values changes)) refl
     where
-      least : (p : Named) (c : ChangeRecord) → find (is_of e) names ≡ Some p → find (names_endpoint e) (held_changes h) ≡ Some c → (hold : Holder p.name) → In c (held_changes h) → names_endpoint e c ≡ true → p.endpoint ≡ Some e
+      least : (p : Named) (c : ChangeRecord) → find (is_of e) names ≡ Some p → find (names_endpoint e) (values changes) ≡ Some c → (hold : Holder p.name) → In c (values changes) → names_endpoint e c ≡ true → p.endpoint ≡ Some e
           → (c ≡ hold.change) ⊎ (change_cmp c hold.change ≡ Less) → (p ≡ named_at (Some e) c.key.name) ⊎ (named_cmp p (named_at (Some e) c.key.name) ≡ Less) → p.name ≡ c.key.name
       least p c f g hold k t at (inl q) r = sym (ap (λ (x : ChangeRecord). x.key.name) q ∙ ap (λ (key : Key). key.name) hold.key)
       least p c f g hold k t at (inr l) (inl q) = ap (λ (x : Named). x.name) q
@@ -307,19 +281,19 @@ module _ (changes : FinMap key_cmp ChangeRecord) (own : (key : Key) (c : ChangeR
           let second : named_cmp (named_at (Some e) p.name) (named_at (Some e) c.key.name) ≡ Less = ap (λ o. named_cmp (named_at o p.name) (named_at (Some e) c.key.name)) (sym at) ∙ m in
           absurd (not_both c.key.name p.name (key_before c.key.name p.name first) (name_before p.name c.key.name second))
 
-      by_found : (o : Option Named) → find (is_of e) names ≡ o → (r : Option ChangeRecord) → find (names_endpoint e) (held_changes h) ≡ r → option_map (λ (p : Named). p.name) o ≡ option_map (λ (c : ChangeRecord). c.key.name) r
+      by_found : (o : Option Named) → find (is_of e) names ≡ o → (r : Option ChangeRecord) → find (names_endpoint e) (values changes) ≡ r → option_map (λ (p : Named). p.name) o ≡ option_map (λ (c : ChangeRecord). c.key.name) r
       by_found None f None g = refl
       by_found None f (Some c) g =
-          let k = among (names_endpoint e) (held_changes h) c g in
-          let t = passes (names_endpoint e) (held_changes h) c g in
+          let k = among (names_endpoint e) (values changes) c g in
+          let t = passes (names_endpoint e) (values changes) c g in
           absurd (none_among (is_of e) names (named_at (Some e) c.key.name) f (held_listed c k t) (is_of_itself c.key.name))
       by_found (Some p) f None g =
           let hold = listed_held p (among (is_of e) names p f) (passes (is_of e) names p f) in
-          absurd (none_among (names_endpoint e) (held_changes h) hold.change g hold.among hold.holds)
+          absurd (none_among (names_endpoint e) (values changes) hold.change g hold.among hold.holds)
       by_found (Some p) f (Some c) g =
           let hold = listed_held p (among (is_of e) names p f) (passes (is_of e) names p f) in
-          let k = among (names_endpoint e) (held_changes h) c g in
-          let t = passes (names_endpoint e) (held_changes h) c g in
+          let k = among (names_endpoint e) (values changes) c g in
+          let t = passes (names_endpoint e) (values changes) c g in
           ap (λ n. Some n)
-          (least p c f g hold k t (of_endpoint p (passes (is_of e) names p f)) (first_is_least change_cmp (names_endpoint e) (held_changes h) (held_in_order h own) c hold.change g hold.among hold.holds)
+          (least p c f g hold k t (of_endpoint p (passes (is_of e) names p f)) (first_is_least change_cmp (names_endpoint e) (values changes) (held_in_order changes own) c hold.change g hold.among hold.holds)
           (first_is_least named_cmp (is_of e) names sorted p (named_at (Some e) c.key.name) f (held_listed c k t) (is_of_itself c.key.name)))

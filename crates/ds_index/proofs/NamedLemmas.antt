@@ -12,7 +12,7 @@ use Rattle.std.proofs.lemmas.Option.{same_Some, slice_get_within}
 use Rattle.ds_entry.proofs.Members.{In, In-from_Contains, Contains-from_In}
 use Rattle.ds_names.specs.Endpoint.{EndpointRecord}
 use Rattle.ds_names.specs.Key.{name_cmp}
-use Rattle.ds_join.proofs.HeldLemmas.{from_along}
+use Rattle.ds_join.proofs.MapLemmas.{from_along}
 use Rattle.ds_index.specs.declared.named.Named.{Named}
 use Rattle.ds_index.specs.Named.{slot_of, generation_of, holder_cmp, named_cmp, is_behind, begins_behind, is_of, inserted}
 use Rattle.ds_index.specs.Index.{IsAdded, IsReplaced}

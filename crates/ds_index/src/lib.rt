@@ -5,9 +5,7 @@
 #![tactic(auto)]
 
 mod index;
-mod indexed;
 mod labelled;
 mod named;
 
-pub use indexed::Indexed;
 pub use labelled::Labelled;

@@ -1,11 +1,4 @@
-pub mod PlaceLemmas
-pub mod HeldLemmas
-pub mod TopLemmas
-pub mod MergeLemmas
-pub mod KeptLemmas
+pub mod MapLemmas
 pub mod NextLemmas
-pub mod JoinLemmas
-pub mod ExistLemmas
-pub mod MarkLemmas
 pub mod ItemTopLemmas
 pub mod ItemExistLemmas

@@ -14,8 +14,7 @@ use Rattle.ds_entry.specs.Change.{ChangeRecord}
 use Rattle.ds_entry.specs.Covers.{change_cmp}
 use Rattle.ds_entry.proofs.Members.{In-from_Contains, Contains-head, Contains-tail}
 use Rattle.ds_join.specs.Reading.{is_after, comes_after}
-use Rattle.ds_join.specs.Kept.{IsPlace}
-use Rattle.ds_join.proofs.HeldLemmas.{from_along}
+use Rattle.ds_join.proofs.MapLemmas.{from_along}
 
 less_is : (r : Ordering) → is_lt r ≡ true → r ≡ Less
 less_is Less e = refl
@@ -112,30 +111,3 @@ first_behind p (x ∷ xs) (suc i) h =
     not_true : (b : Bool) → not b ≡ true → b ≡ false
     not_true true e = absurd (cc)
     not_true false e = refl
-
--- ---- the order of keys to one that is looked for
-orders_up : (key a b : Key) → key_cmp a b ≡ Less → ordering_index (key_cmp a key) ≤ ordering_index (key_cmp b key)
-orders_up key a b less = by_order (key_cmp b key) refl
-  where
-    few : (r : Ordering) → ordering_index r ≤ 2
-    few Less = omega arith
-    few Equal = omega arith
-    few Greater = omega arith
-
-    by_order : (r : Ordering) → key_cmp b key ≡ r → ordering_index (key_cmp a key) ≤ ordering_index r
-    by_order Less e = subst (λ r. ordering_index r ≤ 0) (sym (keys_total.trans a b key less e)) (omega arith)
-    by_order Equal e = subst (λ (k : Key). ordering_index (key_cmp a k) ≤ 1) (exact_keys b key e) (subst (λ r. ordering_index r ≤ 1) (sym less) (omega arith))
-    by_order Greater e = few (key_cmp a key)
-
-pub orders_rise : (key : Key) (xs : List ChangeRecord) → IsStrictlySortedBy change_cmp xs → IsNonDecreasingBy (λ (c : ChangeRecord). ordering_index (key_cmp c.key key)) xs
-unfolding IsStrictlySortedBy
-orders_rise key [] s i j d l w = absurd (omega (arith, w))
-orders_rise key (x ∷ xs) s zero zero d l w = omega arith
-orders_rise key (x ∷ xs) s zero (suc j) d l w = orders_up key x.key (get_or xs j d).key (at (λ (y : ChangeRecord). change_cmp x y ≡ Less) xs j d s.0 (omega (arith, w)))
-orders_rise key (x ∷ xs) s (suc i) zero d l w = absurd (omega (arith, l))
-orders_rise key (x ∷ xs) s (suc i) (suc j) d l w = orders_rise key xs s.1 i j d (omega (arith, l)) (omega (arith, w))
-
--- what a binary search answers is a place
-pub place_from_search : (xs : List ChangeRecord) (key : Key) (r : Result ℕ ℕ) → IsStrictlySortedBy change_cmp xs → IsSearchInRange r (length xs) → IsBinarySearchResult (λ (c : ChangeRecord). key_cmp c.key key) xs r → IsPlace xs key r
-place_from_search xs key (Ok i) s w h = (w, h)
-place_from_search xs key (Err i) s w h = (w, h (orders_rise key xs s))

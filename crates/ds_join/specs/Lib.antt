@@ -1,14 +1,5 @@
-pub mod Held
 pub mod Reading
 pub mod Label
-pub mod Top
-pub mod TopLaws
-pub mod Join
-pub mod Merge
-pub mod Stop
-pub mod Kept
-pub mod Marked
-pub mod Beside
 pub mod ItemTop
 pub mod ItemTopLaws
 pub mod ItemJoin

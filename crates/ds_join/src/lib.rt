@@ -5,17 +5,8 @@
 //! puts, and replicas that converge are of this project.
 #![tactic(auto)]
 
-mod held;
-mod item_laws;
-mod label;
 mod laws;
-mod list;
-mod marked;
 mod merge;
-mod order;
 
-pub use held::Held;
-pub use item_laws::{item_join_laws, item_top_laws};
-pub use laws::{join_laws, top_laws};
-pub use marked::Marked;
+pub use laws::{item_join_laws, item_top_laws};
 pub use merge::{JoinFault, Merge, Stop};

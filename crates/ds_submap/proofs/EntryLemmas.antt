@@ -9,9 +9,9 @@ use Rattle.std.specs.List.{slice_get}
 use Rattle.ds_entry.specs.Change.{ChangeRecord}
 use Rattle.ds_entry.specs.declared.item.Item.{Item}
 use Rattle.ds_entry.specs.declared.item.Item.TheVariants.{Change as Changed}
-use Rattle.ds_join.specs.Top.{is_put as leaves_value}
 use Rattle.ds_held.specs.Held.{Holding, change_item, floor_item, held_changes, held_count, held_items}
 use Rattle.ds_submap.specs.Map.{entries_of, is_put}
+use Rattle.ds_join.specs.Reading.{leaves_value}
 
 -- the puts of changes, as items
 abbrev pub puts_of : List ChangeRecord → List Item

@@ -8,8 +8,7 @@ use Rattle.ds_entry.specs.declared.body.Value.TheVariants as values
 use Rattle.ds_entry.specs.declared.item.Item.{Item}
 use Rattle.ds_entry.specs.declared.item.Item.TheVariants.{Change as Changed, Floor as Floored}
 use Rattle.ds_entry.specs.Item.{passes}
-use Rattle.ds_join.specs.Reading.{value_of}
-use Rattle.ds_join.specs.Top.{is_put as leaves_value}
+use Rattle.ds_join.specs.Reading.{value_of, leaves_value}
 use Rattle.ds_held.specs.Held.{Holding, held_for, held_items, nothing_held, IsSound}
 use Rattle.ds_held.specs.Limits.{larger}
 use Rattle.ds_pattern.specs.declared.query.Query.{Query}

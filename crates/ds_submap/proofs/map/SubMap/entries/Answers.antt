@@ -7,8 +7,7 @@ use Rattle.std.proofs.lemmas.Option.{slice_get_cases}
 use Rattle.ds_entry.specs.declared.body.Body.{Body}
 use Rattle.ds_entry.specs.declared.item.Item.TheVariants.{Change as Changed}
 use Rattle.ds_entry.specs.Item.{IsItem}
-use Rattle.ds_join.specs.Reading.{value_in}
-use Rattle.ds_join.specs.Top.{is_put as leaves_value}
+use Rattle.ds_join.specs.Reading.{value_in, leaves_value}
 use Rattle.ds_held.specs.Held.{held_changes, held_items, IsSound}
 use Rattle.ds_submap.specs.Floors.{AreSwept}
 use Rattle.ds_submap.specs.Map.{SubMapRecord, entries_of}

@@ -1,4 +1,4 @@
--- What is held, in the order of the keys.
+-- A map from keys to their own changes, in the order of the keys.
 use Rattle.std.proofs.Common.{◌≡◌, List, [], ◌∷◌, map, Bool, true, false, cond, ◌&&◌, Some, refl, sym, ap, ◌∙◌, subst, inl, inr, Contains}
 use Rattle.std.proofs.lemmas.Option.{same_Some}
 use Rattle.std.specs.declared.cmp.Ordering.{Ordering}
@@ -7,7 +7,7 @@ use Rattle.std.specs.Ordering.{is_eq, is_lt, eq_by_cmp}
 use Rattle.std.specs.List.{AllByRecursion}
 use Rattle.std.specs.List.Sorted.{IsStrictlySortedBy}
 use Rattle.std.specs.Cmp.{tied_itself, alike_right, Equal-is}
-use Rattle.std.specs.FinMap.{find, is_sorted, entries, entries_sorted, get-entries}
+use Rattle.std.specs.FinMap.{FinMap, get, values, find, is_sorted, entries, entries_sorted, get-entries}
 use Rattle.std.specs.FinMap.Entries.{below_all}
 use lib.Dec.{T}
 use Rattle.ds_names.specs.declared.key.Key.{Key}
@@ -16,7 +16,6 @@ use Rattle.ds_names.proofs.OrderLemmas.{keys_total}
 use Rattle.ds_entry.specs.Change.{ChangeRecord}
 use Rattle.ds_entry.specs.Covers.{change_cmp}
 use Rattle.ds_entry.proofs.Members.{In, In-from_Contains, Contains-from_In}
-use Rattle.ds_join.specs.Held.{Holding, held_changes, held_for, IsOwn}
 
 abbrev Entry : Type 0
 Entry = Key × ChangeRecord
@@ -106,20 +105,17 @@ sorted_values (e ∷ es) s own =
       sorted_values es (both _ _ s).1 own_rest,
     )
 
-pub held_in_order : (h : Holding) → IsOwn h → IsStrictlySortedBy change_cmp (held_changes h)
-held_in_order h own = sorted_values (entries h.changes) (entries_sorted h.changes) (λ q c k. own q c (get-entries h.changes q ∙ k))
+module _ (changes : FinMap key_cmp ChangeRecord) (own : (key : Key) (c : ChangeRecord) → get changes key ≡ Some c → c.key ≡ key) where
+  pub held_in_order : IsStrictlySortedBy change_cmp (values changes)
+  held_in_order = sorted_values (entries changes) (entries_sorted changes) (λ q c k. own q c (get-entries changes q ∙ k))
+
+  -- what is held is held for its key
+  pub held_at_key : (c : ChangeRecord) → Contains (values changes) c → get changes c.key ≡ Some c
+  held_at_key c k =
+      let found = find_from_In c (entries changes) (entries_sorted changes) (In-from_Contains c (values changes) k) in
+      let at : get changes found.0 ≡ Some c = get-entries changes found.0 ∙ found.1 in
+      ap (λ (key : Key). get changes key) (own found.0 c at) ∙ at
 
 -- what is held for a key is held
-pub Contains-held : (h : Holding) (key : Key) (c : ChangeRecord) → held_for h key ≡ Some c → Contains (held_changes h) c
-Contains-held h key c e = Contains-from_In c (held_changes h) (In-from_find key c (entries h.changes) (sym (get-entries h.changes key) ∙ e))
-
--- what is held is held for its key
-pub held_at_key : (h : Holding) (c : ChangeRecord) → IsOwn h → Contains (held_changes h) c → held_for h c.key ≡ Some c
-held_at_key h c own k =
-    let found = find_from_In c (entries h.changes) (entries_sorted h.changes) (In-from_Contains c (held_changes h) k) in
-    let at : held_for h found.0 ≡ Some c = get-entries h.changes found.0 ∙ found.1 in
-    ap (λ (key : Key). held_for h key) (own found.0 c at) ∙ at
-
--- of one key one change is held
-pub held_once : (h : Holding) → IsOwn h → (c d : ChangeRecord) → Contains (held_changes h) c → Contains (held_changes h) d → c.key ≡ d.key → c ≡ d
-held_once h own c d k l e = same_Some c d (sym (held_at_key h c own k) ∙ ap (λ (key : Key). held_for h key) e ∙ held_at_key h d own l)
+pub Contains-held : (changes : FinMap key_cmp ChangeRecord) (key : Key) (c : ChangeRecord) → get changes key ≡ Some c → Contains (values changes) c
+Contains-held changes key c e = Contains-from_In c (values changes) (In-from_find key c (entries changes) (sym (get-entries changes key) ∙ e))

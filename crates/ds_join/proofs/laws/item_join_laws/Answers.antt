@@ -1,5 +1,5 @@
-use Rattle.ds_join.proofs.TopLemmas.{join_is_commutative, join_is_associative, join_is_idempotent, join_is_least}
-use Rattle.ds_join.proofs.laws.join_laws.Goals as goal
+use Rattle.ds_join.proofs.ItemTopLemmas.{join_is_commutative, join_is_associative, join_is_idempotent, join_is_least}
+use Rattle.ds_join.proofs.laws.item_join_laws.Goals as goal
 
 pub returns-clause-commutative : goal.returns-clause-commutative
 returns-clause-commutative c = join_is_commutative

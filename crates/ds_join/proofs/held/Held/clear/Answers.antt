@@ -1,5 +1,0 @@
-use Rattle.ds_join.proofs.PlaceLemmas.{own_list}
-use Rattle.ds_join.proofs.held.Held.clear.Goals as goal
-
-pub returns-clause-own : goal.returns-clause-own
-returns-clause-own c = own_list c.clear.new.self.items
