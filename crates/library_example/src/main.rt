@@ -1,20 +1,22 @@
-//! How a server uses the data store: `inet` follows the labels of network drivers, and learns where `drv.net.eth0` is now.
+//! How a server uses the data store: `inet` follows a network driver, which dies and comes back.
 //!
-//! RS publishes the driver's label, later the label of its next generation, and `inet`, server 5, checks when a notice is
-//! owed to it. Whoever runs the store sends that notice, and calls `apply` with the endpoints that the kernel told it.
+//! RS publishes the label of `eth0`, and the driver its MTU. When it dies, RS sweeps what it left, and publishes the label of
+//! its next generation. `inet`, server 5, checks when a notice is owed to it: whoever runs the store sends that notice, and
+//! calls `apply` with the endpoints that the kernel told it. What the dead process still sends is refused.
 #![tactic(auto)]
 
 mod drivers;
+mod telling;
 
-use drivers::{Driver, network_labels};
-use ds_entry::{Body, Items, Value};
-use ds_names::Name;
-use ds_store::{Command, Reply, Store};
+use drivers::{Driver, eth0_and_below};
+use ds_machine::Command;
+use ds_store::Store;
 use std::process::ExitCode;
 use std::rt::Runtime;
+use telling::tell;
 
-// The first of the eight subscriptions of server 5.
-const INET: u32 = 40;
+/// The first of the eight subscriptions of server 5.
+pub(crate) const INET: u32 = 40;
 
 fn main(rt: HostRuntime) -> ExitCode {
     match example(&rt) {
@@ -26,60 +28,30 @@ fn main(rt: HostRuntime) -> ExitCode {
 // Answers None where memory or writing fails.
 fn example(rt: &(impl Runtime + AllocGlobal)) -> Option<()> {
     let mut store = Store::open(rt.alloc(), 1, 0, 256).ok()?;
-    let eth0 = Name::read(b"drv.net.eth0").ok()?;
-    let query = network_labels(rt.alloc())?;
-    tell(
-        rt,
-        &store.apply(Command::Subscribe {
-            sub: INET,
-            query,
-            initial: true,
-            overwrite: false,
-        }),
-    )?;
-    for generation in [3, 8] {
-        let driver = Driver {
-            label: eth0,
-            generation,
-            slot: 16,
-        };
-        tell(rt, &store.apply(driver.published()?))?;
-        tell(
-            rt,
-            &store.apply(Command::Check {
-                sub: INET,
-                max: 256,
-            }),
-        )?;
-    }
-    Some(())
+    let follow = Command::Subscribe {
+        sub: INET,
+        query: eth0_and_below(rt.alloc())?,
+        initial: true,
+        overwrite: false,
+    };
+    tell(rt, &store.apply(follow))?;
+
+    let first = Driver::eth0(3, 16)?;
+    tell(rt, &store.apply(first.started()))?;
+    tell(rt, &store.apply(first.publishes_mtu(1500)?))?;
+    tell(rt, &store.apply(check()))?;
+
+    let second = Driver::eth0(4, 16)?;
+    tell(rt, &store.apply(first.died()))?;
+    tell(rt, &store.apply(second.started()))?;
+    tell(rt, &store.apply(first.publishes_mtu(9000)?))?;
+    tell(rt, &store.apply(check()))
 }
 
-// Prints what a reply says.
-fn tell(rt: &impl Print, reply: &Reply) -> Option<()> {
-    match reply {
-        Reply::Subscribed { stamp, .. } => println!(rt; "subscribed with stamp {stamp}").ok(),
-        Reply::Changed { owed } if *owed >> INET & 1 == 1 => println!(rt;
-            "changed: notify inet"
-        ).ok(),
-        Reply::Changed { .. } => println!(rt; "changed: nobody follows it").ok(),
-        Reply::Checked { items, .. } => tell_labels(rt, items),
-        _ => println!(rt; "refused").ok(),
+// What `inet` asks when it hears a notice.
+fn check() -> Command {
+    Command::Check {
+        sub: INET,
+        max: 256,
     }
-}
-
-// Prints where each driver of the changes is now.
-fn tell_labels(rt: &impl Print, items: &Items) -> Option<()> {
-    for index in 0..items.len() {
-        let change = items.get(index)?;
-        let label = str::from_utf8(change.key().name.bytes()).ok()?;
-        match change.body() {
-            Body::Put(Value::Label(endpoint)) => {
-                let (generation, slot) = (endpoint.generation().number(), endpoint.slot());
-                println!(rt; "{label} is at {generation}/{slot}").ok()?;
-            }
-            _ => println!(rt; "{label} is gone").ok()?,
-        }
-    }
-    Some(())
 }
