@@ -28,18 +28,8 @@ pub(super) fn copy_at(alloc: Global, held: &Held, index: usize) -> Result<Option
     }
 }
 
-// Whether the item is under the scope, as every floor is.
-fn is_under<S: KeyScope>(scope: &mut S, item: &Item) -> bool
-    ensures told { result ≡ passes (S.keeps scope.old) item.now }
-    ensures scope { S.keeps scope.new ≡ S.keeps scope.old }
-{
-    match item {
-        Item::Change(change) => scope.admits(change.key()),
-        Item::Floor(_) => true,
-    }
-}
-
-// Adds the item at the index where it is under the scope. It tells whether there is one.
+// Adds the item at the index where it is under the scope, as every floor is, and copies no other. It tells whether there
+// is one.
 fn add_at<S: KeyScope>(
     alloc: Global,
     held: &Held,
@@ -52,13 +42,20 @@ fn add_at<S: KeyScope>(
     ensures same { OnOk result (slice_get (held_items held.now) index ≡ None → items.new ≡ items.old) }
     ensures scope { S.keeps scope.new ≡ S.keeps scope.old }
 {
-    let Some(item) = copy_at(alloc, held, index)? else {
-        return Ok(false);
-    };
-    if !is_under(scope, &item) {
+    let floors = held.floor_count();
+    if index < floors {
+        let Some(floor) = held.floor_at(index) else {
+            return Ok(false);
+        };
+        items.push(Item::Floor(floor))?;
         return Ok(true);
     }
-    items.push(item)?;
+    let Some(change) = held.at(index - floors) else {
+        return Ok(false);
+    };
+    if scope.admits(change.key()) {
+        items.push(Item::Change(change.copy(alloc)?))?;
+    }
     Ok(true)
 }
 
