@@ -1,37 +1,46 @@
-//! The commands of a script, made ahead.
+//! What a store is asked, made ahead.
 
 ghost use Rattle.ds_line.specs.LastNewline.{EndsLine};
 
 use crate::Failure;
-use ds_entry::{Items, Value};
+use crate::readers::{as_merge, read_own};
+use ds_entry::{ItemList, Value};
+use ds_machine::Command;
 use ds_names::{Endpoint, Key, Kind, Name, Version, read_decimal};
-use ds_store::Command;
 use ds_words::{CommandFault, ScriptCommand, Wording, read_line, split_line};
 use std::alloc::Global;
 
-/// A command for a store, and how its reply is worded.
+// How many items the journal keeps, where no line says it.
+const RING: u32 = 256;
+
+/// What a store is asked.
 #[derive(Drop)]
-pub(crate) struct Prepared {
-    pub(crate) command: Command,
-    pub(crate) wording: Wording,
+pub(crate) enum Asked {
+    /// A command, and how its reply is worded.
+    Command { command: Command, wording: Wording },
+    /// To begin again as this incarnation.
+    Restart { incarnation: u64 },
 }
 
-/// Where a store begins, and the commands that it is given.
+/// Where a store begins, what its journal keeps, and what it is asked.
 #[derive(Drop)]
 pub(crate) struct Script {
     pub(crate) first: u64,
-    pub(crate) commands: Vec<Prepared>,
+    pub(crate) ring: u32,
+    pub(crate) asked: Vec<Asked>,
     // The items of the Merge whose lines are still read.
-    merge: Option<Items>,
+    merge: Option<ItemList>,
 }
 
 impl Script {
     /// The script of the lines.
     pub(crate) fn read(alloc: Global, text: &[u8]) -> Result<Script, Failure> {
-        let (first, mut rest) = first_of(text)?;
+        let (first, text) = number_of(b"first ", text, 0, 1 << 62)?;
+        let (ring, mut rest) = number_of(b"ring ", text, RING as u64, 4096)?;
         let mut script = Script {
             first,
-            commands: Vec::new(alloc),
+            ring: u32::try_from(ring).map_err(|_| Failure::BadLine)?,
+            asked: Vec::new(alloc),
             merge: None,
         };
         for _ in 0..text.len() {
@@ -41,7 +50,7 @@ impl Script {
             script.add(alloc, line)?;
             rest = behind;
         }
-        if rest.is_empty() && script.merge.is_none() {
+        if rest.is_empty() && script.merge.is_none() && script.ring != 0 {
             Ok(script)
         } else {
             Err(Failure::BadLine)
@@ -53,33 +62,40 @@ impl Script {
         requires { EndsLine line.now }
     {
         if line == b"merge\n".as_slice() {
-            self.merge = Some(Items::new(alloc));
+            self.merge = Some(ItemList::new(alloc));
             return Ok(());
         }
-        let command = if line == b"end\n".as_slice() {
+        let asked = if line == b"end\n".as_slice() {
             let items = self.merge.take().ok_or(Failure::BadLine)?;
             as_merge(Command::Merge { items })
         } else if line == b"mismatch\n".as_slice() {
             as_merge(mismatch()?)
+        } else if let Some(own) = read_own(alloc, line)? {
+            own
         } else {
             let command = read(alloc, line)?;
             if let Some(items) = &mut self.merge {
                 return push(items, command);
             }
-            asked(alloc, command)?
+            asked_by(alloc, command)?
         };
-        self.commands.push(command).map_err(|_| Failure::NoRoom)
+        self.asked.push(asked).map_err(|_| Failure::NoRoom)
     }
 }
 
-// `first N`, where it is the first line, and the lines behind it.
-fn first_of(text: &[u8]) -> Result<(u64, &[u8]), Failure> {
-    match text.strip_prefix(b"first ".as_slice()) {
-        None => Ok((0, text)),
+// The number of a line that begins so, where it is the first one, and the lines behind it; else the other number.
+fn number_of<'a>(
+    word: &[u8],
+    text: &'a [u8],
+    other: u64,
+    most: u64,
+) -> Result<(u64, &'a [u8]), Failure> {
+    match text.strip_prefix(word) {
+        None => Ok((other, text)),
         Some(rest) => {
-            let (first, rest) = read_decimal(rest, u64::MAX).ok_or(Failure::BadLine)?;
+            let (number, rest) = read_decimal(rest, most).ok_or(Failure::BadLine)?;
             let rest = rest.strip_prefix(b"\n".as_slice()).ok_or(Failure::BadLine)?;
-            Ok((first, rest))
+            Ok((number, rest))
         }
     }
 }
@@ -95,31 +111,24 @@ fn read(alloc: Global, line: &[u8]) -> Result<ScriptCommand, Failure>
 }
 
 // One more item of a Merge.
-fn push(items: &mut Items, command: ScriptCommand) -> Result<(), Failure> {
+fn push(items: &mut ItemList, command: ScriptCommand) -> Result<(), Failure> {
     match command {
-        ScriptCommand::Offer(change) => items.push(change).map_err(|_| Failure::NoRoom),
+        ScriptCommand::Offer(item) => items.push(item).map_err(|_| Failure::NoRoom),
         _ => Err(Failure::BadLine),
     }
 }
 
-// What a line asks of a store.
-fn asked(alloc: Global, command: ScriptCommand) -> Result<Prepared, Failure> {
+// What a line of a script asks of a store.
+fn asked_by(alloc: Global, command: ScriptCommand) -> Result<Asked, Failure> {
     let wording = command.wording();
     match command.into_store_command(alloc) {
-        Ok(Some(command)) => Ok(Prepared { command, wording }),
+        Ok(Some(command)) => Ok(Asked::Command { command, wording }),
         Ok(None) => Err(Failure::BadLine),
         Err(_) => Err(Failure::NoRoom),
     }
 }
 
-fn as_merge(command: Command) -> Prepared {
-    Prepared {
-        command,
-        wording: Wording::AsMerge,
-    }
-}
-
-// RS publishes a number under a key of another kind, which no line of a script can ask, and with the number of sweeps.
+// RS publishes a number under a key of another kind, which no line of a script can ask, and with the last sequence number.
 fn mismatch() -> Result<Command, Failure> {
     let name = Name::read(b"mtu").map_err(|_| Failure::BadLine)?;
     let epoch = Endpoint::rs().generation();

@@ -1,15 +1,20 @@
 //! `memory_demo`: one store, and commands that are made before it is given them, for tests that refuse it memory.
 //!
-//! It reads the lines of a script, all of them first, makes the store's command of each, prints `ready`, and only then gives
-//! them to a store and prints the replies, as a script's are printed. So a growth of memory behind `ready` is one of the
-//! store's calls. Beside a script's lines there are `first N`, as the first line: where positions and stamps begin; `merge`,
-//! offers and `end`, which are one Merge; and `mismatch`, a Publish of a number under a key of another kind. Status 0: done.
-//! 1: a line that can't be read, or has no newline. 3: memory, reading or writing failed, and standard error says which.
+//! It reads lines, all of them first, makes the store's command of each, prints `ready`, and only then gives them to a store
+//! and prints the replies, as a script's are printed. So a growth of memory behind `ready` is one of the store's calls.
+//!
+//! Beside a script's lines there are, as the first ones, `first N`, where positions and stamps begin, and `ring N`, how many
+//! items the journal keeps, 256 where there is no such line; `merge`, offers and `end`, which are one Merge; `mismatch`, a
+//! Publish of a number under a key of another kind; `since INCARNATION POSITION MAX SCOPE`, `snapshot SCOPE` and `page MAX
+//! AFTER SCOPE`, where SCOPE is `*` or a pattern and kinds as a map has them, and AFTER is `-` or a name and a kind; and
+//! `restart INCARNATION`. Status 0: done. 1: a line that can't be read, or has no newline. 3: memory, reading or writing
+//! failed, and standard error says which.
 #![tactic(auto)]
 
 mod commands;
+mod readers;
 
-use commands::{Prepared, Script};
+use commands::{Asked, Script};
 use ds_store::Store;
 use ds_words::append_reply;
 use std::io::{self, ErrorKind, Read, Write};
@@ -17,7 +22,7 @@ use std::process::ExitCode;
 use std::rt::Runtime;
 
 // Bytes of the answer to one command for which there is room before the first is given to the store.
-const ANSWER: usize = 1 << 16;
+const ANSWER: usize = 1 << 20;
 
 /// What ends the program without all its answers.
 #[derive(Drop)]
@@ -50,8 +55,8 @@ fn run(rt: &(impl Runtime + AllocGlobal)) -> Result<(), Failure> {
         });
     }
     let script = Script::read(rt.alloc(), text.as_slice())?;
-    let Ok(store) = Store::open(rt.alloc(), 1, script.first, 256) else {
-        return Err(Failure::BadLine);
+    let Ok(store) = Store::open(rt.alloc(), 1, script.first, script.ring) else {
+        return Err(Failure::NoRoom);
     };
     let Ok(answer) = Vec::with_capacity(rt.alloc(), ANSWER) else {
         return Err(Failure::NoRoom);
@@ -59,23 +64,32 @@ fn run(rt: &(impl Runtime + AllocGlobal)) -> Result<(), Failure> {
     if println!(rt; "ready").is_err() {
         return Err(Failure::WriteFault);
     }
-    answer_all(&mut io::writer(rt), store, script.commands, answer)
+    answer_all(&mut io::writer(rt), store, script.asked, answer)
 }
 
 // Gives the commands to the store, and prints each reply.
 fn answer_all<W: Write>(
     writer: &mut W,
     mut store: Store,
-    commands: Vec<Prepared>,
+    commands: Vec<Asked>,
     mut answer: Vec<u8>,
 ) -> Result<(), Failure> {
-    for Prepared { command, wording } in commands {
-        let reply = store.apply(command);
-        answer.clear();
-        if append_reply(&mut answer, wording, &reply).is_err() {
-            return Err(Failure::NoRoom);
-        }
-        if writer.write_all(answer.as_slice()).is_err() {
+    for asked in commands {
+        let words = match asked {
+            Asked::Command { command, wording } => {
+                let reply = store.apply(command);
+                answer.clear();
+                if append_reply(&mut answer, wording, &reply, store.limits()).is_err() {
+                    return Err(Failure::NoRoom);
+                }
+                answer.as_slice()
+            }
+            Asked::Restart { incarnation } => {
+                store.restart(incarnation);
+                b"restarted\n".as_slice()
+            }
+        };
+        if writer.write_all(words).is_err() {
             return Err(Failure::WriteFault);
         }
     }

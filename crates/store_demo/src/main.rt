@@ -1,8 +1,8 @@
 //! `store_demo`: a store that begins anywhere and a subscriber's map, line by line, for tests of what no script reaches.
 //!
-//! It reads lines of standard input: where a store opens, commands as scripts have them, blocks of commands that are one
-//! Merge or are run together, and blocks of changes that a map takes; and it prints what they answer. Nothing is decided here. Status 0: done. 1: a
-//! line that can't be read. 3: memory, reading or writing failed, and standard error says which.
+//! It reads lines of standard input: where a store opens and within which limits, commands as scripts have them, blocks of
+//! commands that are run together, and blocks of items that a map takes; and it prints what they answer. Nothing is decided
+//! here. Status 0: done. 1: a line that can't be read. 3: memory, reading or writing failed, and standard error says which.
 #![tactic(auto)]
 
 mod map;

@@ -1,10 +1,10 @@
 //! Lines, given to a subscriber's map.
 
-use crate::session::{Failure, Session, number, print};
-use ds_entry::{Change, Floor, Item, ItemList};
+use crate::session::{Failure, Session, print};
+use ds_entry::{Change, ItemList};
 use ds_join::{JoinFault, Stop};
 use ds_line::{append_item, write_change};
-use ds_names::{Generation, Key, Kind, Name};
+use ds_names::{Key, Kind, Name};
 use ds_pattern::{PatternFault, Query};
 use ds_submap::{Count, SubMap};
 use std::alloc::Global;
@@ -44,14 +44,6 @@ pub(crate) fn take(
         }
     };
     printed.map_err(|_| Failure::WriteFault)
-}
-
-/// `floor OWNER GENERATION`, in the block of a `take`: the floor of an owner.
-pub(crate) fn read_floor(words: &str) -> Result<Item, Failure> {
-    let (owner, generation) = words.split_once(' ').ok_or(Failure::BadLine)?;
-    let owner = Name::read(owner.as_bytes()).map_err(|_| Failure::BadLine)?;
-    let generation = Generation::of(number(generation)?).ok_or(Failure::BadLine)?;
-    Ok(Item::Floor(Floor { owner, generation }))
 }
 
 /// `entries`: the puts of the map, and how many changes it holds.

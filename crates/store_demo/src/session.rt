@@ -1,9 +1,11 @@
 //! Lines, given to a store or to a map.
 
-use crate::map::{clear, make, print_entries, print_floor, print_label, read_floor, take};
-use ds_entry::{Item, ItemList, Items, Value};
-use ds_names::{Endpoint, Key, Kind, Name, NoRoom, Version};
-use ds_store::{Command, Refusal, Reply, Store, run};
+use crate::map::{clear, make, print_entries, print_floor, print_label, take};
+use ds_entry::ItemList;
+use ds_held::Limits;
+use ds_machine::{Command, Refusal, Reply};
+use ds_names::NoRoom;
+use ds_store::{Store, run};
 use ds_submap::SubMap;
 use ds_words::{ScriptCommand, Wording, append_reply, read_command, split_line, write_reply};
 use std::alloc::{AllocError, Global};
@@ -36,9 +38,7 @@ impl From<AllocError> for Failure {
 /// Lines up to `end` that are asked together.
 #[derive(Drop)]
 enum Block {
-    /// `merge`: offers, which are the items of one Merge.
-    Merge(Items),
-    /// `take`: offers and floors, which are the items that the map takes.
+    /// `take`: offers, which are the items that the map takes.
     Take(ItemList),
     /// `run`: commands, which are run as a list.
     Run(Vec<Command>),
@@ -70,22 +70,20 @@ pub(crate) fn answer(rt: &impl Runtime, session: &mut Session, line: &str) -> Re
     if let Some(words) = line.strip_prefix("open ") {
         return open(rt, session, words);
     }
+    if let Some(word) = line.strip_prefix("restart ") {
+        return restart(rt, session, word);
+    }
     if let Some(name) = line.strip_prefix("label ") {
         return print_label(rt, session, name);
     }
     if let Some(owner) = line.strip_prefix("floor-of ") {
         return print_floor(rt, session, owner);
     }
-    if let Some(words) = line.strip_prefix("floor ") {
-        return add_floor(session, words);
-    }
     let alloc = session.alloc;
     match line {
         "take" => session.block = Some(Block::Take(ItemList::new(alloc))),
-        "merge" => session.block = Some(Block::Merge(Items::new(alloc))),
         "run" => session.block = Some(Block::Run(Vec::new(alloc))),
         "end" => return end(rt, session),
-        "mismatch" => return mismatch(rt, session),
         "held" => return print_held(rt, session),
         "entries" => return print_entries(rt, session),
         "clear" => return clear(rt, session),
@@ -100,21 +98,31 @@ pub(crate) fn answer(rt: &impl Runtime, session: &mut Session, line: &str) -> Re
     Ok(())
 }
 
-// `open INCARNATION FIRST RING`
+// `INCARNATION FIRST RING SUBS KEYS`
 fn open(rt: &impl Runtime, session: &mut Session, words: &str) -> Result<(), Failure> {
     let (incarnation, rest) = words.split_once(' ').ok_or(Failure::BadLine)?;
-    let (first, ring) = rest.split_once(' ').ok_or(Failure::BadLine)?;
+    let (first, rest) = rest.split_once(' ').ok_or(Failure::BadLine)?;
+    let (ring, rest) = rest.split_once(' ').ok_or(Failure::BadLine)?;
+    let (subs, keys) = rest.split_once(' ').ok_or(Failure::BadLine)?;
+    let limits = Limits::of(number(subs)?, number(keys)?).ok_or(Failure::BadLine)?;
     let (incarnation, first, ring) = (number(incarnation)?, number(first)?, number(ring)?);
-    match Store::open(session.alloc, incarnation, first, ring) {
+    match Store::open_with(session.alloc, incarnation, first, ring, limits) {
         Ok(store) => {
             session.store = Some(store);
             print_held(rt, session)
         }
-        Err(refusal) => print_reply(rt, session.alloc, &Reply::Refused(refusal)),
+        Err(refusal) => print_refusal(rt, session.alloc, refusal, limits),
     }
 }
 
-pub(crate) fn number<T: FromStr>(word: &str) -> Result<T, Failure>
+// `INCARNATION`
+fn restart(rt: &impl Runtime, session: &mut Session, word: &str) -> Result<(), Failure> {
+    let store = session.store.as_mut().ok_or(Failure::BadLine)?;
+    store.restart(number(word)?);
+    print_held(rt, session)
+}
+
+fn number<T: FromStr>(word: &str) -> Result<T, Failure>
 where
     T::Err: Drop,
 {
@@ -132,30 +140,14 @@ fn read(alloc: Global, line: &str) -> Result<ScriptCommand, Failure> {
 
 fn add(alloc: Global, block: &mut Block, command: ScriptCommand) -> Result<(), Failure> {
     match block {
-        Block::Merge(items) => match command {
-            ScriptCommand::Offer(change) => items.push(change).map_err(|_| Failure::NoRoom),
-            _ => Err(Failure::BadLine),
-        },
         Block::Take(items) => match command {
-            ScriptCommand::Offer(change) => add_item(items, Item::Change(change)),
+            ScriptCommand::Offer(item) => items.push(item).map_err(|_| Failure::NoRoom),
             _ => Err(Failure::BadLine),
         },
         Block::Run(commands) => {
             let command = command.into_store_command(alloc)?.ok_or(Failure::BadLine)?;
             commands.push(command).map_err(|_| Failure::NoRoom)
         }
-    }
-}
-
-fn add_item(items: &mut ItemList, item: Item) -> Result<(), Failure> {
-    items.push(item).map_err(|_| Failure::NoRoom)
-}
-
-// Adds a floor to the items that the map will take.
-fn add_floor(session: &mut Session, words: &str) -> Result<(), Failure> {
-    match &mut session.block {
-        Some(Block::Take(items)) => add_item(items, read_floor(words)?),
-        Some(Block::Merge(_) | Block::Run(_)) | None => Err(Failure::BadLine),
     }
 }
 
@@ -168,49 +160,44 @@ fn ask(rt: &impl Runtime, session: &mut Session, command: &ScriptCommand) -> Res
     let store = session.store.as_mut().ok_or(Failure::BadLine)?;
     let asked = command.store_command(alloc)?.ok_or(Failure::BadLine)?;
     let reply = store.apply(asked);
-    print(rt, write_reply(alloc, command, &reply)?.as_slice())
-}
-
-// RS publishes a number under a key of another kind, which no line of a script can ask.
-fn mismatch(rt: &impl Runtime, session: &mut Session) -> Result<(), Failure> {
-    let store = session.store.as_mut().ok_or(Failure::BadLine)?;
-    let name = Name::read(b"mtu").map_err(|_| Failure::BadLine)?;
-    let kind = Kind::Str;
-    let epoch = Endpoint::rs().generation();
-    let reply = store.apply(Command::Publish {
-        caller: Endpoint::rs(),
-        key: Key { name, kind },
-        version: Version { epoch, seq: 0 },
-        value: Value::U32(1500),
-        overwrite: false,
-    });
-    print_reply(rt, session.alloc, &reply)
+    let limits = store.limits();
+    print(rt, write_reply(alloc, command, &reply, limits)?.as_slice())
 }
 
 // Asks the store, or the map, for a block.
 fn end(rt: &impl Runtime, session: &mut Session) -> Result<(), Failure> {
-    let alloc = session.alloc;
     match session.block.take().ok_or(Failure::BadLine)? {
         Block::Take(items) => take(rt, session, &items),
-        Block::Merge(items) => {
-            let store = session.store.as_mut().ok_or(Failure::BadLine)?;
-            let reply = store.apply(Command::Merge { items });
-            print_reply(rt, alloc, &reply)
-        }
         Block::Run(commands) => {
             let store = session.store.as_mut().ok_or(Failure::BadLine)?;
-            for reply in &run(alloc, store, commands)? {
-                print_reply(rt, alloc, reply)?;
+            let replies = run(session.alloc, store, commands)?;
+            let limits = store.limits();
+            for reply in &replies {
+                print_reply(rt, session.alloc, reply, limits)?;
             }
             Ok(())
         }
     }
 }
 
-// What the store answers to what no line of a script asks.
-fn print_reply(rt: &impl Runtime, alloc: Global, reply: &Reply) -> Result<(), Failure> {
+fn print_refusal(
+    rt: &impl Runtime,
+    alloc: Global,
+    refusal: Refusal,
+    limits: Limits,
+) -> Result<(), Failure> {
+    print_reply(rt, alloc, &Reply::Refused(refusal), limits)
+}
+
+// What the store answers to a list of commands, a Merge by its counts.
+fn print_reply(
+    rt: &impl Runtime,
+    alloc: Global,
+    reply: &Reply,
+    limits: Limits,
+) -> Result<(), Failure> {
     let mut text = Vec::new(alloc);
-    append_reply(&mut text, Wording::AsMerge, reply)?;
+    append_reply(&mut text, Wording::AsMerge, reply, limits)?;
     print(rt, text.as_slice())
 }
 
@@ -221,11 +208,12 @@ pub(crate) fn print(rt: &impl Runtime, text: &[u8]) -> Result<(), Failure> {
         .map_err(|_| Failure::WriteFault)
 }
 
-// How many changes the store holds, where it stands, and which one it is.
+// How many changes and floors the store holds, where it stands, and which one it is.
 fn print_held(rt: &impl Runtime, session: &Session) -> Result<(), Failure> {
     let store = session.store.as_ref().ok_or(Failure::BadLine)?;
-    let count = store.held().len();
-    let (position, incarnation) = (store.position(), store.incarnation());
-    let printed = println!(rt; "held {count} position {position} incarnation {incarnation}");
+    let (keys, floors) = (store.held().len(), store.held().floor_count());
+    let (position, incarnation) = (store.cursor().position, store.incarnation());
+    let printed =
+        println!(rt; "held {keys} floors {floors} position {position} incarnation {incarnation}");
     printed.map_err(|_| Failure::WriteFault)
 }
