@@ -1,5 +1,5 @@
-//! The store in its final form: it judges what stands against each command, and lets it take effect in what it keeps. No
-//! program uses it yet; the programs use `ds_store`, whose place it takes when they move over.
+//! The store of the programs: it judges what stands against each command, and lets it take effect in what it keeps. Each
+//! call of `apply` is one step of the store's machine.
 //!
 //! Publishing, deleting, retrieving, naming, subscribing and checking are MINIX 3's data store's (DS), where each entry has
 //! an owner, only RS publishes labels, and a live entry is overwritten only with the overwrite flag (the DS interface of
