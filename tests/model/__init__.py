@@ -1,5 +1,5 @@
 """A second opinion on `dsctl replay`, written from the rules of the script format and of the store, and not from the program."""
-from .lines import BadLine, Floor, read
+from .lines import KINDS, BadLine, Floor, read
 from .store import Store
 
 

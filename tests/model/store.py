@@ -56,10 +56,13 @@ class Store:
     """What is held: a dictionary from keys to (owner, version, value), the value being None for a tombstone.
 
     `floors` is a dictionary from owners to generations, `subscriptions` one from numbers, `maps` how many maps there are:
-    nothing is delivered to them.
+    nothing is delivered to them. `accepted` has all that took effect, each with its key, a floor with None, and its line;
+    `ring` says how many of the last ones a cursor reaches.
     """
 
-    def __init__(self):
+    def __init__(self, ring=256, incarnation=1):
+        self.ring, self.incarnation = ring, incarnation
+        self.accepted = []
         self.held = {}
         self.floors = {}
         self.stamp = 0
@@ -101,6 +104,7 @@ class Store:
         if not has and len(self.held) == MOST_KEYS:
             raise Refused("full")
         self.held[key] = (owner, version, value)
+        self.accepted.append((key, line_of(key, owner, version, value)))
         return [b"taken"] + self.owed(key)
 
     def take_floor(self, owner, generation):
@@ -124,6 +128,7 @@ class Store:
         if owner not in self.floors and len(self.floors) == MOST_FLOORS:
             raise Refused("full")
         self.floors[owner] = generation
+        self.accepted.append((None, b"! %s %d" % (owner, generation)))
         dropped = [key for key, (of, version, _) in self.held.items() if self.is_void(key, of, version)]
         return sum(self.held.pop(key)[2] is not None for key in dropped)
 
@@ -207,6 +212,45 @@ class Store:
             subscription.shown.update(shown)
         return shown + [b"checked %d %d %d" % (len(shown), before, subscription.stamp)]
 
+    # ---- readers, whose scope is None for all keys, or a pattern and kinds ----
+
+    def since(self, incarnation, position, most, scope):
+        """What took effect under the scope from a cursor on, and the cursor behind it."""
+        is_under = asked_under(scope, most)
+        end = len(self.accepted)
+        if incarnation != self.incarnation:
+            raise Refused("oldcursor")
+        if position > end:
+            raise Refused("ahead")
+        if position + min(self.ring, end) < end:
+            raise Refused("behind")
+        given = []
+        for key, line in self.accepted[position:]:
+            if len(given) == most:
+                break
+            position += 1
+            given += [line] if is_under(key) else []
+        return given + [b"since %d %d %d" % (len(given), self.incarnation, position)]
+
+    def snapshot(self, scope):
+        """All that is held under the scope."""
+        is_under = asked_under(scope)
+        given = self.floor_lines() + [line_of(key, *self.held[key]) for key in sorted(self.held) if is_under(key)]
+        return given + [b"snapshot %d %d %d" % (len(given), self.incarnation, len(self.accepted))]
+
+    def page(self, most, after, scope):
+        """The first changes that are held under the scope behind a key; behind None all floors too."""
+        is_under = asked_under(scope, most)
+        left = [key for key in sorted(self.held) if is_under(key) and (after is None or key > after)]
+        given = (self.floor_lines() if after is None else []) + [line_of(key, *self.held[key]) for key in left[:most]]
+        mark = b"more" if len(left) > most else b"last"
+        return given + [b"page %d %s %d %d" % (len(given), mark, self.incarnation, len(self.accepted))]
+
+    def restart(self, incarnation):
+        """Begins again with nothing, as another incarnation."""
+        self.__init__(self.ring, incarnation)
+        return [b"restarted"]
+
     # ---- maps ----
 
     def map(self, query):
@@ -264,6 +308,14 @@ def line_of(key, owner, version, value):
     """The line of a change."""
     body = b"-" if value is None else b"= " + value
     return b"%s %s %s %d.%d %s" % (key[0], lines.KINDS[key[1]], owner, *version, body)
+
+
+def asked_under(scope, most=1):
+    """Whether a key is under a scope, of which so many items are asked for; None is a floor's, which is under each."""
+    if not 1 <= most <= MOST_CHECKED:
+        raise Refused("toomany")
+    query = scope and Query(*scope)
+    return lambda key: key is None or query is None or query.admits(key)
 
 
 def counted(shown):
