@@ -39,7 +39,7 @@ impl Script {
         let (ring, mut rest) = number_of(b"ring ", text, RING as u64, 4096)?;
         let mut script = Script {
             first,
-            ring: u32::try_from(ring).map_err(|_| Failure::BadLine)?,
+            ring: u32::try_from(ring).ok().ok_or(Failure::BadLine)?,
             asked: Vec::new(alloc),
             merge: None,
         };
@@ -79,7 +79,7 @@ impl Script {
             }
             asked_by(alloc, command)?
         };
-        self.asked.push(asked).map_err(|_| Failure::NoRoom)
+        self.asked.push(asked).ok().ok_or(Failure::NoRoom)
     }
 }
 
@@ -113,7 +113,7 @@ fn read(alloc: Global, line: &[u8]) -> Result<ScriptCommand, Failure>
 // One more item of a Merge.
 fn push(items: &mut ItemList, command: ScriptCommand) -> Result<(), Failure> {
     match command {
-        ScriptCommand::Offer(item) => items.push(item).map_err(|_| Failure::NoRoom),
+        ScriptCommand::Offer(item) => items.push(item).ok().ok_or(Failure::NoRoom),
         _ => Err(Failure::BadLine),
     }
 }
@@ -130,7 +130,7 @@ fn asked_by(alloc: Global, command: ScriptCommand) -> Result<Asked, Failure> {
 
 // RS publishes a number under a key of another kind, which no line of a script can ask, and with the last sequence number.
 fn mismatch() -> Result<Command, Failure> {
-    let name = Name::read(b"mtu").map_err(|_| Failure::BadLine)?;
+    let name = Name::read(b"mtu").ok().ok_or(Failure::BadLine)?;
     let epoch = Endpoint::rs().generation();
     Ok(Command::Publish {
         caller: Endpoint::rs(),

@@ -19,7 +19,7 @@ pub(crate) fn as_merge(command: Command) -> Asked {
 
 /// What a line of this program's own asks, which comes with its newline. `None` for a line that begins with none of its words.
 pub(crate) fn read_own(alloc: Global, line: &[u8]) -> Result<Option<Asked>, Failure> {
-    let text = str::from_utf8(line).map_err(|_| Failure::BadLine)?;
+    let text = str::from_utf8(line).ok().ok_or(Failure::BadLine)?;
     let (text, _) = text.split_once('\n').ok_or(Failure::BadLine)?;
     let asked = if let Some(words) = text.strip_prefix("since ") {
         as_merge(since(alloc, words)?)
@@ -74,7 +74,9 @@ fn scope(alloc: Global, words: &str) -> Result<Scope, Failure> {
     if words == "*" {
         return Ok(Scope::All);
     }
-    let line = format!(in alloc; "map {words}").map_err(|_| Failure::NoRoom)?;
+    let line = format!(in alloc; "map {words}")
+        .ok()
+        .ok_or(Failure::NoRoom)?;
     match read(alloc, line.as_str())? {
         ScriptCommand::Map { query } => Ok(Scope::Under(query)),
         _ => Err(Failure::BadLine),
@@ -83,7 +85,9 @@ fn scope(alloc: Global, words: &str) -> Result<Scope, Failure> {
 
 // A name and a kind, as the line of a question has them.
 fn key(alloc: Global, name: &str, kind: &str) -> Result<Key, Failure> {
-    let line = format!(in alloc; "retrieve {name} {kind}").map_err(|_| Failure::NoRoom)?;
+    let line = format!(in alloc; "retrieve {name} {kind}")
+        .ok()
+        .ok_or(Failure::NoRoom)?;
     match read(alloc, line.as_str())? {
         ScriptCommand::Retrieve { key } => Ok(key),
         _ => Err(Failure::BadLine),

@@ -33,8 +33,10 @@ fn run(rt: &(impl Runtime + AllocGlobal)) -> Result<(), Failure> {
         return Err(Failure::NoRoom);
     };
     for line in reader.lines(rt.alloc()) {
-        let line = line.map_err(read_failure)?;
-        answer(rt, &mut session, line.as_str())?;
+        match line {
+            Ok(line) => answer(rt, &mut session, line.as_str())?,
+            Err(error) => return Err(read_failure(error)),
+        }
     }
     Ok(())
 }

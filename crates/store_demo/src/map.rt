@@ -21,7 +21,7 @@ pub(crate) fn make(rt: &impl Runtime, session: &mut Session, query: &Query) -> R
         Err(PatternFault::BadPattern) => println!(rt; "refused badpattern"),
         Err(PatternFault::NoRoom) => println!(rt; "refused noroom"),
     };
-    printed.map_err(|_| Failure::WriteFault)
+    Ok(printed?)
 }
 
 /// `take`: the items of a block.
@@ -43,7 +43,7 @@ pub(crate) fn take(
             println!(rt; "stopped {done} {word}")
         }
     };
-    printed.map_err(|_| Failure::WriteFault)
+    Ok(printed?)
 }
 
 /// `entries`: the puts of the map, and how many changes it holds.
@@ -58,7 +58,7 @@ pub(crate) fn print_entries(rt: &impl Runtime, session: &Session) -> Result<(), 
     }
     print(rt, text.as_slice())?;
     let (shown, held) = (entries.len(), map.held().len());
-    println!(rt; "entries {shown} of {held}").map_err(|_| Failure::WriteFault)
+    Ok(println!(rt; "entries {shown} of {held}")?)
 }
 
 /// `floor-of OWNER`: the generation of an owner's floor.
@@ -68,7 +68,7 @@ pub(crate) fn print_floor(
     owner: &str,
 ) -> Result<(), Failure> {
     let map = session.map.as_ref().ok_or(Failure::BadLine)?;
-    let owner = Name::read(owner.as_bytes()).map_err(|_| Failure::BadLine)?;
+    let owner = name_of(owner)?;
     let printed = match map.held().floor(&owner) {
         Some(generation) => {
             let generation = generation.number();
@@ -76,13 +76,13 @@ pub(crate) fn print_floor(
         }
         None => println!(rt; "floor -"),
     };
-    printed.map_err(|_| Failure::WriteFault)
+    Ok(printed?)
 }
 
 /// `label NAME`: the endpoint of a label, and the change that is held for it.
 pub(crate) fn print_label(rt: &impl Runtime, session: &Session, name: &str) -> Result<(), Failure> {
     let map = session.map.as_ref().ok_or(Failure::BadLine)?;
-    let name = Name::read(name.as_bytes()).map_err(|_| Failure::BadLine)?;
+    let name = name_of(name)?;
     let printed = match map.label(&name) {
         Some(endpoint) => {
             let (generation, slot) = (endpoint.generation().number(), endpoint.slot());
@@ -90,12 +90,16 @@ pub(crate) fn print_label(rt: &impl Runtime, session: &Session, name: &str) -> R
         }
         None => println!(rt; "label -"),
     };
-    printed.map_err(|_| Failure::WriteFault)?;
+    printed?;
     let kind = Kind::Label;
     match map.get(&Key { name, kind }) {
         Some(change) => print_change(rt, session.alloc, change),
         None => Ok(()),
     }
+}
+
+fn name_of(word: &str) -> Result<Name, Failure> {
+    Name::read(word.as_bytes()).ok().ok_or(Failure::BadLine)
 }
 
 fn print_change(rt: &impl Runtime, alloc: Global, change: &Change) -> Result<(), Failure> {
@@ -106,5 +110,5 @@ fn print_change(rt: &impl Runtime, alloc: Global, change: &Change) -> Result<(),
 /// `clear`: the map is empty again.
 pub(crate) fn clear(rt: &impl Runtime, session: &mut Session) -> Result<(), Failure> {
     session.map.as_mut().ok_or(Failure::BadLine)?.clear();
-    println!(rt; "cleared").map_err(|_| Failure::WriteFault)
+    Ok(println!(rt; "cleared")?)
 }

@@ -35,6 +35,13 @@ impl From<AllocError> for Failure {
     }
 }
 
+impl From<io::Error> for Failure {
+    // Of writing: what is read comes as lines, and a line that can't be read is told by `main`.
+    fn from(_: io::Error) -> Failure {
+        Failure::WriteFault
+    }
+}
+
 /// Lines up to `end` that are asked together.
 #[derive(Drop)]
 enum Block {
@@ -135,18 +142,18 @@ fn read(alloc: Global, line: &str) -> Result<ScriptCommand, Failure> {
     if split_line(bytes).is_some() {
         return Err(Failure::BadLine);
     }
-    read_command(alloc, bytes).map_err(|_| Failure::BadLine)
+    read_command(alloc, bytes).ok().ok_or(Failure::BadLine)
 }
 
 fn add(alloc: Global, block: &mut Block, command: ScriptCommand) -> Result<(), Failure> {
     match block {
         Block::Take(items) => match command {
-            ScriptCommand::Offer(item) => items.push(item).map_err(|_| Failure::NoRoom),
+            ScriptCommand::Offer(item) => items.push(item).ok().ok_or(Failure::NoRoom),
             _ => Err(Failure::BadLine),
         },
         Block::Run(commands) => {
             let command = command.into_store_command(alloc)?.ok_or(Failure::BadLine)?;
-            commands.push(command).map_err(|_| Failure::NoRoom)
+            commands.push(command).ok().ok_or(Failure::NoRoom)
         }
     }
 }
@@ -203,9 +210,7 @@ fn print_reply(
 
 /// Writes to standard output.
 pub(crate) fn print(rt: &impl Runtime, text: &[u8]) -> Result<(), Failure> {
-    io::writer(rt)
-        .write_all(text)
-        .map_err(|_| Failure::WriteFault)
+    Ok(io::writer(rt).write_all(text)?)
 }
 
 // How many changes and floors the store holds, where it stands, and which one it is.
@@ -213,7 +218,8 @@ fn print_held(rt: &impl Runtime, session: &Session) -> Result<(), Failure> {
     let store = session.store.as_ref().ok_or(Failure::BadLine)?;
     let (keys, floors) = (store.held().len(), store.held().floor_count());
     let (position, incarnation) = (store.cursor().position, store.incarnation());
-    let printed =
-        println!(rt; "held {keys} floors {floors} position {position} incarnation {incarnation}");
-    printed.map_err(|_| Failure::WriteFault)
+    let printed = println!(rt;
+        "held {keys} floors {floors} position {position} incarnation {incarnation}"
+    );
+    Ok(printed?)
 }
