@@ -28,7 +28,7 @@ use Rattle.ds_machine.specs.declared.refusal.Cause.TheVariants as causes
 use Rattle.ds_machine.specs.declared.refusal.Refusal.{Refusal}
 use Rattle.ds_machine.specs.declared.refusal.Refusal.TheVariants as refusals
 use Rattle.ds_judge.specs.Passed.{passed_as}
-use Rattle.ds_judge.specs.Last.{IsLast, TakesNext}
+use Rattle.ds_judge.specs.Last.{IsLast}
 use Rattle.ds_content.specs.Content.{ContentRecord}
 use Rattle.ds_content.specs.Stands.{Stands}
 use Rattle.ds_content.proofs.EnterLemmas.{few_places}

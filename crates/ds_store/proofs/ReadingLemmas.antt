@@ -1,5 +1,5 @@
 -- The answers to readers.
-use Rattle.std.proofs.Common.{◌≡◌, Option, Some, None, refl, sym, ap, ◌∙◌, inl}
+use Rattle.std.proofs.Common.{◌≡◌, Option, None, refl, sym, ap, ◌∙◌, inl}
 use Rattle.std.specs.Option.{option_map_or}
 use Rattle.ds_machine.specs.State.{State}
 use Rattle.ds_machine.specs.Machine.{Answers}

@@ -12,9 +12,7 @@ ghost use Rattle.ds_store.specs.Standing.{standing_in};
 
 use crate::store::Store;
 use ds_entry::{Body, rs_name};
-use ds_judge::{
-    Asked, Standing, answer_to, cause_of_asked, change_asked, is_void_under,
-};
+use ds_judge::{Asked, Standing, answer_to, cause_of_asked, change_asked, is_void_under};
 use ds_machine::{Cause, Refusal, Reply};
 use ds_names::{Name, NoRoom};
 

@@ -17,9 +17,7 @@ ghost use Rattle.ds_store.specs.Standing.{standing_in};
 use crate::store::Store;
 use ds_entry::{Change, Floor, Item, ItemList};
 use ds_join::Merge;
-use ds_judge::{
-    Standing, cause_of_change, cause_of_floor, passed_as, refusal_of_merge,
-};
+use ds_judge::{Standing, cause_of_change, cause_of_floor, passed_as, refusal_of_merge};
 use ds_machine::{Cause, Command, Refusal, Reply};
 use ds_names::NoRoom;
 use ds_watch::Mask;

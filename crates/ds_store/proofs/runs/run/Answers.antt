@@ -11,7 +11,7 @@ loop-command-preserved c = record {
       (let at = c.loop-command.invariant.run s stands in
       let next = c.apply-reply.ensures.step at.0 at.2 in
       let more = run_more c.loop-command.yielded c.loop-command.replies.items s at.0 next.0 c.in-Some.command c.apply-reply.result at.1 next.1 (c.apply-reply.ensures.last at.0 at.2) in
-      (next.0, subst (λ (replies : List Reply). LastRun s (c.loop-command.yielded ++ c.in-Some.command ∷ []) replies next.0) (sym c.in_ok-push.ensures.items) more, next.2));
+      (next.0, subst (λ (replies : List Reply). LastRun s (c.loop-command.yielded ++ c.in-Some.command ∷ []) replies next.0) (sym {A = List Reply} c.in_ok-push.ensures.items) more, next.2));
 }
 
 pub returns-in_err-push-clause-stopped : goal.returns-in_err-push-clause-stopped

@@ -1,11 +1,10 @@
-use Rattle.std.proofs.Common.{◌≡◌, sym, ap, inl, subst, ◌∙◌}
+use Rattle.std.proofs.Common.{sym, ap, inl, subst, ◌∙◌}
 use Rattle.ds_entry.specs.declared.body.Body.TheVariants.{Put, Gone}
 use Rattle.ds_machine.specs.declared.command.Command.{Command}
 use Rattle.ds_machine.specs.declared.command.Command.TheVariants.{Publish, Delete, Sweep, Retrieve, NameOf, Subscribe, Check, Since, Snapshot, Page, Merge}
-use Rattle.ds_machine.specs.Asking.{Request, published, deleted, cause_against}
+use Rattle.ds_machine.specs.Asking.{Request, cause_against}
 use Rattle.ds_machine.specs.Machine.{Answers, Step, asking, outcome}
 use Rattle.ds_machine.specs.Says.{IsReplyTo}
-use Rattle.ds_machine.specs.State.{State}
 use Rattle.ds_machine.proofs.FitLemmas.{replies_fit}
 use Rattle.ds_judge.specs.Last.{IsLast}
 use Rattle.ds_store.proofs.AnswerLemmas.{asked_last, never_last}

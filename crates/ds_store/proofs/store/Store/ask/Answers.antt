@@ -1,4 +1,4 @@
-use Rattle.std.proofs.Common.{◌≡◌, ℕ, [], ◌∷◌, Some, refl, ap, sym, ◌∙◌, subst, inl, inr}
+use Rattle.std.proofs.Common.{◌≡◌, [], ◌∷◌, Some, refl, ap, sym, ◌∙◌, subst, inr}
 use Rattle.ds_entry.specs.declared.item.Item.TheVariants.{Change as Changed}
 use Rattle.ds_machine.specs.State.{State, accepts, owed}
 use Rattle.ds_machine.specs.Asking.{against_asked, change_asked, name_of, asked_in}
@@ -31,10 +31,11 @@ returns-clause-step c = λ s stands.
     let none = sym (c.cause_against.ensures.first s stands) ∙ c.in_default.is in
     elim c.match-accept.branch [
       | in-Ok-accept w ↦
-          (let bits : w.number.result ≡ owed s (Changed change ∷ []) = owed_number s (Changed change) c.in-Ok.owed w.number.result w.number.ensures (c.in-Ok.ensures.owed s change here (ap (λ x. x.key) c.change_asked-change.ensures)) in
-          (accepts s (Changed change ∷ []),
-          subst (λ (r : Reply). Answers s (asking s a c.args.body) r (accepts s (Changed change ∷ []))) (sym w.result-is)
-          (asked_taken v s a c.args.body change w.number.result here none (c.change_asked-change.ensures ∙ ap (λ m. change_asked m a c.args.body) c.name_of.ensures) bits),
-          w.in-Ok-accept.ensures.ok s here))
+          (let bits : w.number.result ≡ owed s (Changed change ∷ []) = owed_number s (Changed change) c.in-Ok.owed w.number.result w.number.ensures (c.in-Ok.ensures.owed s change here (ap (λ x. x.key) c.change_asked-change.ensures)) in (
+            accepts s (Changed change ∷ []),
+            subst (λ (r : Reply). Answers s (asking s a c.args.body) r (accepts s (Changed change ∷ []))) (sym w.result-is)
+                (asked_taken v s a c.args.body change w.number.result here none (c.change_asked-change.ensures ∙ ap (λ m. change_asked m a c.args.body) c.name_of.ensures) bits),
+            w.in-Ok-accept.ensures.ok s here,
+          ))
       | in-Err w ↦ (s, inr (record { reply_is = w.result-is; state_is = refl }), subst (λ (x : ContentRecord). Stands x s) (sym w.in-Err.ensures.err) here)
     ]

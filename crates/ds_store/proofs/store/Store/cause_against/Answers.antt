@@ -1,4 +1,4 @@
-use Rattle.std.proofs.Common.{◌≡◌, IfNone, ap, ◌∙◌, subst}
+use Rattle.std.proofs.Common.{IfNone, ap, ◌∙◌, subst}
 use Rattle.ds_machine.specs.Asking.{change_asked, name_of}
 use Rattle.ds_judge.specs.Asked.{request_of}
 use Rattle.ds_judge.specs.Standing.{machine_standing}

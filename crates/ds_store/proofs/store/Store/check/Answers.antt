@@ -1,19 +1,15 @@
-use Rattle.std.proofs.Common.{◌≡◌, ◌+◌, ◌<◌, [], ◌++◌, true, false, length, Option, Some, None, ap, ap₂, sym, ◌∙◌, subst, inl, arith}
-use Rattle.std.specs.Option.{option_or, unwrap_or}
-use Rattle.ds_machine.specs.State.{State, subscription_at, subscribes}
-use Rattle.ds_machine.specs.Order.{first_refusal}
-use Rattle.ds_machine.specs.Calling.{against_check}
-use Rattle.ds_machine.specs.Watching.{check_case, checking, has_unseen}
+use Rattle.std.proofs.Common.{◌+◌, ◌++◌, Option, ap, ap₂, sym, ◌∙◌, subst, inl, arith}
+use Rattle.std.specs.Option.{option_or}
+use Rattle.ds_machine.specs.State.{subscription_at, subscribes}
+use Rattle.ds_machine.specs.Watching.{checking}
 use Rattle.ds_machine.specs.Machine.{Answers}
 use Rattle.ds_machine.specs.declared.refusal.Refusal.{Refusal}
-use Rattle.ds_machine.specs.declared.refusal.Refusal.TheVariants.{NoRoom}
 use Rattle.ds_machine.specs.declared.reply.Reply.TheVariants.{Refused}
 use Rattle.ds_machine.specs.declared.command.Command.TheVariants.{Check}
 use Rattle.ds_judge.specs.Cases.{refusal_of_showing}
 use Rattle.ds_judge.specs.Last.{IsLast}
 use Rattle.ds_content.specs.Content.{ContentRecord}
 use Rattle.ds_content.specs.Stands.{Stands}
-use Rattle.ds_store.proofs.AnswerLemmas.{last_of}
 use Rattle.ds_store.proofs.WatchLemmas.{taken_is, is_shown, check_judged, check_refused, seen_at, some_is, no_items, some_items, are_some, check_short, short_last, check_empty, check_done}
 use Rattle.ds_store.proofs.store.Store.check.Goals as goal
 

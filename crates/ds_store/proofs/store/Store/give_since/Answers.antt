@@ -1,4 +1,4 @@
-use Rattle.std.proofs.Common.{◌≡◌, Ok, Err, Result, IfOk, subst, sym, ap, ◌∙◌}
+use Rattle.std.proofs.Common.{◌≡◌, Ok, Result, IfOk, subst, sym, ◌∙◌}
 use Rattle.ds_feed.specs.Since.{IsGiven}
 use Rattle.ds_feed.specs.declared.journal.SinceFault.{SinceFault}
 use Rattle.ds_feed.specs.declared.reading.Since.{Since}

@@ -1,9 +1,9 @@
-use Rattle.std.proofs.Common.{◌≡◌, ℕ, ◌+◌, ◌-◌, ◌<◌, ◌≤◌, [], ◌∷◌, length, map, take, Some, None, Err, ap, sym, ◌∙◌, subst, arith}
+use Rattle.std.proofs.Common.{◌≡◌, ◌+◌, ◌-◌, ◌<◌, [], ◌∷◌, length, map, take, Some, None, Err, ap, sym, ◌∙◌, subst, arith}
 use Rattle.std.proofs.lemmas.Option.{slice_get_within}
 use Rattle.std.specs.Prelude.{slice_get}
 use Rattle.std.specs.Option.{option_copied}
-use Rattle.ds_watch.specs.Mask.{mask, padded}
-use Rattle.ds_machine.specs.State.{State, owed}
+use Rattle.ds_watch.specs.Mask.{padded}
+use Rattle.ds_machine.specs.State.{State}
 use Rattle.ds_machine.specs.Subscription.{is_owed}
 use Rattle.ds_machine.specs.Merging.{Course, course}
 use Rattle.ds_content.specs.Stands.{Stands}

@@ -1,9 +1,7 @@
-use Rattle.std.proofs.Common.{◌≡◌, [], ◌∷◌, map, Some, Ok, Err, ap, sym, ◌∙◌, subst}
-use Rattle.ds_join.specs.declared.merge.Merge.{Merge}
+use Rattle.std.proofs.Common.{[], ◌∷◌, map, Some, ap, sym, ◌∙◌, subst}
 use Rattle.ds_watch.specs.Mask.{either, padded}
 use Rattle.ds_entry.specs.declared.item.Item.TheVariants.{Change as Changed}
 use Rattle.ds_machine.specs.Subscription.{is_owed}
-use Rattle.ds_machine.specs.Order.{first_cause}
 use Rattle.ds_machine.specs.Standing.{against_change, standing_of}
 use Rattle.ds_machine.specs.declared.refusal.Cause.{Cause}
 use Rattle.ds_judge.proofs.RoomLemmas.{no_cause}

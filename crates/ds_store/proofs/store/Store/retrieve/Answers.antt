@@ -1,7 +1,4 @@
-use Rattle.std.proofs.Common.{◌≡◌, true, false, Some, sym, ◌∙◌, subst}
-use Rattle.std.specs.Option.{option_copied}
-use Rattle.ds_entry.specs.declared.body.Body.{Body}
-use Rattle.ds_entry.specs.declared.body.Body.TheVariants.{Put}
+use Rattle.std.proofs.Common.{◌≡◌, true, false, Some, sym, ◌∙◌}
 use Rattle.ds_machine.specs.Parts.{held_at}
 use Rattle.ds_store.proofs.AnswerLemmas.{found_in_place}
 use Rattle.ds_store.proofs.store.Store.retrieve.Goals as goal

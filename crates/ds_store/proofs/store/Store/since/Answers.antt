@@ -1,4 +1,4 @@
-use Rattle.std.proofs.Common.{◌≡◌, Err, refl, ap, ◌∙◌, subst}
+use Rattle.std.proofs.Common.{Err, ap, ◌∙◌}
 use Rattle.std.specs.Option.{option_map}
 use Rattle.ds_feed.specs.Since.{since_of, IsGiven}
 use Rattle.ds_machine.specs.Calling.{against_since}

@@ -1,4 +1,4 @@
-use Rattle.std.proofs.Common.{◌≡◌, refl, ap, sym, ◌∙◌, subst}
+use Rattle.std.proofs.Common.{ap, sym, ◌∙◌, subst}
 use Rattle.ds_feed.specs.Page.{snapshot_of}
 use Rattle.ds_machine.specs.Calling.{against_scope}
 use Rattle.ds_machine.specs.Order.{first_refusal}

@@ -1,6 +1,6 @@
-use Rattle.std.proofs.Common.{◌≡◌, ℕ, List, Some, refl, ap, sym, ◌∙◌}
+use Rattle.std.proofs.Common.{◌≡◌, ℕ, List, Some, ap, sym, ◌∙◌}
 use Rattle.std.specs.Option.{unwrap_or}
-use Rattle.ds_entry.specs.Change.{ChangeRecord, change_of, rs_name}
+use Rattle.ds_entry.specs.Change.{change_of, rs_name}
 use Rattle.ds_machine.specs.Asking.{change_asked}
 use Rattle.ds_judge.specs.Asked.{request_of, is_void_under}
 use Rattle.ds_content.specs.Content.{ContentRecord}

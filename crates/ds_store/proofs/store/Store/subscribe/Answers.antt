@@ -1,8 +1,8 @@
-use Rattle.std.proofs.Common.{◌≡◌, ◌+◌, ◌^◌, ◌&&◌, cond, None, ap, ap₂, sym, ◌∙◌, subst, inr, refl}
+use Rattle.std.proofs.Common.{◌+◌, ◌^◌, ◌&&◌, cond, ap, sym, ◌∙◌, subst, inr, refl}
 use Rattle.std.specs.List.{list_any}
 use Rattle.ds_pattern.specs.declared.query.Query.{Query}
 use Rattle.ds_machine.specs.Scope.{is_item_under}
-use Rattle.ds_machine.specs.State.{State, subscribes}
+use Rattle.ds_machine.specs.State.{subscribes}
 use Rattle.ds_machine.specs.Watching.{subscribing, shown_at_first}
 use Rattle.ds_machine.specs.Machine.{Answers}
 use Rattle.ds_machine.specs.declared.reply.Reply.{Reply}
@@ -25,10 +25,11 @@ returns-clause-step c = λ s stands.
     let same = subscribe_same s sub query c.args.overwrite c.subs.result c.is_some.result c.stamp-stamp.result places taken (c.stamp-stamp.ensures.value ∙ here.stamp) in
     elim c.match-subscribe.branch [
       | in-Ok-subscribe w ↦
-          (let owes = w.own_bit.ensures ∙ ap (λ b. cond (initial && b) (2 ^ sub) 0) (w.in-Ok-subscribe.ensures.some ∙ ap (λ (q : Query). list_any (is_item_under q) v.held) c.in-Ok.ensures.value) in
-          (subscribes s sub query (shown_at_first v.held initial),
-          subst (λ (r : Reply). Answers s (subscribing s sub query initial c.args.overwrite) r (subscribes s sub query (shown_at_first v.held initial))) (sym w.result-is)
-          (subscribe_made s sub query initial c.args.overwrite v case _ w.own_bit.result here same c.in-Ok.ensures.none (ap (λ n. n + 1) c.stamp-stamp.ensures.value) owes),
-          subst (λ (q : Query). Stands c.subscribe.new.self (subscribes s sub q (shown_at_first v.held initial))) c.in-Ok.ensures.value (w.in-Ok-subscribe.ensures.ok s here)))
+          (let owes = w.own_bit.ensures ∙ ap (λ b. cond (initial && b) (2 ^ sub) 0) (w.in-Ok-subscribe.ensures.some ∙ ap (λ (q : Query). list_any (is_item_under q) v.held) c.in-Ok.ensures.value) in (
+            subscribes s sub query (shown_at_first v.held initial),
+            subst (λ (r : Reply). Answers s (subscribing s sub query initial c.args.overwrite) r (subscribes s sub query (shown_at_first v.held initial))) (sym w.result-is)
+                (subscribe_made s sub query initial c.args.overwrite v case _ w.own_bit.result here same c.in-Ok.ensures.none (ap (λ n. n + 1) c.stamp-stamp.ensures.value) owes),
+            subst (λ (q : Query). Stands c.subscribe.new.self (subscribes s sub q (shown_at_first v.held initial))) c.in-Ok.ensures.value (w.in-Ok-subscribe.ensures.ok s here),
+          ))
       | in-Err-subscribe w ↦ (s, inr (record { reply_is = w.result-is; state_is = refl }), subst (λ (x : ContentRecord). Stands x s) (sym w.in-Err-subscribe.ensures.err) here)
     ]
