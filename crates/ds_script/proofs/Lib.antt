@@ -1,5 +1,4 @@
 pub mod PickLemmas
-pub mod ItemLemmas
 pub mod RunLemmas
 pub mod SessionLemmas
 pub mod EndLemmas

@@ -4,11 +4,12 @@ use Rattle.std.specs.List.{slice_get}
 use Rattle.std.specs.Option.{option_map}
 use Rattle.ds_pattern.specs.declared.query.Query.{Query}
 use Rattle.ds_submap.specs.Map.{SubMapRecord, empty_map}
-use Rattle.ds_store.specs.declared.command.Command.{Command}
-use Rattle.ds_store.specs.declared.command.Reply.{Reply}
-use Rattle.ds_store.specs.State.{State}
-use Rattle.ds_store.specs.Stands.{Stands}
-use Rattle.ds_store.specs.Machine.{Step}
+use Rattle.ds_held.specs.Limits.{LimitsRecord}
+use Rattle.ds_machine.specs.declared.command.Command.{Command}
+use Rattle.ds_machine.specs.declared.reply.Reply.{Reply}
+use Rattle.ds_machine.specs.State.{State}
+use Rattle.ds_machine.specs.Machine.{Step}
+use Rattle.ds_content.specs.Stands.{Stands}
 use Rattle.ds_words.specs.declared.command.ScriptCommand.{ScriptCommand}
 use Rattle.ds_words.specs.declared.command.ScriptCommand.TheVariants.{Offer, Show, All, Publish, Delete, Sweep, Retrieve, NameOf, Subscribe, Check, Map, Entries}
 use Rattle.ds_words.specs.Command.{store_command, IsLineOf}
@@ -28,9 +29,12 @@ store_steps old new command reply step same = λ s stands.
     let t = step s.store stands.store in
     (record { store = t.0; maps = s.maps }, (t.1, refl), record { store = t.2; maps = same ∙ stands.maps })
 
--- the session prints the store's reply
-pub replied : (old new : SessionContent) (wording : Wording) (asked : Command) (reply : Reply) → Leads (StoreSteps asked reply) old new → Leads (λ s t. AnswersAsked wording asked s (reply_lines wording reply) t) old new
-replied old new wording asked reply step = leads_by old new (StoreSteps asked reply) (λ s t. AnswersAsked wording asked s (reply_lines wording reply) t) step (λ s t one. (reply, one, refl))
+-- the session prints the store's reply, with masks of the store's limits
+pub replied : (old new : SessionContent) (wording : Wording) (asked : Command) (reply : Reply) (limits : LimitsRecord) → limits ≡ old.store.limits → Leads (StoreSteps asked reply) old new
+    → Leads (λ s t. AnswersAsked wording asked s (reply_lines wording reply limits) t) old new
+replied old new wording asked reply limits same step = λ s stands.
+    let one = step s stands in
+    (one.0, (reply, one.1, ap (reply_lines wording reply) (same ∙ stands.store.limits)), one.2)
 
 -- what a line's command to the store is answered, its line is
 answers_it : (command : ScriptCommand) (asked : Command) (s : ScriptState) (out : List ℕ) (t : ScriptState) → store_command command ≡ Some asked → AnswersAsked (wording command) asked s out t → AnswersCommand command s out t

@@ -3,12 +3,13 @@ use Rattle.std.specs.Prelude.{◌≡◌, ℕ, ◌<◌, List, [], ◌∷◌, ◌+
 use Rattle.ds_pattern.specs.declared.query.Query.{Query}
 use Rattle.ds_pattern.specs.Patterns.{IsPattern}
 use Rattle.ds_submap.specs.Map.{SubMapRecord, empty_map}
-use Rattle.ds_store.specs.State.{State, opening}
-use Rattle.ds_store.specs.Content.{Content}
-use Rattle.ds_store.specs.Stands.{Stands}
-use Rattle.ds_store.specs.Machine.{Step}
-use Rattle.ds_store.specs.declared.command.Command.{Command}
-use Rattle.ds_store.specs.declared.command.Reply.{Reply}
+use Rattle.ds_held.specs.Limits.{larger}
+use Rattle.ds_machine.specs.State.{State, opening}
+use Rattle.ds_machine.specs.Machine.{Step}
+use Rattle.ds_machine.specs.declared.command.Command.{Command}
+use Rattle.ds_machine.specs.declared.reply.Reply.{Reply}
+use Rattle.ds_content.specs.Content.{ContentRecord}
+use Rattle.ds_content.specs.Stands.{Stands}
 use Rattle.ds_script.specs.declared.maps.MapFault.{MapFault}
 use Rattle.ds_script.specs.Maps.{most_maps, IsMapFault}
 
@@ -17,13 +18,14 @@ pub record ScriptState : Type 0 where
   pub store : State
   pub maps : List Query
 
--- at the first line: a store of incarnation 1 whose first change has position 0, with a ring of 256, and no maps
+-- at the first line: a store of incarnation 1 whose first item has position 0, with a ring of 256, for 128 subscriptions
+-- and 4096 keys, and no maps
 abbrev pub at_start : ScriptState
-at_start = record { store = opening 1 0 256; maps = [] }
+at_start = record { store = opening 1 0 256 larger; maps = [] }
 
 -- what callers see of a session
 pub record SessionContent : Type 0 where
-  pub store : Content
+  pub store : ContentRecord
   pub maps : List SubMapRecord
 
 -- the value is the state's

@@ -10,9 +10,9 @@ use crate::maps::MapFault;
 use crate::session::Session;
 use crate::shown::append_shown;
 use ds_line::append_all;
+use ds_machine::Command;
 use ds_names::NoRoom;
 use ds_pattern::Query;
-use ds_store::Command;
 use ds_words::{ScriptCommand, Wording, append_noroom, append_reply};
 use itoa::Buffer;
 use std::alloc::Global;
@@ -56,8 +56,9 @@ fn answer_asked(
     ensures answered { OnOk result ((out : List ℕ) × (output.new.items ≡ output.old.items ++ out) × Leads (λ s t. AnswersAsked wording asked s out t) session.old session.new) }
     ensures unanswered { OnErr result (output.new.items ≡ output.old.items) }
 {
+    let limits = session.limits();
     let reply = session.ask(asked);
-    append_reply(output, wording, &reply)
+    append_reply(output, wording, &reply, limits)
 }
 
 // Makes a map, and puts its number behind the answers that wait, or why none is made.

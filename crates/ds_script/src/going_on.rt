@@ -41,7 +41,7 @@ pub fn replay_on<R: Read, W: Write, B: Report>(
         × StopsOn fault (R.remaining reader.new) input output) }
 {
     let mut going = Going {
-        session: Session::open(alloc),
+        session: Session::open(alloc)?,
         output: Vec::new(alloc),
         done: Replayed { lines: 0, bad: 0 },
     };

@@ -2,18 +2,20 @@
 
 ghost use Rattle.std.specs.Prelude.{◌≡◌, slice_get, IfOk, IfErr};
 ghost use Rattle.std.specs.Option.{option_copied};
-ghost use Rattle.ds_join.specs.Held.{held_changes};
+ghost use Rattle.ds_held.specs.Held.{held_items};
 ghost use Rattle.ds_script.specs.Session.{StandsFor, Leads, StoreSteps, MakesMap, RefusesMap, at_start};
 
+use crate::fault::ReplayFault;
 use crate::maps::{MapFault, Maps};
-use ds_join::Held;
+use ds_held::{Held, Limits};
+use ds_machine::{Command, Reply};
 use ds_pattern::Query;
-use ds_store::{Command, Reply, Store};
+use ds_store::Store;
 use ds_submap::SubMap;
 use std::alloc::Global;
 use std::marker::Model;
 
-/// How many of its last changes the store's journal keeps.
+/// How many of its last items the store's journal keeps.
 const RING: u32 = 256;
 
 /// What a script drives: one store, and maps.
@@ -27,37 +29,47 @@ impl Model for Session {
     ghost use Rattle.std.specs.Prelude.{List};
     ghost use Rattle.std.specs.Coded.{code_by, coded×};
     ghost use Rattle.ds_submap.specs.Map.{SubMapRecord};
-    ghost use Rattle.ds_store.specs.Content.{Content};
+    ghost use Rattle.ds_content.specs.Content.{ContentRecord};
     ghost use Rattle.ds_store.specs.contracts.store.Store.{the_row as store_row};
     ghost use Rattle.ds_script.specs.contracts.maps.Maps.{the_row as maps_row};
     ghost use Rattle.ds_script.specs.Session.{SessionContent};
 
     ghost Value = { SessionContent };
 
-    ghost coded = { code_by (Content × List SubMapRecord) (coded× store_row.coded maps_row.coded) (λ s. (s.store, s.maps)) (λ p. record { store = p.0; maps = p.1 }) (λ s i. s) };
+    ghost coded = { code_by (ContentRecord × List SubMapRecord) (coded× store_row.coded maps_row.coded) (λ s. (s.store, s.maps)) (λ p. record { store = p.0; maps = p.1 }) (λ s i. s) };
 
     ghost view = { λ s. record { store = s.store; maps = s.maps } };
 }
 
 impl Session {
-    /// A store of incarnation 1 that holds nothing, whose first change will have the position 0, and no maps.
-    pub(crate) fn open(alloc: Global) -> Session
-        ensures { StandsFor result at_start }
+    /// A store of incarnation 1 that holds nothing, whose first item will have the position 0, and no maps. NoRoom: there
+    /// is no memory for the store's ring.
+    pub(crate) fn open(alloc: Global) -> Result<Session, ReplayFault>
+        ensures opened { IfOk result (λ session. StandsFor session at_start) }
+        ensures refused { IfErr result (λ fault. fault ≡ ReplayFault.NoRoom) }
     {
         match Store::open(alloc, 1, 0, RING) {
-            Ok(store) => Session {
+            Ok(store) => Ok(Session {
                 store,
                 maps: Maps::new(alloc),
-            },
-            Err(_) => unreachable!(),
+            }),
+            // The ring and the first position are in their ranges.
+            Err(_) => Err(ReplayFault::NoRoom),
         }
     }
 
     /// What its store holds.
     pub(crate) fn held(&self) -> &Held
-        ensures { held_changes result.now ≡ self.now.store.held }
+        ensures { held_items result.now ≡ self.now.store.held }
     {
         self.store.held()
+    }
+
+    /// The limits of its store.
+    pub(crate) fn limits(&self) -> Limits
+        ensures { result ≡ self.now.store.limits }
+    {
+        self.store.limits()
     }
 
     /// Gives the command to its store.

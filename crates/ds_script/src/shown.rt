@@ -2,36 +2,36 @@
 
 ghost use Rattle.std.specs.Prelude.{◌≡◌, ◌<◌, ◌⊎◌, ◌++◌, [], ◌∷◌, List, ℕ, IfOk, OnOk, OnErr, Some, slice_get, length};
 ghost use Rattle.std.specs.List.{flat_map};
-ghost use Rattle.ds_line.specs.Spelling.{spelling};
-ghost use Rattle.ds_entry.specs.Change.{ChangeRecord};
-ghost use Rattle.ds_join.specs.Held.{held_changes};
-ghost use Rattle.ds_join.specs.Top.{is_put as leaves_value};
+ghost use Rattle.ds_line.specs.ItemSpelling.{item_spelling};
+ghost use Rattle.ds_held.specs.Held.{held_items};
+ghost use Rattle.ds_submap.specs.Map.{is_put as leaves_value};
 ghost use Rattle.ds_script.specs.Answer.{picked, shown};
 ghost use Rattle.ds_words.specs.Reply.{refused_noroom};
 
-use ds_entry::{Body, Change, Items};
-use ds_join::Held;
-use ds_line::{append_all, append_change};
+use ds_entry::{Body, Item, ItemList};
+use ds_held::Held;
+use ds_line::{append_all, append_item};
 use ds_names::NoRoom;
 use ds_words::append_noroom;
 use itoa::Buffer;
 use std::alloc::Global;
 
-/// Appends the answer to `show`, or to `all` with tombstones, or the refusal for want of memory.
+/// Appends the answer to `show`, which are the puts, or to `all`, with floors and tombstones, or the refusal for want of
+/// memory.
 ///
-/// It takes what is held in the order of the keys as one list: going from key to key instead would search
-/// all keys for each.
+/// It takes what is held as one list, the floors first and then the changes in the order of the keys: going from key to
+/// key instead would search all keys for each.
 pub(crate) fn append_shown(
     alloc: Global,
     held: &Held,
     output: &mut Vec<u8>,
-    tombstones: bool,
+    all: bool,
 ) -> Result<(), NoRoom>
-    ensures answered { OnOk result ((output.new.items ≡ output.old.items ++ refused_noroom) ⊎ (output.new.items ≡ output.old.items ++ shown (picked tombstones (held_changes held.now)))) }
+    ensures answered { OnOk result ((output.new.items ≡ output.old.items ++ refused_noroom) ⊎ (output.new.items ≡ output.old.items ++ shown (picked all (held_items held.now)))) }
     ensures unanswered { OnErr result (output.new.items ≡ output.old.items) }
 {
     match held.all(alloc) {
-        Ok(items) => match append_items(&items, output, tombstones) {
+        Ok(items) => match append_items(&items, output, all) {
             Ok(()) => Ok(()),
             Err(NoRoom) => append_noroom(output),
         },
@@ -39,14 +39,18 @@ pub(crate) fn append_shown(
     }
 }
 
-// Appends the lines of the items that are picked, `shown` and their number, or nothing where there is no room
-// for all.
-fn append_items(items: &Items, output: &mut Vec<u8>, tombstones: bool) -> Result<(), NoRoom>
-    ensures written { OnOk result (output.new.items ≡ output.old.items ++ shown (picked tombstones items.now)) }
+/// Appends the lines of the items, or of the puts among them alone, `shown` and their number, or nothing where there is
+/// no room for all of it.
+pub(crate) fn append_items(
+    items: &ItemList,
+    output: &mut Vec<u8>,
+    all: bool,
+) -> Result<(), NoRoom>
+    ensures written { OnOk result (output.new.items ≡ output.old.items ++ shown (picked all items.now)) }
     ensures unwritten { OnErr result (output.new.items ≡ output.old.items) }
 {
     let start = output.len();
-    match append_lines(items, output, tombstones) {
+    match append_lines(items, output, all) {
         Ok(()) => Ok(()),
         Err(NoRoom) => {
             output.truncate(start);
@@ -56,13 +60,13 @@ fn append_items(items: &Items, output: &mut Vec<u8>, tombstones: bool) -> Result
 }
 
 // The same, but some of it may stand where there is no room for all.
-fn append_lines(items: &Items, output: &mut Vec<u8>, tombstones: bool) -> Result<(), NoRoom>
-    ensures written { OnOk result (output.new.items ≡ output.old.items ++ shown (picked tombstones items.now)) }
+fn append_lines(items: &ItemList, output: &mut Vec<u8>, all: bool) -> Result<(), NoRoom>
+    ensures written { OnOk result (output.new.items ≡ output.old.items ++ shown (picked all items.now)) }
     ensures some { OnErr result ((part : List ℕ) × (output.new.items ≡ output.old.items ++ part)) }
 {
     let mut count = 0usize;
     for index in 0..items.len() {
-        match append_item(items, index, output, tombstones) {
+        match append_nth(items, index, output, all) {
             Ok(lines) => count += lines,
             Err(NoRoom) => return Err(NoRoom),
         }
@@ -71,31 +75,31 @@ fn append_lines(items: &Items, output: &mut Vec<u8>, tombstones: bool) -> Result
     append_all(output, &[b"shown ", digits.format(count).as_bytes(), b"\n"])
 }
 
-// The line of the change at an index, if it is picked, and how many lines that is.
-fn append_item(
-    items: &Items,
+// The line of the item at an index, if it is picked, and how many lines that is.
+fn append_nth(
+    items: &ItemList,
     index: usize,
     output: &mut Vec<u8>,
-    tombstones: bool,
+    all: bool,
 ) -> Result<usize, NoRoom>
     requires { index < length items.now }
-    ensures item { IfOk result (λ count. (c : ChangeRecord) × (slice_get items.now index ≡ Some c) × (count ≡ length (picked tombstones (c ∷ []))) × (output.new.items ≡ output.old.items ++ flat_map spelling (picked tombstones (c ∷ [])))) }
+    ensures item { IfOk result (λ count. (i : Item) × (slice_get items.now index ≡ Some i) × (count ≡ length (picked all (i ∷ []))) × (output.new.items ≡ output.old.items ++ flat_map item_spelling (picked all (i ∷ [])))) }
     ensures unwritten { OnErr result (output.new.items ≡ output.old.items) }
 {
     match items.get(index) {
-        Some(change) => append_picked(change, output, tombstones),
+        Some(item) => append_picked(item, output, all),
         None => Ok(0),
     }
 }
 
-// The line of a change, if it is picked, and how many lines that is.
-fn append_picked(change: &Change, output: &mut Vec<u8>, tombstones: bool) -> Result<usize, NoRoom>
-    ensures count { IfOk result (λ count. count ≡ length (picked tombstones (change.now ∷ []))) }
-    ensures written { OnOk result (output.new.items ≡ output.old.items ++ flat_map spelling (picked tombstones (change.now ∷ []))) }
+// The line of an item, if it is picked, and how many lines that is.
+fn append_picked(item: &Item, output: &mut Vec<u8>, all: bool) -> Result<usize, NoRoom>
+    ensures count { IfOk result (λ count. count ≡ length (picked all (item.now ∷ []))) }
+    ensures written { OnOk result (output.new.items ≡ output.old.items ++ flat_map item_spelling (picked all (item.now ∷ []))) }
     ensures unwritten { OnErr result (output.new.items ≡ output.old.items) }
 {
-    if tombstones || is_put(change) {
-        match append_change(output, change) {
+    if all || is_put(item) {
+        match append_item(output, item) {
             Ok(()) => Ok(1),
             Err(NoRoom) => Err(NoRoom),
         }
@@ -104,12 +108,15 @@ fn append_picked(change: &Change, output: &mut Vec<u8>, tombstones: bool) -> Res
     }
 }
 
-// Whether a change leaves a value.
-fn is_put(change: &Change) -> bool
-    ensures { result ≡ leaves_value change.now }
+// Whether an item leaves a value: a tombstone doesn't, nor does a floor.
+fn is_put(item: &Item) -> bool
+    ensures { result ≡ leaves_value item.now }
 {
-    match change.body() {
-        Body::Put(_) => true,
-        Body::Gone => false,
+    match item {
+        Item::Change(change) => match change.body() {
+            Body::Put(_) => true,
+            Body::Gone => false,
+        },
+        Item::Floor(_) => false,
     }
 }

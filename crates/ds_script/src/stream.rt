@@ -22,8 +22,8 @@ const CHUNK: usize = 65536;
 pub(crate) const READS: u64 = 4294967296;
 
 /// Answers the lines of a script, one after the other, over one store that holds nothing at first: its
-/// incarnation is 1, its first change has the position 0, and its ring keeps 256 changes. It gives the number of
-/// lines.
+/// incarnation is 1, its first item has the position 0, its ring keeps 256 items, and there may be 128 subscriptions and
+/// 4096 keys. It gives the number of lines.
 ///
 /// What is written is the answers to the lines that were read, in their order, and nothing else. Each answer is
 /// written before the next read, so a person at a terminal sees it at once; answers to the lines that one read
@@ -68,9 +68,9 @@ pub fn replay_leaving<R: Read, W: Write>(
         × Appends (W.contents writer.old) (W.contents writer.new) output
         × StopsWith fault (R.remaining reader.new) input output) }
 {
-    let mut session = Session::open(alloc);
-    let mut output = Vec::new(alloc);
     unread.clear();
+    let mut session = Session::open(alloc)?;
+    let mut output = Vec::new(alloc);
     let Ok(mut chunk) = zeros(alloc) else {
         return Err(ReplayFault::NoRoom);
     };

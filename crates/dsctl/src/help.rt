@@ -7,8 +7,9 @@ pub(crate) const LONG_ABOUT: &str = "\
 Replays a script against a data store in the manner of MINIX 3's DS, and prints each answer.
 
 The script is read from standard input, one command a line, and each answer is printed before the next
-line is waited for. The store keeps, for each name and kind, the change with the greatest version: a
-late or repeated message never brings a dead driver's endpoint back.
+line is waited for. The store keeps, for each name and kind, the change with the greatest version, and for
+each owner the highest floor, which ends what the owner left: a late or repeated message never brings a dead
+driver's endpoint back, nor what the driver published.
 
 A line that can't be read ends the script, and standard error says what was expected there;
 `dsctl replay --keep-going` goes on behind it. Somebody who types the script is greeted and prompted.
@@ -19,20 +20,22 @@ Lines of a script:
   delete CALLER NAME KIND EPOCH.SEQ
                      end a live entry of the caller's
   sweep CALLER OWNER GENERATION
-                     end what a dead owner left, labels aside; the answer is `swept N`
+                     raise the floor under what a dead owner left, labels aside; the answer is
+                     `swept N`, N being the puts that it drops
   retrieve NAME KIND ask for a value: `found VALUE`
   nameof ENDPOINT    ask which label holds an endpoint: `named NAME`
   subscribe SUB PATTERN KINDS first new
                      follow what is under a query: all that is held and all that changes, or with
                      `later` for `first` what changes alone; in the place of another subscription
                      with `over` for `new`. The answer is `subscribed STAMP`
-  check SUB MAX      print the first MAX changes that weren't shown to the subscription, then
-                     `checked N BEFORE AFTER`, its stamp before and after
+  check SUB MAX      print the first MAX floors and changes that weren't shown to the subscription,
+                     then `checked N BEFORE AFTER`, its stamp before and after
   map PATTERN KINDS  make a map of what is under a query: `map J`; nothing is delivered to it yet
   entries J          print the entries of a map, then `shown N`
   offer CHANGE       merge one change, whoever made it
+  offer FLOOR        raise a floor, whoever raised it elsewhere
   show               print the entries that stand, in order of their keys, then `shown N`
-  all                the same with tombstones
+  all                print the floors, in order of their owners, and then the same with tombstones
 
 `dsctl settings` shows what a settings text tells RS; `dsctl settings --help` has its fields.
 
@@ -52,14 +55,18 @@ EPOCH.SEQ stands. The kinds and their values:
          the sequence number 0 for a put and 1 for a tombstone
   u32    a number up to 4294967295
   str    \"text\" of up to 256 printable characters; \\\" and \\\\ stand for a quote and a backslash
-  mem    up to 1024 bytes in lower-case hex";
+  mem    up to 1024 bytes in lower-case hex
+
+A floor is a line `! OWNER GENERATION`: what the owner published in generations up to this one is void, labels
+aside. It is dropped, tombstones too, and is stale where it comes later. A floor is under every query, and is
+shown to each subscription once.";
 
 /// Every line of a script in one row, for whoever has forgotten one.
 pub(crate) const LINES: &str = "\
 Lines of a script (`dsctl --help` explains them):
   publish CALLER new NAME KIND EPOCH.SEQ = VALUE  put a value; `over` to replace
   delete CALLER NAME KIND EPOCH.SEQ               end a live entry
-  sweep CALLER OWNER GENERATION                   end what a dead owner left
+  sweep CALLER OWNER GENERATION                   raise a dead owner's floor
   retrieve NAME KIND                              ask for a value
   nameof ENDPOINT                                 ask whose endpoint it is
   subscribe SUB PATTERN KINDS first new           follow; or `later`, or `over`
@@ -68,11 +75,12 @@ Lines of a script (`dsctl --help` explains them):
   entries J                                       print the entries of a map
   offer NAME KIND OWNER EPOCH.SEQ = VALUE         merge a put
   offer NAME KIND OWNER EPOCH.SEQ -               merge a tombstone
+  offer ! OWNER GENERATION                        merge a floor
   show                                            print the entries
-  all                                             print tombstones too
+  all                                             print floors and tombstones too
 
 Limits: NAME 64 bytes, str 256, mem 1024, PATTERN 128, a line 4096; 4096 keys,
-128 subscriptions (SUB 0 to 127, eight a server), 64 maps, MAX 256.";
+64 floors, 128 subscriptions (SUB 0 to 127, eight a server), 64 maps, MAX 256.";
 
 pub(crate) const AFTER_HELP: &str = "\
 Example session (lines behind `>` are typed, the others are printed):
@@ -102,10 +110,10 @@ Words behind `refused`, in the order in which they are judged:
   notallowed  labels and sweeps are RS's: CALLER is 0/2
   notowner    the entry is another's: choose another name
   clash       this very version has another value: count on
-  stale       a greater version is held: the change comes too late
+  stale       a greater version is held, or a floor makes the change void: it comes too late
   exists      say `over` to replace it
   notfound    there is no such live entry, label or subscription
-  full        4096 keys are held, tombstones too
+  full        4096 keys are held, tombstones too, or 64 owners have floors
   noroom      memory was wanting, or PATTERN compiles to too much: `[a-z0-9]`
               takes far less than `\\w`
 

@@ -5,4 +5,7 @@ use Rattle.ds_script.proofs.answer.answer_asked.Goals as goal
 
 pub returns-clause-answered : goal.returns-clause-answered
 returns-clause-answered c =
-    on_ok c.append_reply.result (λ same. (reply_lines c.args.wording c.ask-reply.result, same, replied c.args.session.now c.ask-reply.new.self c.args.wording c.args.asked c.ask-reply.result c.ask-reply.ensures)) c.append_reply.ensures.written
+    let out = reply_lines c.args.wording c.ask-reply.result c.limits-limits.result in
+    on_ok c.append_reply.result
+    (λ same. (out, same, replied c.args.session.now c.ask-reply.new.self c.args.wording c.args.asked c.ask-reply.result c.limits-limits.result c.limits-limits.ensures c.ask-reply.ensures))
+    c.append_reply.ensures.written

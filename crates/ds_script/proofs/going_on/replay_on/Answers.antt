@@ -8,11 +8,14 @@ use Rattle.ds_script.proofs.going_on.replay_on.Goals as goal
 pub returns-in_default-clause-stopped : goal.returns-in_default-clause-stopped
 returns-in_default-clause-stopped g c = ([], [], Consumes-nil (g.R.Read.remaining c.args.reader.now), Appends-nil (g.W.Write.contents c.args.writer.now), nothing_on (g.R.Read.remaining c.args.reader.now))
 
+pub returns-in_err-open-clause-stopped : goal.returns-in_err-open-clause-stopped
+returns-in_err-open-clause-stopped g c = ([], [], Consumes-nil (g.R.Read.remaining c.args.reader.now), Appends-nil (g.W.Write.contents c.args.writer.now), nothing_on (g.R.Read.remaining c.args.reader.now))
+
 pub loop-turn-init : goal.loop-turn-init
 loop-turn-init g c =
     record {
       chunk = c.in-Ok.ensures;
-      come = come_none (g.R.Read.remaining c.args.reader.now) (g.W.Write.contents c.args.writer.now) c.open.result c.new.result.items c.new-pending.result.items c.open.ensures c.new.ensures.items c.new-pending.ensures.items;
+      come = come_none (g.R.Read.remaining c.args.reader.now) (g.W.Write.contents c.args.writer.now) c.in_ok-open.field-0 c.new.result.items c.new-pending.result.items c.in_ok-open.ensures.opened c.new.ensures.items c.new-pending.ensures.items;
       pending = subst IsUnbroken (sym c.new-pending.ensures.items) (All-nil (λ (x : ℕ). x ≢ 10));
     }
 

@@ -1,12 +1,12 @@
 use Rattle.std.proofs.Common.{◌≡◌, ◌≤◌, ◌++◌, length, take}
 use Rattle.std.specs.List.{flat_map}
-use Rattle.ds_line.specs.Spelling.{spelling}
+use Rattle.ds_line.specs.ItemSpelling.{item_spelling}
 use Rattle.ds_script.specs.Answer.{picked}
 use Rattle.ds_script.proofs.shown.append_lines.Given as goal
 
 abbrev pub invariant-loop-index : goal.invariant-loop-index
 invariant-loop-index l = record {
-  lines : l.output.items ≡ l.fn.output.items ++ flat_map spelling (picked l.tombstones (take l.index l.items));
-  count : l.count ≡ length (picked l.tombstones (take l.index l.items));
+  lines : l.output.items ≡ l.fn.output.items ++ flat_map item_spelling (picked l.all (take l.index l.items));
+  count : l.count ≡ length (picked l.all (take l.index l.items));
   few : l.count ≤ l.index;
 }
