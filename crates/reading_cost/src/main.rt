@@ -1,9 +1,9 @@
-//! `reading_cost since all|none BACK ROUNDS` and `reading_cost page MAX ROUNDS`: what reading a full store takes, to be
-//! measured from outside.
+//! `reading_cost since all|none BACK ROUNDS`, `reading_cost page MAX ROUNDS` and `reading_cost snapshot ROUNDS`: what
+//! reading a full store takes, to be measured from outside.
 //!
 //! The store holds 4,096 numbers, whose changes fill its journal. `since` asks ROUNDS times for what took effect from
-//! BACK positions before the newest on, under a scope of all keys or of none; `page` for the first page of MAX changes.
-//! It prints how many items all answers gave. Status 2: the words can't be read. 3: memory or writing failed.
+//! BACK positions before the newest on, under a scope of all keys or of none; `page` for the first page of MAX changes;
+//! `snapshot` for all that is held. It prints how many items all answers gave. Status 2: the words can't be read. 3: memory or writing failed.
 #![tactic(auto)]
 
 mod filling;
@@ -38,6 +38,8 @@ enum Asked {
     Since { all: bool, back: u64 },
     // The first page of so many changes.
     Page { max: u32 },
+    // All that is held.
+    Snapshot,
 }
 
 fn main(rt: HostRuntime) -> ExitCode {
@@ -64,6 +66,7 @@ fn read_words(rt: &impl Runtime) -> Option<(Asked, u32)> {
             let max = args.next()?.as_str().parse::<u32>().ok()?;
             Asked::Page { max }
         }
+        "snapshot" => Asked::Snapshot,
         _ => return None,
     };
     let rounds = args.next()?.as_str().parse::<u32>().ok()?;
@@ -108,6 +111,7 @@ fn command_of(alloc: Global, asked: Asked, cursor: Cursor) -> Result<Command, No
             after: None,
             max,
         }),
+        Asked::Snapshot => Ok(Command::Snapshot { scope: Scope::All }),
     }
 }
 
@@ -125,6 +129,7 @@ fn count_of(reply: &Reply) -> Result<usize, Failed> {
     match reply {
         Reply::Journaled(since) => Ok(since.items.len()),
         Reply::Paged(page) => Ok(page.items.len()),
+        Reply::Snapped(snapshot) => Ok(snapshot.items.len()),
         _ => Err(Failed),
     }
 }
