@@ -3,6 +3,7 @@
 ghost use Rattle.std.specs.Prelude.{◌≡◌, ◌≤◌, ◌<◌, [], List, ℕ, IfOk, IfErr, OnOk, OnErr, length, drop};
 ghost use Rattle.std.specs.Io.KnownBytes.{Appends, Consumes, IsAtEnd};
 ghost use Rattle.ds_words.specs.Lines.{IsUnbroken, unended};
+ghost use Rattle.ds_script.specs.Session.{StandsFor, at_start};
 ghost use Rattle.ds_script.specs.GoingOn.{IsAnsweredOn, StopsOn};
 ghost use Rattle.ds_script.specs.GoingProgress.{IsOther, Takes, TakesNoneOrAll, TakesText, TakesSome, TurnsOn, StopsTurn};
 
@@ -40,8 +41,32 @@ pub fn replay_on<R: Read, W: Write, B: Report>(
         × Appends (W.contents writer.old) (W.contents writer.new) output
         × StopsOn fault (R.remaining reader.new) input output) }
 {
+    match Session::open(alloc) {
+        Ok(session) => replay_from(alloc, reader, writer, report, session),
+        Err(_) => Err(ReplayFault::NoRoom),
+    }
+}
+
+// The same, over a session at the first line.
+fn replay_from<R: Read, W: Write, B: Report>(
+    alloc: Global,
+    reader: &mut R,
+    writer: &mut W,
+    report: &mut B,
+    session: Session,
+) -> Result<Replayed, ReplayFault>
+    requires { StandsFor session at_start }
+    ensures answered { IfOk result (λ done. (input output : List ℕ)
+        × Consumes (R.remaining reader.old) (R.remaining reader.new) input × IsAtEnd (R.remaining reader.new)
+        × Appends (W.contents writer.old) (W.contents writer.new) output
+        × IsAnsweredOn input done.lines done.bad output) }
+    ensures stopped { IfErr result (λ fault. (input output : List ℕ)
+        × Consumes (R.remaining reader.old) (R.remaining reader.new) input
+        × Appends (W.contents writer.old) (W.contents writer.new) output
+        × StopsOn fault (R.remaining reader.new) input output) }
+{
     let mut going = Going {
-        session: Session::open(alloc)?,
+        session,
         output: Vec::new(alloc),
         done: Replayed { lines: 0, bad: 0 },
     };

@@ -1,7 +1,7 @@
 use Rattle.std.proofs.Common.{◌≡◌, vec_len}
 use Rattle.ds_words.specs.Lines.{IsUnbroken}
 use Rattle.ds_script.proofs.GoingLemmas.{Come}
-use Rattle.ds_script.proofs.going_on.replay_on.Given as goal
+use Rattle.ds_script.proofs.going_on.replay_from.Given as goal
 
 abbrev pub invariant-loop-turn : goal.invariant-loop-turn
 invariant-loop-turn g l = record {
