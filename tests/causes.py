@@ -84,7 +84,9 @@ PUBLISH = [
     case("worn", begins(1) + ETH, 'publish 3/17 new id str 3.0 = "up"', "refused worn"),
     case("worn over a label", begins(1) + ETH, "publish 0/2 over eth0 label 4.0 = 4/17", "refused worn"),
     case("of the first key", "", "publish 0/2 new eth0 label 3.0 = 3/17", "taken", NOROOM),
-    case("of a held key", ETH + ID + SUB, 'publish 3/17 over id str 3.2 = "down"', "taken" + OWED),
+    case("of a number of a held key", ETH + MTU + SUB, "publish 3/17 over mtu u32 3.2 = 9", "taken" + OWED),
+    case("of a label of a held key", ETH + SUB, "publish 0/2 over eth0 label 4.0 = 4/17", "taken" + OWED),
+    case("of a text of a held key", ETH + ID + SUB, 'publish 3/17 over id str 3.2 = "down"', "taken" + OWED, NOROOM),
 ]
 
 DELETE = [
@@ -193,6 +195,7 @@ SINCE = [
     case("oldcursor, with a pattern", begins(1) + HELD, f'since 2 {LAST + 1} 1 "id" 15', "refused oldcursor", NOROOM),
     case("ahead", begins(1) + HELD, f"since 1 {LAST + 1} 1 *", "refused ahead"),
     case("behind", begins(2) + "ring 1\n" + HELD + TTY_ENDS, f"since 1 {LAST - 2} 1 *", "refused behind"),
+    case("behind, with a pattern", begins(2) + "ring 1\n" + HELD + TTY_ENDS, f'since 1 {LAST - 2} 1 "id" 15', "refused behind", NOROOM),
     case("behind the first position", begins(1) + HELD, f"since 1 {LAST - 2} 1 *", "refused behind"),
     case("of nothing", begins(1) + HELD, f"since 1 {LAST} 1 *", f"since 0 1 {LAST}"),
     case("of a text", HELD, "since 1 0 1 *", SAME + "\nsince 1 1 1", NOROOM),
