@@ -1,5 +1,5 @@
 -- What comes of items that are delivered to a store or to a map.
-use Rattle.std.specs.Prelude.{◌≡◌, ◌≢◌, ℕ, ◌+◌, ◌≤◌, true, List, [], ◌∷◌, ◌++◌, length, take, Option, Some, None, Contains}
+use Rattle.std.specs.Prelude.{◌≡◌, ◌≢◌, ◌⊎◌, ℕ, ◌+◌, ◌≤◌, true, List, [], ◌∷◌, ◌++◌, length, take, Option, Some, None, Contains}
 use Rattle.std.specs.List.{flat_map, slice_get}
 use Rattle.std.specs.Int.Bits.{bit_or}
 use Rattle.ds_entry.specs.Change.{ChangeRecord}
@@ -63,10 +63,11 @@ StandsAgainst held i Full = Unit {0}
 StandsAgainst held i NoRoom = Unit {0}
 StandsAgainst held i _ = ⊥
 
--- all items were done, or the next one is under the query, and something stands against it
+-- all items were done, or the next one is under the query, and something stands against it; memory may be wanting also to ask
+-- whether it is
 abbrev pub Ends : MapState → List Item → ℕ → Option Refusal → Type 0
 Ends m items done None = done ≡ length items
-Ends m items done (Some fault) = (next : Item) × (slice_get items done ≡ Some next) × (passes (is_under m.query) next ≡ true) × StandsAgainst m.held next fault
+Ends m items done (Some fault) = (next : Item) × (slice_get items done ≡ Some next) × ((passes (is_under m.query) next ≡ true) ⊎ (fault ≡ NoRoom)) × StandsAgainst m.held next fault
 
 -- the items go to a map: it holds the top of what it held and of those that were done and are under its query
 pub record MapTakes (m : MapState) (items : List Item) (tally : Tally) (new : MapState) : Type 0 where
