@@ -1,0 +1,5 @@
+pub mod ListLemmas
+pub mod StateLemmas
+pub mod CheckLemmas
+pub mod SinceLemmas
+pub mod PageLemmas

@@ -1,0 +1,8 @@
+use Rattle.ds_machine.specs.State.{State}
+use Rattle.ds_content.specs.Stands.{Stands}
+use Rattle.whole_reading.proofs.CheckLemmas.{Checking}
+use Rattle.whole_reading.proofs.checks.read_by_checks.Given as goal
+
+-- the checks so far gave these items
+abbrev pub invariant-loop-question : goal.invariant-loop-question
+invariant-loop-question g l = (s : State) → Stands l.fn.store s → Checking s l.sub l.reading.query l.items l.store

@@ -1,0 +1,8 @@
+use Rattle.ds_machine.specs.State.{State}
+use Rattle.ds_content.specs.Stands.{Stands}
+use Rattle.whole_reading.proofs.SinceLemmas.{Catching}
+use Rattle.whole_reading.proofs.pages.catch_up.Given as goal
+
+-- the journal's replies so far added these items
+abbrev pub invariant-loop-question : goal.invariant-loop-question
+invariant-loop-question g l = (s : State) → Stands l.fn.store s → Catching s l.reading.query l.fn.from l.at l.fn.items l.items l.store

@@ -1,0 +1,92 @@
+//! Questions to a store, and what its answers say of its states.
+
+ghost use Rattle.std.specs.Prelude.{◌≡◌, ℕ, true, IfOk, OnOk, OnErr};
+ghost use Rattle.ds_feed.specs.Page.{page_of};
+ghost use Rattle.ds_feed.specs.Since.{IsGiven};
+ghost use Rattle.ds_machine.specs.Effect.{GoesOn};
+ghost use Rattle.ds_machine.specs.Says.{IsMade, IsShown};
+ghost use Rattle.ds_machine.specs.Scope.{is_kept};
+ghost use Rattle.ds_machine.specs.State.{State, held, cursor};
+ghost use Rattle.ds_content.specs.Stands.{Stands};
+
+use crate::known::laws;
+use ds_entry::ItemList;
+use ds_feed::{Cursor, Page, Since};
+use ds_machine::{Command, Refusal, Reply, Scope};
+use ds_names::Key;
+use ds_pattern::Query;
+use ds_store::Store;
+
+/// Subscribes with INITIAL, over whatever the subscription was before.
+pub(crate) fn subscribe(store: &mut Store, sub: u32, query: Query) -> Result<(), Refusal>
+    ensures made { OnOk result ((s : State) → Stands store.old s → (t : State) × (stamp : ℕ) × GoesOn s t × IsMade s sub query true stamp t × Stands store.new t) }
+    ensures refused { OnErr result ((s : State) → Stands store.old s → Stands store.new s) }
+{
+    laws();
+    match store.apply(Command::Subscribe {
+        sub,
+        query,
+        initial: true,
+        overwrite: true,
+    }) {
+        Reply::Subscribed {
+            stamp: _stamp,
+            owed: _owed,
+        } => Ok(()),
+        Reply::Refused(refusal) => Err(refusal),
+        _ => unreachable!(),
+    }
+}
+
+/// Checks the subscription.
+pub(crate) fn check(store: &mut Store, sub: u32, max: u32) -> Result<ItemList, Refusal>
+    ensures shown { IfOk result (λ items. (s : State) → Stands store.old s → (t : State) × (before : ℕ) × (after : ℕ) × GoesOn s t × IsShown s sub max items before after t × Stands store.new t) }
+    ensures refused { OnErr result ((s : State) → Stands store.old s → Stands store.new s) }
+{
+    laws();
+    match store.apply(Command::Check { sub, max }) {
+        Reply::Checked {
+            items,
+            before: _before,
+            after: _after,
+        } => Ok(items),
+        Reply::Refused(refusal) => Err(refusal),
+        _ => unreachable!(),
+    }
+}
+
+/// Asks for a page behind the key.
+pub(crate) fn page(
+    store: &mut Store,
+    scope: Scope,
+    after: Option<Key>,
+    max: u32,
+) -> Result<Page, Refusal>
+    ensures given { IfOk result (λ page. (s : State) → Stands store.old s → (page ≡ page_of (is_kept scope) after max (held s) (cursor s)) × Stands store.new s) }
+    ensures refused { OnErr result ((s : State) → Stands store.old s → Stands store.new s) }
+{
+    laws();
+    match store.apply(Command::Page { scope, after, max }) {
+        Reply::Paged(page) => Ok(page),
+        Reply::Refused(refusal) => Err(refusal),
+        _ => unreachable!(),
+    }
+}
+
+/// Asks the journal from the cursor on.
+pub(crate) fn since(
+    store: &mut Store,
+    scope: Scope,
+    cursor: Cursor,
+    max: u32,
+) -> Result<Since, Refusal>
+    ensures given { IfOk result (λ since. (s : State) → Stands store.old s → IsGiven s.feed (is_kept scope) cursor max since × Stands store.new s) }
+    ensures refused { OnErr result ((s : State) → Stands store.old s → Stands store.new s) }
+{
+    laws();
+    match store.apply(Command::Since { scope, cursor, max }) {
+        Reply::Journaled(since) => Ok(since),
+        Reply::Refused(refusal) => Err(refusal),
+        _ => unreachable!(),
+    }
+}

@@ -1,0 +1,31 @@
+//! Why a store isn't read whole.
+
+use ds_machine::Refusal;
+use ds_names::NoRoom;
+use thiserror::Error;
+
+/// Why a reader gives up.
+#[derive(Clone, Copy, Debug, PartialEq, Eq, Error)]
+pub enum ReadFault {
+    /// The store refused a question, as Behind where its journal doesn't reach back to the first page any more.
+    #[error("the store refused a question")]
+    Refused(Refusal),
+    /// The reader wants memory for what it was given.
+    #[error("out of memory")]
+    NoRoom,
+    /// As many questions as may be weren't enough.
+    #[error("as many questions as may be weren't enough")]
+    Unfinished,
+}
+
+impl From<Refusal> for ReadFault {
+    fn from(refusal: Refusal) -> ReadFault {
+        ReadFault::Refused(refusal)
+    }
+}
+
+impl From<NoRoom> for ReadFault {
+    fn from(_refused: NoRoom) -> ReadFault {
+        ReadFault::NoRoom
+    }
+}
