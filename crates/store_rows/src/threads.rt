@@ -2,7 +2,8 @@
 
 use ds_names::Kinds;
 use ds_pattern::{PatternText, Query};
-use ds_store::{Command, Store};
+use ds_machine::Command;
+use ds_store::Store;
 use std::alloc::Global;
 use std::process::Abort;
 
