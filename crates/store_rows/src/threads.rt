@@ -1,8 +1,8 @@
 //! Stores and threads.
 
+use ds_machine::Command;
 use ds_names::Kinds;
 use ds_pattern::{PatternText, Query};
-use ds_machine::Command;
 use ds_store::Store;
 use std::alloc::Global;
 use std::process::Abort;
