@@ -49,12 +49,6 @@ part_one Quoted bytes t u r s is_t is_u begins_t begins_u =
     (is_t.1 ∙ ap quoted one.0 ∙ sym is_u.1, one.1)
 part_one Hex bytes t u r s is_t is_u begins_t begins_u = run_one is_hex_byte bytes t u r s is_t is_u begins_t begins_u
 
--- a text of such bytes at the front, whose run ends there, is the run that is counted
-pub run_front : (run : ℕ → Bool) (bytes t r : List ℕ) → list_all run t ≡ true → Begins run bytes t r → take (prefix_len run bytes) bytes ≡ t
-run_front run bytes t r all begins =
-    let len : prefix_len run bytes ≡ length t = ap (prefix_len run) begins.parts ∙ run_is run t r all begins.ends in
-    ap (λ (k : ℕ). take k bytes) len ∙ ap (take (length t)) begins.parts ∙ take_at t r (length t) refl
-
 -- the run that is counted stands at the front
 pub run_begins : (run : ℕ → Bool) (bytes front rest : List ℕ) → front ≡ take (prefix_len run bytes) bytes → rest ≡ drop (prefix_len run bytes) bytes → Begins run bytes front rest
 run_begins run bytes front rest is_front is_rest =

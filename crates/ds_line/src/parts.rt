@@ -9,14 +9,7 @@ ghost use Rattle.ds_names.specs.Run.{Begins};
 ghost use Rattle.ds_names.specs.declared.kind.Kind.{Kind};
 ghost use Rattle.ds_line.specs.Spelling.{kind_word};
 
-use ds_names::{Endpoint, Generation, Kind, Name, is_name_byte, read_endpoint};
-
-// How many name bytes stand at the front.
-fn name_len(bytes: &[u8]) -> usize
-    ensures { result ≡ prefix_len is_name_byte bytes.now }
-{
-    bytes.iter().take_while(|b| is_name_byte(**b)).count()
-}
+use ds_names::{Endpoint, Generation, Kind, Name, read_endpoint};
 
 /// Reads the name at the front, which is the longest run of name bytes. `None` where that run is no name. It is for
 /// whoever reads lines of its own, as the readers below.
@@ -25,11 +18,7 @@ pub fn name_at(bytes: &[u8]) -> Option<Name>
     ensures name { IfSome result IsName }
     ensures none { IfNone result ((name rest : List ℕ) → IsName name → ¬ Begins is_name_byte bytes.now name rest) }
 {
-    let (front, _) = bytes.split_at(name_len(bytes));
-    match Name::read(front) {
-        Ok(name) => Some(name),
-        Err(_) => None,
-    }
+    Name::front(bytes)
 }
 
 /// What comes behind a name that stands at the front.

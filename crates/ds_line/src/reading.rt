@@ -89,18 +89,18 @@ fn change_at(
     if !has_owner(&key) {
         return Err(stop_at(at));
     }
-    owner_at(alloc, key, rest, expected)
+    owner_at(alloc, &key, rest, expected)
 }
 
 // Reads a change from the space behind its kind on.
 fn owner_at(
     alloc: Global,
-    key: Key,
+    key: &Key,
     bytes: &[u8],
     expected: &mut Expected,
 ) -> Result<(Change, usize), PartFault>
-    requires { HasOwner key }
-    ensures { Reads (up_to_kind key) bytes.now result }
+    requires { HasOwner key.now }
+    ensures { Reads (up_to_kind key.now) bytes.now result }
 {
     *expected = Expected::Space;
     let Some(at) = read_byte(bytes, b' ') else {
@@ -110,7 +110,7 @@ fn owner_at(
     let Some(owner) = name_at(at) else {
         return Err(stop_at(at));
     };
-    if !has_version(&key, &owner) {
+    if !has_version(key, &owner) {
         return Err(stop_at(at));
     }
     let rest = behind_name(at, &owner);
@@ -118,19 +118,19 @@ fn owner_at(
     let Some(rest) = read_byte(rest, b' ') else {
         return Err(stop_at(rest));
     };
-    version_at(alloc, key, owner, rest, expected)
+    version_at(alloc, key, &owner, rest, expected)
 }
 
 // Reads a change from its epoch on.
 fn version_at(
     alloc: Global,
-    key: Key,
-    owner: Name,
+    key: &Key,
+    owner: &Name,
     bytes: &[u8],
     expected: &mut Expected,
 ) -> Result<(Change, usize), PartFault>
-    requires { HasVersion key owner }
-    ensures { Reads (up_to_epoch key owner) bytes.now result }
+    requires { HasVersion key.now owner.now }
+    ensures { Reads (up_to_epoch key.now owner.now) bytes.now result }
 {
     *expected = Expected::Epoch;
     let Some((number, rest)) = read_decimal(bytes, 2097151) else {
@@ -139,7 +139,7 @@ fn version_at(
     let Some(epoch) = Generation::of(number as u32) else {
         return Err(stop_at(bytes));
     };
-    if !has_seq(&key, &owner, epoch) {
+    if !has_seq(key, owner, epoch) {
         return Err(stop_at(bytes));
     }
     *expected = Expected::Dot;
@@ -154,7 +154,7 @@ fn version_at(
         epoch,
         seq: seq as u32,
     };
-    if !has_body(&key, &owner, &version) {
+    if !has_body(key, owner, &version) {
         return Err(stop_at(at));
     }
     *expected = Expected::Space;
@@ -167,22 +167,22 @@ fn version_at(
 // Reads a change from its mark on.
 fn body_at(
     alloc: Global,
-    key: Key,
-    owner: Name,
+    key: &Key,
+    owner: &Name,
     version: Version,
     bytes: &[u8],
     expected: &mut Expected,
 ) -> Result<(Change, usize), PartFault>
-    requires { HasBody key owner version }
-    ensures { Reads (up_to_mark key owner version) bytes.now result }
+    requires { HasBody key.now owner.now version }
+    ensures { Reads (up_to_mark key.now owner.now version) bytes.now result }
 {
     *expected = Expected::Mark;
-    if has_value(&key, &owner, &version) {
+    if has_value(key, owner, &version) {
         if let Some(rest) = read_byte(bytes, b'=') {
             return put_at(alloc, key, owner, version, rest, expected);
         }
     }
-    if has_tombstone(&key, &owner, &version) {
+    if has_tombstone(key, owner, &version) {
         if let Some(rest) = read_byte(bytes, b'-') {
             return gone_at(key, owner, version, rest, expected);
         }
@@ -192,14 +192,14 @@ fn body_at(
 
 // Reads a tombstone from its newline on.
 fn gone_at(
-    key: Key,
-    owner: Name,
+    key: &Key,
+    owner: &Name,
     version: Version,
     bytes: &[u8],
     expected: &mut Expected,
 ) -> Result<(Change, usize), PartFault>
-    requires { IsChange (change_of key owner version Gone) }
-    ensures { Reads (up_to_mark key owner version ++ byte 45 ∷ []) bytes.now result }
+    requires { IsChange (change_of key.now owner.now version Gone) }
+    ensures { Reads (up_to_mark key.now owner.now version ++ byte 45 ∷ []) bytes.now result }
 {
     *expected = Expected::End;
     let Some(rest) = read_byte(bytes, b'\n') else {
@@ -211,14 +211,14 @@ fn gone_at(
 // Reads a put from the space before its value on.
 fn put_at(
     alloc: Global,
-    key: Key,
-    owner: Name,
+    key: &Key,
+    owner: &Name,
     version: Version,
     bytes: &[u8],
     expected: &mut Expected,
 ) -> Result<(Change, usize), PartFault>
-    requires { HasValue key owner version }
-    ensures { Reads (up_to_mark key owner version ++ byte 61 ∷ []) bytes.now result }
+    requires { HasValue key.now owner.now version }
+    ensures { Reads (up_to_mark key.now owner.now version ++ byte 61 ∷ []) bytes.now result }
 {
     *expected = Expected::Space;
     let Some(rest) = read_byte(bytes, b' ') else {
@@ -233,15 +233,15 @@ fn put_at(
 
 // Reads a label's put from its endpoint on.
 fn label_at(
-    key: Key,
-    owner: Name,
+    key: &Key,
+    owner: &Name,
     version: Version,
     bytes: &[u8],
     expected: &mut Expected,
 ) -> Result<(Change, usize), PartFault>
-    requires kind { key.kind ≡ Label }
-    requires value { HasValue key owner version }
-    ensures { Reads (up_to_value key owner version) bytes.now result }
+    requires kind { key.now.kind ≡ Label }
+    requires value { HasValue key.now owner.now version }
+    ensures { Reads (up_to_value key.now owner.now version) bytes.now result }
 {
     *expected = Expected::Value(key.kind);
     let Some((generation, slot, rest)) = read_endpoint(bytes) else {
@@ -263,15 +263,15 @@ fn label_at(
 // Reads a put of another kind from its value on.
 fn other_at(
     alloc: Global,
-    key: Key,
-    owner: Name,
+    key: &Key,
+    owner: &Name,
     version: Version,
     bytes: &[u8],
     expected: &mut Expected,
 ) -> Result<(Change, usize), PartFault>
-    requires kind { key.kind ≢ Label }
-    requires value { HasValue key owner version }
-    ensures { Reads (up_to_value key owner version) bytes.now result }
+    requires kind { key.now.kind ≢ Label }
+    requires value { HasValue key.now owner.now version }
+    ensures { Reads (up_to_value key.now owner.now version) bytes.now result }
 {
     match last_value_at(alloc, key.kind, bytes, expected) {
         Ok((value, rest)) => whole(key, owner, version, Body::Put(value), rest),
@@ -281,16 +281,16 @@ fn other_at(
 
 // Gives the change that was read, and how many bytes are left behind its line.
 fn whole(
-    key: Key,
-    owner: Name,
+    key: &Key,
+    owner: &Name,
     version: Version,
     body: Body,
     rest: &[u8],
 ) -> Result<(Change, usize), PartFault>
-    requires { IsChange (change_of key owner version body) }
-    ensures { result ≡ Ok (change_of key owner version body, length rest.now) }
+    requires { IsChange (change_of key.now owner.now version body) }
+    ensures { result ≡ Ok (change_of key.now owner.now version body, length rest.now) }
 {
-    match Change::make(key, owner, version, body) {
+    match Change::make(*key, *owner, version, body) {
         Ok(change) => Ok((change, rest.len())),
         Err(_) => Err(stop_at(rest)),
     }

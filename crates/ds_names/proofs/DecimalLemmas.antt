@@ -6,8 +6,9 @@ use Rattle.std.specs.Fmt.{decimal}
 use Rattle.std.specs.Str.Parse.{digits_value}
 use Rattle.std.proofs.lemmas.Bool.{false≢true, cases_lt}
 use Rattle.std.proofs.lemmas.Bool.Decides.{nat_tests}
-use Rattle.std.proofs.lemmas.List.{take_at, take-append-drop, append_cancel_left}
-use Rattle.std.proofs.lemmas.List.Sums.{AllPass-from_list_all}
+use Rattle.std.proofs.lemmas.List.{take_at, take-append-drop, append_cancel_left, get_or-take}
+use Rattle.std.proofs.lemmas.List.Folds.{length-prefix_len}
+use Rattle.std.proofs.lemmas.List.Sums.{AllPass-from_list_all, prefix_len-drop_yes}
 use Rattle.std.proofs.lemmas.Str.Parse.{IsNumeralModel, numerals_by_value, digits_value-take-le}
 use Rattle.std.proofs.lemmas.Int.Digits.{digits_value_more}
 use Rattle.std.proofs.lemmas.Fmt.{digits_decimal, digits_value-decimal, decimal-digits_value, decimal_nonempty, first_decimal, decimal_digit, decimal_injective}
@@ -56,6 +57,26 @@ pub value_more : (ds : List ℕ) (i : ℕ) → i < length ds → list_all is_asc
 value_more ds i lt h =
     let digit = digit_at (get_or ds i 0) (AllPass-from_list_all is_ascii_digit ds h i 0 lt) in
     (digit.0, digit.1, digits_value_more 10 ds i lt ∙ ap (λ (d : ℕ). digits_value 10 (take i ds) * 10 + d) digit.2)
+
+-- The digits at the front, of which so many were read, go on with this byte.
+pub record GoesOn (bytes : List ℕ) (i : ℕ) : Type 0 where
+  pub digits : list_all is_ascii_digit (take (prefix_len is_ascii_digit bytes) bytes) ≡ true
+  pub within : i < length (take (prefix_len is_ascii_digit bytes) bytes)
+  pub byte : get_or (take (prefix_len is_ascii_digit bytes) bytes) i 0 ≡ get_or bytes i 0
+  pub run : i + 1 + prefix_len is_ascii_digit (drop (i + 1) bytes) ≡ prefix_len is_ascii_digit bytes
+
+-- they do where it is a digit
+pub goes_on : (bytes : List ℕ) (i : ℕ) → i < length bytes → i + prefix_len is_ascii_digit (drop i bytes) ≡ prefix_len is_ascii_digit bytes → is_ascii_digit (get_or bytes i 0) ≡ true → GoesOn bytes i
+goes_on bytes i lt run is =
+    let more : prefix_len is_ascii_digit (drop i bytes) ≡ 1 + prefix_len is_ascii_digit (drop (i + 1) bytes) = prefix_len-drop_yes is_ascii_digit bytes i 0 lt is in
+    let len : length (take (prefix_len is_ascii_digit bytes) bytes) ≡ prefix_len is_ascii_digit bytes = length-prefix_len is_ascii_digit bytes in
+    let inside : i < prefix_len is_ascii_digit bytes = omega (arith, more, run) in
+    record {
+      digits = (run_parts is_ascii_digit bytes).0;
+      within = omega (arith, len, inside);
+      byte = get_or-take (prefix_len is_ascii_digit bytes) bytes i 0 inside;
+      run = omega (arith, more, run);
+    }
 
 -- digits whose front is too large are too large
 pub too_large : (ds : List ℕ) (i : ℕ) → i < length ds → list_all is_ascii_digit ds ≡ true → 2 ^ 64 ≤ digits_value 10 (take i ds) * 10 + (get_or ds i 0 - 48) → ¬ (digits_value 10 ds < 2 ^ 64)

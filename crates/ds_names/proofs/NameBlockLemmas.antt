@@ -1,20 +1,17 @@
--- Filling a name's block byte by byte.
-use Rattle.std.proofs.Common.{◌≡◌, ℕ, suc, ◌+◌, ◌-◌, ◌<◌, ◌≤◌, true, false, List, [], ◌∷◌, ◌++◌, length, get_or, take, drop, replicate, refl, sym, ap, ◌∙◌, append_assoc, arith}
+-- Filling a name's block byte by byte, and the name at the front of bytes.
+use Rattle.std.proofs.Common.{◌≡◌, ℕ, suc, ◌+◌, ◌-◌, ◌<◌, ◌≤◌, true, List, [], ◌∷◌, ◌++◌, length, get_or, take, drop, replicate, sym, ap, ◌∙◌, append_assoc, append-nil, arith}
 use Rattle.std.proofs.Math.ListN.{set}
-use Rattle.std.specs.List.{list_all}
-use Rattle.std.proofs.lemmas.List.{length-take-le, length-replicate, length-append, set_at, take_more, take_at, drop_at, take_all}
-use Rattle.std.proofs.lemmas.List.Folds.{list_all_more}
-use Rattle.std.proofs.lemmas.List.Sums.{AllPass-from_list_all}
-use Rattle.std.proofs.lemmas.Bool.{false≢true}
+use Rattle.std.specs.List.{list_all, prefix_len}
+use Rattle.std.proofs.lemmas.List.{length-take-le, length-replicate, length-append, set_at, take_more, take_at, drop_at, take-append-drop}
+use Rattle.std.proofs.lemmas.List.Folds.{length-prefix_len}
+use Rattle.std.proofs.lemmas.List.Sums.{prefix_len-le-length}
 use Rattle.ds_names.specs.Name.{is_name_byte, IsName}
-use Rattle.ds_names.specs.NameBlock.{KeepsName}
+use Rattle.ds_names.specs.NameBlock.{KeepsName, filled}
+use Rattle.ds_names.specs.Run.{Begins}
+use Rattle.ds_names.proofs.DecimalLemmas.{run_is, run_parts}
 
--- the first i bytes are written, and zeros stand behind them
-abbrev pub filled : List ℕ → ℕ → List ℕ
-filled bytes i = take i bytes ++ replicate (64 - i) 0
-
-pub fill_more : (bytes : List ℕ) (i : ℕ) → i < length bytes → length bytes ≤ 64 → set (filled bytes i) i (get_or bytes i 0) ≡ filled bytes (i + 1)
-fill_more bytes i lt le =
+pub fill_more : (bytes : List ℕ) (i : ℕ) → i < length bytes → i < 64 → set (filled bytes i) i (get_or bytes i 0) ≡ filled bytes (i + 1)
+fill_more bytes i lt fits =
     let b : ℕ = get_or bytes i 0 in
     let one : 64 - i ≡ suc (64 - (i + 1)) = omega arith in
     let zeros : replicate (64 - i) 0 ≡ 0 ∷ replicate (64 - (i + 1)) 0 = ap (λ (n : ℕ). replicate n 0) one in
@@ -24,23 +21,29 @@ fill_more bytes i lt le =
     ∙ sym (append_assoc (take i bytes) (b ∷ []) (replicate (64 - (i + 1)) 0))
     ∙ ap (λ (t : List ℕ). t ++ replicate (64 - (i + 1)) 0) (sym (take_more bytes i 0 lt))
 
-pub allowed_more : (bytes : List ℕ) (i : ℕ) → i < length bytes → list_all is_name_byte (take i bytes) ≡ true → is_name_byte (get_or bytes i 0) ≡ true → list_all is_name_byte (take (i + 1) bytes) ≡ true
-allowed_more bytes i lt h k = list_all_more is_name_byte bytes i 0 lt ∙ rw (h, k) refl
+-- the run at the front, of one byte at least, is a name that its block keeps
+pub run_kept : (bytes block : List ℕ) (len : ℕ) → len ≡ prefix_len is_name_byte bytes → 0 < len → len ≤ 64 → block ≡ filled bytes len
+    → (take len block ≡ take len bytes) × IsName (take len bytes) × KeepsName (record { block = block; len = len })
+run_kept bytes block len run some most is =
+    let within : length (take len bytes) ≡ len = length-take-le len bytes (rw run (prefix_len-le-length is_name_byte bytes)) in
+    let good : list_all is_name_byte (take len bytes) ≡ true = rw run (run_parts is_name_byte bytes).0 in
+    let name : IsName (take len bytes) = record { some = rw within some; limit = rw within most; allowed = good } in
+    let front : take len block ≡ take len bytes = ap (take len) is ∙ take_at (take len bytes) (replicate (64 - len) 0) len within in
+    let behind : drop len block ≡ replicate (64 - len) 0 = ap (drop len) is ∙ drop_at (take len bytes) (replicate (64 - len) 0) len within in
+    let long : length block ≡ 64 = ap length is ∙ length-append (take len bytes) (replicate (64 - len) 0) ∙ ap (λ (n : ℕ). length (take len bytes) + n) (length-replicate (64 - len) 0) ∙ omega (arith, within, most) in
+    (front, name, record { whole = long; fits = most; name = rw front name; zeros = behind })
 
--- a block that is filled from all bytes of a name keeps it
-pub filled_all : (bytes block : List ℕ) (i : ℕ) → length bytes ≤ i → i ≤ length bytes → 0 < length bytes → length bytes ≤ 64 → block ≡ filled bytes i → list_all is_name_byte (take i bytes) ≡ true
-    → (IsName bytes) × (take (length bytes) block ≡ bytes) × KeepsName (record { block = block; len = length bytes })
-filled_all bytes block i le ge some most is allowed =
-    let all : take i bytes ≡ bytes = take_all i bytes le in
-    let same : i ≡ length bytes = omega arith in
-    let whole : block ≡ bytes ++ replicate (64 - length bytes) 0 = is ∙ ap (λ (t : List ℕ). t ++ replicate (64 - i) 0) all ∙ ap (λ (n : ℕ). bytes ++ replicate (64 - n) 0) same in
-    let good : list_all is_name_byte bytes ≡ true = ap (list_all is_name_byte) (sym all) ∙ allowed in
-    let name : IsName bytes = record { some = some; limit = most; allowed = good } in
-    let front : take (length bytes) block ≡ bytes = ap (take (length bytes)) whole ∙ take_at bytes (replicate (64 - length bytes) 0) (length bytes) refl in
-    let behind : drop (length bytes) block ≡ replicate (64 - length bytes) 0 = ap (drop (length bytes)) whole ∙ drop_at bytes (replicate (64 - length bytes) 0) (length bytes) refl in
-    let long : length block ≡ 64 = ap length whole ∙ length-append bytes (replicate (64 - length bytes) 0) ∙ ap (λ (n : ℕ). length bytes + n) (length-replicate (64 - length bytes) 0) ∙ omega arith in
-    (name, front, record { whole = long; fits = most; name = rw front name; zeros = behind })
+-- the run at the front stands there, and ends where it ends
+pub run_begins : (bytes name : List ℕ) → name ≡ take (prefix_len is_name_byte bytes) bytes → Begins is_name_byte bytes name (drop (length name) bytes)
+run_begins bytes name is =
+    let n : ℕ = prefix_len is_name_byte bytes in
+    let len : length name ≡ n = ap length is ∙ length-prefix_len is_name_byte bytes in
+    record { parts = rw (is, length-prefix_len is_name_byte bytes) (sym (take-append-drop n bytes)); ends = rw len (run_parts is_name_byte bytes).1 }
 
--- bytes with one that isn't allowed are no name
-pub not_allowed : (bytes : List ℕ) (i : ℕ) → i < length bytes → is_name_byte (get_or bytes i 0) ≡ false → ¬ IsName bytes
-not_allowed bytes i lt bad = λ name. false≢true (sym bad ∙ AllPass-from_list_all is_name_byte bytes name.allowed i 0 lt)
+-- a name at the front is the run there
+pub name_is_run : (bytes name rest : List ℕ) → IsName name → Begins is_name_byte bytes name rest → prefix_len is_name_byte bytes ≡ length name
+name_is_run bytes name rest is begins = ap (prefix_len is_name_byte) begins.parts ∙ run_is is_name_byte name rest is.allowed begins.ends
+
+-- a name begins itself
+pub name_begins : (name : List ℕ) → Begins is_name_byte name name []
+name_begins name = record { parts = sym (append-nil name); ends = tt }

@@ -9,6 +9,10 @@ use Rattle.ds_names.specs.Name.{IsName}
 abbrev pub name_of : Inside → List ℕ
 name_of n = take n.len n.block
 
+-- the first so many bytes in a block, and zeros behind them
+abbrev pub filled : List ℕ → ℕ → List ℕ
+filled bytes len = take len bytes ++ replicate (64 - len) 0
+
 -- the block keeps a name, and nothing else
 pub record KeepsName (n : Inside) : Type 0 where
   pub whole : length n.block ≡ 64

@@ -1,30 +1,25 @@
 //! Decimal numbers and single bytes at the front of a text.
 
-ghost use Rattle.std.specs.Prelude.{◌≡◌, ℕ, ◌<◌, ◌≤◌, ◌^◌, List, length, ◌≢◌, ◌∷◌, IfSome, IfNone, IsTrue};
-ghost use Rattle.std.specs.List.{prefix_len, list_all};
+ghost use Rattle.std.specs.Prelude.{◌≡◌, ℕ, ◌<◌, ◌≤◌, ◌^◌, List, length, take, ◌≢◌, ◌∷◌, IfSome, IfNone};
+ghost use Rattle.std.specs.List.{prefix_len};
 ghost use Rattle.std.specs.Option.{SomeIff};
 ghost use Rattle.std.specs.Char.{is_ascii_digit};
 ghost use Rattle.std.specs.Fmt.{decimal};
 ghost use Rattle.std.specs.Str.Parse.{digits_value};
 ghost use Rattle.ds_names.specs.Run.{Begins};
 
-// How many digits stand at the front.
-fn run_len(bytes: &[u8]) -> usize
-    ensures { result ≡ prefix_len is_ascii_digit bytes.now }
-{
-    bytes.iter().take_while(|b| b.is_ascii_digit()).count()
-}
-
-// The number that the digits write, unless it is 2^64 or more.
-fn number_of(digits: &[u8]) -> Option<u64>
-    requires { IsTrue (list_all is_ascii_digit digits.now) }
-    ensures { SomeIff result (digits_value 10 digits.now < 2 ^ 64) (digits_value 10 digits.now) }
+// The number that the digits at the front write, and how many they are. `None` where it is 2^64 or more.
+fn number_of(bytes: &[u8]) -> Option<(u64, usize)>
+    ensures { let len = prefix_len is_ascii_digit bytes.now in let value = digits_value 10 (take len bytes.now) in SomeIff result (value < 2 ^ 64) (value, len) }
 {
     let mut number: u64 = 0;
-    for b in digits {
+    for (at, b) in bytes.iter().enumerate() {
+        if !b.is_ascii_digit() {
+            return Some((number, at));
+        }
         number = number.checked_mul(10)?.checked_add(u64::from(*b - b'0'))?;
     }
-    Some(number)
+    Some((number, bytes.len()))
 }
 
 // The number below 2^64 at the front, written without leading zeros, and what comes behind its digits.
@@ -33,11 +28,11 @@ fn any_decimal(bytes: &[u8]) -> Option<(u64, &[u8])>
     ensures limit { IfSome result (λ r. r.0 < 2 ^ 64) }
     ensures none { IfNone result ((n : ℕ) (rest : List ℕ) → n < 2 ^ 64 → ¬ Begins is_ascii_digit bytes.now (decimal n) rest) }
 {
-    let (digits, rest) = bytes.split_at(run_len(bytes));
+    let (number, len) = number_of(bytes)?;
+    let (digits, rest) = bytes.split_at(len);
     if digits.is_empty() || (digits[0] == b'0' && digits.len() > 1) {
         return None;
     }
-    let number = number_of(digits)?;
     Some((number, rest))
 }
 

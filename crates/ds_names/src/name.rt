@@ -1,6 +1,8 @@
 //! Names of entries and owners.
 
-ghost use Rattle.std.specs.Prelude.{◌≡◌, ℕ, ◌*◌, ◌<◌, ◌≤◌, ◌↔◌, length, take, drop, IsTrue};
+ghost use Rattle.std.specs.Prelude.{◌≡◌, ℕ, List, ◌*◌, ◌<◌, ◌≤◌, ◌↔◌, length, take, drop, replicate, IsTrue, IfSome, IfNone};
+ghost use Rattle.std.specs.List.{prefix_len};
+ghost use Rattle.std.specs.Option.{SomeIff};
 ghost use Rattle.std.specs.Int.{from_be_bytes, w64};
 ghost use Rattle.std.specs.Bool.{◌==◌};
 ghost use Rattle.std.proofs.Common.{rules};
@@ -11,6 +13,8 @@ ghost use Rattle.std.specs.Cmp.Rules.{comparing};
 ghost use Rattle.std.specs.Cmp.Lexicographic.{pointwise, slice_cmp};
 ghost use Rattle.std.specs.Ordering.{nat_cmp, as_partial_cmp};
 ghost use Rattle.ds_names.specs.Name.{is_name_byte, IsName};
+ghost use Rattle.ds_names.specs.NameBlock.{filled};
+ghost use Rattle.ds_names.specs.Run.{Begins};
 
 use std::cmp::Ordering;
 use std::marker::Model;
@@ -74,18 +78,24 @@ impl Name {
     pub fn read(bytes: &[u8]) -> Result<Name, NameFault>
         ensures { OkIff result (IsName bytes.now) bytes.now }
     {
-        let len = bytes.len();
-        if len == 0 || len > 64 {
-            return Err(NameFault::BadName);
+        match Name::front(bytes) {
+            Some(name) if name.bytes().len() == bytes.len() => Ok(name),
+            _ => Err(NameFault::BadName),
         }
+    }
+
+    /// Reads the name at the front, which is the longest run of name bytes. `None` where that run is no name.
+    pub fn front(bytes: &[u8]) -> Option<Name>
+        ensures found { IfSome result (λ name. Begins is_name_byte bytes.now name (drop (length name) bytes.now)) }
+        ensures name { IfSome result IsName }
+        ensures none { IfNone result ((name rest : List ℕ) → IsName name → ¬ Begins is_name_byte bytes.now name rest) }
+    {
         let mut block = [0; 64];
-        for (i, b) in bytes.iter().enumerate() {
-            if !is_name_byte(*b) {
-                return Err(NameFault::BadName);
-            }
-            block[i] = *b;
+        let len = fill(&mut block, bytes)?;
+        if len == 0 {
+            return None;
         }
-        Ok(Name {
+        Some(Name {
             block,
             len: len as u8,
         })
@@ -98,6 +108,26 @@ impl Name {
     {
         &self.block[..usize::from(self.len)]
     }
+}
+
+// Writes the name bytes at the front into a block of zeros, and gives how many they are. `None` where they are more than
+// the block takes.
+#[inline(always)]
+fn fill(block: &mut [u8; 64], bytes: &[u8]) -> Option<usize>
+    requires { block.old ≡ replicate 64 0 }
+    ensures run { let len = prefix_len is_name_byte bytes.now in SomeIff result (len ≤ 64) len }
+    ensures filled { IfSome result (λ len. block.new ≡ filled bytes.now len) }
+{
+    for (at, b) in bytes.iter().enumerate() {
+        if !is_name_byte(*b) {
+            return Some(at);
+        }
+        if at == 64 {
+            return None;
+        }
+        block[at] = *b;
+    }
+    Some(bytes.len())
 }
 
 // How the blocks of two names stand to each other, byte by byte. Eight bytes are compared at a time, as a number. No name
