@@ -10,7 +10,7 @@ struct Row {
     end: Result<u64, ReplayFault>,
 }
 
-const ROWS: [Row; 4] = [
+const ROWS: [Row; 5] = [
     Row {
         script: b"offer eth0 label rs 3.0 = 3/17\noffer eth0 label rs 2.0 = 2/9\nshow",
         answers: b"taken\nstale\neth0 label rs 3.0 = 3/17\nshown 1\n",
@@ -19,6 +19,11 @@ const ROWS: [Row; 4] = [
     Row {
         script: b"subscribe 5 \"eth.*\" 15 later new\noffer eth0 label rs 3.1 -\ncheck 5 4\nmap \".*\" 15\nentries 0\n",
         answers: b"subscribed 1\ntaken\nowed 00000000000000000000000000000020\neth0 label rs 3.1 -\nchecked 1 1 2\nmap 0\nshown 0\n",
+        end: Ok(5),
+    },
+    Row {
+        script: b"offer ! eth0 3\noffer eth0.mtu u32 eth0 3.0 = 1500\noffer eth0.mtu u32 eth0 4.0 = 1500\nshow\nall",
+        answers: b"taken\nstale\ntaken\neth0.mtu u32 eth0 4.0 = 1500\nshown 1\n! eth0 3\neth0.mtu u32 eth0 4.0 = 1500\nshown 2\n",
         end: Ok(5),
     },
     Row {
