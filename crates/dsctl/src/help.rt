@@ -77,7 +77,7 @@ Lines of a script (`dsctl --help` explains them):
   offer NAME KIND OWNER EPOCH.SEQ -               merge a tombstone
   offer ! OWNER GENERATION                        merge a floor
   show                                            print the entries
-  all                                             print floors and tombstones too
+  all                                             print floors, tombstones too
 
 Limits: NAME 64 bytes, str 256, mem 1024, PATTERN 128, a line 4096; 4096 keys,
 64 floors, 128 subscriptions (SUB 0 to 127, eight a server), 64 maps, MAX 256.";
