@@ -41,11 +41,7 @@ pub(crate) fn append_shown(
 
 /// Appends the lines of the items, or of the puts among them alone, `shown` and their number, or nothing where there is
 /// no room for all of it.
-pub(crate) fn append_items(
-    items: &ItemList,
-    output: &mut Vec<u8>,
-    all: bool,
-) -> Result<(), NoRoom>
+pub(crate) fn append_items(items: &ItemList, output: &mut Vec<u8>, all: bool) -> Result<(), NoRoom>
     ensures written { OnOk result (output.new.items ≡ output.old.items ++ shown (picked all items.now)) }
     ensures unwritten { OnErr result (output.new.items ≡ output.old.items) }
 {
