@@ -1,4 +1,4 @@
-use Rattle.std.proofs.Common.{◌++◌, ◌+◌, [], refl, sym, subst, inl}
+use Rattle.std.proofs.Common.{◌++◌, [], refl, sym, subst, inl}
 use Rattle.std.proofs.KnownBytes.{Appends-nil}
 use Rattle.ds_words.specs.Lines.{IsUnbroken}
 use Rattle.ds_script.proofs.GoingLemmas.{idle, takes_nothing}

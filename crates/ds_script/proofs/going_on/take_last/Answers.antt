@@ -1,4 +1,4 @@
-use Rattle.std.proofs.Common.{◌≡◌, ◌≢◌, ◌∷◌, ◌++◌, ◌+◌, ◌∙◌, [], List, ℕ, length, sym, ap, subst, inr, append-nil}
+use Rattle.std.proofs.Common.{◌≡◌, ◌≢◌, ◌∷◌, ◌++◌, ◌∙◌, [], List, ℕ, length, sym, ap, subst, inr, append-nil}
 use Rattle.std.proofs.lemmas.Bool.{eqb-false}
 use Rattle.ds_words.specs.Lines.{unended}
 use Rattle.ds_script.specs.GoingProgress.{Takes}

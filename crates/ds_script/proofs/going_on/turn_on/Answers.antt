@@ -1,4 +1,4 @@
-use Rattle.std.proofs.Common.{◌++◌, ◌+◌, ◌∙◌, [], refl, sym, ap, inl, append-nil}
+use Rattle.std.proofs.Common.{◌++◌, ◌∙◌, [], refl, sym, ap, inl, append-nil}
 use Rattle.std.proofs.KnownBytes.{Consumes-nil}
 use Rattle.ds_script.proofs.GoingLineLemmas.{takes_sent}
 use Rattle.ds_script.proofs.GoingLemmas.{turns_behind, stops_behind, idle}
