@@ -3,7 +3,8 @@
 //!
 //! The store holds 4,096 numbers, whose changes fill its journal. `since` asks ROUNDS times for what took effect from
 //! BACK positions before the newest on, under a scope of all keys or of none; `page` for the first page of MAX changes;
-//! `snapshot` for all that is held. It prints how many items all answers gave. Status 2: the words can't be read. 3: memory or writing failed.
+//! `snapshot` for all that is held. It prints how many items all answers gave. Status 2: the words can't be read. 3: memory
+//! or writing failed.
 #![tactic(auto)]
 
 mod filling;
