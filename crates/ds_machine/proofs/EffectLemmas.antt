@@ -140,7 +140,7 @@ wanting_learns s t items reply r w =
     subst (λ (x : Reply). Learns s (known_after x items) t) (sym w.1.reply_is) (subst (λ (x : State). Learns s (take w.0 items) x) (sym w.1.state_is) l)
 
 -- ---- a Subscribe and a Check
-below_place : (places n : ℕ) → nat_le places n ≡ false → n < places
+pub below_place : (places n : ℕ) → nat_le places n ≡ false → n < places
 below_place places n e = leb-false places n e
 
 module _ (s t : State) (r : IsReached s) where

@@ -11,7 +11,7 @@ use Rattle.ds_join.proofs.ItemTopLemmas.{held_apart, greatest_floor, void_isnt_h
 use Rattle.ds_machine.specs.State.{State, held, accepts, subscribes}
 use Rattle.ds_machine.specs.Machine.{Step, Run}
 use Rattle.ds_machine.specs.Reached.{IsReached}
-use Rattle.ds_machine.specs.Effect.{AreNews, Grows, Serves, Effect, GoesOn, learnt_by, StepsStayReached, RunsStayReached, StepsGoOn, RunsGoOn, LearntIsHeld, KnownStaysHeld}
+use Rattle.ds_machine.specs.Effect.{AreNews, Grows, Serves, Effect, GoesOn, learnt_by, StepsStayReached, RunsStayReached, GoesOnSame, GoesOnLater, StepsGoOn, RunsGoOn, LearntIsHeld, KnownStaysHeld}
 use Rattle.ds_machine.specs.FloorLaws.{AcceptedFloorStands, FloorStandsOverRuns}
 use Rattle.ds_machine.specs.declared.command.Command.{Command}
 use Rattle.ds_machine.specs.declared.reply.Reply.{Reply}
@@ -69,8 +69,8 @@ goes_same s t e =
       stamp = (let same : t.stamp ≡ s.stamp = ap (λ (x : State). x.stamp) e in omega (arith, same));
     }
 
-goes_further : (s m t : State) → GoesOn s m → GoesOn m t → GoesOn s t
-goes_further s m t a b =
+pub goes_on_later : GoesOnLater
+goes_on_later s m t a b =
     record {
       limits = b.limits ∙ a.limits;
       incarnation = b.incarnation ∙ a.incarnation;
@@ -84,13 +84,16 @@ goes_further s m t a b =
       stamp = (let one : s.stamp ≤ m.stamp = a.stamp in let two : m.stamp ≤ t.stamp = b.stamp in omega (arith, one, two));
     }
 
+pub goes_on_same : GoesOnSame
+goes_on_same s = goes_same s s refl
+
 pub steps_go_on : StepsGoOn
 steps_go_on s t command reply r step = goes_after s t command reply (does s t command reply r step).effect
 
 pub runs_go_on : RunsGoOn
 runs_go_on s t [] [] r run = goes_same s t run
 runs_go_on s t (command ∷ commands) (reply ∷ replies) r run =
-    goes_further s run.0 t (steps_go_on s run.0 command reply r run.1) (runs_go_on run.0 t commands replies (steps_stay_reached s run.0 command reply r run.1) run.2)
+    goes_on_later s run.0 t (steps_go_on s run.0 command reply r run.1) (runs_go_on run.0 t commands replies (steps_stay_reached s run.0 command reply r run.1) run.2)
 runs_go_on s t [] (reply ∷ replies) r run = absurd run
 runs_go_on s t (command ∷ commands) [] r run = absurd run
 

@@ -5,6 +5,7 @@ pub mod ReachedLemmas
 pub mod CourseLemmas
 pub mod EffectLemmas
 pub mod KnownLemmas
+pub mod PlaceLemmas
 pub mod FitLemmas
 pub mod SaysLemmas
 pub mod CountLemmas

@@ -82,7 +82,7 @@ reached_all s (i ∷ items) r news =
     subst IsReached (ap (with_accepted s) (append_assoc s.feed.accepted (i ∷ []) items)) (reached_all (accepts s (i ∷ [])) items (reached_more s i r news.0) news.1)
 
 -- ---- a subscription was written
-at_place : (s : State) (sub k : ℕ) (query : Query) (shown : List Item) → sub < length s.subscriptions
+pub at_place : (s : State) (sub k : ℕ) (query : Query) (shown : List Item) → sub < length s.subscriptions
     → ((k ≡ sub) × (subscription_at (subscribes s sub query shown) k ≡ Some (record { query = query; stamp = s.stamp + 1; shown = shown }))) ⊎ (subscription_at (subscribes s sub query shown) k ≡ subscription_at s k)
 at_place s sub k query shown within = by_test (k == sub) refl
   where

@@ -98,6 +98,13 @@ pub record GoesOn (old new : State) : Type 0 where
   pub grown : (since : List Item) × AreNews old.feed.accepted since × (new.feed.accepted ≡ old.feed.accepted ++ since)
   pub stamp : old.stamp ≤ new.stamp
 
+-- every store is the same one later than itself, and later than later is later
+abbrev pub GoesOnSame : Type 0
+GoesOnSame = (s : State) → GoesOn s s
+
+abbrev pub GoesOnLater : Type 0
+GoesOnLater = (s t u : State) → GoesOn s t → GoesOn t u → GoesOn s u
+
 abbrev pub StepsGoOn : Type 0
 StepsGoOn = (s t : State) (command : Command) (reply : Reply) → IsReached s → Step s command reply t → GoesOn s t
 

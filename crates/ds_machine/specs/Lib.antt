@@ -14,5 +14,7 @@ pub mod Reached
 pub mod Within
 pub mod Effect
 pub mod Says
+pub mod Owed
+pub mod SubscriptionLaws
 pub mod FloorLaws
 pub mod Examples

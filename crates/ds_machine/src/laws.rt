@@ -1,9 +1,10 @@
 //! Laws of the machine's steps and runs, over its definitions alone.
 
-ghost use Rattle.ds_machine.specs.Effect.{OpeningIsReached, StepsStayReached, RunsStayReached, StepHasEffect, StepsGoOn, RunsGoOn, HeldIsTop, LearntIsHeld, KnownStaysHeld};
+ghost use Rattle.ds_machine.specs.Effect.{OpeningIsReached, StepsStayReached, RunsStayReached, StepHasEffect, GoesOnSame, GoesOnLater, StepsGoOn, RunsGoOn, HeldIsTop, LearntIsHeld, KnownStaysHeld};
 ghost use Rattle.ds_machine.specs.Examples.{PublishRow, SweepRow, RingRow, PageRow, ChangingPagesRow, LastPlaceRow};
 ghost use Rattle.ds_machine.specs.FloorLaws.{AcceptedFloorStands, FloorStandsOverRuns};
 ghost use Rattle.ds_machine.specs.Says.{RefusedSays, ChangedSays, FoundSays, NamedSays, SweptSays, SubscribedSays, CheckedSays, JournaledSays, SnappedSays, PagedSays, MergedSays, MergeStoppedSays, OwedFits, OwedTells, RepliesFit};
+ghost use Rattle.ds_machine.specs.SubscriptionLaws.{StepKeepsSubscription, RunKeepsSubscription, StepStampsSubscription, RunStampsSubscription, StampTells, SubscribedLeaves, CheckedLeaves};
 ghost use Rattle.ds_machine.specs.Within.{OpeningIsWithin, StepsStayWithin, RunsStayWithin};
 
 /// The opening state is reached, and each step and each run leads from a state that is reached to another: its accepted
@@ -29,8 +30,23 @@ pub fn steps_have_effects()
     ensures effect { StepHasEffect }
     ensures goes_on { StepsGoOn }
     ensures runs { RunsGoOn }
+    ensures same { GoesOnSame }
+    ensures later { GoesOnLater }
     ensures learnt { LearntIsHeld }
     ensures known { KnownStaysHeld }
+{}
+
+/// A subscription stays as it is over each step, and each run, in which no command is a Subscribe or a Check of it; where it
+/// isn't as it was, its stamp is above all that had been given. A Subscribe leaves its query at the place, and with INITIAL
+/// nothing shown; a Check adds what it gave to what was shown; neither lets anything take effect.
+pub fn subscriptions_are_kept()
+    ensures step { StepKeepsSubscription }
+    ensures run { RunKeepsSubscription }
+    ensures step_stamp { StepStampsSubscription }
+    ensures run_stamp { RunStampsSubscription }
+    ensures tells { StampTells }
+    ensures subscribed { SubscribedLeaves }
+    ensures checked { CheckedLeaves }
 {}
 
 /// Where a floor is held, nothing is held that it makes void, and no commands ever bring such a change.

@@ -15,7 +15,7 @@ mod reply;
 pub use command::{Command, Scope};
 pub use laws::{
     answers_fit, answers_say, floors_stand, limits_are_kept, rows_are_answered, states_are_reached,
-    steps_have_effects,
+    steps_have_effects, subscriptions_are_kept,
 };
 pub use refusal::{Cause, Refusal};
 pub use reply::Reply;

@@ -1,5 +1,8 @@
 //! What a store answers.
 
+ghost use Rattle.std.specs.Prelude.{◌≡◌};
+ghost use Rattle.ds_machine.specs.Owed.{owed_by};
+
 use crate::refusal::Refusal;
 use ds_entry::{ItemList, Value};
 use ds_feed::{Page, Since, Snapshot};
@@ -57,4 +60,20 @@ pub enum Reply {
     },
     /// The command was refused, and nothing changed.
     Refused(Refusal),
+}
+
+impl Reply {
+    /// The mask of the subscriptions to which a notice is owed: 0 where the reply has none.
+    pub fn owed(&self) -> u128
+        ensures { result ≡ owed_by self.now }
+    {
+        match self {
+            Reply::Changed { owed }
+            | Reply::Swept { owed, .. }
+            | Reply::Subscribed { owed, .. }
+            | Reply::Merged { owed, .. }
+            | Reply::MergeStopped { owed, .. } => *owed,
+            _ => 0,
+        }
+    }
 }

@@ -1,5 +1,5 @@
 use Rattle.ds_machine.proofs.EffectLemmas.{step_has_effect}
-use Rattle.ds_machine.proofs.KnownLemmas.{steps_go_on, runs_go_on, learnt_is_held, known_stays_held}
+use Rattle.ds_machine.proofs.KnownLemmas.{goes_on_same, goes_on_later, steps_go_on, runs_go_on, learnt_is_held, known_stays_held}
 use Rattle.ds_machine.proofs.laws.steps_have_effects.Goals as goal
 
 pub returns-clause-effect : goal.returns-clause-effect
@@ -16,3 +16,9 @@ returns-clause-learnt c = learnt_is_held
 
 pub returns-clause-known : goal.returns-clause-known
 returns-clause-known c = known_stays_held
+
+pub returns-clause-same : goal.returns-clause-same
+returns-clause-same c = goes_on_same
+
+pub returns-clause-later : goal.returns-clause-later
+returns-clause-later c = goes_on_later

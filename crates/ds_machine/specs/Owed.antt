@@ -1,0 +1,13 @@
+-- To whom a reply owes a notice.
+use Rattle.std.specs.Prelude.{ℕ}
+use Rattle.ds_machine.specs.declared.reply.Reply.{Reply}
+use Rattle.ds_machine.specs.declared.reply.Reply.TheVariants.{Changed, Swept, Subscribed, Merged, MergeStopped}
+
+-- the mask of the subscriptions to which a notice is owed: of none, where the reply has no mask
+abbrev pub owed_by : Reply → ℕ
+owed_by (Changed owed) = owed
+owed_by (Swept count owed) = owed
+owed_by (Subscribed stamp owed) = owed
+owed_by (Merged done taken stale owed) = owed
+owed_by (MergeStopped done fault owed) = owed
+owed_by _ = 0
