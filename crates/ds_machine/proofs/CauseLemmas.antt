@@ -1,8 +1,7 @@
 -- What the first cause against a change or a floor says.
-use Rattle.std.proofs.Common.{◌≡◌, ◌≢◌, ℕ, ◌<◌, ◌≤◌, Bool, true, false, not, ◌&&◌, ◌||◌, ◌==◌, nat_le, nat_lt, List, [], ◌∷◌, ◌++◌, map, length, Option, Some, None, is_none, refl, ap, sym, ◌∙◌, subst, inl, inr, ◌⊎◌, arith, Contains, eqb-true}
+use Rattle.std.proofs.Common.{◌≡◌, ℕ, ◌<◌, ◌≤◌, Bool, true, false, not, ◌&&◌, ◌||◌, ◌==◌, nat_le, nat_lt, List, [], ◌∷◌, ◌++◌, map, Option, Some, None, is_none, refl, ap, sym, ◌∙◌, inl, inr, ◌⊎◌, arith, Contains, eqb-true}
 use Rattle.std.proofs.lemmas.Bool.Decides.{nat_tests}
 use Rattle.std.proofs.lemmas.Bool.{eqb-false, ltb-true}
-use Rattle.std.specs.List.{list_any}
 use Rattle.std.specs.Cmp.Lexicographic.{same_text}
 use Rattle.std.specs.declared.cmp.Ordering.{Ordering}
 use Rattle.std.specs.declared.cmp.Ordering.TheVariants.{Less, Equal, Greater}
@@ -15,7 +14,7 @@ use Rattle.ds_entry.specs.declared.body.Body.{Body}
 use Rattle.ds_entry.specs.Change.{ChangeRecord}
 use Rattle.ds_entry.specs.Covers.{is_at_most}
 use Rattle.ds_entry.specs.ItemCovers.{covers}
-use Rattle.ds_entry.specs.Void.{voids, voids_it, is_void}
+use Rattle.ds_entry.specs.Void.{voids_it, is_void}
 use Rattle.ds_entry.specs.declared.floor.Floor.{Floor}
 use Rattle.ds_entry.specs.declared.item.Item.{Item}
 use Rattle.ds_entry.specs.declared.item.Item.TheVariants.{Change as Changed, Floor as Floored}
@@ -30,7 +29,6 @@ use Rattle.ds_machine.specs.Standing.{Standing, standing_of, on_held, against_ch
 use Rattle.ds_machine.specs.Asking.{Request, against_asked, change_asked, against_sweep}
 use Rattle.ds_machine.specs.declared.refusal.Cause.{Cause}
 use Rattle.ds_machine.specs.declared.refusal.Cause.TheVariants as causes
-use Rattle.ds_machine.specs.declared.refusal.Refusal.{Refusal}
 use Rattle.ds_machine.specs.declared.refusal.Refusal.TheVariants as refusals
 use Rattle.ds_machine.proofs.PartLemmas.{found, missing, passed, key_found, owner_found}
 use Rattle.ds_machine.proofs.NewsLemmas.{IsAbove}

@@ -1,7 +1,7 @@
 -- How a merge goes: what took effect is news, and what was done is held, or what covers it.
-use Rattle.std.proofs.Common.{◌≡◌, ℕ, zero, suc, ◌+◌, ◌<◌, ◌≤◌, Bool, true, false, List, [], ◌∷◌, ◌++◌, length, take, fold, Option, Some, None, refl, ap, sym, ◌∙◌, subst, inl, inr, ◌⊎◌, arith, Contains, append_assoc, length-append}
+use Rattle.std.proofs.Common.{◌≡◌, ℕ, suc, ◌+◌, ◌<◌, ◌≤◌, true, List, [], ◌∷◌, length, take, fold, Option, Some, None, refl, ap, sym, ◌∙◌, subst, inl, inr, arith, Contains, append_assoc, length-append}
 use Rattle.std.proofs.lemmas.List.{append-nil}
-use Rattle.std.proofs.lemmas.List.Elements.{Contains-push, Contains-append_left, Contains-append_cases}
+use Rattle.std.proofs.lemmas.List.Elements.{Contains-push, Contains-append_left}
 use Rattle.std.specs.Option.{option_map_or}
 use Rattle.ds_entry.specs.ItemCovers.{covers}
 use Rattle.ds_entry.specs.declared.item.Item.{Item}
@@ -14,13 +14,13 @@ use Rattle.ds_machine.specs.State.{State, held, accepts}
 use Rattle.ds_machine.specs.Standing.{cause_of, standing_of, floor_standing_of}
 use Rattle.ds_machine.specs.Merging.{Course, item_merged, item_judged}
 use Rattle.ds_machine.specs.Reached.{IsReached}
-use Rattle.ds_machine.specs.Effect.{IsNews, AreNews, Grows}
+use Rattle.ds_machine.specs.Effect.{IsNews, Grows}
 use Rattle.ds_machine.specs.declared.refusal.Cause.{Cause}
 use Rattle.ds_machine.specs.declared.refusal.Cause.TheVariants as causes
 use Rattle.ds_machine.specs.declared.refusal.Refusal.{Refusal}
 use Rattle.ds_machine.specs.declared.refusal.Refusal.TheVariants as refusals
 use Rattle.ds_machine.proofs.NewsLemmas.{news_change, news_floor}
-use Rattle.ds_machine.proofs.CauseLemmas.{IsCoveredIn, IsPassed, change_free, floor_is_free, item_covered}
+use Rattle.ds_machine.proofs.CauseLemmas.{IsCoveredIn, change_free, floor_is_free, item_covered}
 use Rattle.ds_machine.proofs.ReachedLemmas.{held_is_top, reached_more, reached_all, with_accepted}
 
 -- ---- what grows

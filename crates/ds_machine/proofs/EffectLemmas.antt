@@ -1,8 +1,7 @@
 -- What one step does to its state, and what a run of them does.
-use Rattle.std.proofs.Common.{◌≡◌, ℕ, zero, suc, ◌+◌, ◌<◌, ◌≤◌, Bool, true, false, ◌==◌, nat_le, List, [], ◌∷◌, ◌++◌, length, take, filter, fold, Option, Some, None, refl, ap, sym, ◌∙◌, subst, inl, inr, ◌⊎◌, arith, Contains, eq-eqb, append_assoc}
+use Rattle.std.proofs.Common.{◌≡◌, ℕ, zero, suc, ◌+◌, ◌<◌, Bool, true, false, nat_le, List, [], ◌∷◌, ◌++◌, length, take, Option, Some, None, refl, sym, subst, inl, inr, ◌⊎◌, arith, Contains, eq-eqb}
 use Rattle.std.proofs.lemmas.Bool.{leb-false}
-use Rattle.std.proofs.lemmas.List.{append-nil}
-use Rattle.std.proofs.lemmas.List.Elements.{Contains-push, Contains-append_left, Contains-append_right, Contains-append_cases}
+use Rattle.std.proofs.lemmas.List.Elements.{Contains-push, Contains-append_cases}
 use Rattle.std.specs.Option.{option_map_or}
 use Rattle.ds_names.specs.Endpoint.{EndpointRecord}
 use Rattle.ds_entry.specs.declared.body.Body.{Body}
@@ -10,7 +9,6 @@ use Rattle.ds_entry.specs.declared.body.Body.TheVariants.{Put, Gone}
 use Rattle.ds_entry.specs.declared.floor.Floor.{Floor}
 use Rattle.ds_entry.specs.declared.item.Item.{Item}
 use Rattle.ds_entry.specs.declared.item.Item.TheVariants.{Change as Changed, Floor as Floored}
-use Rattle.ds_entry.specs.ItemCovers.{covers}
 use Rattle.ds_entry.specs.Floor.{floor_of}
 use Rattle.ds_entry.proofs.Members.{Contains-nil, Contains-head, Contains-from_filter, Contains-from_take}
 use Rattle.ds_join.specs.ItemTop.{IsPartOf, CoversAll}
@@ -21,12 +19,12 @@ use Rattle.ds_machine.specs.State.{State, held, accepts, owed, unseen, subscribe
 use Rattle.ds_machine.specs.Order.{first_refusal, by_command, by_room}
 use Rattle.ds_machine.specs.Standing.{standing_of, floor_standing_of}
 use Rattle.ds_machine.specs.Asking.{Request, published, deleted, name_of, asked_in, cause_against, sweep_cause}
-use Rattle.ds_machine.specs.Calling.{SubscribeCase, CheckCase, against_subscribe, against_check, against_merge}
-use Rattle.ds_machine.specs.Merging.{Course, begun, course, item_merged, merging, merge_reply}
+use Rattle.ds_machine.specs.Calling.{SubscribeCase, against_subscribe, against_check, against_merge}
+use Rattle.ds_machine.specs.Merging.{Course, begun, course, merging}
 use Rattle.ds_machine.specs.Watching.{subscribing, subscribe_case, owed_at_first, shown_at_first, shows, check_case, checking, checking_at}
-use Rattle.ds_machine.specs.Machine.{Step, Run, MergeWantsRoom, IsOutcome, outcome, asking, answer_for, sweeping, sweep_answer, dropped}
+use Rattle.ds_machine.specs.Machine.{Step, MergeWantsRoom, IsOutcome, outcome, asking, answer_for, sweeping, sweep_answer, dropped}
 use Rattle.ds_machine.specs.Reached.{IsReached}
-use Rattle.ds_machine.specs.Effect.{IsNews, AreNews, Grows, Serves, Effect, known_after, learnt_by, brought_by, StepHasEffect}
+use Rattle.ds_machine.specs.Effect.{IsNews, Grows, Serves, Effect, known_after, learnt_by, brought_by, StepHasEffect}
 use Rattle.ds_machine.specs.declared.refusal.Cause.{Cause}
 use Rattle.ds_machine.specs.declared.refusal.Cause.TheVariants as causes
 use Rattle.ds_machine.specs.declared.refusal.Refusal.{Refusal}
@@ -39,7 +37,7 @@ use Rattle.ds_machine.proofs.PartLemmas.{missing, take_whole}
 use Rattle.ds_machine.proofs.NewsLemmas.{news_change, news_floor}
 use Rattle.ds_machine.proofs.CauseLemmas.{IsCoveredIn, asked_free, asked_covered, sweep_is_free, sweep_covered}
 use Rattle.ds_machine.proofs.ReachedLemmas.{held_is_top}
-use Rattle.ds_machine.proofs.CourseLemmas.{Went, went, grows_none, grows_one, grows_wider, reached_grown, grown_part, covered_accepted, covers_first, covers_nothing}
+use Rattle.ds_machine.proofs.CourseLemmas.{Went, went, grows_none, grows_one, reached_grown, covered_accepted, covers_first, covers_nothing}
 
 -- some of what was learnt took effect, and all of it is held, or what covers it
 pub record Learns (s : State) (learnt : List Item) (t : State) : Type 0 where

@@ -1,19 +1,18 @@
 -- Which replies each command can get.
-use Rattle.std.proofs.Common.{◌≡◌, ℕ, List, [], ◌∷◌, length, take, Option, Some, None, refl, sym, subst, inl, inr, ◌⊎◌}
+use Rattle.std.proofs.Common.{ℕ, List, [], ◌∷◌, length, take, Option, Some, None, sym, subst, inl, inr}
 use Rattle.std.specs.Option.{option_map, option_map_or}
 use Rattle.ds_entry.specs.declared.body.Value.{Value}
 use Rattle.ds_entry.specs.declared.item.Item.{Item}
 use Rattle.ds_machine.specs.Subscription.{Subscription}
 use Rattle.ds_machine.specs.State.{State, held, owed, unseen, subscription_at}
 use Rattle.ds_machine.specs.Order.{first_refusal}
-use Rattle.ds_machine.specs.Asking.{Request, published, deleted, asked_in, name_of, cause_against, sweep_cause}
-use Rattle.ds_entry.specs.declared.body.Body.{Body}
+use Rattle.ds_machine.specs.Asking.{published, deleted, name_of, cause_against, sweep_cause}
 use Rattle.ds_entry.specs.declared.body.Body.TheVariants.{Put, Gone}
 use Rattle.ds_entry.specs.Floor.{floor_of}
 use Rattle.ds_machine.specs.Calling.{against_check, against_merge, against_subscribe, against_scope, against_since, against_page}
-use Rattle.ds_machine.specs.Merging.{Course, course, merging, merge_reply}
+use Rattle.ds_machine.specs.Merging.{course, merging}
 use Rattle.ds_machine.specs.Watching.{shows, check_case, checking_at, subscribe_case}
-use Rattle.ds_machine.specs.Machine.{Step, MergeWantsRoom, outcome, answer_for, sweep_answer, found_or, live_at}
+use Rattle.ds_machine.specs.Machine.{MergeWantsRoom, outcome, answer_for, sweep_answer, found_or, live_at}
 use Rattle.ds_machine.specs.Says.{IsReplyTo, RepliesFit, IsAskedReply, IsSweepReply, IsRetrieveReply, IsNameReply, IsCheckReply, IsMergeReply}
 use Rattle.ds_machine.specs.declared.refusal.Cause.{Cause}
 use Rattle.ds_machine.specs.declared.refusal.Cause.TheVariants as causes

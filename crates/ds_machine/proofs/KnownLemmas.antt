@@ -1,5 +1,5 @@
 -- What stays: the feed only grows, what is held is the top of what is known, and floors stand.
-use Rattle.std.proofs.Common.{◌≡◌, ℕ, ◌+◌, ◌≤◌, Bool, true, false, List, [], ◌∷◌, ◌++◌, refl, ap, sym, ◌∙◌, subst, inl, inr, ◌⊎◌, arith, Contains, append_assoc}
+use Rattle.std.proofs.Common.{◌≡◌, ◌+◌, ◌≤◌, true, List, [], ◌∷◌, ◌++◌, refl, ap, sym, ◌∙◌, subst, inl, inr, ◌⊎◌, arith, Contains, append_assoc}
 use Rattle.std.proofs.lemmas.List.{append-nil}
 use Rattle.std.proofs.lemmas.List.Elements.{Contains-append_left, Contains-append_right, Contains-append_cases}
 use Rattle.ds_entry.specs.ItemCovers.{covers}
@@ -8,16 +8,15 @@ use Rattle.ds_entry.specs.declared.item.Item.TheVariants.{Floor as Floored}
 use Rattle.ds_entry.proofs.ItemLemmas.{covers-trans}
 use Rattle.ds_join.specs.ItemTop.{IsTop, IsPartOf, CoversAll}
 use Rattle.ds_join.proofs.ItemTopLemmas.{held_apart, greatest_floor, void_isnt_held}
-use Rattle.ds_machine.specs.State.{State, held, accepts, subscribes}
-use Rattle.ds_machine.specs.Machine.{Step, Run}
+use Rattle.ds_machine.specs.State.{State, held}
 use Rattle.ds_machine.specs.Reached.{IsReached}
-use Rattle.ds_machine.specs.Effect.{AreNews, Grows, Serves, Effect, GoesOn, learnt_by, StepsStayReached, RunsStayReached, GoesOnSame, GoesOnLater, StepsGoOn, RunsGoOn, LearntIsHeld, KnownStaysHeld}
+use Rattle.ds_machine.specs.Effect.{AreNews, Effect, GoesOn, learnt_by, StepsStayReached, RunsStayReached, GoesOnSame, GoesOnLater, StepsGoOn, RunsGoOn, LearntIsHeld, KnownStaysHeld}
 use Rattle.ds_machine.specs.FloorLaws.{AcceptedFloorStands, FloorStandsOverRuns}
 use Rattle.ds_machine.specs.declared.command.Command.{Command}
 use Rattle.ds_machine.specs.declared.reply.Reply.{Reply}
 use Rattle.ds_machine.proofs.ReachedLemmas.{held_is_top, reached_served}
 use Rattle.ds_machine.proofs.CourseLemmas.{reached_grown}
-use Rattle.ds_machine.proofs.EffectLemmas.{Does, does}
+use Rattle.ds_machine.proofs.EffectLemmas.{does}
 
 -- ---- each state is reached
 reached_after : (s t : State) (command : Command) (reply : Reply) → IsReached s → Effect s command reply t → IsReached t

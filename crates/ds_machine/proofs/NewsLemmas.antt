@@ -1,6 +1,5 @@
 -- What takes effect is news: nothing that was accepted covers it, and it fits the owners.
 use Rattle.std.proofs.Common.{◌≡◌, ℕ, ◌<◌, ◌≤◌, Bool, true, false, List, Option, Some, None, refl, sym, ap, ◌∙◌, subst, arith, Contains}
-use Rattle.std.specs.List.{list_any}
 use Rattle.std.specs.declared.cmp.Ordering.TheVariants.{Less, Greater}
 use Rattle.std.specs.Ordering.{is_le, ordering_reverse}
 use Rattle.ds_names.specs.declared.version.Version.{Version}
@@ -13,7 +12,7 @@ use Rattle.ds_entry.specs.Void.{voids, voids_it, is_void}
 use Rattle.ds_entry.specs.declared.floor.Floor.{Floor}
 use Rattle.ds_entry.specs.declared.item.Item.{Item}
 use Rattle.ds_entry.specs.declared.item.Item.TheVariants.{Change as Changed, Floor as Floored}
-use Rattle.ds_entry.proofs.Members.{none_pass, list_any-from_Contains}
+use Rattle.ds_entry.proofs.Members.{none_pass}
 use Rattle.ds_entry.proofs.CoversLemmas.{covers-key, covers-owner, covers-version}
 use Rattle.ds_entry.proofs.ItemLemmas.{covers-trans, below}
 use Rattle.ds_join.specs.ItemTop.{IsTop, tops, HasOneOwnerInTurn}

@@ -1,5 +1,5 @@
 -- What leaves a subscription as it is, and what a Subscribe and a Check leave of it.
-use Rattle.std.proofs.Common.{◌≡◌, ℕ, ◌+◌, ◌<◌, ◌≤◌, ◌==◌, Bool, true, false, ◌||◌, List, [], ◌∷◌, ◌++◌, length, take, Option, Some, None, refl, ap, sym, ◌∙◌, subst, inl, inr, ◌⊎◌, arith, get_or-set_same, get_or-set_other}
+use Rattle.std.proofs.Common.{◌≡◌, ℕ, ◌+◌, ◌<◌, ◌≤◌, Bool, true, false, ◌||◌, List, [], ◌∷◌, ◌++◌, length, take, Option, Some, None, refl, ap, sym, ◌∙◌, subst, inl, inr, ◌⊎◌, arith, get_or-set_same, get_or-set_other}
 use Rattle.std.specs.List.{list_any}
 use Rattle.std.specs.Option.{option_map_or}
 use Rattle.std.proofs.lemmas.List.{append-nil}
@@ -10,16 +10,14 @@ use Rattle.ds_machine.specs.Subscription.{Subscription}
 use Rattle.ds_machine.specs.State.{State, held, unseen, subscribes, subscription_at}
 use Rattle.ds_machine.specs.Order.{first_refusal, by_command, by_room}
 use Rattle.ds_machine.specs.Calling.{SubscribeCase, against_subscribe, against_check}
-use Rattle.ds_machine.specs.Watching.{subscribing, subscribe_case, owed_at_first, shown_at_first, shows, check_case, checking_at}
-use Rattle.ds_machine.specs.Machine.{Step, Run}
+use Rattle.ds_machine.specs.Watching.{subscribe_case, owed_at_first, shown_at_first, shows, check_case, checking_at}
 use Rattle.ds_machine.specs.Reached.{IsReached}
-use Rattle.ds_machine.specs.Effect.{Effect, uses, GoesOn}
+use Rattle.ds_machine.specs.Effect.{Effect, uses}
 use Rattle.ds_machine.specs.SubscriptionLaws.{StepKeepsSubscription, RunKeepsSubscription, HasNewStamp, StepStampsSubscription, RunStampsSubscription, StampTells, IsPlaced, SubscribedLeaves, IsCheckedOn, CheckedLeaves}
 use Rattle.ds_machine.specs.declared.refusal.Refusal.{Refusal}
 use Rattle.ds_machine.specs.declared.refusal.Refusal.TheVariants as refusals
-use Rattle.ds_machine.specs.declared.command.Command.{Command}
 use Rattle.ds_machine.specs.declared.reply.Reply.{Reply}
-use Rattle.ds_machine.specs.declared.reply.Reply.TheVariants.{Subscribed, Checked, MergeStopped, Refused}
+use Rattle.ds_machine.specs.declared.reply.Reply.TheVariants.{Subscribed, Checked, Refused}
 use Rattle.ds_machine.proofs.PartLemmas.{missing}
 use Rattle.ds_machine.proofs.ReachedLemmas.{at_place}
 use Rattle.ds_machine.proofs.EffectLemmas.{step_has_effect, below_place}

@@ -1,16 +1,16 @@
 -- What every reached state has, after more was accepted and after a subscription was written.
-use Rattle.std.proofs.Common.{◌≡◌, ◌≢◌, ℕ, zero, suc, ◌+◌, ◌<◌, ◌≤◌, ◌==◌, nat_le, Bool, true, false, List, [], ◌∷◌, ◌++◌, length, set, get_or, replicate, Option, Some, None, refl, ap, sym, ◌∙◌, subst, inl, inr, ◌⊎◌, arith, Contains, append_assoc, length-set, get_or-set_same, get_or-set_other, eqb-true}
-use Rattle.std.proofs.lemmas.Bool.{eqb-false, leb-true, leb-false}
+use Rattle.std.proofs.Common.{◌≡◌, ℕ, ◌+◌, ◌<◌, ◌==◌, Bool, true, false, List, [], ◌∷◌, ◌++◌, length, set, get_or, Some, None, refl, ap, sym, ◌∙◌, subst, inl, inr, ◌⊎◌, arith, Contains, append_assoc, length-set, get_or-set_same, get_or-set_other, eqb-true}
+use Rattle.std.proofs.lemmas.Bool.{eqb-false}
 use Rattle.std.proofs.lemmas.List.{append-nil}
 use Rattle.std.proofs.lemmas.List.Elements.{Contains-push_cases, Contains-append_left}
 use Rattle.std.proofs.lemmas.Option.{same_Some}
 use Rattle.ds_entry.specs.ItemCovers.{covers}
 use Rattle.ds_entry.specs.declared.item.Item.{Item}
-use Rattle.ds_join.specs.ItemTop.{IsTop, IsPartOf, FitsOwners, HasOneOwnerInTurn}
+use Rattle.ds_join.specs.ItemTop.{IsPartOf, FitsOwners, HasOneOwnerInTurn}
 use Rattle.ds_join.proofs.ItemExistLemmas.{tops_is_top}
 use Rattle.ds_pattern.specs.declared.query.Query.{Query}
 use Rattle.ds_machine.specs.Subscription.{Subscription}
-use Rattle.ds_machine.specs.State.{State, held, accepts, subscribes, subscription_at}
+use Rattle.ds_machine.specs.State.{State, accepts, subscribes, subscription_at}
 use Rattle.ds_machine.specs.Reached.{IsReached, IsServed, AreExact}
 use Rattle.ds_machine.specs.Effect.{IsNews, AreNews, HeldIsTop}
 

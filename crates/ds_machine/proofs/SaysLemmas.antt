@@ -1,8 +1,6 @@
 -- What answers say, and which answers there are.
-use Rattle.std.proofs.Common.{◌≡◌, ℕ, ◌+◌, ◌<◌, ◌≤◌, ◌^◌, ◌==◌, zero, suc, Bool, true, false, cond, get_or, List, [], ◌∷◌, ◌++◌, length, take, map, Option, Some, None, refl, ap, sym, ◌∙◌, subst, inl, inr, ◌⊎◌, arith}
+use Rattle.std.proofs.Common.{◌≡◌, ℕ, ◌+◌, ◌<◌, ◌^◌, ◌==◌, zero, suc, Bool, true, false, cond, get_or, List, [], ◌∷◌, length, take, map, Option, Some, None, refl, ap, sym, ◌∙◌, subst, inl, inr, arith}
 use Rattle.std.specs.Option.{option_map, option_map_or}
-use Rattle.ds_names.specs.declared.key.Key.{Key}
-use Rattle.ds_names.specs.Endpoint.{EndpointRecord}
 use Rattle.ds_entry.specs.declared.body.Value.{Value}
 use Rattle.ds_entry.specs.declared.body.Body.{Body}
 use Rattle.ds_entry.specs.declared.body.Body.TheVariants.{Put, Gone}
@@ -13,7 +11,6 @@ use Rattle.ds_entry.specs.Floor.{floor_of}
 use Rattle.ds_feed.specs.Since.{since_of}
 use Rattle.ds_feed.specs.Page.{snapshot_of, page_of}
 use Rattle.ds_machine.specs.Scope.{is_kept}
-use Rattle.ds_join.specs.ItemTop.{CoversAll}
 use Rattle.ds_watch.specs.Mask.{mask}
 use Rattle.ds_watch.specs.MaskBits.{mask_small, mask_bit}
 use Rattle.ds_machine.specs.Subscription.{Subscription, is_owed}
@@ -21,12 +18,12 @@ use Rattle.ds_machine.specs.State.{State, held, cursor, accepts, subscribes, owe
 use Rattle.ds_machine.specs.Order.{first_refusal}
 use Rattle.ds_machine.specs.Asking.{Request, published, deleted, asked_in, name_of, cause_against, sweep_cause}
 use Rattle.ds_machine.specs.Calling.{against_subscribe, against_check, against_since, against_scope, against_page, against_merge}
-use Rattle.ds_machine.specs.Merging.{Course, course, begun, merging, merge_reply}
-use Rattle.ds_machine.specs.Watching.{shows, subscribe_case, owed_at_first, shown_at_first, check_case, checking, checking_at}
+use Rattle.ds_machine.specs.Merging.{Course, course, begun, merging}
+use Rattle.ds_machine.specs.Watching.{shows, subscribe_case, owed_at_first, shown_at_first, check_case, checking_at}
 use Rattle.ds_machine.specs.Machine.{Step, IsOutcome, MergeWantsRoom, outcome, asking, answer_for, sweep_answer, dropped, found_or, live_at}
 use Rattle.ds_machine.specs.Reached.{IsReached}
 use Rattle.ds_machine.specs.Effect.{brought_by}
-use Rattle.ds_machine.specs.Says.{RefusedSays, IsTaken, ChangedSays, FoundSays, NamedSays, IsMerged, MergedSays, IsStopped, MergeStoppedSays, OwedFits, OwedTells, IsReplyTo, RepliesFit}
+use Rattle.ds_machine.specs.Says.{RefusedSays, IsTaken, ChangedSays, FoundSays, NamedSays, IsMerged, MergedSays, MergeStoppedSays, OwedFits, OwedTells, IsReplyTo}
 use Rattle.ds_machine.specs.declared.refusal.Cause.{Cause}
 use Rattle.ds_machine.specs.declared.refusal.Cause.TheVariants as causes
 use Rattle.ds_machine.specs.declared.refusal.Refusal.{Refusal}
@@ -34,7 +31,7 @@ use Rattle.ds_machine.specs.declared.refusal.Refusal.TheVariants as refusals
 use Rattle.ds_machine.specs.declared.command.Command.{Command}
 use Rattle.ds_machine.specs.declared.command.Command.TheVariants.{Publish, Delete, Sweep, Retrieve, NameOf, Subscribe, Check, Since, Snapshot, Page, Merge}
 use Rattle.ds_machine.specs.declared.reply.Reply.{Reply}
-use Rattle.ds_machine.specs.declared.reply.Reply.TheVariants.{Changed as Accepted, Known, Swept, Found, Named, Subscribed, Checked, Journaled, Snapped, Paged, Merged, MergeStopped, Refused}
+use Rattle.ds_machine.specs.declared.reply.Reply.TheVariants.{Changed as Accepted, Swept, Found, Named, Subscribed, Journaled, Snapped, Paged, Merged, MergeStopped, Refused}
 use Rattle.ds_machine.proofs.CourseLemmas.{Went}
 use Rattle.ds_machine.proofs.EffectLemmas.{begun_went}
 use Rattle.ds_machine.proofs.KnownLemmas.{learnt_is_held}

@@ -1,10 +1,9 @@
 -- Every state stays within the limits.
-use Rattle.std.proofs.Common.{◌≡◌, ℕ, zero, suc, ◌+◌, ◌<◌, ◌≤◌, Bool, true, false, cond, not, ◌&&◌, nat_le, is_none, List, [], ◌∷◌, ◌++◌, length, take, fold, filter, Option, Some, None, refl, ap, sym, ◌∙◌, subst, inl, inr, ◌⊎◌, arith, Contains, length-append}
+use Rattle.std.proofs.Common.{◌≡◌, ℕ, ◌+◌, ◌<◌, ◌≤◌, Bool, true, false, not, ◌&&◌, nat_le, is_none, List, [], ◌∷◌, ◌++◌, length, take, fold, filter, Option, Some, None, refl, ap, sym, subst, inl, inr, arith, Contains, length-append}
 use Rattle.std.proofs.lemmas.Bool.{leb-false}
 use Rattle.std.specs.Ordering.{is_le}
 use Rattle.std.specs.Option.{option_map_or}
 use Rattle.ds_names.specs.Endpoint.{EndpointRecord}
-use Rattle.ds_names.specs.Version.{version_cmp}
 use Rattle.ds_entry.specs.declared.body.Body.{Body}
 use Rattle.ds_entry.specs.declared.body.Body.TheVariants.{Put, Gone}
 use Rattle.ds_entry.specs.declared.floor.Floor.{Floor}
@@ -26,9 +25,9 @@ use Rattle.ds_machine.specs.Order.{first_refusal, by_command, by_room}
 use Rattle.ds_machine.specs.Standing.{standing_of, floor_standing_of, HasRoom, cause_of}
 use Rattle.ds_machine.specs.Asking.{Request, published, deleted, name_of, asked_in, cause_against, sweep_cause}
 use Rattle.ds_machine.specs.Calling.{SubscribeCase, against_subscribe, against_check, against_merge}
-use Rattle.ds_machine.specs.Merging.{Course, begun, course, item_merged, item_judged, merging}
+use Rattle.ds_machine.specs.Merging.{Course, begun, item_merged, item_judged, merging}
 use Rattle.ds_machine.specs.Watching.{subscribing, subscribe_case, owed_at_first, shown_at_first, shows, has_unseen, check_case, checking, checking_at}
-use Rattle.ds_machine.specs.Machine.{Step, Run, MergeWantsRoom, outcome, asking, answer_for, sweeping, sweep_answer, dropped}
+use Rattle.ds_machine.specs.Machine.{MergeWantsRoom, outcome, asking, answer_for, sweeping, sweep_answer, dropped}
 use Rattle.ds_machine.specs.Within.{IsWithin, OpeningIsWithin, StepsStayWithin, RunsStayWithin}
 use Rattle.ds_machine.specs.declared.refusal.Cause.{Cause}
 use Rattle.ds_machine.specs.declared.refusal.Cause.TheVariants as causes

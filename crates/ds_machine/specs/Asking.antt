@@ -22,7 +22,7 @@ use Rattle.ds_machine.specs.State.{State, held}
 use Rattle.ds_machine.specs.Order.{first_cause}
 use Rattle.ds_machine.specs.Standing.{Standing, standing_of, on_held, against_change, FloorStanding, floor_standing_of, against_floor, is_same_name}
 use Rattle.ds_machine.specs.declared.refusal.Cause.{Cause}
-use Rattle.ds_machine.specs.declared.refusal.Cause.TheVariants.{Known, Refused}
+use Rattle.ds_machine.specs.declared.refusal.Cause.TheVariants.{Refused}
 use Rattle.ds_machine.specs.declared.refusal.Refusal.TheVariants.{BadKind, BadLabel, BadVersion, NoCaller, NotAllowed, Exists, NotFound}
 
 -- ---- a Publish or a Delete

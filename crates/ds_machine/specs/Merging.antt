@@ -1,5 +1,5 @@
 -- How a Merge goes through its items.
-use Rattle.std.specs.Prelude.{◌≡◌, ℕ, ◌+◌, List, [], ◌∷◌, ◌++◌, length, fold, Option, Some, None}
+use Rattle.std.specs.Prelude.{ℕ, ◌+◌, List, [], ◌∷◌, ◌++◌, length, fold, Option, Some, None}
 use Rattle.std.specs.Option.{option_map_or}
 use Rattle.ds_entry.specs.declared.item.Item.{Item}
 use Rattle.ds_machine.specs.State.{State, accepts, owed}

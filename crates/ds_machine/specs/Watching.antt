@@ -1,5 +1,5 @@
 -- What a Subscribe and a Check do.
-use Rattle.std.specs.Prelude.{ℕ, ◌+◌, ◌^◌, Bool, false, ◌&&◌, cond, is_some, List, [], ◌∷◌, ◌++◌, length, take, Option, Some, None}
+use Rattle.std.specs.Prelude.{ℕ, ◌+◌, ◌^◌, Bool, false, ◌&&◌, cond, is_some, List, [], ◌∷◌, ◌++◌, take, Option}
 use Rattle.std.specs.List.{list_any}
 use Rattle.std.specs.Option.{option_map_or}
 use Rattle.ds_entry.specs.declared.item.Item.{Item}
@@ -9,7 +9,6 @@ use Rattle.ds_machine.specs.Subscription.{Subscription, is_unseen}
 use Rattle.ds_machine.specs.State.{State, held, unseen, subscription_at, subscribes}
 use Rattle.ds_machine.specs.Order.{first_refusal}
 use Rattle.ds_machine.specs.Calling.{SubscribeCase, CheckCase, against_subscribe, against_check}
-use Rattle.ds_machine.specs.declared.refusal.Refusal.{Refusal}
 use Rattle.ds_machine.specs.declared.refusal.Refusal.TheVariants as refusals
 use Rattle.ds_machine.specs.declared.reply.Reply.{Reply}
 use Rattle.ds_machine.specs.declared.reply.Reply.TheVariants.{Subscribed, Checked, Refused}
