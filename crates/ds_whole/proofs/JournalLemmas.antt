@@ -104,7 +104,7 @@ given_splits f test at max since g i q h =
         omega arith
 
 -- what is given took effect
-given_accepted : (f : Feed) (test : Item → Bool) (at : Cursor) (max : ℕ) (since : Since) → IsGiven f test at max since → IsPartOf since.items f.accepted
+pub given_accepted : (f : Feed) (test : Item → Bool) (at : Cursor) (max : ℕ) (since : Since) → IsGiven f test at max since → IsPartOf since.items f.accepted
 given_accepted f test at max since g i h =
     let k = Contains-from_filter test (piece f test at max) i (subst (λ (l : List Item). Contains l i) (ap (λ (s : Since). s.items) g.given) h) in
     let there : Contains (take (length (piece f test at max)) (from f at.position)) i = subst (λ (l : List Item). Contains l i) (piece_is f test at max) k.0 in

@@ -11,3 +11,5 @@ pub mod WholePremiseLemmas
 pub mod PagePremiseLemmas
 pub mod HolderPremiseLemmas
 pub mod TakingLemmas
+pub mod TurnLemmas
+pub mod OpenPageLemmas

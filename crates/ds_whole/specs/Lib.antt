@@ -18,3 +18,6 @@ pub mod PagePremises
 pub mod HolderPremises
 pub mod CheckPremises
 pub mod Taking
+pub mod Gathered
+pub mod OpenPages
+pub mod TurnLaws

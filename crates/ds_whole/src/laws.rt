@@ -9,6 +9,7 @@ ghost use Rattle.ds_whole.specs.Agreement.{HoldersAgree, TopUnderQuery, JoinOfHo
 ghost use Rattle.ds_whole.specs.Labels.{NothingOlderIsHeld, NoOlderLabelIsHeld, LabelsAreNewest};
 ghost use Rattle.ds_whole.specs.Accepting.{OneByOneIsNew};
 ghost use Rattle.ds_whole.specs.CheckLaws.{ChecksAreWhole, ChecksGoOn};
+ghost use Rattle.ds_whole.specs.TurnLaws.{ChecksGrow, SincesGrow, PagesGrow, CheckedIsWhole, PagedIsWhole};
 
 /// The laws of wholeness: a snapshot is whole up to its cursor, and with what the journal gives from there, up to the
 /// journal's cursor; more items, an earlier position, a narrower query and what takes effect later leave it so.
@@ -77,4 +78,15 @@ pub fn check_laws()
     ensures checks { ChecksAreWhole }
     ensures later { ChecksGoOn }
     ensures accepted { OneByOneIsNew }
+{}
+
+/// The laws of turns, for a reader that goes on check by check, or page by page: its turns stay turns of the store as it is
+/// later, and take one more at the end; what they gave was accepted, and may be given by who knows more. So what all of them
+/// gave is whole where the laws of checks and of pages say so.
+pub fn turn_laws()
+    ensures checks { ChecksGrow }
+    ensures sinces { SincesGrow }
+    ensures pages { PagesGrow }
+    ensures checked { CheckedIsWhole }
+    ensures paged { PagedIsWhole }
 {}

@@ -9,6 +9,7 @@ mod laws;
 mod premises;
 
 pub use laws::{
-    agreement_laws, catch_up_laws, check_laws, label_laws, page_laws, taking_laws, whole_laws,
+    agreement_laws, catch_up_laws, check_laws, label_laws, page_laws, taking_laws, turn_laws,
+    whole_laws,
 };
 pub use premises::{holder_premises, page_premises, whole_premises};
