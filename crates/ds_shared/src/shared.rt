@@ -14,8 +14,8 @@ pub struct SharedStore {
 impl Machine for SharedStore {
     ghost use Rattle.ds_content.specs.Stands.{Stands};
     ghost use Rattle.ds_machine.specs.Machine.{Step};
+    ghost use Rattle.ds_machine.specs.Owed.{owed_by};
     ghost use Rattle.ds_machine.specs.State.{State};
-    ghost use Rattle.ds_shared.specs.Owing.{owed_by};
 
     type Command = Command;
 
@@ -34,13 +34,6 @@ impl Machine for SharedStore {
     }
 
     fn owed(reply: &Reply) -> u128 {
-        match reply {
-            Reply::Changed { owed }
-            | Reply::Swept { owed, .. }
-            | Reply::Subscribed { owed, .. }
-            | Reply::Merged { owed, .. }
-            | Reply::MergeStopped { owed, .. } => *owed,
-            _ => 0,
-        }
+        reply.owed()
     }
 }
