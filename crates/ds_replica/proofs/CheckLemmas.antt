@@ -21,6 +21,7 @@ use Rattle.ds_machine.specs.Effect.{AreNews, GoesOn}
 use Rattle.ds_machine.specs.declared.command.Command.TheVariants.{Subscribe, Check}
 use Rattle.ds_machine.specs.declared.reply.Reply.{Reply}
 use Rattle.ds_machine.specs.declared.reply.Reply.TheVariants.{Subscribed}
+use Rattle.ds_replica.specs.Growth.{NewsAreNew}
 use Rattle.ds_replica.specs.declared.event.Side.{Side}
 use Rattle.ds_replica.specs.declared.event.Holder.{Holder}
 use Rattle.ds_replica.specs.declared.event.Holder.TheVariants.{Store}
@@ -188,7 +189,7 @@ stays_last h (x ∷ events) event out e q =
     let n = neither (empties h x) (list_any (empties h) events) e in
     ap (λ (b : Bool). b || list_any (empties h) (events ++ (event, out) ∷ [])) n.0 ∙ stays_last h events event out n.1 q
 
-news_new : (accepted items : List Item) → AreNews accepted items → AreNew accepted items
+pub news_new : NewsAreNew
 news_new accepted [] n = wholes.one_by_one_is_new.none accepted
 news_new accepted (i ∷ items) n = wholes.one_by_one_is_new.one_before accepted items i n.0.newer (news_new (accepted ++ i ∷ []) items n.1)
 

@@ -12,6 +12,7 @@ use Rattle.ds_machine.specs.declared.command.Command.TheVariants.{Merge}
 use Rattle.ds_machine.specs.declared.reply.Reply.{Reply}
 use Rattle.ds_machine.specs.declared.reply.Reply.TheVariants.{Merged, MergeStopped, Refused as Refusing}
 use Rattle.ds_machine.proofs.KnownLemmas.{runs_go_on}
+use Rattle.ds_replica.specs.Growth.{LaterIsFront}
 use Rattle.ds_replica.specs.declared.event.Side.{Side}
 use Rattle.ds_replica.specs.declared.event.Side.TheVariants.{A, B}
 use Rattle.ds_replica.specs.declared.event.Holder.{Holder}
@@ -139,7 +140,7 @@ goes_on account old new side events f h e =
     subst (λ (x : State). GoesOn x (store_of (extended_all account events) side).state) (sym here.state_is)
     (subst (GoesOn (store_at old side)) (sym there.state_is) (runs_go_on (store_at old side) (store_at new side) ran.0 ran.1 here.reached ran.2))
 
-pub front_of : (s t : State) → GoesOn s t → IsFront s.feed t.feed
+pub front_of : LaterIsFront
 front_of s t g = record { incarnation = g.incarnation; first = g.first; grown = (g.grown.0, g.grown.2) }
 
 pub whole_stays : WholeStays

@@ -10,3 +10,4 @@ pub mod Turns
 pub mod Messages
 pub mod Checks
 pub mod Rows
+pub mod Growth

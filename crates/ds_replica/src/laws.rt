@@ -3,6 +3,7 @@
 ghost use Rattle.ds_replica.specs.Bringing.{EventsBringItems};
 ghost use Rattle.ds_replica.specs.CaughtUp.{WholeIsAll, HoldsTheStores, HoldsAtLeast, LabelsAreNewest};
 ghost use Rattle.ds_replica.specs.Checks.{ChecksAreWhole};
+ghost use Rattle.ds_replica.specs.Growth.{NewsAreNew, LaterIsFront};
 ghost use Rattle.ds_replica.specs.Headline.{AccountFitsAtStart, EventsFit, EqualWhereKnown, EqualOverEvents, NothingClashes, NothingStops};
 ghost use Rattle.ds_replica.specs.Messages.{SnapshotIsWhole, SinceIsTurn, SinceExtends, PageIsTurn, CheckIsTurn};
 ghost use Rattle.ds_replica.specs.Rows.{ReplicasConverge, ReplicasDiffer, MapsCatchUp, MapsLag, MapsLead};
@@ -52,6 +53,13 @@ pub fn messages_are_whole()
     ensures page { PageIsTurn }
     ensures check { CheckIsTurn }
     ensures checks { ChecksAreWhole }
+{}
+
+/// What a store's machine lets take effect is new, as the laws of checks ask for, and where it went on, its feed is the earlier
+/// one later, as all laws of wholeness do.
+pub fn stores_grow()
+    ensures news { NewsAreNew }
+    ensures front { LaterIsFront }
 {}
 
 /// What a holder knows it keeps until it is emptied; where it knows a floor, it holds nothing that the floor makes void,

@@ -14,7 +14,7 @@ mod seed;
 pub use event::{Event, Holder, Side};
 pub use laws::{
     accounts_fit, floors_stand, holders_agree, items_are_brought, maps_catch_up,
-    messages_are_whole, rows_happen,
+    messages_are_whole, rows_happen, stores_grow,
 };
 pub use outcome::{EventFault, Outcome};
 pub use seed::Seed;
