@@ -21,21 +21,6 @@ taken_next xs i x e = take_more xs i x (slice_get_within xs i x e) ∙ ap (λ (y
 pub part_of_both : (xs ys all : List Item) → IsPartOf xs all → IsPartOf ys all → IsPartOf (xs ++ ys) all
 part_of_both xs ys all f g i h = elim (Contains-append_cases xs ys i h) [ inl k ↦ f i k | inr k ↦ g i k ]
 
-pub part_of_longer : (xs front rest all : List Item) → all ≡ front ++ rest → IsPartOf xs front → IsPartOf xs all
-part_of_longer xs front rest all e f i h = subst (λ (l : List Item). Contains l i) (sym e) (Contains-append_left front rest i (f i h))
-
-pub filter_part : (test : Item → Bool) (xs all : List Item) → IsPartOf xs all → IsPartOf (filter test xs) all
-filter_part test xs all f i h = f i (Contains-from_filter test xs i h).0
-
-pub take_part : (n : ℕ) (xs all : List Item) → IsPartOf xs all → IsPartOf (take n xs) all
-take_part n xs all f i h = f i (Contains-from_take n xs i h)
-
-pub drop_part : (n : ℕ) (xs all : List Item) → IsPartOf xs all → IsPartOf (drop n xs) all
-drop_part n xs all f i h = f i (Contains-from_drop n xs i h)
-
-pub given_both : (known xs ys : List Item) → given known (xs ++ ys) ≡ given known xs ++ given known ys
-given_both known xs ys = map-append (sent_by known) xs ys
-
 past_end : (xs : List Item) (i : ℕ) → slice_get xs i ≡ None → length xs ≤ i
 past_end [] i e = omega arith
 past_end (x ∷ xs) zero e = absurd (cc)
@@ -47,9 +32,6 @@ none_next xs i e =
     let l : length xs ≤ i = past_end xs i e in
     take_all (i + 1) xs (omega (arith, l)) ∙ sym (take_all i xs l)
 
-pub all_taken : (xs : List Item) (i : ℕ) → length xs ≤ i → take i xs ≡ xs
-all_taken xs i l = take_all i xs l
-
 -- ---- the key of the last change
 last_key_of : (xs : List Item) (k : Option Key) (x : Item) → last_key k (xs ++ x ∷ []) ≡ last_key (last_key k xs) (x ∷ [])
 last_key_of [] k x = refl
@@ -58,8 +40,3 @@ last_key_of (Floored f ∷ xs) k x = last_key_of xs k x
 
 pub key_next : (xs : List Item) (i : ℕ) (k : Option Key) (x : Item) → slice_get xs i ≡ Some x → last_key k (take (i + 1) xs) ≡ last_key (last_key k (take i xs)) (x ∷ [])
 key_next xs i k x e = ap (last_key k) (taken_next xs i x e) ∙ last_key_of (take i xs) k x
-
--- where a question fails
-pub on_err : {A E : Type 0} (r : Result A E) (P : Type 0) → P → OnErr r P
-on_err (Ok a) P p = tt
-on_err (Err e) P p = p

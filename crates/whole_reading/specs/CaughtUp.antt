@@ -2,17 +2,15 @@
 use Rattle.std.specs.Prelude.{◌≡◌, List, ◌++◌}
 use Rattle.ds_entry.specs.declared.item.Item.{Item}
 use Rattle.ds_feed.specs.declared.cursor.Cursor.{Cursor}
-use Rattle.ds_join.specs.ItemTop.{IsPartOf}
 use Rattle.ds_pattern.specs.declared.query.Query.{Query}
 use Rattle.ds_pattern.specs.Under.{is_under}
 use Rattle.ds_whole.specs.Journaled.{SinceTurn, AreSince, cursor_after}
+use Rattle.ds_whole.specs.Gathered.{journaled}
 use Rattle.ds_machine.specs.State.{State, position}
-use Rattle.whole_reading.specs.Gathered.{journaled}
 
 -- replies of the journal from the cursor on, each asked from the cursor that the one before gave, up to the store's cursor
 pub record IsCaughtUp (t : State) (query : Query) (from : Cursor) (items more : List Item) : Type 0 where
   pub turns : List SinceTurn
   pub are : AreSince t.feed (is_under query) from turns
   pub items_are : more ≡ items ++ journaled turns
-  pub among : IsPartOf (journaled turns) t.feed.accepted
   pub to_end : (cursor_after from turns).position ≡ position t

@@ -1,26 +1,29 @@
 -- The laws from which a reader tells that nothing is left out.
-use Rattle.ds_feed.specs.Laws.{PrefixIsShortest}
-use Rattle.ds_whole.specs.Accepting.{OneByOneIsNew}
-use Rattle.ds_whole.specs.CheckLaws.{ChecksAreWhole}
-use Rattle.ds_whole.specs.PageLaws.{PagesAreWhole}
 use Rattle.ds_whole.specs.WholeLaws.{FeedsGrow}
-use Rattle.ds_machine.specs.Effect.{StepsStayReached, StepHasEffect, StepsGoOn, RunsGoOn, HeldIsTop}
-use Rattle.ds_machine.specs.Says.{RefusedSays, SubscribedSays, CheckedSays, JournaledSays, PagedSays}
+use Rattle.ds_whole.specs.TurnLaws.{ChecksGrow, SincesGrow, PagesGrow, CheckedIsWhole, PagedIsWhole}
+use Rattle.ds_machine.specs.Effect.{StepsGoOn, RunsGoOn, GoesOnSame, GoesOnLater, HeldIsTop}
+use Rattle.ds_machine.specs.SubscriptionLaws.{RunKeepsSubscription, SubscribedLeaves, CheckedLeaves}
+use Rattle.ds_machine.specs.Says.{RefusedSays, JournaledSays, PagedSays}
+use Rattle.ds_replica.specs.Growth.{NewsAreNew, LaterIsFront}
 
--- what was accepted grows, what is held is its top, what the answers say, and what is whole
+-- how turns grow, and what is whole; how a store goes on, and what it holds; what its answers say
 pub record Laws : Type 0 where
   pub feeds : FeedsGrow
-  pub pages : PagesAreWhole
-  pub checks : ChecksAreWhole
-  pub accepted : OneByOneIsNew
+  pub checks : ChecksGrow
+  pub sinces : SincesGrow
+  pub pages : PagesGrow
+  pub checked_whole : CheckedIsWhole
+  pub paged_whole : PagedIsWhole
+  pub step : StepsGoOn
+  pub run : RunsGoOn
+  pub same : GoesOnSame
+  pub later : GoesOnLater
   pub held : HeldIsTop
-  pub steps : StepsStayReached
-  pub effect : StepHasEffect
-  pub goes_on : StepsGoOn
-  pub runs : RunsGoOn
+  pub news : NewsAreNew
+  pub front : LaterIsFront
+  pub kept : RunKeepsSubscription
+  pub subscribed : SubscribedLeaves
+  pub checked : CheckedLeaves
   pub refused : RefusedSays
-  pub subscribed : SubscribedSays
-  pub checked : CheckedSays
   pub journaled : JournaledSays
   pub paged : PagedSays
-  pub shortest : PrefixIsShortest

@@ -1,5 +1,5 @@
 pub mod Goes
-pub mod Gathered
 pub mod ReadWhole
 pub mod CaughtUp
+pub mod GivesUp
 pub mod Laws

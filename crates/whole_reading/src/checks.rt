@@ -1,9 +1,10 @@
 //! A store read by checks.
 
-ghost use Rattle.std.specs.Prelude.{◌≡◌, IfOk, OnErr};
+ghost use Rattle.std.specs.Prelude.{◌≡◌, IfOk, IfErr};
 ghost use Rattle.ds_machine.specs.Effect.{GoesOn};
 ghost use Rattle.ds_machine.specs.State.{State};
 ghost use Rattle.ds_content.specs.Stands.{Stands};
+ghost use Rattle.whole_reading.specs.GivesUp.{StopsChecks};
 ghost use Rattle.whole_reading.specs.ReadWhole.{IsReadWhole};
 
 use crate::asking::{check, subscribe};
@@ -20,7 +21,9 @@ use std::alloc::Global;
 /// fewer items than it asked for, while others go on. The items leave out nothing of what took effect under the query up to
 /// the store's cursor then.
 ///
-/// Where it gives up, the store has gone on, by its own questions and by what others asked.
+/// Where it gives up, the store has gone on, by its own questions and by what others asked. It is `Refused` just where the
+/// store refused the Subscribe or a Check, by this cause, and `Unfinished` just where as many Checks as may be each gave as
+/// many items as they asked for.
 pub fn read_by_checks<O: Others>(
     alloc: Global,
     store: &mut Store,
@@ -29,7 +32,7 @@ pub fn read_by_checks<O: Others>(
     reading: &Reading,
 ) -> Result<ItemList, ReadFault>
     ensures whole { IfOk result (λ items. (s : State) → Stands store.old s → (t : State) × GoesOn s t × Stands store.new t × IsReadWhole t reading.now.query items) }
-    ensures stopped { OnErr result ((s : State) → Stands store.old s → (t : State) × GoesOn s t × Stands store.new t) }
+    ensures stopped { IfErr result (λ fault. (s : State) → Stands store.old s → (t : State) × GoesOn s t × Stands store.new t × StopsChecks s t sub reading.now fault) }
 {
     laws();
     let query = reading.query.copy(alloc)?;

@@ -19,12 +19,22 @@ pub enum ReadFault {
 }
 
 impl From<Refusal> for ReadFault {
+    ghost use Rattle.std.specs.Prelude.{◌≡◌};
+    ghost use Rattle.whole_reading.specs.declared.fault.ReadFault.TheVariants as faults;
+
+    ghost from_gives = { λ refusal fault. fault ≡ faults.Refused refusal };
+
     fn from(refusal: Refusal) -> ReadFault {
         ReadFault::Refused(refusal)
     }
 }
 
 impl From<NoRoom> for ReadFault {
+    ghost use Rattle.std.specs.Prelude.{◌≡◌};
+    ghost use Rattle.whole_reading.specs.declared.fault.ReadFault.TheVariants as faults;
+
+    ghost from_gives = { λ _ fault. fault ≡ faults.NoRoom };
+
     fn from(_refused: NoRoom) -> ReadFault {
         ReadFault::NoRoom
     }

@@ -1,11 +1,12 @@
 //! A store read by pages.
 
-ghost use Rattle.std.specs.Prelude.{◌≡◌, IfOk, OnOk, OnErr};
+ghost use Rattle.std.specs.Prelude.{◌≡◌, IfOk, OnOk, IfErr};
 ghost use Rattle.ds_machine.specs.Effect.{GoesOn};
 ghost use Rattle.ds_machine.specs.State.{State};
 ghost use Rattle.ds_content.specs.Stands.{Stands};
-ghost use Rattle.whole_reading.specs.ReadWhole.{IsReadWhole};
 ghost use Rattle.whole_reading.specs.CaughtUp.{IsCaughtUp};
+ghost use Rattle.whole_reading.specs.GivesUp.{StopsPages, StopsSinces};
+ghost use Rattle.whole_reading.specs.ReadWhole.{IsReadWhole};
 
 use crate::asking::{page, since};
 use crate::fault::ReadFault;
@@ -28,7 +29,7 @@ fn catch_up<O: Others>(
     items: &mut ItemList,
 ) -> Result<(), ReadFault>
     ensures caught_up { OnOk result ((s : State) → Stands store.old s → (t : State) × GoesOn s t × Stands store.new t × IsCaughtUp t reading.now.query from items.old items.new) }
-    ensures stopped { OnErr result ((s : State) → Stands store.old s → (t : State) × GoesOn s t × Stands store.new t) }
+    ensures stopped { IfErr result (λ fault. (s : State) → Stands store.old s → (t : State) × GoesOn s t × Stands store.new t × StopsSinces t reading.now from fault) }
 {
     laws();
     let mut at = from;
@@ -48,7 +49,9 @@ fn catch_up<O: Others>(
 /// Reads a store by pages, while others go on, and then by the journal from the first page's cursor on. The items leave out
 /// nothing of what took effect under the query up to the store's cursor then.
 ///
-/// Where it gives up, the store has gone on by what others asked.
+/// Where it gives up, the store has gone on by what others asked. It is `Refused` just where the store refused the next page, or
+/// the next question to the journal, by this cause, and `Unfinished` just where as many questions of one kind as may be were
+/// asked: none of the pages was the last one, or none of the journal's replies came to the store's cursor.
 pub fn read_by_pages<O: Others>(
     alloc: Global,
     store: &mut Store,
@@ -56,7 +59,7 @@ pub fn read_by_pages<O: Others>(
     reading: &Reading,
 ) -> Result<ItemList, ReadFault>
     ensures whole { IfOk result (λ items. (s : State) → Stands store.old s → (t : State) × GoesOn s t × Stands store.new t × IsReadWhole t reading.now.query items) }
-    ensures stopped { OnErr result ((s : State) → Stands store.old s → (t : State) × GoesOn s t × Stands store.new t) }
+    ensures stopped { IfErr result (λ fault. (s : State) → Stands store.old s → (t : State) × GoesOn s t × Stands store.new t × StopsPages t reading.now fault) }
 {
     laws();
     let mut items = ItemList::new(alloc);

@@ -1,6 +1,7 @@
 use Rattle.std.proofs.Common.{subst}
 use Rattle.ds_machine.specs.declared.command.Command.TheVariants as commands
 use Rattle.ds_content.specs.Stands.{Stands}
+use Rattle.whole_reading.proofs.StateLemmas.{refused_there}
 use Rattle.whole_reading.proofs.asking.since.Goals as goal
 
 pub returns-in-Journaled-clause-given : goal.returns-in-Journaled-clause-given
@@ -11,5 +12,6 @@ returns-in-Journaled-clause-given c = λ s stands.
 
 pub returns-in-Refused-clause-refused : goal.returns-in-Refused-clause-refused
 returns-in-Refused-clause-refused c = λ s stands.
-    let step = c.in-Refused.ensures.step s stands in
-    subst (Stands c.apply.new.self) (c.laws.ensures.refused s step.0 (commands.Since c.args.scope c.args.cursor c.args.max) c.in-Refused.refusal step.1) step.2
+    let k = c.in-Refused in
+    let step = k.ensures.step s stands in
+    refused_there c.laws.ensures.refused s step.0 (commands.Since c.args.scope c.args.cursor c.args.max) k.refusal c.apply.new.self step.1 (k.ensures.last s stands) step.2

@@ -3,6 +3,6 @@ use Rattle.ds_content.specs.Stands.{Stands}
 use Rattle.whole_reading.proofs.CheckLemmas.{Checking}
 use Rattle.whole_reading.proofs.checks.read_by_checks.Given as goal
 
--- the checks so far gave these items
+-- the checks so far gave these items, each as many as it asked for
 abbrev pub invariant-loop-question : goal.invariant-loop-question
-invariant-loop-question g l = (s : State) → Stands l.fn.store s → Checking s l.sub l.reading.query l.items l.store
+invariant-loop-question g l = (s : State) → Stands l.fn.store s → Checking s l.sub l.reading.max l.reading.query l.items l._question l.store

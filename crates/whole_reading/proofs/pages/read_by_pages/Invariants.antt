@@ -5,4 +5,4 @@ use Rattle.whole_reading.proofs.pages.read_by_pages.Given as goal
 
 -- the pages so far gave these items, and none was the last
 abbrev pub invariant-loop-question : goal.invariant-loop-question
-invariant-loop-question g l = (s : State) → Stands l.fn.store s → Paging s l.reading.query l.items l.after l.from l.store
+invariant-loop-question g l = (s : State) → Stands l.fn.store s → Paging s l.reading l.items l.after l.from l._question l.store
