@@ -10,14 +10,13 @@ use Rattle.ds_whole.specs.Sent.{Sent, given}
 use Rattle.ds_whole.specs.Taking.{items_of}
 use Rattle.ds_whole.specs.Front.{IsFront}
 use Rattle.ds_whole.specs.Whole.{IsWhole}
-use Rattle.ds_whole.specs.Accepting.{AreNew}
 use Rattle.ds_whole.specs.Checked.{CheckTurn, IsCheckTurn, AreChecks, check_items}
 use Rattle.ds_whole.proofs.WholeLemmas.{front_same, front_later}
 use Rattle.ds_whole.proofs.CheckLemmas as wholes
 use Rattle.ds_machine.specs.Subscription.{Subscription}
 use Rattle.ds_machine.specs.State.{State, held, unseen}
 use Rattle.ds_machine.specs.Machine.{Step}
-use Rattle.ds_machine.specs.Effect.{AreNews, GoesOn}
+use Rattle.ds_machine.specs.Effect.{GoesOn}
 use Rattle.ds_machine.specs.declared.command.Command.TheVariants.{Subscribe, Check}
 use Rattle.ds_machine.specs.declared.reply.Reply.{Reply}
 use Rattle.ds_machine.specs.declared.reply.Reply.TheVariants.{Subscribed}

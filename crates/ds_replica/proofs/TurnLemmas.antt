@@ -2,7 +2,6 @@
 use Rattle.std.proofs.Common.{◌≡◌, ℕ, ◌||◌, Bool, true, false, List, [], ◌∷◌, ◌++◌, Option, Some, None, refl, ap, sym, ◌∙◌, subst}
 use Rattle.std.specs.List.{list_any}
 use Rattle.ds_entry.specs.declared.item.Item.{Item}
-use Rattle.ds_whole.specs.Front.{IsFront}
 use Rattle.ds_whole.proofs.WholeLemmas as wholes
 use Rattle.ds_machine.specs.State.{State}
 use Rattle.ds_machine.specs.Machine.{Step, Run}

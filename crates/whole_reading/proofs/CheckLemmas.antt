@@ -1,5 +1,5 @@
 -- The checks of a reader are whole.
-use Rattle.std.proofs.Common.{◌≡◌, ℕ, ◌+◌, ◌<◌, ◌≤◌, List, [], ◌∷◌, ◌++◌, length, take, Some, refl, ap, sym, ◌∙◌, subst}
+use Rattle.std.proofs.Common.{◌≡◌, ℕ, ◌+◌, ◌<◌, ◌≤◌, List, [], ◌∷◌, ◌++◌, length, Some, refl, ap, sym, ◌∙◌, subst}
 use Rattle.std.specs.List.{All}
 use Rattle.std.proofs.lemmas.List.{length_push}
 use Rattle.std.proofs.lemmas.List.Elements.{All-nil, All-push}
@@ -14,7 +14,7 @@ use Rattle.ds_whole.specs.Whole.{IsWhole}
 use Rattle.ds_whole.specs.Checked.{CheckTurn, IsCheckTurn, AreChecks}
 use Rattle.ds_whole.specs.Gathered.{checked}
 use Rattle.ds_machine.specs.Subscription.{Subscription}
-use Rattle.ds_machine.specs.State.{State, held, unseen, subscription_at}
+use Rattle.ds_machine.specs.State.{State, held, subscription_at}
 use Rattle.ds_machine.specs.Effect.{GoesOn}
 use Rattle.ds_machine.specs.SubscriptionLaws.{IsPlaced, IsCheckedOn}
 use Rattle.ds_content.specs.Content.{ContentRecord}

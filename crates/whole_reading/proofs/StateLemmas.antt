@@ -1,5 +1,5 @@
 -- How a store goes on under a reader.
-use Rattle.std.proofs.Common.{◌≡◌, ℕ, ◌+◌, ◌≤◌, List, length, length-append, Option, Some, ap, sym, ◌∙◌, subst, arith}
+use Rattle.std.proofs.Common.{◌≡◌, ℕ, ◌+◌, ◌≤◌, List, length, length-append, Option, Some, ap, ◌∙◌, subst, arith}
 use Rattle.ds_entry.specs.declared.item.Item.{Item}
 use Rattle.ds_machine.specs.State.{State, position, subscription_at}
 use Rattle.ds_machine.specs.Machine.{Step}

@@ -1,10 +1,9 @@
 -- When a reader gives up: where memory is wanting for what it was given, where the store refuses its question, and where as many
 -- questions as may be weren't enough.
-use Rattle.std.specs.Prelude.{◌≡◌, ◌≢◌, ◌⊎◌, ℕ, ◌≤◌, true, List, [], length, Option, None, All}
+use Rattle.std.specs.Prelude.{◌≡◌, ◌≢◌, ◌⊎◌, ℕ, ◌≤◌, true, List, [], length, None, All}
 use Rattle.std.specs.Option.{unwrap_or}
 use Rattle.ds_feed.specs.Feed as feeds
 use Rattle.ds_feed.specs.declared.cursor.Cursor.{Cursor}
-use Rattle.ds_pattern.specs.declared.query.Query.{Query}
 use Rattle.ds_pattern.specs.Under.{is_under}
 use Rattle.ds_whole.specs.Checked.{CheckTurn, AreChecks}
 use Rattle.ds_whole.specs.Journaled.{SinceTurn, AreSince, cursor_after}
