@@ -19,8 +19,11 @@ pub(crate) struct Driver {
 
 impl Others for Driver {
     fn ask(&mut self, store: &mut Store, _spared: Option<u32>) {
-        if let Some(key) = self.next {
-            let _reply = store.apply(Command::Publish {
+        let next = self.next;
+        self.next = self.behind;
+        self.behind = None;
+        if let Some(key) = next {
+            store.apply(Command::Publish {
                 caller: self.endpoint,
                 key,
                 version: self.version,
@@ -28,8 +31,6 @@ impl Others for Driver {
                 overwrite: true,
             });
         }
-        self.next = self.behind;
-        self.behind = None;
     }
 }
 
