@@ -93,7 +93,7 @@ fn word_all(buffer: &mut Vec<u8>, items: &ItemList) -> Result<(), Failure> {
             append_item(buffer, item).ok().ok_or(Failure::NoRoom)?;
         }
     }
-    add(buffer, "all ")?;
+    add(buffer, "shown ")?;
     add_number(buffer, items.len())?;
     add(buffer, "\n")
 }

@@ -44,10 +44,11 @@ fn read_asked(alloc: Global, text: &[u8]) -> Result<(Asked, &[u8]), Failure> {
         return Ok((Asked::Offer(item), rest));
     }
     if let Some(rest) = text.strip_prefix(b"copy ".as_slice()) {
-        return match item_at(alloc, rest)? {
-            (Item::Change(change), rest) => Ok((Asked::Copy(change), rest)),
-            (Item::Floor(_), _) => Err(Failure::BadLine),
+        let (item, rest) = item_at(alloc, rest)?;
+        let Item::Change(change) = item else {
+            return Err(Failure::BadLine);
         };
+        return Ok((Asked::Copy(change), rest));
     }
     if let Some(rest) = text.strip_prefix(b"join\n".as_slice()) {
         let (other, rest) = holder_at(alloc, rest)?;
