@@ -1,49 +1,25 @@
 -- Pages of what is held.
-use Rattle.std.proofs.Common.{◌≡◌, ℕ, zero, suc, ◌+◌, ◌-◌, ◌<◌, ◌≤◌, ◌==◌, nat_le, Bool, true, false, not, cond, List, [], ◌∷◌, ◌++◌, map, filter, take, length, Option, Some, None, is_none, refl, ap, ap₂, sym, ◌∙◌, subst, arith, append_assoc, append-nil, length-append, eqb-true}
+use Rattle.std.proofs.Common.{◌≡◌, ℕ, zero, suc, ◌+◌, ◌-◌, ◌<◌, ◌≤◌, ◌==◌, nat_le, Bool, true, false, not, cond, List, [], ◌∷◌, ◌++◌, map, filter, take, drop, length, Option, Some, None, is_none, refl, ap, ap₂, sym, ◌∙◌, arith, append_assoc, append-nil, length-append, eqb-true}
 use Rattle.std.proofs.lemmas.Bool.{leb-true, leb-false, eqb-false}
 use Rattle.std.proofs.lemmas.Option.{same_Some}
-use Rattle.std.proofs.lemmas.List.{map-append}
+use Rattle.std.proofs.lemmas.List.{map-append, take-append-drop}
+use Rattle.std.proofs.lemmas.List.Elements.{filter-append}
 use Rattle.std.specs.Prelude.{slice_get}
-use Rattle.std.specs.List.{find}
-use Rattle.std.specs.List.Sorted.{IsStrictlySortedBy}
-use Rattle.std.specs.List.{AllByRecursion}
-use Rattle.std.specs.declared.cmp.Ordering.TheVariants.{Less}
 use Rattle.ds_names.specs.declared.key.Key.{Key}
 use Rattle.ds_entry.specs.Change.{ChangeRecord}
-use Rattle.ds_entry.specs.Covers.{change_cmp}
-use Rattle.ds_entry.specs.Item.{item_cmp, passes}
+use Rattle.ds_entry.specs.Item.{passes}
 use Rattle.ds_entry.specs.declared.floor.Floor.{Floor}
 use Rattle.ds_entry.specs.declared.item.Item.{Item}
 use Rattle.ds_entry.specs.declared.item.Item.TheVariants.{Change as Changed, Floor as Floored}
 use Rattle.ds_feed.specs.Page.{is_behind, still_to_come, floors_of, changes_of, page_of}
 use Rattle.ds_feed.specs.declared.cursor.Cursor.{Cursor}
 use Rattle.ds_feed.specs.declared.reading.Page.{Page}
-use Rattle.ds_held.specs.Held.{Holding, held_items, held_changes, held_floors, change_item, IsSound}
+use Rattle.ds_held.specs.Held.{Holding, held_items, held_changes, held_floors, change_item}
 use Rattle.ds_held.specs.Kept.{floored}
 use Rattle.ds_join.specs.Reading.{comes_after}
-use Rattle.ds_join.proofs.NextLemmas.{left_after, none_left}
-use Rattle.ds_content.specs.Paging.{to_come, more_after, given, ArePaged}
+use Rattle.ds_content.specs.Paging.{admitted, to_come, more_after, given, ArePaged}
 use Rattle.ds_content.proofs.FlagLemmas.{few_taken, past_end}
-use Rattle.ds_content.proofs.HoldingLemmas.{top_itself, items_floored}
-
--- ---- the held changes are in order
-along_changes : (x : ChangeRecord) (cs : List ChangeRecord) → AllByRecursion (λ y. item_cmp (Changed x) y ≡ Less) (map change_item cs) → AllByRecursion (λ y. change_cmp x y ≡ Less) cs
-along_changes x [] a = tt
-along_changes x (c ∷ cs) a = (a.0, along_changes x cs a.1)
-
-changes_sorted : (cs : List ChangeRecord) → IsStrictlySortedBy item_cmp (map change_item cs) → IsStrictlySortedBy change_cmp cs
-unfolding IsStrictlySortedBy
-changes_sorted [] s = tt
-changes_sorted (c ∷ cs) s = (along_changes c cs s.0, changes_sorted cs s.1)
-
-behind_sorted : (xs ys : List Item) → IsStrictlySortedBy item_cmp (xs ++ ys) → IsStrictlySortedBy item_cmp ys
-unfolding IsStrictlySortedBy
-behind_sorted [] ys s = s
-behind_sorted (x ∷ xs) ys s = behind_sorted xs ys s.1
-
-pub held_sorted : (h : Holding) → IsSound h → IsStrictlySortedBy change_cmp (held_changes h)
-held_sorted h sound =
-    changes_sorted (held_changes h) (behind_sorted (map floored (held_floors h)) (map change_item (held_changes h)) (subst (IsStrictlySortedBy item_cmp) (items_floored h) (top_itself h sound).in_order))
+use Rattle.ds_content.proofs.HoldingLemmas.{items_floored}
 
 -- ---- numbers, and the front of a list
 front : (xs ys : List ChangeRecord) → take (length xs) (xs ++ ys) ≡ xs
@@ -66,72 +42,91 @@ le_true m n l = by_test (nat_le m n) refl
     by_test false e = let more = leb-false m n e in absurd (omega (arith, more, l))
 
 -- ---- one change after the other
-module _ (keep : Key → Bool) (cs : List ChangeRecord) (after : Option Key) (max : ℕ) (start : List Item) where
-  pub paged_starts : ArePaged keep cs after after max max start start
-  paged_starts = record { done = []; items_are = sym (append-nil start); rest = refl; count = omega arith }
+split : (i : ℕ) (cs : List ChangeRecord) (c : ChangeRecord) → slice_get cs i ≡ Some c → (take (i + 1) cs ≡ take i cs ++ c ∷ []) × (drop i cs ≡ c ∷ drop (i + 1) cs)
+split i [] c e = absurd (cc)
+split zero (d ∷ cs) c e = (ap (λ (y : ChangeRecord). y ∷ []) (same_Some d c e), ap (λ (y : ChangeRecord). y ∷ cs) (same_Some d c e))
+split (suc i) (d ∷ cs) c e =
+    let more = split i cs c e in
+    let next : suc i + 1 ≡ suc (i + 1) = omega arith in (
+      ap (λ m. take m (d ∷ cs)) next ∙ ap (λ (l : List ChangeRecord). d ∷ l) more.0,
+      more.1 ∙ ap (λ (l : List ChangeRecord). c ∷ l) (ap (λ m. drop m (d ∷ cs)) (sym next)),
+    )
 
-  module _ (last : Option Key) (left : ℕ) (items : List Item) (p : ArePaged keep cs after last max left start items) where
-    -- nothing follows, so all is given
-    pub paged_all : find (comes_after last) cs ≡ None → (items ≡ start ++ map change_item (take max (to_come keep after cs))) × (nat_le (length (to_come keep after cs)) max ≡ true)
-    paged_all none =
-        let rest : to_come keep last cs ≡ [] = ap (filter (λ (c : ChangeRecord). keep c.key)) (none_left (comes_after last) cs none) in
-        let whole : p.done ≡ to_come keep after cs = sym (append-nil p.done) ∙ ap (λ l. p.done ++ l) (sym rest) ∙ p.rest in
-        let few : length (to_come keep after cs) ≤ max = omega (arith, ap (λ (l : List ChangeRecord). length l) whole, p.count) in (
-          p.items_are ∙ ap (λ l. start ++ map change_item l) (whole ∙ sym (few_taken max (to_come keep after cs) few)),
-          le_true (length (to_come keep after cs)) max few,
+-- where no more may be given, none is
+none_given : (b : Bool) (left : ℕ) (c : ChangeRecord) → None ≡ more_after b left → given b left c ≡ []
+none_given false left c m = absurd (cc)
+none_given true left c m = by_left (left == 0) m
+  where
+    by_left : (z : Bool) → None ≡ cond z None (Some (left - 1)) → cond (not z) (c ∷ []) [] ≡ []
+    by_left true m = refl
+    by_left false m = absurd (cc)
+
+module _ (keep : Key → Bool) (cs : List ChangeRecord) (max : ℕ) (start : List Item) where
+  pub paged_starts : ArePaged keep cs 0 max max start start
+  paged_starts = record { items_are = sym (append-nil start); count = omega arith }
+
+  module _ (seen left : ℕ) (items : List Item) (p : ArePaged keep cs seen max left start items) where
+    abbrev done : List ChangeRecord
+    done = admitted keep (take seen cs)
+
+    -- all were seen
+    pub paged_all : length cs ≤ seen → (items ≡ start ++ map change_item (take max (admitted keep cs))) × (nat_le (length (admitted keep cs)) max ≡ true)
+    paged_all all =
+        let whole : done ≡ admitted keep cs = ap (admitted keep) (few_taken seen cs all) in
+        let few : length (admitted keep cs) ≤ max = omega (arith, ap (λ (l : List ChangeRecord). length l) whole, p.count) in (
+          p.items_are ∙ ap (λ l. start ++ map change_item l) (whole ∙ sym (few_taken max (admitted keep cs) few)),
+          le_true (length (admitted keep cs)) max few,
         )
 
-    module _ (sorted : IsStrictlySortedBy change_cmp cs) (c : ChangeRecord) (found : find (comes_after last) cs ≡ Some c) where
-      next : filter (comes_after last) cs ≡ c ∷ filter (comes_after (Some c.key)) cs
-      next = left_after last cs c sorted found
-
-      rest_is : to_come keep last cs ≡ cond (keep c.key) (c ∷ to_come keep (Some c.key) cs) (to_come keep (Some c.key) cs)
-      rest_is = ap (filter (λ (x : ChangeRecord). keep x.key)) next
-
-      all_is : (b : Bool) → keep c.key ≡ b → p.done ++ cond b (c ∷ to_come keep (Some c.key) cs) (to_come keep (Some c.key) cs) ≡ to_come keep after cs
-      all_is b e = ap (λ x. p.done ++ cond x (c ∷ to_come keep (Some c.key) cs) (to_come keep (Some c.key) cs)) (sym e) ∙ ap (λ l. p.done ++ l) (sym rest_is) ∙ p.rest
-
-      -- it is under the scope, and no more may be given
-      pub paged_full : (b : Bool) → keep c.key ≡ b → None ≡ more_after b left → (items ≡ start ++ map change_item (take max (to_come keep after cs))) × (nat_le (length (to_come keep after cs)) max ≡ false)
+    module _ (c : ChangeRecord) (found : slice_get cs seen ≡ Some c) where
+      -- the change is under the scope, and no more may be given
+      pub paged_full : (b : Bool) → keep c.key ≡ b → None ≡ more_after b left → (items ≡ start ++ map change_item (take max (admitted keep cs))) × (nat_le (length (admitted keep cs)) max ≡ false)
       paged_full false e m = absurd (cc)
       paged_full true e m = by_left (left == 0) refl m
         where
           tail : List ChangeRecord
-          tail = to_come keep (Some c.key) cs
+          tail = admitted keep (drop (seen + 1) cs)
 
-          by_left : (z : Bool) → (left == 0) ≡ z → None ≡ cond z None (Some (left - 1)) → (items ≡ start ++ map change_item (take max (to_come keep after cs))) × (nat_le (length (to_come keep after cs)) max ≡ false)
+          by_left : (z : Bool) → (left == 0) ≡ z → None ≡ cond z None (Some (left - 1)) → (items ≡ start ++ map change_item (take max (admitted keep cs))) × (nat_le (length (admitted keep cs)) max ≡ false)
           by_left false q m = absurd (cc)
           by_left true q m =
               let none : left ≡ 0 = eqb-true left 0 q in
-              let all : p.done ++ c ∷ tail ≡ to_come keep after cs = all_is true e in
-              let long : length p.done ≡ max = omega (arith, p.count, none) in
-              let more : length (to_come keep after cs) ≡ length p.done + length (c ∷ tail) = ap (λ (l : List ChangeRecord). length l) (sym all) ∙ length-append p.done (c ∷ tail) in
-              let over : max < length (to_come keep after cs) = omega (arith, more, long) in (
-                p.items_are ∙ ap (λ l. start ++ map change_item l) (sym (ap₂ (λ n (l : List ChangeRecord). take n l) (sym long) (sym all) ∙ front p.done (c ∷ tail))),
-                le_false (length (to_come keep after cs)) max over,
+              let rest : admitted keep (drop seen cs) ≡ c ∷ tail = ap (admitted keep) (split seen cs c found).1 ∙ ap (λ x. cond x (c ∷ tail) tail) e in
+              let all : done ++ c ∷ tail ≡ admitted keep cs = ap (λ l. done ++ l) (sym rest) ∙ sym (filter-append (λ (x : ChangeRecord). keep x.key) (take seen cs) (drop seen cs)) ∙ ap (admitted keep) (take-append-drop seen cs) in
+              let long : length done ≡ max = omega (arith, p.count, none) in
+              let more : length (admitted keep cs) ≡ length done + length (c ∷ tail) = ap (λ (l : List ChangeRecord). length l) (sym all) ∙ length-append done (c ∷ tail) in
+              let over : max < length (admitted keep cs) = omega (arith, more, long) in (
+                p.items_are ∙ ap (λ l. start ++ map change_item l) (sym (ap₂ (λ n (l : List ChangeRecord). take n l) (sym long) (sym all) ∙ front done (c ∷ tail))),
+                le_false (length (admitted keep cs)) max over,
               )
 
+      -- then it isn't added
+      pub paged_stops : (b : Bool) → keep c.key ≡ b → None ≡ more_after b left → (added : List Item) → added ≡ items ++ map change_item (given b left c) → added ≡ start ++ map change_item (take max (admitted keep cs))
+      paged_stops b e m added is = is ∙ ap (λ l. items ++ map change_item l) (none_given b left c m) ∙ append-nil items ∙ (paged_full b e m).0
+
       -- it is passed, or given
-      pub paged_more : (b : Bool) → keep c.key ≡ b → (more : ℕ) → Some more ≡ more_after b left → (added : List Item) → added ≡ items ++ map change_item (given b left c) → ArePaged keep cs after (Some c.key) max more start added
-      paged_more false e more m added is = record {
-        done = p.done;
-        items_are = is ∙ append-nil items ∙ p.items_are;
-        rest = all_is false e;
-        count = let same : more ≡ left = cc in omega (arith, same, p.count);
-      }
+      next_is : (b : Bool) → keep c.key ≡ b → admitted keep (take (seen + 1) cs) ≡ done ++ cond b (c ∷ []) []
+      next_is b e = ap (admitted keep) (split seen cs c found).0 ∙ filter-append (λ (x : ChangeRecord). keep x.key) (take seen cs) (c ∷ []) ∙ ap (λ x. done ++ cond x (c ∷ []) []) e
+
+      pub paged_more : (b : Bool) → keep c.key ≡ b → (more : ℕ) → Some more ≡ more_after b left → (added : List Item) → added ≡ items ++ map change_item (given b left c) → ArePaged keep cs (seen + 1) max more start added
+      paged_more false e more m added is =
+          let next : admitted keep (take (seen + 1) cs) ≡ done = next_is false e ∙ append-nil done in
+          record {
+            items_are = is ∙ append-nil items ∙ p.items_are ∙ ap (λ l. start ++ map change_item l) (sym next);
+            count = let same : more ≡ left = cc in omega (arith, same, p.count, ap (λ (l : List ChangeRecord). length l) next);
+          }
       paged_more true e more m added is = by_left (left == 0) refl m is
         where
-          by_left : (z : Bool) → (left == 0) ≡ z → Some more ≡ cond z None (Some (left - 1)) → added ≡ items ++ map change_item (cond (not z) (c ∷ []) []) → ArePaged keep cs after (Some c.key) max more start added
+          by_left : (z : Bool) → (left == 0) ≡ z → Some more ≡ cond z None (Some (left - 1)) → added ≡ items ++ map change_item (cond (not z) (c ∷ []) []) → ArePaged keep cs (seen + 1) max more start added
           by_left true q m is = absurd (cc)
           by_left false q m is =
               let same : more ≡ left - 1 = cc in
               let some : left ≡ 0 → ⊥ = eqb-false left 0 q in
-              let longer = length-append p.done (c ∷ []) in
+              let next : admitted keep (take (seen + 1) cs) ≡ done ++ c ∷ [] = next_is true e in
+              let longer = length-append done (c ∷ []) in
               record {
-                done = p.done ++ c ∷ [];
-                items_are = is ∙ ap (λ l. l ++ Changed c ∷ []) p.items_are ∙ append_assoc start (map change_item p.done) (Changed c ∷ []) ∙ ap (λ l. start ++ l) (sym (map-append change_item p.done (c ∷ [])));
-                rest = append_assoc p.done (c ∷ []) (to_come keep (Some c.key) cs) ∙ all_is true e;
-                count = omega (arith, same, some, longer, p.count);
+                items_are = is ∙ ap (λ l. l ++ Changed c ∷ []) p.items_are ∙ append_assoc start (map change_item done) (Changed c ∷ []) ∙ ap (λ l. start ++ l) (sym (map-append change_item done (c ∷ []))) ∙ ap (λ l. start ++ map change_item l) (sym next);
+                count = omega (arith, same, some, longer, p.count, ap (λ (l : List ChangeRecord). length l) next);
               }
 
 -- ---- the page
@@ -211,7 +206,3 @@ floors_more fs n f items more e at is =
 
 pub floors_all : (fs : List Floor) (n : ℕ) (items : List Item) → items ≡ map floored (take n fs) → slice_get fs n ≡ None → items ≡ map floored fs
 floors_all fs n items e none = e ∙ ap (map floored) (few_taken n fs (past_end fs n none))
-
--- ---- the change that follows, where the last key is read from a copy
-pub found_next : (cs : List ChangeRecord) (o last : Option Key) (p : Option ChangeRecord) → o ≡ last → p ≡ find (comes_after o) cs → find (comes_after last) cs ≡ p
-found_next cs o last p same e = ap (λ (k : Option Key). find (comes_after k) cs) (sym same) ∙ sym e

@@ -1,6 +1,7 @@
 pub mod EntryLemmas
 pub mod PlaceLemmas
 pub mod SearchLemmas
+pub mod AfterLemmas
 pub mod HeldLemmas
 pub mod MergeLemmas
 pub mod RaiseLemmas

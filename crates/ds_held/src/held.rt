@@ -1,6 +1,6 @@
 //! Holders of changes and floors.
 
-ghost use Rattle.std.specs.Prelude.{◌≡◌, ◌≤◌, ◌++◌, ◌∷◌, [], All, IfOk, IfErr, IfSome, OnOk, option_and_then, slice_get, take};
+ghost use Rattle.std.specs.Prelude.{◌≡◌, ◌≤◌, ◌++◌, ◌∷◌, [], All, IfOk, IfErr, IfSome, OnOk, filter, option_and_then, slice_get, take};
 ghost use Rattle.std.specs.Option.{option_copied, option_map};
 ghost use Rattle.std.specs.List.{find};
 ghost use Rattle.ds_entry.specs.Change.{ChangeRecord, IsChange, IsValue};
@@ -19,7 +19,7 @@ use crate::floors::{floor_at, is_void, nth_floor};
 use crate::join::join_into;
 use crate::limits::Limits;
 use crate::list::{merge_copy, merge_into};
-use crate::order::{change_at, first_of, name_of, nth};
+use crate::order::{behind, change_at, first_of, name_of, nth};
 use crate::reading::copy_all;
 use crate::void::raise_into;
 use ds_entry::{Body, Change, Floor, ItemList, Value};
@@ -177,6 +177,15 @@ impl Held {
         ensures change { IfSome (option_copied result) IsChange }
     {
         first_of(&self.changes, after)
+    }
+
+    /// The changes of the keys after another one, or all of them where there is none, in the order of the keys.
+    ///
+    /// One search finds where they begin.
+    pub fn changes_after(&self, after: Option<&Key>) -> &[Change]
+        ensures { result.now ≡ filter (comes_after (option_copied after.entry)) (held_changes self.now) }
+    {
+        behind(&self.changes, after)
     }
 
     /// The least name whose live label holds an endpoint. `None` where no live label does. It takes no memory.

@@ -1,6 +1,6 @@
 //! A list of changes in the order of their keys.
 
-ghost use Rattle.std.specs.Prelude.{◌≡◌, IfSome, slice_get};
+ghost use Rattle.std.specs.Prelude.{◌≡◌, filter, IfSome, slice_get};
 ghost use Rattle.std.specs.FinMap.{get};
 ghost use Rattle.std.specs.Option.{option_copied, option_map};
 ghost use Rattle.std.specs.List.{find};
@@ -53,14 +53,22 @@ fn comes_after(low: Option<&Key>, change: &Change) -> bool
     }
 }
 
+// The changes whose keys come after another one, or all of them where there is none.
+pub(crate) fn behind<'a>(changes: &'a [Change], after: Option<&Key>) -> &'a [Change]
+    requires { AreKeysRising changes.now }
+    ensures { result.now ≡ filter (comes_after (option_copied after.entry)) changes.now }
+{
+    let past = changes.partition_point(|change| !comes_after(after, change));
+    &changes[past..]
+}
+
 // The change of the least key, of those after another one where one is given.
 pub(crate) fn first_of<'a>(changes: &'a [Change], after: Option<&Key>) -> Option<&'a Change>
     requires { AreKeysRising changes.now }
     ensures value { option_copied result ≡ find (comes_after (option_copied after.entry)) changes.now }
     ensures change { IfSome (option_copied result) IsChange }
 {
-    let past = changes.partition_point(|change| !comes_after(after, change));
-    nth(changes, past)
+    nth(behind(changes, after), 0)
 }
 
 // Whether the change leaves a live label that holds the endpoint.

@@ -5,10 +5,10 @@ ghost use Rattle.std.specs.Option.{option_copied};
 ghost use Rattle.ds_entry.specs.Item.{passes};
 ghost use Rattle.ds_feed.specs.Kept.{cursor_of};
 ghost use Rattle.ds_feed.specs.Page.{page_of};
-ghost use Rattle.ds_held.specs.Held.{change_item, held_changes, held_floors};
+ghost use Rattle.ds_held.specs.Held.{change_item, held_floors};
 ghost use Rattle.ds_held.specs.Kept.{floored};
 ghost use Rattle.ds_machine.specs.State.{State, held as held_in, cursor as cursor_behind};
-ghost use Rattle.ds_content.specs.Paging.{to_come, more_after, given};
+ghost use Rattle.ds_content.specs.Paging.{admitted, more_after, given};
 ghost use Rattle.ds_content.specs.Stands.{Stands};
 
 use crate::content::Content;
@@ -58,37 +58,32 @@ fn add_change<S: KeyScope>(
     Ok(Some(left - 1))
 }
 
-// Adds the first `max` held changes behind the key that are under the scope, and tells whether no more follow. Each is found
-// by a search.
+// Adds the first `max` of the changes that are under the scope, and tells whether no more follow.
 fn add_changes<S: KeyScope>(
     alloc: Global,
-    held: &Held,
+    changes: &[Change],
     scope: &mut S,
-    after: Option<Key>,
     max: u32,
     items: &mut ItemList,
 ) -> Result<bool, NoRoom>
-    ensures added { OnOk result (items.new ≡ items.old ++ map change_item (take max (to_come (S.keeps scope.old) after (held_changes held.now)))) }
-    ensures last { IfOk result (λ last. last ≡ nat_le (length (to_come (S.keeps scope.old) after (held_changes held.now))) max) }
+    ensures added { OnOk result (items.new ≡ items.old ++ map change_item (take max (admitted (S.keeps scope.old) changes.now))) }
+    ensures last { IfOk result (λ last. last ≡ nat_le (length (admitted (S.keeps scope.old) changes.now)) max) }
     ensures scope { S.keeps scope.new ≡ S.keeps scope.old }
 {
-    let _count = held.len();
-    let mut last = after;
     let mut left = max;
-    while let Some(change) = held.first_after(last.as_ref()) {
-        let Some(more) = add_change(alloc, scope, change, items, left)? else {
-            return Ok(false);
-        };
-        left = more;
-        last = Some(*change.key());
+    for change in changes {
+        match add_change(alloc, scope, change, items, left)? {
+            Some(more) => left = more,
+            None => return Ok(false),
+        }
     }
     Ok(true)
 }
 
 impl Content {
     /// The first `max` changes behind the key of what is held under the scope, in key order; where there is no key, behind all
-    /// floors. It tells whether no more follow, and the cursor behind all that took effect. It looks at nothing in front of
-    /// the key.
+    /// floors. It tells whether no more follow, and the cursor behind all that took effect. One search finds
+    /// where they begin, and it looks at nothing in front of the key.
     pub fn page<S: KeyScope>(
         &self,
         scope: &mut S,
@@ -101,7 +96,8 @@ impl Content {
     {
         let held = self.held.held();
         let mut items = first_floors(self.alloc, held, after.is_none())?;
-        let last = add_changes(self.alloc, held, scope, after, max, &mut items)?;
+        let changes = held.changes_after(after.as_ref());
+        let last = add_changes(self.alloc, changes, scope, max, &mut items)?;
         Ok(Page {
             items,
             last,

@@ -1,9 +1,10 @@
 //! What readers are given: the journal from a cursor on, and what is held, whole or in pages.
 
 ghost use Rattle.std.specs.Prelude.{◌≡◌, IfOk, IfErr};
-ghost use Rattle.ds_machine.specs.State.{State};
+ghost use Rattle.ds_machine.specs.State.{State, held, cursor};
 ghost use Rattle.ds_machine.specs.Machine.{Answers, journaling, snapping, paging};
 ghost use Rattle.ds_machine.specs.Scope.{is_kept};
+ghost use Rattle.ds_feed.specs.Page.{page_of};
 ghost use Rattle.ds_feed.specs.Since.{IsGiven};
 ghost use Rattle.ds_judge.specs.Last.{IsLast};
 ghost use Rattle.ds_judge.specs.Refused.{IsJournalRefusal};
@@ -11,7 +12,7 @@ ghost use Rattle.ds_judge.specs.Scopes.{scope_of};
 ghost use Rattle.ds_content.specs.Stands.{Stands};
 
 use crate::store::Store;
-use ds_feed::{AllKeys, Cursor, Since, SinceFault};
+use ds_feed::{AllKeys, Cursor, Page, Since, SinceFault};
 use ds_judge::{ScopeFilter, refusal_of_journal, scope_of_page, scope_of_since};
 use ds_machine::{Command, Refusal, Reply, Scope};
 use ds_names::{Key, NoRoom};
@@ -68,6 +69,16 @@ impl Store {
         }
     }
 
+    // A page under a scope that was read.
+    fn give_page(&self, filter: &ScopeFilter, after: Option<Key>, max: u32) -> Result<Page, NoRoom>
+        ensures { (s : State) → Stands self.now s → IfOk result (λ page. page ≡ page_of (is_kept (scope_of filter.now)) after max (held s) (cursor s)) }
+    {
+        match filter.asker(self.alloc) {
+            Ok(mut asker) => self.content.page(&mut asker, after, max),
+            Err(NoRoom) => Err(NoRoom),
+        }
+    }
+
     // The first `max` changes behind the key of what is held under the scope, with all floors on the first page.
     pub(super) fn page(&self, scope: &Scope, after: Option<Key>, max: u32) -> Reply
         ensures answer { (s : State) → Stands self.now s → Answers s (paging s scope.now after max) result s }
@@ -77,10 +88,7 @@ impl Store {
             Ok(filter) => filter,
             Err(refusal) => return Reply::Refused(refusal),
         };
-        let Ok(mut asker) = filter.asker(self.alloc) else {
-            return Reply::Refused(Refusal::NoRoom);
-        };
-        match self.content.page(&mut asker, after, max) {
+        match self.give_page(&filter, after, max) {
             Ok(page) => Reply::Paged(page),
             Err(NoRoom) => Reply::Refused(Refusal::NoRoom),
         }

@@ -1,6 +1,7 @@
-use Rattle.std.proofs.Common.{◌≡◌, ◌++◌, [], Bool, true, false, not, List, Option, Some, None, is_none, refl, map, take, cond, ap, ap₂, ◌∙◌}
+use Rattle.std.proofs.Common.{◌≡◌, ◌++◌, [], Bool, true, false, not, List, Option, Some, None, is_none, refl, map, filter, take, length, nat_le, cond, ap, ap₂, ◌∙◌}
 use Rattle.std.specs.Option.{is_some}
 use Rattle.ds_names.specs.declared.key.Key.{Key}
+use Rattle.ds_entry.specs.Change.{ChangeRecord}
 use Rattle.ds_entry.specs.Item.{passes}
 use Rattle.ds_entry.specs.declared.item.Item.{Item}
 use Rattle.ds_feed.specs.Kept.{cursor_of}
@@ -8,8 +9,9 @@ use Rattle.ds_feed.specs.Page.{page_of}
 use Rattle.ds_feed.specs.declared.cursor.Cursor.{Cursor}
 use Rattle.ds_held.specs.Held.{Holding, held_items, held_changes, held_floors, change_item}
 use Rattle.ds_held.specs.Kept.{floored}
+use Rattle.ds_join.specs.Reading.{comes_after}
 use Rattle.ds_content.specs.Content.{ContentRecord}
-use Rattle.ds_content.specs.Paging.{to_come}
+use Rattle.ds_content.specs.Paging.{admitted, to_come}
 use Rattle.ds_content.proofs.OpenLemmas.{cursor_is}
 use Rattle.ds_content.proofs.PagingLemmas.{page_is}
 use Rattle.ds_content.proofs.content.Content.page.Goals as goal
@@ -20,14 +22,18 @@ none_told false None e = absurd (cc)
 none_told true (Some key) e = absurd (cc)
 none_told false (Some key) e = refl
 
+behind : (after : Option Key) (cs : List ChangeRecord) (o : Option Key) (xs : List ChangeRecord) → o ≡ after → xs ≡ filter (comes_after o) cs → xs ≡ filter (comes_after after) cs
+behind after cs o xs same is = is ∙ ap (λ (k : Option Key). filter (comes_after k) cs) same
+
 pub returns-clause-given : goal.returns-clause-given
 returns-clause-given g c =
     let keep = g.S.KeyScope.keeps c.args.scope.now in
     let h = c.held-held.result.now in
     page_is keep h c.args.after c.args.max c.cursor.result c.add_changes.new.items c.in_ok-last.last
     (c.in_ok-last.ensures.added
+    ∙ ap (λ (l : List ChangeRecord). c.in_ok-items.items ++ map change_item (take c.args.max (admitted keep l))) (behind c.args.after (held_changes h) _ c.changes_after-changes.result.now c.as_ref.ensures.value c.changes_after-changes.ensures)
     ∙ ap (λ (l : List Item). l ++ map change_item (take c.args.max (to_come keep c.args.after (held_changes h)))) (c.in_ok-items.ensures ∙ ap (λ (b : Bool). cond b (map floored (held_floors h)) []) (none_told c.is_none.result c.args.after c.is_none.ensures)))
-    c.in_ok-last.ensures.last
+    (c.in_ok-last.ensures.last ∙ ap (λ (l : List ChangeRecord). nat_le (length (admitted keep l)) c.args.max) (behind c.args.after (held_changes h) _ c.changes_after-changes.result.now c.as_ref.ensures.value c.changes_after-changes.ensures))
     ∙ ap (λ (x : Holding). page_of (passes keep) c.args.after c.args.max (held_items x) c.cursor.result) c.held-held.ensures.value
     ∙ ap (λ (k : Cursor). page_of (passes keep) c.args.after c.args.max (held_items c.self.inside.held.held) k) c.cursor.ensures.value
     ∙ ap (λ (v : ContentRecord). page_of (passes keep) c.args.after c.args.max v.held (cursor_of v.journal)) c.self.view_is
@@ -38,8 +44,9 @@ returns-clause-stands g c = λ s stands.
     let h = c.held-held.result.now in
     page_is keep h c.args.after c.args.max c.cursor.result c.add_changes.new.items c.in_ok-last.last
     (c.in_ok-last.ensures.added
+    ∙ ap (λ (l : List ChangeRecord). c.in_ok-items.items ++ map change_item (take c.args.max (admitted keep l))) (behind c.args.after (held_changes h) _ c.changes_after-changes.result.now c.as_ref.ensures.value c.changes_after-changes.ensures)
     ∙ ap (λ (l : List Item). l ++ map change_item (take c.args.max (to_come keep c.args.after (held_changes h)))) (c.in_ok-items.ensures ∙ ap (λ (b : Bool). cond b (map floored (held_floors h)) []) (none_told c.is_none.result c.args.after c.is_none.ensures)))
-    c.in_ok-last.ensures.last
+    (c.in_ok-last.ensures.last ∙ ap (λ (l : List ChangeRecord). nat_le (length (admitted keep l)) c.args.max) (behind c.args.after (held_changes h) _ c.changes_after-changes.result.now c.as_ref.ensures.value c.changes_after-changes.ensures))
     ∙ ap (λ (x : Holding). page_of (passes keep) c.args.after c.args.max (held_items x) c.cursor.result) c.held-held.ensures.value
     ∙ ap (λ (k : Cursor). page_of (passes keep) c.args.after c.args.max (held_items c.self.inside.held.held) k) c.cursor.ensures.value
     ∙ ap (λ (v : ContentRecord). page_of (passes keep) c.args.after c.args.max v.held (cursor_of v.journal)) c.self.view_is
