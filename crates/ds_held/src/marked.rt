@@ -2,11 +2,13 @@
 
 ghost use Rattle.std.specs.Prelude.{◌≡◌, ◌≤◌, ◌++◌, ◌∷◌, [], Some, IfSome, OnOk, slice_get};
 ghost use Rattle.std.specs.Option.{option_map};
+ghost use Rattle.ds_names.specs.declared.key.Key.{Key};
 ghost use Rattle.ds_entry.specs.Change.{IsChange};
 ghost use Rattle.ds_entry.specs.declared.item.Item.TheVariants.{Change as Changed, Floor as Floored};
 ghost use Rattle.ds_join.specs.ItemTop.{IsTop};
 ghost use Rattle.ds_held.specs.Beside.{IsBeside, IsBesideFloors};
 ghost use Rattle.ds_held.specs.Held.{held_changes, held_floors, held_items, held_for, floor_count, IsSound};
+ghost use Rattle.ds_held.specs.Kept.{IsPlace};
 ghost use Rattle.ds_held.specs.Limits.{larger};
 ghost use Rattle.ds_held.specs.Marked.{mark_for, floor_mark_for, marks_after, marks_raised, floor_marks_after, nothing_marked, remarked, floor_remarked, HasMarks};
 ghost use Rattle.ds_held.specs.Merge.{after_merge, MergeAnswer};
@@ -95,7 +97,25 @@ impl<M: Drop> Marked<M> {
         ensures sound { IsSound self.now.held }
         ensures valid { IfSome result (λ p. IsChange p.0.now) }
     {
-        match self.held.place(key) {
+        self.get_at(self.place(key))
+    }
+
+    /// Where the change of a key stands, by an index from 0 in the order of the keys, or else where it would. It is found by
+    /// one search, and [`Marked::get_at`] and [`Marked::merge_at`] need no other.
+    pub fn place(&self, key: &Key) -> Result<usize, usize>
+        ensures { IsPlace (held_changes self.now.held) key.now result }
+    {
+        self.held.place(key)
+    }
+
+    /// The change that is held for the key whose place this is, and its mark.
+    pub fn get_at(&self, place: Result<usize, usize>) -> Option<(&Change, &M)>
+        ensures change { (key : Key) → IsPlace (held_changes self.now.held) key place → option_map (λ p. p.0.now) result ≡ held_for self.now.held key }
+        ensures mark { (key : Key) → IsPlace (held_changes self.now.held) key place → option_map (λ p. p.1.now) result ≡ mark_for self.now key }
+        ensures sound { IsSound self.now.held }
+        ensures valid { IfSome result (λ p. IsChange p.0.now) }
+    {
+        match place {
             Ok(index) => pair_at(&self.held, &self.marks, index),
             Err(_) => None,
         }
@@ -140,7 +160,27 @@ impl<M: Drop> Marked<M> {
         ensures sound { IsSound self.new.held }
         ensures change { IsChange change }
     {
-        merge_marked(&mut self.held, &mut self.marks, change, mark)
+        let place = self.place(change.key());
+        self.merge_at(place, change, mark)
+    }
+
+    /// Merges a change whose place is told, as `merge` does.
+    pub fn merge_at(
+        &mut self,
+        place: Result<usize, usize>,
+        change: Change,
+        mark: M,
+    ) -> Result<Merge, JoinFault>
+        requires { IsPlace (held_changes self.old.held) change.key place }
+        ensures answer { MergeAnswer self.old.held change result }
+        ensures held { self.new.held ≡ after_merge self.old.held change result }
+        ensures marks { self.new.marks ≡ marks_after self.old.marks change.key mark result }
+        ensures floor_marks { self.new.floor_marks ≡ self.old.floor_marks }
+        ensures joined { OnOk result (IsTop (held_items self.new.held) (held_items self.old.held ++ Changed change ∷ [])) }
+        ensures sound { IsSound self.new.held }
+        ensures change { IsChange change }
+    {
+        merge_marked(&mut self.held, &mut self.marks, place, change, mark)
     }
 
     /// Raises the floor of an owner, as [`Held::raise`] does. Where it is taken, the mark stands beside it, in place of the
