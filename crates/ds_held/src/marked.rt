@@ -6,7 +6,6 @@ ghost use Rattle.ds_names.specs.declared.key.Key.{Key};
 ghost use Rattle.ds_entry.specs.Change.{IsChange};
 ghost use Rattle.ds_entry.specs.declared.item.Item.TheVariants.{Change as Changed, Floor as Floored};
 ghost use Rattle.ds_join.specs.ItemTop.{IsTop};
-ghost use Rattle.ds_held.specs.Beside.{IsBeside, IsBesideFloors};
 ghost use Rattle.ds_held.specs.Held.{held_changes, held_floors, held_items, held_for, floor_count, IsSound};
 ghost use Rattle.ds_held.specs.Kept.{IsPlace};
 ghost use Rattle.ds_held.specs.Limits.{larger};
@@ -19,10 +18,12 @@ use crate::limits::Limits;
 use ds_entry::{Change, Floor};
 use ds_join::{JoinFault, Merge};
 use ds_names::Key;
+use pairs::{floor_pair_at, pair_at};
 use putting::{merge_marked, raise_marked, set_at};
 use std::alloc::Global;
 use std::marker::Model;
 
+mod pairs;
 mod putting;
 
 /// What a [`Held`] holds, and beside each change and each floor a mark of the caller's.
@@ -222,36 +223,5 @@ impl<M: Drop> Marked<M> {
         ensures floor_marks { self.new.floor_marks ≡ floor_remarked self.old.floor_marks (slice_get (held_floors self.old.held) index) mark }
     {
         set_at(&mut self.floor_marks, index, mark);
-    }
-}
-
-// The change at an index, and its mark.
-fn pair_at<'a, M>(held: &'a Held, marks: &'a [M], index: usize) -> Option<(&'a Change, &'a M)>
-    requires { IsBeside held.now marks.now }
-    ensures change { option_map (λ p. p.0.now) result ≡ slice_get (held_changes held.now) index }
-    ensures mark { option_map (λ p. p.1.now) result ≡ slice_get marks.now index }
-    ensures valid { IfSome result (λ p. IsChange p.0.now) }
-{
-    match held.at(index) {
-        Some(change) => match marks.get(index) {
-            Some(mark) => Some((change, mark)),
-            None => None,
-        },
-        None => None,
-    }
-}
-
-// The floor at an index, and its mark.
-fn floor_pair_at<'a, M>(held: &Held, marks: &'a [M], index: usize) -> Option<(Floor, &'a M)>
-    requires { IsBesideFloors held.now marks.now }
-    ensures floor { option_map (λ p. p.0) result ≡ slice_get (held_floors held.now) index }
-    ensures mark { option_map (λ p. p.1.now) result ≡ slice_get marks.now index }
-{
-    match held.floor_at(index) {
-        Some(floor) => match marks.get(index) {
-            Some(mark) => Some((floor, mark)),
-            None => None,
-        },
-        None => None,
     }
 }

@@ -6,7 +6,7 @@ use Rattle.ds_entry.specs.declared.item.Item.TheVariants.{Change as Changed}
 use Rattle.ds_feed.specs.Feed as feeds
 use Rattle.ds_feed.specs.Feed.{Feed}
 use Rattle.ds_feed.specs.Kept.{Keeps}
-use Rattle.ds_held.specs.Held.{Holding, held_changes, held_items}
+use Rattle.ds_held.specs.Held.{Holding, held_items}
 use Rattle.ds_held.specs.Kept.{IsPlace}
 use Rattle.ds_held.specs.Marked.{marks_after}
 use Rattle.ds_held.specs.Merge.{after_merge, MergeAnswer}

@@ -23,7 +23,7 @@ returns-clause-owed c = λ s stands.
     let here : Stands c.self.inside.content s = subst (λ (x : ContentRecord). Stands x s) (sym c.self.view_is) stands in
     elim c.match-accept_at.branch [
       | in-Ok-accept_at w ↦
-          w.total-is ∙ w.add.ensures ∙ ap (either c.args.total.now) (c.in-Ok.ensures.owed s c.args.change.now here (sym c.key.ensures.value))
+          w.total-is ∙ w.add.ensures ∙ ap (either c.args.total.now) (c.in-Ok.ensures.owed s c.args.change.now here (sym c.key-2.ensures.value))
           ∙ sym (ap (λ r. owed_after r c.args.total.now (padded (map (is_owed (Changed c.args.change.now ∷ [])) s.subscriptions))) w.result-is)
       | in-Err w ↦ w.total-is ∙ sym (ap (λ r. owed_after r c.args.total.now (padded (map (is_owed (Changed c.args.change.now ∷ [])) s.subscriptions))) w.result-is)
     ]
