@@ -113,7 +113,7 @@ impl Content {
         ensures value { option_copied result ≡ held_at self.now.held key.now }
         ensures change { IfSome (option_copied result) IsChange }
     {
-        self.get_at(self.place(key))
+        self.held.held().get(key)
     }
 
     /// Where the change of a key stands, by an index from 0 in the order of the keys, or else where it would. It is found by
