@@ -2,11 +2,13 @@
 
 ghost use Rattle.std.specs.Prelude.{◌≡◌, ◌≤◌, length, map, slice_index_or, None, IfOk, IfErr, IfSome, OnOk};
 ghost use Rattle.std.specs.Option.{option_copied, option_map};
+ghost use Rattle.ds_names.specs.declared.key.Key.{Key};
 ghost use Rattle.ds_entry.specs.Change.{ChangeRecord, IsChange};
 ghost use Rattle.ds_entry.specs.Void.{is_void};
 ghost use Rattle.ds_entry.specs.declared.floor.Floor.{Floor};
 ghost use Rattle.ds_feed.specs.Kept.{cursor_of, IsRing, IsOpenFault};
 ghost use Rattle.ds_held.specs.Held.{held_items, IsSound};
+ghost use Rattle.ds_held.specs.Kept.{IsPlace};
 ghost use Rattle.ds_machine.specs.Limits.{last_place};
 ghost use Rattle.ds_machine.specs.Parts.{changes_in, floors_in, held_at, floor_at};
 ghost use Rattle.ds_machine.specs.State.{State, opening};
@@ -112,6 +114,25 @@ impl Content {
         ensures change { IfSome (option_copied result) IsChange }
     {
         self.held.held().get(key)
+    }
+
+    /// Where the change of a key stands, by an index from 0 in the order of the keys, or else where it would. It is found by
+    /// one search, and the functions that take a place need no other.
+    pub fn place(&self, key: &Key) -> Result<usize, usize>
+        ensures { IsPlace (changes_in self.now.held) key.now result }
+    {
+        self.held.place(key)
+    }
+
+    /// The change that is held for the key whose place this is.
+    pub fn get_at(&self, place: Result<usize, usize>) -> Option<&Change>
+        ensures value { (key : Key) → IsPlace (changes_in self.now.held) key place → option_copied result ≡ held_at self.now.held key }
+        ensures change { IfSome (option_copied result) IsChange }
+    {
+        match self.held.get_at(place) {
+            Some((change, _)) => Some(change),
+            None => None,
+        }
     }
 
     /// Whether a held floor makes the change void.

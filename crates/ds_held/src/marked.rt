@@ -2,11 +2,12 @@
 
 ghost use Rattle.std.specs.Prelude.{◌≡◌, ◌≤◌, ◌++◌, ◌∷◌, [], Some, IfSome, OnOk, slice_get};
 ghost use Rattle.std.specs.Option.{option_map};
+ghost use Rattle.ds_names.specs.declared.key.Key.{Key};
 ghost use Rattle.ds_entry.specs.Change.{IsChange};
 ghost use Rattle.ds_entry.specs.declared.item.Item.TheVariants.{Change as Changed, Floor as Floored};
 ghost use Rattle.ds_join.specs.ItemTop.{IsTop};
-ghost use Rattle.ds_held.specs.Beside.{IsBeside, IsBesideFloors};
 ghost use Rattle.ds_held.specs.Held.{held_changes, held_floors, held_items, held_for, floor_count, IsSound};
+ghost use Rattle.ds_held.specs.Kept.{IsPlace};
 ghost use Rattle.ds_held.specs.Limits.{larger};
 ghost use Rattle.ds_held.specs.Marked.{mark_for, floor_mark_for, marks_after, marks_raised, floor_marks_after, nothing_marked, remarked, floor_remarked, HasMarks};
 ghost use Rattle.ds_held.specs.Merge.{after_merge, MergeAnswer};
@@ -17,10 +18,12 @@ use crate::limits::Limits;
 use ds_entry::{Change, Floor};
 use ds_join::{JoinFault, Merge};
 use ds_names::Key;
+use pairs::{floor_pair_at, pair_at};
 use putting::{merge_marked, raise_marked, set_at};
 use std::alloc::Global;
 use std::marker::Model;
 
+mod pairs;
 mod putting;
 
 /// What a [`Held`] holds, and beside each change and each floor a mark of the caller's.
@@ -95,7 +98,25 @@ impl<M: Drop> Marked<M> {
         ensures sound { IsSound self.now.held }
         ensures valid { IfSome result (λ p. IsChange p.0.now) }
     {
-        match self.held.place(key) {
+        self.get_at(self.place(key))
+    }
+
+    /// Where the change of a key stands, by an index from 0 in the order of the keys, or else where it would. It is found by
+    /// one search, and [`Marked::get_at`] and [`Marked::merge_at`] need no other.
+    pub fn place(&self, key: &Key) -> Result<usize, usize>
+        ensures { IsPlace (held_changes self.now.held) key.now result }
+    {
+        self.held.place(key)
+    }
+
+    /// The change that is held for the key whose place this is, and its mark.
+    pub fn get_at(&self, place: Result<usize, usize>) -> Option<(&Change, &M)>
+        ensures change { (key : Key) → IsPlace (held_changes self.now.held) key place → option_map (λ p. p.0.now) result ≡ held_for self.now.held key }
+        ensures mark { (key : Key) → IsPlace (held_changes self.now.held) key place → option_map (λ p. p.1.now) result ≡ mark_for self.now key }
+        ensures sound { IsSound self.now.held }
+        ensures valid { IfSome result (λ p. IsChange p.0.now) }
+    {
+        match place {
             Ok(index) => pair_at(&self.held, &self.marks, index),
             Err(_) => None,
         }
@@ -140,7 +161,27 @@ impl<M: Drop> Marked<M> {
         ensures sound { IsSound self.new.held }
         ensures change { IsChange change }
     {
-        merge_marked(&mut self.held, &mut self.marks, change, mark)
+        let place = self.place(change.key());
+        self.merge_at(place, change, mark)
+    }
+
+    /// Merges a change whose place is told, as `merge` does.
+    pub fn merge_at(
+        &mut self,
+        place: Result<usize, usize>,
+        change: Change,
+        mark: M,
+    ) -> Result<Merge, JoinFault>
+        requires { IsPlace (held_changes self.old.held) change.key place }
+        ensures answer { MergeAnswer self.old.held change result }
+        ensures held { self.new.held ≡ after_merge self.old.held change result }
+        ensures marks { self.new.marks ≡ marks_after self.old.marks change.key mark result }
+        ensures floor_marks { self.new.floor_marks ≡ self.old.floor_marks }
+        ensures joined { OnOk result (IsTop (held_items self.new.held) (held_items self.old.held ++ Changed change ∷ [])) }
+        ensures sound { IsSound self.new.held }
+        ensures change { IsChange change }
+    {
+        merge_marked(&mut self.held, &mut self.marks, place, change, mark)
     }
 
     /// Raises the floor of an owner, as [`Held::raise`] does. Where it is taken, the mark stands beside it, in place of the
@@ -182,36 +223,5 @@ impl<M: Drop> Marked<M> {
         ensures floor_marks { self.new.floor_marks ≡ floor_remarked self.old.floor_marks (slice_get (held_floors self.old.held) index) mark }
     {
         set_at(&mut self.floor_marks, index, mark);
-    }
-}
-
-// The change at an index, and its mark.
-fn pair_at<'a, M>(held: &'a Held, marks: &'a [M], index: usize) -> Option<(&'a Change, &'a M)>
-    requires { IsBeside held.now marks.now }
-    ensures change { option_map (λ p. p.0.now) result ≡ slice_get (held_changes held.now) index }
-    ensures mark { option_map (λ p. p.1.now) result ≡ slice_get marks.now index }
-    ensures valid { IfSome result (λ p. IsChange p.0.now) }
-{
-    match held.at(index) {
-        Some(change) => match marks.get(index) {
-            Some(mark) => Some((change, mark)),
-            None => None,
-        },
-        None => None,
-    }
-}
-
-// The floor at an index, and its mark.
-fn floor_pair_at<'a, M>(held: &Held, marks: &'a [M], index: usize) -> Option<(Floor, &'a M)>
-    requires { IsBesideFloors held.now marks.now }
-    ensures floor { option_map (λ p. p.0) result ≡ slice_get (held_floors held.now) index }
-    ensures mark { option_map (λ p. p.1.now) result ≡ slice_get marks.now index }
-{
-    match held.floor_at(index) {
-        Some(floor) => match marks.get(index) {
-            Some(mark) => Some((floor, mark)),
-            None => None,
-        },
-        None => None,
     }
 }

@@ -1,5 +1,5 @@
 -- What is listed of what is held.
-use Rattle.std.proofs.Common.{◌≡◌, ℕ, ◌≤◌, ◌<◌, ◌⊎◌, ◌&&◌, ◌==◌, Bool, true, false, cond, List, [], ◌∷◌, Option, Some, None, Result, Ok, Err, refl, sym, ap, ◌∙◌, subst, arith, inl, inr, Contains}
+use Rattle.std.proofs.Common.{◌≡◌, ℕ, ◌⊎◌, ◌&&◌, ◌==◌, Bool, true, false, cond, List, [], ◌∷◌, Option, Some, None, refl, sym, ap, ◌∙◌, subst, inl, inr, Contains}
 use Rattle.std.specs.declared.cmp.Ordering.{Ordering}
 use Rattle.std.specs.declared.cmp.Ordering.TheVariants.{Less, Equal, Greater}
 use Rattle.std.specs.Ordering.{nat_cmp, is_eq, eq_by_cmp, ordering_then, ordering_reverse}
@@ -28,10 +28,6 @@ use Rattle.ds_entry.specs.Change.{ChangeRecord, IsChange, IsOfKind}
 use Rattle.ds_entry.specs.Covers.{change_cmp}
 use Rattle.ds_entry.proofs.Members.{In, In-from_Contains, Contains-from_In, Contains-nil}
 use Rattle.ds_entry.proofs.CoversLemmas.{same_key, same_key-refl}
-use Rattle.ds_join.specs.declared.merge.Merge.{Merge}
-use Rattle.ds_join.specs.declared.merge.Merge.TheVariants.{Taken, Known, Stale}
-use Rattle.ds_join.specs.declared.merge.JoinFault.{JoinFault}
-use Rattle.ds_join.specs.declared.merge.JoinFault.TheVariants.{NoRoom}
 use Rattle.ds_join.specs.Label.{names_endpoint, is_label_of}
 use Rattle.ds_join.specs.Reading.{value_of, value_in}
 use Rattle.ds_join.proofs.MapLemmas.{held_in_order, Contains-held, held_at_key, from_along}

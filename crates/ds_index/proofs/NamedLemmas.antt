@@ -5,10 +5,11 @@ use Rattle.std.specs.declared.cmp.Ordering.TheVariants.{Less, Equal, Greater}
 use Rattle.std.specs.Ordering.{nat_cmp, ordering_then, is_eq, is_lt, ordering_reverse}
 use Rattle.std.specs.Cmp.{IsTotalOrder, tied_itself}
 use Rattle.std.specs.List.{find, slice_get, insert, remove, AllByRecursion}
+use Rattle.std.specs.Option.{option_map_or}
 use Rattle.std.specs.List.Sorted.{IsStrictlySortedBy, IsPartitionedBy, IsPartitionPoint}
 use Rattle.std.proofs.lemmas.Cmp.{on_total, then_total, nat_cmp_total, nat_list_cmp_total}
 use Rattle.std.proofs.lemmas.Map.Lookups.{exact_pairs, exact_unsigned, exact_bytes}
-use Rattle.std.proofs.lemmas.Option.{same_Some, slice_get_within}
+use Rattle.std.proofs.lemmas.Option.{same_Some, slice_get_within, slice_get_cases, slice_get-get_or, get_or_from_slice_get}
 use Rattle.ds_entry.proofs.Members.{In, In-from_Contains, Contains-from_In}
 use Rattle.ds_names.specs.Endpoint.{EndpointRecord}
 use Rattle.ds_names.specs.Key.{name_cmp}
@@ -46,6 +47,10 @@ pub less_is : (o : Ordering) → is_lt o ≡ true → o ≡ Less
 less_is Less e = refl
 less_is Equal e = absurd (cc)
 less_is Greater e = absurd (cc)
+
+pub unset : (b : Bool) → not b ≡ true → b ≡ false
+unset false e = refl
+unset true e = absurd (cc)
 
 opposed : {A : Type 0} (b : Bool) → b ≡ true → b ≡ false → A
 opposed b t f = let no : true ≡ false = sym t ∙ f in absurd (cc)
@@ -91,7 +96,51 @@ stands_at b xs ys i s h e p = place_is b xs i s (In-from_Contains b xs h) (subst
 pub stands_within : (b : Named) (xs ys : List Named) (i n : ℕ) → IsStrictlySortedBy named_cmp xs → Contains xs b → ys ≡ xs → IsPlaceOf b ys i → n ≡ length xs → i < n
 stands_within b xs ys i n s h e p long = subst (λ m. i < m) (sym long) (slice_get_within xs i b (stands_at b xs ys i s h e p))
 
--- one more label goes to its place
+-- ---- a label between those beside an index
+-- what the label does with the one at the index
+abbrev pub behind_nth : Named → List Named → ℕ → Bool
+behind_nth p xs i = option_map_or (is_behind p) (slice_get xs i) false
+
+-- it belongs directly before the one at the index, or directly behind it
+abbrev pub IsNear : Named → List Named → ℕ → Type 0
+IsNear p xs i = (j : ℕ) × IsPlaceOf p xs j × (i ≤ j) × (j ≤ i + 1)
+
+module _ (p : Named) (xs : List Named) (s : IsStrictlySortedBy named_cmp xs) where
+  -- behind one label is behind all before it
+  behind_all : (i : ℕ) → behind_nth p xs i ≡ true → (k : ℕ) (d : Named) → k ≤ i → is_behind p (get_or xs k d) ≡ true
+  behind_all i b k d l = by_found (slice_get_cases xs i).1
+    where
+      by_found : ((x : Named) × (i < length xs) × (slice_get xs i ≡ Some x) × (get_or xs i x ≡ x)) ⊎ ((length xs ≤ i) × (slice_get xs i ≡ None)) → is_behind p (get_or xs k d) ≡ true
+      by_found (inl w) =
+          behind_partitioned p xs s k i d l w.1
+          (ap (is_behind p) (get_or_from_slice_get xs i w.0 d w.2) ∙ sym (ap (λ o. option_map_or (is_behind p) o false) w.2) ∙ b)
+      by_found (inr w) = opposed (behind_nth p xs i) b (ap (λ o. option_map_or (is_behind p) o false) w.1)
+
+  -- not behind one is behind none from it on
+  behind_none : (i : ℕ) → behind_nth p xs i ≡ false → (k : ℕ) (d : Named) → i ≤ k → k < length xs → is_behind p (get_or xs k d) ≡ false
+  behind_none i b k d l w = by_test (is_behind p (get_or xs k d)) refl
+    where
+      by_test : (t : Bool) → is_behind p (get_or xs k d) ≡ t → t ≡ false
+      by_test false e = refl
+      by_test true e =
+          let here : i < length xs = omega (arith, l, w) in
+          let first : is_behind p (get_or xs i d) ≡ true = behind_partitioned p xs s i k d l w e in
+          opposed (behind_nth p xs i) (ap (λ o. option_map_or (is_behind p) o false) (slice_get-get_or xs i d here) ∙ first) b
+
+  between : (i : ℕ) → ((k : ℕ) (d : Named) → k < i → is_behind p (get_or xs k d) ≡ true) → behind_nth p xs (i + 1) ≡ false → IsNear p xs i
+  between i low high = by_test (behind_nth p xs i) refl
+    where
+      by_test : (t : Bool) → behind_nth p xs i ≡ t → IsNear p xs i
+      by_test true e = (i + 1, (λ k d l w. behind_all i e k d (omega (arith, l)), λ k d l w. behind_none (i + 1) high k d (omega (arith, l)) (omega (arith, w))), omega arith, omega arith)
+      by_test false e = (i, (λ k d l w. low k d (omega (arith, l)), λ k d l w. behind_none i e k d (omega (arith, l)) (omega (arith, w))), omega arith, omega arith)
+
+  pub near_first : behind_nth p xs 1 ≡ false → IsNear p xs 0
+  near_first high = between 0 (λ k d l. absurd (omega (arith, l))) high
+
+  pub near_next : (i j : ℕ) → j + 1 ≡ i → behind_nth p xs j ≡ true → behind_nth p xs (i + 1) ≡ false → IsNear p xs i
+  near_next i j e low high = between i (λ k d l. behind_all j low k d (omega (arith, l, e))) high
+
+-- ---- one more label goes to its place
 pub inserted_there : (p : Named) (xs : List Named) (i : ℕ) → i ≤ length xs → IsPlaceOf p xs i → insert xs i p ≡ inserted p xs
 inserted_there p [] zero w h = refl
 inserted_there p [] (suc i) w h = absurd (omega (arith, w))

@@ -1,7 +1,7 @@
 //! Labels by endpoint.
 
 ghost use Rattle.std.specs.Prelude.{◌≡◌, ◌<◌, ◌≤◌, ◌+◌, [], ℕ, Some, true, false, not, Contains, OnOk, length, slice_get, vec_len, vec_capacity};
-ghost use Rattle.std.specs.Option.{option_copied, option_map};
+ghost use Rattle.std.specs.Option.{option_copied, option_map, option_map_or};
 ghost use Rattle.std.specs.List.{find, remove};
 ghost use Rattle.std.specs.List.Sorted.{IsStrictlySortedBy, IsPartitionPoint};
 ghost use Rattle.ds_index.specs.declared.named.Named.{Named};
@@ -84,11 +84,26 @@ fn add(names: &mut Vec<Named>, named: Named)
     let _ = names.insert(place, named);
 }
 
-// Whether a label that has so many before it can take the place at the index.
-fn stays(index: usize, before: usize) -> bool
-    ensures { result ≡ true → (index ≤ before) × (before ≤ index + 1) }
+// Whether a label stands behind the one at the index.
+fn is_behind_nth(names: &[Named], index: usize, named: &Named) -> bool
+    ensures { result ≡ option_map_or (is_behind named.now) (slice_get names.now index) false }
 {
-    before >= index && before - index <= 1
+    match nth(names, index) {
+        Some(other) => is_behind(named, other),
+        None => false,
+    }
+}
+
+// Whether a label can take the place at the index: it is behind the one before it, and not behind the next one.
+fn stays(names: &[Named], index: usize, named: &Named) -> bool
+    requires sorted { IsStrictlySortedBy named_cmp names.now }
+    requires within { index < length names.now }
+    ensures { result ≡ true → (place : ℕ) × IsPartitionPoint (λ q. is_behind named.now q ≡ true) (λ q. is_behind named.now q ≡ false) names.now place × (index ≤ place) × (place ≤ index + 1) }
+{
+    if index > 0 && !is_behind_nth(names, index - 1, named) {
+        return false;
+    }
+    !is_behind_nth(names, index + 1, named)
 }
 
 // The one label in place of the other, where it belongs. It takes no memory.
@@ -98,8 +113,7 @@ fn replace(names: &mut Vec<Named>, before: &Named, after: Named)
     ensures { (place : ℕ) × (slice_get names.old.items place ≡ Some before.now) × (names.new.items ≡ inserted after (remove names.old.items place)) }
 {
     let old = place_of(names, before);
-    let new = place_of(names, &after);
-    if stays(old, new) {
+    if stays(names, old, &after) {
         names[old] = after;
     } else {
         names.remove(old);

@@ -3,11 +3,13 @@
 ghost use Rattle.std.specs.Prelude.{◌≡◌, ◌≤◌, ◌++◌, ◌∷◌, [], Some, IfSome, OnOk, slice_get};
 ghost use Rattle.std.specs.Option.{option_map, option_copied};
 ghost use Rattle.std.specs.List.{find};
+ghost use Rattle.ds_names.specs.declared.key.Key.{Key};
 ghost use Rattle.ds_entry.specs.Change.{ChangeRecord, IsChange};
 ghost use Rattle.ds_entry.specs.declared.item.Item.TheVariants.{Change as Changed, Floor as Floored};
 ghost use Rattle.ds_join.specs.ItemTop.{IsTop};
 ghost use Rattle.ds_join.specs.Label.{names_endpoint};
 ghost use Rattle.ds_held.specs.Held.{held_changes, held_floors, held_for, held_items, floor_count, IsSound};
+ghost use Rattle.ds_held.specs.Kept.{IsPlace};
 ghost use Rattle.ds_held.specs.Marked.{mark_for, floor_mark_for, nothing_marked, marks_after, marks_raised, floor_marks_after, remarked, floor_remarked, HasMarks};
 ghost use Rattle.ds_held.specs.Merge.{MergeAnswer, after_merge};
 ghost use Rattle.ds_held.specs.Raise.{RaiseAnswer, after_raise};
@@ -80,6 +82,23 @@ impl<M: Drop> Labelled<M> {
         self.held.get(key)
     }
 
+    /// Where the change of a key stands, or else where it would, as [`Marked::place`] says.
+    pub fn place(&self, key: &Key) -> Result<usize, usize>
+        ensures { IsPlace (held_changes self.now.held) key.now result }
+    {
+        self.held.place(key)
+    }
+
+    /// The change that is held for the key whose place this is, and its mark.
+    pub fn get_at(&self, place: Result<usize, usize>) -> Option<(&Change, &M)>
+        ensures change { (key : Key) → IsPlace (held_changes self.now.held) key place → option_map (λ p. p.0.now) result ≡ held_for self.now.held key }
+        ensures mark { (key : Key) → IsPlace (held_changes self.now.held) key place → option_map (λ p. p.1.now) result ≡ mark_for self.now key }
+        ensures sound { IsSound self.now.held }
+        ensures valid { IfSome result (λ p. IsChange p.0.now) }
+    {
+        self.held.get_at(place)
+    }
+
     /// The change at an index from 0, in the order of the keys, and its mark. `None` behind the last one.
     pub fn at(&self, index: usize) -> Option<(&Change, &M)>
         ensures change { option_map (λ p. p.0.now) result ≡ slice_get (held_changes self.now.held) index }
@@ -128,7 +147,27 @@ impl<M: Drop> Labelled<M> {
         ensures sound { IsSound self.new.held }
         ensures change { IsChange change }
     {
-        merge_labelled(&mut self.held, &mut self.index, change, mark)
+        let place = self.place(change.key());
+        self.merge_at(place, change, mark)
+    }
+
+    /// Merges a change whose place is told, as `merge` does.
+    pub fn merge_at(
+        &mut self,
+        place: Result<usize, usize>,
+        change: Change,
+        mark: M,
+    ) -> Result<Merge, JoinFault>
+        requires { IsPlace (held_changes self.old.held) change.key place }
+        ensures answer { MergeAnswer self.old.held change result }
+        ensures held { self.new.held ≡ after_merge self.old.held change result }
+        ensures marks { self.new.marks ≡ marks_after self.old.marks change.key mark result }
+        ensures floor_marks { self.new.floor_marks ≡ self.old.floor_marks }
+        ensures joined { OnOk result (IsTop (held_items self.new.held) (held_items self.old.held ++ Changed change ∷ [])) }
+        ensures sound { IsSound self.new.held }
+        ensures change { IsChange change }
+    {
+        merge_labelled(&mut self.held, &mut self.index, place, change, mark)
     }
 
     /// Raises the floor of an owner, as [`Marked::raise`] does. It drops no label.

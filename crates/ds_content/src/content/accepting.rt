@@ -3,7 +3,8 @@
 ghost use Rattle.std.specs.Prelude.{◌≡◌, ◌∷◌, [], None, ◌⊎◌, map, IfOk, OnOk, OnErr};
 ghost use Rattle.ds_entry.specs.Change.{ChangeRecord, IsBodyInPlace};
 ghost use Rattle.ds_entry.specs.declared.item.Item.TheVariants.{Change as Changed};
-ghost use Rattle.ds_machine.specs.Parts.{held_at};
+ghost use Rattle.ds_held.specs.Kept.{IsPlace};
+ghost use Rattle.ds_machine.specs.Parts.{changes_in, held_at};
 ghost use Rattle.ds_machine.specs.State.{State, accepts};
 ghost use Rattle.ds_machine.specs.Subscription.{is_owed};
 ghost use Rattle.ds_watch.specs.Followed.{owed_for};
@@ -25,8 +26,18 @@ impl Content {
         ensures owed { (s : State) (c : ChangeRecord) → Stands self.now s → c.key ≡ key.now → IfOk result (λ owed. owed ≡ padded (map (is_owed (Changed c ∷ [])) s.subscriptions)) }
         ensures held { OnErr result (held_at self.now.held key.now ≡ None) }
     {
+        self.owed_at(self.place(key), key)
+    }
+
+    /// The same of a key whose place is told.
+    pub fn owed_at(&self, place: Result<usize, usize>, key: &Key) -> Result<Mask, NoRoom>
+        requires { IsPlace (changes_in self.now.held) key.now place }
+        ensures value { IfOk result (λ owed. owed ≡ padded (owed_for key.now self.now.subscriptions)) }
+        ensures owed { (s : State) (c : ChangeRecord) → Stands self.now s → c.key ≡ key.now → IfOk result (λ owed. owed ≡ padded (map (is_owed (Changed c ∷ [])) s.subscriptions)) }
+        ensures held { OnErr result (held_at self.now.held key.now ≡ None) }
+    {
         let _held = self.held.held();
-        match self.held.get(key) {
+        match self.held.get_at(place) {
             Some((_, masks)) => Ok(masks.under()),
             None => self.subscriptions.owed(self.alloc, key),
         }
@@ -41,9 +52,27 @@ impl Content {
         ensures err { OnErr result (self.new ≡ self.old) }
         ensures wants { OnErr result ((held_at self.old.held change.key ≡ None) ⊎ (¬ IsBodyInPlace change.body)) }
     {
+        let place = self.place(change.key());
+        self.accept_at(place, change, owed)
+    }
+
+    /// The same of a change whose place is told.
+    pub fn accept_at(
+        &mut self,
+        place: Result<usize, usize>,
+        change: Change,
+        owed: Mask,
+    ) -> Result<(), NoRoom>
+        requires place { IsPlace (changes_in self.old.held) change.key place }
+        requires owed { owed ≡ padded (owed_for change.key self.old.subscriptions) }
+        requires free { IsFree self.old change }
+        ensures ok { OnOk result ((s : State) → Stands self.old s → Stands self.new (accepts s (Changed change ∷ []))) }
+        ensures err { OnErr result (self.new ≡ self.old) }
+        ensures wants { OnErr result ((held_at self.old.held change.key ≡ None) ⊎ (¬ IsBodyInPlace change.body)) }
+    {
         let item = Item::Change(change.copy(self.alloc)?);
         let _held = self.held.held();
-        taken(self.held.merge(change, Masks::fresh(owed)))?;
+        taken(self.held.merge_at(place, change, Masks::fresh(owed)))?;
         self.journal.push(item);
         Ok(())
     }

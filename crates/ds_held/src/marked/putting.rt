@@ -82,21 +82,22 @@ fn put_marked<M: Drop>(
     }
 }
 
-// Merges a change, and keeps the mark beside it where it is taken.
+// Merges a change whose place is told, and keeps the mark beside it where it is taken.
 pub(super) fn merge_marked<M: Drop>(
     held: &mut Held,
     marks: &mut Vec<M>,
+    place: Result<usize, usize>,
     change: Change,
     mark: M,
 ) -> Result<Merge, JoinFault>
-    requires { IsBeside held.old marks.old.items }
+    requires beside { IsBeside held.old marks.old.items }
+    requires place { IsPlace (held_changes held.old) change.key place }
     ensures answer { MergeAnswer held.old change result }
     ensures after { held.new ≡ after_merge held.old change result }
     ensures change { IsChange change }
     ensures beside { IsBeside held.new marks.new.items }
     ensures marks { marks_beside (held_changes held.new) marks.new.items ≡ marks_after (marks_beside (held_changes held.old) marks.old.items) change.key mark result }
 {
-    let place = held.place(change.key());
     match held.outlook(place, &change)? {
         Merge::Taken => put_marked(held, marks, place, change, mark),
         other => Ok(other),

@@ -6,7 +6,8 @@ ghost use Rattle.ds_names.specs.declared.kind.Kind.{Kind};
 ghost use Rattle.ds_entry.specs.Change.{ChangeRecord, IsChange};
 ghost use Rattle.ds_entry.specs.declared.item.Item.TheVariants.{Change as Changed};
 ghost use Rattle.ds_join.specs.ItemTop.{IsTop};
-ghost use Rattle.ds_held.specs.Held.{held_for, held_items, IsSound};
+ghost use Rattle.ds_held.specs.Held.{held_changes, held_for, held_items, IsSound};
+ghost use Rattle.ds_held.specs.Kept.{IsPlace};
 ghost use Rattle.ds_held.specs.Marked.{marks_after};
 ghost use Rattle.ds_held.specs.Merge.{MergeAnswer, after_merge};
 ghost use Rattle.ds_index.specs.Named.{named_at};
@@ -24,10 +25,12 @@ fn merge_over<M: Drop>(
     held: &mut Marked<M>,
     index: &mut Index,
     before: &Named,
+    place: Result<usize, usize>,
     change: Change,
     mark: M,
 ) -> Result<Merge, JoinFault>
     requires indexed { IsIndexed held.old.held.changes index.old.names }
+    requires place { IsPlace (held_changes held.old.held) change.key place }
     requires label { change.key ≡ label_key before.now.name }
     requires before { option_map endpoint_in (held_for held.old.held change.key) ≡ Some before.now.endpoint }
     ensures answer { MergeAnswer held.old.held change result }
@@ -43,7 +46,7 @@ fn merge_over<M: Drop>(
         endpoint: endpoint_in(&change),
         name: change.key().name,
     };
-    match held.merge(change, mark) {
+    match held.merge_at(place, change, mark) {
         Ok(Merge::Taken) => {
             index.replace(before, after);
             Ok(Merge::Taken)
@@ -58,10 +61,12 @@ fn merge_over<M: Drop>(
 fn merge_new<M: Drop>(
     held: &mut Marked<M>,
     index: &mut Index,
+    place: Result<usize, usize>,
     change: Change,
     mark: M,
 ) -> Result<Merge, JoinFault>
     requires indexed { IsIndexed held.old.held.changes index.old.names }
+    requires place { IsPlace (held_changes held.old.held) change.key place }
     requires label { change.key.kind ≡ Kind.Label }
     requires new { held_for held.old.held change.key ≡ None }
     ensures answer { MergeAnswer held.old.held change result }
@@ -74,7 +79,7 @@ fn merge_new<M: Drop>(
     ensures indexed { IsIndexed held.new.held.changes index.new.names }
 {
     if held.held().len() >= held.held().limits().keys() {
-        return held.merge(change, mark);
+        return held.merge_at(place, change, mark);
     }
     if let Err(NoRoom) = index.reserve() {
         return Err(JoinFault::NoRoom);
@@ -83,7 +88,7 @@ fn merge_new<M: Drop>(
         endpoint: endpoint_in(&change),
         name: change.key().name,
     };
-    match held.merge(change, mark) {
+    match held.merge_at(place, change, mark) {
         Ok(Merge::Taken) => {
             index.add(named);
             Ok(Merge::Taken)
@@ -94,25 +99,28 @@ fn merge_new<M: Drop>(
     }
 }
 
-// What is listed of a label that is held.
-fn listed_of<M: Drop>(held: &Marked<M>, key: &Key) -> Option<Named>
+// What is listed of a label that is held, where its place is told.
+fn listed_at<M: Drop>(held: &Marked<M>, place: Result<usize, usize>, key: &Key) -> Option<Named>
+    requires { IsPlace (held_changes held.now.held) key.now place }
     ensures { result ≡ option_map (λ (c : ChangeRecord). named_at (endpoint_in c) key.now.name) (held_for held.now.held key.now) }
 {
-    let change = held.held().get(key)?;
+    let (change, _) = held.get_at(place)?;
     Some(Named {
         endpoint: endpoint_in(change),
         name: key.name,
     })
 }
 
-// Merges a change, and lists what it leaves of a label.
+// Merges a change whose place is told, and lists what it leaves of a label.
 pub(super) fn merge_labelled<M: Drop>(
     held: &mut Marked<M>,
     index: &mut Index,
+    place: Result<usize, usize>,
     change: Change,
     mark: M,
 ) -> Result<Merge, JoinFault>
-    requires { IsIndexed held.old.held.changes index.old.names }
+    requires indexed { IsIndexed held.old.held.changes index.old.names }
+    requires place { IsPlace (held_changes held.old.held) change.key place }
     ensures answer { MergeAnswer held.old.held change result }
     ensures held { held.new.held ≡ after_merge held.old.held change result }
     ensures marks { held.new.marks ≡ marks_after held.old.marks change.key mark result }
@@ -124,10 +132,10 @@ pub(super) fn merge_labelled<M: Drop>(
 {
     let key = *change.key();
     if !is_label(key.kind) {
-        return held.merge(change, mark);
+        return held.merge_at(place, change, mark);
     }
-    match listed_of(held, &key) {
-        Some(before) => merge_over(held, index, &before, change, mark),
-        None => merge_new(held, index, change, mark),
+    match listed_at(held, place, &key) {
+        Some(before) => merge_over(held, index, &before, place, change, mark),
+        None => merge_new(held, index, place, change, mark),
     }
 }

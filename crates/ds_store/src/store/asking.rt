@@ -1,6 +1,8 @@
 //! What callers ask: publishing and deleting.
 
 ghost use Rattle.std.specs.Prelude.{◌≡◌, None, IfNone};
+ghost use Rattle.ds_held.specs.Kept.{IsPlace};
+ghost use Rattle.ds_machine.specs.Parts.{changes_in};
 ghost use Rattle.ds_machine.specs.Asking.{cause_against, change_asked, name_of};
 ghost use Rattle.ds_machine.specs.Machine.{Answers, asking};
 ghost use Rattle.ds_machine.specs.State.{State};
@@ -17,8 +19,14 @@ use ds_machine::{Cause, Refusal, Reply};
 use ds_names::{Name, NoRoom};
 
 impl Store {
-    // What is there before what a caller of this name asks for.
-    fn standing_before(&self, asked: &Asked, caller: &Option<Name>) -> Standing<'_>
+    // What is there before what a caller of this name asks for, where the place of its key is told.
+    fn standing_before(
+        &self,
+        place: Result<usize, usize>,
+        asked: &Asked,
+        caller: &Option<Name>,
+    ) -> Standing<'_>
+        requires { IsPlace (changes_in self.now.held) asked.now.key place }
         ensures { (body : Body) → machine_standing result ≡ standing_in self.now (change_asked caller.now (request_of asked.now) body) }
     {
         let _held = self.content.held();
@@ -27,7 +35,7 @@ impl Store {
             None => rs_name(),
         };
         Standing {
-            held: self.content.get(&asked.key),
+            held: self.content.get_at(place),
             void: is_void_under(self.content.floor(&owner), asked),
             count: self.content.count(),
             most: self.content.limits().keys(),
@@ -35,14 +43,20 @@ impl Store {
         }
     }
 
-    // The first cause against what a caller asks for.
-    fn cause_against(&self, asked: &Asked, body: &Body) -> Option<Cause>
+    // The first cause against what a caller asks for, where the place of its key is told.
+    fn cause_against(
+        &self,
+        place: Result<usize, usize>,
+        asked: &Asked,
+        body: &Body,
+    ) -> Option<Cause>
+        requires { IsPlace (changes_in self.now.held) asked.now.key place }
         ensures first { (s : State) → Stands self.now s → result ≡ cause_against s (request_of asked.now) body.now }
         ensures free { IfNone result (IsFree self.now (change_asked (name_of self.now.held asked.now.caller) (request_of asked.now) body.now)) }
         ensures made { IfNone result (IsMade (change_asked (name_of self.now.held asked.now.caller) (request_of asked.now) body.now)) }
     {
         let caller = self.content.name_of(asked.caller);
-        let standing = self.standing_before(asked, &caller);
+        let standing = self.standing_before(place, asked, &caller);
         cause_of_asked(&standing, caller, asked, body)
     }
 
@@ -51,14 +65,15 @@ impl Store {
         ensures step { (s : State) → Stands self.old s → (t : State) × Answers s (asking s (request_of asked.now) body) result t × Stands self.new t }
         ensures last { result ≡ Reply.Refused Refusal.NoRoom → (s : State) → Stands self.old s → cause_against s (request_of asked.now) body ≡ None }
     {
-        if let Some(cause) = self.cause_against(asked, &body) {
+        let place = self.content.place(&asked.key);
+        if let Some(cause) = self.cause_against(place, asked, &body) {
             return answer_to(cause);
         }
-        let Ok(owed) = self.content.owed(&asked.key) else {
+        let Ok(owed) = self.content.owed_at(place, &asked.key) else {
             return Reply::Refused(Refusal::NoRoom);
         };
         let change = change_asked(asked, body, self.content.name_of(asked.caller));
-        match self.content.accept(change, owed) {
+        match self.content.accept_at(place, change, owed) {
             Ok(()) => Reply::Changed {
                 owed: owed.number(),
             },

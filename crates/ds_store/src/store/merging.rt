@@ -2,6 +2,8 @@
 
 ghost use Rattle.std.specs.Prelude.{◌≡◌, ◌∷◌, [], None, Err, IfNone, map};
 ghost use Rattle.ds_entry.specs.declared.item.Item.TheVariants.{Change as Changed, Floor as Floored};
+ghost use Rattle.ds_held.specs.Kept.{IsPlace};
+ghost use Rattle.ds_machine.specs.Parts.{changes_in};
 ghost use Rattle.ds_machine.specs.Standing.{cause_of};
 ghost use Rattle.ds_machine.specs.State.{State};
 ghost use Rattle.ds_machine.specs.Machine.{Step};
@@ -23,12 +25,13 @@ use ds_names::NoRoom;
 use ds_watch::Mask;
 
 impl Store {
-    // What is there before a change.
-    fn standing(&self, change: &Change) -> Standing<'_>
+    // What is there before a change whose place is told.
+    fn standing(&self, place: Result<usize, usize>, change: &Change) -> Standing<'_>
+        requires { IsPlace (changes_in self.now.held) change.now.key place }
         ensures { machine_standing result ≡ standing_in self.now change.now }
     {
         Standing {
-            held: self.content.get(change.key()),
+            held: self.content.get_at(place),
             void: self.content.is_void(change),
             count: self.content.count(),
             most: self.content.limits().keys(),
@@ -36,12 +39,13 @@ impl Store {
         }
     }
 
-    // The first cause against a change that another holder gave.
-    fn cause_of_change(&self, change: &Change) -> Option<Cause>
+    // The first cause against a change that another holder gave, and whose place is told.
+    fn cause_of_change(&self, place: Result<usize, usize>, change: &Change) -> Option<Cause>
+        requires { IsPlace (changes_in self.now.held) change.now.key place }
         ensures first { (s : State) → Stands self.now s → result ≡ cause_of s (Changed change.now) }
         ensures free { IfNone result (IsFree self.now change.now) }
     {
-        let standing = self.standing(change);
+        let standing = self.standing(place, change);
         cause_of_change(&standing, change)
     }
 
@@ -60,16 +64,17 @@ impl Store {
         ensures step { (s : State) → Stands self.old s → (t : State) × MergesItem s (Changed change.now) result t × Stands self.new t }
         ensures last { result ≡ Err Refusal.NoRoom → (s : State) → Stands self.old s → cause_of s (Changed change.now) ≡ None }
     {
-        if let Some(cause) = self.cause_of_change(change) {
+        let place = self.content.place(change.key());
+        if let Some(cause) = self.cause_of_change(place, change) {
             return passed_as(cause);
         }
-        let Ok(owed) = self.content.owed(change.key()) else {
+        let Ok(owed) = self.content.owed_at(place, change.key()) else {
             return Err(Refusal::NoRoom);
         };
         let Ok(change) = change.copy(self.alloc) else {
             return Err(Refusal::NoRoom);
         };
-        match self.content.accept(change, owed) {
+        match self.content.accept_at(place, change, owed) {
             Ok(()) => {
                 total.add(owed);
                 Ok(Merge::Taken)

@@ -1,9 +1,9 @@
-use Rattle.std.proofs.Common.{◌≡◌, List, ap, sym, ◌∙◌, subst, rules}
+use Rattle.std.proofs.Common.{◌≡◌, List, length, ap, sym, ◌∙◌, subst, rules}
 use Rattle.std.specs.List.{remove}
 use Rattle.std.specs.List.Sorted.{IsStrictlySortedBy}
 use Rattle.ds_index.specs.declared.named.Named.{Named}
 use Rattle.ds_index.specs.Named.{named_cmp, inserted}
-use Rattle.ds_index.proofs.NamedLemmas.{IsPlaceOf, stands_at, stands_within, set_there, removed_sorted}
+use Rattle.ds_index.proofs.NamedLemmas.{IsNear, stands_at, stands_within, set_there, removed_sorted}
 use Rattle.ds_index.proofs.index.replace.Goals as goal
 
 pub index_mut-requires : goal.index_mut-requires
@@ -19,13 +19,17 @@ add-requires-clause-sorted c =
     let left : c.remove.new.self.items ≡ remove c.args.names.now.items c.place_of-old.result = search rules in
     subst (IsStrictlySortedBy named_cmp) (sym left) (removed_sorted c.args.names.now.items c.place_of-old.result c.requires.sorted)
 
+pub stays-requires-clause-within : goal.stays-requires-clause-within
+stays-requires-clause-within c =
+    stands_within c.args.before.now c.args.names.now.items c.deref.result.now c.place_of-old.result _ c.requires.sorted c.requires.listed c.deref.ensures.value c.place_of-old.ensures.place (ap (λ (l : List Named). length l) c.deref-2.ensures.value)
+
 pub returns-then-stays : goal.returns-then-stays
 returns-then-stays c =
     let here = stands_at c.args.before.now c.args.names.now.items c.deref.result.now c.place_of-old.result c.requires.sorted c.requires.listed c.deref.ensures.value c.place_of-old.ensures.place in
-    let near = c.stays.ensures c.if-stays.true in (
+    let near : IsNear c.args.after c.args.names.now.items c.place_of-old.result = subst (λ (l : List Named). IsNear c.args.after l c.place_of-old.result) c.deref-2.ensures.value (c.stays.ensures c.if-stays.true) in (
       c.place_of-old.result,
       here,
-      set_there c.args.after c.args.before.now c.args.names.now.items c.place_of-old.result c.place_of-new.result here (subst (λ (l : List Named). IsPlaceOf c.args.after l c.place_of-new.result) c.deref-2.ensures.value c.place_of-new.ensures.place) near.0 near.1,
+      set_there c.args.after c.args.before.now c.args.names.now.items c.place_of-old.result near.0 here near.1 near.2 near.3,
     )
 
 pub returns-else-stays : goal.returns-else-stays

@@ -8,5 +8,5 @@ use Rattle.ds_index.proofs.labelled.merging.merge_labelled.Goals as goal
 pub returns-then-not-is_label-clause-indexed : goal.returns-then-not-is_label-clause-indexed
 returns-then-not-is_label-clause-indexed g c =
     let no : c.is_label.result ≡ false = search rules in
-    subst (λ (h : Holding). IsIndexed h.changes c.args.index.now.names) (sym c.merge.ensures.held)
-    (unlabelled_kept c.args.held.now.held c.args.change c.merge.result c.args.index.now.names c.requires (λ e. c.is_label.ensures.no no (ap (λ (k : Key). k.kind) c.key.ensures.value ∙ e)))
+    subst (λ (h : Holding). IsIndexed h.changes c.args.index.now.names) (sym c.merge_at.ensures.held)
+    (unlabelled_kept c.args.held.now.held c.args.change c.merge_at.result c.args.index.now.names c.requires.indexed (λ e. c.is_label.ensures.no no (ap (λ (k : Key). k.kind) c.key.ensures.value ∙ e)))

@@ -12,7 +12,7 @@ use Rattle.ds_index.proofs.labelled.merging.merge_new.Goals as goal
 pub returns-in-Ok-Taken-clause-indexed : goal.returns-in-Ok-Taken-clause-indexed
 returns-in-Ok-Taken-clause-indexed g c =
     let old = c.args.held.now.held in
-    let held : c.merge-2.new.self.held ≡ after_merge old c.args.change (Ok Taken) = subst (λ (r : Merge). c.merge-2.new.self.held ≡ after_merge old c.args.change (Ok r)) c.in-Ok-Taken.field-0-is c.in-Ok-Taken.ensures.held in
+    let held : c.merge_at-2.new.self.held ≡ after_merge old c.args.change (Ok Taken) = subst (λ (r : Merge). c.merge_at-2.new.self.held ≡ after_merge old c.args.change (Ok r)) c.in-Ok-Taken.field-0-is c.in-Ok-Taken.ensures.held in
     let listed : IsIndexed old.changes c.reserve.new.self.names = subst (IsIndexed old.changes) (sym c.reserve.ensures.names) c.requires.indexed in
     let after = named_at c.endpoint_in.result c.key.result.now.name in
     subst (λ (h : Holding). IsIndexed h.changes c.add.new.self.names) (sym held)

@@ -13,7 +13,7 @@ use Rattle.ds_index.proofs.labelled.merging.merge_over.Goals as goal
 pub returns-in-Ok-Taken-clause-indexed : goal.returns-in-Ok-Taken-clause-indexed
 returns-in-Ok-Taken-clause-indexed g c =
     let old = c.args.held.now.held in
-    let held : c.merge.new.self.held ≡ after_merge old c.args.change (Ok Taken) = subst (λ (r : Merge). c.merge.new.self.held ≡ after_merge old c.args.change (Ok r)) c.in-Ok-Taken.field-0-is c.in-Ok-Taken.ensures.held in
+    let held : c.merge_at.new.self.held ≡ after_merge old c.args.change (Ok Taken) = subst (λ (r : Merge). c.merge_at.new.self.held ≡ after_merge old c.args.change (Ok r)) c.in-Ok-Taken.field-0-is c.in-Ok-Taken.ensures.held in
     let after = named_at c.endpoint_in.result c.key.result.now.name in
     let before = c.args.before.now in
     subst (λ (h : Holding). IsIndexed h.changes c.replace.new.self.names) (sym held)

@@ -13,7 +13,7 @@ use Rattle.ds_content.specs.Content.{ContentRecord}
 use Rattle.ds_content.specs.Stands.{Stands}
 use Rattle.ds_store.proofs.AnswerLemmas.{answered_no_room, asked_taken, owed_number}
 use Rattle.ds_store.proofs.store.Store.ask.Goals as goal
-use Rattle.ds_store.proofs.store.Store.ask.Goals.{in-Ok-accept, in-Err}
+use Rattle.ds_store.proofs.store.Store.ask.Goals.{in-Ok-accept_at, in-Err}
 
 pub returns-in-Some-clause-last : goal.returns-in-Some-clause-last
 returns-in-Some-clause-last c = λ e s stands.
@@ -29,13 +29,13 @@ returns-clause-step c = λ s stands.
     let here : Stands v s = subst (λ (x : ContentRecord). Stands x s) (sym c.self.view_is) stands in
     let change = c.change_asked-change.result in
     let none = sym (c.cause_against.ensures.first s stands) ∙ c.in_default.is in
-    elim c.match-accept.branch [
-      | in-Ok-accept w ↦
+    elim c.match-accept_at.branch [
+      | in-Ok-accept_at w ↦
           (let bits : w.number.result ≡ owed s (Changed change ∷ []) = owed_number s (Changed change) c.in-Ok.owed w.number.result w.number.ensures (c.in-Ok.ensures.owed s change here (ap (λ x. x.key) c.change_asked-change.ensures)) in (
             accepts s (Changed change ∷ []),
             subst (λ (r : Reply). Answers s (asking s a c.args.body) r (accepts s (Changed change ∷ []))) (sym w.result-is)
                 (asked_taken v s a c.args.body change w.number.result here none (c.change_asked-change.ensures ∙ ap (λ m. change_asked m a c.args.body) c.name_of.ensures) bits),
-            w.in-Ok-accept.ensures.ok s here,
+            w.in-Ok-accept_at.ensures.ok s here,
           ))
       | in-Err w ↦ (s, inr (record { reply_is = w.result-is; state_is = refl }), subst (λ (x : ContentRecord). Stands x s) (sym w.in-Err.ensures.err) here)
     ]

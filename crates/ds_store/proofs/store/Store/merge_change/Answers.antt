@@ -10,7 +10,7 @@ use Rattle.ds_content.specs.Stands.{Stands}
 use Rattle.ds_store.specs.Merging.{owed_after}
 use Rattle.ds_store.proofs.AnswerLemmas.{passed_no_room}
 use Rattle.ds_store.proofs.store.Store.merge_change.Goals as goal
-use Rattle.ds_store.proofs.store.Store.merge_change.Goals.{in-Ok-accept, in-Err}
+use Rattle.ds_store.proofs.store.Store.merge_change.Goals.{in-Ok-accept_at, in-Err}
 
 pub returns-in-Some-clause-last : goal.returns-in-Some-clause-last
 returns-in-Some-clause-last c = λ e s stands.
@@ -21,9 +21,9 @@ returns-in-Some-clause-last c = λ e s stands.
 pub returns-clause-owed : goal.returns-clause-owed
 returns-clause-owed c = λ s stands.
     let here : Stands c.self.inside.content s = subst (λ (x : ContentRecord). Stands x s) (sym c.self.view_is) stands in
-    elim c.match-accept.branch [
-      | in-Ok-accept w ↦
-          w.total-is ∙ w.add.ensures ∙ ap (either c.args.total.now) (c.in-Ok.ensures.owed s c.args.change.now here (sym c.key.ensures.value))
+    elim c.match-accept_at.branch [
+      | in-Ok-accept_at w ↦
+          w.total-is ∙ w.add.ensures ∙ ap (either c.args.total.now) (c.in-Ok.ensures.owed s c.args.change.now here (sym c.key-2.ensures.value))
           ∙ sym (ap (λ r. owed_after r c.args.total.now (padded (map (is_owed (Changed c.args.change.now ∷ [])) s.subscriptions))) w.result-is)
       | in-Err w ↦ w.total-is ∙ sym (ap (λ r. owed_after r c.args.total.now (padded (map (is_owed (Changed c.args.change.now ∷ [])) s.subscriptions))) w.result-is)
     ]

@@ -6,7 +6,7 @@ use Rattle.ds_held.specs.Held.{held_items}
 use Rattle.ds_held.specs.Marked.{marks_after}
 use Rattle.ds_held.proofs.KeptLemmas.{merged_joins}
 use Rattle.ds_held.proofs.FloorMarkLemmas.{floor_beside_merged, floor_marks_merged}
-use Rattle.ds_held.proofs.marked.Marked.merge.Goals as goal
+use Rattle.ds_held.proofs.marked.Marked.merge_at.Goals as goal
 
 pub returns-clause-marks : goal.returns-clause-marks
 returns-clause-marks g c = c.merge_marked.ensures.marks ∙ ap (λ h. marks_after h.marks c.args.change.key c.args.mark c.merge_marked.result) c.self.view_is

@@ -7,11 +7,12 @@ use Rattle.ds_feed.specs.Feed as feeds
 use Rattle.ds_feed.specs.Feed.{Feed}
 use Rattle.ds_feed.specs.Kept.{Keeps}
 use Rattle.ds_held.specs.Held.{Holding, held_items}
+use Rattle.ds_held.specs.Kept.{IsPlace}
 use Rattle.ds_held.specs.Marked.{marks_after}
 use Rattle.ds_held.specs.Merge.{after_merge, MergeAnswer}
 use Rattle.ds_join.specs.ItemTop.{IsTop}
 use Rattle.ds_join.specs.declared.merge.Merge.TheVariants.{Taken}
-use Rattle.ds_machine.specs.Parts.{held_at}
+use Rattle.ds_machine.specs.Parts.{changes_in, held_at}
 use Rattle.ds_machine.specs.State.{State, accepts}
 use Rattle.ds_watch.specs.Mask.{padded}
 use Rattle.ds_watch.specs.Masks.{fresh}
@@ -22,39 +23,43 @@ use Rattle.ds_content.specs.Free.{IsFree}
 use Rattle.ds_content.specs.Kept.{content_of}
 use Rattle.ds_content.specs.Stands.{Stands}
 use Rattle.ds_content.proofs.EnterLemmas.{effect, marked_then, places_then, change_view}
-use Rattle.ds_content.proofs.HoldingLemmas.{change_taken, change_new}
+use Rattle.ds_content.proofs.HoldingLemmas.{changes_are, change_taken, change_new}
 use Rattle.ds_content.proofs.KeptLemmas.{change_here, change_kept}
 use Rattle.ds_content.proofs.OpenLemmas.{on_err}
 use Rattle.ds_content.proofs.RoomLemmas.{change_enters}
-use Rattle.ds_content.proofs.content.Content.accept.Goals as goal
-use Rattle.ds_content.proofs.content.Content.accept.Goals.{In_ok-taken, After-push}
+use Rattle.ds_content.proofs.content.Content.accept_at.Goals as goal
+use Rattle.ds_content.proofs.content.Content.accept_at.Goals.{In_ok-taken, After-push}
 
 free : (c : In_ok-taken) → IsFree (content_of c.self.inside) c.args.change
 free c = subst (λ (v : ContentRecord). IsFree v c.args.change) (sym c.self.view_is) c.requires.free
 
+pub merge_at-requires : goal.merge_at-requires
+merge_at-requires c =
+    subst (λ l. IsPlace l c.args.change.key c.args.place) (changes_are c.self.inside.held.held) (subst (λ (v : ContentRecord). IsPlace (changes_in v.held) c.args.change.key c.args.place) (sym c.self.view_is) c.requires.place)
+
 pub taken-requires : goal.taken-requires
 taken-requires c =
     let f : IsFree (content_of c.self.inside) c.args.change = subst (λ (v : ContentRecord). IsFree v c.args.change) (sym c.self.view_is) c.requires.free in
-    change_taken c.self.inside.held.held c.held-held.ensures.sound c.args.change c.self.inside.held.held.limits.keys c.merge.result refl f.room f.kept c.merge.ensures.answer
+    change_taken c.self.inside.held.held c.held-held.ensures.sound c.args.change c.self.inside.held.held.limits.keys c.merge_at.result refl f.room f.kept c.merge_at.ensures.answer
 
 pub returns-in_err-taken-clause-wants : goal.returns-in_err-taken-clause-wants
 returns-in_err-taken-clause-wants c =
     let f : IsFree (content_of c.self.inside) c.args.change = subst (λ (v : ContentRecord). IsFree v c.args.change) (sym c.self.view_is) c.requires.free in
     let new : held_at (held_items c.self.inside.held.held) c.args.change.key ≡ None =
-    change_new c.self.inside.held.held c.held-held.ensures.sound c.args.change f.kept (subst (λ r. MergeAnswer c.self.inside.held.held c.args.change r) c.in_err-taken.ensures.err c.merge.ensures.answer) in
+    change_new c.self.inside.held.held c.held-held.ensures.sound c.args.change f.kept (subst (λ r. MergeAnswer c.self.inside.held.held c.args.change r) c.in_err-taken.ensures.err c.merge_at.ensures.answer) in
     on_err c.from_residual-in_err-taken.result ((held_at c.args.self.now.held c.args.change.key ≡ None) ⊎ (IsBodyInPlace c.args.change.body → ⊥)) (inl (subst (λ (v : ContentRecord). held_at v.held c.args.change.key ≡ None) c.self.view_is new))
 
 -- what is held is the top with the change
-joined : (c : In_ok-taken) → IsTop (held_items c.merge.new.self.held) (held_items c.self.inside.held.held ++ Changed c.args.change ∷ [])
-joined c = subst (λ r. OnOk r (IsTop (held_items c.merge.new.self.held) (held_items c.self.inside.held.held ++ Changed c.args.change ∷ []))) c.in_ok-taken.ensures.ok c.merge.ensures.joined
+joined : (c : In_ok-taken) → IsTop (held_items c.merge_at.new.self.held) (held_items c.self.inside.held.held ++ Changed c.args.change ∷ [])
+joined c = subst (λ r. OnOk r (IsTop (held_items c.merge_at.new.self.held) (held_items c.self.inside.held.held ++ Changed c.args.change ∷ []))) c.in_ok-taken.ensures.ok c.merge_at.ensures.joined
 
-held : (c : In_ok-taken) → c.merge.new.self.held ≡ after_merge c.self.inside.held.held c.args.change (Ok Taken)
-held c = c.merge.ensures.held ∙ ap (λ r. after_merge c.self.inside.held.held c.args.change r) c.in_ok-taken.ensures.ok
+held : (c : In_ok-taken) → c.merge_at.new.self.held ≡ after_merge c.self.inside.held.held c.args.change (Ok Taken)
+held c = c.merge_at.ensures.held ∙ ap (λ r. after_merge c.self.inside.held.held c.args.change r) c.in_ok-taken.ensures.ok
 
 -- its masks came with it
-marks : (c : In_ok-taken) → c.merge.new.self.marks ≡ insert c.self.inside.held.marks c.args.change.key (fresh c.args.owed)
+marks : (c : In_ok-taken) → c.merge_at.new.self.marks ≡ insert c.self.inside.held.marks c.args.change.key (fresh c.args.owed)
 marks c =
-    c.merge.ensures.marks ∙ ap (λ r. marks_after c.self.inside.held.marks c.args.change.key c.fresh.result r) c.in_ok-taken.ensures.ok
+    c.merge_at.ensures.marks ∙ ap (λ r. marks_after c.self.inside.held.marks c.args.change.key c.fresh.result r) c.in_ok-taken.ensures.ok
     ∙ ap (λ (m : Masks). insert c.self.inside.held.marks c.args.change.key m) c.fresh.ensures
 
 -- it is owed to those under whose query it is
@@ -69,10 +74,10 @@ returns-clause-ok c = λ s stands.
     let b = (goal.at.returns-clause-ok c).In_ok-taken in
     let d = (goal.at.returns-clause-ok c).After-push in
     let old = c.self.inside.held in
-    let new = c.merge.new.self in
+    let new = c.merge_at.new.self in
     effect old new c.self.inside.journal c.push.new.self c.self.inside.stamp c.self.inside.subscriptions (Changed c.args.change) c.args.owed (joined b) (ap (λ (h : Holding). h.limits) (held b))
-    (change_here old new c.args.change c.args.owed c.merge.ensures.sound (held b) (marks b) c.merge.ensures.floor_marks)
-    (change_kept old new c.args.change c.args.owed c.merge.ensures.sound (held b) (marks b) c.merge.ensures.floor_marks) (owes b) (pushed d)
+    (change_here old new c.args.change c.args.owed c.merge_at.ensures.sound (held b) (marks b) c.merge_at.ensures.floor_marks)
+    (change_kept old new c.args.change c.args.owed c.merge_at.ensures.sound (held b) (marks b) c.merge_at.ensures.floor_marks) (owes b) (pushed d)
     (λ t stood. change_enters (content_of c.self.inside) t c.args.change stood (free b)) s (subst (λ (v : ContentRecord). Stands v s) (sym c.self.view_is) stands)
 
 pub invariant_of-self-2 : goal.invariant_of-self-2
@@ -80,9 +85,9 @@ invariant_of-self-2 c =
     let b = (goal.at.invariant_of-self-2 c).In_ok-taken in
     let d = (goal.at.invariant_of-self-2 c).After-push in
     let old = c.self.inside.held in
-    let new = c.merge.new.self in
-    let here = change_here old new c.args.change c.args.owed c.merge.ensures.sound (held b) (marks b) c.merge.ensures.floor_marks in
-    let kept = change_kept old new c.args.change c.args.owed c.merge.ensures.sound (held b) (marks b) c.merge.ensures.floor_marks in
+    let new = c.merge_at.new.self in
+    let here = change_here old new c.args.change c.args.owed c.merge_at.ensures.sound (held b) (marks b) c.merge_at.ensures.floor_marks in
+    let kept = change_kept old new c.args.change c.args.owed c.merge_at.ensures.sound (held b) (marks b) c.merge_at.ensures.floor_marks in
     let bounds : new.held.limits ≡ old.held.limits = ap (λ (h : Holding). h.limits) (held b) in
     let enters = λ (t : State) (stood : Stands (content_of c.self.inside) t). change_enters (content_of c.self.inside) t c.args.change stood (free b) in
     let stood = c.self.invariant.stood in
