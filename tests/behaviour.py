@@ -242,7 +242,7 @@ def a_pattern_that_is_too_large(program):
 
 def costly_subscriptions(program):
     """Subscriptions at all places to patterns that are just not too costly: each answer to others is as without them."""
-    patterns = [b"(?:a?){39}=", b"(?:(?:a?){19}){2}=", b"(?:[ab]{0,25}){0,2}=", rb"\\w{4}=", rb"\\d{60}=", b"[ab]*a[ab]{20}="]
+    patterns = [b"(?:a?){39}=", b"(?:(?:a?){19}){2}=", b"(?:[ab]{0,25}){0,2}=", rb"\\w{1,60}=", rb"(?:\\w*a){4}=", b"[ab]*a[ab]{20}="]
     names = [b"a" * 52 + format(at, "012b").encode().translate(bytes.maketrans(b"01", b"ab")) for at in range(4095)]
     subscribes = [b'subscribe %d "%s" 15 first new\n' % (at, patterns[at % len(patterns)]) for at in range(128)]
     others = [b"publish 0/2 new driver label 3.0 = 3/16\n"]

@@ -1,28 +1,35 @@
--- What `regex` builds, refuses and finds is what the definitions say.
-use Rattle.std.proofs.Common.{◌≡◌, ◌≢◌, ◌⊎◌, ℕ, ◌<◌, ◌≤◌, true, false, List, length, get_or, Option, None, Some, IsSomeAnd, IfSome, is_some, refl, inl, inr, arith}
-use Rattle.std.specs.Prelude.{nat_le}
+-- What `regex` reads, refuses and finds is what the definitions say.
+use Rattle.std.proofs.Common.{◌≡◌, ◌≢◌, ◌⊎◌, ℕ, zero, suc, ◌+◌, ◌-◌, ◌<◌, ◌≤◌, true, false, not, All, List, length, get_or, Option, None, Some, IsSomeAnd, IfSome, is_some, option_map, if◌then◌else◌, refl, sym, ap, ◌∙◌, inl, inr, arith}
+use Rattle.std.specs.Prelude.{nat_le, slice_get}
+use Rattle.std.specs.Int.{is_in_range}
+use Rattle.std.specs.Option.{option_or}
+use Rattle.std.specs.Str.{IsAscii}
 use Rattle.std.proofs.lemmas.Bool.{le-leb, lt-leb}
-use Rattle.regex.specs.Patterns.{Re, Reads, Refuses, find_str, default_config, SameCaptures}
-use Rattle.regex.specs.Strings.{regex_pattern, regex_source, regex_config, IsReadFromSource}
-use Rattle.regex.specs.Sources.{IsRefusal}
-use Rattle.regex.specs.Failures.{IsRightKind}
-use Rattle.regex.specs.Names.{names_of}
-use Rattle.regex.specs.declared.error.Error.{Error}
-use Rattle.regex.specs.declared.error.Error.TheVariants.{Syntax, CompiledTooBig, Internal, OutOfMemory}
-use Rattle.regex.specs.declared.string.regex.Regex.{Regex}
-use Rattle.regex.proofs.ForCallers.{is_match_alike}
+use Rattle.std.proofs.lemmas.Bool.Decides.{nat_tests}
+use Rattle.std.proofs.lemmas.List.Elements.{All-from_get_or}
+use Rattle.std.proofs.lemmas.Option.{slice_get_cases, get_or_from_slice_get}
+use Rattle.regex_compile.specs.Implements.{Implements}
+use Rattle.regex_hir.specs.Re.{Re, Trace, Rest, accept, attempt}
+use Rattle.regex_hir.specs.Find.{Match, find_str, first_from}
+use Rattle.regex_hir.specs.Meaning.{meaning}
+use Rattle.regex_hir.specs.Text.{is_boundary, is_none_or}
 use Rattle.regex_hir.specs.declared.hir.Hir.{Hir}
+use Rattle.regex_nfa.specs.Run.{run}
+use Rattle.regex_nfa.specs.declared.nfa.Nfa.{Nfa}
 use Rattle.regex_syntax.specs.Brackets.{Nested}
+use Rattle.regex_syntax.specs.Captures.{SameCaptures, outcome}
 use Rattle.regex_syntax.specs.Grammar.{Names, group_count}
+use Rattle.regex_syntax.specs.Verdict.{default_config, Reads, Refuses}
 use Rattle.regex_syntax.specs.declared.error.ErrorKind.{ErrorKind}
 use Rattle.regex_syntax.specs.declared.error.ErrorKind.TheVariants as kind
 use Rattle.ds_pattern.specs.declared.pattern.PatternFault.{PatternFault}
 use Rattle.ds_pattern.specs.declared.pattern.PatternFault.TheVariants as fault
+use Rattle.ds_pattern.specs.Narrow.{SameInAscii}
 use Rattle.ds_pattern.specs.Under.{anchored, is_printable, is_read_as, is_regex, matches_whole, FindsWhole}
-use Rattle.ds_pattern.specs.Patterns.{is_pattern, IsPatternFault, IsSyntaxFault, fault_of}
+use Rattle.ds_pattern.specs.Patterns.{is_pattern, IsPatternFault, IsReadAs, IsSyntaxFault}
 use Rattle.ds_pattern.proofs.PrintableLemmas.{both, ascii_of_printable, chars_of_printable, printable_anchored, printable_of_name}
 
--- what a built pattern says of the text that it was read from
+-- what a tree says of the text that it was read from
 abbrev IsFound : Re → Names → ℕ → Nested Re × Names → Type 0
 IsFound re names limit found =
     (found.0.depth ≤ limit) × SameCaptures re found.0.value × (names ≡ found.1) × (group_count re ≤ length names)
@@ -31,31 +38,61 @@ within : (o : Option (Nested Re × Names)) (limit : ℕ) (re : Re) (names : Name
 within None limit re names h = absurd h
 within (Some x) limit re names h = le-leb _ _ h.0
 
-alike : (o : Option (Nested Re × Names)) (limit : ℕ) (re : Re) (names : Names) (hay : List ℕ) → ((k : ℕ) → get_or hay k 0 < 256) → IsSomeAnd o (IsFound re names limit) →
-    is_some (find_str re hay 0) ≡ is_read_as o (λ found. is_some (find_str found.value hay 0))
-alike None limit re names hay bytes h = absurd h
-alike (Some x) limit re names hay bytes h = is_match_alike h.1 hay bytes true 0
-
 -- a text that is read is a pattern
-pub regex_of_read : (text : List ℕ) (hir : Hir) (names : Names) → Reads default_config text hir names → is_printable text ≡ true → is_regex text ≡ true
+pub regex_of_read : (text : List ℕ) (tree : Hir) → IsReadAs text tree → is_printable text ≡ true → is_regex text ≡ true
 unfolding is_regex Reads
-regex_of_read text hir names reads printable = within _ _ _ _ (rw (chars_of_printable text printable) at reads)
+regex_of_read text tree h printable = within _ _ _ _ (rw (chars_of_printable text printable) at h.reads)
 
--- and so is one that was built
-pub regex_of_built : (r : Regex) (text : List ℕ) → regex_source r ≡ text → regex_config r ≡ default_config → IsReadFromSource r → is_printable text ≡ true → is_regex text ≡ true
-unfolding Reads
-regex_of_built r text source config was_read printable =
-    let reads : Reads default_config text r.pattern.program.hir (names_of r.pattern.names.items) = rw (source, config) at was_read in
-    regex_of_read text r.pattern.program.hir (names_of r.pattern.names.items) reads printable
+-- what is seen of a match tells whether there is one
+seen_of : (o : Option Trace) → is_some (outcome o) ≡ is_some o
+unfolding outcome
+seen_of None = refl
+seen_of (Some t) = refl
 
--- a pattern that was built of `^(?:P)$` is found in just the names that P matches whole
-pub finds_of_built : (r : Regex) (p : List ℕ) → regex_source r ≡ anchored p → regex_config r ≡ default_config → IsReadFromSource r → is_printable p ≡ true → FindsWhole (regex_pattern r) p
-unfolding FindsWhole matches_whole Reads
-finds_of_built r p source config was_read printable name is_name =
-    let reads : Reads default_config (anchored p) r.pattern.program.hir (names_of r.pattern.names.items) = rw (source, config) at was_read in
+seen : (o p : Option Trace) → outcome o ≡ outcome p → is_some o ≡ is_some p
+seen o p same = sym (seen_of o) ∙ ap is_some same ∙ seen_of p
+
+first_alike : (f g : Rest) → ((i : ℕ) → is_some (f i) ≡ is_some (g i)) → (n i : ℕ) → is_some (first_from f n i) ≡ is_some (first_from g n i)
+unfolding first_from
+first_alike f g alike zero i = refl
+first_alike f g alike (suc n) i = front (f i) (g i) (alike i) _ _ _ _ (first_alike f g alike n (i + 1)) where
+  front : (o p : Option Trace) → is_some o ≡ is_some p → (at there : Trace → Match) (q r : Option Match) → is_some q ≡ is_some r →
+      is_some (option_or (option_map at o) q) ≡ is_some (option_or (option_map there p) r)
+  front None None same at there q r rest = rest
+  front (Some s) (Some t) same at there q r rest = refl
+  front None (Some t) same at there q r rest = absurd cc
+  front (Some s) None same at there q r rest = absurd cc
+
+-- no byte of a text of ASCII goes on with a character
+boundary_of_ascii : (text : List ℕ) (i : ℕ) → IsAscii text → is_boundary text i ≡ true
+unfolding is_boundary
+boundary_of_ascii text i ascii = at (slice_get_cases text i).1 where
+  small : (b : ℕ) → b < 128 → not (is_in_range 0x80 0xBF b) ≡ true
+  small b h = grind (arith, nat_tests)
+
+  at : (((x : ℕ) × (i < length text) × (slice_get text i ≡ Some x) × (get_or text i x ≡ x)) ⊎ ((length text ≤ i) × (slice_get text i ≡ None))) → is_none_or (slice_get text i) (λ b. not (is_in_range 0x80 0xBF b)) ≡ true
+  at (inl h) =
+      let low : get_or text i 0 < 128 = ascii i in
+      rw h.2 (small h.0 (rw (get_or_from_slice_get text i h.0 0 h.2) at low))
+  at (inr h) = rw h.1 refl
+
+-- an automaton of the narrow tree finds a match in just the names that P matches whole
+pub finds_of_compiled : (nfa : Nfa) (narrow tree : Hir) (p : List ℕ) → Implements nfa (meaning narrow) → SameInAscii (meaning narrow) (meaning tree) → IsReadAs (anchored p) tree → is_printable p ≡ true → FindsWhole nfa p
+unfolding FindsWhole matches_whole Reads find_str
+finds_of_compiled nfa narrow tree p implements same read printable name is_name =
     let ascii = ascii_of_printable name (printable_of_name name is_name) in
-    let bytes : (k : ℕ) → get_or name k 0 < 256 = λ k. let small : get_or name k 0 < 128 = ascii k in omega arith in
-    alike _ _ _ _ name bytes (rw (chars_of_printable (anchored p) (printable_anchored p printable)) at reads)
+    alike _ _ _ _ (λ re captures. first_alike _ _ (λ i. step i re captures ascii) (length name + 1 - 0) 0) (rw (chars_of_printable (anchored p) (printable_anchored p printable)) at read.reads) where
+      bytes : IsAscii name → All (λ x. x < 256) name
+      bytes ascii = All-from_get_or (λ x. x < 256) name 0 (λ i inside. let small : get_or name i 0 < 128 = ascii i in omega (arith, small))
+
+      step : (i : ℕ) (re : Re) → SameCaptures (meaning tree) re → IsAscii name → is_some (run nfa name (length name) nfa.start i) ≡ is_some (if is_boundary name i then attempt name re accept i else None)
+      step i re captures ascii =
+          ap is_some (implements name i) ∙ same name ascii accept accept (λ j. refl) i ∙ seen _ _ (captures.at name (bytes ascii) accept i) ∙ rw (boundary_of_ascii name i ascii) refl
+
+      alike : (o : Option (Nested Re × Names)) (limit : ℕ) (re : Re) (names : Names) → ((other : Re) → SameCaptures re other → is_some (first_from (run nfa name (length name) nfa.start) (length name + 1 - 0) 0) ≡ is_some (find_str other name 0)) → IsSomeAnd o (IsFound re names limit) →
+          is_some (first_from (run nfa name (length name) nfa.start) (length name + 1 - 0) 0) ≡ is_read_as o (λ found. is_some (find_str found.value name 0))
+      alike None limit re names found h = absurd h
+      alike (Some x) limit re names found h = found x.0.value h.1
 
 refused_by : (o : Option (Nested Re × Names)) (limit : ℕ) (k : ErrorKind) → k ≢ kind.OutOfMemory → (k ≡ kind.OutOfMemory) ⊎ ((o ≡ None) ⊎ ((k ≡ kind.NestLimitExceeded) × IfSome o (λ (found, _). limit < found.depth))) →
     is_read_as o (λ found. nat_le found.depth limit) ≡ false
@@ -68,16 +105,6 @@ refused_by (Some x) limit k other (inr (inr h)) = lt-leb _ _ h.1
 pub no_regex_of_refused : (text : List ℕ) (k : ErrorKind) → Refuses default_config text k → k ≢ kind.OutOfMemory → is_printable text ≡ true → is_regex text ≡ false
 unfolding is_regex Refuses
 no_regex_of_refused text k refused other printable = refused_by _ _ k other (rw (chars_of_printable text printable) at refused)
-
-syntax_of : (text : List ℕ) (error : Error) → IsRefusal default_config text error → IsRightKind default_config text error → is_printable text ≡ true → IsSyntaxFault (fault_of error) text
-syntax_of text (Syntax e) refused right printable = no_regex_of_refused text e.kind (refused e refl) right printable
-syntax_of text CompiledTooBig refused right printable = tt
-syntax_of text Internal refused right printable = tt
-syntax_of text OutOfMemory refused right printable = tt
-
--- the fault of an error of `regex` is one that the text has
-pub syntax_fault : (text : List ℕ) (error : Error) (f : PatternFault) → f ≡ fault_of error → IsRefusal default_config text error → IsRightKind default_config text error → is_printable text ≡ true → IsSyntaxFault f text
-syntax_fault text error f same refused right printable = rw same (syntax_of text error refused right printable)
 
 -- a text that passes each test is a pattern, and each text that is one does
 pub accepted_of_parts : (p : List ℕ) → is_printable p ≡ true → is_regex p ≡ true → is_regex (anchored p) ≡ true → is_pattern p ≡ true

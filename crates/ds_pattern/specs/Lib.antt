@@ -1,3 +1,4 @@
 pub mod Under
 pub mod Patterns
 pub mod Steps
+pub mod Narrow

@@ -1,7 +1,8 @@
 -- What a pattern is, and why a text is none.
 use Rattle.std.specs.Prelude.{Bool, ℕ, ◌<◌, ◌≤◌, ◌&&◌, IsTrue, IsFalse, List, length, ⊤}
-use Rattle.regex.specs.declared.error.Error as regex
-use Rattle.regex.specs.declared.error.Error.TheVariants.{Syntax}
+use Rattle.regex_hir.specs.declared.hir.Hir.{Hir}
+use Rattle.regex_syntax.specs.Grammar.{Names}
+use Rattle.regex_syntax.specs.Verdict.{default_config, Reads}
 use Rattle.ds_pattern.specs.declared.pattern.PatternFault.{PatternFault}
 use Rattle.ds_pattern.specs.declared.pattern.PatternFault.TheVariants.{TooLong, BadPattern, NoRoom}
 use Rattle.ds_pattern.specs.Under.{anchored, is_printable, is_regex}
@@ -27,7 +28,7 @@ IsSyntaxFault TooLong text = ⊥
 IsSyntaxFault BadPattern text = IsFalse (is_regex text)
 IsSyntaxFault NoRoom text = ⊤
 
--- an error of syntax is a fault of the pattern, and each other one is want of room
-abbrev pub fault_of : regex.Error → PatternFault
-fault_of (Syntax e) = BadPattern
-fault_of _ = NoRoom
+-- `regex` reads the text as this tree, by its default options
+pub record IsReadAs (text : List ℕ) (tree : Hir) : Type 0 where
+  pub names : Names
+  pub reads : Reads default_config text tree names

@@ -1,9 +1,13 @@
 -- When a key is under a query: the query names its kind, and its pattern matches its name whole.
-use Rattle.std.specs.Prelude.{◌≡◌, ℕ, Bool, false, ◌&&◌, List, ◌++◌, Option, None, Some, is_some, codes, nat_le}
+use Rattle.std.specs.Prelude.{◌≡◌, ℕ, Bool, false, ◌&&◌, List, ◌++◌, length, Option, None, Some, is_some, codes, nat_le}
 use Rattle.std.specs.List.{list_all}
-use Rattle.regex.specs.Patterns.{Re, find_str, default_config}
+use Rattle.regex_hir.specs.Re.{Re}
+use Rattle.regex_hir.specs.Find.{find_str}
+use Rattle.regex_nfa.specs.declared.nfa.Nfa.{Nfa}
+use Rattle.regex_vm.specs.Found.{first_match}
 use Rattle.regex_syntax.specs.Brackets.{Nested}
 use Rattle.regex_syntax.specs.Grammar.{Names, read}
+use Rattle.regex_syntax.specs.Verdict.{default_config}
 use Rattle.ds_names.specs.Kind.{names_kind}
 use Rattle.ds_names.specs.Name.{IsName}
 use Rattle.ds_names.specs.declared.key.Key.{Key}
@@ -42,6 +46,6 @@ is_printable = list_all is_printable_byte
 unfoldable pub is_regex : List ℕ → Bool
 is_regex text = is_read_as (read default_config text) (λ re. nat_le re.depth default_config.nest_limit)
 
--- a search for the pattern finds it in a name just where P matches the name whole
-unfoldable pub FindsWhole : Re → List ℕ → Type 0
-FindsWhole re p = (name : List ℕ) → IsName name → is_some (find_str re name 0) ≡ matches_whole p name
+-- the automaton finds a match in just the names that P matches whole
+unfoldable pub FindsWhole : Nfa → List ℕ → Type 0
+FindsWhole nfa p = (name : List ℕ) → IsName name → is_some (first_match nfa name (length name) 0 (length name)) ≡ matches_whole p name

@@ -3,23 +3,24 @@
 ghost use Rattle.std.specs.Prelude.{◌≡◌, IfOk};
 ghost use Rattle.ds_pattern.specs.Under.{is_under, query_of};
 
-use crate::pattern::{Pattern, text_of};
+use crate::pattern::{Pattern, finds};
 use ds_names::{Key, Kinds, NoRoom};
-use regex::Matcher;
+use regex_nfa::Nfa;
+use regex_vm::PikeVm;
 use std::alloc::Global;
 use std::marker::Model;
 
-/// What asks a query about many keys. It takes memory where it is made; from then on its caches may grow, and no
-/// question fails.
+/// What asks a query about many keys. It takes memory where it is made, and no question takes any.
 #[derive(Drop)]
 pub struct Asker<'f> {
     pattern: &'f Pattern,
+    whole: &'f Nfa,
     kinds: Kinds,
-    matcher: Matcher<'f>,
+    machine: PikeVm,
 }
 
 impl<'f> Model for Asker<'f> {
-    ghost use Rattle.regex.specs.Strings.{matcher_pattern};
+    ghost use Rattle.std.specs.Prelude.{◌≡◌, vec_len};
     ghost use Rattle.ds_pattern.specs.declared.query.Query.{Query};
     ghost use Rattle.ds_pattern.specs.Under.{query_of, FindsWhole};
 
@@ -27,7 +28,7 @@ impl<'f> Model for Asker<'f> {
 
     ghost view = { λ a. query_of a.pattern.now a.kinds };
 
-    ghost invariant = { λ a. FindsWhole (matcher_pattern a.matcher) a.pattern.now };
+    ghost invariant = { λ a. FindsWhole a.whole.now a.pattern.now × (a.machine.states ≡ vec_len a.whole.now.states) };
 }
 
 impl<'f> Asker<'f> {
@@ -39,10 +40,12 @@ impl<'f> Asker<'f> {
     ) -> Result<Asker<'f>, NoRoom>
         ensures { IfOk result (λ asker. asker ≡ query_of pattern.now kinds) }
     {
+        let whole = pattern.whole();
         Ok(Asker {
             pattern,
+            whole,
             kinds,
-            matcher: pattern.matcher(alloc)?,
+            machine: PikeVm::new(alloc, whole)?,
         })
     }
 
@@ -52,6 +55,6 @@ impl<'f> Asker<'f> {
         ensures under { result ≡ is_under self.old key.now }
         ensures same { self.new ≡ self.old }
     {
-        self.kinds.has(key.kind) && self.matcher.is_match(text_of(key.name.bytes()))
+        self.kinds.has(key.kind) && finds(self.whole, &mut self.machine, &key.name)
     }
 }

@@ -8,6 +8,7 @@
 
 mod asker;
 mod filter;
+mod narrow;
 mod pattern;
 mod query;
 mod threads;

@@ -1,16 +1,22 @@
 //! Patterns that were read, and what they match.
 
-ghost use Rattle.std.specs.Prelude.{◌≡◌, ◌≤◌, ◌+◌, IsTrue, IfOk, OnOk, IfErr, string_bytes};
-ghost use Rattle.regex.specs.Strings.{matcher_pattern, regex_pattern, regex_size};
+ghost use Rattle.std.specs.Prelude.{◌≡◌, ◌≤◌, ◌+◌, IsTrue, IfOk, OnOk, IfErr, is_some, length, string_bytes, vec_len};
+ghost use Rattle.regex_vm.specs.Found.{first_match};
+ghost use Rattle.ds_names.specs.Name.{IsName};
+ghost use Rattle.regex_hir.specs.declared.hir.Hir.{Hir};
+ghost use Rattle.regex_nfa.specs.Sizes.{table_bytes};
 ghost use Rattle.ds_pattern.specs.Under.{anchored, is_printable, is_regex, matches_whole, FindsWhole};
-ghost use Rattle.ds_pattern.specs.Patterns.{IsPattern, IsPatternFault, IsSyntaxFault};
+ghost use Rattle.ds_pattern.specs.Patterns.{IsPattern, IsPatternFault, IsSyntaxFault, IsReadAs};
 ghost use Rattle.ds_pattern.specs.Steps.{IsCheap};
 
+use crate::narrow::narrowed;
 use crate::query::PatternText;
 use crate::work::{MOST_STEPS, steps};
 use ds_names::{Name, NoRoom};
-use regex::{Matcher, Regex, RegexBuilder};
+use regex_hir::Hir;
+use regex_nfa::Nfa;
 use regex_syntax::{Config, ErrorKind};
+use regex_vm::PikeVm;
 use std::alloc::{AllocError, Global};
 use std::marker::Model;
 use thiserror::Error;
@@ -42,37 +48,33 @@ impl From<AllocError> for PatternFault {
     }
 }
 
-impl From<regex::Error> for PatternFault {
+impl From<regex_compile::Error> for PatternFault {
     ghost use Rattle.std.specs.Prelude.{◌≡◌};
-    ghost use Rattle.ds_pattern.specs.Patterns.{fault_of};
+    ghost use Rattle.ds_pattern.specs.declared.pattern.PatternFault.TheVariants.{NoRoom as no_room};
 
-    ghost from_gives = { λ error fault. fault ≡ fault_of error };
+    ghost from_gives = { λ _ fault. fault ≡ no_room };
 
-    fn from(error: regex::Error) -> PatternFault {
-        match error {
-            regex::Error::Syntax(_) => PatternFault::BadPattern,
-            regex::Error::CompiledTooBig | regex::Error::Internal | regex::Error::OutOfMemory =>
-                PatternFault::NoRoom,
-        }
+    fn from(_error: regex_compile::Error) -> PatternFault {
+        PatternFault::NoRoom
     }
 }
 
 /// How many bytes the table of a compiled pattern may take: 12 for each state of its automaton and 8 for each
-/// range of bytes that leads from one to another. `regex` promises that it takes at most 24 bytes more.
-/// `bench/README.md` has what is measured beside it.
-pub const SIZE_LIMIT: usize = 1 << 16;
+/// range of bytes that leads from one to another. It takes at most 24 bytes more. `bench/README.md` has what is
+/// measured beside it.
+pub const SIZE_LIMIT: usize = 1 << 15;
 
 /// A pattern over names: a text of at most 128 bytes of printable ASCII that `regex` reads, by itself and
-/// within `^(?:` and `)$`, and whose compiled table keeps within the limit.
-#[derive(Debug, Drop)]
+/// within `^(?:` and `)$`, and the automaton that is compiled of it, whose table keeps within the limit.
+#[derive(Drop)]
 pub struct Pattern {
     text: String,
-    whole: Regex,
+    whole: Nfa,
 }
 
 impl Model for Pattern {
     ghost use Rattle.std.specs.Prelude.{◌≤◌, ℕ, List, string_bytes};
-    ghost use Rattle.regex.specs.Strings.{regex_pattern, regex_size};
+    ghost use Rattle.regex_nfa.specs.Sizes.{table_bytes};
     ghost use Rattle.ds_pattern.specs.Under.{FindsWhole};
     ghost use Rattle.ds_pattern.specs.Patterns.{IsPattern};
 
@@ -80,7 +82,7 @@ impl Model for Pattern {
 
     ghost view = { λ p. string_bytes p.text };
 
-    ghost invariant = { λ p. IsPattern (string_bytes p.text) × FindsWhole (regex_pattern p.whole) (string_bytes p.text) × (regex_size p.whole ≤ 0x10018) };
+    ghost invariant = { λ p. IsPattern (string_bytes p.text) × FindsWhole p.whole (string_bytes p.text) × (table_bytes p.whole ≤ 0x8018) };
 }
 
 impl Pattern {
@@ -108,19 +110,31 @@ impl Pattern {
         })
     }
 
-    /// Whether the pattern that `regex` builds of `^(?:P)$`, by its default options, matches the name.
+    /// Whether the pattern that `regex` reads in `^(?:P)$`, by its default options, matches the name.
     pub fn matches(&self, alloc: Global, name: &Name) -> Result<bool, NoRoom>
         ensures { IfOk result (λ yes. yes ≡ matches_whole self.now name.now) }
     {
-        Ok(self.matcher(alloc)?.is_match(text_of(name.bytes())))
+        let mut machine = PikeVm::new(alloc, &self.whole)?;
+        Ok(finds(&self.whole, &mut machine, name))
     }
 
-    // What finds the pattern in just the names that it matches whole.
-    pub(crate) fn matcher(&self, alloc: Global) -> Result<Matcher<'_>, NoRoom>
-        ensures { IfOk result (λ matcher. FindsWhole (matcher_pattern matcher) self.now) }
+    // Its automaton, which finds a match in just the names that it matches whole.
+    pub(crate) fn whole(&self) -> &Nfa
+        ensures { FindsWhole result.now self.now }
     {
-        Ok(self.whole.matcher(alloc)?)
+        &self.whole
     }
+}
+
+// Whether the automaton finds a match in the name. The machine has room for it.
+pub(crate) fn finds(whole: &Nfa, machine: &mut PikeVm, name: &Name) -> bool
+    requires { machine.old.states ≡ vec_len whole.now.states }
+    ensures found { result ≡ is_some (first_match whole.now name.now (length name.now) 0 (length name.now)) }
+    ensures named { IsName name.now }
+    ensures room { machine.new ≡ machine.old }
+{
+    let bytes = name.bytes();
+    machine.is_match(whole, bytes, 0, bytes.len(), bytes.len())
 }
 
 // Whether all bytes are printable ASCII.
@@ -132,7 +146,7 @@ fn is_printable(bytes: &[u8]) -> bool
 
 // The text of printable bytes.
 #[tactic(auto, using(crate::proofs::PrintableLemmas::utf8_of_printable))]
-pub(crate) fn text_of(bytes: &[u8]) -> &str
+fn text_of(bytes: &[u8]) -> &str
     requires { IsTrue (is_printable bytes.now) }
     ensures { result.now ≡ bytes.now }
 {
@@ -149,36 +163,43 @@ fn anchored(alloc: Global, text: &str) -> Result<String, AllocError>
     Ok(whole)
 }
 
-// Asks `regex` whether the text is a pattern, and refuses one that takes too many steps.
+// Reads the text as a pattern.
+fn tree_of(alloc: Global, text: &str) -> Result<Hir, PatternFault>
+    requires { IsTrue (is_printable text.now) }
+    ensures read { IfOk result (IsReadAs text.now) }
+    ensures refused { IfErr result (λ fault. IsSyntaxFault fault text.now) }
+{
+    match regex_syntax::parse(alloc, text, &Config::default()) {
+        Ok(parsed) => Ok(parsed.hir),
+        Err(error) if error.kind == ErrorKind::OutOfMemory => Err(PatternFault::NoRoom),
+        Err(_) => Err(PatternFault::BadPattern),
+    }
+}
+
+// Asks whether the text is a pattern, and refuses one that takes too many steps.
 fn judge(alloc: Global, text: &str) -> Result<(), PatternFault>
     requires { IsTrue (is_printable text.now) }
     ensures ok { OnOk result (IsTrue (is_regex text.now)) }
     ensures cheap { OnOk result (IsCheap text.now) }
     ensures refused { IfErr result (λ fault. IsSyntaxFault fault text.now) }
 {
-    let parsed = match regex_syntax::parse(alloc, text, &Config::default()) {
-        Ok(parsed) => parsed,
-        Err(error) if error.kind == ErrorKind::OutOfMemory => return Err(PatternFault::NoRoom),
-        Err(_) => return Err(PatternFault::BadPattern),
-    };
-    if steps(&parsed.hir) > MOST_STEPS {
+    let tree = tree_of(alloc, text)?;
+    if steps(&tree) > MOST_STEPS {
         return Err(PatternFault::NoRoom);
     }
     Ok(())
 }
 
 // Compiles `^(?:P)$`, for the pattern P.
-fn compile(alloc: Global, text: &str) -> Result<Regex, PatternFault>
+fn compile(alloc: Global, text: &str) -> Result<Nfa, PatternFault>
     requires { IsTrue (is_printable text.now) }
-    ensures finds { IfOk result (λ whole. FindsWhole (regex_pattern whole) text.now) }
-    ensures small { IfOk result (λ whole. regex_size whole ≤ 0x10018) }
+    ensures finds { IfOk result (λ whole. FindsWhole whole text.now) }
+    ensures small { IfOk result (λ whole. table_bytes whole ≤ 0x8018) }
     ensures ok { OnOk result (IsTrue (is_regex (anchored text.now))) }
     ensures refused { IfErr result (λ fault. IsSyntaxFault fault (anchored text.now)) }
 {
     let whole = anchored(alloc, text)?;
-    Ok(
-        RegexBuilder::new(whole.as_str())
-            .size_limit(SIZE_LIMIT)
-            .build(alloc)?,
-    )
+    let tree = tree_of(alloc, whole.as_str())?;
+    let narrow = narrowed(alloc, &tree)?;
+    Ok(regex_compile::compile(alloc, &narrow, 1, SIZE_LIMIT)?)
 }

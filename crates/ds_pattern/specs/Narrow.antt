@@ -1,0 +1,21 @@
+-- What a pattern keeps that is cut down to ASCII.
+use Rattle.std.specs.Prelude.{◌≡◌, ℕ, ◌≤◌, List, [], ◌∷◌, is_some, ⊤}
+use Rattle.std.specs.Str.{IsAscii}
+use Rattle.regex_class.specs.Ranges.{Range, in_ranges}
+use Rattle.regex_hir.specs.Re.{Re, Rest, attempt}
+
+-- both have the same members below 128
+abbrev pub SameAscii : List Range → List Range → Type 0
+SameAscii rs ss = (c : ℕ) → c ≤ 0x7F → in_ranges rs c ≡ in_ranges ss c
+
+-- in a text of ASCII the one pattern matches wherever the other does, whatever follows
+abbrev pub SameInAscii : Re → Re → Type 0
+SameInAscii a b =
+    (text : List ℕ) → IsAscii text → (k l : Rest) → ((i : ℕ) → is_some (k i) ≡ is_some (l i)) →
+    (i : ℕ) → is_some (attempt text a k i) ≡ is_some (attempt text b l i)
+
+-- so do those that stand at one place of two lists
+abbrev pub EachSame : List Re → List Re → Type 0
+EachSame [] [] = ⊤
+EachSame (a ∷ first) (b ∷ second) = SameInAscii a b × EachSame first second
+EachSame _ _ = ⊥
