@@ -1,0 +1,6 @@
+pub mod World
+pub mod Seeds
+pub mod Tally
+pub mod Run
+pub mod Account
+pub mod Messages
