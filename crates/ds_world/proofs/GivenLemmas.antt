@@ -1,5 +1,5 @@
 -- The laws of single events, of those of a run.
-use Rattle.std.proofs.Common.{◌≡◌, ℕ, Bool, List, [], ◌∷◌, ◌++◌, Option, Some, refl, ap, sym, ◌∙◌, subst}
+use Rattle.std.proofs.Common.{◌≡◌, ℕ, Bool, true, List, [], ◌∷◌, ◌++◌, Option, Some, refl, ap, sym, ◌∙◌, subst}
 use Rattle.ds_names.specs.declared.key.Key.{Key}
 use Rattle.ds_feed.specs.declared.cursor.Cursor.{Cursor}
 use Rattle.ds_feed.specs.Feed.{Feed, position}
@@ -13,23 +13,25 @@ use Rattle.ds_machine.specs.Scope.{keeps}
 use Rattle.ds_machine.specs.Subscription.{Subscription}
 use Rattle.ds_machine.specs.State.{subscription_at}
 use Rattle.ds_machine.specs.declared.command.Command.{Command}
-use Rattle.ds_machine.specs.declared.command.Command.TheVariants.{Check, Since, Snapshot, Page}
+use Rattle.ds_machine.specs.declared.command.Command.TheVariants.{Subscribe, Check, Since, Snapshot, Page}
+use Rattle.ds_machine.specs.declared.reply.Reply.TheVariants.{Subscribed}
 use Rattle.ds_replica.specs.declared.event.Side.{Side}
 use Rattle.ds_replica.specs.declared.event.Event.{Event}
 use Rattle.ds_replica.specs.declared.event.Event.TheVariants.{Ask, Deliver}
 use Rattle.ds_replica.specs.declared.outcome.Outcome.{Outcome}
-use Rattle.ds_replica.specs.declared.outcome.Outcome.TheVariants.{Made, Stopped}
+use Rattle.ds_replica.specs.declared.outcome.Outcome.TheVariants.{Replied, Made, Stopped}
 use Rattle.ds_replica.specs.World.{World}
 use Rattle.ds_replica.specs.Happens.{HappenAll}
 use Rattle.ds_replica.specs.Known.{Account, store_of, extended, extended_all}
 use Rattle.ds_replica.specs.Messages.{IsAsked, after, feed_of, IsMessage}
 use Rattle.ds_replica.proofs.EventLemmas.{events_fit}
 use Rattle.ds_replica.proofs.MessageLemmas.{snapshot_is_whole, since_extends, page_is_turn, check_is_turn}
+use Rattle.ds_replica.proofs.CheckLemmas.{checks_are_whole}
 use Rattle.ds_world.specs.World.{WorldRecord}
 use Rattle.ds_world.specs.Run.{paired, RunLeads}
 use Rattle.ds_replica.proofs.ClashLemmas.{nothing_stops}
 use Rattle.ds_world.specs.Account.{IsFor, NothingStops}
-use Rattle.ds_world.specs.Messages.{WasGiven, SnapshotsAreWhole, SincesExtend, PagesAreTurns, ChecksAreTurns}
+use Rattle.ds_world.specs.Messages.{WasGiven, SnapshotsAreWhole, SincesExtend, PagesAreTurns, ChecksAreTurns, AllChecksAreWhole}
 
 -- events that happened one after the other, in two parts
 happen_split : (xs ys : List (Event × Outcome)) (w new : World) → HappenAll w (xs ++ ys) new → (mid : World) × HappenAll w xs mid × HappenAll mid ys new
@@ -68,7 +70,7 @@ module _ (account : Account) (old new : WorldRecord) (events : List Event) (outc
 
   pub pages : PagesAreTurns account (paired events outcomes)
   pages side scope behind max k g =
-      subst (λ (now : Account). (t : PageTurn) × (t.max ≡ max) × IsPageTurn (feed_of now side) (keeps scope) behind t × IsMessage now k (given t.known t.page.items)) (now_is side (Page scope behind max) k g)
+      subst (λ (now : Account). (t : PageTurn) × (t.max ≡ max) × (t.feed ≡ feed_of (extended_all account g.before) side) × IsPageTurn (feed_of now side) (keeps scope) behind t × IsMessage now k (given t.known t.page.items)) (now_is side (Page scope behind max) k g)
       (page_is_turn (extended_all account g.before) (parts side (Page scope behind max) k g).0 late side scope behind max k g.since (asked side (Page scope behind max) k g))
 
   pub checks : ChecksAreTurns account (paired events outcomes)
@@ -82,3 +84,11 @@ module _ (account : Account) (old new : WorldRecord) (events : List Event) (outc
   stops before since k holder count done fault owed e single contradicts =
       let t = happen_split before ((Deliver k holder count, Stopped done fault owed) ∷ since) f.0 late (subst (λ (l : List (Event × Outcome)). HappenAll f.0 l late) (sym e) (run f.0 f.1).1) in
       nothing_stops (extended_all account before) t.0 t.2.0 k holder count done fault owed (events_fit account f.0 t.0 before f.2 t.1) single t.2.1 contradicts
+
+  pub all_checks : AllChecksAreWhole account (paired events outcomes)
+  all_checks side sub query max k g few =
+      let subscribe : Event × Outcome = (Ask side (Subscribe sub query true g.overwrite), Replied (Subscribed g.stamp g.owed)) in
+      let check : Event × Outcome = (Ask side (Check sub max), Made k) in
+      let first = happen_split g.before (subscribe ∷ (g.between ++ check ∷ g.since)) f.0 late (subst (λ (l : List (Event × Outcome)). HappenAll f.0 l late) (sym g.all) (run f.0 f.1).1) in
+      let rest = happen_split g.between (check ∷ g.since) first.2.0 late first.2.2 in
+      checks_are_whole (extended_all account g.before) first.0 first.2.0 rest.0 rest.2.0 side sub query g.overwrite g.stamp g.owed g.between max k (events_fit account f.0 first.0 g.before f.2 first.1) first.2.1 rest.1 g.stays g.alone rest.2.1 few

@@ -8,7 +8,7 @@ ghost use Rattle.ds_replica.specs.Known.{Account, new_account, extended_all};
 ghost use Rattle.ds_world.specs.World.{store_in, Stands};
 ghost use Rattle.ds_world.specs.Seeds.{AreSeeds, IsSeedFault};
 ghost use Rattle.ds_world.specs.Run.{paired, EventLeads, RunLeads, IsRunFault};
-ghost use Rattle.ds_world.specs.Messages.{SnapshotsAreWhole, SincesExtend, PagesAreTurns, ChecksAreTurns};
+ghost use Rattle.ds_world.specs.Messages.{SnapshotsAreWhole, SincesExtend, PagesAreTurns, ChecksAreTurns, AllChecksAreWhole};
 ghost use Rattle.ds_world.specs.Account.{IsFor, Agrees, CatchesUp, KeepsUp, NamesNewest, NothingClashes, NothingStops, FloorsStand, StayItems, TurnsAreRun, WholeStays};
 
 use crate::events::Events;
@@ -103,6 +103,7 @@ impl World {
         ensures sinces { IfOk result (λ outcomes. (account : Account) → IsFor account self.old → SincesExtend account (paired events outcomes)) }
         ensures pages { IfOk result (λ outcomes. (account : Account) → IsFor account self.old → PagesAreTurns account (paired events outcomes)) }
         ensures checks { IfOk result (λ outcomes. (account : Account) → IsFor account self.old → ChecksAreTurns account (paired events outcomes)) }
+        ensures all_checks { IfOk result (λ outcomes. (account : Account) → IsFor account self.old → AllChecksAreWhole account (paired events outcomes)) }
         ensures turns { IfOk result (λ outcomes. TurnsAreRun self.old (paired events outcomes) self.new) }
         ensures refused { IfErr result (λ fault. IsRunFault fault events) }
         ensures unchanged { OnErr result (self.new ≡ self.old) }

@@ -1,5 +1,5 @@
 use Rattle.ds_world.proofs.HeadlineLemmas.{account_fits, agree_after, catch_up_after, keep_up_after, newest_after, clashes_after, floors_after, items_stay, stays_whole, turns}
-use Rattle.ds_world.proofs.GivenLemmas.{snapshots, sinces, pages, checks, stops}
+use Rattle.ds_world.proofs.GivenLemmas.{snapshots, sinces, pages, checks, all_checks, stops}
 use Rattle.ds_world.proofs.world.World.run.Goals as goal
 
 pub returns-clause-account : goal.returns-clause-account
@@ -43,6 +43,9 @@ returns-clause-pages c account = pages account c.args.self.now c.happen_all.new.
 
 pub returns-clause-checks : goal.returns-clause-checks
 returns-clause-checks c account = checks account c.args.self.now c.happen_all.new.self c.args.events c.happen_all.result c.happen_all.ensures.done
+
+pub returns-clause-all_checks : goal.returns-clause-all_checks
+returns-clause-all_checks c account = all_checks account c.args.self.now c.happen_all.new.self c.args.events c.happen_all.result c.happen_all.ensures.done
 
 pub returns-clause-turns : goal.returns-clause-turns
 returns-clause-turns c = turns c.args.self.now c.happen_all.new.self c.args.events c.happen_all.result c.happen_all.ensures.done
