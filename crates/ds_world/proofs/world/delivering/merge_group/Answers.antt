@@ -10,11 +10,11 @@ use Rattle.ds_world.proofs.world.delivering.merge_group.Goals as goal
 
 pub returns-in-Ok-clause-step : goal.returns-in-Ok-clause-step
 returns-in-Ok-clause-step c =
-    λ s stands. subst (λ (l : List Item). (t : State) × Step s (Merge l) c.apply.result t × Stands c.apply.new.store t) c.in-Ok.ensures.group (c.apply.ensures.step s stands)
+    λ s stands. subst (λ (l : List Item). (t : State) × Step s (Merge l) c.apply.result t × Stands c.apply.new.self t) c.in-Ok.ensures.group (c.apply.ensures.step s stands)
 
 pub returns-in-Ok-clause-counted : goal.returns-in-Ok-clause-counted
 returns-in-Ok-clause-counted c =
-    let stood = c.cursor.ensures.stood in
+    let stood = c.cursor-stood.ensures.stood in
     let went = c.apply.ensures.step stood.0 stood.1 in
     let items = c.args.items.now in
     let long : length (take (c.args.end - c.args.from) (drop c.args.from items)) ≡ c.args.end - c.args.from = length-take-le (c.args.end - c.args.from) (drop c.args.from items) (omega (arith, length-drop c.args.from items)) in

@@ -12,4 +12,4 @@ returns-in-Err c =
     let state = map_state c.args.map.now in
     let first = take c.args.count c.args.items.now in
     let some : 0 < length first = omega (arith, c.requires, length-take-le c.args.count c.args.items.now c.requires, c.in-Err.ensures.some) in
-    subst (λ (t : Tally). MapTakes state first t state) (sym c.ended.ensures) (uncopied c.args.map.now first some c.held-_held.ensures.map.sound)
+    subst (λ (t : Tally). MapTakes state first t state) (sym c.ended.ensures) (uncopied c.args.map.now first some c.held-held.ensures.map.sound)
