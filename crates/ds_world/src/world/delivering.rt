@@ -76,11 +76,7 @@ fn merge_from(
     if done >= count {
         return Tally::ended(0, 0, None);
     }
-    let end = if count - done > MOST_ITEMS {
-        done + MOST_ITEMS
-    } else {
-        count
-    };
+    let end = done + MOST_ITEMS.min(count - done);
     match merge_group(alloc, store, items, done, end) {
         Reply::Merged {
             taken, stale, owed, ..
