@@ -14,6 +14,7 @@ use Rattle.ds_replica.specs.declared.event.Side.{Side}
 use Rattle.ds_replica.specs.declared.event.Side.TheVariants.{A, B}
 use Rattle.ds_replica.specs.declared.event.Holder.{Holder}
 use Rattle.ds_replica.specs.declared.event.Holder.TheVariants.{Store, Map}
+use Rattle.ds_replica.specs.declared.event.Event.{Event}
 use Rattle.ds_replica.specs.declared.event.Event.TheVariants.{Deliver}
 use Rattle.ds_replica.specs.declared.outcome.Outcome.{Outcome}
 use Rattle.ds_replica.specs.declared.outcome.Outcome.TheVariants.{Refused}
@@ -25,6 +26,12 @@ use Rattle.ds_replica.specs.Happens.{count_of, delivery_fault, is_there, tally_o
 use Rattle.ds_world.specs.World.{WorldRecord, map_state, Stands}
 use Rattle.ds_world.specs.Run.{EventLeads}
 use Rattle.ds_world.proofs.StandLemmas.{map_is, lt_true, lt_false}
+
+-- an event that leads from one value to another does so by whatever names they have
+pub carried : {event event' : Event} {outcome outcome' : Outcome} {old old' new new' : WorldRecord} → event ≡ event' → outcome ≡ outcome' → old ≡ old' → new ≡ new' → EventLeads event outcome old new → EventLeads event' outcome' old' new'
+carried {event' = event'} {outcome = outcome} {outcome' = outcome'} {old = old} {old' = old'} {new = new} e o was is leads =
+    subst (λ (v : WorldRecord). EventLeads event' outcome' old' v) is
+    (subst (λ (v : WorldRecord). EventLeads event' outcome' v new) was (subst (λ (x : Outcome). EventLeads event' x old new) o (subst (λ (x : Event). EventLeads x outcome old new) e leads)))
 
 module _ (value : WorldRecord) (k : ℕ) (count : Option ℕ) where
   message_is : (w : World) → Stands value w → slice_get w.messages k ≡ slice_get value.messages k

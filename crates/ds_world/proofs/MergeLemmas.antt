@@ -2,7 +2,7 @@
 use Rattle.std.proofs.Common.{◌≡◌, ℕ, ◌+◌, ◌-◌, ◌<◌, ◌≤◌, List, [], ◌∷◌, ◌++◌, length, length-drop, get_or, map, take, drop, Option, Some, None, refl, ap, ap₂, sym, ◌∙◌, subst, inl, inr, arith, Contains}
 use Rattle.std.specs.List.{flat_map}
 use Rattle.std.specs.List.{slice_get}
-use Rattle.std.proofs.lemmas.List.{drop-drop, get_or-drop, take_more}
+use Rattle.std.proofs.lemmas.List.{drop-drop, get_or-drop, length-take, take_more}
 use Rattle.std.proofs.lemmas.Option.{get_or_from_slice_get, slice_get_within}
 use Rattle.std.proofs.lemmas.List.Concat.{flat_map-cons}
 use Rattle.std.proofs.Math.Seq.{take-add}
@@ -41,48 +41,13 @@ few_cons group groups l few g h = elim (Contains-cons group groups g h) [ inl e 
 all_cons : (group rest : List Item) (groups : List (List Item)) → flat_map (λ (g : List Item). g) groups ≡ rest → flat_map (λ (g : List Item). g) (group ∷ groups) ≡ group ++ rest
 all_cons group rest groups e = flat_map-cons (λ (g : List Item). g) group groups ∙ ap (λ (l : List Item). group ++ l) e
 
--- ---- a delivery to a store
--- nothing is left
-pub takes_nothing : (s : State) → StoreTakes s [] (ended 0 0 None) s
-takes_nothing s = record { groups = []; all = refl; few = λ g h. absurd (Contains-nil g h); merged = (refl, refl) }
-
-module _ (s mid : State) (group rest : List Item) (l : length group ≤ most_items) where
-  -- a Merge was done, and the others follow
-  pub takes_more : (done taken stale owed : ℕ) (later : Tally) (new : State) → Step s (Merge group) (Merged done taken stale owed) mid → StoreTakes mid rest later new → StoreTakes s (group ++ rest) (added done taken stale owed later) new
-  takes_more done taken stale owed later new step t =
-      record {
-        groups = group ∷ t.groups;
-        all = all_cons group rest t.groups t.all;
-        few = few_cons group t.groups l t.few;
-        merged = (Merged done taken stale owed, mid, step, (later, t.merged, refl));
-      }
-
-  -- a Merge was stopped, or refused, and nothing more was asked
-  pub takes_stopped : (done owed : ℕ) (fault : Refusal) → Step s (Merge group) (MergeStopped done fault owed) mid → StoreTakes s (group ++ rest) (ended done owed (Some fault)) mid
-  takes_stopped done owed fault step =
-      record {
-        groups = group ∷ singles rest;
-        all = all_cons group rest (singles rest) (singles_all rest);
-        few = few_cons group (singles rest) l (singles_few rest);
-        merged = (MergeStopped done fault owed, mid, step, (refl, refl));
-      }
-
-  pub takes_refused : (fault : Refusal) → Step s (Merge group) (Refused fault) mid → StoreTakes s (group ++ rest) (ended 0 0 (Some fault)) mid
-  takes_refused fault step =
-      record {
-        groups = group ∷ singles rest;
-        all = all_cons group rest (singles rest) (singles_all rest);
-        few = few_cons group (singles rest) l (singles_few rest);
-        merged = (Refused fault, mid, step, (refl, refl));
-      }
-
 -- ---- items in groups
 -- the items from one place on and before another, cut at a place between
-pub cut : (items : List Item) (done end count : ℕ) → done ≤ end → end ≤ count → take (count - done) (drop done items) ≡ take (end - done) (drop done items) ++ take (count - end) (drop end items)
-cut items done end count l m =
-    ap (λ n. take n (drop done items)) (omega (arith, l, m))
-    ∙ take-add (end - done) (count - end) (drop done items)
-    ∙ ap (λ (r : List Item). take (end - done) (drop done items) ++ take (count - end) r) (drop-drop (end - done) done items ∙ ap (λ n. drop n items) (omega (arith, l)))
+cut : (items : List Item) (from end count : ℕ) → from ≤ end → end ≤ count → take (count - from) (drop from items) ≡ take (end - from) (drop from items) ++ take (count - end) (drop end items)
+cut items from end count l m =
+    ap (λ n. take n (drop from items)) (omega (arith, l, m))
+    ∙ take-add (end - from) (count - end) (drop from items)
+    ∙ ap (λ (r : List Item). take (end - from) (drop from items) ++ take (count - end) r) (drop-drop (end - from) from items ∙ ap (λ n. drop n items) (omega (arith, l)))
 
 -- one more item of them
 pub copied_more : (items : List Item) (from i : ℕ) (x : Item) → from ≤ i → slice_get items i ≡ Some x → take (i + 1 - from) (drop from items) ≡ take (i - from) (drop from items) ++ x ∷ []
@@ -91,6 +56,58 @@ copied_more items from i x l at =
     ap (λ n. take n (drop from items)) (omega (arith, l))
     ∙ take_more (drop from items) (i - from) x (omega (arith, l, within, length-drop from items))
     ∙ ap (λ (y : Item). take (i - from) (drop from items) ++ y ∷ []) (get_or-drop from items (i - from) x ∙ ap (λ n. get_or items n x) (omega (arith, l)) ∙ get_or_from_slice_get items i x x at)
+
+-- ---- a delivery to a store
+-- nothing is left
+pub takes_nothing : (s : State) → StoreTakes s [] (ended 0 0 None) s
+takes_nothing s = record { groups = []; all = refl; few = λ g h. absurd (Contains-nil g h); merged = (refl, refl) }
+
+-- of the items from one place on and before another, those before a place between are a group
+module _ (s mid : State) (items : List Item) (from end count : ℕ) (l : from ≤ end) (m : end ≤ count) (n : end - from ≤ most_items) where
+  abbrev all_items : List Item
+  all_items = take (count - from) (drop from items)
+
+  abbrev group : List Item
+  group = take (end - from) (drop from items)
+
+  abbrev rest : List Item
+  rest = take (count - end) (drop end items)
+
+  few : length group ≤ most_items
+  few = omega (arith, n, length-take (end - from) (drop from items))
+
+  all_in : (groups : List (List Item)) → flat_map (λ (g : List Item). g) groups ≡ rest → flat_map (λ (g : List Item). g) (group ∷ groups) ≡ all_items
+  all_in groups e = all_cons group rest groups e ∙ sym (cut items from end count l m)
+
+  -- its Merge was done, and the others follow
+  pub takes_more : (done taken stale owed : ℕ) (later : Tally) (new : State) → done ≡ end - from → Step s (Merge group) (Merged done taken stale owed) mid → StoreTakes mid rest later new
+      → StoreTakes s all_items (added (end - from) taken stale owed later) new
+  takes_more done taken stale owed later new e step t =
+      record {
+        groups = group ∷ t.groups;
+        all = all_in t.groups t.all;
+        few = few_cons group t.groups few t.few;
+        merged = (Merged done taken stale owed, mid, step, (later, t.merged, ap (λ d. added d taken stale owed later) (sym e)));
+      }
+
+  -- its Merge was stopped, or refused, and nothing more was asked
+  pub takes_stopped : (done owed : ℕ) (fault : Refusal) (tally : Tally) → tally ≡ ended done owed (Some fault) → Step s (Merge group) (MergeStopped done fault owed) mid → StoreTakes s all_items tally mid
+  takes_stopped done owed fault tally e step =
+      record {
+        groups = group ∷ singles rest;
+        all = all_in (singles rest) (singles_all rest);
+        few = few_cons group (singles rest) few (singles_few rest);
+        merged = (MergeStopped done fault owed, mid, step, (e, refl));
+      }
+
+  pub takes_refused : (fault : Refusal) (tally : Tally) → tally ≡ ended 0 0 (Some fault) → Step s (Merge group) (Refused fault) mid → StoreTakes s all_items tally mid
+  takes_refused fault tally e step =
+      record {
+        groups = group ∷ singles rest;
+        all = all_in (singles rest) (singles_all rest);
+        few = few_cons group (singles rest) few (singles_few rest);
+        merged = (Refused fault, mid, step, (e, refl));
+      }
 
 -- ---- what the reply to a Merge counts
 pub counted : (s t : State) (items : List Item) (n : ℕ) (reply : Reply) → length items ≡ n → IsReached s → Step s (Merge items) reply t → IsMergeReply reply → IsCounted n reply

@@ -1,6 +1,6 @@
 //! How items of a message go to a holder.
 
-ghost use Rattle.std.specs.Prelude.{◌≡◌, ◌≤◌, ◌-◌, ◌+◌, length, take, drop, IfOk};
+ghost use Rattle.std.specs.Prelude.{◌≡◌, ◌<◌, ◌≤◌, ◌-◌, ◌+◌, length, take, drop, IfOk, OnErr};
 ghost use Rattle.ds_machine.specs.State.{State};
 ghost use Rattle.ds_machine.specs.Machine.{Step};
 ghost use Rattle.ds_machine.specs.declared.command.Command.TheVariants.{Merge};
@@ -25,10 +25,11 @@ use std::alloc::Global;
 /// The most items of one Merge.
 const MOST_ITEMS: usize = 256;
 
-// A copy of the items from `from` on and before `end`.
+// A copy of the items from `from` on and before `end`. It takes memory only where there are any.
 fn copied(alloc: Global, items: &ItemList, from: usize, end: usize) -> Result<ItemList, NoRoom>
     requires { (from ≤ end) × (end ≤ length items.now) }
-    ensures { IfOk result (λ group. group ≡ take (end - from) (drop from items.now)) }
+    ensures group { IfOk result (λ group. group ≡ take (end - from) (drop from items.now)) }
+    ensures some { OnErr result (from < end) }
 {
     let mut group = ItemList::new(alloc);
     for i in from..end {
@@ -75,11 +76,7 @@ fn merge_from(
     if done >= count {
         return Tally::ended(0, 0, None);
     }
-    let end = if count - done > MOST_ITEMS {
-        done + MOST_ITEMS
-    } else {
-        count
-    };
+    let end = done + MOST_ITEMS.min(count - done);
     match merge_group(alloc, store, items, done, end) {
         Reply::Merged {
             taken, stale, owed, ..
