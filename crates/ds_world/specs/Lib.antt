@@ -4,3 +4,4 @@ pub mod Tally
 pub mod Run
 pub mod Account
 pub mod Messages
+pub mod Told

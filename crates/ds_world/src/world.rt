@@ -7,7 +7,8 @@ ghost use Rattle.ds_replica.specs.World.{new_world};
 ghost use Rattle.ds_replica.specs.Known.{Account, new_account, extended_all};
 ghost use Rattle.ds_world.specs.World.{store_in, Stands};
 ghost use Rattle.ds_world.specs.Seeds.{AreSeeds, IsSeedFault};
-ghost use Rattle.ds_world.specs.Run.{paired, EventLeads, RunLeads, IsRunFault};
+ghost use Rattle.ds_world.specs.Run.{most_events, paired, EventLeads, RunLeads, IsRunFault};
+ghost use Rattle.ds_world.specs.Told.{IsTold, AreTold};
 ghost use Rattle.ds_world.specs.Messages.{SnapshotsAreWhole, SincesExtend, PagesAreTurns, ChecksAreTurns, AllChecksAreWhole};
 ghost use Rattle.ds_world.specs.Account.{IsFor, Agrees, CatchesUp, KeepsUp, NamesNewest, NothingClashes, NothingStops, FloorsStand, StayItems, TurnsAreRun, WholeStays};
 
@@ -88,7 +89,9 @@ impl World {
     /// TooMany above 65536 events, and NoRoom where there is no room for the outcomes: then nothing happens at all.
     pub fn run(&mut self, events: Events) -> Result<Outcomes, WorldFault>
         ensures one_each { IfOk result (λ outcomes. length outcomes ≡ length events) }
+        ensures few { OnOk result (length events ≤ most_events) }
         ensures done { IfOk result (λ outcomes. RunLeads events outcomes self.old self.new) }
+        ensures told { IfOk result (λ outcomes. AreTold self.old (paired events outcomes) self.new) }
         ensures account { IfOk result (λ outcomes. (account : Account) → IsFor account self.old → IsFor (extended_all account (paired events outcomes)) self.new) }
         ensures agree { IfOk result (λ outcomes. (account : Account) → IsFor account self.old → Agrees (extended_all account (paired events outcomes)) self.new) }
         ensures catch_up { IfOk result (λ outcomes. (account : Account) → IsFor account self.old → CatchesUp (extended_all account (paired events outcomes)) self.new) }
@@ -123,6 +126,7 @@ impl World {
         requires room { length events ≤ vec_capacity outcomes }
         ensures one_each { length result ≡ length events }
         ensures done { RunLeads events result self.old self.new }
+        ensures told { AreTold self.old (paired events result) self.new }
     {
         for event in events.into_list() {
             outcomes.push_reserved(self.happen(event));
@@ -132,7 +136,8 @@ impl World {
 
     // Lets an event happen.
     fn happen(&mut self, event: Event) -> Outcome
-        ensures { EventLeads event result self.old self.new }
+        ensures leads { EventLeads event result self.old self.new }
+        ensures told { IsTold event result self.old self.new }
     {
         match event {
             Event::Ask { side, command } => self.ask(side, command),

@@ -8,8 +8,10 @@ ghost use Rattle.ds_content.specs.Stands.{Stands};
 ghost use Rattle.ds_replica.specs.declared.event.Event.TheVariants.{Deliver};
 ghost use Rattle.ds_replica.specs.declared.event.Holder.TheVariants.{Store as OfStore, Map as OfMap};
 ghost use Rattle.ds_replica.specs.Delivery.{StoreTakes, MapTakes};
+ghost use Rattle.ds_replica.specs.Happens.{tally_outcome};
 ghost use Rattle.ds_world.specs.World.{map_state};
 ghost use Rattle.ds_world.specs.Tally.{tally_of, IsCounted};
+ghost use Rattle.ds_world.specs.Told.{IsMapTold, IsTold};
 ghost use Rattle.ds_world.specs.Run.{EventLeads};
 
 use crate::tally::{Tally, refusal_of};
@@ -98,7 +100,8 @@ fn merge_from(
 
 // A map takes items.
 fn take_all(alloc: Global, map: &mut SubMap, items: &ItemList) -> Tally
-    ensures { MapTakes (map_state map.old) items.now (tally_of result) (map_state map.new) }
+    ensures takes { MapTakes (map_state map.old) items.now (tally_of result) (map_state map.new) }
+    ensures told { IsMapTold map.old.query map.old.held items.now (tally_outcome (tally_of result) result.stop) map.new.held }
 {
     let taken = map.take(alloc, items);
     let _held = map.held();
@@ -117,7 +120,8 @@ fn take_all(alloc: Global, map: &mut SubMap, items: &ItemList) -> Tally
 // A map takes the first items. They are copied only where there are others behind them.
 fn take_first(alloc: Global, map: &mut SubMap, items: &ItemList, count: usize) -> Tally
     requires { count ≤ length items.now }
-    ensures { MapTakes (map_state map.old) (take count items.now) (tally_of result) (map_state map.new) }
+    ensures takes { MapTakes (map_state map.old) (take count items.now) (tally_of result) (map_state map.new) }
+    ensures told { IsMapTold map.old.query map.old.held (take count items.now) (tally_outcome (tally_of result) result.stop) map.new.held }
 {
     if count >= items.len() {
         return take_all(alloc, map, items);
@@ -139,7 +143,8 @@ impl World {
         holder: Holder,
         count: Option<usize>,
     ) -> Outcome
-        ensures { EventLeads (Deliver message holder count) result self.old self.new }
+        ensures leads { EventLeads (Deliver message holder count) result self.old self.new }
+        ensures told { IsTold (Deliver message holder count) result self.old self.new }
     {
         match holder {
             Holder::Store(side) => self.deliver_to_store(message, side, count),
@@ -167,7 +172,8 @@ impl World {
 
     // They go to a map.
     fn deliver_to_map(&mut self, message: usize, map: usize, count: Option<usize>) -> Outcome
-        ensures { EventLeads (Deliver message (OfMap map) count) result self.old self.new }
+        ensures leads { EventLeads (Deliver message (OfMap map) count) result self.old self.new }
+        ensures told { IsTold (Deliver message (OfMap map) count) result self.old self.new }
     {
         let Some(items) = self.messages.get(message) else {
             return Outcome::Refused(EventFault::NoMessage);

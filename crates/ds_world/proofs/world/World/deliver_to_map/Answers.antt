@@ -13,8 +13,8 @@ use Rattle.ds_world.specs.Run.{EventLeads}
 use Rattle.ds_world.proofs.DeliverLemmas.{to_map}
 use Rattle.ds_world.proofs.world.World.deliver_to_map.Goals as goal
 
-pub returns : goal.returns
-returns c =
+pub returns-clause-leads : goal.returns-clause-leads
+returns-clause-leads c =
     let k = c.args.message in
     let j = c.args.map in
     let count = c.args.count in
@@ -29,7 +29,7 @@ returns c =
     let map_there : slice_get value.maps j ≡ Some old = slice_get_read value.maps (length value.maps) j old refl within c.index_mut.ensures.value in
     let counted : c.unwrap_or-count.result ≡ count_of count items = c.unwrap_or-count.ensures ∙ ap (unwrap_or count) c.len-2.ensures in
     let few : count_of count items ≤ length items = omega (arith, counted, c.len-3.ensures, c.if-count-len.false) in
-    let taken = subst (λ (n : ℕ). MapTakes (map_state old) (take n items) (tally_of c.take_first.result) (map_state c.take_first.new.map)) counted c.take_first.ensures in
+    let taken = subst (λ (n : ℕ). MapTakes (map_state old) (take n items) (tally_of c.take_first.result) (map_state c.take_first.new.map)) counted c.take_first.ensures.takes in
     let by_event = Deliver k (Map j) count in
     let new : WorldRecord = record value { maps = slice_set value.maps j c.take_first.new.map } in
     subst (λ (v : WorldRecord). EventLeads by_event c.outcome.result v new) c.self.view_is

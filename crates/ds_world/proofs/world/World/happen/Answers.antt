@@ -1,5 +1,5 @@
 use Rattle.std.proofs.Common.{◌≡◌}
 use Rattle.ds_world.proofs.world.World.happen.Goals as goal
 
-pub returns-in-Ask : goal.returns-in-Ask
-returns-in-Ask c = rw c.in-Ask.is c.ask.ensures
+pub returns-in-Ask-clause-leads : goal.returns-in-Ask-clause-leads
+returns-in-Ask-clause-leads c = rw c.in-Ask.is c.ask.ensures

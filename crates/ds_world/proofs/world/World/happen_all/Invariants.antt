@@ -1,5 +1,6 @@
 use Rattle.std.proofs.Common.{◌≡◌, ◌≤◌, ◌++◌, length, vec_capacity}
-use Rattle.ds_world.specs.Run.{RunLeads}
+use Rattle.ds_world.specs.Run.{paired, RunLeads}
+use Rattle.ds_world.specs.Told.{AreTold}
 use Rattle.ds_world.proofs.world.World.happen_all.Given as goal
 
 -- the events so far happened, and there is room for the outcomes of all
@@ -9,4 +10,5 @@ invariant-loop-event l = record {
   one_each : length l.outcomes.items ≡ length l.yielded;
   room : length l.fn.events ≤ vec_capacity l.outcomes;
   done : RunLeads l.yielded l.outcomes.items l.fn.self l.self;
+  told : AreTold l.fn.self (paired l.yielded l.outcomes.items) l.self;
 }
