@@ -4,11 +4,13 @@ ghost use Rattle.std.specs.Prelude.{◌≡◌, true};
 ghost use Rattle.ds_machine.specs.State.{State};
 ghost use Rattle.ds_machine.specs.Machine.{Step};
 ghost use Rattle.ds_machine.specs.Says.{IsReplyTo};
+ghost use Rattle.ds_judge.specs.Last.{IsLast};
 ghost use Rattle.ds_content.specs.Stands.{Stands};
 ghost use Rattle.ds_replica.specs.declared.event.Event.TheVariants.{Ask};
 ghost use Rattle.ds_replica.specs.World.{World as Described, store_at, with_state};
 ghost use Rattle.ds_replica.specs.Happens.{gives_items};
 ghost use Rattle.ds_world.specs.Run.{EventLeads};
+ghost use Rattle.ds_world.specs.Told.{IsTold};
 
 use crate::replies::{gives_items, items_of};
 use crate::world::World;
@@ -22,6 +24,7 @@ const MOST_MESSAGES: usize = 65536;
 // Asks the store of the side.
 fn apply(a: &mut Store, b: &mut Store, side: Side, command: Command) -> Reply
     ensures step { (w : Described) → Stands a.old w.a → Stands b.old w.b → (s : State) × Step (store_at w side) command result s × Stands a.new (with_state w side s).a × Stands b.new (with_state w side s).b }
+    ensures last { (w : Described) → Stands a.old w.a → Stands b.old w.b → IsLast (store_at w side) command result }
     ensures fits { IsReplyTo command result }
 {
     match side {
@@ -33,7 +36,8 @@ fn apply(a: &mut Store, b: &mut Store, side: Side, command: Command) -> Reply
 impl World {
     // Asks a store. What it gives is kept as the next message; room for that is taken first.
     pub(super) fn ask(&mut self, side: Side, command: Command) -> Outcome
-        ensures { EventLeads (Ask side command) result self.old self.new }
+        ensures leads { EventLeads (Ask side command) result self.old self.new }
+        ensures told { IsTold (Ask side command) result self.old self.new }
     {
         if gives_items(&command) {
             return self.ask_for_items(side, command);
@@ -44,7 +48,8 @@ impl World {
     // The same of a command to which a store gives items.
     fn ask_for_items(&mut self, side: Side, command: Command) -> Outcome
         requires { gives_items command ≡ true }
-        ensures { EventLeads (Ask side command) result self.old self.new }
+        ensures leads { EventLeads (Ask side command) result self.old self.new }
+        ensures told { IsTold (Ask side command) result self.old self.new }
     {
         let message = self.messages.len();
         if message >= MOST_MESSAGES {

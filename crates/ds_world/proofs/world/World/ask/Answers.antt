@@ -8,8 +8,8 @@ use Rattle.ds_world.specs.Run.{EventLeads}
 use Rattle.ds_world.proofs.AskLemmas.{replied, none_given}
 use Rattle.ds_world.proofs.world.World.ask.Goals as goal
 
-pub returns : goal.returns
-returns c =
+pub returns-clause-leads : goal.returns-clause-leads
+returns-clause-leads c =
     let messages = c.self.inside.messages.items in
     let maps = c.self.inside.maps.items in
     let none : gives_items c.args.command ≡ false = sym c.if-gives_items.ensures in

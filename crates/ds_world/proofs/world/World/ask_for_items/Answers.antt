@@ -8,8 +8,8 @@ use Rattle.ds_world.specs.Run.{EventLeads}
 use Rattle.ds_world.proofs.AskLemmas.{replied, made, few_free}
 use Rattle.ds_world.proofs.world.World.ask_for_items.Goals as goal
 
-pub returns-in-Err : goal.returns-in-Err
-returns-in-Err c =
+pub returns-in-Err-clause-leads : goal.returns-in-Err-clause-leads
+returns-in-Err-clause-leads c =
     let ask = Ask c.args.side c.args.command in
     let reply = c.apply-reply.result in
     let messages = c.self.inside.messages.items in
@@ -21,8 +21,8 @@ returns-in-Err c =
     (subst (λ (l : List (List Item)). EventLeads ask (Replied reply) c.args.self.now (world_of c.apply-reply.new.a c.apply-reply.new.b maps l)) (sym c.reserve.ensures.items)
     (subst (λ (v : WorldRecord). EventLeads ask (Replied reply) v (world_of c.apply-reply.new.a c.apply-reply.new.b maps messages)) c.self.view_is went))
 
-pub returns : goal.returns
-returns c =
+pub returns-clause-leads : goal.returns-clause-leads
+returns-clause-leads c =
     let ask = Ask c.args.side c.args.command in
     let messages = c.self.inside.messages.items in
     let maps = c.self.inside.maps.items in

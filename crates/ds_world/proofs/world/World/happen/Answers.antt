@@ -2,4 +2,4 @@ use Rattle.std.proofs.Common.{◌≡◌}
 use Rattle.ds_world.proofs.world.World.happen.Goals as goal
 
 pub returns-in-Ask-clause-leads : goal.returns-in-Ask-clause-leads
-returns-in-Ask-clause-leads c = rw c.in-Ask.is c.ask.ensures
+returns-in-Ask-clause-leads c = rw c.in-Ask.is c.ask.ensures.leads
