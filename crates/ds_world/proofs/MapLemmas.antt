@@ -1,17 +1,15 @@
 -- What making and clearing maps, and opening stores again, do to a world.
-use Rattle.std.proofs.Common.{◌≡◌, ◌⊎◌, ℕ, ◌<◌, ◌≤◌, nat_le, nat_lt, Bool, true, false, not, cond, ◌&&◌, List, [], ◌∷◌, ◌++◌, length, map, set, Option, Some, None, is_some, refl, ap, sym, ◌∙◌, subst, inl, inr, arith}
+use Rattle.std.proofs.Common.{◌≡◌, ◌⊎◌, ℕ, ◌<◌, ◌≤◌, nat_le, nat_lt, Bool, true, false, not, cond, ◌&&◌, List, [], ◌∷◌, ◌++◌, length, map, set, Option, Some, None, is_some, refl, ap, sym, ◌∙◌, inl, inr, arith}
 use Rattle.std.specs.List.{slice_get, slice_set}
 use Rattle.std.specs.Option.{option_map}
 use Rattle.std.proofs.lemmas.List.{map-append, map-set, length-map}
 use Rattle.std.proofs.lemmas.Option.{slice_get_past}
 use Rattle.ds_entry.specs.declared.item.Item.{Item}
-use Rattle.ds_held.specs.Held.{held_items}
 use Rattle.ds_pattern.specs.declared.query.Query.{Query}
 use Rattle.ds_pattern.specs.Patterns.{IsPattern, IsPatternFault, is_pattern}
 use Rattle.ds_pattern.specs.declared.pattern.PatternFault.TheVariants as patterns
 use Rattle.ds_submap.specs.Map.{SubMapRecord, empty_map}
 use Rattle.ds_machine.specs.State.{State}
-use Rattle.ds_machine.specs.Calling.{against_query}
 use Rattle.ds_content.specs.Stands as contents
 use Rattle.ds_content.proofs.OpenLemmas.{nothing_is_held}
 use Rattle.ds_held.specs.Limits.{larger}
@@ -21,11 +19,10 @@ use Rattle.ds_replica.specs.declared.event.Side.TheVariants.{A, B}
 use Rattle.ds_replica.specs.declared.event.Holder.TheVariants.{Map}
 use Rattle.ds_replica.specs.declared.event.Event.TheVariants.{NewMap, ClearMap, RestartStore}
 use Rattle.ds_replica.specs.declared.outcome.Outcome.TheVariants.{MapMade, Cleared, Restarted, Refused}
-use Rattle.ds_replica.specs.declared.outcome.EventFault.{EventFault}
 use Rattle.ds_replica.specs.declared.outcome.EventFault.TheVariants.{MapsFull, TooLong, BadPattern, NoMap, OldIncarnation, NoRoom}
-use Rattle.ds_replica.specs.World.{MapState, World, store_at, with_state}
-use Rattle.ds_replica.specs.Happens.{most_maps, pattern_fault, map_fault, new_map, is_there, reopened}
-use Rattle.ds_world.specs.World.{WorldRecord, world_of, map_state, Stands}
+use Rattle.ds_replica.specs.World.{MapState, World, with_state}
+use Rattle.ds_replica.specs.Happens.{most_maps, pattern_fault, map_fault, new_map, reopened}
+use Rattle.ds_world.specs.World.{WorldRecord, map_state, Stands}
 use Rattle.ds_world.specs.Run.{EventLeads}
 use Rattle.ds_world.proofs.StandLemmas.{map_is, le_true, le_false, lt_true, lt_false}
 

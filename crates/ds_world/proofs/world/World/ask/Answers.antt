@@ -1,5 +1,4 @@
-use Rattle.std.proofs.Common.{◌≡◌, ◌&&◌, nat_le, false, List, length, ap, sym, subst}
-use Rattle.ds_entry.specs.declared.item.Item.{Item}
+use Rattle.std.proofs.Common.{◌≡◌, ◌&&◌, nat_le, false, length, ap, sym, subst}
 use Rattle.ds_replica.specs.declared.event.Event.TheVariants.{Ask}
 use Rattle.ds_replica.specs.declared.outcome.Outcome.TheVariants.{Replied}
 use Rattle.ds_replica.specs.Happens.{gives_items, most_messages}

@@ -1,4 +1,4 @@
-use Rattle.std.proofs.Common.{◌≡◌, ◌<◌, ◌++◌, ◌∷◌, [], List, length, cond, is_ok, sym, ap, ◌∙◌, subst, arith}
+use Rattle.std.proofs.Common.{◌≡◌, ◌<◌, ◌++◌, ◌∷◌, [], List, length, sym, ap, ◌∙◌, subst, arith}
 use Rattle.ds_pattern.specs.Patterns.{IsPattern}
 use Rattle.ds_submap.specs.Map.{SubMapRecord}
 use Rattle.ds_replica.specs.declared.event.Event.TheVariants.{NewMap}
