@@ -1,8 +1,8 @@
 -- What a delivery does to a world.
-use Rattle.std.proofs.Common.{◌≡◌, ℕ, ◌<◌, ◌≤◌, nat_lt, Bool, true, false, not, cond, List, [], ◌∷◌, length, map, take, Option, Some, None, is_some, refl, ap, sym, ◌∙◌, subst, arith}
+use Rattle.std.proofs.Common.{◌≡◌, ℕ, ◌<◌, ◌≤◌, nat_lt, not, cond, List, length, take, Option, Some, None, is_some, refl, ap, sym, ◌∙◌, subst}
 use Rattle.std.specs.List.{slice_get, slice_set}
 use Rattle.std.specs.Option.{option_map, option_map_or}
-use Rattle.std.proofs.lemmas.List.{map-set, length-map}
+use Rattle.std.proofs.lemmas.List.{map-set}
 use Rattle.std.proofs.lemmas.Option.{slice_get_past}
 use Rattle.ds_entry.specs.declared.item.Item.{Item}
 use Rattle.ds_submap.specs.Map.{SubMapRecord}
@@ -18,11 +18,10 @@ use Rattle.ds_replica.specs.declared.event.Event.{Event}
 use Rattle.ds_replica.specs.declared.event.Event.TheVariants.{Deliver}
 use Rattle.ds_replica.specs.declared.outcome.Outcome.{Outcome}
 use Rattle.ds_replica.specs.declared.outcome.Outcome.TheVariants.{Refused}
-use Rattle.ds_replica.specs.declared.outcome.EventFault.{EventFault}
 use Rattle.ds_replica.specs.declared.outcome.EventFault.TheVariants.{NoMessage, NoMap, TooMany}
 use Rattle.ds_replica.specs.Delivery.{Tally, StoreTakes, MapTakes}
-use Rattle.ds_replica.specs.World.{MapState, World, store_at, with_state}
-use Rattle.ds_replica.specs.Happens.{count_of, delivery_fault, is_there, tally_outcome, Happens, Delivers}
+use Rattle.ds_replica.specs.World.{MapState, World, with_state}
+use Rattle.ds_replica.specs.Happens.{count_of, delivery_fault, tally_outcome, Happens, Delivers}
 use Rattle.ds_world.specs.World.{WorldRecord, map_state, Stands}
 use Rattle.ds_world.specs.Run.{EventLeads}
 use Rattle.ds_world.proofs.StandLemmas.{map_is, lt_true, lt_false}

@@ -3,7 +3,6 @@ use Rattle.std.specs.List.{slice_get}
 use Rattle.std.specs.Option.{unwrap_or}
 use Rattle.std.proofs.lemmas.Option.{slice_get_read}
 use Rattle.ds_machine.specs.State.{State}
-use Rattle.ds_content.specs.Content.{ContentRecord}
 use Rattle.ds_content.specs.Stands as contents
 use Rattle.ds_replica.specs.Delivery.{StoreTakes}
 use Rattle.ds_replica.specs.Happens.{count_of, tally_outcome}

@@ -1,9 +1,7 @@
-use Rattle.std.proofs.Common.{◌≡◌, ◌<◌, Some, length, take, sym, ◌∙◌, ap, subst, arith}
+use Rattle.std.proofs.Common.{◌<◌, length, take, sym, subst, arith}
 use Rattle.std.proofs.lemmas.List.{length-take-le}
-use Rattle.ds_machine.specs.declared.refusal.Refusal.TheVariants.{NoRoom}
-use Rattle.ds_replica.specs.Delivery.{Tally, ended, MapTakes}
+use Rattle.ds_replica.specs.Delivery.{Tally, MapTakes}
 use Rattle.ds_world.specs.World.{map_state}
-use Rattle.ds_world.specs.Tally.{tally_of}
 use Rattle.ds_world.proofs.TakeLemmas.{uncopied}
 use Rattle.ds_world.proofs.world.delivering.take_first.Goals as goal
 
