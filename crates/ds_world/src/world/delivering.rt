@@ -1,6 +1,6 @@
 //! How items of a message go to a holder.
 
-ghost use Rattle.std.specs.Prelude.{◌≡◌, ◌<◌, ◌≤◌, ◌-◌, ◌+◌, length, take, drop, IfOk, OnErr};
+ghost use Rattle.std.specs.Prelude.{◌≡◌, ◌<◌, ◌≤◌, ◌-◌, ◌+◌, length, take, drop, IfOk, OnErr, IfSome, IfNone};
 ghost use Rattle.ds_machine.specs.State.{State};
 ghost use Rattle.ds_machine.specs.Machine.{Step};
 ghost use Rattle.ds_machine.specs.declared.command.Command.TheVariants.{Merge};
@@ -8,6 +8,7 @@ ghost use Rattle.ds_content.specs.Stands.{Stands};
 ghost use Rattle.ds_replica.specs.declared.event.Event.TheVariants.{Deliver};
 ghost use Rattle.ds_replica.specs.declared.event.Holder.TheVariants.{Store as OfStore, Map as OfMap};
 ghost use Rattle.ds_replica.specs.Delivery.{StoreTakes, MapTakes};
+ghost use Rattle.ds_replica.specs.Happens.{count_of};
 ghost use Rattle.ds_world.specs.World.{map_state};
 ghost use Rattle.ds_world.specs.Tally.{tally_of, IsCounted};
 ghost use Rattle.ds_world.specs.Run.{EventLeads};
@@ -131,6 +132,15 @@ fn take_first(alloc: Global, map: &mut SubMap, items: &ItemList, count: usize) -
     }
 }
 
+// How many items of a message go to a holder: so many, or all. `None` where there are fewer.
+fn count_of(items: &ItemList, count: Option<usize>) -> Option<usize>
+    ensures some { IfSome result (λ n. (n ≡ count_of count items.now) × (n ≤ length items.now)) }
+    ensures none { IfNone result (length items.now < count_of count items.now) }
+{
+    let count = count.unwrap_or(items.len());
+    (count <= items.len()).then_some(count)
+}
+
 impl World {
     // The first items of a message, or all, go to a holder.
     pub(super) fn deliver(
@@ -154,10 +164,9 @@ impl World {
         let Some(items) = self.messages.get(message) else {
             return Outcome::Refused(EventFault::NoMessage);
         };
-        let count = count.unwrap_or(items.len());
-        if count > items.len() {
+        let Some(count) = count_of(items, count) else {
             return Outcome::Refused(EventFault::TooMany);
-        }
+        };
         let tally = match side {
             Side::A => merge_from(self.alloc, &mut self.a, items, 0, count),
             Side::B => merge_from(self.alloc, &mut self.b, items, 0, count),
@@ -175,10 +184,9 @@ impl World {
         if map >= self.maps.len() {
             return Outcome::Refused(EventFault::NoMap);
         }
-        let count = count.unwrap_or(items.len());
-        if count > items.len() {
+        let Some(count) = count_of(items, count) else {
             return Outcome::Refused(EventFault::TooMany);
-        }
+        };
         take_first(self.alloc, &mut self.maps[map], items, count).outcome()
     }
 }

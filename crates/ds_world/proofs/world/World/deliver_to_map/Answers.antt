@@ -27,9 +27,9 @@ returns c =
     let old = c.index_mut.result.now in
     let within : j < length inside.maps.items = omega (arith, c.if-map-len.false, c.len.ensures, inside.maps.ok.0) in
     let map_there : slice_get value.maps j ≡ Some old = slice_get_read value.maps (length value.maps) j old refl within c.index_mut.ensures.value in
-    let counted : c.unwrap_or-count.result ≡ count_of count items = c.unwrap_or-count.ensures ∙ ap (unwrap_or count) c.len-2.ensures in
-    let few : count_of count items ≤ length items = omega (arith, counted, c.len-3.ensures, c.if-count-len.false) in
-    let taken = subst (λ (n : ℕ). MapTakes (map_state old) (take n items) (tally_of c.take_first.result) (map_state c.take_first.new.map)) counted c.take_first.ensures in
+    let counted = c.in-Some-count_of.ensures.some in
+    let few : count_of count items ≤ length items = omega (arith, counted.0, counted.1) in
+    let taken = subst (λ (n : ℕ). MapTakes (map_state old) (take n items) (tally_of c.take_first.result) (map_state c.take_first.new.map)) counted.0 c.take_first.ensures in
     let by_event = Deliver k (Map j) count in
     let new : WorldRecord = record value { maps = slice_set value.maps j c.take_first.new.map } in
     subst (λ (v : WorldRecord). EventLeads by_event c.outcome.result v new) c.self.view_is
