@@ -1,6 +1,5 @@
 use Rattle.std.proofs.Common.{◌≡◌, ◌≤◌, ◌-◌, ℕ, length, take, Some, ap, sym, ◌∙◌, subst, arith, refl}
 use Rattle.std.specs.List.{slice_get}
-use Rattle.std.specs.Option.{unwrap_or}
 use Rattle.std.proofs.lemmas.Option.{slice_get_read}
 use Rattle.ds_machine.specs.State.{State}
 use Rattle.ds_content.specs.Stands as contents
