@@ -1,8 +1,8 @@
 -- What a delivery does to a world.
-use Rattle.std.proofs.Common.{◌≡◌, ℕ, ◌<◌, ◌≤◌, nat_lt, Bool, true, false, not, cond, List, [], ◌∷◌, length, map, take, Option, Some, None, is_some, refl, ap, sym, ◌∙◌, subst, arith}
+use Rattle.std.proofs.Common.{◌≡◌, ℕ, ◌<◌, ◌≤◌, nat_lt, not, cond, List, length, take, Option, Some, None, is_some, refl, ap, sym, ◌∙◌, subst}
 use Rattle.std.specs.List.{slice_get, slice_set}
 use Rattle.std.specs.Option.{option_map, option_map_or}
-use Rattle.std.proofs.lemmas.List.{map-set, length-map}
+use Rattle.std.proofs.lemmas.List.{map-set}
 use Rattle.std.proofs.lemmas.Option.{slice_get_past}
 use Rattle.ds_entry.specs.declared.item.Item.{Item}
 use Rattle.ds_submap.specs.Map.{SubMapRecord}
@@ -18,11 +18,10 @@ use Rattle.ds_replica.specs.declared.event.Event.{Event}
 use Rattle.ds_replica.specs.declared.event.Event.TheVariants.{Deliver}
 use Rattle.ds_replica.specs.declared.outcome.Outcome.{Outcome}
 use Rattle.ds_replica.specs.declared.outcome.Outcome.TheVariants.{Refused}
-use Rattle.ds_replica.specs.declared.outcome.EventFault.{EventFault}
 use Rattle.ds_replica.specs.declared.outcome.EventFault.TheVariants.{NoMessage, NoMap, TooMany}
 use Rattle.ds_replica.specs.Delivery.{Tally, StoreTakes, MapTakes}
-use Rattle.ds_replica.specs.World.{MapState, World, store_at, with_state}
-use Rattle.ds_replica.specs.Happens.{count_of, delivery_fault, is_there, tally_outcome, Happens, Delivers}
+use Rattle.ds_replica.specs.World.{MapState, World, with_state}
+use Rattle.ds_replica.specs.Happens.{count_of, delivery_fault, tally_outcome, Happens, Delivers}
 use Rattle.ds_world.specs.World.{WorldRecord, map_state, Stands}
 use Rattle.ds_world.specs.Run.{EventLeads}
 use Rattle.ds_world.proofs.StandLemmas.{map_is, lt_true, lt_false}
@@ -86,7 +85,7 @@ module _ (value : WorldRecord) (k : ℕ) (count : Option ℕ) where
           let t = takes w.a s.a in (
             with_state w A t.0,
             happens w (with_state w A t.0) (Store A) not_more s
-            (record { items = items; there = message_there w s; tally = tally; taken = record { after = t.0; takes = t.1; world_is = refl }; outcome_is = refl }),
+                (record { items = items; there = message_there w s; tally = tally; taken = record { after = t.0; takes = t.1; world_is = refl }; outcome_is = refl }),
             record { a = t.2; b = s.b; maps = s.maps; messages = s.messages },
           )
 
@@ -96,7 +95,7 @@ module _ (value : WorldRecord) (k : ℕ) (count : Option ℕ) where
           let t = takes w.b s.b in (
             with_state w B t.0,
             happens w (with_state w B t.0) (Store B) not_more s
-            (record { items = items; there = message_there w s; tally = tally; taken = record { after = t.0; takes = t.1; world_is = refl }; outcome_is = refl }),
+                (record { items = items; there = message_there w s; tally = tally; taken = record { after = t.0; takes = t.1; world_is = refl }; outcome_is = refl }),
             record { a = s.a; b = t.2; maps = s.maps; messages = s.messages },
           )
 
@@ -106,12 +105,12 @@ module _ (value : WorldRecord) (k : ℕ) (count : Option ℕ) where
           let after : World = record w { maps = slice_set w.maps j (map_state new) } in (
             after,
             happens w after (Map j) (by_count w j m s e ∙ not_more) s
-            (record {
-              items = items;
-              there = message_there w s;
-              tally = tally;
-              taken = record { old = map_state m; there = map_there w j m s e; after = map_state new; takes = takes; world_is = refl };
-              outcome_is = refl;
-            }),
+                (record {
+                  items = items;
+                  there = message_there w s;
+                  tally = tally;
+                  taken = record { old = map_state m; there = map_there w j m s e; after = map_state new; takes = takes; world_is = refl };
+                  outcome_is = refl;
+                }),
             record { a = s.a; b = s.b; maps = ap (λ (l : List MapState). slice_set l j (map_state new)) s.maps ∙ sym (map-set map_state value.maps j new); messages = s.messages },
           )

@@ -1,5 +1,5 @@
 -- That Merges one after the other are what the definitions of deliveries say.
-use Rattle.std.proofs.Common.{◌≡◌, ℕ, ◌+◌, ◌-◌, ◌<◌, ◌≤◌, List, [], ◌∷◌, ◌++◌, length, length-drop, get_or, map, take, drop, Option, Some, None, refl, ap, ap₂, sym, ◌∙◌, subst, inl, inr, arith, Contains}
+use Rattle.std.proofs.Common.{◌≡◌, ℕ, ◌+◌, ◌-◌, ◌≤◌, List, [], ◌∷◌, ◌++◌, length, length-drop, get_or, map, take, drop, Some, refl, ap, sym, ◌∙◌, subst, inl, inr, arith, Contains}
 use Rattle.std.specs.List.{flat_map}
 use Rattle.std.specs.List.{slice_get}
 use Rattle.std.proofs.lemmas.List.{drop-drop, get_or-drop, length-take, take_more}
@@ -7,7 +7,7 @@ use Rattle.std.proofs.lemmas.Option.{get_or_from_slice_get, slice_get_within}
 use Rattle.std.proofs.lemmas.List.Concat.{flat_map-cons}
 use Rattle.std.proofs.Math.Seq.{take-add}
 use Rattle.ds_entry.specs.declared.item.Item.{Item}
-use Rattle.ds_entry.proofs.Members.{Contains-nil, Contains-cons, Contains-from_map}
+use Rattle.ds_entry.proofs.Members.{Contains-cons, Contains-from_map}
 use Rattle.ds_machine.specs.Limits.{most_items}
 use Rattle.ds_machine.specs.State.{State}
 use Rattle.ds_machine.specs.Machine.{Step}
@@ -18,7 +18,7 @@ use Rattle.ds_machine.specs.Says.{IsMergeReply}
 use Rattle.ds_machine.specs.declared.reply.Reply.{Reply}
 use Rattle.ds_machine.specs.declared.reply.Reply.TheVariants.{Merged, MergeStopped, Refused}
 use Rattle.ds_machine.proofs.SaysLemmas.{merged_says, merge_stopped_says}
-use Rattle.ds_replica.specs.Delivery.{Tally, ended, added, AreMerged, StoreTakes}
+use Rattle.ds_replica.specs.Delivery.{Tally, ended, added, StoreTakes}
 use Rattle.ds_world.specs.Tally.{IsCounted}
 
 -- each item as a group of its own
@@ -58,10 +58,6 @@ copied_more items from i x l at =
     ∙ ap (λ (y : Item). take (i - from) (drop from items) ++ y ∷ []) (get_or-drop from items (i - from) x ∙ ap (λ n. get_or items n x) (omega (arith, l)) ∙ get_or_from_slice_get items i x x at)
 
 -- ---- a delivery to a store
--- nothing is left
-pub takes_nothing : (s : State) → StoreTakes s [] (ended 0 0 None) s
-takes_nothing s = record { groups = []; all = refl; few = λ g h. absurd (Contains-nil g h); merged = (refl, refl) }
-
 -- of the items from one place on and before another, those before a place between are a group
 module _ (s mid : State) (items : List Item) (from end count : ℕ) (l : from ≤ end) (m : end ≤ count) (n : end - from ≤ most_items) where
   abbrev all_items : List Item

@@ -1,8 +1,6 @@
 -- That what a map takes is what the definitions of deliveries say.
-use Rattle.std.proofs.Common.{◌≡◌, ◌≢◌, ◌⊎◌, ℕ, ◌+◌, ◌<◌, ◌≤◌, Bool, true, false, List, [], ◌∷◌, ◌++◌, length, filter, take, Option, Some, None, Result, Ok, Err, refl, ap, sym, ◌∙◌, subst, inl, inr, arith, Contains}
-use Rattle.std.specs.List.{slice_get}
-use Rattle.std.proofs.lemmas.List.{take_all, length-take-le}
-use Rattle.std.proofs.lemmas.Option.{slice_get_within}
+use Rattle.std.proofs.Common.{◌≡◌, ◌⊎◌, ℕ, ◌+◌, ◌<◌, ◌≤◌, Bool, true, false, List, [], ◌∷◌, ◌++◌, length, filter, take, Option, Some, None, Ok, Err, refl, ap, sym, subst, inl, inr, arith}
+use Rattle.std.proofs.lemmas.List.{take_all}
 use Rattle.ds_names.specs.declared.version.Version.{Version}
 use Rattle.ds_entry.specs.Change.{ChangeRecord}
 use Rattle.ds_entry.specs.declared.item.Item.{Item}
@@ -14,21 +12,17 @@ use Rattle.ds_join.specs.declared.merge.JoinFault.{JoinFault}
 use Rattle.ds_join.specs.declared.merge.JoinFault.TheVariants.{NotOwner, Clash, Full, NoRoom}
 use Rattle.ds_join.specs.declared.merge.Stop.{Stop}
 use Rattle.ds_held.specs.Held.{Holding, held_for, held_items, held_count, floor_for, is_void_at, IsSound}
-use Rattle.ds_held.specs.Merge.{UnlessVoid, AnswersNew, AnswersOwn, AnswersHeld, AnswersFor}
+use Rattle.ds_held.specs.Merge.{UnlessVoid, AnswersNew, AnswersOwn, AnswersFor}
 use Rattle.ds_held.specs.Raise.{AnswersFloor}
-use Rattle.ds_held.specs.Join.{ItemAnswer, after_item, IsItemRefused}
+use Rattle.ds_held.specs.Join.{after_item, IsItemRefused}
 use Rattle.ds_held.proofs.HeldLemmas.{change_in}
 use Rattle.ds_held.proofs.JoinLemmas.{all_join}
 use Rattle.ds_pattern.specs.declared.query.Query.{Query}
-use Rattle.ds_pattern.specs.Under.{is_under}
-use Rattle.ds_machine.specs.declared.refusal.Refusal.{Refusal}
 use Rattle.ds_machine.specs.declared.refusal.Refusal.TheVariants as refusals
 use Rattle.ds_submap.specs.declared.count.Count.{Count}
 use Rattle.ds_submap.specs.Map.{SubMapRecord, is_item_under, under}
-use Rattle.ds_submap.specs.Take.{AreAnswered, is_taken, is_stale, AreTaken, AreCounted, IsTakeStopped, IsUnasked, IsRefusedUnder, done_items}
-use Rattle.ds_replica.specs.World.{MapState}
-use Rattle.ds_replica.specs.Delivery as deliveries
-use Rattle.ds_replica.specs.Delivery.{ended, StandsAgainst, Ends, MapTakes}
+use Rattle.ds_submap.specs.Take.{AreAnswered, is_taken, is_stale, AreCounted, IsTakeStopped, IsUnasked, IsRefusedUnder}
+use Rattle.ds_replica.specs.Delivery.{ended, StandsAgainst, MapTakes}
 use Rattle.ds_world.specs.World.{map_state}
 use Rattle.ds_world.specs.Tally.{refusal_of}
 
@@ -105,10 +99,10 @@ module _ (old new : SubMapRecord) (items : List Item) (query : new.query ≡ old
         query = query;
         top = subst (λ (l : List Item). IsTop (held_items new.held) (held_items old.held ++ under old.query l)) (sym (take_all count.done items (omega (arith, n.done)))) top;
         counted =
-          (let few = answers_few n.all.answers in
-          let each = answered_each old.held (under old.query items) n.all.answers new.held n.all.answered in
-          let fewer = under_few old.query items in
-          omega (arith, few, each, fewer, n.done, n.taken, n.stale));
+            (let few = answers_few n.all.answers in
+            let each = answered_each old.held (under old.query items) n.all.answers new.held n.all.answered in
+            let fewer = under_few old.query items in
+            omega (arith, few, each, fewer, n.done, n.taken, n.stale));
         owed = refl;
         ends = n.done;
       }

@@ -1,6 +1,6 @@
 //! How items of a message go to a holder.
 
-ghost use Rattle.std.specs.Prelude.{◌≡◌, ◌<◌, ◌≤◌, ◌-◌, ◌+◌, length, take, drop, IfOk, OnErr};
+ghost use Rattle.std.specs.Prelude.{◌≡◌, ◌<◌, ◌≤◌, ◌-◌, ◌+◌, length, take, drop, IfOk, OnErr, IfSome, IfNone};
 ghost use Rattle.ds_machine.specs.State.{State};
 ghost use Rattle.ds_machine.specs.Machine.{Step};
 ghost use Rattle.ds_machine.specs.declared.command.Command.TheVariants.{Merge};
@@ -8,7 +8,7 @@ ghost use Rattle.ds_content.specs.Stands.{Stands};
 ghost use Rattle.ds_replica.specs.declared.event.Event.TheVariants.{Deliver};
 ghost use Rattle.ds_replica.specs.declared.event.Holder.TheVariants.{Store as OfStore, Map as OfMap};
 ghost use Rattle.ds_replica.specs.Delivery.{StoreTakes, MapTakes};
-ghost use Rattle.ds_replica.specs.Happens.{tally_outcome};
+ghost use Rattle.ds_replica.specs.Happens.{count_of, tally_outcome};
 ghost use Rattle.ds_world.specs.World.{map_state};
 ghost use Rattle.ds_world.specs.Tally.{tally_of, IsCounted};
 ghost use Rattle.ds_world.specs.Told.{IsMapTold, IsTold};
@@ -44,13 +44,7 @@ fn copied(alloc: Global, items: &ItemList, from: usize, end: usize) -> Result<It
 }
 
 // Asks a store to merge the items from `from` on and before `end`. Where they can't be copied it is as if it had no memory.
-fn merge_group(
-    alloc: Global,
-    store: &mut Store,
-    items: &ItemList,
-    from: usize,
-    end: usize,
-) -> Reply
+fn merge_group(alloc: Global, store: &mut Store, items: &ItemList, from: usize, end: usize) -> Reply
     requires { (from ≤ end) × (end ≤ length items.now) }
     ensures step { (s : State) → Stands store.old s → (t : State) × Step s (Merge (take (end - from) (drop from items.now))) result t × Stands store.new t }
     ensures counted { IsCounted (end - from) result }
@@ -81,7 +75,10 @@ fn merge_from(
     let end = done + MOST_ITEMS.min(count - done);
     match merge_group(alloc, store, items, done, end) {
         Reply::Merged {
-            taken, stale, owed, ..
+            taken,
+            stale,
+            owed,
+            ..
         } => {
             let later = merge_from(alloc, store, items, end, count);
             Tally {
@@ -135,6 +132,15 @@ fn take_first(alloc: Global, map: &mut SubMap, items: &ItemList, count: usize) -
     }
 }
 
+// How many items of a message go to a holder: so many, or all. `None` where there are fewer.
+fn count_of(items: &ItemList, count: Option<usize>) -> Option<usize>
+    ensures some { IfSome result (λ n. (n ≡ count_of count items.now) × (n ≤ length items.now)) }
+    ensures none { IfNone result (length items.now < count_of count items.now) }
+{
+    let count = count.unwrap_or(items.len());
+    (count <= items.len()).then_some(count)
+}
+
 impl World {
     // The first items of a message, or all, go to a holder.
     pub(super) fn deliver(
@@ -159,10 +165,9 @@ impl World {
         let Some(items) = self.messages.get(message) else {
             return Outcome::Refused(EventFault::NoMessage);
         };
-        let count = count.unwrap_or(items.len());
-        if count > items.len() {
+        let Some(count) = count_of(items, count) else {
             return Outcome::Refused(EventFault::TooMany);
-        }
+        };
         let tally = match side {
             Side::A => merge_from(self.alloc, &mut self.a, items, 0, count),
             Side::B => merge_from(self.alloc, &mut self.b, items, 0, count),
@@ -181,10 +186,9 @@ impl World {
         if map >= self.maps.len() {
             return Outcome::Refused(EventFault::NoMap);
         }
-        let count = count.unwrap_or(items.len());
-        if count > items.len() {
+        let Some(count) = count_of(items, count) else {
             return Outcome::Refused(EventFault::TooMany);
-        }
+        };
         take_first(self.alloc, &mut self.maps[map], items, count).outcome()
     }
 }

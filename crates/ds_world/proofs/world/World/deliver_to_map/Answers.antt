@@ -1,6 +1,5 @@
-use Rattle.std.proofs.Common.{◌≡◌, ◌≤◌, ◌<◌, ℕ, length, take, Some, ap, sym, ◌∙◌, subst, arith, refl}
+use Rattle.std.proofs.Common.{◌≡◌, ◌≤◌, ◌<◌, ℕ, length, take, Some, sym, subst, arith, refl}
 use Rattle.std.specs.List.{slice_get, slice_set}
-use Rattle.std.specs.Option.{unwrap_or}
 use Rattle.std.proofs.lemmas.Option.{slice_get_read}
 use Rattle.ds_replica.specs.Delivery.{MapTakes}
 use Rattle.ds_replica.specs.Happens.{count_of}
@@ -27,9 +26,9 @@ returns-clause-leads c =
     let old = c.index_mut.result.now in
     let within : j < length inside.maps.items = omega (arith, c.if-map-len.false, c.len.ensures, inside.maps.ok.0) in
     let map_there : slice_get value.maps j ≡ Some old = slice_get_read value.maps (length value.maps) j old refl within c.index_mut.ensures.value in
-    let counted : c.unwrap_or-count.result ≡ count_of count items = c.unwrap_or-count.ensures ∙ ap (unwrap_or count) c.len-2.ensures in
-    let few : count_of count items ≤ length items = omega (arith, counted, c.len-3.ensures, c.if-count-len.false) in
-    let taken = subst (λ (n : ℕ). MapTakes (map_state old) (take n items) (tally_of c.take_first.result) (map_state c.take_first.new.map)) counted c.take_first.ensures.takes in
+    let counted = c.in-Some-count_of.ensures.some in
+    let few : count_of count items ≤ length items = omega (arith, counted.0, counted.1) in
+    let taken = subst (λ (n : ℕ). MapTakes (map_state old) (take n items) (tally_of c.take_first.result) (map_state c.take_first.new.map)) counted.0 c.take_first.ensures.takes in
     let by_event = Deliver k (Map j) count in
     let new : WorldRecord = record value { maps = slice_set value.maps j c.take_first.new.map } in
     subst (λ (v : WorldRecord). EventLeads by_event c.outcome.result v new) c.self.view_is

@@ -1,9 +1,7 @@
 use Rattle.std.proofs.Common.{◌≡◌, ◌≤◌, ◌-◌, ℕ, length, take, Some, ap, sym, ◌∙◌, subst, arith, refl}
 use Rattle.std.specs.List.{slice_get}
-use Rattle.std.specs.Option.{unwrap_or}
 use Rattle.std.proofs.lemmas.Option.{slice_get_read}
 use Rattle.ds_machine.specs.State.{State}
-use Rattle.ds_content.specs.Content.{ContentRecord}
 use Rattle.ds_content.specs.Stands as contents
 use Rattle.ds_replica.specs.Delivery.{StoreTakes}
 use Rattle.ds_replica.specs.Happens.{count_of, tally_outcome}
@@ -27,9 +25,10 @@ returns c =
     let found = c.in-Some.ensures.lookup in
     let there : slice_get value.messages k ≡ Some items =
     subst (λ l. slice_get l k ≡ Some items) c.deref.ensures.value (slice_get_read c.deref.result.now (length c.deref.result.now) k items refl found.3.0 found.1) in
-    let counted : c.unwrap_or-count.result ≡ count_of count items = c.unwrap_or-count.ensures ∙ ap (unwrap_or count) c.len.ensures in
-    let few : count_of count items ≤ length items = omega (arith, counted, c.len-2.ensures, c.if-count-len.false) in
-    let all : c.unwrap_or-count.result - 0 ≡ count_of count items = omega (arith, counted) in
+    let n = c.in-Some-count_of.count in
+    let counted = c.in-Some-count_of.ensures.some in
+    let few : count_of count items ≤ length items = omega (arith, counted.0, counted.1) in
+    let all : n - 0 ≡ count_of count items = omega (arith, counted.0) in
     let by_event = λ (side : Side). Deliver k (Store side) count in
     let ends = λ (t : Tally). tally_outcome (tally_of t) t.stop in
     elim c.match-side.branch [

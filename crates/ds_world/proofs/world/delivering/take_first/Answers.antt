@@ -1,7 +1,6 @@
-use Rattle.std.proofs.Common.{◌≡◌, ◌<◌, Some, length, take, refl, sym, ◌∙◌, ap, subst, inr, arith}
+use Rattle.std.proofs.Common.{◌≡◌, ◌<◌, length, take, refl, sym, subst, inr, arith}
 use Rattle.std.proofs.lemmas.List.{length-take-le}
-use Rattle.ds_machine.specs.declared.refusal.Refusal.TheVariants.{NoRoom}
-use Rattle.ds_replica.specs.Delivery.{Tally, ended, MapTakes}
+use Rattle.ds_replica.specs.Delivery.{Tally, MapTakes}
 use Rattle.ds_world.specs.World.{map_state}
 use Rattle.ds_replica.specs.Happens.{tally_outcome}
 use Rattle.ds_world.specs.Tally.{tally_of}
