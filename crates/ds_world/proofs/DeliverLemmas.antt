@@ -79,7 +79,7 @@ module _ (value : WorldRecord) (k : ℕ) (count : Option ℕ) where
           let t = takes w.a s.a in (
             with_state w A t.0,
             happens w (with_state w A t.0) (Store A) not_more s
-            (record { items = items; there = message_there w s; tally = tally; taken = record { after = t.0; takes = t.1; world_is = refl }; outcome_is = refl }),
+                (record { items = items; there = message_there w s; tally = tally; taken = record { after = t.0; takes = t.1; world_is = refl }; outcome_is = refl }),
             record { a = t.2; b = s.b; maps = s.maps; messages = s.messages },
           )
 
@@ -89,7 +89,7 @@ module _ (value : WorldRecord) (k : ℕ) (count : Option ℕ) where
           let t = takes w.b s.b in (
             with_state w B t.0,
             happens w (with_state w B t.0) (Store B) not_more s
-            (record { items = items; there = message_there w s; tally = tally; taken = record { after = t.0; takes = t.1; world_is = refl }; outcome_is = refl }),
+                (record { items = items; there = message_there w s; tally = tally; taken = record { after = t.0; takes = t.1; world_is = refl }; outcome_is = refl }),
             record { a = s.a; b = t.2; maps = s.maps; messages = s.messages },
           )
 
@@ -99,12 +99,12 @@ module _ (value : WorldRecord) (k : ℕ) (count : Option ℕ) where
           let after : World = record w { maps = slice_set w.maps j (map_state new) } in (
             after,
             happens w after (Map j) (by_count w j m s e ∙ not_more) s
-            (record {
-              items = items;
-              there = message_there w s;
-              tally = tally;
-              taken = record { old = map_state m; there = map_there w j m s e; after = map_state new; takes = takes; world_is = refl };
-              outcome_is = refl;
-            }),
+                (record {
+                  items = items;
+                  there = message_there w s;
+                  tally = tally;
+                  taken = record { old = map_state m; there = map_there w j m s e; after = map_state new; takes = takes; world_is = refl };
+                  outcome_is = refl;
+                }),
             record { a = s.a; b = s.b; maps = ap (λ (l : List MapState). slice_set l j (map_state new)) s.maps ∙ sym (map-set map_state value.maps j new); messages = s.messages },
           )

@@ -105,10 +105,10 @@ module _ (old new : SubMapRecord) (items : List Item) (query : new.query ≡ old
         query = query;
         top = subst (λ (l : List Item). IsTop (held_items new.held) (held_items old.held ++ under old.query l)) (sym (take_all count.done items (omega (arith, n.done)))) top;
         counted =
-          (let few = answers_few n.all.answers in
-          let each = answered_each old.held (under old.query items) n.all.answers new.held n.all.answered in
-          let fewer = under_few old.query items in
-          omega (arith, few, each, fewer, n.done, n.taken, n.stale));
+            (let few = answers_few n.all.answers in
+            let each = answered_each old.held (under old.query items) n.all.answers new.held n.all.answered in
+            let fewer = under_few old.query items in
+            omega (arith, few, each, fewer, n.done, n.taken, n.stale));
         owed = refl;
         ends = n.done;
       }

@@ -41,13 +41,7 @@ fn copied(alloc: Global, items: &ItemList, from: usize, end: usize) -> Result<It
 }
 
 // Asks a store to merge the items from `from` on and before `end`. Where they can't be copied it is as if it had no memory.
-fn merge_group(
-    alloc: Global,
-    store: &mut Store,
-    items: &ItemList,
-    from: usize,
-    end: usize,
-) -> Reply
+fn merge_group(alloc: Global, store: &mut Store, items: &ItemList, from: usize, end: usize) -> Reply
     requires { (from ≤ end) × (end ≤ length items.now) }
     ensures step { (s : State) → Stands store.old s → (t : State) × Step s (Merge (take (end - from) (drop from items.now))) result t × Stands store.new t }
     ensures counted { IsCounted (end - from) result }
@@ -82,7 +76,10 @@ fn merge_from(
     };
     match merge_group(alloc, store, items, done, end) {
         Reply::Merged {
-            taken, stale, owed, ..
+            taken,
+            stale,
+            owed,
+            ..
         } => {
             let later = merge_from(alloc, store, items, end, count);
             Tally {
