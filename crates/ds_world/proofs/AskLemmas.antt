@@ -18,7 +18,7 @@ use Rattle.ds_replica.specs.declared.outcome.Outcome.TheVariants.{Replied, Made,
 use Rattle.ds_replica.specs.declared.outcome.EventFault.TheVariants.{MessagesFull, NoRoom}
 use Rattle.ds_replica.specs.World.{World, store_at, with_state, with_items}
 use Rattle.ds_replica.specs.Happens.{gives_items, items_given, most_messages, ask_outcome}
-use Rattle.ds_world.specs.World.{WorldRecord, world_of, Stands}
+use Rattle.ds_world.specs.World.{WorldRecord, world_of}
 use Rattle.ds_world.specs.Run.{EventLeads}
 use Rattle.ds_world.proofs.StandLemmas.{le_true, le_false}
 

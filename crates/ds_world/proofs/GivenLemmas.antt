@@ -1,8 +1,6 @@
 -- The laws of single events, of those of a run.
-use Rattle.std.proofs.Common.{◌≡◌, ℕ, Bool, true, List, [], ◌∷◌, ◌++◌, Option, Some, refl, ap, sym, ◌∙◌, subst}
-use Rattle.ds_names.specs.declared.key.Key.{Key}
-use Rattle.ds_feed.specs.declared.cursor.Cursor.{Cursor}
-use Rattle.ds_feed.specs.Feed.{Feed, position}
+use Rattle.std.proofs.Common.{◌≡◌, ℕ, true, List, [], ◌∷◌, ◌++◌, Some, refl, ap, sym, ◌∙◌, subst}
+use Rattle.ds_feed.specs.Feed.{position}
 use Rattle.ds_pattern.specs.Under.{is_under}
 use Rattle.ds_whole.specs.Sent.{Sent, given}
 use Rattle.ds_whole.specs.Whole.{IsWhole}

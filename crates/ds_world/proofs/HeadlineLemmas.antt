@@ -1,6 +1,5 @@
 -- The headline's statements, of the value that callers see.
-use Rattle.std.proofs.Common.{◌≡◌, ◌⊎◌, ℕ, List, Option, Some, None, ap, sym, ◌∙◌, subst, inl, inr, Contains}
-use Rattle.ds_names.specs.declared.key.Key.{Key}
+use Rattle.std.proofs.Common.{◌≡◌, List, ap, sym, ◌∙◌, subst, inl, inr, Contains}
 use Rattle.ds_entry.specs.declared.item.Item.{Item}
 use Rattle.ds_entry.specs.declared.item.Item.TheVariants.{Change as Changed}
 use Rattle.ds_join.specs.ItemTop.{CoversAll}
@@ -16,7 +15,7 @@ use Rattle.ds_replica.specs.declared.outcome.Outcome.{Outcome}
 use Rattle.ds_content.specs.Stands as contents
 use Rattle.ds_replica.specs.World.{World, held_at, store_at}
 use Rattle.ds_replica.specs.Headline as headline
-use Rattle.ds_replica.specs.Known.{Account, MapAccount, store_of, extended_all}
+use Rattle.ds_replica.specs.Known.{Account, store_of, extended_all}
 use Rattle.ds_replica.proofs.EventLemmas.{events_fit}
 use Rattle.ds_replica.proofs.HolderLemmas.{equal_where_known, holds_the_stores, holds_at_least, labels_are_newest, nothing_clashes, nothing_below_floors}
 use Rattle.ds_replica.proofs.BringLemmas.{events_bring_items}

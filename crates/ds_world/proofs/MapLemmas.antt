@@ -1,5 +1,5 @@
 -- What making and clearing maps, and opening stores again, do to a world.
-use Rattle.std.proofs.Common.{◌≡◌, ◌⊎◌, ℕ, ◌<◌, ◌≤◌, nat_le, nat_lt, Bool, true, false, not, cond, ◌&&◌, List, [], ◌∷◌, ◌++◌, length, map, set, Option, Some, None, is_some, refl, ap, sym, ◌∙◌, inl, inr, arith}
+use Rattle.std.proofs.Common.{◌≡◌, ◌⊎◌, ℕ, ◌<◌, ◌≤◌, nat_le, nat_lt, Bool, true, false, not, cond, ◌&&◌, List, [], ◌∷◌, ◌++◌, length, map, Option, Some, None, is_some, refl, ap, sym, ◌∙◌, inl, inr, arith}
 use Rattle.std.specs.List.{slice_get, slice_set}
 use Rattle.std.specs.Option.{option_map}
 use Rattle.std.proofs.lemmas.List.{map-append, map-set, length-map}
@@ -16,7 +16,6 @@ use Rattle.ds_held.specs.Limits.{larger}
 use Rattle.ds_content.specs.Content.{ContentRecord}
 use Rattle.ds_replica.specs.declared.event.Side.{Side}
 use Rattle.ds_replica.specs.declared.event.Side.TheVariants.{A, B}
-use Rattle.ds_replica.specs.declared.event.Holder.TheVariants.{Map}
 use Rattle.ds_replica.specs.declared.event.Event.TheVariants.{NewMap, ClearMap, RestartStore}
 use Rattle.ds_replica.specs.declared.outcome.Outcome.TheVariants.{MapMade, Cleared, Restarted, Refused}
 use Rattle.ds_replica.specs.declared.outcome.EventFault.TheVariants.{MapsFull, TooLong, BadPattern, NoMap, OldIncarnation, NoRoom}

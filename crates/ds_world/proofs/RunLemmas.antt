@@ -1,10 +1,10 @@
 -- How a run goes on.
-use Rattle.std.proofs.Common.{◌≡◌, List, [], ◌∷◌, ◌++◌, length, refl, ap, sym, ◌∙◌, subst, arith}
+use Rattle.std.proofs.Common.{◌≡◌, List, [], ◌∷◌, ◌++◌, length, refl, subst, arith}
 use Rattle.ds_replica.specs.declared.event.Event.{Event}
 use Rattle.ds_replica.specs.declared.outcome.Outcome.{Outcome}
 use Rattle.ds_replica.specs.World.{World}
 use Rattle.ds_replica.specs.Happens.{Happens, HappenAll}
-use Rattle.ds_world.specs.World.{WorldRecord, Stands}
+use Rattle.ds_world.specs.World.{WorldRecord}
 use Rattle.ds_world.specs.Run.{paired, EventLeads, RunLeads}
 use Rattle.ds_world.specs.Told.{IsTold, AreTold}
 

@@ -1,8 +1,7 @@
 -- What running a list of events is.
-use Rattle.std.specs.Prelude.{◌≡◌, ℕ, ◌<◌, ◌≤◌, List, [], ◌∷◌, length}
+use Rattle.std.specs.Prelude.{ℕ, ◌<◌, ◌≤◌, List, [], ◌∷◌, length}
 use Rattle.ds_replica.specs.declared.event.Event.{Event}
 use Rattle.ds_replica.specs.declared.outcome.Outcome.{Outcome}
-use Rattle.ds_replica.specs.World.{World}
 use Rattle.ds_replica.specs.Happens.{Happens, HappenAll}
 use Rattle.ds_world.specs.declared.fault.WorldFault.{WorldFault}
 use Rattle.ds_world.specs.declared.fault.WorldFault.TheVariants.{TooMany, NoRoom}

@@ -1,6 +1,6 @@
 -- What an event tells, beside what it leaves: a delivery to a map of the map, an Ask of want of memory. And what a run is, value
 -- by value.
-use Rattle.std.specs.Prelude.{◌≡◌, ◌⊎◌, ℕ, List, [], ◌∷◌, take, Some}
+use Rattle.std.specs.Prelude.{◌≡◌, ◌⊎◌, List, [], ◌∷◌, take, Some}
 use Rattle.std.specs.List.{slice_get}
 use Rattle.ds_entry.specs.declared.item.Item.{Item}
 use Rattle.ds_join.specs.declared.merge.JoinFault.{JoinFault}

@@ -1,5 +1,5 @@
 -- What callers see of a world, and for which worlds of the definitions it stands.
-use Rattle.std.specs.Prelude.{◌≡◌, ℕ, List, map, Option, None, Some}
+use Rattle.std.specs.Prelude.{◌≡◌, List, map}
 use Rattle.std.specs.List.{slice_get}
 use Rattle.std.specs.Option.{option_map}
 use Rattle.ds_entry.specs.declared.item.Item.{Item}

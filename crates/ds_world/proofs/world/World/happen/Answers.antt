@@ -1,4 +1,3 @@
-use Rattle.std.proofs.Common.{◌≡◌}
 use Rattle.ds_world.proofs.world.World.happen.Goals as goal
 
 pub returns-in-Ask-clause-leads : goal.returns-in-Ask-clause-leads

@@ -1,4 +1,4 @@
-use Rattle.std.proofs.Common.{◌≡◌, ◌≤◌, List, ap, subst, sym, ◌∙◌, ◌+◌, ◌++◌, ◌∷◌, [], length, vec_capacity, append_assoc, arith}
+use Rattle.std.proofs.Common.{◌≤◌, List, ap, subst, sym, ◌∙◌, ◌+◌, ◌++◌, ◌∷◌, [], length, append_assoc}
 use Rattle.std.proofs.lemmas.List.{length_push}
 use Rattle.ds_replica.specs.declared.outcome.Outcome.{Outcome}
 use Rattle.ds_world.specs.Run.{paired, RunLeads}

@@ -1,9 +1,8 @@
-use Rattle.std.proofs.Common.{◌≡◌, ◌<◌, length, take, refl, sym, subst, inr, arith}
+use Rattle.std.proofs.Common.{◌<◌, length, take, refl, sym, subst, inr, arith}
 use Rattle.std.proofs.lemmas.List.{length-take-le}
 use Rattle.ds_replica.specs.Delivery.{Tally, MapTakes}
 use Rattle.ds_world.specs.World.{map_state}
 use Rattle.ds_replica.specs.Happens.{tally_outcome}
-use Rattle.ds_world.specs.Tally.{tally_of}
 use Rattle.ds_world.specs.Told.{IsMapTold}
 use Rattle.ds_world.proofs.TakeLemmas.{uncopied}
 use Rattle.ds_world.proofs.world.delivering.take_first.Goals as goal
