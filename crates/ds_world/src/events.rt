@@ -32,6 +32,20 @@ impl Events {
         }
     }
 
+    /// The events of a `Vec`. It takes no memory.
+    pub fn of(events: Vec<Event>) -> Events
+        ensures { result ≡ events.items }
+    {
+        Events { events }
+    }
+
+    /// Gives the `Vec` back. It takes no memory.
+    pub fn into_list(self) -> Vec<Event>
+        ensures { result.items ≡ self }
+    {
+        self.events
+    }
+
     /// Adds an event at the end. Where there is no room, the list is unchanged and the error gives the event back.
     pub fn push(&mut self, event: Event) -> Result<(), AllocFailed<Event>>
         ensures ok { OnOk result (self.new ≡ self.old ++ event ∷ []) }
@@ -53,12 +67,5 @@ impl Events {
         ensures { option_copied result ≡ slice_get self.now index }
     {
         self.events.get(index)
-    }
-
-    // The events themselves.
-    pub(crate) fn into_list(self) -> Vec<Event>
-        ensures { result.items ≡ self }
-    {
-        self.events
     }
 }

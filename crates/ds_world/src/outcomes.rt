@@ -32,6 +32,20 @@ impl Outcomes {
         }
     }
 
+    /// The outcomes of a `Vec`. It takes no memory.
+    pub fn of(outcomes: Vec<Outcome>) -> Outcomes
+        ensures { result ≡ outcomes.items }
+    {
+        Outcomes { outcomes }
+    }
+
+    /// Gives the `Vec` back. It takes no memory.
+    pub fn into_list(self) -> Vec<Outcome>
+        ensures { result.items ≡ self }
+    {
+        self.outcomes
+    }
+
     /// Adds an outcome at the end. Where there is no room, the list is unchanged and the error gives the outcome back.
     pub fn push(&mut self, outcome: Outcome) -> Result<(), AllocFailed<Outcome>>
         ensures ok { OnOk result (self.new ≡ self.old ++ outcome ∷ []) }
@@ -53,12 +67,5 @@ impl Outcomes {
         ensures { option_copied result ≡ slice_get self.now index }
     {
         self.outcomes.get(index)
-    }
-
-    // The list of these outcomes.
-    pub(crate) fn of(outcomes: Vec<Outcome>) -> Outcomes
-        ensures { result ≡ outcomes.items }
-    {
-        Outcomes { outcomes }
     }
 }

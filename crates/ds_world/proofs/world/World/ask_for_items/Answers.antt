@@ -16,7 +16,7 @@ returns-in-Err c =
     let maps = c.self.inside.maps.items in
     let few : length messages < 65536 = omega (arith, c.len-message.ensures, c.self.inside.messages.ok.0, c.if-message-ge-MOST_MESSAGES.false) in
     let went = replied c.self.inside.a c.self.inside.b c.apply-reply.new.a c.apply-reply.new.b maps messages c.args.side c.args.command reply c.apply-reply.ensures.step
-        (few_free c.args.command messages few) c.in-Err.ensures.none in
+    (few_free c.args.command messages few) c.in-Err.ensures.none in
     subst (λ (r : Reply). EventLeads ask (Replied r) c.args.self.now (world_of c.apply-reply.new.a c.apply-reply.new.b maps c.reserve.new.self.items)) (sym c.in-Err.ensures.back)
     (subst (λ (l : List (List Item)). EventLeads ask (Replied reply) c.args.self.now (world_of c.apply-reply.new.a c.apply-reply.new.b maps l)) (sym c.reserve.ensures.items)
     (subst (λ (v : WorldRecord). EventLeads ask (Replied reply) v (world_of c.apply-reply.new.a c.apply-reply.new.b maps messages)) c.self.view_is went))
