@@ -201,6 +201,7 @@ page_is_turn account w late side scope behind max k events h =
     let same = given_unless a.state own.reached (first_refusal (against_page scope max)) (Paged (page_of (is_kept scope) behind max (held a.state) (cursor a.state))) (floors_of left ++ take max (changes_of left)) g.items refl g.given_is in (
       page_turn account side scope behind max,
       refl,
+      refl,
       record { front = front account w late side (Page scope behind max) k events h; knows = own.accepted; top = held_is_top a.state own.reached; given = refl },
       subst (λ (l : List Item). IsMessage (after account side (Page scope behind max) k events) k (given a.known l)) (sym same) g.message,
     )

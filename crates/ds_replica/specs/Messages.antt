@@ -62,12 +62,12 @@ SinceIsTurn =
     let now = after account side (Since scope at max) k events in
     (t : SinceTurn) × (t.max ≡ max) × IsSinceTurn (feed_of now side) (keeps scope) at t × IsMessage now k (given t.known t.since.items)
 
--- and so is a page
+-- and so is a page, of the store as it was when it was asked
 abbrev pub PageIsTurn : Type 0
 PageIsTurn =
     (account : Account) (w late : World) (side : Side) (scope : Scope) (behind : Option Key) (max k : ℕ) (events : List (Event × Outcome)) → IsAsked account w side (Page scope behind max) k events late →
     let now = after account side (Page scope behind max) k events in
-    (t : PageTurn) × (t.max ≡ max) × IsPageTurn (feed_of now side) (keeps scope) behind t × IsMessage now k (given t.known t.page.items)
+    (t : PageTurn) × (t.max ≡ max) × (t.feed ≡ feed_of account side) × IsPageTurn (feed_of now side) (keeps scope) behind t × IsMessage now k (given t.known t.page.items)
 
 -- items that are whole up to a cursor, with those of a message of the journal from there, under a scope that keeps all of
 -- the query, are whole up to the cursor that came with the message

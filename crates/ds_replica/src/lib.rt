@@ -1,5 +1,5 @@
 //! Two stores that can exchange what they know, subscribers' maps, and the messages between them: what can happen in such
-//! a world, what each holder knows, and laws over every list of events, by definitions alone. No world runs by it yet.
+//! a world, what each holder knows, and laws over every list of events, by definitions alone. `ds_world` runs by them.
 //!
 //! Replicas, messages and the join of what holders know are of this project; MINIX 3's data store is one server (the DS
 //! interface of MINIX 3; Tanenbaum and Woodhull, third edition), and its subscribers ask it again (Herder and others, DSN

@@ -1,0 +1,151 @@
+-- What asking a store does to a world.
+use Rattle.std.proofs.Common.{◌≡◌, ◌<◌, ◌≤◌, nat_le, Bool, true, false, cond, ◌&&◌, List, [], ◌∷◌, ◌++◌, length, Some, None, refl, ap, sym, ◌∙◌, inl}
+use Rattle.ds_entry.specs.declared.item.Item.{Item}
+use Rattle.ds_machine.specs.State.{State}
+use Rattle.ds_machine.specs.Machine.{Step}
+use Rattle.ds_machine.specs.Says.{IsAskedReply, IsSweepReply, IsRetrieveReply, IsNameReply, IsSubscribeReply, IsMergeReply, IsReplyTo}
+use Rattle.ds_machine.specs.declared.command.Command.{Command}
+use Rattle.ds_machine.specs.declared.command.Command.TheVariants.{Publish, Delete, Sweep, Retrieve, NameOf, Subscribe, Check, Since, Snapshot, Page, Merge}
+use Rattle.ds_machine.specs.declared.reply.Reply.{Reply}
+use Rattle.ds_machine.specs.declared.reply.Reply.TheVariants.{Changed, Known, Swept, Found, Named, Subscribed, Merged, MergeStopped, Refused}
+use Rattle.ds_content.specs.Content.{ContentRecord}
+use Rattle.ds_content.specs.Stands as contents
+use Rattle.ds_submap.specs.Map.{SubMapRecord}
+use Rattle.ds_replica.specs.declared.event.Side.{Side}
+use Rattle.ds_replica.specs.declared.event.Side.TheVariants.{A, B}
+use Rattle.ds_replica.specs.declared.event.Event.TheVariants.{Ask}
+use Rattle.ds_replica.specs.declared.outcome.Outcome.TheVariants.{Replied, Made, Refused as Rejected}
+use Rattle.ds_replica.specs.declared.outcome.EventFault.TheVariants.{MessagesFull, NoRoom}
+use Rattle.ds_replica.specs.World.{World, store_at, with_state, with_items}
+use Rattle.ds_replica.specs.Happens.{gives_items, items_given, most_messages, ask_outcome}
+use Rattle.ds_world.specs.World.{WorldRecord, world_of}
+use Rattle.ds_world.specs.Run.{EventLeads}
+use Rattle.ds_world.proofs.StandLemmas.{le_true, le_false}
+
+-- ---- replies without items
+asked_none : (reply : Reply) → IsAskedReply reply → items_given reply ≡ None
+asked_none (Changed owed) f = refl
+asked_none Known f = refl
+asked_none (Refused refusal) f = refl
+asked_none _ f = absurd f
+
+sweep_none : (reply : Reply) → IsSweepReply reply → items_given reply ≡ None
+sweep_none (Swept count owed) f = refl
+sweep_none (Refused refusal) f = refl
+sweep_none _ f = absurd f
+
+retrieve_none : (reply : Reply) → IsRetrieveReply reply → items_given reply ≡ None
+retrieve_none (Found value) f = refl
+retrieve_none (Refused refusal) f = refl
+retrieve_none _ f = absurd f
+
+name_none : (reply : Reply) → IsNameReply reply → items_given reply ≡ None
+name_none (Named name) f = refl
+name_none (Refused refusal) f = refl
+name_none _ f = absurd f
+
+subscribe_none : (reply : Reply) → IsSubscribeReply reply → items_given reply ≡ None
+subscribe_none (Subscribed stamp owed) f = refl
+subscribe_none (Refused refusal) f = refl
+subscribe_none _ f = absurd f
+
+merge_none : (reply : Reply) → IsMergeReply reply → items_given reply ≡ None
+merge_none (Merged done taken stale owed) f = refl
+merge_none (MergeStopped done fault owed) f = refl
+merge_none (Refused refusal) f = refl
+merge_none _ f = absurd f
+
+not_true : true ≡ false → ⊥
+not_true e = cc
+
+-- a command to which a store gives nothing gets no items
+pub none_given : (command : Command) (reply : Reply) → gives_items command ≡ false → IsReplyTo command reply → items_given reply ≡ None
+none_given (Publish caller key version value overwrite) reply e f = asked_none reply f
+none_given (Delete caller key version) reply e f = asked_none reply f
+none_given (Sweep caller owner generation) reply e f = sweep_none reply f
+none_given (Retrieve key) reply e f = retrieve_none reply f
+none_given (NameOf endpoint) reply e f = name_none reply f
+none_given (Subscribe sub query initial overwrite) reply e f = subscribe_none reply f
+none_given (Merge items) reply e f = merge_none reply f
+none_given (Check sub max) reply e f = absurd (not_true e)
+none_given (Since scope at max) reply e f = absurd (not_true e)
+none_given (Snapshot scope) reply e f = absurd (not_true e)
+none_given (Page scope after max) reply e f = absurd (not_true e)
+
+-- ---- the store of a side
+-- a store of the world made a step
+abbrev pub StoreSteps : ContentRecord → ContentRecord → ContentRecord → ContentRecord → Side → Command → Reply → Type 0
+StoreSteps a b newa newb side command reply =
+    (w : World) → contents.Stands a w.a → contents.Stands b w.b → (s : State) × Step (store_at w side) command reply s × contents.Stands newa (with_state w side s).a × contents.Stands newb (with_state w side s).b
+
+same_maps : (w : World) (side : Side) (s : State) → (with_state w side s).maps ≡ w.maps
+same_maps w A s = refl
+same_maps w B s = refl
+
+same_messages : (w : World) (side : Side) (s : State) → (with_state w side s).messages ≡ w.messages
+same_messages w A s = refl
+same_messages w B s = refl
+
+module _ (a b newa newb : ContentRecord) (maps : List SubMapRecord) (messages : List (List Item)) (side : Side) (command : Command) (reply : Reply) (steps : StoreSteps a b newa newb side command reply) where
+  -- nothing is kept of the reply
+  pub replied : gives_items command && nat_le most_messages (length messages) ≡ false → items_given reply ≡ None → EventLeads (Ask side command) (Replied reply) (world_of a b maps messages) (world_of newa newb maps messages)
+  replied free none w s =
+      let t = steps w s.a s.b in (
+        with_state w side t.0,
+        (
+          ap (λ (l : List (List Item)). cond (gives_items command && nat_le most_messages (length l)) (Some MessagesFull) None) s.messages ∙ ap (λ x. cond x (Some MessagesFull) None) free,
+          record {
+            reply = reply;
+            after = t.0;
+            step = t.1;
+            outcome_is = sym (ap (λ o. ask_outcome w reply o) none);
+            world_is = sym (ap (with_items (with_state w side t.0)) none);
+          },
+        ),
+        record { a = t.2; b = t.3; maps = same_maps w side t.0 ∙ s.maps; messages = same_messages w side t.0 ∙ s.messages },
+      )
+
+  -- the items of the reply are kept
+  pub made : (items : List Item) → gives_items command ≡ true → length messages < most_messages → items_given reply ≡ Some items →
+      EventLeads (Ask side command) (Made (length messages)) (world_of a b maps messages) (world_of newa newb maps (messages ++ items ∷ []))
+  made items gives few some w s =
+      let t = steps w s.a s.b in
+      let free : gives_items command && nat_le most_messages (length messages) ≡ false = ap (λ x. gives_items command && x) (le_false most_messages (length messages) few) ∙ and_false (gives_items command) in (
+        with_items (with_state w side t.0) (Some items),
+        (
+          ap (λ (l : List (List Item)). cond (gives_items command && nat_le most_messages (length l)) (Some MessagesFull) None) s.messages ∙ ap (λ x. cond x (Some MessagesFull) None) free,
+          record {
+            reply = reply;
+            after = t.0;
+            step = t.1;
+            outcome_is = ap (λ (l : List (List Item)). Made (length l)) (sym s.messages) ∙ sym (ap (λ o. ask_outcome w reply o) some);
+            world_is = sym (ap (with_items (with_state w side t.0)) some);
+          },
+        ),
+        record { a = t.2; b = t.3; maps = same_maps w side t.0 ∙ s.maps; messages = ap (λ (l : List (List Item)). l ++ items ∷ []) (same_messages w side t.0 ∙ s.messages) },
+      )
+    where
+      and_false : (x : Bool) → x && false ≡ false
+      and_false true = refl
+      and_false false = refl
+
+-- there is a place for one more message
+pub few_free : (command : Command) (messages : List (List Item)) → length messages < most_messages → gives_items command && nat_le most_messages (length messages) ≡ false
+few_free command messages few = ap (λ x. gives_items command && x) (le_false most_messages (length messages) few) ∙ and_false (gives_items command)
+  where
+    and_false : (x : Bool) → x && false ≡ false
+    and_false true = refl
+    and_false false = refl
+
+-- ---- an Ask that is refused before the store is asked
+pub messages_full : (value : WorldRecord) (side : Side) (command : Command) → gives_items command ≡ true → most_messages ≤ length value.messages → EventLeads (Ask side command) (Rejected MessagesFull) value value
+messages_full value side command gives full w s =
+    let e : gives_items command && nat_le most_messages (length w.messages) ≡ true =
+    ap (λ x. x && nat_le most_messages (length w.messages)) gives ∙ ap (λ (l : List (List Item)). nat_le most_messages (length l)) s.messages ∙ le_true most_messages (length value.messages) full in
+    (w, (ap (λ x. cond x (Some MessagesFull) None) e, refl), s)
+
+pub no_room_for_message : (value : WorldRecord) (side : Side) (command : Command) → gives_items command ≡ true → length value.messages < most_messages → EventLeads (Ask side command) (Rejected NoRoom) value value
+no_room_for_message value side command gives few w s =
+    let e : gives_items command && nat_le most_messages (length w.messages) ≡ false =
+    ap (λ x. x && nat_le most_messages (length w.messages)) gives ∙ ap (λ (l : List (List Item)). nat_le most_messages (length l)) s.messages ∙ le_false most_messages (length value.messages) few in
+    (w, ((gives, inl (ap (λ x. cond x (Some MessagesFull) None) e)), refl), s)

@@ -1,0 +1,116 @@
+-- What a delivery does to a world.
+use Rattle.std.proofs.Common.{◌≡◌, ℕ, ◌<◌, ◌≤◌, nat_lt, not, cond, List, length, take, Option, Some, None, is_some, refl, ap, sym, ◌∙◌, subst}
+use Rattle.std.specs.List.{slice_get, slice_set}
+use Rattle.std.specs.Option.{option_map, option_map_or}
+use Rattle.std.proofs.lemmas.List.{map-set}
+use Rattle.std.proofs.lemmas.Option.{slice_get_past}
+use Rattle.ds_entry.specs.declared.item.Item.{Item}
+use Rattle.ds_submap.specs.Map.{SubMapRecord}
+use Rattle.ds_machine.specs.State.{State}
+use Rattle.ds_machine.specs.declared.refusal.Refusal.{Refusal}
+use Rattle.ds_content.specs.Content.{ContentRecord}
+use Rattle.ds_content.specs.Stands as contents
+use Rattle.ds_replica.specs.declared.event.Side.{Side}
+use Rattle.ds_replica.specs.declared.event.Side.TheVariants.{A, B}
+use Rattle.ds_replica.specs.declared.event.Holder.{Holder}
+use Rattle.ds_replica.specs.declared.event.Holder.TheVariants.{Store, Map}
+use Rattle.ds_replica.specs.declared.event.Event.{Event}
+use Rattle.ds_replica.specs.declared.event.Event.TheVariants.{Deliver}
+use Rattle.ds_replica.specs.declared.outcome.Outcome.{Outcome}
+use Rattle.ds_replica.specs.declared.outcome.Outcome.TheVariants.{Refused}
+use Rattle.ds_replica.specs.declared.outcome.EventFault.TheVariants.{NoMessage, NoMap, TooMany}
+use Rattle.ds_replica.specs.Delivery.{Tally, StoreTakes, MapTakes}
+use Rattle.ds_replica.specs.World.{MapState, World, with_state}
+use Rattle.ds_replica.specs.Happens.{count_of, delivery_fault, tally_outcome, Happens, Delivers}
+use Rattle.ds_world.specs.World.{WorldRecord, map_state, Stands}
+use Rattle.ds_world.specs.Run.{EventLeads}
+use Rattle.ds_world.proofs.StandLemmas.{map_is, lt_true, lt_false}
+
+-- an event that leads from one value to another does so by whatever names they have
+pub carried : {event event' : Event} {outcome outcome' : Outcome} {old old' new new' : WorldRecord} → event ≡ event' → outcome ≡ outcome' → old ≡ old' → new ≡ new' → EventLeads event outcome old new → EventLeads event' outcome' old' new'
+carried {event' = event'} {outcome = outcome} {outcome' = outcome'} {old = old} {old' = old'} {new = new} e o was is leads =
+    subst (λ (v : WorldRecord). EventLeads event' outcome' old' v) is
+    (subst (λ (v : WorldRecord). EventLeads event' outcome' v new) was (subst (λ (x : Outcome). EventLeads event' x old new) o (subst (λ (x : Event). EventLeads x outcome old new) e leads)))
+
+module _ (value : WorldRecord) (k : ℕ) (count : Option ℕ) where
+  message_is : (w : World) → Stands value w → slice_get w.messages k ≡ slice_get value.messages k
+  message_is w s = ap (λ (l : List (List Item)). slice_get l k) s.messages
+
+  pub no_message : (holder : Holder) → slice_get value.messages k ≡ None → EventLeads (Deliver k holder count) (Refused NoMessage) value value
+  no_message holder none w s = (w, (ap (λ (o : Option (List Item)). option_map_or (λ items. delivery_fault w holder count items) o (Some NoMessage)) (message_is w s ∙ none), refl), s)
+
+  -- such a message is there
+  module _ (items : List Item) (there : slice_get value.messages k ≡ Some items) where
+    -- the fault is the delivery's
+    by_items : (w : World) (holder : Holder) → Stands value w → option_map_or (λ items. delivery_fault w holder count items) (slice_get w.messages k) (Some NoMessage) ≡ delivery_fault w holder count items
+    by_items w holder s = ap (λ (o : Option (List Item)). option_map_or (λ items. delivery_fault w holder count items) o (Some NoMessage)) (message_is w s ∙ there)
+
+    pub no_map : (j : ℕ) → length value.maps ≤ j → EventLeads (Deliver k (Map j) count) (Refused NoMap) value value
+    no_map j l w s =
+        let none = map_is value w j s ∙ ap (option_map map_state) (slice_get_past value.maps j l) in
+        (w, (by_items w (Map j) s ∙ ap (λ (o : Option MapState). cond (not (is_some o)) (Some NoMap) (cond (nat_lt (length items) (count_of count items)) (Some TooMany) None)) none, refl), s)
+
+    pub too_many_for_store : (side : Side) → length items < count_of count items → EventLeads (Deliver k (Store side) count) (Refused TooMany) value value
+    too_many_for_store side l w s = (w, (by_items w (Store side) s ∙ ap (λ b. cond b (Some TooMany) None) (lt_true (length items) (count_of count items) l), refl), s)
+
+    -- and a map
+    map_there : (w : World) (j : ℕ) (m : SubMapRecord) → Stands value w → slice_get value.maps j ≡ Some m → slice_get w.maps j ≡ Some (map_state m)
+    map_there w j m s e = map_is value w j s ∙ ap (option_map map_state) e
+
+    by_count : (w : World) (j : ℕ) (m : SubMapRecord) → Stands value w → slice_get value.maps j ≡ Some m → delivery_fault w (Map j) count items ≡ cond (nat_lt (length items) (count_of count items)) (Some TooMany) None
+    by_count w j m s e = ap (λ (o : Option MapState). cond (not (is_some o)) (Some NoMap) (cond (nat_lt (length items) (count_of count items)) (Some TooMany) None)) (map_there w j m s e)
+
+    pub too_many_for_map : (j : ℕ) (m : SubMapRecord) → slice_get value.maps j ≡ Some m → length items < count_of count items → EventLeads (Deliver k (Map j) count) (Refused TooMany) value value
+    too_many_for_map j m e l w s = (w, (by_items w (Map j) s ∙ by_count w j m s e ∙ ap (λ b. cond b (Some TooMany) None) (lt_true (length items) (count_of count items) l), refl), s)
+
+    -- ---- so many items are there
+    module _ (few : count_of count items ≤ length items) (tally : Tally) where
+      -- whatever the tally, its outcome isn't a refusal
+      happens : (w new : World) (holder : Holder) → delivery_fault w holder count items ≡ None → Stands value w → Delivers w k holder count (tally_outcome tally tally.stop) new → Happens w (Deliver k holder count) (tally_outcome tally tally.stop) new
+      happens w new holder free s d = by_stop tally.stop d
+        where
+          by_stop : (o : Option Refusal) → Delivers w k holder count (tally_outcome tally o) new → Happens w (Deliver k holder count) (tally_outcome tally o) new
+          by_stop None d = (by_items w holder s ∙ free, d)
+          by_stop (Some fault) d = (by_items w holder s ∙ free, d)
+
+      not_more : cond (nat_lt (length items) (count_of count items)) (Some TooMany) None ≡ None
+      not_more = ap (λ b. cond b (Some TooMany) None) (lt_false (length items) (count_of count items) few)
+
+      message_there : (w : World) → Stands value w → slice_get w.messages k ≡ Some items
+      message_there w s = message_is w s ∙ there
+
+      pub to_a : (new : ContentRecord) → ((s : State) → contents.Stands value.a s → (t : State) × StoreTakes s (take (count_of count items) items) tally t × contents.Stands new t)
+          → EventLeads (Deliver k (Store A) count) (tally_outcome tally tally.stop) value (record value { a = new })
+      to_a new takes w s =
+          let t = takes w.a s.a in (
+            with_state w A t.0,
+            happens w (with_state w A t.0) (Store A) not_more s
+                (record { items = items; there = message_there w s; tally = tally; taken = record { after = t.0; takes = t.1; world_is = refl }; outcome_is = refl }),
+            record { a = t.2; b = s.b; maps = s.maps; messages = s.messages },
+          )
+
+      pub to_b : (new : ContentRecord) → ((s : State) → contents.Stands value.b s → (t : State) × StoreTakes s (take (count_of count items) items) tally t × contents.Stands new t)
+          → EventLeads (Deliver k (Store B) count) (tally_outcome tally tally.stop) value (record value { b = new })
+      to_b new takes w s =
+          let t = takes w.b s.b in (
+            with_state w B t.0,
+            happens w (with_state w B t.0) (Store B) not_more s
+                (record { items = items; there = message_there w s; tally = tally; taken = record { after = t.0; takes = t.1; world_is = refl }; outcome_is = refl }),
+            record { a = s.a; b = t.2; maps = s.maps; messages = s.messages },
+          )
+
+      pub to_map : (j : ℕ) (m new : SubMapRecord) → slice_get value.maps j ≡ Some m → MapTakes (map_state m) (take (count_of count items) items) tally (map_state new)
+          → EventLeads (Deliver k (Map j) count) (tally_outcome tally tally.stop) value (record value { maps = slice_set value.maps j new })
+      to_map j m new e takes w s =
+          let after : World = record w { maps = slice_set w.maps j (map_state new) } in (
+            after,
+            happens w after (Map j) (by_count w j m s e ∙ not_more) s
+                (record {
+                  items = items;
+                  there = message_there w s;
+                  tally = tally;
+                  taken = record { old = map_state m; there = map_there w j m s e; after = map_state new; takes = takes; world_is = refl };
+                  outcome_is = refl;
+                }),
+            record { a = s.a; b = s.b; maps = ap (λ (l : List MapState). slice_set l j (map_state new)) s.maps ∙ sym (map-set map_state value.maps j new); messages = s.messages },
+          )

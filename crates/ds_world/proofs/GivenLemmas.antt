@@ -1,0 +1,92 @@
+-- The laws of single events, of those of a run.
+use Rattle.std.proofs.Common.{◌≡◌, ℕ, true, List, [], ◌∷◌, ◌++◌, Some, refl, ap, sym, ◌∙◌, subst}
+use Rattle.ds_feed.specs.Feed.{position}
+use Rattle.ds_pattern.specs.Under.{is_under}
+use Rattle.ds_whole.specs.Sent.{Sent, given}
+use Rattle.ds_whole.specs.Whole.{IsWhole}
+use Rattle.ds_whole.specs.Checked.{CheckTurn, IsCheckTurn}
+use Rattle.ds_whole.specs.Journaled.{SinceTurn, IsSinceTurn}
+use Rattle.ds_whole.specs.Paged.{PageTurn, IsPageTurn}
+use Rattle.ds_machine.specs.Scope.{keeps}
+use Rattle.ds_machine.specs.Subscription.{Subscription}
+use Rattle.ds_machine.specs.State.{subscription_at}
+use Rattle.ds_machine.specs.declared.command.Command.{Command}
+use Rattle.ds_machine.specs.declared.command.Command.TheVariants.{Subscribe, Check, Since, Snapshot, Page}
+use Rattle.ds_machine.specs.declared.reply.Reply.TheVariants.{Subscribed}
+use Rattle.ds_replica.specs.declared.event.Side.{Side}
+use Rattle.ds_replica.specs.declared.event.Event.{Event}
+use Rattle.ds_replica.specs.declared.event.Event.TheVariants.{Ask, Deliver}
+use Rattle.ds_replica.specs.declared.outcome.Outcome.{Outcome}
+use Rattle.ds_replica.specs.declared.outcome.Outcome.TheVariants.{Replied, Made, Stopped}
+use Rattle.ds_replica.specs.World.{World}
+use Rattle.ds_replica.specs.Happens.{HappenAll}
+use Rattle.ds_replica.specs.Known.{Account, store_of, extended, extended_all}
+use Rattle.ds_replica.specs.Messages.{IsAsked, after, feed_of, IsMessage}
+use Rattle.ds_replica.proofs.EventLemmas.{events_fit}
+use Rattle.ds_replica.proofs.MessageLemmas.{snapshot_is_whole, since_extends, page_is_turn, check_is_turn}
+use Rattle.ds_replica.proofs.CheckLemmas.{checks_are_whole}
+use Rattle.ds_world.specs.World.{WorldRecord}
+use Rattle.ds_world.specs.Run.{paired, RunLeads}
+use Rattle.ds_replica.proofs.ClashLemmas.{nothing_stops}
+use Rattle.ds_world.specs.Account.{IsFor, NothingStops}
+use Rattle.ds_world.specs.Messages.{WasGiven, SnapshotsAreWhole, SincesExtend, PagesAreTurns, ChecksAreTurns, AllChecksAreWhole}
+
+-- events that happened one after the other, in two parts
+happen_split : (xs ys : List (Event × Outcome)) (w new : World) → HappenAll w (xs ++ ys) new → (mid : World) × HappenAll w xs mid × HappenAll mid ys new
+happen_split [] ys w new h = (w, refl, h)
+happen_split (x ∷ xs) ys w new h = let t = happen_split xs ys h.0 new h.2 in (t.0, (h.0, h.1, t.1), t.2)
+
+extended_append : (xs ys : List (Event × Outcome)) (account : Account) → extended_all account (xs ++ ys) ≡ extended_all (extended_all account xs) ys
+extended_append [] ys account = refl
+extended_append (x ∷ xs) ys account = extended_append xs ys (extended account x.0 x.1)
+
+module _ (account : Account) (old new : WorldRecord) (events : List Event) (outcomes : List Outcome) (run : RunLeads events outcomes old new) (f : IsFor account old) where
+  abbrev late : World
+  late = (run f.0 f.1).0
+
+  module _ (side : Side) (command : Command) (k : ℕ) (g : WasGiven (paired events outcomes) side command k) where
+    parts : (mid : World) × HappenAll f.0 g.before mid × HappenAll mid ((Ask side command, Made k) ∷ g.since) late
+    parts = happen_split g.before ((Ask side command, Made k) ∷ g.since) f.0 late (subst (λ (l : List (Event × Outcome)). HappenAll f.0 l late) (sym g.all) (run f.0 f.1).1)
+
+    asked : IsAsked (extended_all account g.before) parts.0 side command k g.since late
+    asked = record { fits = events_fit account f.0 parts.0 g.before f.2 parts.1; happen = parts.2; stays = g.stays }
+
+    now_is : after (extended_all account g.before) side command k g.since ≡ extended_all account (paired events outcomes)
+    now_is = sym (extended_append g.before ((Ask side command, Made k) ∷ g.since) account) ∙ ap (extended_all account) g.all
+
+  pub snapshots : SnapshotsAreWhole account (paired events outcomes)
+  snapshots side scope query k g keep =
+      subst (λ (now : Account). (sent : List Sent) × IsMessage now k sent × IsWhole (feed_of now side) query sent (position (feed_of (extended_all account g.before) side))) (now_is side (Snapshot scope) k g)
+      (snapshot_is_whole (extended_all account g.before) (parts side (Snapshot scope) k g).0 late side scope query k g.since (asked side (Snapshot scope) k g) keep)
+
+  pub sinces : SincesExtend account (paired events outcomes)
+  sinces side scope query at max k items g keep =
+      subst
+      (λ (now : Account). IsWhole (feed_of now side) query items at.position → (t : SinceTurn) × IsSinceTurn (feed_of now side) (keeps scope) at t × IsMessage now k (given t.known t.since.items) × IsWhole (feed_of now side) query (items ++ given t.known t.since.items) t.since.cursor.position)
+      (now_is side (Since scope at max) k g)
+      (since_extends (extended_all account g.before) (parts side (Since scope at max) k g).0 late side scope query at max k g.since items (asked side (Since scope at max) k g) keep)
+
+  pub pages : PagesAreTurns account (paired events outcomes)
+  pages side scope behind max k g =
+      subst (λ (now : Account). (t : PageTurn) × (t.max ≡ max) × (t.feed ≡ feed_of (extended_all account g.before) side) × IsPageTurn (feed_of now side) (keeps scope) behind t × IsMessage now k (given t.known t.page.items)) (now_is side (Page scope behind max) k g)
+      (page_is_turn (extended_all account g.before) (parts side (Page scope behind max) k g).0 late side scope behind max k g.since (asked side (Page scope behind max) k g))
+
+  pub checks : ChecksAreTurns account (paired events outcomes)
+  checks side sub max k early g front =
+      subst
+      (λ (now : Account). (seer : Subscription) × (subscription_at (store_of (extended_all account g.before) side).state sub ≡ Some seer) × (t : CheckTurn) × (t.max ≡ max) × IsCheckTurn early (feed_of now side) (is_under seer.query) seer.shown t × IsMessage now k (given t.known t.items))
+      (now_is side (Check sub max) k g)
+      (check_is_turn (extended_all account g.before) (parts side (Check sub max) k g).0 late side sub max k g.since early (asked side (Check sub max) k g) front)
+
+  pub stops : NothingStops account (paired events outcomes)
+  stops before since k holder count done fault owed e single contradicts =
+      let t = happen_split before ((Deliver k holder count, Stopped done fault owed) ∷ since) f.0 late (subst (λ (l : List (Event × Outcome)). HappenAll f.0 l late) (sym e) (run f.0 f.1).1) in
+      nothing_stops (extended_all account before) t.0 t.2.0 k holder count done fault owed (events_fit account f.0 t.0 before f.2 t.1) single t.2.1 contradicts
+
+  pub all_checks : AllChecksAreWhole account (paired events outcomes)
+  all_checks side sub query max k g few =
+      let subscribe : Event × Outcome = (Ask side (Subscribe sub query true g.overwrite), Replied (Subscribed g.stamp g.owed)) in
+      let check : Event × Outcome = (Ask side (Check sub max), Made k) in
+      let first = happen_split g.before (subscribe ∷ (g.between ++ check ∷ g.since)) f.0 late (subst (λ (l : List (Event × Outcome)). HappenAll f.0 l late) (sym g.all) (run f.0 f.1).1) in
+      let rest = happen_split g.between (check ∷ g.since) first.2.0 late first.2.2 in
+      checks_are_whole (extended_all account g.before) first.0 first.2.0 rest.0 rest.2.0 side sub query g.overwrite g.stamp g.owed g.between max k (events_fit account f.0 first.0 g.before f.2 first.1) first.2.1 rest.1 g.stays g.alone rest.2.1 few

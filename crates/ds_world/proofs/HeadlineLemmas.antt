@@ -1,0 +1,102 @@
+-- The headline's statements, of the value that callers see.
+use Rattle.std.proofs.Common.{◌≡◌, List, ap, sym, ◌∙◌, subst, inl, inr, Contains}
+use Rattle.ds_entry.specs.declared.item.Item.{Item}
+use Rattle.ds_entry.specs.declared.item.Item.TheVariants.{Change as Changed}
+use Rattle.ds_join.specs.ItemTop.{CoversAll}
+use Rattle.ds_pattern.specs.Under.{is_under}
+use Rattle.ds_whole.specs.Under.{under, entries_of}
+use Rattle.ds_whole.specs.Labels.{label_in, IsNewest}
+use Rattle.ds_replica.specs.declared.event.Event.{Event}
+use Rattle.ds_replica.specs.declared.event.Side.{Side}
+use Rattle.ds_replica.specs.declared.event.Side.TheVariants.{A, B}
+use Rattle.ds_replica.specs.declared.event.Holder.{Holder}
+use Rattle.ds_replica.specs.declared.event.Holder.TheVariants.{Store, Map}
+use Rattle.ds_replica.specs.declared.outcome.Outcome.{Outcome}
+use Rattle.ds_content.specs.Stands as contents
+use Rattle.ds_replica.specs.World.{World, held_at, store_at}
+use Rattle.ds_replica.specs.Headline as headline
+use Rattle.ds_replica.specs.Known.{Account, store_of, extended_all}
+use Rattle.ds_replica.proofs.EventLemmas.{events_fit}
+use Rattle.ds_replica.proofs.HolderLemmas.{equal_where_known, holds_the_stores, holds_at_least, labels_are_newest, nothing_clashes, nothing_below_floors}
+use Rattle.ds_replica.proofs.BringLemmas.{events_bring_items}
+use Rattle.ds_replica.proofs.TurnLemmas.{whole_stays, turns_are_run}
+use Rattle.ds_world.specs.World.{WorldRecord, held_in, store_in, Stands}
+use Rattle.ds_world.specs.Run.{paired, RunLeads}
+use Rattle.ds_world.specs.Account.{IsFor, Agrees, CatchesUp, KeepsUp, NamesNewest, IsAbout, NothingClashes, FloorsStand, WholeStays, StayItems, TurnsAreRun}
+use Rattle.ds_world.proofs.StandLemmas.{held_is}
+
+module _ (account : Account) (value : WorldRecord) (f : IsFor account value) where
+  held : (h : Holder) → held_at f.0 h ≡ held_in value h
+  held h = held_is value f.0 h f.1
+
+  agrees : Agrees account value
+  agrees query h i n k =
+      let e = equal_where_known account f.0 query h i f.2 n k in (
+        ap (under query) (sym (held h)) ∙ e.0 ∙ ap (under query) (held i),
+        ap (λ (l : List Item). entries_of (under query l)) (sym (held h)) ∙ e.1 ∙ ap (λ (l : List Item). entries_of (under query l)) (held i),
+      )
+
+  catches_up : CatchesUp account value
+  catches_up j m side n all else =
+      let e = holds_the_stores account f.0 j m side f.2 n all else in (
+        sym (held (Map j)) ∙ e.0 ∙ ap (under (is_under m.query)) (held (Store side)),
+        ap entries_of (sym (held (Map j))) ∙ e.1 ∙ ap (λ (l : List Item). entries_of (under (is_under m.query) l)) (held (Store side)),
+      )
+
+  keeps_up : KeepsUp account value
+  keeps_up j m side all =
+      subst (λ (l : List Item). CoversAll l (under (is_under m.query) (held_in value (Store side)))) (held (Map j))
+      (subst (λ (l : List Item). CoversAll (held_at f.0 (Map j)) (under (is_under m.query) l)) (held (Store side)) (holds_at_least account f.0 j m side f.2 all))
+
+  names_newest : NamesNewest account value
+  names_newest j m side name n items all else u =
+      subst (λ (l : List Item). IsNewest (store_of account side).known name (label_in l name)) (held (Map j)) (labels_are_newest account f.0 j m side name f.2 n items all else u)
+
+  about : (i : Item) → IsAbout value i → headline.IsAbout f.0 i
+  about i (inl h) = inl (h.0, subst (λ (l : List Item). Contains l i) (sym (held h.0)) h.1)
+  about i (inr m) = inr (m.0, subst (λ (l : List (List Item)). Contains l m.0) (sym f.1.messages) m.1, m.2)
+
+  clashes : NothingClashes account value
+  clashes c d n h k e = nothing_clashes account f.0 c d f.2 n (about _ h) (about _ k) e
+
+  floors : FloorsStand account value
+  floors h floor c k there = nothing_below_floors account f.0 h floor c f.2 k (subst (λ (l : List Item). Contains l (Changed c)) (sym (held h)) there)
+
+module _ (account : Account) (old new : WorldRecord) (events : List Event) (outcomes : List Outcome) (run : RunLeads events outcomes old new) (f : IsFor account old) where
+  pub account_fits : IsFor (extended_all account (paired events outcomes)) new
+  account_fits = let went = run f.0 f.1 in (went.0, went.2, events_fit account f.0 went.0 (paired events outcomes) f.2 went.1)
+
+  -- so these hold of the value afterwards
+  pub agree_after : Agrees (extended_all account (paired events outcomes)) new
+  agree_after = agrees (extended_all account (paired events outcomes)) new account_fits
+
+  pub catch_up_after : CatchesUp (extended_all account (paired events outcomes)) new
+  catch_up_after = catches_up (extended_all account (paired events outcomes)) new account_fits
+
+  pub keep_up_after : KeepsUp (extended_all account (paired events outcomes)) new
+  keep_up_after = keeps_up (extended_all account (paired events outcomes)) new account_fits
+
+  pub newest_after : NamesNewest (extended_all account (paired events outcomes)) new
+  newest_after = names_newest (extended_all account (paired events outcomes)) new account_fits
+
+  pub clashes_after : NothingClashes (extended_all account (paired events outcomes)) new
+  clashes_after = clashes (extended_all account (paired events outcomes)) new account_fits
+
+  pub floors_after : FloorsStand (extended_all account (paired events outcomes)) new
+  floors_after = floors (extended_all account (paired events outcomes)) new account_fits
+
+  pub items_stay : StayItems account (paired events outcomes)
+  items_stay proper items = let went = run f.0 f.1 in events_bring_items account f.0 went.0 (paired events outcomes) f.2 went.1 proper items
+
+  pub stays_whole : WholeStays account (paired events outcomes)
+  stays_whole side query items r stays l whole = let went = run f.0 f.1 in whole_stays account f.0 went.0 side (paired events outcomes) query items r f.2 went.1 stays l whole
+
+store_stands : (value : WorldRecord) (w : World) (side : Side) → Stands value w → contents.Stands (store_in value side) (store_at w side)
+store_stands value w A s = s.a
+store_stands value w B s = s.b
+
+pub turns : (old new : WorldRecord) (events : List Event) (outcomes : List Outcome) → RunLeads events outcomes old new → TurnsAreRun old (paired events outcomes) new
+turns old new events outcomes run w side s stays =
+    let went = run w s in
+    let t = turns_are_run w went.0 side (paired events outcomes) went.1 stays in
+    (went.0, t.0, t.1, t.2, store_stands new went.0 side went.2)

@@ -1,0 +1,9 @@
+pub mod StandLemmas
+pub mod HeadlineLemmas
+pub mod RunLemmas
+pub mod AskLemmas
+pub mod TakeLemmas
+pub mod MergeLemmas
+pub mod MapLemmas
+pub mod DeliverLemmas
+pub mod GivenLemmas

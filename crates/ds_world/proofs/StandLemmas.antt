@@ -1,0 +1,35 @@
+-- What a value of a world says of the worlds that it stands for.
+use Rattle.std.proofs.Common.{◌≡◌, ℕ, suc, inl, inr, ◌<◌, ◌≤◌, nat_le, nat_lt, true, false, List, ap, sym, ◌∙◌, arith}
+use Rattle.std.specs.List.{slice_get}
+use Rattle.std.specs.Option.{option_map}
+use Rattle.std.proofs.lemmas.Bool.{le-leb, lt-ltb}
+use Rattle.std.proofs.lemmas.Bool.Decides.{leb_tells}
+use Rattle.std.proofs.lemmas.Option.{slice_get-map}
+use Rattle.ds_replica.specs.declared.event.Side.TheVariants.{A, B}
+use Rattle.ds_replica.specs.declared.event.Holder.{Holder}
+use Rattle.ds_replica.specs.declared.event.Holder.TheVariants.{Store, Map}
+use Rattle.ds_replica.specs.World.{MapState, World, map_held, held_at}
+use Rattle.ds_world.specs.World.{WorldRecord, held_in, map_state, Stands}
+
+-- the map of a number, as the world has it
+pub map_is : (value : WorldRecord) (w : World) (j : ℕ) → Stands value w → slice_get w.maps j ≡ option_map map_state (slice_get value.maps j)
+map_is value w j s = ap (λ (l : List MapState). slice_get l j) s.maps ∙ slice_get-map map_state value.maps j
+
+-- and what holders hold
+pub held_is : (value : WorldRecord) (w : World) (h : Holder) → Stands value w → held_at w h ≡ held_in value h
+held_is value w (Store A) s = sym s.a.held
+held_is value w (Store B) s = sym s.b.held
+held_is value w (Map j) s = ap map_held (map_is value w j s)
+
+-- ---- tests of numbers
+pub le_true : (m n : ℕ) → m ≤ n → nat_le m n ≡ true
+le_true m n l = le-leb m n l
+
+pub le_false : (m n : ℕ) → n < m → nat_le m n ≡ false
+le_false m n l = elim (leb_tells m n) [ inl y ↦ absurd (omega (arith, y.1, l)) | inr d ↦ d.0 ]
+
+pub lt_true : (m n : ℕ) → m < n → nat_lt m n ≡ true
+lt_true m n l = lt-ltb m n l
+
+pub lt_false : (m n : ℕ) → n ≤ m → nat_lt m n ≡ false
+lt_false m n l = elim (leb_tells (suc m) n) [ inl y ↦ absurd (omega (arith, y.1, l)) | inr d ↦ d.0 ]

@@ -1,0 +1,23 @@
+use Rattle.std.proofs.Common.{◌≡◌, length, sym, subst, arith}
+use Rattle.std.specs.List.{slice_set}
+use Rattle.std.proofs.lemmas.Option.{slice_get_read}
+use Rattle.ds_submap.specs.Map.{SubMapRecord}
+use Rattle.ds_replica.specs.declared.event.Event.TheVariants.{ClearMap}
+use Rattle.ds_replica.specs.declared.outcome.Outcome.TheVariants.{Cleared}
+use Rattle.ds_world.specs.World.{WorldRecord, world_of}
+use Rattle.ds_world.specs.Run.{EventLeads}
+use Rattle.ds_world.proofs.MapLemmas.{map_cleared}
+use Rattle.ds_world.proofs.world.World.clear_map.Goals as goal
+
+pub returns : goal.returns
+returns c =
+    let a = c.self.inside.a in
+    let b = c.self.inside.b in
+    let maps = c.self.inside.maps.items in
+    let messages = c.self.inside.messages.items in
+    let event = ClearMap c.args.map in
+    let many : c.len.result ≡ length maps = omega (arith, c.len.ensures, c.self.inside.maps.ok.0) in
+    let there = slice_get_read maps c.len.result c.args.map c.index_mut.result.now many c.if-map-len.false c.index_mut.ensures.value in
+    subst (λ (v : WorldRecord). EventLeads event Cleared v (world_of a b (slice_set maps c.args.map c.clear.new.self) messages)) c.self.view_is
+    (subst (λ (x : SubMapRecord). EventLeads event Cleared (world_of a b maps messages) (world_of a b (slice_set maps c.args.map x) messages)) (sym c.clear.ensures)
+    (map_cleared (world_of a b maps messages) c.args.map c.index_mut.result.now there))

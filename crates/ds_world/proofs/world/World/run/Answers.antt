@@ -1,0 +1,51 @@
+use Rattle.ds_world.proofs.HeadlineLemmas.{account_fits, agree_after, catch_up_after, keep_up_after, newest_after, clashes_after, floors_after, items_stay, stays_whole, turns}
+use Rattle.ds_world.proofs.GivenLemmas.{snapshots, sinces, pages, checks, all_checks, stops}
+use Rattle.ds_world.proofs.world.World.run.Goals as goal
+
+pub returns-clause-account : goal.returns-clause-account
+returns-clause-account c account = account_fits account c.args.self.now c.happen_all.new.self c.args.events c.happen_all.result c.happen_all.ensures.done
+
+pub returns-clause-agree : goal.returns-clause-agree
+returns-clause-agree c account = agree_after account c.args.self.now c.happen_all.new.self c.args.events c.happen_all.result c.happen_all.ensures.done
+
+pub returns-clause-catch_up : goal.returns-clause-catch_up
+returns-clause-catch_up c account = catch_up_after account c.args.self.now c.happen_all.new.self c.args.events c.happen_all.result c.happen_all.ensures.done
+
+pub returns-clause-keep_up : goal.returns-clause-keep_up
+returns-clause-keep_up c account = keep_up_after account c.args.self.now c.happen_all.new.self c.args.events c.happen_all.result c.happen_all.ensures.done
+
+pub returns-clause-newest : goal.returns-clause-newest
+returns-clause-newest c account = newest_after account c.args.self.now c.happen_all.new.self c.args.events c.happen_all.result c.happen_all.ensures.done
+
+pub returns-clause-clashes : goal.returns-clause-clashes
+returns-clause-clashes c account = clashes_after account c.args.self.now c.happen_all.new.self c.args.events c.happen_all.result c.happen_all.ensures.done
+
+pub returns-clause-stops : goal.returns-clause-stops
+returns-clause-stops c account = stops account c.args.self.now c.happen_all.new.self c.args.events c.happen_all.result c.happen_all.ensures.done
+
+pub returns-clause-floors : goal.returns-clause-floors
+returns-clause-floors c account = floors_after account c.args.self.now c.happen_all.new.self c.args.events c.happen_all.result c.happen_all.ensures.done
+
+pub returns-clause-items : goal.returns-clause-items
+returns-clause-items c account = items_stay account c.args.self.now c.happen_all.new.self c.args.events c.happen_all.result c.happen_all.ensures.done
+
+pub returns-clause-whole : goal.returns-clause-whole
+returns-clause-whole c account = stays_whole account c.args.self.now c.happen_all.new.self c.args.events c.happen_all.result c.happen_all.ensures.done
+
+pub returns-clause-snapshots : goal.returns-clause-snapshots
+returns-clause-snapshots c account = snapshots account c.args.self.now c.happen_all.new.self c.args.events c.happen_all.result c.happen_all.ensures.done
+
+pub returns-clause-sinces : goal.returns-clause-sinces
+returns-clause-sinces c account = sinces account c.args.self.now c.happen_all.new.self c.args.events c.happen_all.result c.happen_all.ensures.done
+
+pub returns-clause-pages : goal.returns-clause-pages
+returns-clause-pages c account = pages account c.args.self.now c.happen_all.new.self c.args.events c.happen_all.result c.happen_all.ensures.done
+
+pub returns-clause-checks : goal.returns-clause-checks
+returns-clause-checks c account = checks account c.args.self.now c.happen_all.new.self c.args.events c.happen_all.result c.happen_all.ensures.done
+
+pub returns-clause-all_checks : goal.returns-clause-all_checks
+returns-clause-all_checks c account = all_checks account c.args.self.now c.happen_all.new.self c.args.events c.happen_all.result c.happen_all.ensures.done
+
+pub returns-clause-turns : goal.returns-clause-turns
+returns-clause-turns c = turns c.args.self.now c.happen_all.new.self c.args.events c.happen_all.result c.happen_all.ensures.done

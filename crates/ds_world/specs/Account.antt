@@ -1,0 +1,100 @@
+-- What accounts say of a world's value: the headline's statements, read off what callers see.
+use Rattle.std.specs.Prelude.{◌≡◌, ◌⊎◌, ℕ, ◌≤◌, Bool, true, false, List, ◌∷◌, ◌++◌, Option, Contains}
+use Rattle.ds_names.specs.declared.key.Key.{Key}
+use Rattle.ds_entry.specs.Change.{ChangeRecord}
+use Rattle.ds_entry.specs.Void.{voids}
+use Rattle.ds_entry.specs.ItemCovers.{AreSingleNumbered}
+use Rattle.ds_entry.specs.declared.floor.Floor.{Floor}
+use Rattle.ds_entry.specs.declared.item.Item.{Item}
+use Rattle.ds_entry.specs.declared.item.Item.TheVariants.{Change as Changed, Floor as Floored}
+use Rattle.ds_join.specs.ItemTop.{CoversAll}
+use Rattle.ds_feed.specs.Feed.{position}
+use Rattle.ds_pattern.specs.Under.{is_under}
+use Rattle.ds_whole.specs.Under.{under, entries_of}
+use Rattle.ds_machine.specs.Machine.{Run}
+use Rattle.ds_machine.specs.declared.command.Command.{Command}
+use Rattle.ds_machine.specs.declared.reply.Reply.{Reply}
+use Rattle.ds_machine.specs.declared.refusal.Refusal.{Refusal}
+use Rattle.ds_content.specs.Stands as contents
+use Rattle.ds_whole.specs.Agreement.{KnowSame}
+use Rattle.ds_whole.specs.Labels.{label_key, label_in, IsNewest}
+use Rattle.ds_whole.specs.Sent.{Sent}
+use Rattle.ds_whole.specs.Whole.{IsWhole}
+use Rattle.ds_replica.specs.declared.event.Side.{Side}
+use Rattle.ds_replica.specs.declared.event.Holder.{Holder}
+use Rattle.ds_replica.specs.declared.event.Holder.TheVariants.{Store, Map}
+use Rattle.ds_replica.specs.declared.event.Event.{Event}
+use Rattle.ds_replica.specs.declared.event.Event.TheVariants.{Deliver}
+use Rattle.ds_replica.specs.declared.outcome.Outcome.{Outcome}
+use Rattle.ds_replica.specs.declared.outcome.Outcome.TheVariants.{Stopped}
+use Rattle.ds_replica.specs.World.{World, store_at}
+use Rattle.ds_replica.specs.Known.{MapAccount, Account, store_of, known_at, extended_all}
+use Rattle.ds_replica.specs.Fits.{Fits}
+use Rattle.ds_replica.specs.Headline.{IsContradiction}
+use Rattle.ds_replica.specs.CaughtUp.{HasAll, HasNothingElse, AreItems}
+use Rattle.ds_replica.specs.Bringing.{IsProperEvent}
+use Rattle.ds_replica.specs.Turns.{Stays}
+use Rattle.ds_world.specs.World.{WorldRecord, held_in, store_in, Stands}
+
+-- the account fits a world for which the value stands
+abbrev pub IsFor : Account → WorldRecord → Type 0
+IsFor account value = (w : World) × Stands value w × Fits account w
+
+-- *agreement*: holders that know the same under a query hold the same under it, tombstones, versions and floors too, and so
+-- equal entries, if all that Asks brought in is single-numbered
+abbrev pub Agrees : Account → WorldRecord → Type 0
+Agrees account value =
+    (query : Key → Bool) (h i : Holder) → AreSingleNumbered account.brought → KnowSame query (known_at account h) (known_at account i) →
+    (under query (held_in value h) ≡ under query (held_in value i)) × (entries_of (under query (held_in value h)) ≡ entries_of (under query (held_in value i)))
+
+-- *catch-up*: a map that has all of a store, and nothing else, holds just what the store holds under its query
+abbrev pub CatchesUp : Account → WorldRecord → Type 0
+CatchesUp account value =
+    (j : ℕ) (m : MapAccount) (side : Side) → AreSingleNumbered account.brought → HasAll account j m side → HasNothingElse account m side →
+    (held_in value (Map j) ≡ under (is_under m.query) (held_in value (Store side))) × (entries_of (held_in value (Map j)) ≡ entries_of (under (is_under m.query) (held_in value (Store side))))
+
+-- told more, it holds for each key under its query at least the store's version
+abbrev pub KeepsUp : Account → WorldRecord → Type 0
+KeepsUp account value = (j : ℕ) (m : MapAccount) (side : Side) → HasAll account j m side → CoversAll (held_in value (Map j)) (under (is_under m.query) (held_in value (Store side)))
+
+-- *no older generation*: such a map names under each name whose label is under its query the endpoint of the greatest
+-- generation that the store knows, or none where that one is gone
+abbrev pub NamesNewest : Account → WorldRecord → Type 0
+NamesNewest account value =
+    (j : ℕ) (m : MapAccount) (side : Side) (name : List ℕ) → AreSingleNumbered account.brought → AreItems account.brought → HasAll account j m side → HasNothingElse account m side →
+    is_under m.query (label_key name) ≡ true → IsNewest (store_of account side).known name (label_in (held_in value (Map j)) name)
+
+-- *no stop by clash or owner*: no two changes of a key that are held, or can be delivered, have two owners, or two bodies at
+-- one version
+abbrev pub IsAbout : WorldRecord → Item → Type 0
+IsAbout value i = ((h : Holder) × Contains (held_in value h) i) ⊎ ((items : List Item) × Contains value.messages items × Contains items i)
+
+abbrev pub NothingClashes : Account → WorldRecord → Type 0
+NothingClashes account value =
+    (c d : ChangeRecord) → AreSingleNumbered account.brought → IsAbout value (Changed c) → IsAbout value (Changed d) → c.key ≡ d.key → (c.owner ≡ d.owner) × (c.version ≡ d.version → c ≡ d)
+
+-- and no delivery among these events is stopped by such a fault
+abbrev pub NothingStops : Account → List (Event × Outcome) → Type 0
+NothingStops account events =
+    (before since : List (Event × Outcome)) (k : ℕ) (holder : Holder) (count : Option ℕ) (done : ℕ) (fault : Refusal) (owed : ℕ) → before ++ (Deliver k holder count, Stopped done fault owed) ∷ since ≡ events →
+    AreSingleNumbered (extended_all account before).brought → ¬ IsContradiction fault
+
+-- *floors*: where a holder knows a floor, it holds nothing that the floor makes void
+abbrev pub FloorsStand : Account → WorldRecord → Type 0
+FloorsStand account value = (h : Holder) (f : Floor) (c : ChangeRecord) → Contains (known_at account h) (Floored f) → Contains (held_in value h) (Changed c) → voids f c ≡ false
+
+-- *wholeness*: what is whole for a store stays so over these events, unless they restart the store
+abbrev pub WholeStays : Account → List (Event × Outcome) → Type 0
+WholeStays account events =
+    (side : Side) (query : Key → Bool) (items : List Sent) (r : ℕ) → Stays (Store side) events → r ≤ position (store_of account side).state.feed → IsWhole (store_of account side).state.feed query items r →
+    IsWhole (store_of (extended_all account events) side).state.feed query items r
+
+-- all that Asks brought in keeps the rules of changes and of floors, if what these events name is in its ranges
+abbrev pub StayItems : Account → List (Event × Outcome) → Type 0
+StayItems account events = ((e : Event × Outcome) → Contains events e → IsProperEvent e.0) → AreItems account.brought → AreItems (extended_all account events).brought
+
+-- a store's turns in these events are a run of its machine, unless they restart the store
+abbrev pub TurnsAreRun : WorldRecord → List (Event × Outcome) → WorldRecord → Type 0
+TurnsAreRun old events new =
+    (w : World) (side : Side) → Stands old w → Stays (Store side) events →
+    (after : World) × (commands : List Command) × (replies : List Reply) × Run (store_at w side) commands replies (store_at after side) × contents.Stands (store_in new side) (store_at after side)

@@ -1,0 +1,7 @@
+pub mod World
+pub mod Seeds
+pub mod Tally
+pub mod Run
+pub mod Account
+pub mod Messages
+pub mod Told

@@ -1,0 +1,92 @@
+-- What the messages leave out nothing of that stores gave in a run.
+use Rattle.std.specs.Prelude.{◌≡◌, ℕ, ◌<◌, Bool, true, false, List, ◌∷◌, ◌++◌, length, Option, Some}
+use Rattle.std.specs.List.{list_any}
+use Rattle.ds_names.specs.declared.key.Key.{Key}
+use Rattle.ds_feed.specs.declared.cursor.Cursor.{Cursor}
+use Rattle.ds_feed.specs.Feed.{Feed, position}
+use Rattle.ds_pattern.specs.declared.query.Query.{Query}
+use Rattle.ds_pattern.specs.Under.{is_under}
+use Rattle.ds_whole.specs.Under.{Keeps}
+use Rattle.ds_whole.specs.Sent.{Sent, given}
+use Rattle.ds_whole.specs.Front.{IsFront}
+use Rattle.ds_whole.specs.Whole.{IsWhole}
+use Rattle.ds_whole.specs.Checked.{CheckTurn, IsCheckTurn}
+use Rattle.ds_whole.specs.Journaled.{SinceTurn, IsSinceTurn}
+use Rattle.ds_whole.specs.Paged.{PageTurn, IsPageTurn}
+use Rattle.ds_machine.specs.Scope.{keeps}
+use Rattle.ds_machine.specs.Subscription.{Subscription}
+use Rattle.ds_machine.specs.State.{subscription_at}
+use Rattle.ds_machine.specs.declared.command.Scope.{Scope}
+use Rattle.ds_machine.specs.declared.command.Command.{Command}
+use Rattle.ds_machine.specs.declared.command.Command.TheVariants.{Subscribe, Check, Since, Snapshot, Page}
+use Rattle.ds_machine.specs.declared.reply.Reply.TheVariants.{Subscribed}
+use Rattle.ds_replica.specs.declared.event.Side.{Side}
+use Rattle.ds_replica.specs.declared.event.Holder.TheVariants.{Store}
+use Rattle.ds_replica.specs.declared.event.Event.{Event}
+use Rattle.ds_replica.specs.declared.event.Event.TheVariants.{Ask}
+use Rattle.ds_replica.specs.declared.outcome.Outcome.{Outcome}
+use Rattle.ds_replica.specs.declared.outcome.Outcome.TheVariants.{Replied, Made}
+use Rattle.ds_replica.specs.Known.{Account, store_of, extended, extended_all}
+use Rattle.ds_replica.specs.Messages.{IsMessage, feed_of}
+use Rattle.ds_replica.specs.Checks.{subscribes, sent_in, checked}
+use Rattle.ds_replica.specs.Turns.{Stays}
+
+-- among the events a store was asked, gave this message, and wasn't restarted since
+pub record WasGiven (events : List (Event × Outcome)) (side : Side) (command : Command) (k : ℕ) : Type 0 where
+  pub before : List (Event × Outcome)
+  pub since : List (Event × Outcome)
+  pub all : before ++ (Ask side command, Made k) ∷ since ≡ events
+  pub stays : Stays (Store side) since
+
+-- a message with a snapshot, under a scope that keeps all of the query, is whole up to the position at which it was asked for
+abbrev pub SnapshotsAreWhole : Account → List (Event × Outcome) → Type 0
+SnapshotsAreWhole account events =
+    (side : Side) (scope : Scope) (query : Key → Bool) (k : ℕ) (g : WasGiven events side (Snapshot scope) k) → Keeps (keeps scope) query →
+    let now = extended_all account events in
+    (sent : List Sent) × IsMessage now k sent × IsWhole (feed_of now side) query sent (position (feed_of (extended_all account g.before) side))
+
+-- items that are whole up to a cursor, with those of a message of the journal from there, under such a scope, are whole up to
+-- the cursor that came with the message
+abbrev pub SincesExtend : Account → List (Event × Outcome) → Type 0
+SincesExtend account events =
+    (side : Side) (scope : Scope) (query : Key → Bool) (at : Cursor) (max k : ℕ) (items : List Sent) → WasGiven events side (Since scope at max) k → Keeps (keeps scope) query →
+    let now = extended_all account events in
+    IsWhole (feed_of now side) query items at.position →
+    (t : SinceTurn) × IsSinceTurn (feed_of now side) (keeps scope) at t × IsMessage now k (given t.known t.since.items) × IsWhole (feed_of now side) query (items ++ given t.known t.since.items) t.since.cursor.position
+
+-- a page is a turn of the store as it was when it was asked, of which the law of pages speaks
+abbrev pub PagesAreTurns : Account → List (Event × Outcome) → Type 0
+PagesAreTurns account events =
+    (side : Side) (scope : Scope) (behind : Option Key) (max k : ℕ) (g : WasGiven events side (Page scope behind max) k) →
+    let now = extended_all account events in
+    (t : PageTurn) × (t.max ≡ max) × (t.feed ≡ feed_of (extended_all account g.before) side) × IsPageTurn (feed_of now side) (keeps scope) behind t × IsMessage now k (given t.known t.page.items)
+
+-- and so is a check, of the subscription as the store's state has it when it is asked; `early` is any earlier time
+abbrev pub ChecksAreTurns : Account → List (Event × Outcome) → Type 0
+ChecksAreTurns account events =
+    (side : Side) (sub max k : ℕ) (early : Feed) (g : WasGiven events side (Check sub max) k) → IsFront early (feed_of (extended_all account g.before) side) →
+    let now = extended_all account events in
+    (seer : Subscription) × (subscription_at (store_of (extended_all account g.before) side).state sub ≡ Some seer) × (t : CheckTurn) × (t.max ≡ max) × IsCheckTurn early (feed_of now side) (is_under seer.query) seer.shown t
+    × IsMessage now k (given t.known t.items)
+
+-- among the events a subscription to the query was made with INITIAL, and later checked; meanwhile it wasn't made again, and
+-- the store not restarted
+pub record WasChecked (events : List (Event × Outcome)) (side : Side) (sub : ℕ) (query : Query) (max k : ℕ) : Type 0 where
+  pub before : List (Event × Outcome)
+  pub overwrite : Bool
+  pub stamp : ℕ
+  pub owed : ℕ
+  pub between : List (Event × Outcome)
+  pub since : List (Event × Outcome)
+  pub all : before ++ (Ask side (Subscribe sub query true overwrite), Replied (Subscribed stamp owed)) ∷ (between ++ (Ask side (Check sub max), Made k) ∷ since) ≡ events
+  pub stays : Stays (Store side) between
+  pub alone : list_any (subscribes side sub) between ≡ false
+
+-- the items of all checks since then are whole up to that check, if it gave fewer than its max
+abbrev pub AllChecksAreWhole : Account → List (Event × Outcome) → Type 0
+AllChecksAreWhole account events =
+    (side : Side) (sub : ℕ) (query : Query) (max k : ℕ) (g : WasChecked events side sub query max k) →
+    let begun = extended (extended_all account g.before) (Ask side (Subscribe sub query true g.overwrite)) (Replied (Subscribed g.stamp g.owed)) in
+    let asked = extended_all begun g.between in
+    let told = extended asked (Ask side (Check sub max)) (Made k) in
+    length (sent_in told k) < max → IsWhole (feed_of told side) (is_under query) (checked side sub begun g.between ++ sent_in told k) (position (feed_of asked side))

@@ -1,0 +1,25 @@
+-- Why no world is made of two seeds.
+use Rattle.std.specs.Prelude.{◌≡◌, ◌≢◌, ◌⊎◌, ◌<◌, ◌≤◌}
+use Rattle.ds_feed.specs.Kept.{IsRing}
+use Rattle.ds_machine.specs.Limits.{last_place}
+use Rattle.ds_replica.specs.declared.seed.Seed.{Seed}
+use Rattle.ds_world.specs.declared.fault.SeedFault.{SeedFault}
+use Rattle.ds_world.specs.declared.fault.SeedFault.TheVariants.{BadRing, BadFirst, OldIncarnation, NoRoom}
+
+-- a store can be opened with it
+pub record IsSeed (seed : Seed) : Type 0 where
+  pub ring : IsRing seed.ring
+  pub first : seed.first ≤ last_place
+
+-- two stores can be opened with them, of two incarnations
+pub record AreSeeds (a b : Seed) : Type 0 where
+  pub a_is : IsSeed a
+  pub b_is : IsSeed b
+  pub apart : a.incarnation ≢ b.incarnation
+
+-- first for a ring, then for a first position, then for one incarnation of both; memory is wanting only where none stands
+abbrev pub IsSeedFault : SeedFault → Seed → Seed → Type 0
+IsSeedFault BadRing a b = (¬ IsRing a.ring) ⊎ (¬ IsRing b.ring)
+IsSeedFault BadFirst a b = IsRing a.ring × IsRing b.ring × ((last_place < a.first) ⊎ (last_place < b.first))
+IsSeedFault OldIncarnation a b = IsSeed a × IsSeed b × (a.incarnation ≡ b.incarnation)
+IsSeedFault NoRoom a b = AreSeeds a b

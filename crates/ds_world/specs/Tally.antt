@@ -1,0 +1,38 @@
+-- How a delivery is counted, and what a fault of a map is to a world.
+use Rattle.std.specs.Prelude.{◌≡◌, ℕ, ◌+◌, ◌<◌, ◌≤◌}
+use Rattle.ds_join.specs.declared.merge.JoinFault.{JoinFault}
+use Rattle.ds_join.specs.declared.merge.JoinFault.TheVariants as joins
+use Rattle.ds_machine.specs.declared.refusal.Refusal.{Refusal}
+use Rattle.ds_machine.specs.declared.refusal.Refusal.TheVariants as refusals
+use Rattle.ds_machine.specs.declared.reply.Reply.{Reply}
+use Rattle.ds_machine.specs.declared.reply.Reply.TheVariants.{Merged, MergeStopped, Refused}
+use Rattle.ds_pattern.specs.declared.pattern.PatternFault.{PatternFault}
+use Rattle.ds_pattern.specs.declared.pattern.PatternFault.TheVariants as patterns
+use Rattle.ds_replica.specs.declared.outcome.EventFault.{EventFault}
+use Rattle.ds_replica.specs.declared.outcome.EventFault.TheVariants as faults
+use Rattle.ds_replica.specs.Delivery as deliveries
+use Rattle.ds_world.specs.declared.tally.Tally.{Tally}
+
+-- the tally as the definitions of deliveries have it
+abbrev pub tally_of : Tally → deliveries.Tally
+tally_of t = record { done = t.done; taken = t.taken; stale = t.stale; owed = t.owed; stop = t.stop }
+
+-- an item is refused by a map as a store would refuse it
+abbrev pub refusal_of : JoinFault → Refusal
+refusal_of joins.NotOwner = refusals.NotOwner
+refusal_of (joins.Clash version) = refusals.Clash version
+refusal_of joins.Full = refusals.Full
+refusal_of joins.NoRoom = refusals.NoRoom
+
+-- a map is refused as its pattern is
+abbrev pub fault_of : PatternFault → EventFault
+fault_of patterns.TooLong = faults.TooLong
+fault_of patterns.BadPattern = faults.BadPattern
+fault_of patterns.NoRoom = faults.NoRoom
+
+-- the reply to a Merge of so many items: all were done, or the first ones
+abbrev pub IsCounted : ℕ → Reply → Type 0
+IsCounted n (Merged done taken stale owed) = (done ≡ n) × (taken + stale ≤ done)
+IsCounted n (MergeStopped done fault owed) = done < n
+IsCounted n (Refused fault) = Unit {0}
+IsCounted n _ = ⊥

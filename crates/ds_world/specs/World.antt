@@ -1,0 +1,50 @@
+-- What callers see of a world, and for which worlds of the definitions it stands.
+use Rattle.std.specs.Prelude.{◌≡◌, List, map}
+use Rattle.std.specs.List.{slice_get}
+use Rattle.std.specs.Option.{option_map}
+use Rattle.ds_entry.specs.declared.item.Item.{Item}
+use Rattle.ds_held.specs.Held.{held_items}
+use Rattle.ds_submap.specs.Map.{SubMapRecord}
+use Rattle.ds_content.specs.Content.{ContentRecord}
+use Rattle.ds_content.specs.Stands as contents
+use Rattle.ds_replica.specs.declared.event.Side.{Side}
+use Rattle.ds_replica.specs.declared.event.Side.TheVariants.{A, B}
+use Rattle.ds_replica.specs.declared.event.Holder.{Holder}
+use Rattle.ds_replica.specs.declared.event.Holder.TheVariants.{Store, Map}
+use Rattle.ds_replica.specs.World.{MapState, World, map_held}
+
+-- what callers see of the stores and of the maps, and the items of each message
+pub record WorldRecord : Type 0 where
+  pub a : ContentRecord
+  pub b : ContentRecord
+  pub maps : List SubMapRecord
+  pub messages : List (List Item)
+
+-- the world of these parts
+abbrev pub world_of : ContentRecord → ContentRecord → List SubMapRecord → List (List Item) → WorldRecord
+world_of a b maps messages = record { a = a; b = b; maps = maps; messages = messages }
+
+-- the store of a side
+abbrev pub store_in : WorldRecord → Side → ContentRecord
+store_in value A = value.a
+store_in value B = value.b
+
+-- a map's query, and what it holds
+abbrev pub map_state : SubMapRecord → MapState
+map_state m = record { query = m.query; held = held_items m.held }
+
+-- what a holder holds; a map that isn't there holds nothing
+abbrev pub held_in : WorldRecord → Holder → List Item
+held_in value (Store side) = (store_in value side).held
+held_in value (Map j) = map_held (option_map map_state (slice_get value.maps j))
+
+-- the stores stand for the world's, and maps and messages are the world's
+pub record Stands (value : WorldRecord) (w : World) : Type 0 where
+  pub a : contents.Stands value.a w.a
+  pub b : contents.Stands value.b w.b
+  pub maps : w.maps ≡ map map_state value.maps
+  pub messages : w.messages ≡ value.messages
+
+-- from each world that the old value stands for, this leads to one that the new value stands for
+abbrev pub Leads : (World → World → Type 0) → WorldRecord → WorldRecord → Type 0
+Leads R old new = (w : World) → Stands old w → (after : World) × R w after × Stands new after

@@ -1,0 +1,18 @@
+//! A world that runs: two stores that can exchange what they know, subscribers' maps, and the messages between them.
+//!
+//! Replicas, messages and the join of what holders know are of this project; MINIX 3's data store is one server (the DS
+//! interface of MINIX 3; Tanenbaum and Woodhull, third edition), and its subscribers ask it again (Herder and others, DSN
+//! 2007).
+#![tactic(auto)]
+
+mod events;
+mod fault;
+mod outcomes;
+mod replies;
+mod tally;
+mod world;
+
+pub use events::Events;
+pub use fault::{SeedFault, WorldFault};
+pub use outcomes::Outcomes;
+pub use world::World;

@@ -1,0 +1,71 @@
+//! Lists of outcomes.
+
+ghost use Rattle.std.specs.Prelude.{◌≡◌, ◌++◌, ◌∷◌, [], length, slice_get, OnOk, IfErr, OnErr};
+ghost use Rattle.std.specs.Option.{option_copied};
+
+use ds_replica::Outcome;
+use std::alloc::{AllocFailed, Global};
+use std::marker::Model;
+
+/// What came of events, in their order.
+#[derive(Debug, Drop)]
+pub struct Outcomes {
+    outcomes: Vec<Outcome>,
+}
+
+impl Model for Outcomes {
+    ghost use Rattle.std.specs.Prelude.{List};
+    ghost use Rattle.ds_replica.specs.declared.outcome.Outcome.{Outcome};
+
+    ghost Value = { List Outcome };
+
+    ghost view = { λ o. o.outcomes.items };
+}
+
+impl Outcomes {
+    /// A list of no outcomes. It takes no memory.
+    pub fn new(alloc: Global) -> Outcomes
+        ensures { result ≡ [] }
+    {
+        Outcomes {
+            outcomes: Vec::new(alloc),
+        }
+    }
+
+    /// The outcomes of a `Vec`. It takes no memory.
+    pub fn of(outcomes: Vec<Outcome>) -> Outcomes
+        ensures { result ≡ outcomes.items }
+    {
+        Outcomes { outcomes }
+    }
+
+    /// Gives the `Vec` back. It takes no memory.
+    pub fn into_list(self) -> Vec<Outcome>
+        ensures { result.items ≡ self }
+    {
+        self.outcomes
+    }
+
+    /// Adds an outcome at the end. Where there is no room, the list is unchanged and the error gives the outcome back.
+    pub fn push(&mut self, outcome: Outcome) -> Result<(), AllocFailed<Outcome>>
+        ensures ok { OnOk result (self.new ≡ self.old ++ outcome ∷ []) }
+        ensures err { OnErr result (self.new ≡ self.old) }
+        ensures back { IfErr result (λ back. back.value ≡ outcome) }
+    {
+        self.outcomes.push(outcome)
+    }
+
+    /// How many outcomes it has.
+    pub fn len(&self) -> usize
+        ensures { result ≡ length self.now }
+    {
+        self.outcomes.len()
+    }
+
+    /// The outcome at an index from 0, `None` behind the last one.
+    pub fn get(&self, index: usize) -> Option<&Outcome>
+        ensures { option_copied result ≡ slice_get self.now index }
+    {
+        self.outcomes.get(index)
+    }
+}

@@ -1,0 +1,79 @@
+//! How deliveries are counted.
+
+ghost use Rattle.std.specs.Prelude.{◌≡◌, None};
+ghost use Rattle.ds_replica.specs.Delivery.{ended};
+ghost use Rattle.ds_replica.specs.Happens.{tally_outcome};
+ghost use Rattle.ds_world.specs.Tally.{tally_of, refusal_of, fault_of};
+
+use ds_join::JoinFault;
+use ds_machine::Refusal;
+use ds_pattern::PatternFault;
+use ds_replica::{EventFault, Outcome};
+
+// How many items of a delivery were done, taken and stale, the mask of the subscriptions to which something is owed, and
+// what stopped it.
+#[derive(Clone, Copy, Drop)]
+pub(crate) struct Tally {
+    pub(crate) done: usize,
+    pub(crate) taken: usize,
+    pub(crate) stale: usize,
+    pub(crate) owed: u128,
+    pub(crate) stop: Option<Refusal>,
+}
+
+impl Tally {
+    // Of items that stop, or end, at the first one left.
+    pub(crate) fn ended(done: usize, owed: u128, stop: Option<Refusal>) -> Tally
+        ensures { tally_of result ≡ ended done owed stop }
+    {
+        Tally {
+            done,
+            taken: 0,
+            stale: 0,
+            owed,
+            stop,
+        }
+    }
+
+    // The outcome of the delivery.
+    pub(crate) fn outcome(&self) -> Outcome
+        ensures { result ≡ tally_outcome (tally_of self.now) self.now.stop }
+    {
+        match self.stop {
+            None => Outcome::Merged {
+                done: self.done,
+                taken: self.taken,
+                stale: self.stale,
+                owed: self.owed,
+            },
+            Some(fault) => Outcome::Stopped {
+                done: self.done,
+                fault,
+                owed: self.owed,
+            },
+        }
+    }
+}
+
+// What stops a map's take, as a store would say it.
+pub(crate) fn refusal_of(fault: JoinFault) -> Refusal
+    ensures { result ≡ refusal_of fault }
+{
+    match fault {
+        JoinFault::NotOwner => Refusal::NotOwner,
+        JoinFault::Clash { version } => Refusal::Clash { version },
+        JoinFault::Full => Refusal::Full,
+        JoinFault::NoRoom => Refusal::NoRoom,
+    }
+}
+
+// Why a map isn't made.
+pub(crate) fn fault_of(fault: PatternFault) -> EventFault
+    ensures { result ≡ fault_of fault }
+{
+    match fault {
+        PatternFault::TooLong => EventFault::TooLong,
+        PatternFault::BadPattern => EventFault::BadPattern,
+        PatternFault::NoRoom => EventFault::NoRoom,
+    }
+}

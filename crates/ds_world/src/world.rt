@@ -1,0 +1,178 @@
+//! Worlds.
+
+ghost use Rattle.std.specs.Prelude.{◌≡◌, ◌≤◌, [], length, slice_get, vec_capacity, IfOk, IfErr, OnOk, OnErr};
+ghost use Rattle.std.specs.Option.{option_copied};
+ghost use Rattle.ds_held.specs.Limits.{larger};
+ghost use Rattle.ds_replica.specs.World.{new_world};
+ghost use Rattle.ds_replica.specs.Known.{Account, new_account, extended_all};
+ghost use Rattle.ds_world.specs.World.{store_in, Stands};
+ghost use Rattle.ds_world.specs.Seeds.{AreSeeds, IsSeedFault};
+ghost use Rattle.ds_world.specs.Run.{most_events, paired, EventLeads, RunLeads, IsRunFault};
+ghost use Rattle.ds_world.specs.Told.{IsTold, AreTold};
+ghost use Rattle.ds_world.specs.Messages.{SnapshotsAreWhole, SincesExtend, PagesAreTurns, ChecksAreTurns, AllChecksAreWhole};
+ghost use Rattle.ds_world.specs.Account.{IsFor, Agrees, CatchesUp, KeepsUp, NamesNewest, NothingClashes, NothingStops, FloorsStand, StayItems, TurnsAreRun, WholeStays};
+
+use crate::events::Events;
+use crate::fault::{SeedFault, WorldFault};
+use crate::outcomes::Outcomes;
+use ds_entry::ItemList;
+use ds_replica::{Event, Outcome, Seed, Side};
+use ds_store::Store;
+use ds_submap::SubMap;
+use std::alloc::Global;
+use std::marker::Model;
+
+mod asking;
+mod delivering;
+mod making;
+mod opening;
+
+/// The most events of one run.
+const MOST_EVENTS: usize = 65536;
+
+/// Two stores, up to 64 maps of subscribers, and up to 65536 messages: what the stores gave to Checks, Sinces, Snapshots and
+/// Pages. Maps and messages have numbers, counted from 0 in the order in which they were made.
+#[derive(Drop)]
+pub struct World {
+    alloc: Global,
+    a: Store,
+    b: Store,
+    maps: Vec<SubMap>,
+    messages: Vec<ItemList>,
+}
+
+impl Model for World {
+    ghost use Rattle.std.specs.Prelude.{List};
+    ghost use Rattle.std.specs.Coded.{code_by, coded×, coded_list};
+    ghost use Rattle.ds_entry.specs.declared.item.Item.{Item};
+    ghost use Rattle.ds_entry.specs.contracts.item_list.ItemList.{the_row as items_row};
+    ghost use Rattle.ds_content.specs.Content.{ContentRecord};
+    ghost use Rattle.ds_submap.specs.Map.{SubMapRecord};
+    ghost use Rattle.ds_submap.specs.contracts.map.SubMap.{the_row as map_row};
+    ghost use Rattle.ds_store.specs.contracts.store.Store.{the_row as store_row};
+    ghost use Rattle.ds_world.specs.World.{WorldRecord, world_of};
+
+    ghost Value = { WorldRecord };
+
+    ghost coded = { code_by (ContentRecord × (ContentRecord × (List SubMapRecord × List (List Item)))) (coded× store_row.coded (coded× store_row.coded (coded× (coded_list map_row.coded) (coded_list items_row.coded)))) (λ w. (w.a, (w.b, (w.maps, w.messages)))) (λ p. world_of p.0 p.1.0 p.1.1.0 p.1.1.1) (λ w i. w) };
+
+    ghost view = { λ w. world_of w.a w.b w.maps.items w.messages.items };
+}
+
+impl World {
+    /// A world of two stores that hold nothing, each opened with its seed for 128 subscriptions and 4096 keys, without maps
+    /// and messages. BadRing where a ring isn't 1 to 4096, then BadFirst where a first position is above 2^62, then
+    /// OldIncarnation where both incarnations are equal, and NoRoom last, for the rings.
+    pub fn new(alloc: Global, a: Seed, b: Seed) -> Result<World, SeedFault>
+        ensures made { IfOk result (λ world. Stands world (new_world a b larger)) }
+        ensures account { IfOk result (λ world. IsFor (new_account a b larger) world) }
+        ensures fits { OnOk result (AreSeeds a b) }
+        ensures refused { IfErr result (λ fault. IsSeedFault fault a b) }
+    {
+        if let Some(fault) = opening::seed_fault(&a, &b) {
+            return Err(fault);
+        }
+        let first = opening::opened(alloc, a)?;
+        let second = opening::opened(alloc, b)?;
+        Ok(World {
+            alloc,
+            a: first,
+            b: second,
+            maps: Vec::new(alloc),
+            messages: Vec::new(alloc),
+        })
+    }
+
+    /// Lets the events happen in their order, and gives what came of each. A refused event changes nothing, and the next one
+    /// follows.
+    ///
+    /// TooMany above 65536 events, and NoRoom where there is no room for the outcomes: then nothing happens at all.
+    pub fn run(&mut self, events: Events) -> Result<Outcomes, WorldFault>
+        ensures one_each { IfOk result (λ outcomes. length outcomes ≡ length events) }
+        ensures few { OnOk result (length events ≤ most_events) }
+        ensures done { IfOk result (λ outcomes. RunLeads events outcomes self.old self.new) }
+        ensures told { IfOk result (λ outcomes. AreTold self.old (paired events outcomes) self.new) }
+        ensures account { IfOk result (λ outcomes. (account : Account) → IsFor account self.old → IsFor (extended_all account (paired events outcomes)) self.new) }
+        ensures agree { IfOk result (λ outcomes. (account : Account) → IsFor account self.old → Agrees (extended_all account (paired events outcomes)) self.new) }
+        ensures catch_up { IfOk result (λ outcomes. (account : Account) → IsFor account self.old → CatchesUp (extended_all account (paired events outcomes)) self.new) }
+        ensures keep_up { IfOk result (λ outcomes. (account : Account) → IsFor account self.old → KeepsUp (extended_all account (paired events outcomes)) self.new) }
+        ensures newest { IfOk result (λ outcomes. (account : Account) → IsFor account self.old → NamesNewest (extended_all account (paired events outcomes)) self.new) }
+        ensures clashes { IfOk result (λ outcomes. (account : Account) → IsFor account self.old → NothingClashes (extended_all account (paired events outcomes)) self.new) }
+        ensures stops { IfOk result (λ outcomes. (account : Account) → IsFor account self.old → NothingStops account (paired events outcomes)) }
+        ensures floors { IfOk result (λ outcomes. (account : Account) → IsFor account self.old → FloorsStand (extended_all account (paired events outcomes)) self.new) }
+        ensures items { IfOk result (λ outcomes. (account : Account) → IsFor account self.old → StayItems account (paired events outcomes)) }
+        ensures whole { IfOk result (λ outcomes. (account : Account) → IsFor account self.old → WholeStays account (paired events outcomes)) }
+        ensures snapshots { IfOk result (λ outcomes. (account : Account) → IsFor account self.old → SnapshotsAreWhole account (paired events outcomes)) }
+        ensures sinces { IfOk result (λ outcomes. (account : Account) → IsFor account self.old → SincesExtend account (paired events outcomes)) }
+        ensures pages { IfOk result (λ outcomes. (account : Account) → IsFor account self.old → PagesAreTurns account (paired events outcomes)) }
+        ensures checks { IfOk result (λ outcomes. (account : Account) → IsFor account self.old → ChecksAreTurns account (paired events outcomes)) }
+        ensures all_checks { IfOk result (λ outcomes. (account : Account) → IsFor account self.old → AllChecksAreWhole account (paired events outcomes)) }
+        ensures turns { IfOk result (λ outcomes. TurnsAreRun self.old (paired events outcomes) self.new) }
+        ensures refused { IfErr result (λ fault. IsRunFault fault events) }
+        ensures unchanged { OnErr result (self.new ≡ self.old) }
+    {
+        if events.len() > MOST_EVENTS {
+            return Err(WorldFault::TooMany);
+        }
+        let Ok(outcomes) = Vec::with_capacity(self.alloc, events.len()) else {
+            return Err(WorldFault::NoRoom);
+        };
+        Ok(self.happen_all(events, outcomes))
+    }
+
+    // Lets the events happen. There is room for their outcomes.
+    fn happen_all(&mut self, events: Events, mut outcomes: Vec<Outcome>) -> Outcomes
+        requires none { outcomes.items ≡ [] }
+        requires room { length events ≤ vec_capacity outcomes }
+        ensures one_each { length result ≡ length events }
+        ensures done { RunLeads events result self.old self.new }
+        ensures told { AreTold self.old (paired events result) self.new }
+    {
+        for event in events.into_list() {
+            outcomes.push_reserved(self.happen(event));
+        }
+        Outcomes::of(outcomes)
+    }
+
+    // Lets an event happen.
+    fn happen(&mut self, event: Event) -> Outcome
+        ensures leads { EventLeads event result self.old self.new }
+        ensures told { IsTold event result self.old self.new }
+    {
+        match event {
+            Event::Ask { side, command } => self.ask(side, command),
+            Event::NewMap { query } => self.make_map(&query),
+            Event::Deliver {
+                message,
+                holder,
+                count,
+            } => self.deliver(message, holder, count),
+            Event::ClearMap { map } => self.clear_map(map),
+            Event::RestartStore { side, incarnation } => self.restart(side, incarnation),
+        }
+    }
+
+    /// The store of a side.
+    pub fn store(&self, side: Side) -> &Store
+        ensures { result.now ≡ store_in self.now side }
+    {
+        match side {
+            Side::A => &self.a,
+            Side::B => &self.b,
+        }
+    }
+
+    /// The map of a number, `None` where there is no such map.
+    pub fn map(&self, number: usize) -> Option<&SubMap>
+        ensures { option_copied result ≡ slice_get self.now.maps number }
+    {
+        self.maps.get(number)
+    }
+
+    /// The items of the message of a number, `None` where there is no such message.
+    pub fn message(&self, number: usize) -> Option<&ItemList>
+        ensures { option_copied result ≡ slice_get self.now.messages number }
+    {
+        self.messages.get(number)
+    }
+}

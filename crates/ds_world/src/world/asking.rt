@@ -1,0 +1,69 @@
+//! How a world's stores are asked.
+
+ghost use Rattle.std.specs.Prelude.{◌≡◌, true};
+ghost use Rattle.ds_machine.specs.State.{State};
+ghost use Rattle.ds_machine.specs.Machine.{Step};
+ghost use Rattle.ds_machine.specs.Says.{IsReplyTo};
+ghost use Rattle.ds_judge.specs.Last.{IsLast};
+ghost use Rattle.ds_content.specs.Stands.{Stands};
+ghost use Rattle.ds_replica.specs.declared.event.Event.TheVariants.{Ask};
+ghost use Rattle.ds_replica.specs.World.{World as Described, store_at, with_state};
+ghost use Rattle.ds_replica.specs.Happens.{gives_items};
+ghost use Rattle.ds_world.specs.Run.{EventLeads};
+ghost use Rattle.ds_world.specs.Told.{IsTold};
+
+use crate::replies::{gives_items, items_of};
+use crate::world::World;
+use ds_machine::{Command, Reply};
+use ds_replica::{EventFault, Outcome, Side};
+use ds_store::Store;
+
+/// The most messages.
+const MOST_MESSAGES: usize = 65536;
+
+// Asks the store of the side.
+fn apply(a: &mut Store, b: &mut Store, side: Side, command: Command) -> Reply
+    ensures step { (w : Described) → Stands a.old w.a → Stands b.old w.b → (s : State) × Step (store_at w side) command result s × Stands a.new (with_state w side s).a × Stands b.new (with_state w side s).b }
+    ensures last { (w : Described) → Stands a.old w.a → Stands b.old w.b → IsLast (store_at w side) command result }
+    ensures fits { IsReplyTo command result }
+{
+    match side {
+        Side::A => a.apply(command),
+        Side::B => b.apply(command),
+    }
+}
+
+impl World {
+    // Asks a store. What it gives is kept as the next message; room for that is taken first.
+    pub(super) fn ask(&mut self, side: Side, command: Command) -> Outcome
+        ensures leads { EventLeads (Ask side command) result self.old self.new }
+        ensures told { IsTold (Ask side command) result self.old self.new }
+    {
+        if gives_items(&command) {
+            return self.ask_for_items(side, command);
+        }
+        Outcome::Replied(apply(&mut self.a, &mut self.b, side, command))
+    }
+
+    // The same of a command to which a store gives items.
+    fn ask_for_items(&mut self, side: Side, command: Command) -> Outcome
+        requires { gives_items command ≡ true }
+        ensures leads { EventLeads (Ask side command) result self.old self.new }
+        ensures told { IsTold (Ask side command) result self.old self.new }
+    {
+        let message = self.messages.len();
+        if message >= MOST_MESSAGES {
+            return Outcome::Refused(EventFault::MessagesFull);
+        }
+        let Ok(()) = self.messages.reserve(1) else {
+            return Outcome::Refused(EventFault::NoRoom);
+        };
+        let reply = apply(&mut self.a, &mut self.b, side, command);
+        let items = match items_of(reply) {
+            Ok(items) => items,
+            Err(reply) => return Outcome::Replied(reply),
+        };
+        self.messages.push_reserved(items);
+        Outcome::Made { message }
+    }
+}

@@ -1,0 +1,75 @@
+//! How a world's stores are opened, and opened again.
+
+ghost use Rattle.std.specs.Prelude.{◌≡◌, true, false, IfOk, IfErr, IfNone, IfSome};
+ghost use Rattle.ds_feed.specs.Kept.{IsRing};
+ghost use Rattle.ds_held.specs.Limits.{larger};
+ghost use Rattle.ds_machine.specs.State.{opening};
+ghost use Rattle.ds_content.specs.Stands.{Stands};
+ghost use Rattle.ds_replica.specs.declared.event.Event.TheVariants.{RestartStore};
+ghost use Rattle.ds_world.specs.Seeds.{AreSeeds, IsSeed, IsSeedFault};
+ghost use Rattle.ds_world.specs.Run.{EventLeads};
+
+use crate::fault::SeedFault;
+use crate::world::World;
+use ds_replica::{EventFault, Outcome, Seed, Side};
+use ds_store::Store;
+use std::alloc::Global;
+
+/// The most that a ring keeps.
+const MOST_OF_RING: u32 = 4096;
+
+/// The most that positions reach.
+const LAST_PLACE: u64 = 1 << 62;
+
+// Whether a ring keeps 1 to 4096 items.
+fn is_ring(ring: u32) -> bool
+    ensures yes { result ≡ true → IsRing ring }
+    ensures no { result ≡ false → ¬ IsRing ring }
+{
+    0 < ring && ring <= MOST_OF_RING
+}
+
+// The first fault of two seeds.
+pub(super) fn seed_fault(a: &Seed, b: &Seed) -> Option<SeedFault>
+    ensures none { IfNone result (AreSeeds a.now b.now) }
+    ensures some { IfSome result (λ fault. IsSeedFault fault a.now b.now) }
+{
+    if !is_ring(a.ring) || !is_ring(b.ring) {
+        return Some(SeedFault::BadRing);
+    }
+    if a.first > LAST_PLACE || b.first > LAST_PLACE {
+        return Some(SeedFault::BadFirst);
+    }
+    if a.incarnation == b.incarnation {
+        return Some(SeedFault::OldIncarnation);
+    }
+    None
+}
+
+// A store that is opened with a seed. What stands against it then is want of memory alone.
+pub(super) fn opened(alloc: Global, seed: Seed) -> Result<Store, SeedFault>
+    requires { IsSeed seed }
+    ensures opened { IfOk result (λ store. Stands store (opening seed.incarnation seed.first seed.ring larger)) }
+    ensures noroom { IfErr result (λ fault. fault ≡ SeedFault.NoRoom) }
+{
+    match Store::open(alloc, seed.incarnation, seed.first, seed.ring) {
+        Ok(store) => Ok(store),
+        Err(_) => Err(SeedFault::NoRoom),
+    }
+}
+
+impl World {
+    // Opens a store again, empty, as another incarnation.
+    pub(super) fn restart(&mut self, side: Side, incarnation: u64) -> Outcome
+        ensures { EventLeads (RestartStore side incarnation) result self.old self.new }
+    {
+        if incarnation <= self.a.incarnation() || incarnation <= self.b.incarnation() {
+            return Outcome::Refused(EventFault::OldIncarnation);
+        }
+        match side {
+            Side::A => self.a.restart(incarnation),
+            Side::B => self.b.restart(incarnation),
+        }
+        Outcome::Restarted
+    }
+}
