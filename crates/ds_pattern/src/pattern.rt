@@ -18,6 +18,7 @@ use regex_nfa::Nfa;
 use regex_syntax::{Config, ErrorKind};
 use regex_vm::PikeVm;
 use std::alloc::{AllocError, Global};
+use std::fmt;
 use std::marker::Model;
 use thiserror::Error;
 
@@ -123,6 +124,12 @@ impl Pattern {
         ensures { FindsWhole result.now self.now }
     {
         &self.whole
+    }
+}
+
+impl fmt::Debug for Pattern {
+    fn fmt<W: fmt::Write>(&self, f: &mut fmt::Formatter<W>) -> fmt::Result {
+        f.debug_tuple("Pattern").field(&self.text).finish()
     }
 }
 
