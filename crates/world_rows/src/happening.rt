@@ -8,7 +8,7 @@ use ds_machine::{Command, Scope};
 use ds_names::{Endpoint, Generation, Key, Kind, Kinds, Name, Version};
 use ds_pattern::{PatternText, Query};
 use ds_replica::{Event, Holder, Seed, Side};
-use ds_world::{Events, World};
+use ds_world::{Events, Outcomes, World};
 use std::alloc::Global;
 use std::process::Abort;
 
@@ -166,13 +166,18 @@ pub(crate) fn world(rt: &impl Abort, alloc: Global) -> World {
     World::new(alloc, seed(1), seed(2)).expect(rt, "a world")
 }
 
+// What comes of the events.
+fn outcomes(rt: &impl Abort, world: &mut World, events: Events) -> Outcomes {
+    world.run(events).expect(rt, "memory")
+}
+
 /// Lets the events of the rows happen, and compares what came of each.
 pub(crate) fn run(rt: &impl Abort, alloc: Global, world: &mut World, rows: &[(Happening, Came)]) {
     let mut events = Events::new(alloc);
     for (happening, _) in rows {
         assert!(rt; events.push(event(rt, alloc, happening)).is_ok());
     }
-    let outcomes = world.run(events).expect(rt, "memory");
+    let outcomes = outcomes(rt, world, events);
     assert!(rt; outcomes.len() == rows.len());
     for (index, (_, wanted)) in rows.iter().enumerate() {
         let given = came(outcomes.get(index).expect(rt, "an outcome"));
