@@ -1,5 +1,5 @@
 //! What items leave out nothing of what a store accepted, and what follows for whoever holds their top: the laws of
-//! wholeness, of pages, of catching up and of agreement, over lists of items alone. No store cites them yet.
+//! wholeness, of pages, of catching up and of agreement, over lists of items alone. `ds_replica` cites them.
 //!
 //! In MINIX 3 a subscriber that missed something asks again; snapshots, pages, a journal and the promise that they
 //! leave out nothing are of this project.

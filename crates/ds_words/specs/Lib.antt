@@ -1,5 +1,4 @@
 pub mod Lines
 pub mod Command
-pub mod Owed
 pub mod Pieces
 pub mod Reply

@@ -9,7 +9,6 @@ ghost use Rattle.ds_words.specs.declared.wording.Wording.TheVariants.{AsOffer, A
 ghost use Rattle.ds_words.specs.Reply.{refusal_word, refusal_words, refused, merged, stopped, reply_words, shown_by, owed_line, reply_lines, reply_text, refused_noroom};
 
 use crate::command::ScriptCommand;
-use crate::owed::owed_by;
 use crate::shown::{append_checked, append_journaled, append_paged, append_snapped};
 use crate::wording::Wording;
 use ds_held::Limits;
@@ -51,7 +50,7 @@ pub fn append_reply(
 {
     let start = buffer.len();
     append_words(buffer, wording, reply)?;
-    let written = append_owed(buffer, owed_by(reply), limits);
+    let written = append_owed(buffer, reply.owed(), limits);
     if written.is_err() {
         buffer.truncate(start);
     }
