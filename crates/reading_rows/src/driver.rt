@@ -49,39 +49,51 @@ fn number(rt: &impl Abort, text: &[u8]) -> Option<Key> {
     })
 }
 
-/// A store in which RS swept what generation 2 left and started generation 3, which published `eth0.a` and `eth0.b`; and the
-/// driver, which will publish `eth0.c` and `eth0.d`.
-pub(crate) fn begun(rt: &(impl Abort + AllocGlobal), ring: u32) -> (Store, Driver) {
-    let mut store = Store::open(rt.alloc(), 1, 0, ring).expect(rt, "a store");
-    let endpoint = Endpoint::of(generation(rt, 3), 17).expect(rt, "an endpoint");
-    let version = Version {
+fn endpoint(rt: &impl Abort) -> Endpoint {
+    Endpoint::of(generation(rt, 3), 17).expect(rt, "an endpoint")
+}
+
+fn version(rt: &impl Abort) -> Version {
+    Version {
         epoch: generation(rt, 3),
         seq: 0,
-    };
+    }
+}
+
+/// The driver, which will publish `eth0.c` and `eth0.d`.
+pub(crate) fn driver(rt: &impl Abort) -> Driver {
+    Driver {
+        endpoint: endpoint(rt),
+        version: version(rt),
+        next: number(rt, b"eth0.c"),
+        behind: number(rt, b"eth0.d"),
+    }
+}
+
+fn publish(rt: &impl Abort, caller: Endpoint, text: &[u8], value: Value) -> Command {
+    Command::Publish {
+        caller,
+        key: Key {
+            name: name(rt, text),
+            kind: value.kind(),
+        },
+        version: version(rt),
+        value,
+        overwrite: false,
+    }
+}
+
+/// A store in which RS swept what generation 2 left and started generation 3, which published `eth0.a` and `eth0.b`.
+pub(crate) fn begun(rt: &(impl Abort + AllocGlobal), ring: u32) -> Store {
+    let mut store = Store::open(rt.alloc(), 1, 0, ring).expect(rt, "a store");
+    let caller = endpoint(rt);
     store.apply(Command::Sweep {
         caller: Endpoint::rs(),
         owner: name(rt, b"eth0"),
         generation: generation(rt, 2),
     });
-    store.apply(Command::Publish {
-        caller: Endpoint::rs(),
-        key: Key {
-            name: name(rt, b"eth0"),
-            kind: Kind::Label,
-        },
-        version,
-        value: Value::Label(endpoint),
-        overwrite: false,
-    });
-    let mut driver = Driver {
-        endpoint,
-        version,
-        next: number(rt, b"eth0.a"),
-        behind: number(rt, b"eth0.b"),
-    };
-    driver.ask(&mut store, None);
-    driver.ask(&mut store, None);
-    driver.next = number(rt, b"eth0.c");
-    driver.behind = number(rt, b"eth0.d");
-    (store, driver)
+    store.apply(publish(rt, Endpoint::rs(), b"eth0", Value::Label(caller)));
+    store.apply(publish(rt, caller, b"eth0.a", Value::U32(1)));
+    store.apply(publish(rt, caller, b"eth0.b", Value::U32(2)));
+    store
 }

@@ -1,6 +1,6 @@
 //! A service reads what is under `eth0` while its driver goes on.
 
-use crate::driver::begun;
+use crate::driver::{begun, driver};
 use crate::told::are_named;
 use ds_entry::ItemList;
 use ds_machine::Refusal;
@@ -35,9 +35,10 @@ fn by_checks(
     max: u32,
     questions: u32,
 ) -> Result<ItemList, ReadFault> {
-    let (mut store, mut driver) = begun(rt, 256);
+    let mut store = begun(rt, 256);
     let asked = reading(rt, max, questions);
-    read_by_checks(rt.alloc(), &mut store, &mut driver, sub, &asked)
+    let mut others = driver(rt);
+    read_by_checks(rt.alloc(), &mut store, &mut others, sub, &asked)
 }
 
 // Reads by pages of so many changes, of a store whose journal keeps so many items.
@@ -47,9 +48,10 @@ fn by_pages(
     max: u32,
     questions: u32,
 ) -> Result<ItemList, ReadFault> {
-    let (mut store, mut driver) = begun(rt, ring);
+    let mut store = begun(rt, ring);
     let asked = reading(rt, max, questions);
-    read_by_pages(rt.alloc(), &mut store, &mut driver, &asked)
+    let mut others = driver(rt);
+    read_by_pages(rt.alloc(), &mut store, &mut others, &asked)
 }
 
 #[test]
@@ -91,7 +93,7 @@ fn the_journal_is_refused(rt: HostRuntime) {
 
 #[test]
 fn nobody_else_asks(rt: HostRuntime) {
-    let (mut store, _driver) = begun(&rt, 256);
+    let mut store = begun(&rt, 256);
     let asked = reading(&rt, 256, 1);
     let items = read_by_checks(rt.alloc(), &mut store, &mut Nobody, 0, &asked);
     assert!(rt; items.expect(&rt, "items").len() == 4);
