@@ -61,7 +61,7 @@ fn version(rt: &impl Abort) -> Version {
 }
 
 /// The driver, which will publish `eth0.c` and `eth0.d`.
-pub(crate) fn driver(rt: &impl Abort) -> Driver {
+pub(crate) fn eth0(rt: &impl Abort) -> Driver {
     Driver {
         endpoint: endpoint(rt),
         version: version(rt),

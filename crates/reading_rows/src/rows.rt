@@ -1,6 +1,6 @@
 //! A service reads what is under `eth0` while its driver goes on.
 
-use crate::driver::{begun, driver};
+use crate::driver::{begun, eth0};
 use crate::told::are_named;
 use ds_entry::ItemList;
 use ds_machine::Refusal;
@@ -37,7 +37,7 @@ fn by_checks(
 ) -> Result<ItemList, ReadFault> {
     let mut store = begun(rt, 256);
     let asked = reading(rt, max, questions);
-    let mut others = driver(rt);
+    let mut others = eth0(rt);
     read_by_checks(rt.alloc(), &mut store, &mut others, sub, &asked)
 }
 
@@ -50,7 +50,7 @@ fn by_pages(
 ) -> Result<ItemList, ReadFault> {
     let mut store = begun(rt, ring);
     let asked = reading(rt, max, questions);
-    let mut others = driver(rt);
+    let mut others = eth0(rt);
     read_by_pages(rt.alloc(), &mut store, &mut others, &asked)
 }
 
