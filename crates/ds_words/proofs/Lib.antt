@@ -7,6 +7,12 @@ pub mod QueryLemmas
 pub mod OneLemmas
 pub mod LineLemmas
 pub mod SubscriptionLemmas
+pub mod WorldPieceLemmas
+pub mod WorldLemmas
 pub mod OfferLemmas
+pub mod OpenLemmas
+pub mod ScopeLemmas
+pub mod ScopeLineLemmas
+pub mod StandLemmas
 pub mod CommandLemmas
 pub mod LawLemmas

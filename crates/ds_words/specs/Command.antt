@@ -20,7 +20,11 @@ use Rattle.ds_words.specs.Lines.{ended, IsUnbroken}
 use Rattle.ds_words.specs.declared.fault.CommandFault.{CommandFault}
 use Rattle.ds_words.specs.declared.fault.CommandFault.TheVariants.{BadLine, NoRoom}
 use Rattle.ds_words.specs.declared.command.ScriptCommand.{ScriptCommand}
-use Rattle.ds_words.specs.declared.command.ScriptCommand.TheVariants.{Offer, Show, All, Publish, Delete, Sweep, Retrieve, NameOf, Subscribe, Check, Map, Entries}
+use Rattle.ds_words.specs.declared.command.ScriptCommand.TheVariants.{Offer, Show, All, Publish, Delete, Sweep, Retrieve, NameOf, Subscribe, Check, Map, Entries, Ring, Side, Clear, Restart, Deliver, Since, Snapshot}
+use Rattle.ds_feed.specs.declared.cursor.Cursor.{Cursor}
+use Rattle.ds_words.specs.Query.{IsQuery, query_parts}
+use Rattle.ds_words.specs.Scope.{scope_parts, IsScope, is_all, store_scope, ScopeTakesMemory}
+use Rattle.ds_words.specs.World.{ring_word, side_line_word, clear_word, restart_word, deliver_word, since_word, snapshot_word, side_word, holder_word, IsHolder, portion_part, IsPortion}
 
 -- `offer`
 abbrev pub offer_word : List ℕ
@@ -88,10 +92,6 @@ key_parts key = part Name key.name ∷ space ∷ part Word (kind_word key.kind) 
 abbrev pub version_parts : Version → List Part
 version_parts version = part Number (decimal version.epoch) ∷ byte 46 ∷ part Number (decimal version.seq) ∷ []
 
--- the pattern in quotes, and the mask of the kinds
-abbrev pub query_parts : Query → List Part
-query_parts query = part Quoted (quoted query.text) ∷ space ∷ part Number (decimal query.kinds) ∷ []
-
 -- the word of a command
 abbrev pub word_of : ScriptCommand → List ℕ
 word_of (Offer i) = offer_word
@@ -106,6 +106,13 @@ word_of (Subscribe sub query initial overwrite) = subscribe_word
 word_of (Check sub max) = check_word
 word_of (Map query) = map_word
 word_of (Entries map) = entries_word
+word_of (Ring ring) = ring_word
+word_of (Side side) = side_line_word
+word_of (Clear map) = clear_word
+word_of (Restart side incarnation) = restart_word
+word_of (Deliver message holder portion) = deliver_word
+word_of (Since scope cursor max) = since_word
+word_of (Snapshot scope) = snapshot_word
 
 -- the parts behind it: what the command takes, and the newline
 abbrev pub behind_word : ScriptCommand → List Part
@@ -127,6 +134,15 @@ behind_word (Subscribe sub query initial overwrite) =
 behind_word (Check sub max) = space ∷ part Number (decimal sub) ∷ space ∷ part Number (decimal max) ∷ newline ∷ []
 behind_word (Map query) = space ∷ (query_parts query ++ newline ∷ [])
 behind_word (Entries map) = space ∷ part Number (decimal map) ∷ newline ∷ []
+behind_word (Ring ring) = space ∷ part Number (decimal ring) ∷ newline ∷ []
+behind_word (Side side) = space ∷ part Word (side_word side) ∷ newline ∷ []
+behind_word (Clear map) = space ∷ part Number (decimal map) ∷ newline ∷ []
+behind_word (Restart side incarnation) = space ∷ part Word (side_word side) ∷ space ∷ part Number (decimal incarnation) ∷ newline ∷ []
+behind_word (Deliver message holder portion) =
+    space ∷ part Number (decimal message) ∷ space ∷ part Word (holder_word holder) ∷ space ∷ portion_part portion ∷ newline ∷ []
+behind_word (Since scope cursor max) =
+    space ∷ (scope_parts scope ++ space ∷ part Number (decimal cursor.incarnation) ∷ space ∷ part Number (decimal cursor.position) ∷ space ∷ part Number (decimal max) ∷ newline ∷ [])
+behind_word (Snapshot scope) = space ∷ (scope_parts scope ++ newline ∷ [])
 
 -- the parts of a command's line: its word, and what it takes
 abbrev pub command_parts : ScriptCommand → List Part
@@ -136,13 +152,6 @@ command_parts command = part Word (word_of command) ∷ behind_word command
 pub record IsVersion (version : Version) : Type 0 where
   pub epoch : version.epoch ≤ 2097151
   pub seq : version.seq < 2 ^ 32
-
--- The text has no newline, and some of the four kinds are named. Whether the text is a pattern is judged by whoever
--- takes the query up.
-pub record IsQuery (query : Query) : Type 0 where
-  pub text : IsUnbroken query.text
-  pub some : 0 < query.kinds
-  pub limit : query.kinds ≤ 15
 
 -- What a command takes is valid. But for an offer, the rules of labels and of sequence numbers aren't judged here: the
 -- store judges what is published.
@@ -159,6 +168,13 @@ IsCommand (Subscribe sub query initial overwrite) = (sub < 2 ^ 32) × IsQuery qu
 IsCommand (Check sub max) = (sub < 2 ^ 32) × (max < 2 ^ 32)
 IsCommand (Map query) = IsQuery query
 IsCommand (Entries map) = map < 2 ^ 64
+IsCommand (Ring ring) = (0 < ring) × (ring ≤ 4096)
+IsCommand (Side side) = Unit {0}
+IsCommand (Clear map) = map < 2 ^ 64
+IsCommand (Restart side incarnation) = incarnation < 2 ^ 64
+IsCommand (Deliver message holder portion) = (message < 2 ^ 64) × IsHolder holder × IsPortion portion
+IsCommand (Since scope cursor max) = IsScope scope × (cursor.incarnation < 2 ^ 64) × (cursor.position < 2 ^ 64) × (max < 2 ^ 32)
+IsCommand (Snapshot scope) = IsScope scope
 
 -- the command has a text, a blob or a pattern
 abbrev pub TakesMemory : ScriptCommand → Type 0
@@ -166,6 +182,8 @@ TakesMemory (Offer i) = ¬ IsItemInPlace i
 TakesMemory (Publish caller key version value overwrite) = ¬ IsInPlace value
 TakesMemory (Subscribe sub query initial overwrite) = Unit {0}
 TakesMemory (Map query) = Unit {0}
+TakesMemory (Since scope cursor max) = ScopeTakesMemory scope
+TakesMemory (Snapshot scope) = ScopeTakesMemory scope
 TakesMemory _ = ⊥
 
 -- what the line asks of a store takes no memory: it has no item, no value and no pattern, or the line asks nothing
@@ -182,6 +200,19 @@ is_plain (Subscribe sub query initial overwrite) = false
 is_plain (Check sub max) = true
 is_plain (Map query) = true
 is_plain (Entries map) = true
+is_plain (Ring ring) = true
+is_plain (Side side) = true
+is_plain (Clear map) = true
+is_plain (Restart side incarnation) = true
+is_plain (Deliver message holder portion) = true
+is_plain (Since scope cursor max) = is_all scope
+is_plain (Snapshot scope) = is_all scope
+
+-- the line has a scope
+abbrev pub has_scope : ScriptCommand → Bool
+has_scope (Since scope cursor max) = true
+has_scope (Snapshot scope) = true
+has_scope _ = false
 
 -- what the line asks of a store: an offer is a Merge of one item
 abbrev pub store_command : ScriptCommand → Option Command
@@ -197,6 +228,13 @@ store_command (Subscribe sub query initial overwrite) = Some (commands.Subscribe
 store_command (Check sub max) = Some (commands.Check sub max)
 store_command (Map query) = None
 store_command (Entries map) = None
+store_command (Ring ring) = None
+store_command (Side side) = None
+store_command (Clear map) = None
+store_command (Restart side incarnation) = None
+store_command (Deliver message holder portion) = None
+store_command (Since scope cursor max) = Some (commands.Since (store_scope scope) cursor max)
+store_command (Snapshot scope) = Some (commands.Snapshot (store_scope scope))
 
 -- ---- a line with its newline
 

@@ -2,4 +2,8 @@ pub mod Lines
 pub mod Command
 pub mod Owed
 pub mod Pieces
+pub mod Query
+pub mod Scope
+pub mod World
+pub mod WorldPieces
 pub mod Reply

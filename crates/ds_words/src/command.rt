@@ -1,6 +1,8 @@
 //! The lines of a script.
 
+use crate::world::{Holder, Portion, Side};
 use ds_entry::{Item, Value};
+use ds_feed::Cursor;
 use ds_names::{Endpoint, Generation, Key, Name, Version};
 use ds_pattern::Query;
 
@@ -61,5 +63,39 @@ pub enum ScriptCommand {
     /// `entries J`: prints the puts of a map.
     Entries {
         map: u64,
+    },
+    /// `ring N`: the journals of both stores have room for so many changes, 1 to 4096.
+    Ring {
+        ring: u32,
+    },
+    /// `side a` or `side b`: goes to the store of this side.
+    Side {
+        side: Side,
+    },
+    /// `clear J`: empties a map.
+    Clear {
+        map: u64,
+    },
+    /// `restart a INCARNATION`, or `b` for `a`: the store of the side loses all, and begins a new incarnation.
+    Restart {
+        side: Side,
+        incarnation: u64,
+    },
+    /// `deliver K HOLDER COUNT`: gives a store or a map items of a message.
+    Deliver {
+        message: u64,
+        holder: Holder,
+        portion: Portion,
+    },
+    /// `since SCOPE INCARNATION POSITION MAX`: asks for what took effect under the scope from a cursor on. A scope is `*`,
+    /// for all keys, which is `None`, or a pattern and kinds.
+    Since {
+        scope: Option<Query>,
+        cursor: Cursor,
+        max: u32,
+    },
+    /// `snapshot SCOPE`: asks for all that is held under the scope.
+    Snapshot {
+        scope: Option<Query>,
     },
 }

@@ -3,7 +3,8 @@
 //! A line is one command with what it takes: `offer ITEM` merges a change or a floor, as a replica that is told of it would;
 //! `publish`, `delete`, `sweep`, `retrieve` and `nameof` ask for what a process or RS asks of MINIX 3's data store, and
 //! `subscribe` and `check` what a subscriber asks for; `show` and `all` ask for what is held, `map` and `entries` for a
-//! map of a query and what stands in it. The lines and their answers are of this project.
+//! map of a query and what stands in it; `ring`, `side`, `clear`, `restart` and `deliver` act on a world of two stores, whose
+//! answers are messages that can be given to a store or a map. The lines and their answers are of this project.
 #![tactic(auto)]
 
 mod asking;
@@ -16,10 +17,15 @@ mod pieces;
 mod query;
 mod reading;
 mod reply;
+mod scope;
+mod scope_lines;
 mod shown;
 mod split;
 mod word;
 mod wording;
+mod world;
+mod world_lines;
+mod world_pieces;
 
 pub use command::ScriptCommand;
 pub use fault::CommandFault;
@@ -29,3 +35,4 @@ pub use reading::{LONGEST_LINE, read_command, read_line};
 pub use reply::{append_noroom, append_reply, write_reply};
 pub use split::split_line;
 pub use wording::Wording;
+pub use world::{Holder, Portion, Side};

@@ -1,0 +1,42 @@
+//! What the lines that have a scope have behind their word.
+
+ghost use Rattle.ds_words.specs.World.{since_word, snapshot_word};
+ghost use Rattle.ds_words.specs.Pieces.{Takes};
+
+use crate::command::ScriptCommand;
+use crate::pieces::Rest;
+use crate::scope::scope_of;
+use ds_feed::Cursor;
+use ds_line::{Expected, PartFault};
+use std::alloc::Global;
+
+/// Reads what follows `since`.
+pub(crate) fn since_at(alloc: Global, rest: &mut Rest) -> Result<ScriptCommand, PartFault>
+    ensures { Takes since_word rest.old.bytes.now result }
+{
+    let written = rest.scope()?;
+    let incarnation = rest.place(Expected::Incarnation)?;
+    let position = rest.place(Expected::Position)?;
+    let max = rest.number(Expected::Max)?;
+    rest.end()?;
+    let Ok(scope) = scope_of(alloc, written) else {
+        return Err(PartFault::NoRoom);
+    };
+    let cursor = Cursor {
+        incarnation,
+        position,
+    };
+    Ok(ScriptCommand::Since { scope, cursor, max })
+}
+
+/// Reads what follows `snapshot`.
+pub(crate) fn snapshot_at(alloc: Global, rest: &mut Rest) -> Result<ScriptCommand, PartFault>
+    ensures { Takes snapshot_word rest.old.bytes.now result }
+{
+    let written = rest.scope()?;
+    rest.end()?;
+    let Ok(scope) = scope_of(alloc, written) else {
+        return Err(PartFault::NoRoom);
+    };
+    Ok(ScriptCommand::Snapshot { scope })
+}
