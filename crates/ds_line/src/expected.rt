@@ -61,7 +61,7 @@ pub enum Expected {
     /// Who is given a message: a side, or a map.
     Holder,
     /// How many items of a message are given, or `*`.
-    Portion,
+    Count,
     /// That the line had ended before: it is too long.
     Limit,
 }

@@ -18,14 +18,16 @@ use Rattle.ds_line.proofs.LineLemmas.{stand_length}
 use Rattle.ds_line.proofs.ItemLemmas.{item_ends}
 use Rattle.ds_line.proofs.PieceLemmas.{stand_texts}
 use Rattle.ds_words.specs.declared.command.ScriptCommand.{ScriptCommand}
-use Rattle.ds_words.specs.declared.command.ScriptCommand.TheVariants.{Offer, Show, All as Everything, Publish, Delete, Sweep, Retrieve, NameOf, Subscribe, Check, Map, Entries, Ring, Side as OnSide, Clear, Restart, Deliver, Since, Snapshot}
+use Rattle.ds_words.specs.declared.command.ScriptCommand.TheVariants.{Offer, Show, All as Everything, Publish, Delete, Sweep, Retrieve, NameOf, Subscribe, Check, Map, Entries, Ring, Side as OnSide, Clear, Restart, Deliver, Since, Snapshot, Page}
 use Rattle.ds_words.specs.declared.word.Word.TheVariants as words
 use Rattle.ds_words.specs.declared.word.Word.{Word as CommandWord}
-use Rattle.ds_words.specs.Command.{word_of, behind_word, command_parts, IsCommand, IsCommandFault, initial_word, mode_word, key_parts, version_parts}
+use Rattle.ds_words.specs.Command.{word_of, behind_word, command_parts, IsCommand, IsCommandFault, initial_word, mode_word}
+use Rattle.ds_words.specs.Key.{key_parts, version_parts}
+use Rattle.ds_words.specs.Page.{range_parts}
 use Rattle.ds_words.specs.Query.{query_parts}
 use Rattle.ds_words.specs.Scope.{scope_parts}
 use Rattle.ds_words.specs.Pieces.{taken_by, text_of}
-use Rattle.ds_words.specs.World.{side_word, holder_word, portion_part}
+use Rattle.ds_words.specs.World.{side_word, holder_word, count_part}
 use Rattle.ds_words.proofs.StandLemmas.{command_stands}
 
 -- ---- words
@@ -47,9 +49,10 @@ word_is (Ring ring) = refl
 word_is (OnSide side) = refl
 word_is (Clear map) = refl
 word_is (Restart side incarnation) = refl
-word_is (Deliver message holder portion) = refl
+word_is (Deliver message holder count) = refl
 word_is (Since scope cursor max) = refl
 word_is (Snapshot scope) = refl
+word_is (Page scope after max) = refl
 
 -- each command begins with one of the words
 pub word_there : (command : ScriptCommand) → (word : CommandWord) × (word_of command ≡ text_of word)
@@ -69,9 +72,10 @@ word_there (Ring ring) = (words.Ring, refl)
 word_there (OnSide side) = (words.Side, refl)
 word_there (Clear map) = (words.Clear, refl)
 word_there (Restart side incarnation) = (words.Restart, refl)
-word_there (Deliver message holder portion) = (words.Deliver, refl)
+word_there (Deliver message holder count) = (words.Deliver, refl)
 word_there (Since scope cursor max) = (words.Since, refl)
 word_there (Snapshot scope) = (words.Snapshot, refl)
+word_there (Page scope after max) = (words.Page, refl)
 
 pub text_is : (word : CommandWord) → list_all is_ascii_alphanumeric (text_of word) ≡ true
 text_is words.Offer = refl
@@ -93,6 +97,7 @@ text_is words.Restart = refl
 text_is words.Deliver = refl
 text_is words.Since = refl
 text_is words.Snapshot = refl
+text_is words.Page = refl
 
 -- two words at one front are one
 pub one_word : (command : ScriptCommand) (line word r s : List ℕ) → list_all is_ascii_alphanumeric word ≡ true → Begins is_ascii_alphanumeric line (word_of command) r → Begins is_ascii_alphanumeric line word s → (word_of command ≡ word) × (r ≡ s)
@@ -117,9 +122,10 @@ word_begins (Ring ring) line is = record { parts = is; ends = refl }
 word_begins (OnSide side) line is = record { parts = is; ends = refl }
 word_begins (Clear map) line is = record { parts = is; ends = refl }
 word_begins (Restart side incarnation) line is = record { parts = is; ends = refl }
-word_begins (Deliver message holder portion) line is = record { parts = is; ends = refl }
+word_begins (Deliver message holder count) line is = record { parts = is; ends = refl }
 word_begins (Since scope cursor max) line is = record { parts = is; ends = refl }
 word_begins (Snapshot scope) line is = record { parts = is; ends = refl }
+word_begins (Page scope after max) line is = record { parts = is; ends = refl }
 
 -- ---- the line can't be read
 
@@ -211,7 +217,9 @@ newline_last (Since (Some query) cursor max) is =
     last_newline (space ∷ (query_parts query ++ space ∷ part Number (decimal cursor.incarnation) ∷ space ∷ part Number (decimal cursor.position) ∷ space ∷ part Number (decimal max) ∷ []))
 newline_last (Snapshot None) is = last_newline (space ∷ byte 42 ∷ [])
 newline_last (Snapshot (Some query)) is = last_newline (space ∷ query_parts query)
-newline_last (Deliver message holder portion) is = last_newline (space ∷ part Number (decimal message) ∷ space ∷ part Word (holder_word holder) ∷ space ∷ portion_part portion ∷ [])
+newline_last (Page None after max) is = last_newline (space ∷ byte 42 ∷ space ∷ range_parts after max)
+newline_last (Page (Some query) after max) is = last_newline (space ∷ (query_parts query ++ space ∷ range_parts after max))
+newline_last (Deliver message holder count) is = last_newline (space ∷ part Number (decimal message) ∷ space ∷ part Word (holder_word holder) ∷ space ∷ count_part count ∷ [])
 
 -- the command is all of the line
 pub whole_line : (line word rest after : List ℕ) (command : ScriptCommand) → EndsLine line → Begins is_ascii_alphanumeric line word rest → Found (taken_by word) command rest after → IsCommand command × (line ≡ texts (command_parts command))

@@ -17,6 +17,7 @@ use Rattle.ds_words.proofs.SubscriptionLemmas.{subscribe_one, check_one, map_one
 use Rattle.ds_words.proofs.OfferLemmas.{offer_one, show_one, all_one}
 use Rattle.ds_words.proofs.WorldLemmas.{ring_line_one, side_line_one, clear_one, restart_one, deliver_one}
 use Rattle.ds_words.proofs.ScopeLineLemmas.{since_one, snapshot_one}
+use Rattle.ds_words.proofs.PageLineLemmas.{page_one}
 use Rattle.ds_words.proofs.StandLemmas.{command_stands}
 use Rattle.ds_words.proofs.CommandLemmas.{word_there, one_word, word_begins, text_is}
 
@@ -40,6 +41,7 @@ one_taken words.Restart = restart_one
 one_taken words.Deliver = deliver_one
 one_taken words.Since = since_one
 one_taken words.Snapshot = snapshot_one
+one_taken words.Page = page_one
 
 pub one_command : (c d : ScriptCommand) (line : List ℕ) → IsLineOf c line → IsLineOf d line → c ≡ d
 one_command c d line of_c of_d =

@@ -13,6 +13,8 @@ pub mod OfferLemmas
 pub mod OpenLemmas
 pub mod ScopeLemmas
 pub mod ScopeLineLemmas
+pub mod RangeLemmas
+pub mod PageLineLemmas
 pub mod StandLemmas
 pub mod CommandLemmas
 pub mod LawLemmas

@@ -143,10 +143,10 @@ scope_apart = scopes_apart
 -- ---- what is written for a scope
 
 -- two scopes that are written so are one
-pub written_one : {W : Type 0} (written : Option W) (text : W → List ℕ) (kinds : W → ℕ) (a b : Option Query) → Writes written text kinds a → Writes written text kinds b → a ≡ b
-written_one None text kinds None None x y = refl
-written_one None text kinds None (Some q) x y = absurd y
-written_one None text kinds (Some p) b x y = absurd x
-written_one (Some w) text kinds None b x y = absurd x
-written_one (Some w) text kinds (Some p) None x y = absurd y
-written_one (Some w) text kinds (Some p) (Some q) x y = ap Some (query_is p q.text q.kinds (escaped_one p.text q.text (sym x.0 ∙ y.0)) (x.1 ∙ sym y.1))
+pub written_one : (text : List ℕ) (kinds : Option ℕ) (a b : Option Query) → Writes text kinds a → Writes text kinds b → a ≡ b
+written_one text None None None x y = refl
+written_one text None None (Some q) x y = absurd y
+written_one text None (Some p) b x y = absurd x
+written_one text (Some k) None b x y = absurd x
+written_one text (Some k) (Some p) None x y = absurd y
+written_one text (Some k) (Some p) (Some q) x y = ap Some (query_is p q.text q.kinds (escaped_one p.text q.text (sym x.0 ∙ y.0)) (x.1 ∙ sym y.1))

@@ -22,11 +22,11 @@ abbrev cursor_of : ℕ → ℕ → Cursor
 cursor_of incarnation position = record { incarnation = incarnation; position = position }
 
 -- a scope that is written by something has a pattern
-takes_memory : {W : Type 0} (written : Option W) (text : W → List ℕ) (kinds : W → ℕ) (scope : Option Query) → Writes written text kinds scope → written ≢ None → ScopeTakesMemory scope
-takes_memory None text kinds None writes some = absurd (some refl)
-takes_memory None text kinds (Some q) writes some = absurd writes
-takes_memory (Some w) text kinds None writes some = absurd writes
-takes_memory (Some w) text kinds (Some q) writes some = tt
+pub takes_memory : (text : List ℕ) (kinds : Option ℕ) (scope : Option Query) → Writes text kinds scope → kinds ≢ None → ScopeTakesMemory scope
+takes_memory text None None writes some = absurd (some refl)
+takes_memory text None (Some q) writes some = absurd writes
+takes_memory text (Some k) None writes some = absurd writes
+takes_memory text (Some k) (Some q) writes some = tt
 
 -- ---- snapshot
 
@@ -49,14 +49,14 @@ snapshot_end_stops scope stop bytes r found s = view_stops snapshot_line (taken_
 snapshot_whole : (scope : Option Query) (bytes r rest : List ℕ) → Found a_scope scope bytes r → Found an_end tt r rest → Found (taken_by snapshot_word) (Snapshot scope) bytes rest
 snapshot_whole scope bytes r rest f1 f2 = view_found snapshot_line (taken_by snapshot_word) snapshot_view (scope, tt) bytes rest (both_found a_scope (λ _. an_end) scope tt bytes r rest f1 f2)
 
-pub snapshot_found : {W : Type 0} (written : Option W) (text : W → List ℕ) (kinds : W → ℕ) (scope same : Option Query) (bytes r rest : List ℕ) → Writes written text kinds scope → Writes written text kinds same → Found a_scope scope bytes r → Found an_end tt r rest
+pub snapshot_found : (text : List ℕ) (kinds : Option ℕ) (scope same : Option Query) (bytes r rest : List ℕ) → Writes text kinds scope → Writes text kinds same → Found a_scope scope bytes r → Found an_end tt r rest
     → Found (taken_by snapshot_word) (Snapshot same) bytes rest
-snapshot_found written text kinds scope same bytes r rest first second f1 f2 =
-    subst (λ (s : Option Query). Found (taken_by snapshot_word) (Snapshot s) bytes rest) (written_one written text kinds scope same first second) (snapshot_whole scope bytes r rest f1 f2)
+snapshot_found text kinds scope same bytes r rest first second f1 f2 =
+    subst (λ (s : Option Query). Found (taken_by snapshot_word) (Snapshot s) bytes rest) (written_one text kinds scope same first second) (snapshot_whole scope bytes r rest f1 f2)
 
-pub snapshot_no_room : {W : Type 0} (written : Option W) (text : W → List ℕ) (kinds : W → ℕ) (scope : Option Query) (bytes r rest : List ℕ) → written ≢ None → Writes written text kinds scope → Found a_scope scope bytes r → Found an_end tt r rest
+pub snapshot_no_room : (text : List ℕ) (kinds : Option ℕ) (scope : Option Query) (bytes r rest : List ℕ) → kinds ≢ None → Writes text kinds scope → Found a_scope scope bytes r → Found an_end tt r rest
     → Takes snapshot_word bytes (Err NoRoom)
-snapshot_no_room written text kinds scope bytes r rest some writes f1 f2 = (Snapshot scope, rest, snapshot_whole scope bytes r rest f1 f2, takes_memory written text kinds scope writes some)
+snapshot_no_room text kinds scope bytes r rest some writes f1 f2 = (Snapshot scope, rest, snapshot_whole scope bytes r rest f1 f2, takes_memory text kinds scope writes some)
 
 snapshot_back : (m : ScriptCommand) (can : (taken_by snapshot_word).Can m) → snapshot_view.to (snapshot_from m can).0 ≡ m
 unfolding snapshot_from
@@ -122,16 +122,16 @@ since_whole scope incarnation position max bytes r1 r2 r3 r4 rest f1 f2 f3 f4 f5
     (both_found a_place (λ _. since_position) incarnation (position, (max, tt)) r1 r2 rest f2
     (both_found a_place (λ _. since_max) position (max, tt) r2 r3 rest f3 (both_found a_number (λ _. an_end) max tt r3 r4 rest f4 f5))))
 
-pub since_found : {W : Type 0} (written : Option W) (text : W → List ℕ) (kinds : W → ℕ) (scope same : Option Query) (incarnation position max : ℕ) (bytes r1 r2 r3 r4 rest : List ℕ) → Writes written text kinds scope → Writes written text kinds same → Found a_scope scope bytes r1
+pub since_found : (text : List ℕ) (kinds : Option ℕ) (scope same : Option Query) (incarnation position max : ℕ) (bytes r1 r2 r3 r4 rest : List ℕ) → Writes text kinds scope → Writes text kinds same → Found a_scope scope bytes r1
     → Found a_place incarnation r1 r2 → Found a_place position r2 r3 → Found a_number max r3 r4 → Found an_end tt r4 rest → Found (taken_by since_word) (Since same (cursor_of incarnation position) max) bytes rest
-since_found written text kinds scope same incarnation position max bytes r1 r2 r3 r4 rest first second f1 f2 f3 f4 f5 =
-    subst (λ (s : Option Query). Found (taken_by since_word) (Since s (cursor_of incarnation position) max) bytes rest) (written_one written text kinds scope same first second)
+since_found text kinds scope same incarnation position max bytes r1 r2 r3 r4 rest first second f1 f2 f3 f4 f5 =
+    subst (λ (s : Option Query). Found (taken_by since_word) (Since s (cursor_of incarnation position) max) bytes rest) (written_one text kinds scope same first second)
     (since_whole scope incarnation position max bytes r1 r2 r3 r4 rest f1 f2 f3 f4 f5)
 
-pub since_no_room : {W : Type 0} (written : Option W) (text : W → List ℕ) (kinds : W → ℕ) (scope : Option Query) (incarnation position max : ℕ) (bytes r1 r2 r3 r4 rest : List ℕ) → written ≢ None → Writes written text kinds scope → Found a_scope scope bytes r1 → Found a_place incarnation r1 r2
+pub since_no_room : (text : List ℕ) (kinds : Option ℕ) (scope : Option Query) (incarnation position max : ℕ) (bytes r1 r2 r3 r4 rest : List ℕ) → kinds ≢ None → Writes text kinds scope → Found a_scope scope bytes r1 → Found a_place incarnation r1 r2
     → Found a_place position r2 r3 → Found a_number max r3 r4 → Found an_end tt r4 rest → Takes since_word bytes (Err NoRoom)
-since_no_room written text kinds scope incarnation position max bytes r1 r2 r3 r4 rest some writes f1 f2 f3 f4 f5 =
-    (Since scope (cursor_of incarnation position) max, rest, since_whole scope incarnation position max bytes r1 r2 r3 r4 rest f1 f2 f3 f4 f5, takes_memory written text kinds scope writes some)
+since_no_room text kinds scope incarnation position max bytes r1 r2 r3 r4 rest some writes f1 f2 f3 f4 f5 =
+    (Since scope (cursor_of incarnation position) max, rest, since_whole scope incarnation position max bytes r1 r2 r3 r4 rest f1 f2 f3 f4 f5, takes_memory text kinds scope writes some)
 
 since_back : (m : ScriptCommand) (can : (taken_by since_word).Can m) → since_view.to (since_from m can).0 ≡ m
 unfolding since_from

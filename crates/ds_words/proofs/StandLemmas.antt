@@ -1,5 +1,5 @@
 -- What a command takes stands where its parts are spelled out.
-use Rattle.std.proofs.Common.{List, [], ◌∷◌, ◌++◌, Option, None, Some, refl}
+use Rattle.std.proofs.Common.{ℕ, List, [], ◌∷◌, ◌++◌, Option, None, Some, refl}
 use Rattle.std.specs.Fmt.{decimal}
 use Rattle.ds_names.specs.Endpoint.{endpoint_text}
 use Rattle.ds_names.specs.declared.key.Key.{Key}
@@ -10,13 +10,13 @@ use Rattle.ds_line.specs.Spelling.{space, newline, kind_word, quoted, body_parts
 use Rattle.ds_line.specs.ItemSpelling.{item_parts}
 use Rattle.ds_line.proofs.LineLemmas.{AllStand, part_stands, byte_stands, name_stands, body_stands}
 use Rattle.ds_words.specs.declared.command.ScriptCommand.{ScriptCommand}
-use Rattle.ds_words.specs.declared.command.ScriptCommand.TheVariants.{Offer, Show, All as Everything, Publish, Delete, Sweep, Retrieve, NameOf, Subscribe, Check, Map, Entries, Ring, Side as OnSide, Clear, Restart, Deliver, Since, Snapshot}
-use Rattle.ds_words.specs.declared.world.Portion.{Portion}
-use Rattle.ds_words.specs.declared.world.Portion.TheVariants.{Whole, First}
+use Rattle.ds_words.specs.declared.command.ScriptCommand.TheVariants.{Offer, Show, All as Everything, Publish, Delete, Sweep, Retrieve, NameOf, Subscribe, Check, Map, Entries, Ring, Side as OnSide, Clear, Restart, Deliver, Since, Snapshot, Page}
 use Rattle.ds_pattern.specs.declared.query.Query.{Query}
+use Rattle.ds_words.specs.Page.{range_parts}
 use Rattle.ds_words.specs.Scope.{scope_parts}
-use Rattle.ds_words.specs.World.{side_word, holder_word, portion_part}
-use Rattle.ds_words.specs.Command.{behind_word, initial_word, mode_word, key_parts, version_parts}
+use Rattle.ds_words.specs.World.{side_word, holder_word, count_part}
+use Rattle.ds_words.specs.Command.{behind_word, initial_word, mode_word}
+use Rattle.ds_words.specs.Key.{key_parts, version_parts}
 use Rattle.ds_words.proofs.OfferLemmas.{item_stands}
 
 delete_stands : (key : Key) (version : Version) → AllStand (key_parts key ++ space ∷ (version_parts version ++ newline ∷ [])) []
@@ -40,9 +40,21 @@ scope_stands (Some query) more h =
     part_stands (part Quoted (quoted query.text)) (space ∷ from_kinds) [] refl
     (byte_stands 32 from_kinds [] (part_stands (part Number (decimal query.kinds)) (space ∷ more) [] refl h))
 
-portion_stands : (portion : Portion) → AllStand (portion_part portion ∷ newline ∷ []) []
-portion_stands Whole = byte_stands 42 (newline ∷ []) [] (byte_stands 10 [] [] refl)
-portion_stands (First count) = part_stands (part Number (decimal count)) (newline ∷ []) [] refl (byte_stands 10 [] [] refl)
+count_stands : (count : Option ℕ) → AllStand (count_part count ∷ newline ∷ []) []
+count_stands None = byte_stands 42 (newline ∷ []) [] (byte_stands 10 [] [] refl)
+count_stands (Some n) = part_stands (part Number (decimal count)) (newline ∷ []) [] refl (byte_stands 10 [] [] refl)
+
+range_stands : (after : Option Key) (max : ℕ) → AllStand (range_parts after max ++ newline ∷ []) []
+range_stands None max =
+    let from_max : List Part = part Number (decimal max) ∷ newline ∷ [] in
+    name_stands (codes "-") from_max [] (byte_stands 32 from_max [] (part_stands (part Number (decimal max)) (newline ∷ []) [] refl (byte_stands 10 [] [] refl)))
+range_stands (Some key) max =
+    let from_max : List Part = part Number (decimal max) ∷ newline ∷ [] in
+    let from_kind : List Part = part Word (kind_word key.kind) ∷ space ∷ from_max in
+    name_stands key.name from_kind []
+    (byte_stands 32 from_kind []
+    (part_stands (part Word (kind_word key.kind)) (space ∷ from_max) [] refl
+    (byte_stands 32 from_max [] (part_stands (part Number (decimal max)) (newline ∷ []) [] refl (byte_stands 10 [] [] refl)))))
 
 pub command_stands : (command : ScriptCommand) → AllStand (behind_word command) []
 command_stands (Offer i) = byte_stands 32 (item_parts i) [] (item_stands i [])
@@ -147,14 +159,14 @@ command_stands (Restart side incarnation) =
     (byte_stands 32 from_incarnation []
     (part_stands (part Number (decimal incarnation)) (newline ∷ []) [] refl
     (byte_stands 10 [] [] refl))))
-command_stands (Deliver message holder portion) =
-    let from_portion : List Part = portion_part portion ∷ newline ∷ [] in
-    let from_holder : List Part = part Word (holder_word holder) ∷ space ∷ from_portion in
+command_stands (Deliver message holder count) =
+    let from_count : List Part = count_part count ∷ newline ∷ [] in
+    let from_holder : List Part = part Word (holder_word holder) ∷ space ∷ from_count in
     byte_stands 32 (part Number (decimal message) ∷ space ∷ from_holder) []
     (part_stands (part Number (decimal message)) (space ∷ from_holder) [] refl
     (byte_stands 32 from_holder []
-    (part_stands (part Word (holder_word holder)) (space ∷ from_portion) [] refl
-    (byte_stands 32 from_portion [] (portion_stands portion)))))
+    (part_stands (part Word (holder_word holder)) (space ∷ from_count) [] refl
+    (byte_stands 32 from_count [] (count_stands count)))))
 command_stands (Since scope cursor max) =
     let from_max : List Part = part Number (decimal max) ∷ newline ∷ [] in
     let from_position : List Part = part Number (decimal cursor.position) ∷ space ∷ from_max in

@@ -6,19 +6,17 @@ use Rattle.ds_line.specs.declared.part_fault.PartFault.TheVariants.{NoRoom}
 use Rattle.ds_line.proofs.PieceLemmas.{One, behind, Views, view_found, view_stops, first_stops, then_stops, both_found}
 use Rattle.ds_words.specs.declared.command.ScriptCommand.{ScriptCommand}
 use Rattle.ds_words.specs.declared.command.ScriptCommand.TheVariants.{Ring, Side as OnSide, Clear, Restart, Deliver}
-use Rattle.ds_words.specs.declared.world.Side.{Side}
-use Rattle.ds_words.specs.declared.world.Side.TheVariants.{A}
-use Rattle.ds_words.specs.declared.world.Holder.{Holder}
-use Rattle.ds_words.specs.declared.world.Holder.TheVariants.{Store}
-use Rattle.ds_words.specs.declared.world.Portion.{Portion}
-use Rattle.ds_words.specs.declared.world.Portion.TheVariants.{Whole}
+use Rattle.ds_replica.specs.declared.event.Side.{Side}
+use Rattle.ds_replica.specs.declared.event.Side.TheVariants.{A}
+use Rattle.ds_replica.specs.declared.event.Holder.{Holder}
+use Rattle.ds_replica.specs.declared.event.Holder.TheVariants.{Store}
 use Rattle.ds_words.specs.World.{ring_word, side_line_word, clear_word, restart_word, deliver_word}
 use Rattle.ds_words.specs.Command.{behind_word}
 use Rattle.ds_words.specs.Pieces.{a_place, an_end, taken_by}
-use Rattle.ds_words.specs.WorldPieces.{a_ring, a_side, a_holder, a_portion}
+use Rattle.ds_words.specs.WorldPieces.{a_ring, a_side, a_holder, a_count}
 use Rattle.ds_words.proofs.LineLemmas.{code}
 use Rattle.ds_words.proofs.PieceLemmas.{place_fixed, place_one}
-use Rattle.ds_words.proofs.WorldPieceLemmas.{ring_fixed, ring_one, side_fixed, side_one, holder_fixed, holder_one, portion_fixed, portion_one}
+use Rattle.ds_words.proofs.WorldPieceLemmas.{ring_fixed, ring_one, side_fixed, side_one, holder_fixed, holder_one, count_fixed, count_one}
 use Rattle.ds_words.proofs.OneLemmas.{one_behind, one_view, end_one}
 
 -- ---- ring
@@ -151,53 +149,53 @@ restart_one = one_view restart_line (taken_by restart_word) restart_view
 
 -- ---- deliver
 
-abbrev deliver_portion : Piece
-deliver_portion = behind a_portion (λ (_ : Portion). an_end)
+abbrev deliver_count : Piece
+deliver_count = behind a_count (λ (_ : Option ℕ). an_end)
 
 abbrev deliver_holder : Piece
-deliver_holder = behind a_holder (λ (_ : Holder). deliver_portion)
+deliver_holder = behind a_holder (λ (_ : Holder). deliver_count)
 
 abbrev deliver_line : Piece
 deliver_line = behind a_place (λ (_ : ℕ). deliver_holder)
 
 deliver_from : (m : ScriptCommand) → (taken_by deliver_word).Can m → (a : deliver_line.Of) × deliver_line.Can a × (deliver_line.parts a ≡ behind_word m)
-deliver_from (Deliver message holder portion) is = ((message, (holder, (portion, tt))), (is.0.0, (is.0.1, (is.0.2, tt))), refl)
+deliver_from (Deliver message holder count) is = ((message, (holder, (count, tt))), (is.0.0, (is.0.1, (is.0.2, tt))), refl)
 deliver_from m is = absurd (omega (arith, ap code is.1))
 
 abbrev deliver_view : Views deliver_line (taken_by deliver_word)
 deliver_view = record { to = λ x. Deliver x.0 x.1.0 x.1.1.0; can = λ x can. ((can.0, can.1.0, can.1.1.0), refl); parts = λ x can. refl; from = deliver_from }
 
 pub deliver_message_stops : (stop : PartFault) (bytes : List ℕ) → stop ≢ NoRoom → StopsIn a_place stop bytes → StopsIn (taken_by deliver_word) stop bytes
-deliver_message_stops stop bytes room s = view_stops deliver_line (taken_by deliver_word) deliver_view stop bytes (first_stops a_place (λ _. deliver_holder) 2 stop bytes place_fixed (λ x can. ((Store A, (Whole, tt)), (tt, (tt, tt)))) room s)
+deliver_message_stops stop bytes room s = view_stops deliver_line (taken_by deliver_word) deliver_view stop bytes (first_stops a_place (λ _. deliver_holder) 2 stop bytes place_fixed (λ x can. ((Store A, (None, tt)), (tt, (tt, tt)))) room s)
 
 deliver_behind_message : (message : ℕ) (stop : PartFault) (bytes r : List ℕ) → Found a_place message bytes r → StopsIn deliver_holder stop r → StopsIn (taken_by deliver_word) stop bytes
 deliver_behind_message message stop bytes r found s = view_stops deliver_line (taken_by deliver_word) deliver_view stop bytes (then_stops a_place (λ _. deliver_holder) 2 stop message bytes r place_fixed place_one found s)
 
 pub deliver_holder_stops : (message : ℕ) (stop : PartFault) (bytes r : List ℕ) → Found a_place message bytes r → stop ≢ NoRoom → StopsIn a_holder stop r → StopsIn (taken_by deliver_word) stop bytes
-deliver_holder_stops message stop bytes r found room s = deliver_behind_message message stop bytes r found (first_stops a_holder (λ _. deliver_portion) 2 stop r holder_fixed (λ x can. ((Whole, tt), (tt, tt))) room s)
+deliver_holder_stops message stop bytes r found room s = deliver_behind_message message stop bytes r found (first_stops a_holder (λ _. deliver_count) 2 stop r holder_fixed (λ x can. ((None, tt), (tt, tt))) room s)
 
-deliver_behind_holder : (message : ℕ) (holder : Holder) (stop : PartFault) (bytes r1 r2 : List ℕ) → Found a_place message bytes r1 → Found a_holder holder r1 r2 → StopsIn deliver_portion stop r2 → StopsIn (taken_by deliver_word) stop bytes
-deliver_behind_holder message holder stop bytes r1 r2 f1 f2 s = deliver_behind_message message stop bytes r1 f1 (then_stops a_holder (λ _. deliver_portion) 2 stop holder r1 r2 holder_fixed holder_one f2 s)
+deliver_behind_holder : (message : ℕ) (holder : Holder) (stop : PartFault) (bytes r1 r2 : List ℕ) → Found a_place message bytes r1 → Found a_holder holder r1 r2 → StopsIn deliver_count stop r2 → StopsIn (taken_by deliver_word) stop bytes
+deliver_behind_holder message holder stop bytes r1 r2 f1 f2 s = deliver_behind_message message stop bytes r1 f1 (then_stops a_holder (λ _. deliver_count) 2 stop holder r1 r2 holder_fixed holder_one f2 s)
 
-pub deliver_portion_stops : (message : ℕ) (holder : Holder) (stop : PartFault) (bytes r1 r2 : List ℕ) → Found a_place message bytes r1 → Found a_holder holder r1 r2 → stop ≢ NoRoom → StopsIn a_portion stop r2 → StopsIn (taken_by deliver_word) stop bytes
-deliver_portion_stops message holder stop bytes r1 r2 f1 f2 room s = deliver_behind_holder message holder stop bytes r1 r2 f1 f2 (first_stops a_portion (λ _. an_end) 2 stop r2 portion_fixed (λ x can. (tt, tt)) room s)
+pub deliver_count_stops : (message : ℕ) (holder : Holder) (stop : PartFault) (bytes r1 r2 : List ℕ) → Found a_place message bytes r1 → Found a_holder holder r1 r2 → stop ≢ NoRoom → StopsIn a_count stop r2 → StopsIn (taken_by deliver_word) stop bytes
+deliver_count_stops message holder stop bytes r1 r2 f1 f2 room s = deliver_behind_holder message holder stop bytes r1 r2 f1 f2 (first_stops a_count (λ _. an_end) 2 stop r2 count_fixed (λ x can. (tt, tt)) room s)
 
-pub deliver_end_stops : (message : ℕ) (holder : Holder) (portion : Portion) (stop : PartFault) (bytes r1 r2 r3 : List ℕ) → Found a_place message bytes r1 → Found a_holder holder r1 r2 → Found a_portion portion r2 r3 → StopsIn an_end stop r3
+pub deliver_end_stops : (message : ℕ) (holder : Holder) (count : Option ℕ) (stop : PartFault) (bytes r1 r2 r3 : List ℕ) → Found a_place message bytes r1 → Found a_holder holder r1 r2 → Found a_count count r2 r3 → StopsIn an_end stop r3
     → StopsIn (taken_by deliver_word) stop bytes
-deliver_end_stops message holder portion stop bytes r1 r2 r3 f1 f2 f3 s = deliver_behind_holder message holder stop bytes r1 r2 f1 f2 (then_stops a_portion (λ _. an_end) 2 stop portion r2 r3 portion_fixed portion_one f3 s)
+deliver_end_stops message holder count stop bytes r1 r2 r3 f1 f2 f3 s = deliver_behind_holder message holder stop bytes r1 r2 f1 f2 (then_stops a_count (λ _. an_end) 2 stop count r2 r3 count_fixed count_one f3 s)
 
-pub deliver_found : (message : ℕ) (holder : Holder) (portion : Portion) (bytes r1 r2 r3 rest : List ℕ) → Found a_place message bytes r1 → Found a_holder holder r1 r2 → Found a_portion portion r2 r3 → Found an_end tt r3 rest
-    → Found (taken_by deliver_word) (Deliver message holder portion) bytes rest
-deliver_found message holder portion bytes r1 r2 r3 rest f1 f2 f3 f4 =
-    view_found deliver_line (taken_by deliver_word) deliver_view (message, (holder, (portion, tt))) bytes rest
-    (both_found a_place (λ _. deliver_holder) message (holder, (portion, tt)) bytes r1 rest f1
-    (both_found a_holder (λ _. deliver_portion) holder (portion, tt) r1 r2 rest f2 (both_found a_portion (λ _. an_end) portion tt r2 r3 rest f3 f4)))
+pub deliver_found : (message : ℕ) (holder : Holder) (count : Option ℕ) (bytes r1 r2 r3 rest : List ℕ) → Found a_place message bytes r1 → Found a_holder holder r1 r2 → Found a_count count r2 r3 → Found an_end tt r3 rest
+    → Found (taken_by deliver_word) (Deliver message holder count) bytes rest
+deliver_found message holder count bytes r1 r2 r3 rest f1 f2 f3 f4 =
+    view_found deliver_line (taken_by deliver_word) deliver_view (message, (holder, (count, tt))) bytes rest
+    (both_found a_place (λ _. deliver_holder) message (holder, (count, tt)) bytes r1 rest f1
+    (both_found a_holder (λ _. deliver_count) holder (count, tt) r1 r2 rest f2 (both_found a_count (λ _. an_end) count tt r2 r3 rest f3 f4)))
 
 deliver_back : (m : ScriptCommand) (can : (taken_by deliver_word).Can m) → deliver_view.to (deliver_from m can).0 ≡ m
 unfolding deliver_from
-deliver_back (Deliver message holder portion) can = refl
+deliver_back (Deliver message holder count) can = refl
 deliver_back m can = absurd (omega (arith, ap code can.1))
 
 pub deliver_one : One (taken_by deliver_word)
 deliver_one = one_view deliver_line (taken_by deliver_word) deliver_view
-    (one_behind a_place (λ _. deliver_holder) place_one (λ _. one_behind a_holder (λ _. deliver_portion) holder_one (λ _. one_behind a_portion (λ _. an_end) portion_one (λ _. end_one)))) deliver_back
+    (one_behind a_place (λ _. deliver_holder) place_one (λ _. one_behind a_holder (λ _. deliver_count) holder_one (λ _. one_behind a_count (λ _. an_end) count_one (λ _. end_one)))) deliver_back

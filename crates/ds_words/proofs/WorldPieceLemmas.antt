@@ -1,5 +1,5 @@
 -- Each piece of a world's lines: it is missing where it has to stand, or it is read.
-use Rattle.std.proofs.Common.{◌≡◌, ◌≢◌, ℕ, ◌<◌, ◌≤◌, ◌^◌, Bool, true, false, ◌&&◌, ◌||◌, List, [], ◌∷◌, ◌++◌, length, get_or, drop, refl, sym, ap, subst, ◌∙◌, arith, append-nil}
+use Rattle.std.proofs.Common.{◌≡◌, ◌≢◌, ℕ, ◌<◌, ◌≤◌, ◌^◌, Bool, true, false, ◌&&◌, ◌||◌, List, [], ◌∷◌, ◌++◌, length, get_or, drop, Option, None, Some, refl, sym, ap, subst, ◌∙◌, arith, append-nil}
 use Rattle.std.specs.Char.{is_ascii_digit, is_ascii_uppercase, is_ascii_lowercase, is_ascii_alphanumeric}
 use Rattle.std.specs.Fmt.{decimal}
 use Rattle.std.specs.List.{list_all}
@@ -14,14 +14,12 @@ use Rattle.ds_line.specs.declared.part_fault.PartFault.TheVariants.{BadPart}
 use Rattle.ds_line.proofs.PartLemmas.{part_one, byte_begins}
 use Rattle.ds_line.proofs.OpeningLemmas.{text_at}
 use Rattle.ds_line.proofs.PieceLemmas.{Fixed, One, one_by}
-use Rattle.ds_words.specs.declared.world.Side.{Side}
-use Rattle.ds_words.specs.declared.world.Side.TheVariants.{A, B}
-use Rattle.ds_words.specs.declared.world.Holder.{Holder}
-use Rattle.ds_words.specs.declared.world.Holder.TheVariants.{Store, Map}
-use Rattle.ds_words.specs.declared.world.Portion.{Portion}
-use Rattle.ds_words.specs.declared.world.Portion.TheVariants.{Whole, First}
-use Rattle.ds_words.specs.World.{side_word, holder_word, IsHolder, portion_part, IsPortion}
-use Rattle.ds_words.specs.WorldPieces.{a_ring, a_side, a_holder, a_portion}
+use Rattle.ds_replica.specs.declared.event.Side.{Side}
+use Rattle.ds_replica.specs.declared.event.Side.TheVariants.{A, B}
+use Rattle.ds_replica.specs.declared.event.Holder.{Holder}
+use Rattle.ds_replica.specs.declared.event.Holder.TheVariants.{Store, Map}
+use Rattle.ds_words.specs.World.{side_word, holder_word, IsHolder, count_part, IsCount}
+use Rattle.ds_words.specs.WorldPieces.{a_ring, a_side, a_holder, a_count}
 use Rattle.ds_words.proofs.PieceLemmas.{one_part, no_part, number_part}
 use Rattle.ds_words.proofs.OneLemmas.{one_byte}
 
@@ -53,7 +51,7 @@ pub side_is_word : (side : Side) → list_all is_ascii_alphanumeric (side_word s
 side_is_word A = refl
 side_is_word B = refl
 
-abbrev first_byte : List ℕ → ℕ
+abbrev pub first_byte : List ℕ → ℕ
 first_byte text = get_or text 0 0
 
 sides_one : (a b : Side) → side_word a ≡ side_word b → a ≡ b
@@ -143,7 +141,7 @@ names_none word no_side no_map (Map map) is same = no_map map is same
 
 -- ---- how many items of it
 
-front_first : (t rest r : List ℕ) (b : ℕ) → t ++ rest ≡ b ∷ r → 0 < length t → first_byte t ≡ b
+pub front_first : (t rest r : List ℕ) (b : ℕ) → t ++ rest ≡ b ∷ r → 0 < length t → first_byte t ≡ b
 front_first [] rest r b same some = absurd (omega (arith, some))
 front_first (c ∷ t) rest r b same some = ap first_byte same
 
@@ -154,26 +152,26 @@ no_digit bytes r rest b n is low most begins =
     let first = front_first (decimal n) rest r b (sym begins.parts ∙ is) some in
     omega (arith, first, low, (value_more (decimal n) 0 some (digits_decimal own n most)).0)
 
-portion_none : (r : List ℕ) → ((rest : List ℕ) → r ≢ 42 ∷ rest) → ((n : ℕ) (rest : List ℕ) → n ≤ 4294967295 → ¬ Begins is_ascii_digit r (decimal n) rest) → (x : Portion) (rest : List ℕ) → IsPortion x → Begins (run_of (portion_part x).class) r (portion_part x).text rest → ⊥
-portion_none r star number Whole rest can begins = star rest begins.parts
-portion_none r star number (First n) rest can begins = number n rest (omega (arith, can)) begins
+count_none : (r : List ℕ) → ((rest : List ℕ) → r ≢ 42 ∷ rest) → ((n : ℕ) (rest : List ℕ) → n ≤ 4294967295 → ¬ Begins is_ascii_digit r (decimal n) rest) → (x : Option ℕ) (rest : List ℕ) → IsCount x → Begins (run_of (count_part x).class) r (count_part x).text rest → ⊥
+count_none r star number None rest can begins = star rest begins.parts
+count_none r star number (Some n) rest can begins = number n rest (omega (arith, can)) begins
 
-pub no_portion : (stop : PartFault) (bytes r : List ℕ) → bytes ≡ 32 ∷ r → stop ≡ BadPart (length r) → ((rest : List ℕ) → r ≢ 42 ∷ rest) → ((n : ℕ) (rest : List ℕ) → n ≤ 4294967295 → ¬ Begins is_ascii_digit r (decimal n) rest) → StopsIn a_portion stop bytes
-no_portion stop bytes r is at star number = no_part 32 Portion IsPortion portion_part Whole stop bytes r tt is at (λ x rest can begins. portion_none r star number x rest can begins)
+pub no_count : (stop : PartFault) (bytes r : List ℕ) → bytes ≡ 32 ∷ r → stop ≡ BadPart (length r) → ((rest : List ℕ) → r ≢ 42 ∷ rest) → ((n : ℕ) (rest : List ℕ) → n ≤ 4294967295 → ¬ Begins is_ascii_digit r (decimal n) rest) → StopsIn a_count stop bytes
+no_count stop bytes r is at star number = no_part 32 (Option ℕ) IsCount count_part None stop bytes r tt is at (λ x rest can begins. count_none r star number x rest can begins)
 
-pub portion_fixed : Fixed a_portion 2
-portion_fixed portion = refl
+pub count_fixed : Fixed a_count 2
+count_fixed count = refl
 
-abbrev portion_rest : Piece
-portion_rest = one_part Portion IsPortion portion_part
+abbrev count_rest : Piece
+count_rest = one_part (Option ℕ) IsCount count_part
 
-portions_one : (a b : Portion) (bytes r s : List ℕ) → Found portion_rest a bytes r → Found portion_rest b bytes s → (b ≡ a) × (s ≡ r)
-portions_one Whole Whole bytes r s fa fb = (refl, sym fb.front.2 ∙ ap (drop 1) (sym fb.front.1.parts ∙ fa.front.1.parts) ∙ fa.front.2)
-portions_one Whole (First n) bytes r s fa fb = absurd (no_digit bytes fa.front.0 fb.front.0 42 n fa.front.1.parts (omega arith) (omega (arith, fb.can)) fb.front.1)
-portions_one (First n) Whole bytes r s fa fb = absurd (no_digit bytes fb.front.0 fa.front.0 42 n fb.front.1.parts (omega arith) (omega (arith, fa.can)) fa.front.1)
-portions_one (First m) (First n) bytes r s fa fb =
+counts_one : (a b : Option ℕ) (bytes r s : List ℕ) → Found count_rest a bytes r → Found count_rest b bytes s → (b ≡ a) × (s ≡ r)
+counts_one None None bytes r s fa fb = (refl, sym fb.front.2 ∙ ap (drop 1) (sym fb.front.1.parts ∙ fa.front.1.parts) ∙ fa.front.2)
+counts_one None (Some n) bytes r s fa fb = absurd (no_digit bytes fa.front.0 fb.front.0 42 n fa.front.1.parts (omega arith) (omega (arith, fb.can)) fb.front.1)
+counts_one (Some n) None bytes r s fa fb = absurd (no_digit bytes fb.front.0 fa.front.0 42 n fb.front.1.parts (omega arith) (omega (arith, fa.can)) fa.front.1)
+counts_one (Some m) (Some n) bytes r s fa fb =
     let one = part_one Number bytes (decimal m) (decimal n) fa.front.0 fb.front.0 (m, omega (arith, fa.can), refl) (n, omega (arith, fb.can), refl) fa.front.1 fb.front.1 in
-    (ap First (sym (decimal_injective m n (omega (arith, fa.can)) (omega (arith, fb.can)) one.0)), sym fb.front.2 ∙ sym one.1 ∙ fa.front.2)
+    (ap Some (sym (decimal_injective m n (omega (arith, fa.can)) (omega (arith, fb.can)) one.0)), sym fb.front.2 ∙ sym one.1 ∙ fa.front.2)
 
-pub portion_one : One a_portion
-portion_one = one_byte 32 portion_rest portions_one
+pub count_one : One a_count
+count_one = one_byte 32 count_rest counts_one

@@ -20,11 +20,12 @@ use Rattle.ds_words.specs.Lines.{ended, IsUnbroken}
 use Rattle.ds_words.specs.declared.fault.CommandFault.{CommandFault}
 use Rattle.ds_words.specs.declared.fault.CommandFault.TheVariants.{BadLine, NoRoom}
 use Rattle.ds_words.specs.declared.command.ScriptCommand.{ScriptCommand}
-use Rattle.ds_words.specs.declared.command.ScriptCommand.TheVariants.{Offer, Show, All, Publish, Delete, Sweep, Retrieve, NameOf, Subscribe, Check, Map, Entries, Ring, Side, Clear, Restart, Deliver, Since, Snapshot}
-use Rattle.ds_feed.specs.declared.cursor.Cursor.{Cursor}
+use Rattle.ds_words.specs.declared.command.ScriptCommand.TheVariants.{Offer, Show, All, Publish, Delete, Sweep, Retrieve, NameOf, Subscribe, Check, Map, Entries, Ring, Side, Clear, Restart, Deliver, Since, Snapshot, Page}
+use Rattle.ds_words.specs.Key.{key_parts, version_parts}
+use Rattle.ds_words.specs.Page.{page_word, range_parts, IsAfter}
 use Rattle.ds_words.specs.Query.{IsQuery, query_parts}
 use Rattle.ds_words.specs.Scope.{scope_parts, IsScope, is_all, store_scope, ScopeTakesMemory}
-use Rattle.ds_words.specs.World.{ring_word, side_line_word, clear_word, restart_word, deliver_word, since_word, snapshot_word, side_word, holder_word, IsHolder, portion_part, IsPortion}
+use Rattle.ds_words.specs.World.{ring_word, side_line_word, clear_word, restart_word, deliver_word, since_word, snapshot_word, side_word, holder_word, IsHolder, count_part, IsCount}
 
 -- `offer`
 abbrev pub offer_word : List ℕ
@@ -84,14 +85,6 @@ abbrev pub mode_word : Bool → List ℕ
 mode_word true = codes "over"
 mode_word false = codes "new"
 
--- the name and the word of the kind
-abbrev pub key_parts : Key → List Part
-key_parts key = part Name key.name ∷ space ∷ part Word (kind_word key.kind) ∷ []
-
--- the epoch, a dot, and the sequence number
-abbrev pub version_parts : Version → List Part
-version_parts version = part Number (decimal version.epoch) ∷ byte 46 ∷ part Number (decimal version.seq) ∷ []
-
 -- the word of a command
 abbrev pub word_of : ScriptCommand → List ℕ
 word_of (Offer i) = offer_word
@@ -110,9 +103,10 @@ word_of (Ring ring) = ring_word
 word_of (Side side) = side_line_word
 word_of (Clear map) = clear_word
 word_of (Restart side incarnation) = restart_word
-word_of (Deliver message holder portion) = deliver_word
+word_of (Deliver message holder count) = deliver_word
 word_of (Since scope cursor max) = since_word
 word_of (Snapshot scope) = snapshot_word
+word_of (Page scope after max) = page_word
 
 -- the parts behind it: what the command takes, and the newline
 abbrev pub behind_word : ScriptCommand → List Part
@@ -138,11 +132,12 @@ behind_word (Ring ring) = space ∷ part Number (decimal ring) ∷ newline ∷ [
 behind_word (Side side) = space ∷ part Word (side_word side) ∷ newline ∷ []
 behind_word (Clear map) = space ∷ part Number (decimal map) ∷ newline ∷ []
 behind_word (Restart side incarnation) = space ∷ part Word (side_word side) ∷ space ∷ part Number (decimal incarnation) ∷ newline ∷ []
-behind_word (Deliver message holder portion) =
-    space ∷ part Number (decimal message) ∷ space ∷ part Word (holder_word holder) ∷ space ∷ portion_part portion ∷ newline ∷ []
+behind_word (Deliver message holder count) =
+    space ∷ part Number (decimal message) ∷ space ∷ part Word (holder_word holder) ∷ space ∷ count_part count ∷ newline ∷ []
 behind_word (Since scope cursor max) =
     space ∷ (scope_parts scope ++ space ∷ part Number (decimal cursor.incarnation) ∷ space ∷ part Number (decimal cursor.position) ∷ space ∷ part Number (decimal max) ∷ newline ∷ [])
 behind_word (Snapshot scope) = space ∷ (scope_parts scope ++ newline ∷ [])
+behind_word (Page scope after max) = space ∷ (scope_parts scope ++ space ∷ (range_parts after max ++ newline ∷ []))
 
 -- the parts of a command's line: its word, and what it takes
 abbrev pub command_parts : ScriptCommand → List Part
@@ -172,9 +167,10 @@ IsCommand (Ring ring) = (0 < ring) × (ring ≤ 4096)
 IsCommand (Side side) = Unit {0}
 IsCommand (Clear map) = map < 2 ^ 64
 IsCommand (Restart side incarnation) = incarnation < 2 ^ 64
-IsCommand (Deliver message holder portion) = (message < 2 ^ 64) × IsHolder holder × IsPortion portion
+IsCommand (Deliver message holder count) = (message < 2 ^ 64) × IsHolder holder × IsCount count
 IsCommand (Since scope cursor max) = IsScope scope × (cursor.incarnation < 2 ^ 64) × (cursor.position < 2 ^ 64) × (max < 2 ^ 32)
 IsCommand (Snapshot scope) = IsScope scope
+IsCommand (Page scope after max) = IsScope scope × IsAfter after × (max < 2 ^ 32)
 
 -- the command has a text, a blob or a pattern
 abbrev pub TakesMemory : ScriptCommand → Type 0
@@ -184,6 +180,7 @@ TakesMemory (Subscribe sub query initial overwrite) = Unit {0}
 TakesMemory (Map query) = Unit {0}
 TakesMemory (Since scope cursor max) = ScopeTakesMemory scope
 TakesMemory (Snapshot scope) = ScopeTakesMemory scope
+TakesMemory (Page scope after max) = ScopeTakesMemory scope
 TakesMemory _ = ⊥
 
 -- what the line asks of a store takes no memory: it has no item, no value and no pattern, or the line asks nothing
@@ -204,14 +201,16 @@ is_plain (Ring ring) = true
 is_plain (Side side) = true
 is_plain (Clear map) = true
 is_plain (Restart side incarnation) = true
-is_plain (Deliver message holder portion) = true
+is_plain (Deliver message holder count) = true
 is_plain (Since scope cursor max) = is_all scope
 is_plain (Snapshot scope) = is_all scope
+is_plain (Page scope after max) = is_all scope
 
 -- the line has a scope
 abbrev pub has_scope : ScriptCommand → Bool
 has_scope (Since scope cursor max) = true
 has_scope (Snapshot scope) = true
+has_scope (Page scope after max) = true
 has_scope _ = false
 
 -- what the line asks of a store: an offer is a Merge of one item
@@ -232,34 +231,49 @@ store_command (Ring ring) = None
 store_command (Side side) = None
 store_command (Clear map) = None
 store_command (Restart side incarnation) = None
-store_command (Deliver message holder portion) = None
+store_command (Deliver message holder count) = None
 store_command (Since scope cursor max) = Some (commands.Since (store_scope scope) cursor max)
 store_command (Snapshot scope) = Some (commands.Snapshot (store_scope scope))
+store_command (Page scope after max) = Some (commands.Page (store_scope scope) after max)
 
--- ---- a line with its newline
+-- ---- a line with its newline, where some of the commands may stand
 
--- the bytes are no command's line, and the first part of one that can't be read begins at the place
-pub record IsCommandFault (bytes : List ℕ) (place : ℕ) : Type 0 where
-  pub none : (command : ScriptCommand) → IsCommand command → bytes ≢ texts (command_parts command)
-  pub first : IsFaultPlace IsCommand command_parts bytes place
+-- the bytes are the line of no such command, and the first part of one that can't be read begins at the place
+pub record IsFaultAmong (May : ScriptCommand → Type 0) (bytes : List ℕ) (place : ℕ) : Type 0 where
+  pub none : (command : ScriptCommand) → May command → bytes ≢ texts (command_parts command)
+  pub first : IsFaultPlace May command_parts bytes place
 
 -- what the reader of a line, newline included, answers: there is no room for texts, blobs and patterns alone
+abbrev pub ReadsAs : (ScriptCommand → Type 0) → List ℕ → Result ScriptCommand CommandFault → Type 0
+ReadsAs May bytes (Ok command) = May command × (bytes ≡ texts (command_parts command))
+ReadsAs May bytes (Err (BadLine place expected)) = IsFaultAmong May bytes place
+ReadsAs May bytes (Err NoRoom) = (command : ScriptCommand) × May command × (bytes ≡ texts (command_parts command)) × TakesMemory command
+
+-- the bytes are no command's line
+abbrev pub IsCommandFault : List ℕ → ℕ → Type 0
+IsCommandFault bytes place = IsFaultAmong IsCommand bytes place
+
+-- each command may stand there
 abbrev pub Reads : List ℕ → Result ScriptCommand CommandFault → Type 0
-Reads bytes (Ok command) = IsCommand command × (bytes ≡ texts (command_parts command))
-Reads bytes (Err (BadLine place expected)) = IsCommandFault bytes place
-Reads bytes (Err NoRoom) = (command : ScriptCommand) × IsCommand command × (bytes ≡ texts (command_parts command)) × TakesMemory command
+Reads bytes result = ReadsAs IsCommand bytes result
 
 -- ---- lines
 
--- the line, without its newline, is the command's
-pub record IsLineOf (command : ScriptCommand) (line : List ℕ) : Type 0 where
-  pub written : IsCommand command
+-- the line, without its newline, is the command's, which may stand there
+pub record IsLineAs (May : ScriptCommand → Type 0) (command : ScriptCommand) (line : List ℕ) : Type 0 where
+  pub written : May command
   pub text : ended line ≡ texts (command_parts command)
   pub short : length line ≤ 4096
 
 -- a line above 4096 bytes is bad there, whatever it holds
+abbrev pub IsBadLineAs : (ScriptCommand → Type 0) → List ℕ → ℕ → Type 0
+IsBadLineAs May line place = ((4096 < length line) × (place ≡ 4096)) ⊎ ((length line ≤ 4096) × IsFaultAmong May (ended line) place)
+
+abbrev pub IsLineOf : ScriptCommand → List ℕ → Type 0
+IsLineOf command line = IsLineAs IsCommand command line
+
 abbrev pub IsBadLine : List ℕ → ℕ → Type 0
-IsBadLine line place = ((4096 < length line) × (place ≡ 4096)) ⊎ ((length line ≤ 4096) × IsCommandFault (ended line) place)
+IsBadLine line place = IsBadLineAs IsCommand line place
 
 -- why a line isn't read: it is bad, or it is a command's, and there is no room for its text, blob or pattern
 abbrev pub IsLineFault : CommandFault → List ℕ → Type 0

@@ -2,7 +2,7 @@
 use Rattle.std.specs.Prelude.{◌≡◌, ℕ, Bool, true, false, List, [], ◌∷◌, Option, None, Some}
 use Rattle.ds_line.specs.Part.{Part, byte}
 use Rattle.ds_line.specs.Spelling.{space, escaped}
-use Rattle.ds_line.specs.Piece.{Piece}
+use Rattle.ds_line.specs.Piece.{Piece, Found}
 use Rattle.ds_pattern.specs.declared.query.Query.{Query}
 use Rattle.ds_machine.specs.declared.command.Scope.{Scope}
 use Rattle.ds_machine.specs.declared.command.Scope.TheVariants.{All, Under}
@@ -37,9 +37,17 @@ ScopeTakesMemory (Some query) = Unit {0}
 abbrev pub a_scope : Piece
 a_scope = record { Of = Option Query; Can = IsScope; parts = λ (scope : Option Query). space ∷ scope_parts scope }
 
--- what is written for a scope: nothing for all keys, else the text between the quotes and the kinds
-abbrev pub Writes : {W : Type 0} → Option W → (W → List ℕ) → (W → ℕ) → Option Query → Type 0
-Writes None text kinds None = Unit {0}
-Writes None text kinds (Some query) = ⊥
-Writes (Some w) text kinds None = ⊥
-Writes (Some w) text kinds (Some query) = (text w ≡ escaped query.text) × (query.kinds ≡ kinds w)
+-- what is written for a scope: no kinds for all keys, else the text between the quotes, and the kinds
+abbrev pub Writes : List ℕ → Option ℕ → Option Query → Type 0
+Writes text None None = Unit {0}
+Writes text None (Some query) = ⊥
+Writes text (Some kinds) None = ⊥
+Writes text (Some kinds) (Some query) = (text ≡ escaped query.text) × (query.kinds ≡ kinds)
+
+-- it is written for a scope
+abbrev pub IsWrittenScope : List ℕ → Option ℕ → Type 0
+IsWrittenScope text kinds = (scope : Option Query) × IsScope scope × Writes text kinds scope
+
+-- a scope is found that is written so
+abbrev pub FindsScope : List ℕ → Option ℕ → List ℕ → List ℕ → Type 0
+FindsScope text kinds bytes rest = (scope : Option Query) × Writes text kinds scope × Found a_scope scope bytes rest

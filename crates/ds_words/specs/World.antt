@@ -1,13 +1,11 @@
 -- The words of a world: of its sides, and of whom a message is given to.
-use Rattle.std.specs.Prelude.{ℕ, ◌<◌, ◌^◌, List, [], ◌∷◌, codes}
+use Rattle.std.specs.Prelude.{ℕ, ◌<◌, ◌^◌, List, [], ◌∷◌, codes, Option, None, Some}
 use Rattle.std.specs.Fmt.{decimal}
 use Rattle.ds_line.specs.Part.{Part, part, byte, Number}
-use Rattle.ds_words.specs.declared.world.Side.{Side}
-use Rattle.ds_words.specs.declared.world.Side.TheVariants.{A, B}
-use Rattle.ds_words.specs.declared.world.Holder.{Holder}
-use Rattle.ds_words.specs.declared.world.Holder.TheVariants.{Store, Map}
-use Rattle.ds_words.specs.declared.world.Portion.{Portion}
-use Rattle.ds_words.specs.declared.world.Portion.TheVariants.{Whole, First}
+use Rattle.ds_replica.specs.declared.event.Side.{Side}
+use Rattle.ds_replica.specs.declared.event.Side.TheVariants.{A, B}
+use Rattle.ds_replica.specs.declared.event.Holder.{Holder}
+use Rattle.ds_replica.specs.declared.event.Holder.TheVariants.{Store, Map}
 
 -- `ring`
 abbrev pub ring_word : List ℕ
@@ -53,11 +51,11 @@ IsHolder (Store side) = Unit {0}
 IsHolder (Map map) = map < 2 ^ 64
 
 -- `*`, or how many items
-abbrev pub portion_part : Portion → Part
-portion_part Whole = byte 42
-portion_part (First count) = part Number (decimal count)
+abbrev pub count_part : Option ℕ → Part
+count_part None = byte 42
+count_part (Some n) = part Number (decimal n)
 
 -- the number of items is below 2^32
-abbrev pub IsPortion : Portion → Type 0
-IsPortion Whole = Unit {0}
-IsPortion (First count) = count < 2 ^ 32
+abbrev pub IsCount : Option ℕ → Type 0
+IsCount None = Unit {0}
+IsCount (Some n) = n < 2 ^ 32

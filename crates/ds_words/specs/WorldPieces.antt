@@ -1,13 +1,12 @@
 -- What the readers of the pieces of a world's lines find.
-use Rattle.std.specs.Prelude.{ℕ, ◌<◌, ◌≤◌, [], ◌∷◌}
+use Rattle.std.specs.Prelude.{ℕ, ◌<◌, ◌≤◌, [], ◌∷◌, Option}
 use Rattle.std.specs.Fmt.{decimal}
 use Rattle.ds_line.specs.Part.{part, Word, Number}
 use Rattle.ds_line.specs.Spelling.{space}
 use Rattle.ds_line.specs.Piece.{Piece}
-use Rattle.ds_words.specs.World.{side_word, holder_word, IsHolder, portion_part, IsPortion}
-use Rattle.ds_words.specs.declared.world.Side.{Side}
-use Rattle.ds_words.specs.declared.world.Holder.{Holder}
-use Rattle.ds_words.specs.declared.world.Portion.{Portion}
+use Rattle.ds_words.specs.World.{side_word, holder_word, IsHolder, count_part, IsCount}
+use Rattle.ds_replica.specs.declared.event.Side.{Side}
+use Rattle.ds_replica.specs.declared.event.Holder.{Holder}
 
 -- how many changes a journal has room for
 abbrev pub a_ring : Piece
@@ -22,5 +21,5 @@ abbrev pub a_holder : Piece
 a_holder = record { Of = Holder; Can = IsHolder; parts = λ (holder : Holder). space ∷ part Word (holder_word holder) ∷ [] }
 
 -- how many items, or all
-abbrev pub a_portion : Piece
-a_portion = record { Of = Portion; Can = IsPortion; parts = λ (portion : Portion). space ∷ portion_part portion ∷ [] }
+abbrev pub a_count : Piece
+a_count = record { Of = Option ℕ; Can = IsCount; parts = λ (count : Option ℕ). space ∷ count_part count ∷ [] }

@@ -14,8 +14,8 @@ use std::alloc::Global;
 
 impl ScriptCommand {
     /// The store's command of the line, with copies of what the line has. `None` for a line that asks nothing of a
-    /// store: `show`, `all`, `map`, `entries`, and what acts on a world. An `offer` is a Merge of one item. NoRoom: out of memory for the
-    /// copies of an item, a value or a pattern, and for no other line.
+    /// store: `show`, `all`, `map`, `entries`, `ring`, `side`, `clear`, `restart` and `deliver`. An `offer` is a Merge of one
+    /// item. NoRoom: out of memory for the copies of an item, a value or a pattern, and for no other line.
     pub fn store_command(&self, alloc: Global) -> Result<Option<Command>, NoRoom>
         ensures command { IfOk result (λ command. command ≡ store_command self.now) }
         ensures room { OnErr result (is_plain self.now ≡ false) }
@@ -46,9 +46,9 @@ impl ScriptCommand {
                 initial: *initial,
                 overwrite: *overwrite,
             })),
-            ScriptCommand::Since { .. } | ScriptCommand::Snapshot { .. } => {
-                self.scoped_command(alloc)
-            }
+            ScriptCommand::Since { .. }
+            | ScriptCommand::Snapshot { .. }
+            | ScriptCommand::Page { .. } => self.scoped_command(alloc),
             _ => Ok(self.plain_command()),
         }
     }
@@ -93,6 +93,11 @@ impl ScriptCommand {
             ScriptCommand::Snapshot { scope } => Ok(Some(Command::Snapshot {
                 scope: into_scope(scope),
             })),
+            ScriptCommand::Page { scope, after, max } => Ok(Some(Command::Page {
+                scope: into_scope(scope),
+                after,
+                max,
+            })),
             plain => Ok(plain.plain_command()),
         }
     }
@@ -112,14 +117,19 @@ impl ScriptCommand {
             ScriptCommand::Snapshot { scope } => Ok(Some(Command::Snapshot {
                 scope: copied_scope(alloc, scope)?,
             })),
+            ScriptCommand::Page { scope, after, max } => Ok(Some(Command::Page {
+                scope: copied_scope(alloc, scope)?,
+                after: *after,
+                max: *max,
+            })),
             _ => unreachable!(),
         }
     }
 
     // The store's command of a line that asks for what takes no memory, and `None` for one that asks nothing.
     fn plain_command(&self) -> Option<Command>
-        requires { is_plain self.now ≡ true }
-        requires { has_scope self.now ≡ false }
+        requires plain { is_plain self.now ≡ true }
+        requires unscoped { has_scope self.now ≡ false }
         ensures { result ≡ store_command self.now }
     {
         match self {

@@ -104,8 +104,8 @@ impl Rest<'_> {
         Ok(name)
     }
 
-    // Reads the word of a kind.
-    fn kind(&mut self) -> Result<Kind, PartFault>
+    /// Reads the word of a kind.
+    pub fn kind(&mut self) -> Result<Kind, PartFault>
         ensures found { IfOk result (λ kind. Found a_kind kind self.old.bytes.now self.new.bytes.now) }
         ensures stop { IfErr result (λ stop. StopsIn a_kind stop self.old.bytes.now) }
         ensures room { IfErr result (λ stop. stop ≢ NoRoom) }

@@ -13,7 +13,7 @@ use crate::lines::{
     show_at, subscribe_at, sweep_at,
 };
 use crate::pieces::Rest;
-use crate::scope_lines::{since_at, snapshot_at};
+use crate::scope_lines::{page_at, since_at, snapshot_at};
 use crate::word::{Word, word_of};
 use crate::world_lines::{clear_at, deliver_at, restart_at, ring_at, side_at};
 use ds_line::{Expected, PartFault, word_at};
@@ -102,5 +102,6 @@ fn behind_word(alloc: Global, word: Word, rest: &mut Rest) -> Result<ScriptComma
         Word::Deliver => deliver_at(rest),
         Word::Since => since_at(alloc, rest),
         Word::Snapshot => snapshot_at(alloc, rest),
+        Word::Page => page_at(alloc, rest),
     }
 }

@@ -1,10 +1,9 @@
 //! Scopes as lines write them: `*`, or a query.
 
-ghost use Rattle.std.specs.Prelude.{◌≡◌, ◌≢◌, Option, None, IfOk, IfErr, OnErr};
-ghost use Rattle.ds_line.specs.Piece.{Found, StopsIn};
+ghost use Rattle.std.specs.Prelude.{◌≢◌, None, IfOk, IfErr, OnErr};
+ghost use Rattle.ds_line.specs.Piece.{StopsIn};
 ghost use Rattle.ds_line.specs.declared.part_fault.PartFault.TheVariants.{NoRoom as TheStopForRoom};
-ghost use Rattle.ds_pattern.specs.declared.query.Query.{Query};
-ghost use Rattle.ds_words.specs.Scope.{a_scope, IsScope, Writes};
+ghost use Rattle.ds_words.specs.Scope.{a_scope, FindsScope, IsWrittenScope, Writes};
 
 use crate::pieces::Rest;
 use crate::query::{query_of, quoted_at};
@@ -15,9 +14,9 @@ use std::alloc::Global;
 
 impl<'a> Rest<'a> {
     /// Reads `*`, or a pattern in quotes and the mask of some kinds, and gives what is written between the quotes with
-    /// the kinds: only where the whole line is read does the pattern take memory.
-    pub fn scope(&mut self) -> Result<Option<(&'a [u8], Kinds)>, PartFault>
-        ensures found { IfOk result (λ written. (scope : Option Query) × Writes written (λ w. w.0.now) (λ w. w.1) scope × Found a_scope scope self.old.bytes.now self.new.bytes.now) }
+    /// the kinds, which are `None` for `*`: only where the whole line is read does the pattern take memory.
+    pub fn scope(&mut self) -> Result<(&'a [u8], Option<Kinds>), PartFault>
+        ensures found { IfOk result (λ written. FindsScope written.0.now written.1 self.old.bytes.now self.new.bytes.now) }
         ensures stop { IfErr result (λ stop. StopsIn a_scope stop self.old.bytes.now) }
         ensures room { IfErr result (λ stop. stop ≢ TheStopForRoom) }
     {
@@ -25,28 +24,29 @@ impl<'a> Rest<'a> {
         self.expected = Expected::Scope;
         if let Some(rest) = read_byte(self.bytes, b'*') {
             self.bytes = rest;
-            return Ok(None);
+            return Ok((rest, None));
         }
         let Some((text, rest)) = quoted_at(self.bytes) else {
             return Err(stop_at(self.bytes));
         };
         self.bytes = rest;
         let kinds = self.kinds()?;
-        Ok(Some((text, kinds)))
+        Ok((text, Some(kinds)))
     }
 }
 
 /// The scope that is written so: `None` for all keys. NoRoom: out of memory for a pattern.
 pub(crate) fn scope_of(
     alloc: Global,
-    written: Option<(&[u8], Kinds)>,
+    text: &[u8],
+    kinds: Option<Kinds>,
 ) -> Result<Option<Query>, NoRoom>
-    requires { (scope : Option Query) × IsScope scope × Writes written (λ w. w.0.now) (λ w. w.1) scope }
-    ensures scope { IfOk result (λ scope. Writes written (λ w. w.0.now) (λ w. w.1) scope) }
-    ensures room { OnErr result (written ≢ None) }
+    requires { IsWrittenScope text.now kinds }
+    ensures scope { IfOk result (λ scope. Writes text.now kinds scope) }
+    ensures room { OnErr result (kinds ≢ None) }
 {
-    match written {
+    match kinds {
         None => Ok(None),
-        Some((text, kinds)) => Ok(Some(query_of(alloc, text, kinds)?)),
+        Some(kinds) => Ok(Some(query_of(alloc, text, kinds)?)),
     }
 }

@@ -1,5 +1,6 @@
 //! What the lines that have a scope have behind their word.
 
+ghost use Rattle.ds_words.specs.Page.{page_word};
 ghost use Rattle.ds_words.specs.World.{since_word, snapshot_word};
 ghost use Rattle.ds_words.specs.Pieces.{Takes};
 
@@ -14,12 +15,12 @@ use std::alloc::Global;
 pub(crate) fn since_at(alloc: Global, rest: &mut Rest) -> Result<ScriptCommand, PartFault>
     ensures { Takes since_word rest.old.bytes.now result }
 {
-    let written = rest.scope()?;
+    let (text, kinds) = rest.scope()?;
     let incarnation = rest.place(Expected::Incarnation)?;
     let position = rest.place(Expected::Position)?;
     let max = rest.number(Expected::Max)?;
     rest.end()?;
-    let Ok(scope) = scope_of(alloc, written) else {
+    let Ok(scope) = scope_of(alloc, text, kinds) else {
         return Err(PartFault::NoRoom);
     };
     let cursor = Cursor {
@@ -33,10 +34,23 @@ pub(crate) fn since_at(alloc: Global, rest: &mut Rest) -> Result<ScriptCommand, 
 pub(crate) fn snapshot_at(alloc: Global, rest: &mut Rest) -> Result<ScriptCommand, PartFault>
     ensures { Takes snapshot_word rest.old.bytes.now result }
 {
-    let written = rest.scope()?;
+    let (text, kinds) = rest.scope()?;
     rest.end()?;
-    let Ok(scope) = scope_of(alloc, written) else {
+    let Ok(scope) = scope_of(alloc, text, kinds) else {
         return Err(PartFault::NoRoom);
     };
     Ok(ScriptCommand::Snapshot { scope })
+}
+
+/// Reads what follows `page`.
+pub(crate) fn page_at(alloc: Global, rest: &mut Rest) -> Result<ScriptCommand, PartFault>
+    ensures { Takes page_word rest.old.bytes.now result }
+{
+    let (text, kinds) = rest.scope()?;
+    let (after, max) = rest.range()?;
+    rest.end()?;
+    let Ok(scope) = scope_of(alloc, text, kinds) else {
+        return Err(PartFault::NoRoom);
+    };
+    Ok(ScriptCommand::Page { scope, after, max })
 }

@@ -26,6 +26,7 @@ pub enum Word {
     Deliver,
     Since,
     Snapshot,
+    Page,
 }
 
 /// The command's word that a text is.
@@ -81,6 +82,8 @@ fn world_word_of(text: &[u8]) -> Option<Word>
         Some(Word::Since)
     } else if text == b"snapshot".as_slice() {
         Some(Word::Snapshot)
+    } else if text == b"page".as_slice() {
+        Some(Word::Page)
     } else {
         None
     }

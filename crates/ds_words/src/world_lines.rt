@@ -50,11 +50,11 @@ pub(crate) fn deliver_at(rest: &mut Rest) -> Result<ScriptCommand, PartFault>
 {
     let message = rest.place(Expected::Message)?;
     let holder = rest.holder()?;
-    let portion = rest.portion()?;
+    let count = rest.count()?;
     rest.end()?;
     Ok(ScriptCommand::Deliver {
         message,
         holder,
-        portion,
+        count,
     })
 }

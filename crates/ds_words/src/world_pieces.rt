@@ -4,15 +4,15 @@ ghost use Rattle.std.specs.Prelude.{◌≡◌, ◌≢◌, ◌∷◌, ◌<◌, �
 ghost use Rattle.std.specs.Fmt.{decimal};
 ghost use Rattle.ds_line.specs.Piece.{Found, StopsIn};
 ghost use Rattle.ds_line.specs.declared.part_fault.PartFault.TheVariants.{NoRoom};
-ghost use Rattle.ds_words.specs.declared.world.Holder.{Holder};
-ghost use Rattle.ds_words.specs.declared.world.Side.{Side};
+ghost use Rattle.ds_replica.specs.declared.event.Holder.{Holder};
+ghost use Rattle.ds_replica.specs.declared.event.Side.{Side};
 ghost use Rattle.ds_words.specs.World.{side_word, holder_word, IsHolder};
-ghost use Rattle.ds_words.specs.WorldPieces.{a_ring, a_side, a_holder, a_portion};
+ghost use Rattle.ds_words.specs.WorldPieces.{a_ring, a_side, a_holder, a_count};
 
 use crate::pieces::Rest;
-use crate::world::{Holder, Portion, Side};
 use ds_line::{Expected, PartFault, stop_at, word_at};
 use ds_names::{read_byte, read_decimal};
+use ds_replica::{Holder, Side};
 
 impl Rest<'_> {
     /// Reads how many changes a journal has room for.
@@ -66,22 +66,22 @@ impl Rest<'_> {
     }
 
     /// Reads how many items are given, or `*`.
-    pub fn portion(&mut self) -> Result<Portion, PartFault>
-        ensures found { IfOk result (λ portion. Found a_portion portion self.old.bytes.now self.new.bytes.now) }
-        ensures stop { IfErr result (λ stop. StopsIn a_portion stop self.old.bytes.now) }
+    pub fn count(&mut self) -> Result<Option<u32>, PartFault>
+        ensures found { IfOk result (λ count. Found a_count count self.old.bytes.now self.new.bytes.now) }
+        ensures stop { IfErr result (λ stop. StopsIn a_count stop self.old.bytes.now) }
         ensures room { IfErr result (λ stop. stop ≢ NoRoom) }
     {
         self.byte(b' ', Expected::Space)?;
-        self.expected = Expected::Portion;
+        self.expected = Expected::Count;
         if let Some(rest) = read_byte(self.bytes, b'*') {
             self.bytes = rest;
-            return Ok(Portion::Whole);
+            return Ok(None);
         }
         let Some((number, rest)) = read_decimal(self.bytes, 4294967295) else {
             return Err(stop_at(self.bytes));
         };
         self.bytes = rest;
-        Ok(Portion::First(number as u32))
+        Ok(Some(number as u32))
     }
 }
 
@@ -119,7 +119,7 @@ fn holder_of(word: &[u8]) -> Option<Holder>
         return Some(Holder::Store(side));
     }
     match map_of(word) {
-        Some(map) => Some(Holder::Map(map)),
+        Some(map) => Some(Holder::Map(map as usize)),
         None => None,
     }
 }

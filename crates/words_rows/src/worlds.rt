@@ -51,12 +51,12 @@ fn rings_and_sides_are_read(rt: HostRuntime) {
 #[test]
 fn deliveries_are_read(rt: HostRuntime) {
     let alloc = rt.alloc();
-    let deliver = |message, holder, portion| ScriptCommand::Deliver {
+    let deliver = |message, holder, count| ScriptCommand::Deliver {
         message,
         holder,
-        portion,
+        count,
     };
-    let all = deliver(0, Holder::Store(Side::B), Portion::Whole);
+    let all = deliver(0, Holder::Store(Side::B), None);
     is_read(&rt, alloc, b"deliver 0 b *\n", all);
     let some = deliver(12, Holder::Map(30), Portion::First(0));
     is_read(&rt, alloc, b"deliver 12 m30 0\n", some);
@@ -83,7 +83,7 @@ fn lines_of_a_world_fault_at_their_parts(rt: HostRuntime) {
         alloc,
         b"deliver 0 a 4294967296\n",
         12,
-        Expected::Portion,
+        Expected::Count,
     );
     is_bad(&rt, alloc, b"deliver 0 a *1\n", 13, Expected::End);
 }

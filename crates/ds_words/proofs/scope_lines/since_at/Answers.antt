@@ -30,10 +30,10 @@ returns-in_err-end c =
     rw (exit.1, exit.2) (takes_stop since_word c.args.rest.now.bytes.now c.in_err-end.field-0.0 c.in_err-end.ensures.room (since_end_stops c.in_ok-written.ensures.found.0 c.in_ok-incarnation.incarnation c.in_ok-position.position c.in_ok-max.max c.in_err-end.field-0.0 c.args.rest.now.bytes.now _ _ _ _ c.in_ok-written.ensures.found.2 c.in_ok-incarnation.ensures.found c.in_ok-position.ensures.found c.in_ok-max.ensures.found c.in_err-end.ensures.stop))
 
 pub returns-in_default : goal.returns-in_default
-returns-in_default c = since_no_room c.in_ok-written.written (λ w. w.0.now) (λ w. w.1) c.in_ok-written.ensures.found.0 c.in_ok-incarnation.incarnation c.in_ok-position.position c.in_ok-max.max c.args.rest.now.bytes.now _ _ _ _ _ c.in_default.ensures.room c.in_ok-written.ensures.found.1 c.in_ok-written.ensures.found.2 c.in_ok-incarnation.ensures.found c.in_ok-position.ensures.found c.in_ok-max.ensures.found c.in_ok-end.ensures.found
+returns-in_default c = since_no_room c.in_ok-TEXT.text.now c.in_ok-TEXT.kinds c.in_ok-written.ensures.found.0 c.in_ok-incarnation.incarnation c.in_ok-position.position c.in_ok-max.max c.args.rest.now.bytes.now _ _ _ _ _ c.in_default.ensures.room c.in_ok-written.ensures.found.1 c.in_ok-written.ensures.found.2 c.in_ok-incarnation.ensures.found c.in_ok-position.ensures.found c.in_ok-max.ensures.found c.in_ok-end.ensures.found
 
 pub returns : goal.returns
-returns c = (_, since_found c.in_ok-written.written (λ w. w.0.now) (λ w. w.1) c.in_ok-written.ensures.found.0 c.in-Ok.scope c.in_ok-incarnation.incarnation c.in_ok-position.position c.in_ok-max.max c.args.rest.now.bytes.now _ _ _ _ _ c.in_ok-written.ensures.found.1 c.in-Ok.ensures.scope c.in_ok-written.ensures.found.2 c.in_ok-incarnation.ensures.found c.in_ok-position.ensures.found c.in_ok-max.ensures.found c.in_ok-end.ensures.found)
+returns c = (_, since_found c.in_ok-TEXT.text.now c.in_ok-TEXT.kinds c.in_ok-written.ensures.found.0 c.in-Ok.scope c.in_ok-incarnation.incarnation c.in_ok-position.position c.in_ok-max.max c.args.rest.now.bytes.now _ _ _ _ _ c.in_ok-written.ensures.found.1 c.in-Ok.ensures.scope c.in_ok-written.ensures.found.2 c.in_ok-incarnation.ensures.found c.in_ok-position.ensures.found c.in_ok-max.ensures.found c.in_ok-end.ensures.found)
 
 pub scope_of-requires : goal.scope_of-requires
 scope_of-requires c = (c.in_ok-written.ensures.found.0, c.in_ok-written.ensures.found.2.can, c.in_ok-written.ensures.found.1)

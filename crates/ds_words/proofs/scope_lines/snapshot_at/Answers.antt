@@ -15,10 +15,10 @@ returns-in_err-end c =
     rw (exit.1, exit.2) (takes_stop snapshot_word c.args.rest.now.bytes.now c.in_err-end.field-0.0 c.in_err-end.ensures.room (snapshot_end_stops c.in_ok-written.ensures.found.0 c.in_err-end.field-0.0 c.args.rest.now.bytes.now _ c.in_ok-written.ensures.found.2 c.in_err-end.ensures.stop))
 
 pub returns-in_default : goal.returns-in_default
-returns-in_default c = snapshot_no_room c.in_ok-written.written (λ w. w.0.now) (λ w. w.1) c.in_ok-written.ensures.found.0 c.args.rest.now.bytes.now _ _ c.in_default.ensures.room c.in_ok-written.ensures.found.1 c.in_ok-written.ensures.found.2 c.in_ok-end.ensures.found
+returns-in_default c = snapshot_no_room c.in_ok-TEXT.text.now c.in_ok-TEXT.kinds c.in_ok-written.ensures.found.0 c.args.rest.now.bytes.now _ _ c.in_default.ensures.room c.in_ok-written.ensures.found.1 c.in_ok-written.ensures.found.2 c.in_ok-end.ensures.found
 
 pub returns : goal.returns
-returns c = (_, snapshot_found c.in_ok-written.written (λ w. w.0.now) (λ w. w.1) c.in_ok-written.ensures.found.0 c.in-Ok.scope c.args.rest.now.bytes.now _ _ c.in_ok-written.ensures.found.1 c.in-Ok.ensures.scope c.in_ok-written.ensures.found.2 c.in_ok-end.ensures.found)
+returns c = (_, snapshot_found c.in_ok-TEXT.text.now c.in_ok-TEXT.kinds c.in_ok-written.ensures.found.0 c.in-Ok.scope c.args.rest.now.bytes.now _ _ c.in_ok-written.ensures.found.1 c.in-Ok.ensures.scope c.in_ok-written.ensures.found.2 c.in_ok-end.ensures.found)
 
 pub scope_of-requires : goal.scope_of-requires
 scope_of-requires c = (c.in_ok-written.ensures.found.0, c.in_ok-written.ensures.found.2.can, c.in_ok-written.ensures.found.1)

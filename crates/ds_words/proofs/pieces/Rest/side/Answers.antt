@@ -1,9 +1,9 @@
 use Rattle.std.proofs.lemmas.Result.{err_from_is_err_and}
-use Rattle.ds_words.specs.declared.world.Side.{Side}
-use Rattle.ds_words.specs.declared.world.Side.TheVariants.{A}
+use Rattle.ds_replica.specs.declared.event.Side.{Side}
+use Rattle.ds_replica.specs.declared.event.Side.TheVariants.{A}
 use Rattle.ds_words.proofs.PieceLemmas.{one_part, no_byte}
 use Rattle.ds_words.proofs.WorldPieceLemmas.{side_part, no_side}
-use Rattle.ds_words.proofs.world_pieces.Rest.side.Goals as goal
+use Rattle.ds_words.proofs.pieces.Rest.side.Goals as goal
 
 pub returns-in_err-byte-clause-stop : goal.returns-in_err-byte-clause-stop
 returns-in_err-byte-clause-stop c =

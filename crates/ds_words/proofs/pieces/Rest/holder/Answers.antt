@@ -1,11 +1,11 @@
 use Rattle.std.proofs.lemmas.Result.{err_from_is_err_and}
-use Rattle.ds_words.specs.declared.world.Side.TheVariants.{A}
-use Rattle.ds_words.specs.declared.world.Holder.{Holder}
-use Rattle.ds_words.specs.declared.world.Holder.TheVariants.{Store}
+use Rattle.ds_replica.specs.declared.event.Side.TheVariants.{A}
+use Rattle.ds_replica.specs.declared.event.Holder.{Holder}
+use Rattle.ds_replica.specs.declared.event.Holder.TheVariants.{Store}
 use Rattle.ds_words.specs.World.{IsHolder}
 use Rattle.ds_words.proofs.PieceLemmas.{one_part, no_byte}
 use Rattle.ds_words.proofs.WorldPieceLemmas.{holder_part, no_holder}
-use Rattle.ds_words.proofs.world_pieces.Rest.holder.Goals as goal
+use Rattle.ds_words.proofs.pieces.Rest.holder.Goals as goal
 
 pub returns-in_err-byte-clause-stop : goal.returns-in_err-byte-clause-stop
 returns-in_err-byte-clause-stop c =

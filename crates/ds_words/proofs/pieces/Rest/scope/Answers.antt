@@ -3,7 +3,7 @@ use Rattle.std.proofs.lemmas.Result.{err_from_is_err_and}
 use Rattle.ds_words.proofs.PieceLemmas.{no_byte}
 use Rattle.ds_words.proofs.QueryLemmas.{pattern_found}
 use Rattle.ds_words.proofs.ScopeLemmas.{scope_rest, no_scope, scope_kinds_stops}
-use Rattle.ds_words.proofs.scope.Rest.scope.Goals as goal
+use Rattle.ds_words.proofs.pieces.Rest.scope.Goals as goal
 
 pub returns-in_err-byte-clause-stop : goal.returns-in_err-byte-clause-stop
 returns-in_err-byte-clause-stop c =

@@ -2,7 +2,7 @@ use Rattle.std.proofs.lemmas.Result.{err_from_is_err_and}
 use Rattle.std.proofs.Common.{ℕ, ◌<◌, ◌≤◌, arith}
 use Rattle.ds_words.proofs.PieceLemmas.{one_part, number_part, no_byte}
 use Rattle.ds_words.proofs.WorldPieceLemmas.{no_ring, ring_zero}
-use Rattle.ds_words.proofs.world_pieces.Rest.ring.Goals as goal
+use Rattle.ds_words.proofs.pieces.Rest.ring.Goals as goal
 
 pub returns-in_err-byte-clause-stop : goal.returns-in_err-byte-clause-stop
 returns-in_err-byte-clause-stop c =
