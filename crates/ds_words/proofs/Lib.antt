@@ -17,4 +17,5 @@ pub mod RangeLemmas
 pub mod PageLineLemmas
 pub mod StandLemmas
 pub mod CommandLemmas
+pub mod LaterLemmas
 pub mod LawLemmas

@@ -26,9 +26,18 @@ stand_cut zero xs ys bytes rest le h = h
 stand_cut (suc k) [] ys bytes rest le h = absurd (omega (arith, le))
 stand_cut (suc k) (x ∷ xs) ys bytes rest le h = (h.0, h.1, stand_cut k xs ys h.0 rest (omega (arith, le)) h.2)
 
-stand_join : (k : ℕ) (xs ys : List Part) (bytes mid rest : List ℕ) → Stand (length xs) xs bytes mid → Stand k ys mid rest → Stand (length xs + k) (xs ++ ys) bytes rest
-stand_join k [] ys bytes mid rest first second = subst (λ (b : List ℕ). Stand k ys b rest) (sym first) second
-stand_join k (x ∷ xs) ys bytes mid rest first second = (first.0, first.1, stand_join k xs ys first.0 mid rest first.2 second)
+stand_join : (n k : ℕ) (xs ys : List Part) (bytes mid rest : List ℕ) → n ≡ length xs + k → Stand (length xs) xs bytes mid → Stand k ys mid rest → Stand n (xs ++ ys) bytes rest
+stand_join n k [] ys bytes mid rest eq first second =
+    let same : k ≡ n = omega (arith, eq) in
+    subst (λ (b : List ℕ). Stand n ys b rest) (sym first) (subst (λ (c : ℕ). Stand c ys mid rest) same second)
+stand_join zero k (x ∷ xs) ys bytes mid rest eq first second = absurd (omega (arith, eq))
+stand_join (suc n) k (x ∷ xs) ys bytes mid rest eq first second = (first.0, first.1, stand_join n k xs ys first.0 mid rest (omega (arith, eq)) first.2 second)
+
+-- no more of the parts stand there than there are
+pub stand_fits : (k : ℕ) (xs : List Part) (bytes rest : List ℕ) → Stand k xs bytes rest → k ≤ length xs
+stand_fits zero xs bytes rest h = omega arith
+stand_fits (suc k) [] bytes rest h = absurd h
+stand_fits (suc k) (x ∷ xs) bytes rest h = omega (arith, stand_fits k xs h.0 rest h.2)
 
 -- ---- one piece, and behind it another
 
@@ -74,7 +83,7 @@ open_then p q a bytes r rest apart one found s =
       count = length (p.parts a) + s.count;
       thing = (a, s.thing);
       can = (found.can, s.can);
-      front = stand_join s.count (p.parts a) ((q a).parts s.thing) bytes r rest found.front s.front;
+      front = stand_join (length (p.parts a) + s.count) s.count (p.parts a) ((q a).parts s.thing) bytes r rest refl found.front s.front;
       most = λ x after can h.
           elim (cases_lt (suc (length (p.parts a) + s.count)) (length (p.parts x.0))) [
             | inl lt ↦
@@ -92,6 +101,16 @@ open_then p q a bytes r rest apart one found s =
           subst (λ (b : p.Of). (y : (q b).Of) → (q b).Can y → Stand (length ((q b).parts y)) ((q b).parts y) r after → ⊥) (sym same.0) (λ y is st. s.none y after is st) x.1 can.1
           (subst (λ (b : List ℕ). Stand (length ((q x.0).parts x.1)) ((q x.0).parts x.1) b after) same.1 two.2);
     }
+
+-- behind a first piece that is there, what can be read ends no sooner than it
+pub first_counts : (p : Piece) (q : p.Of → Piece) (a : p.Of) (b : (q a).Of) (bytes r rest : List ℕ) → Found p a bytes r → (q a).Can b → (s : Breaks (behind p q) bytes rest) → length (p.parts a) ≤ s.count
+first_counts p q a b bytes r rest found can s =
+    elim (cases_lt s.count (length (p.parts a))) [
+      | inl lt ↦
+          (let less = stand_less (suc s.count) (length (p.parts a)) (p.parts a) bytes r (omega (arith, lt)) found.front in
+          absurd (s.most (a, b) less.0 (found.can, can) (stand_wider (suc s.count) (p.parts a) ((q a).parts b) bytes less.0 less.1)))
+      | inr le ↦ le
+    ]
 
 -- ---- what readers say
 

@@ -1,5 +1,5 @@
 -- Ranges of pages: one is missing where it has to stand, or it is read.
-use Rattle.std.proofs.Common.{◌≡◌, ◌≢◌, ℕ, suc, zero, ◌<◌, ◌^◌, List, [], ◌∷◌, ◌++◌, length, codes, Option, None, Some, refl, sym, ap, subst, ◌∙◌, drop, arith}
+use Rattle.std.proofs.Common.{◌≡◌, ◌≢◌, ℕ, suc, zero, ◌<◌, ◌≤◌, ◌^◌, List, [], ◌∷◌, ◌++◌, length, codes, Option, None, Some, refl, sym, ap, subst, ◌∙◌, drop, arith}
 use Rattle.std.specs.Char.{is_ascii_digit, is_ascii_alphanumeric}
 use Rattle.std.specs.Fmt.{decimal}
 use Rattle.std.proofs.lemmas.Fmt.{decimal_nonempty, digits_decimal}
@@ -21,7 +21,7 @@ use Rattle.ds_words.specs.Pieces.{a_name, a_kind, a_number}
 use Rattle.ds_words.specs.Page.{a_range, after_parts, IsAfter, range_parts}
 use Rattle.ds_words.proofs.PieceLemmas.{name_fixed, name_one, number_fixed, number_one}
 use Rattle.ds_words.proofs.OneLemmas.{one_behind, one_view}
-use Rattle.ds_words.proofs.OpenLemmas.{Apart}
+use Rattle.ds_words.proofs.OpenLemmas.{Apart, stand_fits, first_counts}
 use Rattle.ds_words.proofs.WorldPieceLemmas.{first_byte}
 
 -- the name that stands for no key
@@ -119,7 +119,7 @@ kind_of_more k kind max bytes rest h = (h.2.0, record { can = tt; front = (h.0, 
 
 -- ---- behind `-`, where no kind stands
 
-NoKind : List ℕ → Type 0
+abbrev pub NoKind : List ℕ → Type 0
 NoKind bytes = (kind : Kind) (rest : List ℕ) → ¬ Found a_kind kind bytes rest
 
 max_most : (name bytes after : List ℕ) (s_count : ℕ) → NoKind bytes → ((max : ℕ) (end : List ℕ) → a_number.Can max → ¬ Stand (suc s_count) (a_number.parts max) bytes end)
@@ -172,10 +172,10 @@ follow_kind_stops name stop bytes other room s =
 
 -- ---- a kind stands there, and the number behind it is missing
 
-behind_most : (name bytes after : List ℕ) (k : ℕ) → ((x : with_kind.Of) (end : List ℕ) → with_kind.Can x → ¬ Stand (suc (suc (suc k))) (with_kind.parts x) bytes end)
-    → (x : Option Kind × ℕ) → (a_follow name).Can x → Stand (suc (suc (suc k))) ((a_follow name).parts x) bytes after → ⊥
-behind_most name bytes after k most (None, max) can h = h.2.2
-behind_most name bytes after k most (Some kind, max) can h = most (kind, max) after (tt, can.1) h
+behind_most : (name bytes after : List ℕ) (k : ℕ) → 2 ≤ k → ((x : with_kind.Of) (end : List ℕ) → with_kind.Can x → ¬ Stand (suc k) (with_kind.parts x) bytes end)
+    → (x : Option Kind × ℕ) → (a_follow name).Can x → Stand (suc k) ((a_follow name).parts x) bytes after → ⊥
+behind_most name bytes after k two most (None, max) can h = omega (arith, two, stand_fits (suc k) (follow_parts None max) bytes after h)
+behind_most name bytes after k two most (Some kind, max) can h = most (kind, max) after (tt, can.1) h
 
 behind_none : (name bytes r after : List ℕ) (there : Kind) → Found a_kind there bytes r → ((x : with_kind.Of) (end : List ℕ) → with_kind.Can x → ¬ Stand (length (with_kind.parts x)) (with_kind.parts x) bytes end)
     → (x : Option Kind × ℕ) → (a_follow name).Can x → Stand (length ((a_follow name).parts x)) ((a_follow name).parts x) bytes after → ⊥
@@ -183,7 +183,6 @@ behind_none name bytes r after there found none (None, max) can h = not_both the
 behind_none name bytes r after there found none (Some kind, max) can h = none (kind, max) after (tt, can.1) h
 
 behind_breaks : (name bytes r rest : List ℕ) (kind : Kind) → Found a_kind kind bytes r → Breaks a_number r rest → Breaks (a_follow name) bytes rest
-unfolding then_breaks
 behind_breaks name bytes r rest kind found s =
     let t = then_breaks a_kind (λ _. a_number) 2 kind bytes r rest kind_fixed kind_one found s in
     record {
@@ -191,7 +190,7 @@ behind_breaks name bytes r rest kind found s =
       thing = (Some t.thing.0, t.thing.1);
       can = (tt, t.can.1);
       front = t.front;
-      most = λ x after can h. behind_most name bytes after s.count t.most x can h;
+      most = λ x after can h. behind_most name bytes after t.count (first_counts a_kind (λ _. a_number) kind 0 bytes r rest found (omega arith) t) t.most x can h;
       none = λ x after can h. behind_none name bytes r after kind found t.none x can h;
     }
 

@@ -1,5 +1,5 @@
 -- Scopes: one is missing where it has to stand, or it is read.
-use Rattle.std.proofs.Common.{◌≡◌, ◌≢◌, ℕ, suc, ◌+◌, ◌<◌, List, [], ◌∷◌, ◌++◌, length, get_or, drop, Option, None, Some, refl, sym, ap, subst, ◌∙◌, arith}
+use Rattle.std.proofs.Common.{◌≡◌, ◌≢◌, ℕ, suc, ◌+◌, ◌<◌, ◌≤◌, List, [], ◌∷◌, ◌++◌, length, get_or, drop, Option, None, Some, refl, sym, ap, subst, ◌∙◌, arith}
 use Rattle.std.specs.Fmt.{decimal}
 use Rattle.ds_names.specs.Run.{Begins}
 use Rattle.ds_line.specs.Part.{Part, part, byte, run_of, Number, Quoted}
@@ -18,9 +18,9 @@ use Rattle.ds_words.specs.Scope.{a_scope, scope_parts, IsScope, Writes}
 use Rattle.ds_words.proofs.PieceLemmas.{kinds_one}
 use Rattle.ds_words.proofs.QueryLemmas.{pattern_fixed, pattern_one, escaped_one, query_is}
 use Rattle.ds_words.proofs.OneLemmas.{one_behind}
-use Rattle.ds_words.proofs.OpenLemmas.{Apart}
+use Rattle.ds_words.proofs.OpenLemmas.{Apart, stand_fits, first_counts}
 
-abbrev query_of : List ℕ → ℕ → Query
+abbrev pub query_of : List ℕ → ℕ → Query
 query_of text kinds = record { text = text; kinds = kinds }
 
 -- what stands behind the space
@@ -71,9 +71,9 @@ quote_stands text bytes mid rest space_is quote_is = ((escaped text ++ 34 ∷ []
 
 -- ---- the kinds are missing behind a pattern
 
-query_most : (bytes after : List ℕ) (k : ℕ) → ((x : a_query.Of) (end : List ℕ) → a_query.Can x → ¬ Stand (suc (suc (suc k))) (a_query.parts x) bytes end) → (scope : Option Query) → IsScope scope → Stand (suc (suc (suc k))) (space ∷ scope_parts scope) bytes after → ⊥
-query_most bytes after k most None can h = h.2.2
-query_most bytes after k most (Some query) can h = most (query.text, query.kinds) after (can.text, (can.some, can.limit)) h
+query_most : (bytes after : List ℕ) (k : ℕ) → 2 ≤ k → ((x : a_query.Of) (end : List ℕ) → a_query.Can x → ¬ Stand (suc k) (a_query.parts x) bytes end) → (scope : Option Query) → IsScope scope → Stand (suc k) (space ∷ scope_parts scope) bytes after → ⊥
+query_most bytes after k two most None can h = omega (arith, two, stand_fits (suc k) (space ∷ byte 42 ∷ []) bytes after h)
+query_most bytes after k two most (Some query) can h = most (query.text, query.kinds) after (can.text, (can.some, can.limit)) h
 
 query_none : (bytes after t : List ℕ) → bytes ≡ 32 ∷ 34 ∷ t → ((x : a_query.Of) (end : List ℕ) → a_query.Can x → ¬ Stand (length (a_query.parts x)) (a_query.parts x) bytes end) → (scope : Option Query) → IsScope scope
     → Stand (length (space ∷ scope_parts scope)) (space ∷ scope_parts scope) bytes after → ⊥
@@ -81,7 +81,6 @@ query_none bytes after t quote none None can h = star_no_quote bytes after t (st
 query_none bytes after t quote none (Some query) can h = none (query.text, query.kinds) after (can.text, (can.some, can.limit)) h
 
 query_breaks : (written bytes r rest : List ℕ) → FindsPattern written bytes r → Breaks a_kinds r rest → Breaks a_scope bytes rest
-unfolding then_breaks
 query_breaks written bytes r rest found s =
     let t = then_breaks a_pattern (λ _. a_kinds) 2 found.0 bytes r rest pattern_fixed pattern_one found.2 s in
     let quote = quote_stands found.0 bytes found.2.front.0 found.2.front.2.0 found.2.front.1.parts found.2.front.2.1.parts in
@@ -90,7 +89,7 @@ query_breaks written bytes r rest found s =
       thing = Some (query_of t.thing.0 t.thing.1);
       can = record { text = t.can.0; some = t.can.1.0; limit = t.can.1.1 };
       front = t.front;
-      most = λ scope after can h. query_most bytes after s.count t.most scope can h;
+      most = λ scope after can h. query_most bytes after t.count (first_counts a_pattern (λ _. a_kinds) found.0 1 bytes r rest found.2 (omega arith, omega arith) t) t.most scope can h;
       none = λ scope after can h. query_none bytes after quote.0 quote.1 t.none scope can h;
     }
 

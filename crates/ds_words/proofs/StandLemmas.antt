@@ -1,5 +1,5 @@
 -- What a command takes stands where its parts are spelled out.
-use Rattle.std.proofs.Common.{ℕ, List, [], ◌∷◌, ◌++◌, Option, None, Some, refl}
+use Rattle.std.proofs.Common.{ℕ, codes, List, [], ◌∷◌, ◌++◌, Option, None, Some, refl}
 use Rattle.std.specs.Fmt.{decimal}
 use Rattle.ds_names.specs.Endpoint.{endpoint_text}
 use Rattle.ds_names.specs.declared.key.Key.{Key}
@@ -42,7 +42,7 @@ scope_stands (Some query) more h =
 
 count_stands : (count : Option ℕ) → AllStand (count_part count ∷ newline ∷ []) []
 count_stands None = byte_stands 42 (newline ∷ []) [] (byte_stands 10 [] [] refl)
-count_stands (Some n) = part_stands (part Number (decimal count)) (newline ∷ []) [] refl (byte_stands 10 [] [] refl)
+count_stands (Some n) = part_stands (part Number (decimal n)) (newline ∷ []) [] refl (byte_stands 10 [] [] refl)
 
 range_stands : (after : Option Key) (max : ℕ) → AllStand (range_parts after max ++ newline ∷ []) []
 range_stands None max =
@@ -188,3 +188,6 @@ command_stands (Snapshot (Some query)) =
     (byte_stands 32 from_kinds []
     (part_stands (part Number (decimal query.kinds)) (newline ∷ []) [] refl
     (byte_stands 10 [] [] refl))))
+command_stands (Page scope after max) =
+    let from_range : List Part = range_parts after max ++ newline ∷ [] in
+    byte_stands 32 (scope_parts scope ++ space ∷ from_range) [] (scope_stands scope from_range (byte_stands 32 from_range [] (range_stands after max)))

@@ -1,5 +1,5 @@
 -- The lines of a world, piece by piece behind their words.
-use Rattle.std.proofs.Common.{◌≡◌, ◌≢◌, ℕ, List, refl, ap, arith}
+use Rattle.std.proofs.Common.{◌≡◌, ◌≢◌, ℕ, List, Option, None, refl, ap, arith}
 use Rattle.ds_line.specs.Piece.{Piece, Found, StopsIn}
 use Rattle.ds_line.specs.declared.part_fault.PartFault.{PartFault}
 use Rattle.ds_line.specs.declared.part_fault.PartFault.TheVariants.{NoRoom}

@@ -1,6 +1,6 @@
 //! Where a page begins, and how many changes it has, as lines write it.
 
-ghost use Rattle.std.specs.Prelude.{◌≡◌, ◌≢◌, List, ℕ, IfOk, IfErr, IsTrue};
+ghost use Rattle.std.specs.Prelude.{◌≢◌, ◌↔◌, List, ℕ, IfOk, IfErr, IsTrue};
 ghost use Rattle.ds_line.specs.Piece.{Found, StopsIn};
 ghost use Rattle.ds_line.specs.declared.part_fault.PartFault.TheVariants.{NoRoom};
 ghost use Rattle.ds_names.specs.declared.kind.Kind.{Kind};

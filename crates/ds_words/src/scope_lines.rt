@@ -15,7 +15,10 @@ use std::alloc::Global;
 pub(crate) fn since_at(alloc: Global, rest: &mut Rest) -> Result<ScriptCommand, PartFault>
     ensures { Takes since_word rest.old.bytes.now result }
 {
-    let (text, kinds) = rest.scope()?;
+    let (text, kinds) = match rest.scope() {
+        Ok(written) => written,
+        Err(stop) => return Err(stop),
+    };
     let incarnation = rest.place(Expected::Incarnation)?;
     let position = rest.place(Expected::Position)?;
     let max = rest.number(Expected::Max)?;
@@ -34,7 +37,10 @@ pub(crate) fn since_at(alloc: Global, rest: &mut Rest) -> Result<ScriptCommand, 
 pub(crate) fn snapshot_at(alloc: Global, rest: &mut Rest) -> Result<ScriptCommand, PartFault>
     ensures { Takes snapshot_word rest.old.bytes.now result }
 {
-    let (text, kinds) = rest.scope()?;
+    let (text, kinds) = match rest.scope() {
+        Ok(written) => written,
+        Err(stop) => return Err(stop),
+    };
     rest.end()?;
     let Ok(scope) = scope_of(alloc, text, kinds) else {
         return Err(PartFault::NoRoom);
@@ -46,7 +52,10 @@ pub(crate) fn snapshot_at(alloc: Global, rest: &mut Rest) -> Result<ScriptComman
 pub(crate) fn page_at(alloc: Global, rest: &mut Rest) -> Result<ScriptCommand, PartFault>
     ensures { Takes page_word rest.old.bytes.now result }
 {
-    let (text, kinds) = rest.scope()?;
+    let (text, kinds) = match rest.scope() {
+        Ok(written) => written,
+        Err(stop) => return Err(stop),
+    };
     let (after, max) = rest.range()?;
     rest.end()?;
     let Ok(scope) = scope_of(alloc, text, kinds) else {

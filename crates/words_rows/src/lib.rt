@@ -8,6 +8,8 @@
 #[cfg(test)]
 mod offers;
 #[cfg(test)]
+mod outcomes;
+#[cfg(test)]
 mod replies;
 #[cfg(test)]
 mod worlds;

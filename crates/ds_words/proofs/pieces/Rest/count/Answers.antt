@@ -1,3 +1,4 @@
+use Rattle.std.proofs.Common.{ℕ, Option, None}
 use Rattle.std.proofs.lemmas.Result.{err_from_is_err_and}
 use Rattle.ds_words.specs.World.{count_part, IsCount}
 use Rattle.ds_words.proofs.PieceLemmas.{one_part, no_byte}

@@ -11,3 +11,6 @@ returns-in_err-byte-clause-stop c =
 
 pub returns-in_default-clause-stop : goal.returns-in_default-clause-stop
 returns-in_default-clause-stop c = no_ring c.stop_at.result c.args.self.now.bytes.now _ c.in_ok-byte.ensures.found c.stop_at.ensures c.in_default.ensures.none
+
+pub returns-then-number-eq0-clause-stop : goal.returns-then-number-eq0-clause-stop
+returns-then-number-eq0-clause-stop c = ring_zero c.stop_at-then-number-eq0.result c.args.self.now.bytes.now _ c.in-Some.rest.now c.in-Some.number c.in_ok-byte.ensures.found c.stop_at-then-number-eq0.ensures c.in-Some.ensures.found c.if-number-eq0.true
