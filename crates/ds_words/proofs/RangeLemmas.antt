@@ -1,7 +1,8 @@
 -- Ranges of pages: one is missing where it has to stand, or it is read.
-use Rattle.std.proofs.Common.{◌≡◌, ◌≢◌, ℕ, suc, zero, ◌<◌, ◌≤◌, ◌^◌, List, [], ◌∷◌, ◌++◌, length, codes, Option, None, Some, refl, sym, ap, subst, ◌∙◌, drop, arith}
+use Rattle.std.proofs.Common.{◌≡◌, ◌≢◌, ℕ, suc, zero, ◌<◌, ◌≤◌, ◌^◌, List, [], ◌∷◌, ◌++◌, length, Option, None, Some, is_some, IfSome, IfNone, IsTrue, Bool, refl, sym, ap, subst, ◌∙◌, drop, arith}
 use Rattle.std.specs.Char.{is_ascii_digit, is_ascii_alphanumeric}
 use Rattle.std.specs.Fmt.{decimal}
+use Rattle.std.proofs.lemmas.Bool.{false≢true}
 use Rattle.std.proofs.lemmas.Fmt.{decimal_nonempty, digits_decimal}
 use Rattle.ds_names.specs.Name.{is_name_byte, IsName}
 use Rattle.ds_names.specs.Run.{Begins}
@@ -15,18 +16,15 @@ use Rattle.ds_line.specs.FaultPlace.{Stand}
 use Rattle.ds_line.specs.Piece.{Piece, Found, Breaks, StopsIn}
 use Rattle.ds_line.specs.declared.part_fault.PartFault.{PartFault}
 use Rattle.ds_line.specs.declared.part_fault.PartFault.TheVariants.{BadPart, NoRoom}
+use Rattle.ds_line.proofs.PartLemmas.{byte_begins}
 use Rattle.ds_line.proofs.OpeningLemmas.{text_at, word_is_word, word_one}
 use Rattle.ds_line.proofs.PieceLemmas.{One, Fixed, Views, behind, one_by, view_found, view_stops, first_stops, then_stops, then_breaks, both_found}
 use Rattle.ds_words.specs.Pieces.{a_name, a_kind, a_number}
-use Rattle.ds_words.specs.Page.{a_range, after_parts, IsAfter, range_parts}
+use Rattle.ds_words.specs.Page.{no_key, IsAfter, range_parts, a_range}
 use Rattle.ds_words.proofs.PieceLemmas.{name_fixed, name_one, number_fixed, number_one}
 use Rattle.ds_words.proofs.OneLemmas.{one_behind, one_view}
 use Rattle.ds_words.proofs.OpenLemmas.{Apart, stand_fits, first_counts}
 use Rattle.ds_words.proofs.WorldPieceLemmas.{first_byte}
-
--- the name that stands for no key
-abbrev pub no_key : List ℕ
-no_key = codes "-"
 
 no_key_is : IsName no_key
 unfolding is_name_byte
@@ -164,11 +162,18 @@ kind_from : (name : List ℕ) → name ≢ no_key → (b : Option Kind × ℕ) �
 kind_from name other (None, max) can = absurd (other can.0)
 kind_from name other (Some kind, max) can = ((kind, max), (tt, can.1), refl)
 
--- the kind of a name that isn't `-` is missing
-pub follow_kind_stops : (name : List ℕ) (stop : PartFault) (bytes : List ℕ) → name ≢ no_key → stop ≢ NoRoom → StopsIn a_kind stop bytes → StopsIn (a_follow name) stop bytes
-follow_kind_stops name stop bytes other room s =
+kind_missing : (name : List ℕ) (stop : PartFault) (bytes : List ℕ) → name ≢ no_key → stop ≢ NoRoom → StopsIn a_kind stop bytes → StopsIn (a_follow name) stop bytes
+kind_missing name stop bytes other room s =
     view_stops with_kind (a_follow name) (record { to = λ x. (Some x.0, x.1); can = λ x can. (tt, can.1); parts = λ x can. refl; from = kind_from name other }) stop bytes
     (first_stops a_kind (λ _. a_number) 2 stop bytes kind_fixed (λ kind can. (0, omega arith)) room s)
+
+missing_kind : (stop : PartFault) (bytes : List ℕ) → stop ≢ NoRoom → StopsIn a_kind stop bytes → NoKind bytes
+missing_kind (BadPart left) bytes room s = λ kind rest found. s.1.none kind rest tt found.front
+missing_kind NoRoom bytes room s = absurd (room refl)
+
+-- the kind of a name that isn't `-`, or has one behind it, is missing
+pub follow_kind_stops : (name : List ℕ) (stop : PartFault) (bytes : List ℕ) → (name ≡ no_key → NoKind bytes → ⊥) → stop ≢ NoRoom → StopsIn a_kind stop bytes → StopsIn (a_follow name) stop bytes
+follow_kind_stops name stop bytes other room s = kind_missing name stop bytes (λ is. other is (missing_kind stop bytes room s)) room s
 
 -- ---- a kind stands there, and the number behind it is missing
 
@@ -252,3 +257,14 @@ ranges_apart (Some key, m) (Some other, n) bytes r after f can lt h = omega (ari
 -- where a range stands, no longer one goes on
 pub range_apart : Apart a_range
 range_apart = ranges_apart
+
+-- ---- whether a kind's word comes next
+
+pub kind_next : {B : Type 0} (r : Option (Kind × B)) (now : B → List ℕ) (test : Bool) (bytes rest : List ℕ) → bytes ≡ 32 ∷ rest → test ≡ is_some r → IfSome r (λ x. Begins is_ascii_alphanumeric rest (kind_word x.0) (now x.1))
+    → IfNone r ((kind : Kind) (after : List ℕ) → ¬ Begins is_ascii_alphanumeric rest (kind_word kind) after)
+    → (IsTrue test → (kind : Kind) × (after : List ℕ) × Found a_kind kind bytes after) × (((kind : Kind) × (after : List ℕ) × Found a_kind kind bytes after) → IsTrue test)
+kind_next None now test bytes rest space test_is there none =
+    (λ is. absurd (false≢true (sym test_is ∙ is)),
+    λ found. absurd (none found.0 found.2.front.2.0 (subst (λ (t : List ℕ). Begins is_ascii_alphanumeric t (kind_word found.0) found.2.front.2.0) (byte_same 32 bytes found.2.front.0 rest found.2.front.1.parts space) found.2.front.2.1)))
+kind_next (Some (kind, after)) now test bytes rest space test_is there none =
+    (λ is. (kind, now after, record { can = tt; front = (rest, byte_begins 32 bytes rest space, (now after, there, refl)) }), λ found. test_is)

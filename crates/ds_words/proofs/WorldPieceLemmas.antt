@@ -1,5 +1,5 @@
 -- Each piece of a world's lines: it is missing where it has to stand, or it is read.
-use Rattle.std.proofs.Common.{◌≡◌, ◌≢◌, ℕ, ◌<◌, ◌≤◌, ◌^◌, Bool, true, false, ◌&&◌, ◌||◌, List, [], ◌∷◌, ◌++◌, length, get_or, drop, Option, None, Some, refl, sym, ap, subst, ◌∙◌, arith, append-nil}
+use Rattle.std.proofs.Common.{◌≡◌, ◌≢◌, ℕ, ◌<◌, ◌≤◌, ◌^◌, Bool, true, false, ◌&&◌, ◌||◌, List, [], ◌∷◌, ◌++◌, length, get_or, drop, Option, None, Some, IfNone, refl, sym, ap, subst, ◌∙◌, arith, append-nil}
 use Rattle.std.specs.Char.{is_ascii_digit, is_ascii_uppercase, is_ascii_lowercase, is_ascii_alphanumeric}
 use Rattle.std.specs.Fmt.{decimal}
 use Rattle.std.specs.List.{list_all}
@@ -120,6 +120,10 @@ holder_fixed holder = refl
 
 pub holder_one : One a_holder
 holder_one = one_by a_holder (λ a b is_a is_b. (refl, λ _. (refl, λ _. tt))) (λ a is. (refl, (holder_is_word a is, tt))) (λ a b is_a is_b same. holders_one a b is_a is_b (ap (text_at 1) same))
+
+pub if_none : {X P : Type 0} (r : Option X) → P → IfNone r P
+if_none None p = p
+if_none (Some x) p = tt
 
 -- the word has an `m`, but no number behind it
 pub no_map_number : (word digits : List ℕ) → word ≡ 109 ∷ digits → ((n : ℕ) (rest : List ℕ) → n ≤ 18446744073709551615 → ¬ Begins is_ascii_digit digits (decimal n) rest) → (map : ℕ) → map < 2 ^ 64 → word ≢ 109 ∷ decimal map

@@ -12,9 +12,13 @@ use Rattle.ds_words.specs.Key.{key_parts}
 abbrev pub page_word : List ℕ
 page_word = codes "page"
 
+-- `-` for no key
+abbrev pub no_key : List ℕ
+no_key = codes "-"
+
 -- the key that a page begins behind, or `-` for none, which ends like a name
 abbrev pub after_parts : Option Key → List Part
-after_parts None = part Name (codes "-") ∷ []
+after_parts None = part Name no_key ∷ []
 after_parts (Some key) = key_parts key
 
 -- the key, if there is one, can be written

@@ -1,15 +1,15 @@
 //! Where a page begins, and how many changes it has, as lines write it.
 
-ghost use Rattle.std.specs.Prelude.{◌≢◌, ◌↔◌, List, ℕ, IfOk, IfErr, IsTrue};
+ghost use Rattle.std.specs.Prelude.{◌≡◌, ◌≢◌, ◌↔◌, List, ℕ, IfOk, IfErr, IsTrue};
 ghost use Rattle.ds_line.specs.Piece.{Found, StopsIn};
 ghost use Rattle.ds_line.specs.declared.part_fault.PartFault.TheVariants.{NoRoom};
 ghost use Rattle.ds_names.specs.declared.kind.Kind.{Kind};
 ghost use Rattle.ds_words.specs.Pieces.{a_kind};
-ghost use Rattle.ds_words.specs.Page.{a_range};
+ghost use Rattle.ds_words.specs.Page.{a_range, no_key};
 
 use crate::pieces::Rest;
 use ds_line::{Expected, PartFault, kind_at};
-use ds_names::{Key, read_byte};
+use ds_names::{Key, Name, read_byte};
 
 impl Rest<'_> {
     /// Reads behind which key a page begins, or `-` for none, and how many changes it has at most. A `-` before a kind is the
@@ -20,7 +20,7 @@ impl Rest<'_> {
         ensures room { IfErr result (λ stop. stop ≢ NoRoom) }
     {
         let name = self.name(Expected::After)?;
-        if name.bytes() == b"-".as_slice() && !self.is_before_kind() {
+        if is_dash(&name) && !self.is_before_kind() {
             let max = self.number(Expected::Max)?;
             return Ok((None, max));
         }
@@ -38,4 +38,11 @@ impl Rest<'_> {
             None => false,
         }
     }
+}
+
+// Whether a name is `-`, which stands for no key.
+fn is_dash(name: &Name) -> bool
+    ensures { IsTrue result ↔ (name.now ≡ no_key) }
+{
+    name.bytes() == b"-".as_slice()
 }

@@ -1,7 +1,9 @@
 //! The lines behind the first one of a script.
 
+ghost use Rattle.std.specs.Prelude.{◌≡◌, ◌↔◌, IsTrue};
 ghost use Rattle.ds_line.specs.LastNewline.{EndsLine};
 ghost use Rattle.ds_words.specs.Later.{ReadsLater};
+ghost use Rattle.ds_words.specs.World.{ring_word};
 
 use crate::command::ScriptCommand;
 use crate::fault::CommandFault;
@@ -16,11 +18,18 @@ pub fn read_later_line(alloc: Global, line: &[u8]) -> Result<ScriptCommand, Comm
     ensures { ReadsLater line.now result }
 {
     let (word, _) = word_at(line);
-    if word == b"ring".as_slice() {
+    if is_ring(word) {
         return Err(CommandFault::BadLine {
             place: 0,
             expected: Expected::Command,
         });
     }
     read_line(alloc, line)
+}
+
+// Whether a word is `ring`.
+fn is_ring(word: &[u8]) -> bool
+    ensures { IsTrue result ↔ (word.now ≡ ring_word) }
+{
+    word == b"ring".as_slice()
 }
