@@ -1,5 +1,5 @@
 -- A command's line: its word, and what the command takes behind it.
-use Rattle.std.proofs.Common.{◌≡◌, ◌≢◌, ℕ, suc, ◌+◌, ◌-◌, ◌≤◌, true, List, [], ◌∷◌, ◌++◌, length, Option, None, Some, refl, sym, ap, subst, ◌∙◌, arith, append_assoc, append-nil, length-append}
+use Rattle.std.proofs.Common.{◌≡◌, ◌≢◌, ℕ, suc, ◌+◌, ◌-◌, ◌≤◌, true, List, [], ◌∷◌, ◌++◌, length, None, Some, refl, sym, ap, subst, ◌∙◌, arith, append_assoc, append-nil, length-append}
 use Rattle.std.specs.List.{All, list_all}
 use Rattle.std.specs.Char.{is_ascii_alphanumeric}
 use Rattle.std.specs.Fmt.{decimal}
@@ -25,7 +25,6 @@ use Rattle.ds_words.specs.Command.{word_of, behind_word, command_parts, IsComman
 use Rattle.ds_words.specs.Key.{key_parts, version_parts}
 use Rattle.ds_words.specs.Page.{range_parts}
 use Rattle.ds_words.specs.Query.{query_parts}
-use Rattle.ds_words.specs.Scope.{scope_parts}
 use Rattle.ds_words.specs.Pieces.{taken_by, text_of}
 use Rattle.ds_words.specs.World.{side_word, holder_word, count_part}
 use Rattle.ds_words.proofs.StandLemmas.{command_stands}

@@ -1,15 +1,15 @@
 -- Lines behind the first one of a script: what is read there, and what isn't.
-use Rattle.std.proofs.Common.{◌≡◌, ◌≢◌, ℕ, zero, suc, true, List, [], length, Result, Ok, Err, refl, sym, ap, subst, ◌∙◌, arith}
+use Rattle.std.proofs.Common.{◌≡◌, ◌≢◌, ℕ, zero, suc, true, List, Result, Ok, Err, refl, sym, ap, ◌∙◌, arith}
 use Rattle.std.specs.Char.{is_ascii_alphanumeric}
 use Rattle.std.specs.List.{list_all}
 use Rattle.ds_names.specs.Run.{Begins}
 use Rattle.ds_line.specs.Part.{texts}
-use Rattle.ds_line.specs.FaultPlace.{CanRead, StopsAt, IsFaultPlace}
+use Rattle.ds_line.specs.FaultPlace.{CanRead}
 use Rattle.ds_words.specs.declared.command.ScriptCommand.{ScriptCommand}
 use Rattle.ds_words.specs.declared.command.ScriptCommand.TheVariants.{Show}
 use Rattle.ds_words.specs.declared.fault.CommandFault.{CommandFault}
 use Rattle.ds_words.specs.declared.fault.CommandFault.TheVariants.{BadLine, NoRoom}
-use Rattle.ds_words.specs.Command.{word_of, behind_word, command_parts, IsCommand, IsFaultAmong, IsCommandFault, Reads}
+use Rattle.ds_words.specs.Command.{behind_word, command_parts, IsCommand, IsFaultAmong, IsCommandFault, Reads}
 use Rattle.ds_words.specs.Later.{IsLater, ReadsLater}
 use Rattle.ds_words.specs.World.{ring_word}
 use Rattle.ds_words.proofs.LineLemmas.{code}

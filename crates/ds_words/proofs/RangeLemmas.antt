@@ -21,7 +21,7 @@ use Rattle.ds_line.proofs.OpeningLemmas.{text_at, word_is_word, word_one}
 use Rattle.ds_line.proofs.PieceLemmas.{One, Fixed, Views, behind, one_by, view_found, view_stops, first_stops, then_stops, then_breaks, both_found}
 use Rattle.ds_words.specs.Pieces.{a_name, a_kind, a_number}
 use Rattle.ds_words.specs.Page.{no_key, IsAfter, range_parts, a_range}
-use Rattle.ds_words.proofs.PieceLemmas.{name_fixed, name_one, number_fixed, number_one}
+use Rattle.ds_words.proofs.PieceLemmas.{name_fixed, name_one, number_one}
 use Rattle.ds_words.proofs.OneLemmas.{one_behind, one_view}
 use Rattle.ds_words.proofs.OpenLemmas.{Apart, stand_fits, first_counts}
 use Rattle.ds_words.proofs.WorldPieceLemmas.{first_byte}
@@ -263,8 +263,9 @@ range_apart = ranges_apart
 pub kind_next : {B : Type 0} (r : Option (Kind × B)) (now : B → List ℕ) (test : Bool) (bytes rest : List ℕ) → bytes ≡ 32 ∷ rest → test ≡ is_some r → IfSome r (λ x. Begins is_ascii_alphanumeric rest (kind_word x.0) (now x.1))
     → IfNone r ((kind : Kind) (after : List ℕ) → ¬ Begins is_ascii_alphanumeric rest (kind_word kind) after)
     → (IsTrue test → (kind : Kind) × (after : List ℕ) × Found a_kind kind bytes after) × (((kind : Kind) × (after : List ℕ) × Found a_kind kind bytes after) → IsTrue test)
-kind_next None now test bytes rest space test_is there none =
-    (λ is. absurd (false≢true (sym test_is ∙ is)),
-    λ found. absurd (none found.0 found.2.front.2.0 (subst (λ (t : List ℕ). Begins is_ascii_alphanumeric t (kind_word found.0) found.2.front.2.0) (byte_same 32 bytes found.2.front.0 rest found.2.front.1.parts space) found.2.front.2.1)))
+kind_next None now test bytes rest space test_is there none = (
+  λ is. absurd (false≢true (sym test_is ∙ is)),
+  λ found. absurd (none found.0 found.2.front.2.0 (subst (λ (t : List ℕ). Begins is_ascii_alphanumeric t (kind_word found.0) found.2.front.2.0) (byte_same 32 bytes found.2.front.0 rest found.2.front.1.parts space) found.2.front.2.1)),
+)
 kind_next (Some (kind, after)) now test bytes rest space test_is there none =
     (λ is. (kind, now after, record { can = tt; front = (rest, byte_begins 32 bytes rest space, (now after, there, refl)) }), λ found. test_is)

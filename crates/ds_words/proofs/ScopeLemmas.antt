@@ -1,5 +1,5 @@
 -- Scopes: one is missing where it has to stand, or it is read.
-use Rattle.std.proofs.Common.{◌≡◌, ◌≢◌, ℕ, suc, ◌+◌, ◌<◌, ◌≤◌, List, [], ◌∷◌, ◌++◌, length, get_or, drop, Option, None, Some, refl, sym, ap, subst, ◌∙◌, arith}
+use Rattle.std.proofs.Common.{◌≡◌, ◌≢◌, ℕ, suc, ◌<◌, ◌≤◌, List, [], ◌∷◌, ◌++◌, length, get_or, drop, Option, None, Some, refl, sym, ap, ◌∙◌, arith}
 use Rattle.std.specs.Fmt.{decimal}
 use Rattle.ds_names.specs.Run.{Begins}
 use Rattle.ds_line.specs.Part.{Part, part, byte, run_of, Number, Quoted}
@@ -8,12 +8,11 @@ use Rattle.ds_line.specs.FaultPlace.{Stand}
 use Rattle.ds_line.specs.Piece.{Piece, Found, Breaks, StopsIn}
 use Rattle.ds_line.specs.declared.part_fault.PartFault.{PartFault}
 use Rattle.ds_line.specs.declared.part_fault.PartFault.TheVariants.{BadPart, NoRoom}
-use Rattle.ds_line.proofs.PieceLemmas.{One, behind, byte_found, byte_stops, part_missing, stops_from, then_breaks, both_found}
+use Rattle.ds_line.proofs.PieceLemmas.{One, behind, byte_stops, part_missing, stops_from, then_breaks, both_found}
 use Rattle.ds_line.proofs.PartLemmas.{byte_begins}
 use Rattle.ds_pattern.specs.declared.query.Query.{Query}
 use Rattle.ds_words.specs.Lines.{IsUnbroken}
 use Rattle.ds_words.specs.Pieces.{a_pattern, a_kinds, FindsPattern}
-use Rattle.ds_words.specs.Query.{IsQuery}
 use Rattle.ds_words.specs.Scope.{a_scope, scope_parts, IsScope, Writes}
 use Rattle.ds_words.proofs.PieceLemmas.{kinds_one}
 use Rattle.ds_words.proofs.QueryLemmas.{pattern_fixed, pattern_one, escaped_one, query_is}

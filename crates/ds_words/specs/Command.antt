@@ -3,20 +3,18 @@ use Rattle.std.specs.Prelude.{◌≡◌, ◌≢◌, ℕ, ◌<◌, ◌≤◌, ◌
 use Rattle.std.specs.Fmt.{decimal}
 use Rattle.ds_names.specs.Name.{IsName}
 use Rattle.ds_names.specs.Endpoint.{IsEndpoint, endpoint_text}
-use Rattle.ds_names.specs.declared.key.Key.{Key}
 use Rattle.ds_names.specs.declared.version.Version.{Version}
 use Rattle.ds_entry.specs.declared.body.Body.TheVariants.{Put}
 use Rattle.ds_entry.specs.Change.{IsInPlace}
 use Rattle.ds_entry.specs.Item.{IsItem, IsItemInPlace}
-use Rattle.ds_line.specs.Part.{Part, part, byte, texts, Word, Name, Number, Endpoint, Quoted}
-use Rattle.ds_line.specs.Spelling.{space, newline, kind_word, quoted, body_parts}
+use Rattle.ds_line.specs.Part.{Part, part, texts, Word, Name, Number, Endpoint}
+use Rattle.ds_line.specs.Spelling.{space, newline, body_parts}
 use Rattle.ds_line.specs.ItemSpelling.{item_parts}
 use Rattle.ds_line.specs.FaultPlace.{IsFaultPlace}
 use Rattle.ds_line.specs.Piece.{IsValueOf}
-use Rattle.ds_pattern.specs.declared.query.Query.{Query}
 use Rattle.ds_machine.specs.declared.command.Command.{Command}
 use Rattle.ds_machine.specs.declared.command.Command.TheVariants as commands
-use Rattle.ds_words.specs.Lines.{ended, IsUnbroken}
+use Rattle.ds_words.specs.Lines.{ended}
 use Rattle.ds_words.specs.declared.fault.CommandFault.{CommandFault}
 use Rattle.ds_words.specs.declared.fault.CommandFault.TheVariants.{BadLine, NoRoom}
 use Rattle.ds_words.specs.declared.command.ScriptCommand.{ScriptCommand}

@@ -1,5 +1,5 @@
 -- Queries as lines write them.
-use Rattle.std.specs.Prelude.{ℕ, ◌<◌, ◌≤◌, List, [], ◌∷◌}
+use Rattle.std.specs.Prelude.{◌<◌, ◌≤◌, List, [], ◌∷◌}
 use Rattle.std.specs.Fmt.{decimal}
 use Rattle.ds_line.specs.Part.{Part, part, Number, Quoted}
 use Rattle.ds_line.specs.Spelling.{space, quoted}

@@ -1,5 +1,5 @@
 -- The words of a world: of its sides, and of whom a message is given to.
-use Rattle.std.specs.Prelude.{ℕ, ◌<◌, ◌^◌, List, [], ◌∷◌, codes, Option, None, Some}
+use Rattle.std.specs.Prelude.{ℕ, ◌<◌, ◌^◌, List, ◌∷◌, codes, Option, None, Some}
 use Rattle.std.specs.Fmt.{decimal}
 use Rattle.ds_line.specs.Part.{Part, part, byte, Number}
 use Rattle.ds_replica.specs.declared.event.Side.{Side}

@@ -1,6 +1,6 @@
 //! What a line asks of a store.
 
-ghost use Rattle.std.specs.Prelude.{◌≡◌, ◌∷◌, [], true, false, IfOk, OnErr};
+ghost use Rattle.std.specs.Prelude.{◌≡◌, ◌||◌, ◌∷◌, [], true, false, IfOk, OnErr};
 ghost use Rattle.ds_machine.specs.declared.command.Command.TheVariants as commands;
 ghost use Rattle.ds_words.specs.Command.{has_scope, is_plain, store_command};
 ghost use Rattle.ds_words.specs.Scope.{is_all, store_scope};
@@ -85,20 +85,7 @@ impl ScriptCommand {
                 initial,
                 overwrite,
             })),
-            ScriptCommand::Since { scope, cursor, max } => Ok(Some(Command::Since {
-                scope: into_scope(scope),
-                cursor,
-                max,
-            })),
-            ScriptCommand::Snapshot { scope } => Ok(Some(Command::Snapshot {
-                scope: into_scope(scope),
-            })),
-            ScriptCommand::Page { scope, after, max } => Ok(Some(Command::Page {
-                scope: into_scope(scope),
-                after,
-                max,
-            })),
-            plain => Ok(plain.plain_command()),
+            other => Ok(other.into_scoped_command()),
         }
     }
 
@@ -123,6 +110,29 @@ impl ScriptCommand {
                 max: *max,
             })),
             _ => unreachable!(),
+        }
+    }
+
+    // The store's command of a line that has a scope, or takes no memory.
+    fn into_scoped_command(self) -> Option<Command>
+        requires { (has_scope self || is_plain self) ≡ true }
+        ensures { result ≡ store_command self }
+    {
+        match self {
+            ScriptCommand::Since { scope, cursor, max } => Some(Command::Since {
+                scope: into_scope(scope),
+                cursor,
+                max,
+            }),
+            ScriptCommand::Snapshot { scope } => Some(Command::Snapshot {
+                scope: into_scope(scope),
+            }),
+            ScriptCommand::Page { scope, after, max } => Some(Command::Page {
+                scope: into_scope(scope),
+                after,
+                max,
+            }),
+            plain => plain.plain_command(),
         }
     }
 

@@ -186,15 +186,7 @@ fn wanted(expected: Expected) -> &'static str {
         Expected::Initial => "`first` or `later` was expected",
         Expected::Map => "J was expected, the number of a map, counted from 0",
         Expected::Limit => "a line has at most 4096 bytes",
-        Expected::Ring
-        | Expected::Side
-        | Expected::Incarnation
-        | Expected::Position
-        | Expected::Scope
-        | Expected::After
-        | Expected::Message
-        | Expected::Holder
-        | Expected::Count => wanted_of_a_world(expected),
+        _ => wanted_of_a_world(expected),
     }
 }
 

@@ -1,4 +1,4 @@
-use Rattle.std.proofs.Common.{[], ap, length, sym, ◌∙◌, ◌==◌}
+use Rattle.std.proofs.Common.{ap, length, sym, ◌∙◌, ◌==◌}
 use Rattle.std.proofs.lemmas.Bool.{false≢true}
 use Rattle.ds_words.proofs.WorldPieceLemmas.{if_none, no_map_number, map_not_all}
 use Rattle.ds_words.proofs.world_pieces.map_of.Goals as goal

@@ -2,7 +2,6 @@ use Rattle.std.proofs.Common.{ℕ, Option, None}
 use Rattle.std.proofs.lemmas.Result.{err_from_is_err_and}
 use Rattle.ds_words.specs.World.{count_part, IsCount}
 use Rattle.ds_words.proofs.PieceLemmas.{one_part, no_byte}
-use Rattle.ds_words.proofs.WorldPieceLemmas.{no_count}
 use Rattle.ds_words.proofs.pieces.Rest.count.Goals as goal
 
 pub returns-in_err-byte-clause-stop : goal.returns-in_err-byte-clause-stop

@@ -21,10 +21,10 @@ pub returns-in_err-kind-clause-stop : goal.returns-in_err-kind-clause-stop
 returns-in_err-kind-clause-stop c =
     let exit = err_from_is_err_and c.from_residual-in_err-kind.result c.from_residual-in_err-kind.ensures.1 in
     let other : c.in_ok-name.name ≡ no_key → NoKind c.name.new.self.bytes.now → ⊥ =
-        elim c.else-is_dash.branch [
-          | else-is_dash-via-then-is_dash+else-not-is_before_kind w ↦ λ is none. (let there = w.is_before_kind.ensures.0 w.if-not-is_before_kind.false in none there.0 there.1 there.2)
-          | else-is_dash-via-else-is_dash w ↦ λ is none. false≢true (sym w.if-is_dash.false ∙ c.is_dash.ensures.1 is)
-        ] in
+    elim c.else-is_dash.branch [
+      | else-is_dash-via-then-is_dash+else-not-is_before_kind w ↦ λ is none. (let there = w.is_before_kind.ensures.0 w.if-not-is_before_kind.false in none there.0 there.1 there.2)
+      | else-is_dash-via-else-is_dash w ↦ λ is none. false≢true (sym w.if-is_dash.false ∙ c.is_dash.ensures.1 is)
+    ] in
     rw (exit.1, exit.2) (range_follow_stops c.in_ok-name.name c.in_err-kind.field-0.0 c.args.self.now.bytes.now c.name.new.self.bytes.now c.in_ok-name.ensures.found (follow_kind_stops c.in_ok-name.name c.in_err-kind.field-0.0 c.name.new.self.bytes.now other c.in_err-kind.ensures.room c.in_err-kind.ensures.stop))
 
 pub returns-in_err-max-2-clause-stop : goal.returns-in_err-max-2-clause-stop
