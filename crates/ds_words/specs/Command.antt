@@ -181,6 +181,11 @@ TakesMemory (Snapshot scope) = ScopeTakesMemory scope
 TakesMemory (Page scope after max) = ScopeTakesMemory scope
 TakesMemory _ = ⊥
 
+-- the line is an offer
+abbrev pub is_offer : ScriptCommand → Bool
+is_offer (Offer i) = true
+is_offer _ = false
+
 -- what the line asks of a store takes no memory: it has no item, no value and no pattern, or the line asks nothing
 abbrev pub is_plain : ScriptCommand → Bool
 is_plain (Offer i) = false

@@ -2,7 +2,7 @@
 
 ghost use Rattle.std.specs.Prelude.{◌≡◌, ◌||◌, ◌∷◌, [], true, false, IfOk, OnErr};
 ghost use Rattle.ds_machine.specs.declared.command.Command.TheVariants as commands;
-ghost use Rattle.ds_words.specs.Command.{has_scope, is_plain, store_command};
+ghost use Rattle.ds_words.specs.Command.{has_scope, is_offer, is_plain, store_command};
 ghost use Rattle.ds_words.specs.Scope.{is_all, store_scope};
 
 use crate::command::ScriptCommand;
@@ -54,10 +54,10 @@ impl ScriptCommand {
     }
 
     /// The store's command of the line, as `store_command` gives it, made of what the line has. NoRoom: out of memory
-    /// for the list of an `offer`'s one item.
+    /// for the list of an `offer`'s one item, and for no other line.
     pub fn into_store_command(self, alloc: Global) -> Result<Option<Command>, NoRoom>
         ensures command { IfOk result (λ command. command ≡ store_command self) }
-        ensures room { OnErr result (is_plain self ≡ false) }
+        ensures room { OnErr result (is_offer self ≡ true) }
     {
         match self {
             ScriptCommand::Offer(item) => Ok(Some(merge_of(alloc, item)?)),

@@ -1,7 +1,7 @@
 //! What a line lets happen in a world.
 
-ghost use Rattle.std.specs.Prelude.{◌≡◌, false, IfOk, OnErr};
-ghost use Rattle.ds_words.specs.Command.{is_plain};
+ghost use Rattle.std.specs.Prelude.{◌≡◌, true, IfOk, OnErr};
+ghost use Rattle.ds_words.specs.Command.{is_offer};
 ghost use Rattle.ds_words.specs.Event.{event_of};
 
 use crate::command::ScriptCommand;
@@ -12,10 +12,10 @@ use std::alloc::Global;
 impl ScriptCommand {
     /// The event that the line is in a world whose store of this side is asked: what the line asks of a store is asked of
     /// that one. `None` for the lines that let nothing happen: `show`, `all`, `entries`, `ring` and `side`. NoRoom: out of
-    /// memory for the list of an `offer`'s one item.
+    /// memory for the list of an `offer`'s one item, and for no other line.
     pub fn into_event(self, alloc: Global, side: Side) -> Result<Option<Event>, NoRoom>
         ensures event { IfOk result (λ event. event ≡ event_of side self) }
-        ensures room { OnErr result (is_plain self ≡ false) }
+        ensures room { OnErr result (is_offer self ≡ true) }
     {
         match self {
             ScriptCommand::Map { query } => Ok(Some(Event::NewMap { query })),
