@@ -1,8 +1,7 @@
 pub mod Transfer
-pub mod Maps
 pub mod Session
 pub mod Answer
+pub mod Told
 pub mod Replay
 pub mod Progress
-pub mod GoingOn
-pub mod GoingProgress
+pub mod Laws

@@ -1,9 +1,10 @@
 //! Carrying commands out, and their answers.
 
-ghost use Rattle.std.specs.Prelude.{◌≡◌, ◌⊎◌, ◌++◌, List, ℕ, OnOk, OnErr};
-ghost use Rattle.ds_words.specs.Outcome.{ring_line, side_line};
-ghost use Rattle.ds_script.specs.Session.{Leads};
-ghost use Rattle.ds_script.specs.Answer.{AnswersOrRefuses, AnswersRing, IsRefused, AnswersSide};
+ghost use Rattle.std.specs.Prelude.{◌≡◌, ◌≤◌, ◌⊎◌, ◌++◌, List, ℕ, OnOk, OnErr};
+ghost use Rattle.ds_words.specs.Command.{IsCommand};
+ghost use Rattle.ds_words.specs.Outcome.{side_line};
+ghost use Rattle.ds_script.specs.Session.{Leads, turned};
+ghost use Rattle.ds_script.specs.Answer.{AnswersOrRefuses, AnswersRing, IsRefused};
 
 use crate::entries::append_entries;
 use crate::event::answer_event;

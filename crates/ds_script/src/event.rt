@@ -5,7 +5,8 @@ ghost use Rattle.std.specs.List.{slice_get};
 ghost use Rattle.ds_words.specs.Command.{wording};
 ghost use Rattle.ds_words.specs.Event.{event_of};
 ghost use Rattle.ds_script.specs.Session.{Leads};
-ghost use Rattle.ds_script.specs.Answer.{AnswersAsEvent, IsRefused, told_lines, IsMade};
+ghost use Rattle.ds_script.specs.Answer.{AnswersAsEvent, IsRefused};
+ghost use Rattle.ds_script.specs.Told.{told_lines, IsThere};
 
 use crate::session::Session;
 use ds_held::Limits;
@@ -44,7 +45,7 @@ fn append_told(
     outcome: &Outcome,
     session: &Session,
 ) -> Result<(), NoRoom>
-    requires { IsMade outcome.now session.now.world.messages }
+    requires { IsThere outcome.now session.now.world.messages }
     ensures written { OnOk result (output.new.items ≡ output.old.items ++ told_lines wording outcome.now session.now.world.messages) }
     ensures unchanged { OnErr result (output.new.items ≡ output.old.items) }
 {

@@ -1,9 +1,11 @@
 //! A whole replay: from a reader's lines to a writer's answers.
 
-ghost use Rattle.std.specs.Prelude.{◌≡◌, ℕ, List, IfOk, IfErr, vec_len};
+ghost use Rattle.std.specs.Prelude.{◌≡◌, [], ℕ, List, IfOk, IfErr, OnOk, length, vec_len};
 ghost use Rattle.std.specs.Io.KnownBytes.{Appends, Consumes, IsAtEnd};
 ghost use Rattle.ds_script.specs.declared.report.BadLines.TheVariants.{End};
+ghost use Rattle.ds_script.specs.Session.{StandsFor, at_start};
 ghost use Rattle.ds_script.specs.Replay.{IsAnswered, StopsWith};
+ghost use Rattle.ds_script.specs.Progress.{Stops, Settles};
 
 use crate::fault::ReplayFault;
 use crate::report::{BadLines, Nobody, Report};
@@ -103,6 +105,16 @@ fn run<R: Read, W: Write, B: Report>(
     chunk: &mut [u8],
     running: &mut Running,
 ) -> Result<(), ReplayFault>
+    requires chunk { length chunk.old ≡ 65536 }
+    requires start { StandsFor running.old.session at_start × (running.old.output.items ≡ []) × (running.old.done ≡ record { lines = 0; bad = 0 }) }
+    ensures ok { OnOk result ((input output : List ℕ)
+        × Consumes (R.remaining reader.old) (R.remaining reader.new) input × IsAtEnd (R.remaining reader.new)
+        × Appends (W.contents writer.old) (W.contents writer.new) output
+        × IsAnswered running.old.bad_lines input running.new.done.lines running.new.done.bad output) }
+    ensures err { IfErr result (λ fault. (input output : List ℕ)
+        × Consumes (R.remaining reader.old) (R.remaining reader.new) input
+        × Appends (W.contents writer.old) (W.contents writer.new) output
+        × Stops running.old.bad_lines fault (R.remaining reader.new) input output running.new.output.items) }
 {
     let mut pending = Vec::new(alloc);
     for _turn in 0..READS {
@@ -115,12 +127,14 @@ fn run<R: Read, W: Write, B: Report>(
 }
 
 // Writes the answers that wait where a fault ended the replay, and gives the fault. A writer that failed isn't asked again.
-fn settled<W: Write>(writer: &mut W, output: &[u8], fault: ReplayFault) -> ReplayFault {
-    if fault == ReplayFault::WriteFault {
-        return fault;
-    }
-    match write_out(writer, output) {
-        Ok(()) => fault,
-        Err(WriteFailed) => ReplayFault::WriteFault,
+fn settled<W: Write>(writer: &mut W, output: &[u8], fault: ReplayFault) -> ReplayFault
+    ensures { Settles result fault (W.contents writer.old) (W.contents writer.new) output.now }
+{
+    match fault {
+        ReplayFault::WriteFault => fault,
+        _ => match write_out(writer, output) {
+            Ok(()) => fault,
+            Err(WriteFailed) => ReplayFault::WriteFault,
+        },
     }
 }

@@ -1,10 +1,10 @@
 //! What a script drives.
 
-ghost use Rattle.std.specs.Prelude.{◌≡◌, slice_get, IfOk, OnErr};
+ghost use Rattle.std.specs.Prelude.{◌≡◌, ◌≤◌, slice_get, IfOk, OnErr};
 ghost use Rattle.std.specs.Option.{option_copied};
 ghost use Rattle.ds_held.specs.Held.{held_items};
 ghost use Rattle.ds_world.specs.World.{store_in};
-ghost use Rattle.ds_script.specs.Session.{StandsFor, Leads, opened, turned, IsHappening};
+ghost use Rattle.ds_script.specs.Session.{StandsFor, seed as described_seed, opened, turned, IsHappening};
 
 use ds_held::Held;
 use ds_machine::Reply;
@@ -113,7 +113,7 @@ impl Session {
 
 // With what the store of an incarnation is opened.
 fn seed(incarnation: u64, ring: u32) -> Seed
-    ensures { result ≡ record { incarnation = incarnation; first = 0; ring = ring } }
+    ensures { result ≡ described_seed incarnation ring }
 {
     Seed {
         incarnation,
