@@ -38,7 +38,7 @@ ScriptsAgree =
     (policy : BadLines) (lines : List (List ℕ)) (out : List ℕ) (bad : ℕ) (state : ScriptState) → AnswersLines policy 0 at_start lines out bad state →
     (events : List (Event × Outcome)) × (ring : ℕ) × CameOf events ring state
     × (let account = extended_all (new_account (seed 1 ring) (seed 2 ring) larger) events in
-       (query : Key → Bool) (h i : Holder) → AreSingleNumbered account.brought → KnowSame query (known_at account h) (known_at account i) → HoldSame state.world query h i)
+    (query : Key → Bool) (h i : Holder) → AreSingleNumbered account.brought → KnowSame query (known_at account h) (known_at account i) → HoldSame state.world query h i)
 
 -- Where both stores hold the same under the query of all keys, `show` answers the same at both sides.
 abbrev pub ShowsAgree : Type 0

@@ -1,6 +1,5 @@
 //! Why a replay ends early.
 
-
 use crate::transfer::WriteFailed;
 use ds_line::Expected;
 use ds_names::NoRoom;
