@@ -1,10 +1,8 @@
 -- What holds of every script: what it drives is a world that came of events, so that the laws over events are laws over scripts.
-use Rattle.std.specs.Prelude.{◌≡◌, ℕ, ◌≤◌, ◌⊎◌, Bool, List, Some}
-use Rattle.std.specs.List.{slice_get}
+use Rattle.std.specs.Prelude.{◌≡◌, ℕ, ◌≤◌, Bool, true, List}
 use Rattle.ds_names.specs.declared.key.Key.{Key}
 use Rattle.ds_entry.specs.ItemCovers.{AreSingleNumbered}
 use Rattle.ds_held.specs.Limits.{larger}
-use Rattle.ds_whole.specs.Under.{under, entries_of}
 use Rattle.ds_whole.specs.Agreement.{KnowSame}
 use Rattle.ds_replica.specs.declared.event.Event.{Event}
 use Rattle.ds_replica.specs.declared.event.Holder.{Holder}
@@ -16,6 +14,7 @@ use Rattle.ds_replica.specs.Headline.{HoldSame}
 use Rattle.ds_replica.specs.Known.{known_at, new_account, extended_all}
 use Rattle.ds_words.specs.declared.command.ScriptCommand.TheVariants as lines
 use Rattle.ds_script.specs.declared.report.BadLines.{BadLines}
+use Rattle.ds_script.specs.declared.report.BadLines.TheVariants.{End}
 use Rattle.ds_script.specs.Session.{ScriptState, seed, opened, at_start}
 use Rattle.ds_script.specs.Answer.{AnswersCommand}
 use Rattle.ds_script.specs.Replay.{AnswersLines}
@@ -43,10 +42,10 @@ ScriptsAgree =
 -- Where both stores hold the same under the query of all keys, `show` answers the same at both sides.
 abbrev pub ShowsAgree : Type 0
 ShowsAgree =
-    (state after : ScriptState) (out : List ℕ) → HoldSame state.world (λ key. Bool.true) (Store A) (Store B) → AnswersCommand lines.Show (record state { side = A }) out after →
+    (state after : ScriptState) (out : List ℕ) → HoldSame state.world (λ key. true) (Store A) (Store B) → AnswersCommand lines.Show (record state { side = A }) out after →
     AnswersCommand lines.Show (record state { side = B }) out (record state { side = B })
 
 -- No line is bad where bad lines end the script.
 abbrev pub NoneIsBadWhereOneEnds : Type 0
 NoneIsBadWhereOneEnds =
-    (before : ℕ) (old new : ScriptState) (lines : List (List ℕ)) (out : List ℕ) (bad : ℕ) → AnswersLines BadLines.TheVariants.End before old lines out bad new → bad ≡ 0
+    (before : ℕ) (old new : ScriptState) (lines : List (List ℕ)) (out : List ℕ) (bad : ℕ) → AnswersLines End before old lines out bad new → bad ≡ 0
