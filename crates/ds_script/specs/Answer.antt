@@ -8,7 +8,6 @@ use Rattle.ds_line.specs.ItemSpelling.{item_spelling}
 use Rattle.ds_held.specs.Limits.{larger}
 use Rattle.ds_submap.specs.Map.{entries_of}
 use Rattle.ds_machine.specs.State.{held}
-use Rattle.ds_machine.specs.declared.reply.Reply.{Reply}
 use Rattle.ds_replica.specs.declared.event.Event.{Event}
 use Rattle.ds_replica.specs.declared.event.Event.TheVariants.{Ask}
 use Rattle.ds_replica.specs.declared.event.Side.{Side}

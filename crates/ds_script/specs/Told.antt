@@ -1,5 +1,5 @@
 -- What is told of an outcome, read off what callers see of the world behind it.
-use Rattle.std.specs.Prelude.{◌≡◌, ℕ, List, [], Option, Some}
+use Rattle.std.specs.Prelude.{◌≡◌, ℕ, List, [], Some}
 use Rattle.std.specs.List.{slice_get}
 use Rattle.std.specs.Option.{option_map_or}
 use Rattle.ds_held.specs.Limits.{larger}

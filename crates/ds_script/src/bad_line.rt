@@ -1,6 +1,6 @@
 //! Lines that can't be read.
 
-ghost use Rattle.std.specs.Prelude.{◌≡◌, ◌++◌, [], ℕ, List, IfErr, OnOk, OnErr};
+ghost use Rattle.std.specs.Prelude.{◌≡◌, ◌++◌, [], IfErr, OnOk, OnErr};
 ghost use Rattle.std.specs.Io.KnownBytes.{Appends};
 ghost use Rattle.ds_script.specs.Replay.{badline};
 ghost use Rattle.ds_script.specs.Progress.{TellsBad, EndsAtBad};

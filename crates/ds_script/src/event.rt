@@ -1,8 +1,6 @@
 //! Commands that are events of a world, and what is told of them.
 
 ghost use Rattle.std.specs.Prelude.{◌≡◌, ◌≢◌, ◌⊎◌, ◌++◌, List, ℕ, None, Some, OnOk, OnErr};
-ghost use Rattle.std.specs.List.{slice_get};
-ghost use Rattle.ds_words.specs.Command.{wording};
 ghost use Rattle.ds_words.specs.Event.{event_of};
 ghost use Rattle.ds_script.specs.Session.{Leads};
 ghost use Rattle.ds_script.specs.Answer.{AnswersAsEvent, IsRefused};
