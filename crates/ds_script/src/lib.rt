@@ -10,6 +10,7 @@ mod entries;
 mod event;
 mod fault;
 mod faulty;
+mod laws;
 mod line;
 mod replay;
 mod report;
@@ -22,6 +23,7 @@ mod turn;
 
 pub use fault::ReplayFault;
 pub use faulty::{FailRead, FailWrite};
+pub use laws::{none_is_bad_where_one_ends, scripts_are_events};
 pub use replay::{replay, replay_reporting};
 pub use report::{BadLine, BadLines, Report};
 pub use taking::Replayed;
