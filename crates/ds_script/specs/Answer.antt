@@ -1,20 +1,18 @@
 -- What the lines of a script are answered. It is a relation, since memory may be refused at any line.
-use Rattle.std.specs.Prelude.{◌≡◌, ℕ, zero, suc, Bool, true, false, ◌⊎◌, List, ◌++◌, length, Option, MatchOption, codes}
+use Rattle.std.specs.Prelude.{◌≡◌, ℕ, zero, suc, Bool, true, false, ◌⊎◌, List, [], ◌++◌, length, Option, Some, MatchOption, codes}
 use Rattle.std.specs.List.{flat_map, slice_get}
 use Rattle.std.specs.Fmt.{decimal}
 use Rattle.std.specs.Option.{option_map_or}
 use Rattle.ds_entry.specs.declared.item.Item.{Item}
 use Rattle.ds_line.specs.ItemSpelling.{item_spelling}
 use Rattle.ds_held.specs.Limits.{larger}
-use Rattle.ds_submap.specs.Map.{entries_of}
-use Rattle.ds_machine.specs.State.{held}
+use Rattle.ds_held.specs.Held.{held_items}
+use Rattle.ds_submap.specs.Map.{SubMapRecord, entries_of}
+use Rattle.ds_machine.specs.declared.reply.Reply.{Reply}
 use Rattle.ds_replica.specs.declared.event.Event.{Event}
-use Rattle.ds_replica.specs.declared.event.Event.TheVariants.{Ask}
 use Rattle.ds_replica.specs.declared.event.Side.{Side}
 use Rattle.ds_replica.specs.declared.outcome.Outcome.{Outcome}
 use Rattle.ds_replica.specs.declared.outcome.Outcome.TheVariants.{Made}
-use Rattle.ds_replica.specs.World.{World, MapState, store_at}
-use Rattle.ds_replica.specs.Happens.{Happens, Asks}
 use Rattle.ds_words.specs.Command.{IsCommand, IsLineAs}
 use Rattle.ds_words.specs.Later.{IsLater}
 use Rattle.ds_words.specs.Lines.{ended}
@@ -24,7 +22,7 @@ use Rattle.ds_words.specs.Reply.{wording, reply_lines, refused_noroom}
 use Rattle.ds_words.specs.declared.command.ScriptCommand.{ScriptCommand}
 use Rattle.ds_words.specs.declared.command.ScriptCommand.TheVariants as lines
 use Rattle.ds_words.specs.declared.wording.Wording.{Wording}
-use Rattle.ds_script.specs.Session.{ScriptState, opened}
+use Rattle.ds_script.specs.Session.{SessionContent, IsOpened, IsHappening, turned, held_of}
 
 -- ---- what is held
 
@@ -37,48 +35,48 @@ abbrev pub picked : Bool → List Item → List Item
 picked true items = items
 picked false items = entries_of items
 
--- what the store that is asked holds
-abbrev pub held_of : ScriptState → List Item
-held_of s = held (store_at s.world s.side)
-
 -- the line of a refusal by its word
 abbrev pub refused_by : List ℕ → List ℕ
 refused_by word = ended (codes "refused " ++ word)
 
 -- the lines of the map's puts, or the refusal where there is no such map
-abbrev pub entries_text : Option MapState → List ℕ
-entries_text m = option_map_or (λ it. shown (entries_of it.held)) m (refused_by (codes "nomap"))
+abbrev pub entries_text : Option SubMapRecord → List ℕ
+entries_text m = option_map_or (λ it. shown (entries_of (held_items it.held))) m (refused_by (codes "nomap"))
 
 -- ---- events
 
--- What is told of an event: its outcome; where that is a message, the reply that the store gave, which is the message.
-abbrev pub TellsOf : Wording → World → Event → Outcome → World → List ℕ → Type 0
-TellsOf wording w (Ask side command) (Made message) new out = (asks : Asks w side command (Made message) new) × (out ≡ reply_lines wording asks.reply larger)
-TellsOf wording w event outcome new out = out ≡ outcome_lines wording outcome larger
+-- What is told of an outcome: its lines; of a message, which is the reply that the store gave, those of the reply.
+abbrev pub told_lines : Wording → Outcome → List Reply → List ℕ
+told_lines wording (Made message) messages = option_map_or (λ reply. reply_lines wording reply larger) (slice_get messages message) []
+told_lines wording outcome messages = outcome_lines wording outcome larger
 
--- the event happens in the world, and what is told of it is the answer
-pub record AnswersEvent (wording : Wording) (event : Event) (old : ScriptState) (out : List ℕ) (new : ScriptState) : Type 0 where
+-- a message that was made is there
+abbrev pub IsThere : Outcome → List Reply → Type 0
+IsThere (Made message) messages = (reply : Reply) × (slice_get messages message ≡ Some reply)
+IsThere outcome messages = Unit {0}
+
+-- the event happens, and what is told of it is the answer
+pub record AnswersEvent (wording : Wording) (event : Event) (old : SessionContent) (out : List ℕ) (new : SessionContent) : Type 0 where
   pub outcome : Outcome
-  pub happens : Happens old.world event outcome new.world
-  pub side : new.side ≡ old.side
-  pub told : TellsOf wording old.world event outcome new.world out
+  pub happens : IsHappening event outcome old new
+  pub told : out ≡ told_lines wording outcome new.world.messages
 
 -- the command is an event, which happens
-abbrev pub AnswersAsEvent : ScriptCommand → ScriptState → List ℕ → ScriptState → Type 0
+abbrev pub AnswersAsEvent : ScriptCommand → SessionContent → List ℕ → SessionContent → Type 0
 AnswersAsEvent command old out new = MatchOption (event_of old.side command) ⊥ (λ event. AnswersEvent (wording command) event old out new)
 
 -- ---- commands
 
--- the world is made again, with journals that keep so many items
-abbrev pub AnswersRing : ℕ → ScriptState → List ℕ → ScriptState → Type 0
-AnswersRing ring old out new = (new ≡ opened ring) × (out ≡ ring_line ring)
+-- the session is opened again, with journals that keep so many items
+abbrev pub AnswersRing : ℕ → SessionContent → List ℕ → SessionContent → Type 0
+AnswersRing ring old out new = IsOpened ring new × (out ≡ ring_line ring)
 
 -- from now on the store of this side is asked
-abbrev pub AnswersSide : Side → ScriptState → List ℕ → ScriptState → Type 0
-AnswersSide side old out new = (new ≡ record old { side = side }) × (out ≡ side_line side)
+abbrev pub AnswersSide : Side → SessionContent → List ℕ → SessionContent → Type 0
+AnswersSide side old out new = (new ≡ turned old side) × (out ≡ side_line side)
 
 -- what is answered to a command, and the state after it
-abbrev pub AnswersCommand : ScriptCommand → ScriptState → List ℕ → ScriptState → Type 0
+abbrev pub AnswersCommand : ScriptCommand → SessionContent → List ℕ → SessionContent → Type 0
 AnswersCommand lines.Show old out new = (new ≡ old) × (out ≡ shown (picked false (held_of old)))
 AnswersCommand lines.All old out new = (new ≡ old) × (out ≡ shown (picked true (held_of old)))
 AnswersCommand (lines.Entries map) old out new = (new ≡ old) × (out ≡ entries_text (slice_get old.world.maps map))
@@ -87,11 +85,11 @@ AnswersCommand (lines.Side side) old out new = AnswersSide side old out new
 AnswersCommand command old out new = AnswersAsEvent command old out new
 
 -- for want of memory a command is refused, and nothing changes
-abbrev pub IsRefused : ScriptState → List ℕ → ScriptState → Type 0
+abbrev pub IsRefused : SessionContent → List ℕ → SessionContent → Type 0
 IsRefused old out new = (new ≡ old) × (out ≡ refused_noroom)
 
 -- what a command is answered, memory or not
-abbrev pub AnswersOrRefuses : ScriptCommand → ScriptState → List ℕ → ScriptState → Type 0
+abbrev pub AnswersOrRefuses : ScriptCommand → SessionContent → List ℕ → SessionContent → Type 0
 AnswersOrRefuses command old out new = IsRefused old out new ⊎ AnswersCommand command old out new
 
 -- ---- lines
@@ -102,5 +100,5 @@ MayStand zero command = IsCommand command
 MayStand (suc before) command = IsLater command
 
 -- what is answered to a line behind so many others, which has to be a command's, and the state after it
-abbrev pub AnswersLine : ℕ → ScriptState → List ℕ → List ℕ → ScriptState → Type 0
+abbrev pub AnswersLine : ℕ → SessionContent → List ℕ → List ℕ → SessionContent → Type 0
 AnswersLine before old line out new = (command : ScriptCommand) × IsLineAs (MayStand before) command line × AnswersOrRefuses command old out new

@@ -1,7 +1,6 @@
 pub mod Transfer
 pub mod Session
 pub mod Answer
-pub mod Told
 pub mod Replay
 pub mod Progress
 pub mod Laws

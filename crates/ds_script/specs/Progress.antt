@@ -12,7 +12,7 @@ use Rattle.ds_script.specs.declared.fault.ReplayFault.TheVariants.{BadLine, Read
 use Rattle.ds_script.specs.declared.report.BadLines.{BadLines}
 use Rattle.ds_script.specs.declared.report.BadLines.TheVariants.{End}
 use Rattle.ds_script.specs.declared.taking.Running.{Running}
-use Rattle.ds_script.specs.Session.{SessionContent, Leads}
+use Rattle.ds_script.specs.Session.{SessionContent}
 use Rattle.ds_script.specs.Replay.{AnswersLines, IsBadBehind, BeginsBadLine, badline, StopsWith}
 
 -- ---- one line
@@ -50,7 +50,7 @@ pub record Takes (had has : Option (List ℕ)) (old : Running) (lines : List (Li
   pub output : List ℕ
   pub sent : List ℕ
   pub bad : ℕ
-  pub answers : Leads (λ s t. AnswersLines old.bad_lines old.done.lines s lines output bad t) old.session new.session
+  pub answers : AnswersLines old.bad_lines old.done.lines old.session lines output bad new.session
   pub split : old.output.items ++ output ≡ sent ++ new.output.items
   pub written : Appends had has sent
   pub counted : new.done.lines ≡ old.done.lines + length lines

@@ -9,7 +9,7 @@ use Rattle.ds_script.specs.declared.fault.ReplayFault.{ReplayFault}
 use Rattle.ds_script.specs.declared.fault.ReplayFault.TheVariants.{BadLine, ReadFault, WriteFault, NoRoom}
 use Rattle.ds_script.specs.declared.report.BadLines.{BadLines}
 use Rattle.ds_script.specs.declared.report.BadLines.TheVariants.{End, GoOn}
-use Rattle.ds_script.specs.Session.{ScriptState, at_start}
+use Rattle.ds_script.specs.Session.{SessionContent, IsOpened}
 use Rattle.ds_script.specs.Answer.{MayStand, AnswersLine}
 
 -- the line behind so many others is bad at the place
@@ -22,19 +22,19 @@ badline number place = ended (codes "badline " ++ (decimal number ++ 32 ∷ deci
 
 -- A line behind so many others is answered; or it is bad, and that is its answer, where bad lines end nothing, and nothing
 -- changes. `bad` counts it then.
-abbrev pub AnswersOrTells : BadLines → ℕ → ScriptState → List ℕ → List ℕ → ℕ → ScriptState → Type 0
+abbrev pub AnswersOrTells : BadLines → ℕ → SessionContent → List ℕ → List ℕ → ℕ → SessionContent → Type 0
 AnswersOrTells policy before old line out bad new =
     (AnswersLine before old line out new × (bad ≡ 0))
     ⊎ ((policy ≡ GoOn) × (new ≡ old) × (bad ≡ 1) × (place : ℕ) × IsBadBehind before line place × (out ≡ badline (suc before) place))
 
 -- the answers to lines behind so many, one after the other, with the count of the bad ones
-abbrev pub AnswersLines : BadLines → ℕ → ScriptState → List (List ℕ) → List ℕ → ℕ → ScriptState → Type 0
+abbrev pub AnswersLines : BadLines → ℕ → SessionContent → List (List ℕ) → List ℕ → ℕ → SessionContent → Type 0
 AnswersLines policy before old [] out bad new = (out ≡ []) × (bad ≡ 0) × (new ≡ old)
-AnswersLines policy before old (line ∷ lines) out bad new = (mid : ScriptState) × (first rest : List ℕ) × (one more : ℕ) × AnswersOrTells policy before old line first one mid × AnswersLines policy (suc before) mid lines rest more new × (out ≡ first ++ rest) × (bad ≡ one + more)
+AnswersLines policy before old (line ∷ lines) out bad new = (mid : SessionContent) × (first rest : List ℕ) × (one more : ℕ) × AnswersOrTells policy before old line first one mid × AnswersLines policy (suc before) mid lines rest more new × (out ≡ first ++ rest) × (bad ≡ one + more)
 
--- the output is what the lines of a script are answered, so many of them bad
+-- the output is what the lines of a script are answered, so many of them bad, from a session whose journals keep 256 items
 abbrev pub AreAnswers : BadLines → List (List ℕ) → ℕ → List ℕ → Type 0
-AreAnswers policy lines bad output = (state : ScriptState) × AnswersLines policy 0 at_start lines output bad state
+AreAnswers policy lines bad output = (start end : SessionContent) × IsOpened 256 start × AnswersLines policy 0 start lines output bad end
 
 -- The input is so many lines, so many of them bad, and the output is the answers to all of them.
 pub record IsAnswered (policy : BadLines) (input : List ℕ) (count bad : ℕ) (output : List ℕ) : Type 0 where

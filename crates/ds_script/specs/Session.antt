@@ -1,5 +1,6 @@
--- The session of a script: the world that it drives, and the side whose store is asked.
-use Rattle.std.specs.Prelude.{◌≡◌, ℕ}
+-- The session of a script: the world that it drives, as callers see it, and the side whose store is asked.
+use Rattle.std.specs.Prelude.{◌≡◌, ℕ, List}
+use Rattle.ds_entry.specs.declared.item.Item.{Item}
 use Rattle.ds_held.specs.Limits.{larger}
 use Rattle.ds_replica.specs.declared.event.Event.{Event}
 use Rattle.ds_replica.specs.declared.event.Side.{Side}
@@ -7,47 +8,39 @@ use Rattle.ds_replica.specs.declared.event.Side.TheVariants.{A}
 use Rattle.ds_replica.specs.declared.outcome.Outcome.{Outcome}
 use Rattle.ds_replica.specs.declared.seed.Seed.{Seed}
 use Rattle.ds_replica.specs.World.{World, new_world}
-use Rattle.ds_world.specs.World.{WorldRecord, Stands}
+use Rattle.ds_world.specs.World.{WorldRecord, Stands, store_in}
 use Rattle.ds_world.specs.Run.{EventLeads}
 use Rattle.ds_world.specs.Told.{IsTold}
-
--- what a script drives
-pub record ScriptState : Type 0 where
-  pub world : World
-  pub side : Side
-
--- with what the store of an incarnation is opened, by its ring
-abbrev pub seed : ℕ → ℕ → Seed
-seed incarnation ring = record { incarnation = incarnation; first = 0; ring = ring }
-
--- A world that was just made, whose journals keep so many items: a has the incarnation 1 and b 2, both begin at position 0,
--- for 128 subscriptions and 4096 keys. Side a is asked.
-abbrev pub opened : ℕ → ScriptState
-opened ring = record { world = new_world (seed 1 ring) (seed 2 ring) larger; side = A }
-
--- at the first line
-abbrev pub at_start : ScriptState
-at_start = opened 256
 
 -- what callers see of a session
 pub record SessionContent : Type 0 where
   pub world : WorldRecord
   pub side : Side
 
--- the value is the state's
-pub record StandsFor (value : SessionContent) (state : ScriptState) : Type 0 where
-  pub world : Stands value.world state.world
-  pub side : state.side ≡ value.side
+-- with what the store of an incarnation is opened, by its ring
+abbrev pub seed : ℕ → ℕ → Seed
+seed incarnation ring = record { incarnation = incarnation; first = 0; ring = ring }
 
--- from each state that the old value stands for, this leads to one that the new value stands for
-abbrev pub Leads : (ScriptState → ScriptState → Type 0) → SessionContent → SessionContent → Type 0
-Leads R old new = (s : ScriptState) → StandsFor old s → (t : ScriptState) × R s t × StandsFor new t
+-- a world that was just made, whose journals keep so many items: a has the incarnation 1 and b 2, both begin at position 0, for
+-- 128 subscriptions and 4096 keys
+abbrev pub made : ℕ → World
+made ring = new_world (seed 1 ring) (seed 2 ring) larger
 
--- the value whose store of this side is asked
+-- the session stands for such a world, and side a is asked
+pub record IsOpened (ring : ℕ) (session : SessionContent) : Type 0 where
+  pub world : Stands session.world (made ring)
+  pub side : session.side ≡ A
+
+-- from now on the store of this side is asked
 abbrev pub turned : SessionContent → Side → SessionContent
-turned value side = record value { side = side }
+turned session side = record session { side = side }
 
--- one event happened in the world, and told what `World::run` tells of it
+-- what the store that is asked holds
+abbrev pub held_of : SessionContent → List Item
+held_of session = (store_in session.world session.side).held
+
+-- One event happens in the world: with this outcome it leads from each world of the definitions for which the session stands to
+-- one for which it then does, and what `World::run` tells of the outcome is so.
 pub record IsHappening (event : Event) (outcome : Outcome) (old new : SessionContent) : Type 0 where
   pub leads : EventLeads event outcome old.world new.world
   pub told : IsTold event outcome old.world new.world

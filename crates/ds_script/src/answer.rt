@@ -3,7 +3,7 @@
 ghost use Rattle.std.specs.Prelude.{◌≡◌, ◌≤◌, ◌⊎◌, ◌++◌, List, ℕ, OnOk, OnErr};
 ghost use Rattle.ds_words.specs.Command.{IsCommand};
 ghost use Rattle.ds_words.specs.Outcome.{side_line};
-ghost use Rattle.ds_script.specs.Session.{Leads, turned};
+ghost use Rattle.ds_script.specs.Session.{turned};
 ghost use Rattle.ds_script.specs.Answer.{AnswersOrRefuses, AnswersRing, IsRefused};
 
 use crate::entries::append_entries;
@@ -26,7 +26,7 @@ pub(crate) fn answer_command(
     command: ScriptCommand,
 ) -> Result<(), NoRoom>
     requires { IsCommand command }
-    ensures answered { OnOk result ((out : List ℕ) × (output.new.items ≡ output.old.items ++ out) × Leads (λ s t. AnswersOrRefuses command s out t) session.old session.new) }
+    ensures answered { OnOk result ((out : List ℕ) × (output.new.items ≡ output.old.items ++ out) × AnswersOrRefuses command session.old out session.new) }
     ensures unanswered { OnErr result (output.new.items ≡ output.old.items) }
 {
     match command {
@@ -47,7 +47,7 @@ fn answer_ring(
     ring: u32,
 ) -> Result<(), NoRoom>
     requires { (1 ≤ ring) × (ring ≤ 4096) }
-    ensures answered { OnOk result ((out : List ℕ) × (output.new.items ≡ output.old.items ++ out) × Leads (λ s t. AnswersRing ring s out t ⊎ IsRefused s out t) session.old session.new) }
+    ensures answered { OnOk result ((out : List ℕ) × (output.new.items ≡ output.old.items ++ out) × (AnswersRing ring session.old out session.new ⊎ IsRefused session.old out session.new)) }
     ensures unanswered { OnErr result (output.new.items ≡ output.old.items) }
 {
     let Ok(opened) = Session::open(alloc, ring) else {

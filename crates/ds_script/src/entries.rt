@@ -1,8 +1,7 @@
 //! The answer to `entries`.
 
 ghost use Rattle.std.specs.Prelude.{◌≡◌, ◌⊎◌, ◌++◌, OnOk, OnErr};
-ghost use Rattle.std.specs.Option.{option_copied, option_map};
-ghost use Rattle.ds_world.specs.World.{map_state};
+ghost use Rattle.std.specs.Option.{option_copied};
 ghost use Rattle.ds_script.specs.Answer.{entries_text};
 ghost use Rattle.ds_words.specs.Reply.{refused_noroom};
 
@@ -19,7 +18,7 @@ pub(crate) fn append_entries(
     map: Option<&SubMap>,
     output: &mut Vec<u8>,
 ) -> Result<(), NoRoom>
-    ensures answered { OnOk result ((output.new.items ≡ output.old.items ++ refused_noroom) ⊎ (output.new.items ≡ output.old.items ++ entries_text (option_map map_state (option_copied map.entry)))) }
+    ensures answered { OnOk result ((output.new.items ≡ output.old.items ++ refused_noroom) ⊎ (output.new.items ≡ output.old.items ++ entries_text (option_copied map.entry))) }
     ensures unanswered { OnErr result (output.new.items ≡ output.old.items) }
 {
     let Some(map) = map else {

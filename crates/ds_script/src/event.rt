@@ -2,9 +2,7 @@
 
 ghost use Rattle.std.specs.Prelude.{◌≡◌, ◌≢◌, ◌⊎◌, ◌++◌, List, ℕ, None, Some, OnOk, OnErr};
 ghost use Rattle.ds_words.specs.Event.{event_of};
-ghost use Rattle.ds_script.specs.Session.{Leads};
-ghost use Rattle.ds_script.specs.Answer.{AnswersAsEvent, IsRefused};
-ghost use Rattle.ds_script.specs.Told.{told_lines, IsThere};
+ghost use Rattle.ds_script.specs.Answer.{AnswersAsEvent, IsRefused, told_lines, IsThere};
 
 use crate::session::Session;
 use ds_held::Limits;
@@ -21,7 +19,7 @@ pub(crate) fn answer_event(
     command: ScriptCommand,
 ) -> Result<(), NoRoom>
     requires { event_of session.old.side command ≢ None }
-    ensures answered { OnOk result ((out : List ℕ) × (output.new.items ≡ output.old.items ++ out) × Leads (λ s t. AnswersAsEvent command s out t ⊎ IsRefused s out t) session.old session.new) }
+    ensures answered { OnOk result ((out : List ℕ) × (output.new.items ≡ output.old.items ++ out) × (AnswersAsEvent command session.old out session.new ⊎ IsRefused session.old out session.new)) }
     ensures unanswered { OnErr result (output.new.items ≡ output.old.items) }
 {
     let wording = command.wording();

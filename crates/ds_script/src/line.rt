@@ -4,7 +4,6 @@ ghost use Rattle.std.specs.Prelude.{◌≡◌, ◌++◌, ℕ, List, IfErr, OnOk,
 ghost use Rattle.ds_line.specs.LastNewline.{EndsLine};
 ghost use Rattle.ds_words.specs.Lines.{ended};
 ghost use Rattle.ds_words.specs.Command.{ReadsAs};
-ghost use Rattle.ds_script.specs.Session.{Leads};
 ghost use Rattle.ds_script.specs.Answer.{MayStand, AnswersLine};
 ghost use Rattle.ds_script.specs.Progress.{IsFaultOf, Keeps};
 
@@ -27,7 +26,7 @@ pub(crate) fn answer_line(
     output: &mut Vec<u8>,
 ) -> Result<(), CommandFault>
     requires { EndsLine line.now }
-    ensures ok { OnOk result ((out : List ℕ) × (output.new.items ≡ output.old.items ++ out) × ((text : List ℕ) → line.now ≡ ended text → Leads (λ s t. AnswersLine before s text out t) session.old session.new)) }
+    ensures ok { OnOk result ((out : List ℕ) × (output.new.items ≡ output.old.items ++ out) × ((text : List ℕ) → line.now ≡ ended text → AnswersLine before session.old text out session.new)) }
     ensures err { OnErr result (output.new.items ≡ output.old.items) }
     ensures fault { IfErr result (λ fault. (text : List ℕ) → line.now ≡ ended text → IsFaultOf before fault text) }
     ensures kept { IfErr result (λ fault. Keeps fault session.old session.new) }

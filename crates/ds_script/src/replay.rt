@@ -3,7 +3,7 @@
 ghost use Rattle.std.specs.Prelude.{◌≡◌, [], ℕ, List, IfOk, IfErr, OnOk, length, vec_len};
 ghost use Rattle.std.specs.Io.KnownBytes.{Appends, Consumes, IsAtEnd};
 ghost use Rattle.ds_script.specs.declared.report.BadLines.TheVariants.{End};
-ghost use Rattle.ds_script.specs.Session.{StandsFor, at_start};
+ghost use Rattle.ds_script.specs.Session.{IsOpened};
 ghost use Rattle.ds_script.specs.Replay.{IsAnswered, StopsWith};
 ghost use Rattle.ds_script.specs.Progress.{Stops, Settles};
 
@@ -106,7 +106,7 @@ fn run<R: Read, W: Write, B: Report>(
     running: &mut Running,
 ) -> Result<(), ReplayFault>
     requires chunk { length chunk.old ≡ 65536 }
-    requires start { StandsFor running.old.session at_start × (running.old.output.items ≡ []) × (running.old.done ≡ record { lines = 0; bad = 0 }) }
+    requires start { IsOpened 256 running.old.session × (running.old.output.items ≡ []) × (running.old.done ≡ record { lines = 0; bad = 0 }) }
     ensures ok { OnOk result ((input output : List ℕ)
         × Consumes (R.remaining reader.old) (R.remaining reader.new) input × IsAtEnd (R.remaining reader.new)
         × Appends (W.contents writer.old) (W.contents writer.new) output

@@ -3,8 +3,7 @@
 ghost use Rattle.std.specs.Prelude.{◌≡◌, ◌≤◌, slice_get, IfOk, OnErr};
 ghost use Rattle.std.specs.Option.{option_copied};
 ghost use Rattle.ds_held.specs.Held.{held_items};
-ghost use Rattle.ds_world.specs.World.{store_in};
-ghost use Rattle.ds_script.specs.Session.{StandsFor, seed as described_seed, opened, turned, IsHappening};
+ghost use Rattle.ds_script.specs.Session.{IsOpened, seed as described_seed, held_of, turned, IsHappening};
 
 use ds_held::Held;
 use ds_machine::Reply;
@@ -45,7 +44,7 @@ impl Session {
     /// maps and no messages; side a is asked. NoRoom: there is no memory for the stores' rings.
     pub(crate) fn open(alloc: Global, ring: u32) -> Result<Session, NoRoom>
         requires { (1 ≤ ring) × (ring ≤ 4096) }
-        ensures opened { IfOk result (λ session. StandsFor session (opened ring)) }
+        ensures opened { IfOk result (λ session. IsOpened ring session) }
     {
         match World::new(alloc, seed(1, ring), seed(2, ring)) {
             Ok(world) => Ok(Session {
@@ -91,7 +90,7 @@ impl Session {
 
     /// What the store that is asked holds.
     pub(crate) fn held(&self) -> &Held
-        ensures { held_items result.now ≡ (store_in self.now.world self.now.side).held }
+        ensures { held_items result.now ≡ held_of self.now }
     {
         self.world.store(self.side).held()
     }
