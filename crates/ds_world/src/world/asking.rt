@@ -34,7 +34,7 @@ fn apply(a: &mut Store, b: &mut Store, side: Side, command: Command) -> Reply
 }
 
 impl World {
-    // Asks a store. A reply with items is kept as the next message; room for that is taken first.
+    // Asks a store. What it gives is kept as the next message; room for that is taken first.
     pub(super) fn ask(&mut self, side: Side, command: Command) -> Outcome
         ensures leads { EventLeads (Ask side command) result self.old self.new }
         ensures told { IsTold (Ask side command) result self.old self.new }
@@ -59,10 +59,11 @@ impl World {
             return Outcome::Refused(EventFault::NoRoom);
         };
         let reply = apply(&mut self.a, &mut self.b, side, command);
-        if items_of(&reply).is_none() {
-            return Outcome::Replied(reply);
-        }
-        self.messages.push_reserved(reply);
+        let items = match items_of(reply) {
+            Ok(items) => items,
+            Err(reply) => return Outcome::Replied(reply),
+        };
+        self.messages.push_reserved(items);
         Outcome::Made { message }
     }
 }
