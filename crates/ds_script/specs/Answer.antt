@@ -1,5 +1,5 @@
 -- What the lines of a script are answered. It is a relation, since memory may be refused at any line.
-use Rattle.std.specs.Prelude.{◌≡◌, ℕ, zero, suc, Bool, true, false, ◌⊎◌, List, [], ◌++◌, length, Option, Some, MatchOption, codes}
+use Rattle.std.specs.Prelude.{◌≡◌, ℕ, zero, suc, Bool, true, false, ◌⊎◌, List, [], ◌++◌, length, Option, MatchOption, codes}
 use Rattle.std.specs.List.{flat_map, slice_get}
 use Rattle.std.specs.Fmt.{decimal}
 use Rattle.std.specs.Option.{option_map_or}
@@ -45,15 +45,11 @@ entries_text m = option_map_or (λ it. shown (entries_of (held_items it.held))) 
 
 -- ---- events
 
--- What is told of an outcome: its lines; of a message, which is the reply that the store gave, those of the reply.
+-- What is told of an outcome: its lines; of a message, which is the reply that the store gave, those of the reply. (A message that
+-- was made is there, in a session that stands for a world.)
 abbrev pub told_lines : Wording → Outcome → List Reply → List ℕ
 told_lines wording (Made message) messages = option_map_or (λ reply. reply_lines wording reply larger) (slice_get messages message) []
 told_lines wording outcome messages = outcome_lines wording outcome larger
-
--- a message that was made is there
-abbrev pub IsThere : Outcome → List Reply → Type 0
-IsThere (Made message) messages = (reply : Reply) × (slice_get messages message ≡ Some reply)
-IsThere outcome messages = Unit {0}
 
 -- the event happens, and what is told of it is the answer
 pub record AnswersEvent (wording : Wording) (event : Event) (old : SessionContent) (out : List ℕ) (new : SessionContent) : Type 0 where
