@@ -49,7 +49,7 @@ fn append_told(
     };
     match session.message(*message) {
         Some(reply) => append_reply(output, wording, reply, Limits::larger()),
-        // No message that was made is missing, in a world that stands for one.
+        // A session that stands for a world has each message that was made.
         None => Ok(()),
     }
 }
