@@ -72,16 +72,6 @@ impl<M: Drop> Labelled<M> {
         self.held.held()
     }
 
-    /// The change that is held for a key, and its mark.
-    pub fn get(&self, key: &Key) -> Option<(&Change, &M)>
-        ensures change { option_map (λ p. p.0.now) result ≡ held_for self.now.held key.now }
-        ensures mark { option_map (λ p. p.1.now) result ≡ mark_for self.now key.now }
-        ensures sound { IsSound self.now.held }
-        ensures valid { IfSome result (λ p. IsChange p.0.now) }
-    {
-        self.held.get(key)
-    }
-
     /// Where the change of a key stands, or else where it would, as [`Marked::place`] says.
     pub fn place(&self, key: &Key) -> Result<usize, usize>
         ensures { IsPlace (held_changes self.now.held) key.now result }
@@ -137,21 +127,8 @@ impl<M: Drop> Labelled<M> {
         self.index.name_of(endpoint)
     }
 
-    /// Merges a change, as [`Marked::merge`] does. The change of a held label takes no memory for its endpoint.
-    pub fn merge(&mut self, change: Change, mark: M) -> Result<Merge, JoinFault>
-        ensures answer { MergeAnswer self.old.held change result }
-        ensures held { self.new.held ≡ after_merge self.old.held change result }
-        ensures marks { self.new.marks ≡ marks_after self.old.marks change.key mark result }
-        ensures floor_marks { self.new.floor_marks ≡ self.old.floor_marks }
-        ensures joined { OnOk result (IsTop (held_items self.new.held) (held_items self.old.held ++ Changed change ∷ [])) }
-        ensures sound { IsSound self.new.held }
-        ensures change { IsChange change }
-    {
-        let place = self.place(change.key());
-        self.merge_at(place, change, mark)
-    }
-
-    /// Merges a change whose place is told, as `merge` does.
+    /// Merges a change whose place is told, as [`Marked::merge_at`] does. The change of a held label takes no memory for its
+    /// endpoint.
     pub fn merge_at(
         &mut self,
         place: Result<usize, usize>,

@@ -26,7 +26,7 @@ use Rattle.ds_pattern.specs.declared.pattern.PatternFault.{PatternFault}
 use Rattle.ds_pattern.specs.declared.pattern.PatternFault.TheVariants as fault
 use Rattle.ds_pattern.specs.Narrow.{SameInAscii}
 use Rattle.ds_pattern.specs.Under.{anchored, is_printable, is_read_as, is_regex, matches_whole, FindsWhole}
-use Rattle.ds_pattern.specs.Patterns.{is_pattern, IsPatternFault, IsReadAs, IsSyntaxFault}
+use Rattle.ds_pattern.specs.Patterns.{is_pattern, IsFaultOf, IsPatternFault, IsReadAs, IsSyntaxFault}
 use Rattle.ds_pattern.proofs.PrintableLemmas.{both, ascii_of_printable, chars_of_printable, printable_anchored, printable_of_name}
 
 -- what a tree says of the text that it was read from
@@ -105,6 +105,11 @@ refused_by (Some x) limit k other (inr (inr h)) = lt-leb _ _ h.1
 pub no_regex_of_refused : (text : List ℕ) (k : ErrorKind) → Refuses default_config text k → k ≢ kind.OutOfMemory → is_printable text ≡ true → is_regex text ≡ false
 unfolding is_regex Refuses
 no_regex_of_refused text k refused other printable = refused_by _ _ k other (rw (chars_of_printable text printable) at refused)
+
+-- what an error of `regex` is told as, it is as a fault of the text
+pub syntax_fault : (text : List ℕ) (k : ErrorKind) (f : PatternFault) → IsFaultOf k f → Refuses default_config text k → is_printable text ≡ true → IsSyntaxFault f text
+syntax_fault text k f (inl h) refused printable = rw h.1 tt
+syntax_fault text k f (inr h) refused printable = rw h.1 (no_regex_of_refused text k refused h.0 printable)
 
 -- a text that passes each test is a pattern, and each text that is one does
 pub accepted_of_parts : (p : List ℕ) → is_printable p ≡ true → is_regex p ≡ true → is_regex (anchored p) ≡ true → is_pattern p ≡ true

@@ -1,8 +1,10 @@
 -- What a pattern is, and why a text is none.
-use Rattle.std.specs.Prelude.{Bool, ℕ, ◌<◌, ◌≤◌, ◌&&◌, IsTrue, IsFalse, List, length, ⊤}
+use Rattle.std.specs.Prelude.{Bool, ℕ, ◌<◌, ◌≤◌, ◌&&◌, ◌≡◌, ◌≢◌, ◌⊎◌, IsTrue, IsFalse, List, length, ⊤}
 use Rattle.regex_hir.specs.declared.hir.Hir.{Hir}
 use Rattle.regex_syntax.specs.Grammar.{Names}
 use Rattle.regex_syntax.specs.Verdict.{default_config, Reads}
+use Rattle.regex_syntax.specs.declared.error.ErrorKind.{ErrorKind}
+use Rattle.regex_syntax.specs.declared.error.ErrorKind.TheVariants.{OutOfMemory}
 use Rattle.ds_pattern.specs.declared.pattern.PatternFault.{PatternFault}
 use Rattle.ds_pattern.specs.declared.pattern.PatternFault.TheVariants.{TooLong, BadPattern, NoRoom}
 use Rattle.ds_pattern.specs.Under.{anchored, is_printable, is_regex}
@@ -21,6 +23,10 @@ abbrev pub IsPatternFault : PatternFault → List ℕ → Type 0
 IsPatternFault TooLong p = 128 < length p
 IsPatternFault BadPattern p = (length p ≤ 128) × IsFalse (is_pattern p)
 IsPatternFault NoRoom p = (length p ≤ 128) × IsTrue (is_printable p)
+
+-- the fault of an error of `regex`: want of memory is NoRoom, all else says that the text is no pattern
+abbrev pub IsFaultOf : ErrorKind → PatternFault → Type 0
+IsFaultOf kind fault = ((kind ≡ OutOfMemory) × (fault ≡ NoRoom)) ⊎ ((kind ≢ OutOfMemory) × (fault ≡ BadPattern))
 
 -- the same, of what `regex` reads in a text
 abbrev pub IsSyntaxFault : PatternFault → List ℕ → Type 0

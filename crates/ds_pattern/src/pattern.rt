@@ -60,6 +60,19 @@ impl From<regex_compile::Error> for PatternFault {
     }
 }
 
+impl From<regex_syntax::Error> for PatternFault {
+    ghost use Rattle.ds_pattern.specs.Patterns.{IsFaultOf};
+
+    ghost from_gives = { λ error fault. IsFaultOf error.kind fault };
+
+    fn from(error: regex_syntax::Error) -> PatternFault {
+        match error.kind {
+            ErrorKind::OutOfMemory => PatternFault::NoRoom,
+            _ => PatternFault::BadPattern,
+        }
+    }
+}
+
 /// How many bytes the table of a compiled pattern may take: 12 for each state of its automaton and 8 for each
 /// range of bytes that leads from one to another. It takes at most 24 bytes more. `bench/README.md` has what is
 /// measured beside it.
@@ -176,11 +189,8 @@ fn tree_of(alloc: Global, text: &str) -> Result<Hir, PatternFault>
     ensures read { IfOk result (IsReadAs text.now) }
     ensures refused { IfErr result (λ fault. IsSyntaxFault fault text.now) }
 {
-    match regex_syntax::parse(alloc, text, &Config::default()) {
-        Ok(parsed) => Ok(parsed.hir),
-        Err(error) if error.kind == ErrorKind::OutOfMemory => Err(PatternFault::NoRoom),
-        Err(_) => Err(PatternFault::BadPattern),
-    }
+    let parsed = regex_syntax::parse(alloc, text, &Config::default())?;
+    Ok(parsed.hir)
 }
 
 // Asks whether the text is a pattern, and refuses one that takes too many steps.

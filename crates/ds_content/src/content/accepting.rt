@@ -20,16 +20,8 @@ use ds_names::{Key, NoRoom};
 use ds_watch::{Mask, Masks};
 
 impl Content {
-    /// The subscriptions to which a change of the key is owed. For a held key it asks no pattern, and takes no memory.
-    pub fn owed(&self, key: &Key) -> Result<Mask, NoRoom>
-        ensures value { IfOk result (λ owed. owed ≡ padded (owed_for key.now self.now.subscriptions)) }
-        ensures owed { (s : State) (c : ChangeRecord) → Stands self.now s → c.key ≡ key.now → IfOk result (λ owed. owed ≡ padded (map (is_owed (Changed c ∷ [])) s.subscriptions)) }
-        ensures held { OnErr result (held_at self.now.held key.now ≡ None) }
-    {
-        self.owed_at(self.place(key), key)
-    }
-
-    /// The same of a key whose place is told.
+    /// The subscriptions to which a change of the key is owed, whose place is told. For a held key it asks no pattern, and takes
+    /// no memory.
     pub fn owed_at(&self, place: Result<usize, usize>, key: &Key) -> Result<Mask, NoRoom>
         requires { IsPlace (changes_in self.now.held) key.now place }
         ensures value { IfOk result (λ owed. owed ≡ padded (owed_for key.now self.now.subscriptions)) }
@@ -43,20 +35,9 @@ impl Content {
         }
     }
 
-    /// A change against which nothing stands takes effect, and is to be shown to all to which it is owed. Want of memory
-    /// changes nothing, and is only met where the key isn't held, or where the journal's copy of the change takes memory.
-    pub fn accept(&mut self, change: Change, owed: Mask) -> Result<(), NoRoom>
-        requires owed { owed ≡ padded (owed_for change.key self.old.subscriptions) }
-        requires free { IsFree self.old change }
-        ensures ok { OnOk result ((s : State) → Stands self.old s → Stands self.new (accepts s (Changed change ∷ []))) }
-        ensures err { OnErr result (self.new ≡ self.old) }
-        ensures wants { OnErr result ((held_at self.old.held change.key ≡ None) ⊎ (¬ IsBodyInPlace change.body)) }
-    {
-        let place = self.place(change.key());
-        self.accept_at(place, change, owed)
-    }
-
-    /// The same of a change whose place is told.
+    /// A change against which nothing stands takes effect at the place of its key, and is to be shown to all to which it is owed.
+    /// Want of memory changes nothing, and is only met where the key isn't held, or where the journal's copy of the change takes
+    /// memory.
     pub fn accept_at(
         &mut self,
         place: Result<usize, usize>,

@@ -1,12 +1,12 @@
-use Rattle.std.proofs.Common.{◌≡◌, ◌≢◌}
-use Rattle.std.proofs.lemmas.Bool.{false≢true}
+use Rattle.std.proofs.Common.{◌≡◌}
+use Rattle.std.proofs.lemmas.Result.{err_from_is_err_and}
 use Rattle.regex_syntax.specs.Verdict.{default_config}
-use Rattle.regex_syntax.specs.declared.error.ErrorKind.TheVariants as kind
-use Rattle.ds_pattern.proofs.RegexLemmas.{no_regex_of_refused}
+use Rattle.ds_pattern.proofs.RegexLemmas.{syntax_fault}
 use Rattle.ds_pattern.proofs.pattern.tree_of.Goals as goal
 
-pub returns-in-Err-2-clause-refused : goal.returns-in-Err-2-clause-refused
-returns-in-Err-2-clause-refused c =
+pub returns-in_err-parsed-clause-refused : goal.returns-in_err-parsed-clause-refused
+returns-in_err-parsed-clause-refused c =
+    let exit = err_from_is_err_and c.from_residual.result c.from_residual.ensures.1 in
     let config : c.default.result ≡ default_config = c.default.ensures in
-    let other : c.in-Err.error.kind ≢ kind.OutOfMemory = λ same. false≢true (rw same at c.if-eq.ensures) in
-    no_regex_of_refused c.args.text.now c.in-Err.error.kind (rw config at c.in-Err.ensures.err) other c.requires
+    let error = c.in_err-parsed.field-0.0 in
+    rw exit.1 (syntax_fault c.args.text.now error.kind exit.0 exit.2 (rw config at c.in_err-parsed.ensures.err) c.requires)
