@@ -19,7 +19,7 @@ same old new e = ([], e ∙ sym (append-nil old.messages))
 over_two : (old mid new : WorldRecord) → MessagesStay old mid → MessagesStay mid new → MessagesStay old new
 over_two old mid new one two = (one.0 ++ two.0, two.1 ∙ ap (λ (l : List Reply). l ++ two.0) one.1 ∙ append_assoc old.messages one.0 two.0)
 
-over_one : (event : Event) (outcome : Outcome) (old new : WorldRecord) → IsTold event outcome old new → MessagesStay old new
+pub over_one : (event : Event) (outcome : Outcome) (old new : WorldRecord) → IsTold event outcome old new → MessagesStay old new
 over_one (Ask side command) (Replied reply) old new told = same old new told.1
 over_one (Ask side command) (Made k) old new told = (told.reply ∷ [], told.kept)
 over_one (Ask side command) (MapMade j) old new told = same old new told

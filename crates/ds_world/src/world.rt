@@ -1,10 +1,10 @@
 //! Worlds.
 
-ghost use Rattle.std.specs.Prelude.{◌≡◌, ◌≤◌, [], length, slice_get, vec_capacity, IfOk, IfErr, OnOk, OnErr};
+ghost use Rattle.std.specs.Prelude.{◌≡◌, ◌≤◌, [], ◌∷◌, length, slice_get, vec_capacity, IfOk, IfErr, OnOk, OnErr};
 ghost use Rattle.std.specs.Option.{option_copied};
 ghost use Rattle.ds_held.specs.Limits.{larger};
 ghost use Rattle.ds_replica.specs.World.{new_world};
-ghost use Rattle.ds_replica.specs.Known.{Account, new_account, extended_all};
+ghost use Rattle.ds_replica.specs.Known.{Account, new_account, extended, extended_all};
 ghost use Rattle.ds_world.specs.World.{store_in, Stands};
 ghost use Rattle.ds_world.specs.Seeds.{AreSeeds, IsSeedFault};
 ghost use Rattle.ds_world.specs.Run.{most_events, paired, EventLeads, RunLeads, IsRunFault};
@@ -137,8 +137,35 @@ impl World {
         Outcomes::of(outcomes)
     }
 
-    // Lets an event happen.
-    fn happen(&mut self, event: Event) -> Outcome
+    /// Lets an event happen, and gives what came of it. A refused event changes nothing.
+    ///
+    /// Of an account that fitted the world before, extended by the event and its outcome, the caller learns what `run` says of one
+    /// extended by a whole list.
+    pub fn happen(&mut self, event: Event) -> Outcome
+        ensures leads { EventLeads event result self.old self.new }
+        ensures told { IsTold event result self.old self.new }
+        ensures messages { MessagesStay self.old self.new }
+        ensures account { (account : Account) → IsFor account self.old → IsFor (extended account event result) self.new }
+        ensures agree { (account : Account) → IsFor account self.old → Agrees (extended account event result) self.new }
+        ensures catch_up { (account : Account) → IsFor account self.old → CatchesUp (extended account event result) self.new }
+        ensures keep_up { (account : Account) → IsFor account self.old → KeepsUp (extended account event result) self.new }
+        ensures newest { (account : Account) → IsFor account self.old → NamesNewest (extended account event result) self.new }
+        ensures clashes { (account : Account) → IsFor account self.old → NothingClashes (extended account event result) self.new }
+        ensures stops { (account : Account) → IsFor account self.old → NothingStops account ((event, result) ∷ []) }
+        ensures floors { (account : Account) → IsFor account self.old → FloorsStand (extended account event result) self.new }
+        ensures items { (account : Account) → IsFor account self.old → StayItems account ((event, result) ∷ []) }
+        ensures whole { (account : Account) → IsFor account self.old → WholeStays account ((event, result) ∷ []) }
+        ensures snapshots { (account : Account) → IsFor account self.old → SnapshotsAreWhole account ((event, result) ∷ []) }
+        ensures sinces { (account : Account) → IsFor account self.old → SincesExtend account ((event, result) ∷ []) }
+        ensures pages { (account : Account) → IsFor account self.old → PagesAreTurns account ((event, result) ∷ []) }
+        ensures checks { (account : Account) → IsFor account self.old → ChecksAreTurns account ((event, result) ∷ []) }
+        ensures turns { TurnsAreRun self.old ((event, result) ∷ []) self.new }
+    {
+        self.carry_out(event)
+    }
+
+    // Lets an event happen, by its kind.
+    fn carry_out(&mut self, event: Event) -> Outcome
         ensures leads { EventLeads event result self.old self.new }
         ensures told { IsTold event result self.old self.new }
     {
