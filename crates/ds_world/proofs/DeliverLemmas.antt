@@ -1,5 +1,5 @@
 -- What a delivery does to a world.
-use Rattle.std.proofs.Common.{◌≡◌, ℕ, ◌<◌, ◌≤◌, nat_lt, not, cond, List, length, take, Option, Some, None, is_some, refl, ap, sym, ◌∙◌, subst}
+use Rattle.std.proofs.Common.{◌≡◌, ℕ, zero, suc, ◌<◌, ◌≤◌, nat_lt, not, cond, List, [], ◌∷◌, length, take, Option, Some, None, is_some, refl, ap, sym, ◌∙◌, subst, arith}
 use Rattle.std.specs.List.{slice_get, slice_set}
 use Rattle.std.specs.Option.{option_map, option_map_or}
 use Rattle.std.proofs.lemmas.List.{map-set}
@@ -18,13 +18,15 @@ use Rattle.ds_replica.specs.declared.event.Event.{Event}
 use Rattle.ds_replica.specs.declared.event.Event.TheVariants.{Deliver}
 use Rattle.ds_replica.specs.declared.outcome.Outcome.{Outcome}
 use Rattle.ds_replica.specs.declared.outcome.Outcome.TheVariants.{Refused}
+use Rattle.ds_replica.specs.declared.outcome.EventFault.{EventFault}
 use Rattle.ds_replica.specs.declared.outcome.EventFault.TheVariants.{NoMessage, NoMap, TooMany}
 use Rattle.ds_replica.specs.Delivery.{Tally, StoreTakes, MapTakes}
 use Rattle.ds_replica.specs.World.{MapState, World, with_state}
 use Rattle.ds_replica.specs.Happens.{count_of, delivery_fault, tally_outcome, Happens, Delivers}
-use Rattle.ds_world.specs.World.{WorldRecord, map_state, Stands}
+use Rattle.ds_world.specs.World.{WorldRecord, map_state, message_items, Stands}
 use Rattle.ds_world.specs.Run.{EventLeads}
-use Rattle.ds_world.proofs.StandLemmas.{map_is, lt_true, lt_false}
+use Rattle.ds_world.specs.Told.{IsMapTold, IsTold}
+use Rattle.ds_world.proofs.StandLemmas.{map_is, message_is, lt_true, lt_false}
 
 -- an event that leads from one value to another does so by whatever names they have
 pub carried : {event event' : Event} {outcome outcome' : Outcome} {old old' new new' : WorldRecord} → event ≡ event' → outcome ≡ outcome' → old ≡ old' → new ≡ new' → EventLeads event outcome old new → EventLeads event' outcome' old' new'
@@ -33,17 +35,14 @@ carried {event' = event'} {outcome = outcome} {outcome' = outcome'} {old = old} 
     (subst (λ (v : WorldRecord). EventLeads event' outcome' v new) was (subst (λ (x : Outcome). EventLeads event' x old new) o (subst (λ (x : Event). EventLeads x outcome old new) e leads)))
 
 module _ (value : WorldRecord) (k : ℕ) (count : Option ℕ) where
-  message_is : (w : World) → Stands value w → slice_get w.messages k ≡ slice_get value.messages k
-  message_is w s = ap (λ (l : List (List Item)). slice_get l k) s.messages
-
-  pub no_message : (holder : Holder) → slice_get value.messages k ≡ None → EventLeads (Deliver k holder count) (Refused NoMessage) value value
-  no_message holder none w s = (w, (ap (λ (o : Option (List Item)). option_map_or (λ items. delivery_fault w holder count items) o (Some NoMessage)) (message_is w s ∙ none), refl), s)
+  pub no_message : (holder : Holder) → message_items value.messages k ≡ None → EventLeads (Deliver k holder count) (Refused NoMessage) value value
+  no_message holder none w s = (w, (ap (λ (o : Option (List Item)). option_map_or (λ items. delivery_fault w holder count items) o (Some NoMessage)) (message_is value w k s ∙ none), refl), s)
 
   -- such a message is there
-  module _ (items : List Item) (there : slice_get value.messages k ≡ Some items) where
+  module _ (items : List Item) (there : message_items value.messages k ≡ Some items) where
     -- the fault is the delivery's
     by_items : (w : World) (holder : Holder) → Stands value w → option_map_or (λ items. delivery_fault w holder count items) (slice_get w.messages k) (Some NoMessage) ≡ delivery_fault w holder count items
-    by_items w holder s = ap (λ (o : Option (List Item)). option_map_or (λ items. delivery_fault w holder count items) o (Some NoMessage)) (message_is w s ∙ there)
+    by_items w holder s = ap (λ (o : Option (List Item)). option_map_or (λ items. delivery_fault w holder count items) o (Some NoMessage)) (message_is value w k s ∙ there)
 
     pub no_map : (j : ℕ) → length value.maps ≤ j → EventLeads (Deliver k (Map j) count) (Refused NoMap) value value
     no_map j l w s =
@@ -77,7 +76,7 @@ module _ (value : WorldRecord) (k : ℕ) (count : Option ℕ) where
       not_more = ap (λ b. cond b (Some TooMany) None) (lt_false (length items) (count_of count items) few)
 
       message_there : (w : World) → Stands value w → slice_get w.messages k ≡ Some items
-      message_there w s = message_is w s ∙ there
+      message_there w s = message_is value w k s ∙ there
 
       pub to_a : (new : ContentRecord) → ((s : State) → contents.Stands value.a s → (t : State) × StoreTakes s (take (count_of count items) items) tally t × contents.Stands new t)
           → EventLeads (Deliver k (Store A) count) (tally_outcome tally tally.stop) value (record value { a = new })
@@ -114,3 +113,31 @@ module _ (value : WorldRecord) (k : ℕ) (count : Option ℕ) where
                 }),
             record { a = s.a; b = s.b; maps = ap (λ (l : List MapState). slice_set l j (map_state new)) s.maps ∙ sym (map-set map_state value.maps j new); messages = s.messages },
           )
+
+-- a map of such a number is there
+pub map_at : (maps : List SubMapRecord) (j : ℕ) → j < length maps → (m : SubMapRecord) × (slice_get maps j ≡ Some m)
+map_at [] j l = absurd (omega (arith, l))
+map_at (m ∷ maps) zero l = (m, refl)
+map_at (m ∷ maps) (suc j) l = map_at maps j (omega (arith, l))
+
+-- ---- what a delivery to a map tells
+set_there : (maps : List SubMapRecord) (j : ℕ) (old new : SubMapRecord) → slice_get maps j ≡ Some old → slice_get (slice_set maps j new) j ≡ Some new
+set_there [] j old new e = absurd (cc)
+set_there (m ∷ maps) zero old new e = refl
+set_there (m ∷ maps) (suc j) old new e = set_there maps j old new e
+
+same : {X : Type 0} (o : Option X) (x y : X) → o ≡ Some x → o ≡ Some y → x ≡ y
+same o x y e f = cc
+
+pub map_told : (value : WorldRecord) (k j : ℕ) (count : Option ℕ) (items : List Item) (old new : SubMapRecord) (outcome : Outcome) → message_items value.messages k ≡ Some items → slice_get value.maps j ≡ Some old
+    → IsMapTold old.query old.held (take (count_of count items) items) outcome new.held → IsTold (Deliver k (Map j) count) outcome value (record value { maps = slice_set value.maps j new })
+map_told value k j count items old new outcome there at told = (
+  λ others m n e f g.
+      subst (λ (l : List Item). IsMapTold m.query m.held (take (count_of count l) l) outcome n.held) (same (message_items value.messages k) items others there e)
+      (subst (λ (x : SubMapRecord). IsMapTold x.query x.held (take (count_of count items) items) outcome n.held) (same (slice_get value.maps j) old m at f)
+      (subst (λ (x : SubMapRecord). IsMapTold old.query old.held (take (count_of count items) items) outcome x.held) (same (slice_get (slice_set value.maps j new) j) new n (set_there value.maps j old new at) g) told)),
+  refl,
+)
+
+pub map_refused : (value : WorldRecord) (k j : ℕ) (count : Option ℕ) (fault : EventFault) → IsTold (Deliver k (Map j) count) (Refused fault) value value
+map_refused value k j count fault = (λ items m n e f g. tt, refl)

@@ -1,6 +1,8 @@
 -- The headline's statements, of the value that callers see.
-use Rattle.std.proofs.Common.{◌≡◌, List, ap, sym, ◌∙◌, subst, inl, inr, Contains}
+use Rattle.std.proofs.Common.{◌≡◌, ℕ, zero, suc, List, [], ◌∷◌, Some, ap, sym, ◌∙◌, subst, inl, inr, Contains}
+use Rattle.std.specs.List.{slice_get}
 use Rattle.ds_entry.specs.declared.item.Item.{Item}
+use Rattle.ds_entry.proofs.Members.{Contains-head, Contains-tail}
 use Rattle.ds_entry.specs.declared.item.Item.TheVariants.{Change as Changed}
 use Rattle.ds_join.specs.ItemTop.{CoversAll}
 use Rattle.ds_pattern.specs.Under.{is_under}
@@ -23,7 +25,13 @@ use Rattle.ds_replica.proofs.TurnLemmas.{whole_stays, turns_are_run}
 use Rattle.ds_world.specs.World.{WorldRecord, held_in, store_in, Stands}
 use Rattle.ds_world.specs.Run.{paired, RunLeads}
 use Rattle.ds_world.specs.Account.{IsFor, Agrees, CatchesUp, KeepsUp, NamesNewest, IsAbout, NothingClashes, FloorsStand, WholeStays, StayItems, TurnsAreRun}
-use Rattle.ds_world.proofs.StandLemmas.{held_is}
+use Rattle.ds_world.proofs.StandLemmas.{held_is, message_is}
+
+-- what stands at a place is in the list
+get_contains : (xs : List (List Item)) (k : ℕ) (x : List Item) → slice_get xs k ≡ Some x → Contains xs x
+get_contains [] k x e = absurd (cc)
+get_contains (y ∷ xs) zero x e = let same : y ≡ x = cc in subst (Contains (y ∷ xs)) same (Contains-head y xs)
+get_contains (y ∷ xs) (suc k) x e = Contains-tail y xs x (get_contains xs k x e)
 
 module _ (account : Account) (value : WorldRecord) (f : IsFor account value) where
   held : (h : Holder) → held_at f.0 h ≡ held_in value h
@@ -54,7 +62,7 @@ module _ (account : Account) (value : WorldRecord) (f : IsFor account value) whe
 
   about : (i : Item) → IsAbout value i → headline.IsAbout f.0 i
   about i (inl h) = inl (h.0, subst (λ (l : List Item). Contains l i) (sym (held h.0)) h.1)
-  about i (inr m) = inr (m.0, subst (λ (l : List (List Item)). Contains l m.0) (sym f.1.messages) m.1, m.2)
+  about i (inr m) = inr (m.1, get_contains f.0.messages m.0 m.1 (message_is value f.0 m.0 f.1 ∙ m.2), m.3)
 
   clashes : NothingClashes account value
   clashes c d n h k e = nothing_clashes account f.0 c d f.2 n (about _ h) (about _ k) e

@@ -1,6 +1,7 @@
 pub mod StandLemmas
 pub mod HeadlineLemmas
 pub mod RunLemmas
+pub mod ReplyLemmas
 pub mod AskLemmas
 pub mod TakeLemmas
 pub mod MergeLemmas

@@ -1,19 +1,38 @@
 -- What a value of a world says of the worlds that it stands for.
-use Rattle.std.proofs.Common.{◌≡◌, ℕ, suc, inl, inr, ◌<◌, ◌≤◌, nat_le, nat_lt, true, false, List, ap, sym, ◌∙◌, arith}
+use Rattle.std.proofs.Common.{◌≡◌, ℕ, suc, inl, inr, ◌<◌, ◌≤◌, nat_le, nat_lt, true, false, List, length, Option, Some, None, refl, ap, sym, ◌∙◌, arith}
 use Rattle.std.specs.List.{slice_get}
-use Rattle.std.specs.Option.{option_map}
+use Rattle.std.specs.Option.{option_map, option_and_then}
 use Rattle.std.proofs.lemmas.Bool.{le-leb, lt-ltb}
 use Rattle.std.proofs.lemmas.Bool.Decides.{leb_tells}
+use Rattle.std.proofs.lemmas.List.{length-map}
 use Rattle.std.proofs.lemmas.Option.{slice_get-map}
+use Rattle.ds_entry.specs.declared.item.Item.{Item}
+use Rattle.ds_machine.specs.declared.reply.Reply.{Reply}
 use Rattle.ds_replica.specs.declared.event.Side.TheVariants.{A, B}
 use Rattle.ds_replica.specs.declared.event.Holder.{Holder}
 use Rattle.ds_replica.specs.declared.event.Holder.TheVariants.{Store, Map}
 use Rattle.ds_replica.specs.World.{MapState, World, map_held, held_at}
-use Rattle.ds_world.specs.World.{WorldRecord, held_in, map_state, Stands}
+use Rattle.ds_replica.specs.Happens.{items_given}
+use Rattle.ds_world.specs.World.{WorldRecord, held_in, map_state, message_items, Stands}
 
 -- the map of a number, as the world has it
 pub map_is : (value : WorldRecord) (w : World) (j : ℕ) → Stands value w → slice_get w.maps j ≡ option_map map_state (slice_get value.maps j)
 map_is value w j s = ap (λ (l : List MapState). slice_get l j) s.maps ∙ slice_get-map map_state value.maps j
+
+-- the items of the message of a number
+flattened : (o : Option Reply) (m : Option (List Item)) → option_map items_given o ≡ option_map Some m → m ≡ option_and_then items_given o
+flattened None None e = refl
+flattened None (Some items) e = absurd (cc)
+flattened (Some reply) None e = absurd (cc)
+flattened (Some reply) (Some items) e = cc
+
+pub message_is : (value : WorldRecord) (w : World) (k : ℕ) → Stands value w → slice_get w.messages k ≡ message_items value.messages k
+message_is value w k s =
+    flattened (slice_get value.messages k) (slice_get w.messages k)
+    (sym (slice_get-map items_given value.messages k) ∙ ap (λ (l : List (Option (List Item))). slice_get l k) s.messages ∙ slice_get-map Some w.messages k)
+
+pub as_many_messages : (value : WorldRecord) (w : World) → Stands value w → length w.messages ≡ length value.messages
+as_many_messages value w s = sym (length-map w.messages Some) ∙ ap (λ (l : List (Option (List Item))). length l) (sym s.messages) ∙ length-map value.messages items_given
 
 -- and what holders hold
 pub held_is : (value : WorldRecord) (w : World) (h : Holder) → Stands value w → held_at w h ≡ held_in value h

@@ -1,5 +1,5 @@
 -- What accounts say of a world's value: the headline's statements, read off what callers see.
-use Rattle.std.specs.Prelude.{◌≡◌, ◌⊎◌, ℕ, ◌≤◌, Bool, true, false, List, ◌∷◌, ◌++◌, Option, Contains}
+use Rattle.std.specs.Prelude.{◌≡◌, ◌⊎◌, ℕ, ◌≤◌, Bool, true, false, List, ◌∷◌, ◌++◌, Option, Some, Contains}
 use Rattle.ds_names.specs.declared.key.Key.{Key}
 use Rattle.ds_entry.specs.Change.{ChangeRecord}
 use Rattle.ds_entry.specs.Void.{voids}
@@ -34,7 +34,7 @@ use Rattle.ds_replica.specs.Headline.{IsContradiction}
 use Rattle.ds_replica.specs.CaughtUp.{HasAll, HasNothingElse, AreItems}
 use Rattle.ds_replica.specs.Bringing.{IsProperEvent}
 use Rattle.ds_replica.specs.Turns.{Stays}
-use Rattle.ds_world.specs.World.{WorldRecord, held_in, store_in, Stands}
+use Rattle.ds_world.specs.World.{WorldRecord, held_in, store_in, message_items, Stands}
 
 -- the account fits a world for which the value stands
 abbrev pub IsFor : Account → WorldRecord → Type 0
@@ -67,7 +67,7 @@ NamesNewest account value =
 -- *no stop by clash or owner*: no two changes of a key that are held, or can be delivered, have two owners, or two bodies at
 -- one version
 abbrev pub IsAbout : WorldRecord → Item → Type 0
-IsAbout value i = ((h : Holder) × Contains (held_in value h) i) ⊎ ((items : List Item) × Contains value.messages items × Contains items i)
+IsAbout value i = ((h : Holder) × Contains (held_in value h) i) ⊎ ((k : ℕ) × (items : List Item) × (message_items value.messages k ≡ Some items) × Contains items i)
 
 abbrev pub NothingClashes : Account → WorldRecord → Type 0
 NothingClashes account value =

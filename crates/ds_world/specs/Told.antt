@@ -1,6 +1,6 @@
--- What an event tells, beside what it leaves: a delivery to a map of the map, an Ask of want of memory. And what a run is, value
--- by value.
-use Rattle.std.specs.Prelude.{◌≡◌, ◌⊎◌, List, [], ◌∷◌, take, Some}
+-- What an event tells, beside what it leaves: an Ask of the reply, a delivery to a map of the map, and each event of the
+-- messages. And what a run is, value by value.
+use Rattle.std.specs.Prelude.{◌≡◌, ◌⊎◌, ℕ, List, [], ◌∷◌, ◌++◌, length, take, None, Some}
 use Rattle.std.specs.List.{slice_get}
 use Rattle.ds_entry.specs.declared.item.Item.{Item}
 use Rattle.ds_join.specs.declared.merge.JoinFault.{JoinFault}
@@ -8,19 +8,20 @@ use Rattle.ds_held.specs.Held.{Holding}
 use Rattle.ds_pattern.specs.declared.query.Query.{Query}
 use Rattle.ds_submap.specs.Map.{SubMapRecord}
 use Rattle.ds_submap.specs.Take.{AreCounted, IsTakeStopped}
-use Rattle.ds_machine.specs.State.{State}
 use Rattle.ds_machine.specs.declared.command.Command.{Command}
+use Rattle.ds_machine.specs.declared.reply.Reply.{Reply}
 use Rattle.ds_machine.specs.declared.refusal.Refusal.TheVariants.{NoRoom}
 use Rattle.ds_judge.specs.Last.{IsLast}
+use Rattle.ds_replica.specs.declared.event.Side.{Side}
 use Rattle.ds_replica.specs.declared.event.Holder.TheVariants.{Map}
 use Rattle.ds_replica.specs.declared.event.Event.{Event}
 use Rattle.ds_replica.specs.declared.event.Event.TheVariants.{Ask, Deliver}
 use Rattle.ds_replica.specs.declared.outcome.Outcome.{Outcome}
-use Rattle.ds_replica.specs.declared.outcome.Outcome.TheVariants.{Replied, Merged, Stopped}
+use Rattle.ds_replica.specs.declared.outcome.Outcome.TheVariants.{Replied, Made, Merged, Stopped}
 use Rattle.ds_replica.specs.World.{World, store_at}
-use Rattle.ds_replica.specs.Happens.{count_of}
+use Rattle.ds_replica.specs.Happens.{count_of, event_fault, Asks, HappenAll}
 use Rattle.ds_world.specs.Tally.{refusal_of}
-use Rattle.ds_world.specs.World.{WorldRecord, Stands}
+use Rattle.ds_world.specs.World.{WorldRecord, message_items, Stands}
 use Rattle.ds_world.specs.Run.{EventLeads}
 
 -- the map took all items, and so many of them took effect and so many were stale; or it took the first ones, and the next one
@@ -31,20 +32,46 @@ IsMapTold query old items (Stopped done fault owed) new =
     ((stop : JoinFault) × (fault ≡ refusal_of stop) × IsTakeStopped query old items new (record { done = done; fault = stop })) ⊎ ((fault ≡ NoRoom) × (done ≡ 0) × (new ≡ old))
 IsMapTold query old items _ new = Unit {0}
 
--- a store that was asked tells of want of memory last
-abbrev pub IsAskTold : State → Command → Outcome → Type 0
-IsAskTold s command (Replied reply) = IsLast s command reply
-IsAskTold s command _ = Unit {0}
+-- an Ask was answered by this reply, from each world that the old value stands for to one that the new value stands for, and
+-- want of memory comes last
+pub record IsAnswered (side : Side) (command : Command) (outcome : Outcome) (reply : Reply) (old new : WorldRecord) : Type 0 where
+  pub asks : (w : World) → Stands old w → (event_fault w (Ask side command) ≡ None) × (after : World) × (a : Asks w side command outcome after) × (a.reply ≡ reply) × Stands new after
+  pub last : (w : World) → Stands old w → IsLast (store_at w side) command reply
 
--- what a delivery to a map, and an Ask, tell
+-- and the reply is the message of this number, kept whole behind the others
+pub record IsKept (side : Side) (command : Command) (k : ℕ) (old new : WorldRecord) : Type 0 where
+  pub reply : Reply
+  pub answered : IsAnswered side command (Made k) reply old new
+  pub next : k ≡ length old.messages
+  pub kept : new.messages ≡ old.messages ++ reply ∷ []
+
+-- what an Ask tells: the reply, or the number under which it is kept; a refused one changes no message
+abbrev pub IsAskTold : Side → Command → Outcome → WorldRecord → WorldRecord → Type 0
+IsAskTold side command (Replied reply) old new = IsAnswered side command (Replied reply) reply old new × (new.messages ≡ old.messages)
+IsAskTold side command (Made k) old new = IsKept side command k old new
+IsAskTold side command _ old new = new.messages ≡ old.messages
+
+-- what an Ask, and a delivery to a map, tell; only an Ask makes a message
 abbrev pub IsTold : Event → Outcome → WorldRecord → WorldRecord → Type 0
+IsTold (Ask side command) outcome old new = IsAskTold side command outcome old new
 IsTold (Deliver k (Map j) count) outcome old new =
-    (items : List Item) (m n : SubMapRecord) → slice_get old.messages k ≡ Some items → slice_get old.maps j ≡ Some m → slice_get new.maps j ≡ Some n →
-    IsMapTold m.query m.held (take (count_of count items) items) outcome n.held
-IsTold (Ask side command) outcome old new = (w : World) → Stands old w → IsAskTold (store_at w side) command outcome
-IsTold event outcome old new = Unit {0}
+    ((items : List Item) (m n : SubMapRecord) → message_items old.messages k ≡ Some items → slice_get old.maps j ≡ Some m → slice_get new.maps j ≡ Some n →
+    IsMapTold m.query m.held (take (count_of count items) items) outcome n.held)
+    × (new.messages ≡ old.messages)
+IsTold event outcome old new = new.messages ≡ old.messages
 
 -- the events led from each value to the next, with these outcomes, and told so
 abbrev pub AreTold : WorldRecord → List (Event × Outcome) → WorldRecord → Type 0
 AreTold old [] new = new ≡ old
 AreTold old (e ∷ es) new = (mid : WorldRecord) × EventLeads e.0 e.1 old mid × IsTold e.0 e.1 old mid × AreTold mid es new
+
+-- the messages that there were are there still, under their numbers
+abbrev pub MessagesStay : WorldRecord → WorldRecord → Type 0
+MessagesStay old new = (made : List Reply) × (new.messages ≡ old.messages ++ made)
+
+-- an Ask among these events made a message: it is the reply by which the store made its step then, behind the events before it
+abbrev pub RepliesAreKept : WorldRecord → List (Event × Outcome) → WorldRecord → Type 0
+RepliesAreKept old events new =
+    (before since : List (Event × Outcome)) (side : Side) (command : Command) (k : ℕ) (w : World) → before ++ (Ask side command, Made k) ∷ since ≡ events → Stands old w →
+    (mid : World) × HappenAll w before mid × (after : World) × (a : Asks mid side command (Made k) after) × (slice_get new.messages k ≡ Some a.reply)
+    × (late : World) × HappenAll after since late × Stands new late

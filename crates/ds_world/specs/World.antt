@@ -1,7 +1,7 @@
 -- What callers see of a world, and for which worlds of the definitions it stands.
-use Rattle.std.specs.Prelude.{◌≡◌, List, map}
+use Rattle.std.specs.Prelude.{◌≡◌, ℕ, List, map, Option, Some}
 use Rattle.std.specs.List.{slice_get}
-use Rattle.std.specs.Option.{option_map}
+use Rattle.std.specs.Option.{option_map, option_and_then}
 use Rattle.ds_entry.specs.declared.item.Item.{Item}
 use Rattle.ds_held.specs.Held.{held_items}
 use Rattle.ds_submap.specs.Map.{SubMapRecord}
@@ -11,17 +11,19 @@ use Rattle.ds_replica.specs.declared.event.Side.{Side}
 use Rattle.ds_replica.specs.declared.event.Side.TheVariants.{A, B}
 use Rattle.ds_replica.specs.declared.event.Holder.{Holder}
 use Rattle.ds_replica.specs.declared.event.Holder.TheVariants.{Store, Map}
+use Rattle.ds_machine.specs.declared.reply.Reply.{Reply}
 use Rattle.ds_replica.specs.World.{MapState, World, map_held}
+use Rattle.ds_replica.specs.Happens.{items_given}
 
--- what callers see of the stores and of the maps, and the items of each message
+-- what callers see of the stores and of the maps, and the messages: the replies that the stores gave
 pub record WorldRecord : Type 0 where
   pub a : ContentRecord
   pub b : ContentRecord
   pub maps : List SubMapRecord
-  pub messages : List (List Item)
+  pub messages : List Reply
 
 -- the world of these parts
-abbrev pub world_of : ContentRecord → ContentRecord → List SubMapRecord → List (List Item) → WorldRecord
+abbrev pub world_of : ContentRecord → ContentRecord → List SubMapRecord → List Reply → WorldRecord
 world_of a b maps messages = record { a = a; b = b; maps = maps; messages = messages }
 
 -- the store of a side
@@ -38,12 +40,16 @@ abbrev pub held_in : WorldRecord → Holder → List Item
 held_in value (Store side) = (store_in value side).held
 held_in value (Map j) = map_held (option_map map_state (slice_get value.maps j))
 
--- the stores stand for the world's, and maps and messages are the world's
+-- the items of the message of a number, if there is one
+abbrev pub message_items : List Reply → ℕ → Option (List Item)
+message_items messages k = option_and_then items_given (slice_get messages k)
+
+-- the stores stand for the world's, the maps are the world's, and each message has the items that it has in the world
 pub record Stands (value : WorldRecord) (w : World) : Type 0 where
   pub a : contents.Stands value.a w.a
   pub b : contents.Stands value.b w.b
   pub maps : w.maps ≡ map map_state value.maps
-  pub messages : w.messages ≡ value.messages
+  pub messages : map items_given value.messages ≡ map Some w.messages
 
 -- from each world that the old value stands for, this leads to one that the new value stands for
 abbrev pub Leads : (World → World → Type 0) → WorldRecord → WorldRecord → Type 0

@@ -1,7 +1,9 @@
 //! What a reply gives, and which commands get such replies.
 
-ghost use Rattle.std.specs.Prelude.{◌≡◌, None, Some, IfOk, IfErr};
+ghost use Rattle.std.specs.Prelude.{◌≡◌, None, Some, is_some, IfSome, IfNone};
+ghost use Rattle.std.specs.Option.{option_copied};
 ghost use Rattle.ds_replica.specs.Happens.{gives_items, items_given};
+ghost use Rattle.ds_world.specs.World.{message_items};
 
 use ds_entry::ItemList;
 use ds_machine::{Command, Reply};
@@ -25,17 +27,41 @@ pub(crate) fn gives_items(command: &Command) -> bool
     }
 }
 
-// The items of a reply, or the reply back where it has none.
-pub(crate) fn items_of(reply: Reply) -> Result<ItemList, Reply>
-    ensures items { IfOk result (λ items. items_given reply ≡ Some items) }
-    ensures none { IfErr result (λ back. items_given reply ≡ None) }
-    ensures back { IfErr result (λ back. back ≡ reply) }
+// Whether a reply has items.
+pub(crate) fn has_items(reply: &Reply) -> bool
+    ensures { result ≡ is_some (items_given reply.now) }
+{
+    matches!(
+        reply,
+        Reply::Checked { .. } | Reply::Journaled(_) | Reply::Snapped(_) | Reply::Paged(_)
+    )
+}
+
+// The items of a reply, `None` where it has none.
+fn items_of(reply: &Reply) -> Option<&ItemList>
+    ensures { option_copied result ≡ items_given reply.now }
 {
     match reply {
-        Reply::Checked { items, .. } => Ok(items),
-        Reply::Journaled(since) => Ok(since.items),
-        Reply::Snapped(snapshot) => Ok(snapshot.items),
-        Reply::Paged(page) => Ok(page.items),
-        other => Err(other),
+        Reply::Checked { items, .. } => Some(items),
+        Reply::Journaled(since) => Some(&since.items),
+        Reply::Snapped(snapshot) => Some(&snapshot.items),
+        Reply::Paged(page) => Some(&page.items),
+        Reply::Changed { .. }
+        | Reply::Known
+        | Reply::Swept { .. }
+        | Reply::Found(_)
+        | Reply::Named(_)
+        | Reply::Subscribed { .. }
+        | Reply::Merged { .. }
+        | Reply::MergeStopped { .. }
+        | Reply::Refused(_) => None,
     }
+}
+
+// The items of the message of a number, `None` where there is no such message.
+pub(crate) fn items_at(messages: &[Reply], number: usize) -> Option<&ItemList>
+    ensures some { IfSome result (λ items. message_items messages.now number ≡ Some items.now) }
+    ensures none { IfNone result (message_items messages.now number ≡ None) }
+{
+    items_of(messages.get(number)?)
 }

@@ -8,14 +8,14 @@ ghost use Rattle.ds_replica.specs.Known.{Account, new_account, extended_all};
 ghost use Rattle.ds_world.specs.World.{store_in, Stands};
 ghost use Rattle.ds_world.specs.Seeds.{AreSeeds, IsSeedFault};
 ghost use Rattle.ds_world.specs.Run.{most_events, paired, EventLeads, RunLeads, IsRunFault};
-ghost use Rattle.ds_world.specs.Told.{IsTold, AreTold};
+ghost use Rattle.ds_world.specs.Told.{IsTold, AreTold, RepliesAreKept, MessagesStay};
 ghost use Rattle.ds_world.specs.Messages.{SnapshotsAreWhole, SincesExtend, PagesAreTurns, ChecksAreTurns, AllChecksAreWhole};
 ghost use Rattle.ds_world.specs.Account.{IsFor, Agrees, CatchesUp, KeepsUp, NamesNewest, NothingClashes, NothingStops, FloorsStand, StayItems, TurnsAreRun, WholeStays};
 
 use crate::events::Events;
 use crate::fault::{SeedFault, WorldFault};
 use crate::outcomes::Outcomes;
-use ds_entry::ItemList;
+use ds_machine::Reply;
 use ds_replica::{Event, Outcome, Seed, Side};
 use ds_store::Store;
 use ds_submap::SubMap;
@@ -30,23 +30,24 @@ mod opening;
 /// The most events of one run.
 const MOST_EVENTS: usize = 65536;
 
-/// Two stores, up to 64 maps of subscribers, and up to 65536 messages: what the stores gave to Checks, Sinces, Snapshots and
-/// Pages. Maps and messages have numbers, counted from 0 in the order in which they were made.
+/// Two stores, up to 64 maps of subscribers, and up to 65536 messages: the replies that the stores gave to Checks, Sinces,
+/// Snapshots and Pages, with their items, cursors and stamps. Maps and messages have numbers, counted from 0 in the order in
+/// which they were made.
 #[derive(Drop)]
 pub struct World {
     alloc: Global,
     a: Store,
     b: Store,
     maps: Vec<SubMap>,
-    messages: Vec<ItemList>,
+    messages: Vec<Reply>,
 }
 
 impl Model for World {
     ghost use Rattle.std.specs.Prelude.{List};
     ghost use Rattle.std.specs.Coded.{code_by, coded×, coded_list};
-    ghost use Rattle.ds_entry.specs.declared.item.Item.{Item};
-    ghost use Rattle.ds_entry.specs.contracts.item_list.ItemList.{the_row as items_row};
     ghost use Rattle.ds_content.specs.Content.{ContentRecord};
+    ghost use Rattle.ds_machine.specs.declared.reply.Reply.{Reply};
+    ghost use Rattle.ds_machine.specs.contracts.reply.Reply.{the_row as reply_row};
     ghost use Rattle.ds_submap.specs.Map.{SubMapRecord};
     ghost use Rattle.ds_submap.specs.contracts.map.SubMap.{the_row as map_row};
     ghost use Rattle.ds_store.specs.contracts.store.Store.{the_row as store_row};
@@ -54,7 +55,7 @@ impl Model for World {
 
     ghost Value = { WorldRecord };
 
-    ghost coded = { code_by (ContentRecord × (ContentRecord × (List SubMapRecord × List (List Item)))) (coded× store_row.coded (coded× store_row.coded (coded× (coded_list map_row.coded) (coded_list items_row.coded)))) (λ w. (w.a, (w.b, (w.maps, w.messages)))) (λ p. world_of p.0 p.1.0 p.1.1.0 p.1.1.1) (λ w i. w) };
+    ghost coded = { code_by (ContentRecord × (ContentRecord × (List SubMapRecord × List Reply))) (coded× store_row.coded (coded× store_row.coded (coded× (coded_list map_row.coded) (coded_list reply_row.coded)))) (λ w. (w.a, (w.b, (w.maps, w.messages)))) (λ p. world_of p.0 p.1.0 p.1.1.0 p.1.1.1) (λ w i. w) };
 
     ghost view = { λ w. world_of w.a w.b w.maps.items w.messages.items };
 }
@@ -92,6 +93,8 @@ impl World {
         ensures few { OnOk result (length events ≤ most_events) }
         ensures done { IfOk result (λ outcomes. RunLeads events outcomes self.old self.new) }
         ensures told { IfOk result (λ outcomes. AreTold self.old (paired events outcomes) self.new) }
+        ensures replies { IfOk result (λ outcomes. RepliesAreKept self.old (paired events outcomes) self.new) }
+        ensures messages { IfOk result (λ outcomes. MessagesStay self.old self.new) }
         ensures account { IfOk result (λ outcomes. (account : Account) → IsFor account self.old → IsFor (extended_all account (paired events outcomes)) self.new) }
         ensures agree { IfOk result (λ outcomes. (account : Account) → IsFor account self.old → Agrees (extended_all account (paired events outcomes)) self.new) }
         ensures catch_up { IfOk result (λ outcomes. (account : Account) → IsFor account self.old → CatchesUp (extended_all account (paired events outcomes)) self.new) }
@@ -169,8 +172,9 @@ impl World {
         self.maps.get(number)
     }
 
-    /// The items of the message of a number, `None` where there is no such message.
-    pub fn message(&self, number: usize) -> Option<&ItemList>
+    /// The message of a number, which is the reply that a store gave: `Checked`, `Journaled`, `Snapped` or `Paged`. `None` where
+    /// there is no such message.
+    pub fn message(&self, number: usize) -> Option<&Reply>
         ensures { option_copied result ≡ slice_get self.now.messages number }
     {
         self.messages.get(number)

@@ -3,6 +3,7 @@
 use crate::came::Came;
 use crate::happening::{Happening, label_key, number_key, run, world};
 use ds_held::Held;
+use ds_machine::Reply;
 use ds_names::Key;
 use ds_replica::{Holder, Side};
 use ds_world::World;
@@ -85,9 +86,14 @@ fn number(held: &Held, key: &Key) -> Option<(u32, bool)> {
     Some((held.get(key)?.version().seq, held.live(key).is_some()))
 }
 
-// How many items the message has.
-fn many(rt: &impl Abort, world: &World, message: usize) -> usize {
-    world.message(message).expect(rt, "a message").len()
+// How many items the message has, and the position of the cursor that came with them.
+fn given(rt: &impl Abort, world: &World, message: usize) -> (usize, u64) {
+    match world.message(message).expect(rt, "a message") {
+        Reply::Journaled(since) => (since.items.len(), since.cursor.position),
+        Reply::Snapped(snapshot) => (snapshot.items.len(), snapshot.cursor.position),
+        Reply::Paged(page) => (page.items.len(), page.cursor.position),
+        _ => panic!(rt; "a reply without a cursor"),
+    }
 }
 
 // What the map holds.
@@ -100,7 +106,7 @@ fn two_replicas_converge(rt: HostRuntime) {
     let alloc = rt.alloc();
     let mut world = world(&rt, alloc);
     run(&rt, alloc, &mut world, &CONVERGE);
-    assert!(rt; many(&rt, &world, 0) == 2 && many(&rt, &world, 1) == 1);
+    assert!(rt; given(&rt, &world, 0) == (2, 2) && given(&rt, &world, 1) == (1, 1));
     for side in [Side::A, Side::B] {
         let held = world.store(side).held();
         assert!(rt; held.len() == 2);
@@ -114,9 +120,9 @@ fn pages_and_the_journal_catch_up(rt: HostRuntime) {
     let alloc = rt.alloc();
     let mut world = world(&rt, alloc);
     run(&rt, alloc, &mut world, &PAGES);
-    assert!(rt;
-        many(&rt, &world, 0) == 1 && many(&rt, &world, 1) == 1 && many(&rt, &world, 2) == 2
-    );
+    assert!(rt; given(&rt, &world, 0) == (1, 2));
+    assert!(rt; given(&rt, &world, 1) == (1, 4));
+    assert!(rt; given(&rt, &world, 2) == (2, 4));
     let held = held(&rt, &world);
     assert!(rt; held.len() == 3);
     assert!(rt; number(held, &number_key(&rt, b"A")) == Some((3, true)));
@@ -129,7 +135,7 @@ fn a_tombstone_comes_before_its_put(rt: HostRuntime) {
     let alloc = rt.alloc();
     let mut world = world(&rt, alloc);
     run(&rt, alloc, &mut world, &GONE);
-    assert!(rt; many(&rt, &world, 0) == 1 && many(&rt, &world, 1) == 1);
+    assert!(rt; given(&rt, &world, 0) == (1, 1) && given(&rt, &world, 1) == (1, 2));
     assert!(rt; number(held(&rt, &world), &number_key(&rt, b"a")) == Some((1, false)));
     run(&rt, alloc, &mut world, &BEGUN);
     assert!(rt; held(&rt, &world).len() == 0 && world.store(Side::A).held().len() == 0);

@@ -12,7 +12,7 @@ ghost use Rattle.ds_replica.specs.Happens.{gives_items};
 ghost use Rattle.ds_world.specs.Run.{EventLeads};
 ghost use Rattle.ds_world.specs.Told.{IsTold};
 
-use crate::replies::{gives_items, items_of};
+use crate::replies::{gives_items, has_items};
 use crate::world::World;
 use ds_machine::{Command, Reply};
 use ds_replica::{EventFault, Outcome, Side};
@@ -34,7 +34,7 @@ fn apply(a: &mut Store, b: &mut Store, side: Side, command: Command) -> Reply
 }
 
 impl World {
-    // Asks a store. What it gives is kept as the next message; room for that is taken first.
+    // Asks a store. A reply with items is kept as the next message; room for that is taken first.
     pub(super) fn ask(&mut self, side: Side, command: Command) -> Outcome
         ensures leads { EventLeads (Ask side command) result self.old self.new }
         ensures told { IsTold (Ask side command) result self.old self.new }
@@ -59,11 +59,10 @@ impl World {
             return Outcome::Refused(EventFault::NoRoom);
         };
         let reply = apply(&mut self.a, &mut self.b, side, command);
-        let items = match items_of(reply) {
-            Ok(items) => items,
-            Err(reply) => return Outcome::Replied(reply),
-        };
-        self.messages.push_reserved(items);
-        Outcome::Made { message }
+        if has_items(&reply) {
+            self.messages.push_reserved(reply);
+            return Outcome::Made { message };
+        }
+        Outcome::Replied(reply)
     }
 }

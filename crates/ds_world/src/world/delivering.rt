@@ -14,6 +14,7 @@ ghost use Rattle.ds_world.specs.Tally.{tally_of, IsCounted};
 ghost use Rattle.ds_world.specs.Told.{IsMapTold, IsTold};
 ghost use Rattle.ds_world.specs.Run.{EventLeads};
 
+use crate::replies::items_at;
 use crate::tally::{Tally, refusal_of};
 use crate::world::World;
 use ds_entry::ItemList;
@@ -160,9 +161,10 @@ impl World {
 
     // They go to a store.
     fn deliver_to_store(&mut self, message: usize, side: Side, count: Option<usize>) -> Outcome
-        ensures { EventLeads (Deliver message (OfStore side) count) result self.old self.new }
+        ensures leads { EventLeads (Deliver message (OfStore side) count) result self.old self.new }
+        ensures told { IsTold (Deliver message (OfStore side) count) result self.old self.new }
     {
-        let Some(items) = self.messages.get(message) else {
+        let Some(items) = items_at(&self.messages, message) else {
             return Outcome::Refused(EventFault::NoMessage);
         };
         let Some(count) = count_of(items, count) else {
@@ -180,7 +182,7 @@ impl World {
         ensures leads { EventLeads (Deliver message (OfMap map) count) result self.old self.new }
         ensures told { IsTold (Deliver message (OfMap map) count) result self.old self.new }
     {
-        let Some(items) = self.messages.get(message) else {
+        let Some(items) = items_at(&self.messages, message) else {
             return Outcome::Refused(EventFault::NoMessage);
         };
         if map >= self.maps.len() {

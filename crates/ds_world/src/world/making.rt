@@ -2,6 +2,7 @@
 
 ghost use Rattle.ds_replica.specs.declared.event.Event.TheVariants.{NewMap, ClearMap};
 ghost use Rattle.ds_world.specs.Run.{EventLeads};
+ghost use Rattle.ds_world.specs.Told.{IsTold};
 
 use crate::tally::fault_of;
 use crate::world::World;
@@ -15,7 +16,8 @@ const MOST_MAPS: usize = 64;
 impl World {
     // Makes the map of a query.
     pub(super) fn make_map(&mut self, query: &Query) -> Outcome
-        ensures { EventLeads (NewMap query.now) result self.old self.new }
+        ensures leads { EventLeads (NewMap query.now) result self.old self.new }
+        ensures told { IsTold (NewMap query.now) result self.old self.new }
     {
         let number = self.maps.len();
         if number >= MOST_MAPS {
@@ -33,7 +35,8 @@ impl World {
 
     // Lets a map drop all that it holds.
     pub(super) fn clear_map(&mut self, map: usize) -> Outcome
-        ensures { EventLeads (ClearMap map) result self.old self.new }
+        ensures leads { EventLeads (ClearMap map) result self.old self.new }
+        ensures told { IsTold (ClearMap map) result self.old self.new }
     {
         if map >= self.maps.len() {
             return Outcome::Refused(EventFault::NoMap);

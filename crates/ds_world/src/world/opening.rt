@@ -8,6 +8,7 @@ ghost use Rattle.ds_content.specs.Stands.{Stands};
 ghost use Rattle.ds_replica.specs.declared.event.Event.TheVariants.{RestartStore};
 ghost use Rattle.ds_world.specs.Seeds.{AreSeeds, IsSeed, IsSeedFault};
 ghost use Rattle.ds_world.specs.Run.{EventLeads};
+ghost use Rattle.ds_world.specs.Told.{IsTold};
 
 use crate::fault::SeedFault;
 use crate::world::World;
@@ -61,7 +62,8 @@ pub(super) fn opened(alloc: Global, seed: Seed) -> Result<Store, SeedFault>
 impl World {
     // Opens a store again, empty, as another incarnation.
     pub(super) fn restart(&mut self, side: Side, incarnation: u64) -> Outcome
-        ensures { EventLeads (RestartStore side incarnation) result self.old self.new }
+        ensures leads { EventLeads (RestartStore side incarnation) result self.old self.new }
+        ensures told { IsTold (RestartStore side incarnation) result self.old self.new }
     {
         if incarnation <= self.a.incarnation() || incarnation <= self.b.incarnation() {
             return Outcome::Refused(EventFault::OldIncarnation);

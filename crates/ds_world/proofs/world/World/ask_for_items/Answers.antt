@@ -1,36 +1,71 @@
-use Rattle.std.proofs.Common.{◌≡◌, ◌<◌, ◌++◌, ◌∷◌, [], List, length, ap, sym, ◌∙◌, subst, arith}
-use Rattle.ds_entry.specs.declared.item.Item.{Item}
+use Rattle.std.proofs.Common.{◌≡◌, ◌<◌, ◌++◌, ◌∷◌, [], List, length, refl, ap, sym, ◌∙◌, subst, arith}
 use Rattle.ds_machine.specs.declared.reply.Reply.{Reply}
 use Rattle.ds_replica.specs.declared.event.Event.TheVariants.{Ask}
 use Rattle.ds_replica.specs.declared.outcome.Outcome.TheVariants.{Replied, Made}
+use Rattle.ds_replica.specs.Happens.{items_given}
 use Rattle.ds_world.specs.World.{WorldRecord, world_of}
 use Rattle.ds_world.specs.Run.{EventLeads}
-use Rattle.ds_world.proofs.AskLemmas.{replied, made, few_free}
+use Rattle.ds_world.specs.Told.{IsTold}
+use Rattle.ds_world.proofs.AskLemmas.{replied, replied_so, made, made_so, few_free, no_items, some_items}
 use Rattle.ds_world.proofs.world.World.ask_for_items.Goals as goal
 
-pub returns-in-Err-clause-leads : goal.returns-in-Err-clause-leads
-returns-in-Err-clause-leads c =
+pub returns-then-has_items-clause-leads : goal.returns-then-has_items-clause-leads
+returns-then-has_items-clause-leads c =
     let ask = Ask c.args.side c.args.command in
-    let reply = c.apply-reply.result in
     let messages = c.self.inside.messages.items in
     let maps = c.self.inside.maps.items in
-    let few : length messages < 65536 = omega (arith, c.len-message.ensures, c.self.inside.messages.ok.0, c.if-message-ge-MOST_MESSAGES.false) in
-    let went = replied c.self.inside.a c.self.inside.b c.apply-reply.new.a c.apply-reply.new.b maps messages c.args.side c.args.command reply c.apply-reply.ensures.step
-    (few_free c.args.command messages few) c.in-Err.ensures.none in
-    subst (λ (r : Reply). EventLeads ask (Replied r) c.args.self.now (world_of c.apply-reply.new.a c.apply-reply.new.b maps c.reserve.new.self.items)) (sym c.in-Err.ensures.back)
-    (subst (λ (l : List (List Item)). EventLeads ask (Replied reply) c.args.self.now (world_of c.apply-reply.new.a c.apply-reply.new.b maps l)) (sym c.reserve.ensures.items)
-    (subst (λ (v : WorldRecord). EventLeads ask (Replied reply) v (world_of c.apply-reply.new.a c.apply-reply.new.b maps messages)) c.self.view_is went))
+    let a = c.apply-reply.new.a in
+    let b = c.apply-reply.new.b in
+    let reply = c.apply-reply.result in
+    let items = some_items (items_given reply) c.if-has_items.ensures in
+    let many : length messages ≡ c.len-message.result = omega (arith, c.len-message.ensures, c.self.inside.messages.ok.0) in
+    let few : length messages < 65536 = omega (arith, many, c.if-message-ge-MOST_MESSAGES.false) in
+    let went = made c.self.inside.a c.self.inside.b a b maps messages c.args.side c.args.command reply c.apply-reply.ensures.step items.0 items.1 c.requires few in
+    let more = c.push_reserved.ensures.items ∙ ap (λ (l : List Reply). l ++ reply ∷ []) c.reserve.ensures.items in
+    subst (λ n. EventLeads ask (Made n) c.args.self.now (world_of a b maps c.push_reserved.new.self.items)) many
+    (subst (λ (l : List Reply). EventLeads ask (Made (length messages)) c.args.self.now (world_of a b maps l)) (sym more)
+    (subst (λ (v : WorldRecord). EventLeads ask (Made (length messages)) v (world_of a b maps (messages ++ reply ∷ []))) c.self.view_is went))
+
+pub returns-then-has_items-clause-told : goal.returns-then-has_items-clause-told
+returns-then-has_items-clause-told c =
+    let ask = Ask c.args.side c.args.command in
+    let messages = c.self.inside.messages.items in
+    let maps = c.self.inside.maps.items in
+    let a = c.apply-reply.new.a in
+    let b = c.apply-reply.new.b in
+    let reply = c.apply-reply.result in
+    let items = some_items (items_given reply) c.if-has_items.ensures in
+    let many : length messages ≡ c.len-message.result = omega (arith, c.len-message.ensures, c.self.inside.messages.ok.0) in
+    let few : length messages < 65536 = omega (arith, many, c.if-message-ge-MOST_MESSAGES.false) in
+    let told = made_so c.self.inside.a c.self.inside.b a b maps messages c.args.side c.args.command reply c.apply-reply.ensures.step items.0 items.1 c.requires few c.apply-reply.ensures.last in
+    let more = c.push_reserved.ensures.items ∙ ap (λ (l : List Reply). l ++ reply ∷ []) c.reserve.ensures.items in
+    subst (λ n. IsTold ask (Made n) c.args.self.now (world_of a b maps c.push_reserved.new.self.items)) many
+    (subst (λ (l : List Reply). IsTold ask (Made (length messages)) c.args.self.now (world_of a b maps l)) (sym more)
+    (subst (λ (v : WorldRecord). IsTold ask (Made (length messages)) v (world_of a b maps (messages ++ reply ∷ []))) c.self.view_is told))
 
 pub returns-clause-leads : goal.returns-clause-leads
 returns-clause-leads c =
     let ask = Ask c.args.side c.args.command in
     let messages = c.self.inside.messages.items in
     let maps = c.self.inside.maps.items in
-    let items = c.in-Ok-items_of.items in
-    let many : length messages ≡ c.len-message.result = omega (arith, c.len-message.ensures, c.self.inside.messages.ok.0) in
-    let few : length messages < 65536 = omega (arith, many, c.if-message-ge-MOST_MESSAGES.false) in
-    let went = made c.self.inside.a c.self.inside.b c.apply-reply.new.a c.apply-reply.new.b maps messages c.args.side c.args.command c.apply-reply.result c.apply-reply.ensures.step items c.requires few c.in-Ok-items_of.ensures.items in
-    let more = c.push_reserved.ensures.items ∙ ap (λ (l : List (List Item)). l ++ items ∷ []) c.reserve.ensures.items in
-    subst (λ n. EventLeads ask (Made n) c.args.self.now (world_of c.apply-reply.new.a c.apply-reply.new.b maps c.push_reserved.new.self.items)) many
-    (subst (λ (l : List (List Item)). EventLeads ask (Made (length messages)) c.args.self.now (world_of c.apply-reply.new.a c.apply-reply.new.b maps l)) (sym more)
-    (subst (λ (v : WorldRecord). EventLeads ask (Made (length messages)) v (world_of c.apply-reply.new.a c.apply-reply.new.b maps (messages ++ items ∷ []))) c.self.view_is went))
+    let a = c.apply-reply.new.a in
+    let b = c.apply-reply.new.b in
+    let reply = c.apply-reply.result in
+    let few : length messages < 65536 = omega (arith, c.len-message.ensures, c.self.inside.messages.ok.0, c.if-message-ge-MOST_MESSAGES.false) in
+    let went = replied c.self.inside.a c.self.inside.b a b maps messages c.args.side c.args.command reply c.apply-reply.ensures.step (few_free c.args.command messages few) (no_items (items_given reply) c.if-has_items.ensures) in
+    subst (λ (l : List Reply). EventLeads ask (Replied reply) c.args.self.now (world_of a b maps l)) (sym c.reserve.ensures.items)
+    (subst (λ (v : WorldRecord). EventLeads ask (Replied reply) v (world_of a b maps messages)) c.self.view_is went)
+
+pub returns-clause-told : goal.returns-clause-told
+returns-clause-told c =
+    let ask = Ask c.args.side c.args.command in
+    let messages = c.self.inside.messages.items in
+    let maps = c.self.inside.maps.items in
+    let a = c.apply-reply.new.a in
+    let b = c.apply-reply.new.b in
+    let reply = c.apply-reply.result in
+    let none = no_items (items_given reply) c.if-has_items.ensures in
+    let few : length messages < 65536 = omega (arith, c.len-message.ensures, c.self.inside.messages.ok.0, c.if-message-ge-MOST_MESSAGES.false) in
+    let told = replied_so c.self.inside.a c.self.inside.b a b maps messages c.args.side c.args.command reply c.apply-reply.ensures.step (few_free c.args.command messages few) none c.apply-reply.ensures.last in
+    subst (λ (l : List Reply). IsTold ask (Replied reply) c.args.self.now (world_of a b maps l)) (sym c.reserve.ensures.items)
+    (subst (λ (v : WorldRecord). IsTold ask (Replied reply) v (world_of a b maps messages)) c.self.view_is (told, refl))

@@ -1,4 +1,4 @@
-use Rattle.std.proofs.Common.{◌≡◌, length, sym, subst, arith}
+use Rattle.std.proofs.Common.{◌≡◌, length, ap, sym, subst, arith}
 use Rattle.std.specs.List.{slice_set}
 use Rattle.std.proofs.lemmas.Option.{slice_get_read}
 use Rattle.ds_submap.specs.Map.{SubMapRecord}
@@ -9,8 +9,8 @@ use Rattle.ds_world.specs.Run.{EventLeads}
 use Rattle.ds_world.proofs.MapLemmas.{map_cleared}
 use Rattle.ds_world.proofs.world.World.clear_map.Goals as goal
 
-pub returns : goal.returns
-returns c =
+pub returns-clause-leads : goal.returns-clause-leads
+returns-clause-leads c =
     let a = c.self.inside.a in
     let b = c.self.inside.b in
     let maps = c.self.inside.maps.items in
@@ -21,3 +21,6 @@ returns c =
     subst (λ (v : WorldRecord). EventLeads event Cleared v (world_of a b (slice_set maps c.args.map c.clear.new.self) messages)) c.self.view_is
     (subst (λ (x : SubMapRecord). EventLeads event Cleared (world_of a b maps messages) (world_of a b (slice_set maps c.args.map x) messages)) (sym c.clear.ensures)
     (map_cleared (world_of a b maps messages) c.args.map c.index_mut.result.now there))
+
+pub returns-clause-told : goal.returns-clause-told
+returns-clause-told c = ap (λ (v : WorldRecord). v.messages) c.self.view_is

@@ -1,15 +1,19 @@
-use Rattle.std.proofs.Common.{◌≡◌, ◌≤◌, ◌<◌, ℕ, length, take, Some, sym, subst, arith, refl}
+use Rattle.std.proofs.Common.{◌≡◌, List, ◌≤◌, ◌<◌, ℕ, length, take, None, Some, sym, subst, arith, refl}
 use Rattle.std.specs.List.{slice_get, slice_set}
 use Rattle.std.proofs.lemmas.Option.{slice_get_read}
 use Rattle.ds_replica.specs.Delivery.{MapTakes}
-use Rattle.ds_replica.specs.Happens.{count_of}
+use Rattle.ds_replica.specs.Happens.{count_of, tally_outcome}
 use Rattle.ds_replica.specs.declared.event.Event.TheVariants.{Deliver}
 use Rattle.ds_replica.specs.declared.event.Holder.TheVariants.{Map}
 use Rattle.ds_replica.specs.declared.outcome.Outcome.{Outcome}
-use Rattle.ds_world.specs.World.{WorldRecord, world_of, map_state}
+use Rattle.ds_machine.specs.declared.reply.Reply.{Reply}
+use Rattle.ds_world.specs.World.{WorldRecord, world_of, map_state, message_items}
+use Rattle.ds_replica.specs.declared.outcome.Outcome.TheVariants.{Refused}
+use Rattle.ds_replica.specs.declared.outcome.EventFault.TheVariants.{NoMessage, NoMap, TooMany}
 use Rattle.ds_world.specs.Tally.{tally_of}
 use Rattle.ds_world.specs.Run.{EventLeads}
-use Rattle.ds_world.proofs.DeliverLemmas.{to_map}
+use Rattle.ds_world.specs.Told.{IsMapTold, IsTold}
+use Rattle.ds_world.proofs.DeliverLemmas.{no_message, no_map, too_many_for_map, to_map, map_told, map_at}
 use Rattle.ds_world.proofs.world.World.deliver_to_map.Goals as goal
 
 pub returns-clause-leads : goal.returns-clause-leads
@@ -20,9 +24,7 @@ returns-clause-leads c =
     let inside = c.self.inside in
     let value : WorldRecord = world_of inside.a inside.b inside.maps.items inside.messages.items in
     let items = c.in-Some.items.now in
-    let found = c.in-Some.ensures.lookup in
-    let there : slice_get value.messages k ≡ Some items =
-    subst (λ l. slice_get l k ≡ Some items) c.deref.ensures.value (slice_get_read c.deref.result.now (length c.deref.result.now) k items refl found.3.0 found.1) in
+    let there : message_items value.messages k ≡ Some items = subst (λ (l : List Reply). message_items l k ≡ Some items) c.deref.ensures.value c.in-Some.ensures.some in
     let old = c.index_mut.result.now in
     let within : j < length inside.maps.items = omega (arith, c.if-map-len.false, c.len.ensures, inside.maps.ok.0) in
     let map_there : slice_get value.maps j ≡ Some old = slice_get_read value.maps (length value.maps) j old refl within c.index_mut.ensures.value in
@@ -33,3 +35,54 @@ returns-clause-leads c =
     let new : WorldRecord = record value { maps = slice_set value.maps j c.take_first.new.map } in
     subst (λ (v : WorldRecord). EventLeads by_event c.outcome.result v new) c.self.view_is
     (subst (λ (o : Outcome). EventLeads by_event o value new) (sym c.outcome.ensures) (to_map value k count items there few (tally_of c.take_first.result) j old c.take_first.new.map map_there taken))
+
+pub returns-clause-told : goal.returns-clause-told
+returns-clause-told c =
+    let k = c.args.message in
+    let j = c.args.map in
+    let count = c.args.count in
+    let inside = c.self.inside in
+    let value : WorldRecord = world_of inside.a inside.b inside.maps.items inside.messages.items in
+    let items = c.in-Some.items.now in
+    let there : message_items value.messages k ≡ Some items = subst (λ (l : List Reply). message_items l k ≡ Some items) c.deref.ensures.value c.in-Some.ensures.some in
+    let old = c.index_mut.result.now in
+    let within : j < length inside.maps.items = omega (arith, c.if-map-len.false, c.len.ensures, inside.maps.ok.0) in
+    let map_there : slice_get value.maps j ≡ Some old = slice_get_read value.maps (length value.maps) j old refl within c.index_mut.ensures.value in
+    let taken = c.take_first.new.map in
+    let tally = c.take_first.result in
+    let told = subst (λ (n : ℕ). IsMapTold old.query old.held (take n items) (tally_outcome (tally_of tally) tally.stop) taken.held) c.in-Some-count_of.ensures.some.0 c.take_first.ensures.told in
+    let new : WorldRecord = record value { maps = slice_set value.maps j taken } in
+    subst (λ (v : WorldRecord). IsTold (Deliver k (Map j) count) c.outcome.result v new) c.self.view_is
+    (subst (λ (o : Outcome). IsTold (Deliver k (Map j) count) o value new) (sym c.outcome.ensures) (map_told value k j count items old taken (tally_outcome (tally_of tally) tally.stop) there map_there told))
+
+pub returns-in_default-clause-leads : goal.returns-in_default-clause-leads
+returns-in_default-clause-leads c =
+    let k = c.args.message in
+    let inside = c.self.inside in
+    let value : WorldRecord = world_of inside.a inside.b inside.maps.items inside.messages.items in
+    let none : message_items value.messages k ≡ None = subst (λ (l : List Reply). message_items l k ≡ None) c.deref.ensures.value c.in_default.ensures.none in
+    subst (λ (v : WorldRecord). EventLeads (Deliver k (Map c.args.map) c.args.count) (Refused NoMessage) v v) c.self.view_is (no_message value k c.args.count (Map c.args.map) none)
+
+pub returns-then-map-len-clause-leads : goal.returns-then-map-len-clause-leads
+returns-then-map-len-clause-leads c =
+    let k = c.args.message in
+    let j = c.args.map in
+    let inside = c.self.inside in
+    let value : WorldRecord = world_of inside.a inside.b inside.maps.items inside.messages.items in
+    let items = c.in-Some.items.now in
+    let there : message_items value.messages k ≡ Some items = subst (λ (l : List Reply). message_items l k ≡ Some items) c.deref.ensures.value c.in-Some.ensures.some in
+    let past : length inside.maps.items ≤ j = omega (arith, c.if-map-len.true, c.len.ensures, inside.maps.ok.0) in
+    subst (λ (v : WorldRecord). EventLeads (Deliver k (Map j) c.args.count) (Refused NoMap) v v) c.self.view_is (no_map value k c.args.count items there j past)
+
+pub returns-in_default-count_of-clause-leads : goal.returns-in_default-count_of-clause-leads
+returns-in_default-count_of-clause-leads c =
+    let k = c.args.message in
+    let j = c.args.map in
+    let inside = c.self.inside in
+    let value : WorldRecord = world_of inside.a inside.b inside.maps.items inside.messages.items in
+    let items = c.in-Some.items.now in
+    let there : message_items value.messages k ≡ Some items = subst (λ (l : List Reply). message_items l k ≡ Some items) c.deref.ensures.value c.in-Some.ensures.some in
+    let within : j < length inside.maps.items = omega (arith, c.if-map-len.false, c.len.ensures, inside.maps.ok.0) in
+    let at = map_at value.maps j within in
+    subst (λ (v : WorldRecord). EventLeads (Deliver k (Map j) c.args.count) (Refused TooMany) v v) c.self.view_is
+    (too_many_for_map value k c.args.count items there j at.0 at.1 c.in_default-count_of.ensures.none)

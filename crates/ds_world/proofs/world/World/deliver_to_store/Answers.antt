@@ -1,6 +1,4 @@
-use Rattle.std.proofs.Common.{◌≡◌, ◌≤◌, ◌-◌, ℕ, length, take, Some, ap, sym, ◌∙◌, subst, arith, refl}
-use Rattle.std.specs.List.{slice_get}
-use Rattle.std.proofs.lemmas.Option.{slice_get_read}
+use Rattle.std.proofs.Common.{◌≡◌, List, ◌≤◌, ◌-◌, ℕ, length, take, None, Some, ap, sym, ◌∙◌, subst, arith}
 use Rattle.ds_machine.specs.State.{State}
 use Rattle.ds_content.specs.Stands as contents
 use Rattle.ds_replica.specs.Delivery.{StoreTakes}
@@ -8,23 +6,25 @@ use Rattle.ds_replica.specs.Happens.{count_of, tally_outcome}
 use Rattle.ds_replica.specs.declared.event.Side.{Side}
 use Rattle.ds_replica.specs.declared.event.Event.TheVariants.{Deliver}
 use Rattle.ds_replica.specs.declared.event.Holder.TheVariants.{Store}
-use Rattle.ds_world.specs.World.{WorldRecord, world_of}
+use Rattle.ds_machine.specs.declared.reply.Reply.{Reply}
+use Rattle.ds_world.specs.World.{WorldRecord, world_of, message_items}
+use Rattle.ds_replica.specs.declared.outcome.Outcome.TheVariants.{Refused}
+use Rattle.ds_replica.specs.declared.outcome.EventFault.TheVariants.{NoMessage, TooMany}
 use Rattle.ds_world.specs.declared.tally.Tally.{Tally}
+use Rattle.ds_world.specs.Run.{EventLeads}
 use Rattle.ds_world.specs.Tally.{tally_of}
-use Rattle.ds_world.proofs.DeliverLemmas.{carried, to_a, to_b}
+use Rattle.ds_world.proofs.DeliverLemmas.{carried, no_message, too_many_for_store, to_a, to_b}
 use Rattle.ds_world.proofs.world.World.deliver_to_store.Goals as goal
 use Rattle.ds_world.proofs.world.World.deliver_to_store.Goals.{in-A, in-B}
 
-pub returns : goal.returns
-returns c =
+pub returns-clause-leads : goal.returns-clause-leads
+returns-clause-leads c =
     let k = c.args.message in
     let count = c.args.count in
     let inside = c.self.inside in
     let value : WorldRecord = world_of inside.a inside.b inside.maps.items inside.messages.items in
     let items = c.in-Some.items.now in
-    let found = c.in-Some.ensures.lookup in
-    let there : slice_get value.messages k ≡ Some items =
-    subst (λ l. slice_get l k ≡ Some items) c.deref.ensures.value (slice_get_read c.deref.result.now (length c.deref.result.now) k items refl found.3.0 found.1) in
+    let there : message_items value.messages k ≡ Some items = subst (λ (l : List Reply). message_items l k ≡ Some items) c.deref.ensures.value c.in-Some.ensures.some in
     let n = c.in-Some-count_of.count in
     let counted = c.in-Some-count_of.ensures.some in
     let few : count_of count items ≤ length items = omega (arith, counted.0, counted.1) in
@@ -43,3 +43,29 @@ returns c =
           let taken = subst (λ (n : ℕ). (s : State) → contents.Stands value.b s → (t : State) × StoreTakes s (take n items) (tally_of tally) t × contents.Stands new t) all w.merge_from-tally-in-B.ensures.takes in
           carried (ap by_event (sym w.in-B.is)) (sym (c.outcome.ensures ∙ ap ends w.tally-is)) c.self.view_is (sym w.self-is) (to_b value k count items there few (tally_of tally) new taken))
     ]
+
+pub returns-clause-told : goal.returns-clause-told
+returns-clause-told c =
+    let messages = λ (v : WorldRecord). v.messages in
+    elim c.match-side.branch [
+      | in-A w ↦ ap messages w.self-is ∙ ap messages c.self.view_is
+      | in-B w ↦ ap messages w.self-is ∙ ap messages c.self.view_is
+    ]
+
+pub returns-in_default-clause-leads : goal.returns-in_default-clause-leads
+returns-in_default-clause-leads c =
+    let k = c.args.message in
+    let inside = c.self.inside in
+    let value : WorldRecord = world_of inside.a inside.b inside.maps.items inside.messages.items in
+    let none : message_items value.messages k ≡ None = subst (λ (l : List Reply). message_items l k ≡ None) c.deref.ensures.value c.in_default.ensures.none in
+    subst (λ (v : WorldRecord). EventLeads (Deliver k (Store c.args.side) c.args.count) (Refused NoMessage) v v) c.self.view_is (no_message value k c.args.count (Store c.args.side) none)
+
+pub returns-in_default-count_of-clause-leads : goal.returns-in_default-count_of-clause-leads
+returns-in_default-count_of-clause-leads c =
+    let k = c.args.message in
+    let inside = c.self.inside in
+    let value : WorldRecord = world_of inside.a inside.b inside.maps.items inside.messages.items in
+    let items = c.in-Some.items.now in
+    let there : message_items value.messages k ≡ Some items = subst (λ (l : List Reply). message_items l k ≡ Some items) c.deref.ensures.value c.in-Some.ensures.some in
+    subst (λ (v : WorldRecord). EventLeads (Deliver k (Store c.args.side) c.args.count) (Refused TooMany) v v) c.self.view_is
+    (too_many_for_store value k c.args.count items there c.args.side c.in_default-count_of.ensures.none)

@@ -11,8 +11,8 @@ use Rattle.ds_world.proofs.MapLemmas.{map_made, map_noroom}
 use Rattle.ds_world.proofs.world.World.make_map.Goals.{in-Ok-push, in-Err-push}
 use Rattle.ds_world.proofs.world.World.make_map.Goals as goal
 
-pub returns : goal.returns
-returns c =
+pub returns-clause-leads : goal.returns-clause-leads
+returns-clause-leads c =
     let a = c.self.inside.a in
     let b = c.self.inside.b in
     let maps = c.self.inside.maps.items in
@@ -35,3 +35,6 @@ returns c =
           (subst (λ (l : List SubMapRecord). EventLeads (NewMap query) (Refused NoRoom) c.args.self.now (world_of a b l messages)) (sym same)
           (subst (λ (v : WorldRecord). EventLeads (NewMap query) (Refused NoRoom) v value) c.self.view_is (map_noroom value query few pattern.limit)))
     ]
+
+pub returns-clause-told : goal.returns-clause-told
+returns-clause-told c = ap (λ (v : WorldRecord). v.messages) c.self.view_is

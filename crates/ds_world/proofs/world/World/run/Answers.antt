@@ -1,6 +1,14 @@
 use Rattle.ds_world.proofs.HeadlineLemmas.{account_fits, agree_after, catch_up_after, keep_up_after, newest_after, clashes_after, floors_after, items_stay, stays_whole, turns}
 use Rattle.ds_world.proofs.GivenLemmas.{snapshots, sinces, pages, checks, all_checks, stops}
+use Rattle.ds_world.proofs.ReplyLemmas.{replies_are_kept, messages_stay}
+use Rattle.ds_world.specs.Run.{paired}
 use Rattle.ds_world.proofs.world.World.run.Goals as goal
+
+pub returns-clause-replies : goal.returns-clause-replies
+returns-clause-replies c = replies_are_kept c.args.self.now c.happen_all.new.self (paired c.args.events c.happen_all.result) c.happen_all.ensures.told
+
+pub returns-clause-messages : goal.returns-clause-messages
+returns-clause-messages c = messages_stay c.args.self.now c.happen_all.new.self (paired c.args.events c.happen_all.result) c.happen_all.ensures.told
 
 pub returns-clause-account : goal.returns-clause-account
 returns-clause-account c account = account_fits account c.args.self.now c.happen_all.new.self c.args.events c.happen_all.result c.happen_all.ensures.done

@@ -1,0 +1,70 @@
+-- That messages stay, and are the replies that stores gave.
+use Rattle.std.proofs.Common.{◌≡◌, ℕ, List, [], ◌∷◌, ◌++◌, length, append-nil, append_assoc, Some, refl, ap, sym, ◌∙◌, subst}
+use Rattle.std.specs.List.{slice_get}
+use Rattle.ds_machine.specs.declared.reply.Reply.{Reply}
+use Rattle.ds_replica.specs.declared.event.Holder.TheVariants.{Store, Map}
+use Rattle.ds_replica.specs.declared.event.Event.{Event}
+use Rattle.ds_replica.specs.declared.event.Event.TheVariants.{Ask, NewMap, Deliver, ClearMap, RestartStore}
+use Rattle.ds_replica.specs.declared.outcome.Outcome.{Outcome}
+use Rattle.ds_replica.specs.declared.outcome.Outcome.TheVariants.{Replied, Made, MapMade, Merged, Stopped, Cleared, Restarted, Refused}
+use Rattle.ds_replica.specs.World.{World}
+use Rattle.ds_replica.specs.Happens.{HappenAll}
+use Rattle.ds_world.specs.World.{WorldRecord, Stands}
+use Rattle.ds_world.specs.Told.{IsTold, AreTold, MessagesStay, RepliesAreKept}
+
+-- ---- messages stay
+same : (old new : WorldRecord) → new.messages ≡ old.messages → MessagesStay old new
+same old new e = ([], e ∙ sym (append-nil old.messages))
+
+over_two : (old mid new : WorldRecord) → MessagesStay old mid → MessagesStay mid new → MessagesStay old new
+over_two old mid new one two = (one.0 ++ two.0, two.1 ∙ ap (λ (l : List Reply). l ++ two.0) one.1 ∙ append_assoc old.messages one.0 two.0)
+
+over_one : (event : Event) (outcome : Outcome) (old new : WorldRecord) → IsTold event outcome old new → MessagesStay old new
+over_one (Ask side command) (Replied reply) old new told = same old new told.1
+over_one (Ask side command) (Made k) old new told = (told.reply ∷ [], told.kept)
+over_one (Ask side command) (MapMade j) old new told = same old new told
+over_one (Ask side command) (Merged done taken stale owed) old new told = same old new told
+over_one (Ask side command) (Stopped done fault owed) old new told = same old new told
+over_one (Ask side command) Cleared old new told = same old new told
+over_one (Ask side command) Restarted old new told = same old new told
+over_one (Ask side command) (Refused fault) old new told = same old new told
+over_one (NewMap query) outcome old new told = same old new told
+over_one (Deliver k (Store side) count) outcome old new told = same old new told
+over_one (Deliver k (Map j) count) outcome old new told = same old new told.1
+over_one (ClearMap j) outcome old new told = same old new told
+over_one (RestartStore side incarnation) outcome old new told = same old new told
+
+pub messages_stay : (old new : WorldRecord) (events : List (Event × Outcome)) → AreTold old events new → MessagesStay old new
+messages_stay old new [] told = same old new (ap (λ (v : WorldRecord). v.messages) told)
+messages_stay old new (e ∷ events) told = over_two old told.0 new (over_one e.0 e.1 old told.0 told.2) (messages_stay told.0 new events told.3)
+
+-- ---- what was told of two parts of a list
+in_two : (xs ys : List (Event × Outcome)) (old new : WorldRecord) → AreTold old (xs ++ ys) new → (mid : WorldRecord) × AreTold old xs mid × AreTold mid ys new
+in_two [] ys old new told = (old, refl, told)
+in_two (x ∷ xs) ys old new told = let rest = in_two xs ys told.0 new told.3 in (rest.0, (told.0, told.1, told.2, rest.1), rest.2)
+
+-- the values stand for worlds in which the events happened
+happened : (events : List (Event × Outcome)) (old new : WorldRecord) (w : World) → AreTold old events new → Stands old w → (late : World) × HappenAll w events late × Stands new late
+happened [] old new w told s = (w, refl, subst (λ (v : WorldRecord). Stands v w) (sym told) s)
+happened (e ∷ events) old new w told s =
+    let one = told.1 w s in
+    let rest = happened events told.0 new one.0 told.3 one.2 in
+    (rest.0, (one.0, one.1, rest.1), rest.2)
+
+-- ---- the reply that is kept
+behind : (front : List Reply) (reply : Reply) (rest : List Reply) → slice_get ((front ++ reply ∷ []) ++ rest) (length front) ≡ Some reply
+behind [] reply rest = refl
+behind (x ∷ front) reply rest = behind front reply rest
+
+pub replies_are_kept : (old new : WorldRecord) (events : List (Event × Outcome)) → AreTold old events new → RepliesAreKept old events new
+replies_are_kept old new events told before since side command k w all s =
+    let parts = in_two before ((Ask side command, Made k) ∷ since) old new (subst (λ (l : List (Event × Outcome)). AreTold old l new) (sym all) told) in
+    let went = happened before old parts.0 w parts.1 s in
+    let mid = parts.2.0 in
+    let kept = parts.2.2 in
+    let asked = kept.answered.asks went.0 went.2 in
+    let rest = happened since mid new asked.1 parts.2.3 asked.4 in
+    let stay = messages_stay mid new since parts.2.3 in
+    let there : slice_get new.messages k ≡ Some asked.2.reply =
+    ap (λ (l : List Reply). slice_get l k) (stay.1 ∙ ap (λ (l : List Reply). l ++ stay.0) kept.kept) ∙ ap (λ (n : ℕ). slice_get ((parts.0.messages ++ kept.reply ∷ []) ++ stay.0) n) kept.next ∙ behind parts.0.messages kept.reply stay.0 ∙ ap Some (sym asked.3) in
+    (went.0, went.1, asked.1, asked.2, there, rest.0, rest.1, rest.2)
