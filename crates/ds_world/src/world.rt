@@ -137,8 +137,8 @@ impl World {
         Outcomes::of(outcomes)
     }
 
-    // Lets an event happen.
-    fn happen(&mut self, event: Event) -> Outcome
+    /// Lets an event happen, and gives what came of it. A refused event changes nothing.
+    pub fn happen(&mut self, event: Event) -> Outcome
         ensures leads { EventLeads event result self.old self.new }
         ensures told { IsTold event result self.old self.new }
     {
