@@ -1,1 +1,4 @@
 pub mod PickLemmas
+pub mod LineLemmas
+pub mod EventLemmas
+pub mod LawLemmas
