@@ -1,1 +1,4 @@
 pub mod PickLemmas
+pub mod ProgressLemmas
+pub mod RunLemmas
+pub mod EndLemmas
