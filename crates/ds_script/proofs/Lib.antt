@@ -2,3 +2,6 @@ pub mod PickLemmas
 pub mod LineLemmas
 pub mod EventLemmas
 pub mod LawLemmas
+pub mod ProgressLemmas
+pub mod RunLemmas
+pub mod EndLemmas

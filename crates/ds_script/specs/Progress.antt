@@ -1,6 +1,6 @@
 -- How far a replay has come, as its private functions tell each other: of the reader, whose bytes to come are `from` before
--- and `to` after, and of the writer, whose bytes are `had` before and `has` after, where these are known; of the replay under
--- way before and after, by a record of what it drives, the answers that wait, and the counts of lines and of bad ones.
+-- and `to` after, and of the writer, whose bytes are `had` before and `has` after, where these are known; and of the replay
+-- itself, before and after.
 use Rattle.std.specs.Prelude.{◌≡◌, ℕ, suc, ◌+◌, ◌⊎◌, Bool, true, false, List, [], ◌∷◌, ◌++◌, length, Option}
 use Rattle.std.specs.List.{All}
 use Rattle.std.specs.Io.KnownBytes.{Appends, Consumes, IsAtEnd}
@@ -14,6 +14,19 @@ use Rattle.ds_script.specs.declared.report.BadLines.TheVariants.{End}
 use Rattle.ds_script.specs.declared.taking.Running.{Running}
 use Rattle.ds_script.specs.Session.{SessionContent}
 use Rattle.ds_script.specs.Replay.{AnswersLines, IsBadBehind, BeginsBadLine, badline, StopsWith}
+
+-- What a replay has reached: what it drives, the answers that wait, the counts of lines and of bad ones, and what becomes of
+-- bad lines.
+pub record Reached : Type 0 where
+  pub session : SessionContent
+  pub waiting : List ℕ
+  pub lines : ℕ
+  pub bad : ℕ
+  pub policy : BadLines
+
+-- that of a replay under way
+abbrev pub reached : Running → Reached
+reached running = record { session = running.session; waiting = running.output.items; lines = running.done.lines; bad = running.done.bad; policy = running.bad_lines }
 
 -- ---- one line
 
@@ -45,20 +58,20 @@ TellsBad _ number place had has old new = ⊥
 
 -- ---- lines
 
--- The lines were answered: some of the answers were written, behind those that waited before, and `after` waits.
-pub record Takes (had has : Option (List ℕ)) (old : Running) (lines : List (List ℕ)) (new : Running) : Type 0 where
+-- The lines were answered: some of the answers were written, behind those that waited before.
+pub record Takes (had has : Option (List ℕ)) (old : Reached) (lines : List (List ℕ)) (new : Reached) : Type 0 where
   pub output : List ℕ
   pub sent : List ℕ
   pub bad : ℕ
-  pub answers : AnswersLines old.bad_lines old.done.lines old.session lines output bad new.session
-  pub split : old.output.items ++ output ≡ sent ++ new.output.items
+  pub answers : AnswersLines old.policy old.lines old.session lines output bad new.session
+  pub split : old.waiting ++ output ≡ sent ++ new.waiting
   pub written : Appends had has sent
-  pub counted : new.done.lines ≡ old.done.lines + length lines
-  pub told : new.done.bad ≡ old.done.bad + bad
-  pub policy : new.bad_lines ≡ old.bad_lines
+  pub counted : new.lines ≡ old.lines + length lines
+  pub told : new.bad ≡ old.bad + bad
+  pub policy : new.policy ≡ old.policy
 
 -- The lines of a text were answered. Behind them the rest stands.
-pub record TakesText (had has : Option (List ℕ)) (old : Running) (text : List ℕ) (new : Running) (rest : List ℕ) : Type 0 where
+pub record TakesText (had has : Option (List ℕ)) (old : Reached) (text : List ℕ) (new : Reached) (rest : List ℕ) : Type 0 where
   pub lines : List (List ℕ)
   pub split : text ≡ joined lines ++ rest
   pub unbroken : All IsUnbroken lines
@@ -68,41 +81,41 @@ pub record TakesText (had has : Option (List ℕ)) (old : Running) (text : List 
 
 -- What is so at a fault: by the answers `output` that wait then, where `mid` is the replay behind the last line that was
 -- answered, and `rest` wasn't.
-abbrev pub Leaves : ReplayFault → (to : Option (List ℕ)) → (output : List ℕ) → (mid : Running) → (rest : List ℕ) → Type 0
-Leaves (BadLine number place expected) to output mid rest = (mid.bad_lines ≡ End) × (mid.output.items ≡ output) × BeginsBadLine mid.done.lines to rest place × (number ≡ suc mid.done.lines)
-Leaves ReadFault to output mid rest = (mid.output.items ≡ output) × IsUnbroken rest
+abbrev pub Leaves : ReplayFault → (to : Option (List ℕ)) → (output : List ℕ) → (mid : Reached) → (rest : List ℕ) → Type 0
+Leaves (BadLine number place expected) to output mid rest = (mid.policy ≡ End) × (mid.waiting ≡ output) × BeginsBadLine mid.lines to rest place × (number ≡ suc mid.lines)
+Leaves ReadFault to output mid rest = (mid.waiting ≡ output) × IsUnbroken rest
 Leaves WriteFault to output mid rest = Unit {0}
-Leaves NoRoom to output mid rest = mid.output.items ≡ output
+Leaves NoRoom to output mid rest = mid.waiting ≡ output
 
 -- none of the lines was answered, or all were
-abbrev pub TakesNoneOrAll : (had has : Option (List ℕ)) → Running → List (List ℕ) → Type 0
-TakesNoneOrAll had has old whole = (lines : List (List ℕ)) × (mid : Running) × ((lines ≡ []) ⊎ (lines ≡ whole)) × Takes had has old lines mid
+abbrev pub TakesNoneOrAll : (had has : Option (List ℕ)) → Reached → List (List ℕ) → Type 0
+TakesNoneOrAll had has old whole = (lines : List (List ℕ)) × (mid : Reached) × ((lines ≡ []) ⊎ (lines ≡ whole)) × Takes had has old lines mid
 
 -- a line, without its newline, wasn't answered, or the writer failed behind it
-abbrev pub LineStops : ReplayFault → (had has : Option (List ℕ)) → Running → List ℕ → (output : List ℕ) → Type 0
-LineStops (BadLine number place expected) had has old line output = (mid : Running) × Takes had has old [] mid × (mid.bad_lines ≡ End) × (mid.output.items ≡ output) × IsBadBehind old.done.lines line place × (number ≡ suc old.done.lines)
+abbrev pub LineStops : ReplayFault → (had has : Option (List ℕ)) → Reached → List ℕ → (output : List ℕ) → Type 0
+LineStops (BadLine number place expected) had has old line output = (mid : Reached) × Takes had has old [] mid × (mid.policy ≡ End) × (mid.waiting ≡ output) × IsBadBehind old.lines line place × (number ≡ suc old.lines)
 LineStops ReadFault had has old line output = ⊥
 LineStops WriteFault had has old line output = TakesNoneOrAll had has old (line ∷ [])
-LineStops NoRoom had has old line output = (mid : Running) × Takes had has old [] mid × (mid.output.items ≡ output)
+LineStops NoRoom had has old line output = (mid : Reached) × Takes had has old [] mid × (mid.waiting ≡ output)
 
 -- some lines of a text were answered, and then the fault came
-abbrev pub TextStops : ReplayFault → (to had has : Option (List ℕ)) → Running → (text output : List ℕ) → Type 0
-TextStops fault to had has old text output = (mid : Running) × (rest : List ℕ) × TakesText had has old text mid rest × Leaves fault to output mid rest
+abbrev pub TextStops : ReplayFault → (to had has : Option (List ℕ)) → Reached → (text output : List ℕ) → Type 0
+TextStops fault to had has old text output = (mid : Reached) × (rest : List ℕ) × TakesText had has old text mid rest × Leaves fault to output mid rest
 
 -- the last line, whose newline is missing, wasn't answered, or the writer failed behind it
-abbrev pub LastStops : ReplayFault → (to had has : Option (List ℕ)) → Running → (pending output : List ℕ) → Type 0
+abbrev pub LastStops : ReplayFault → (to had has : Option (List ℕ)) → Reached → (pending output : List ℕ) → Type 0
 LastStops fault to had has old pending output = TextStops fault to had has old pending output ⊎ ((fault ≡ WriteFault) × TakesNoneOrAll had has old (unended pending))
 
 -- ---- turns
 
 -- What a turn does: more was read behind what was pending, and lines of it were answered; or there was no more to read, and
 -- what was pending was the last line, if it is one.
-abbrev pub Turns : Bool → (from to had has : Option (List ℕ)) → Running → (pending : List ℕ) → Running → (rest : List ℕ) → Type 0
+abbrev pub Turns : Bool → (from to had has : Option (List ℕ)) → Reached → (pending : List ℕ) → Reached → (rest : List ℕ) → Type 0
 Turns true from to had has old pending new rest = (bytes : List ℕ) × Consumes from to bytes × TakesText had has old (pending ++ bytes) new rest × IsUnbroken rest
-Turns false from to had has old pending new rest = Consumes from to [] × IsAtEnd to × Takes had has old (unended pending) new × (new.output.items ≡ [])
+Turns false from to had has old pending new rest = Consumes from to [] × IsAtEnd to × Takes had has old (unended pending) new × (new.waiting ≡ [])
 
 -- what a turn has done that stopped
-abbrev pub TurnStops : ReplayFault → (from to had has : Option (List ℕ)) → Running → (pending output : List ℕ) → Type 0
+abbrev pub TurnStops : ReplayFault → (from to had has : Option (List ℕ)) → Reached → (pending output : List ℕ) → Type 0
 TurnStops fault from to had has old pending output =
     ((bytes : List ℕ) × Consumes from to bytes × TextStops fault to had has old (pending ++ bytes) output)
     ⊎ (Consumes from to [] × IsAtEnd to × LastStops fault to had has old pending output)

@@ -5,7 +5,7 @@ ghost use Rattle.std.specs.Io.KnownBytes.{IsAtEnd};
 ghost use Rattle.ds_line.specs.LastNewline.{EndsLine};
 ghost use Rattle.ds_words.specs.Lines.{IsUnbroken, ended, unended};
 ghost use Rattle.ds_script.specs.Replay.{IsBadBehind};
-ghost use Rattle.ds_script.specs.Progress.{Takes, TakesText, LineStops, TextStops, LastStops};
+ghost use Rattle.ds_script.specs.Progress.{reached, Takes, TakesText, LineStops, TextStops, LastStops};
 
 use crate::bad_line::{end_at, pass_over};
 use crate::fault::ReplayFault;
@@ -50,8 +50,9 @@ fn take_line<W: Write, B: Report>(
 ) -> Result<(), ReplayFault>
     requires line { EndsLine line.now }
     requires few { running.old.done.lines < 2 ^ 62 }
-    ensures ok { OnOk result ((text : List ℕ) → line.now ≡ ended text → Takes (W.contents writer.old) (W.contents writer.new) running.old (text ∷ []) running.new) }
-    ensures err { IfErr result (λ fault. (text : List ℕ) → line.now ≡ ended text → LineStops fault (W.contents writer.old) (W.contents writer.new) running.old text running.new.output.items) }
+    requires bad { running.old.done.bad ≤ running.old.done.lines }
+    ensures ok { OnOk result ((text : List ℕ) → line.now ≡ ended text → Takes (W.contents writer.old) (W.contents writer.new) (reached running.old) (text ∷ []) (reached running.new)) }
+    ensures err { IfErr result (λ fault. (text : List ℕ) → line.now ≡ ended text → LineStops fault (W.contents writer.old) (W.contents writer.new) (reached running.old) text running.new.output.items) }
 {
     send_full(writer, &mut running.output)?;
     let before = running.done.lines;
@@ -87,9 +88,10 @@ fn take_bad<W: Write, B: Report>(
     running: &mut Running,
 ) -> Result<(), ReplayFault>
     requires few { running.old.done.lines < 2 ^ 62 }
+    requires bad { running.old.done.bad ≤ running.old.done.lines }
     requires number { bad.now.number ≡ suc running.old.done.lines }
-    ensures ok { OnOk result ((text : List ℕ) → IsBadBehind running.old.done.lines text bad.now.place → Takes (W.contents writer.old) (W.contents writer.new) running.old (text ∷ []) running.new) }
-    ensures err { IfErr result (λ fault. (text : List ℕ) → IsBadBehind running.old.done.lines text bad.now.place → LineStops fault (W.contents writer.old) (W.contents writer.new) running.old text running.new.output.items) }
+    ensures ok { OnOk result ((text : List ℕ) → IsBadBehind running.old.done.lines text bad.now.place → Takes (W.contents writer.old) (W.contents writer.new) (reached running.old) (text ∷ []) (reached running.new)) }
+    ensures err { IfErr result (λ fault. (text : List ℕ) → IsBadBehind running.old.done.lines text bad.now.place → LineStops fault (W.contents writer.old) (W.contents writer.new) (reached running.old) text running.new.output.items) }
 {
     match running.bad_lines {
         BadLines::End => Err(end_at(writer, report, bad, &mut running.output)),
@@ -110,12 +112,13 @@ fn take_lines<W: Write, B: Report>(
     text: &[u8],
     running: &mut Running,
 ) -> Result<usize, ReplayFault>
-    requires { running.old.done.lines + length text.now < 2 ^ 62 }
-    ensures ok { IfOk result (λ used. TakesText (W.contents writer.old) (W.contents writer.new) running.old text.now running.new (drop used text.now)) }
+    requires few { running.old.done.lines + length text.now < 2 ^ 62 }
+    requires bad { running.old.done.bad ≤ running.old.done.lines }
+    ensures ok { IfOk result (λ used. TakesText (W.contents writer.old) (W.contents writer.new) (reached running.old) text.now (reached running.new) (drop used text.now)) }
     ensures unbroken { IfOk result (λ used. IsUnbroken (drop used text.now)) }
     ensures used { IfOk result (λ used. used ≤ length text.now) }
     ensures few { IfOk result (λ used. running.new.done.lines ≤ running.old.done.lines + used) }
-    ensures err { IfErr result (λ fault. (to : Option (List ℕ)) → TextStops fault to (W.contents writer.old) (W.contents writer.new) running.old text.now running.new.output.items) }
+    ensures err { IfErr result (λ fault. (to : Option (List ℕ)) → TextStops fault to (W.contents writer.old) (W.contents writer.new) (reached running.old) text.now running.new.output.items) }
 {
     let mut rest = text;
     while let Some((line, more)) = split_line(rest) {
@@ -133,11 +136,12 @@ pub(crate) fn take_whole<W: Write, B: Report>(
     pending: &mut Vec<u8>,
     running: &mut Running,
 ) -> Result<(), ReplayFault>
-    requires { running.old.done.lines + vec_len pending.old < 2 ^ 62 }
-    ensures ok { OnOk result (TakesText (W.contents writer.old) (W.contents writer.new) running.old pending.old.items running.new pending.new.items) }
+    requires few { running.old.done.lines + vec_len pending.old < 2 ^ 62 }
+    requires bad { running.old.done.bad ≤ running.old.done.lines }
+    ensures ok { OnOk result (TakesText (W.contents writer.old) (W.contents writer.new) (reached running.old) pending.old.items (reached running.new) pending.new.items) }
     ensures unbroken { OnOk result (IsUnbroken pending.new.items) }
     ensures few { OnOk result (running.new.done.lines + vec_len pending.new ≤ running.old.done.lines + vec_len pending.old) }
-    ensures err { IfErr result (λ fault. (to : Option (List ℕ)) → TextStops fault to (W.contents writer.old) (W.contents writer.new) running.old pending.old.items running.new.output.items) }
+    ensures err { IfErr result (λ fault. (to : Option (List ℕ)) → TextStops fault to (W.contents writer.old) (W.contents writer.new) (reached running.old) pending.old.items running.new.output.items) }
 {
     let used = take_lines(alloc, writer, report, pending.as_slice(), running)?;
     drop_front(pending, used);
@@ -151,9 +155,10 @@ fn judge_front<W: Write, B: Report>(
     front: &[u8],
     running: &mut Running,
 ) -> Result<(), ReplayFault>
-    requires { IsUnbroken front.now }
-    ensures ok { OnOk result ((running.new ≡ running.old) × (W.contents writer.new ≡ W.contents writer.old)) }
-    ensures err { IfErr result (λ fault. (to : Option (List ℕ)) → TextStops fault to (W.contents writer.old) (W.contents writer.new) running.old front.now running.new.output.items) }
+    requires front { IsUnbroken front.now }
+    requires few { running.old.done.lines < 2 ^ 62 }
+    ensures ok { OnOk result ((reached running.new ≡ reached running.old) × (W.contents writer.new ≡ W.contents writer.old)) }
+    ensures err { IfErr result (λ fault. (to : Option (List ℕ)) → TextStops fault to (W.contents writer.old) (W.contents writer.new) (reached running.old) front.now running.new.output.items) }
 {
     match running.bad_lines {
         BadLines::End if front.len() > LONGEST_LINE => {
@@ -180,8 +185,9 @@ pub(crate) fn take_last<W: Write, B: Report>(
 ) -> Result<(), ReplayFault>
     requires pending { IsUnbroken pending.old.items }
     requires few { running.old.done.lines < 2 ^ 62 }
-    ensures ok { OnOk result (Takes (W.contents writer.old) (W.contents writer.new) running.old (unended pending.old.items) running.new × (running.new.output.items ≡ [])) }
-    ensures err { IfErr result (λ fault. (to : Option (List ℕ)) → IsAtEnd to → LastStops fault to (W.contents writer.old) (W.contents writer.new) running.old pending.old.items running.new.output.items) }
+    requires bad { running.old.done.bad ≤ running.old.done.lines }
+    ensures ok { OnOk result (Takes (W.contents writer.old) (W.contents writer.new) (reached running.old) (unended pending.old.items) (reached running.new) × (running.new.output.items ≡ [])) }
+    ensures err { IfErr result (λ fault. (to : Option (List ℕ)) → IsAtEnd to → LastStops fault to (W.contents writer.old) (W.contents writer.new) (reached running.old) pending.old.items running.new.output.items) }
 {
     if !pending.is_empty() {
         let Ok(()) = pending.push(b'\n') else {

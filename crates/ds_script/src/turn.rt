@@ -2,7 +2,7 @@
 
 ghost use Rattle.std.specs.Prelude.{◌≡◌, ◌≤◌, ◌<◌, ◌+◌, ◌^◌, true, IfOk, IfErr, length, vec_len};
 ghost use Rattle.ds_words.specs.Lines.{IsUnbroken};
-ghost use Rattle.ds_script.specs.Progress.{Turns, TurnStops};
+ghost use Rattle.ds_script.specs.Progress.{reached, Turns, TurnStops};
 
 use crate::fault::ReplayFault;
 use crate::report::Report;
@@ -26,10 +26,11 @@ pub(crate) fn take_turn<R: Read, W: Write, B: Report>(
     requires chunk { 0 < length chunk.old }
     requires pending { IsUnbroken pending.old.items }
     requires few { running.old.done.lines + (vec_len pending.old + length chunk.old) < 2 ^ 62 }
-    ensures ok { IfOk result (λ more. Turns more (R.remaining reader.old) (R.remaining reader.new) (W.contents writer.old) (W.contents writer.new) running.old pending.old.items running.new pending.new.items) }
+    requires bad { running.old.done.bad ≤ running.old.done.lines }
+    ensures ok { IfOk result (λ more. Turns more (R.remaining reader.old) (R.remaining reader.new) (W.contents writer.old) (W.contents writer.new) (reached running.old) pending.old.items (reached running.new) pending.new.items) }
     ensures few { IfOk result (λ more. more ≡ true → running.new.done.lines + vec_len pending.new ≤ running.old.done.lines + (vec_len pending.old + length chunk.old)) }
     ensures chunk { length chunk.new ≡ length chunk.old }
-    ensures err { IfErr result (λ fault. TurnStops fault (R.remaining reader.old) (R.remaining reader.new) (W.contents writer.old) (W.contents writer.new) running.old pending.old.items running.new.output.items) }
+    ensures err { IfErr result (λ fault. TurnStops fault (R.remaining reader.old) (R.remaining reader.new) (W.contents writer.old) (W.contents writer.new) (reached running.old) pending.old.items running.new.output.items) }
 {
     send(writer, &mut running.output)?;
     match fill(reader, chunk, pending) {

@@ -1,0 +1,150 @@
+-- The lines of a text, and turn after turn.
+use Rattle.std.specs.List.{All}
+use Rattle.std.proofs.Common.{◌≡◌, ◌≢◌, ℕ, suc, ◌+◌, ◌-◌, ◌<◌, ◌≤◌, Bool, true, false, List, [], ◌∷◌, ◌++◌, length, drop, Option, refl, sym, ap, subst, ◌∙◌, ◌⊎◌, inl, inr, arith, append_assoc, append-nil, length-append}
+use Rattle.std.specs.Io.KnownBytes.{Appends, Consumes, IsAtEnd}
+use Rattle.std.proofs.lemmas.List.{drop_at}
+use Rattle.std.proofs.lemmas.List.Elements.{All-nil, All-append, All-push}
+use Rattle.std.proofs.lemmas.List.Concat.{flat_map-append}
+use Rattle.ds_words.specs.Lines.{IsUnbroken, ended, joined, unended}
+use Rattle.ds_script.specs.declared.fault.ReplayFault.{ReplayFault}
+use Rattle.ds_script.specs.declared.fault.ReplayFault.TheVariants.{BadLine, ReadFault, WriteFault, NoRoom}
+use Rattle.ds_script.specs.declared.report.BadLines.TheVariants.{End}
+use Rattle.ds_script.specs.Replay.{IsBadBehind, BeginsBadLine}
+use Rattle.ds_script.specs.Progress.{Reached, Takes, TakesText, EndsAtBad, LineStops, TextStops, LastStops, Turns, TurnStops}
+use Rattle.ds_script.proofs.ProgressLemmas.{waits, takes_sent, takes_written, takes_none, takes_then, takes_behind, same_count}
+
+-- ---- lines of a text
+
+joined-append : (ls ms : List (List ℕ)) → joined (ls ++ ms) ≡ joined ls ++ joined ms
+joined-append ls ms = flat_map-append ended ls ms
+
+joined_one : (l : List ℕ) → joined (l ∷ []) ≡ ended l
+joined_one l = append-nil (ended l)
+
+pub something : (bs : List ℕ) → length bs ≢ 0 → unended bs ≡ bs ∷ []
+something [] some = absurd (some refl)
+something (b ∷ bs) some = refl
+
+pub nothing : (bs : List ℕ) → length bs ≡ 0 → unended bs ≡ []
+nothing [] e = refl
+nothing (b ∷ bs) e = absurd (omega arith)
+
+-- no line of it is answered
+pub text_none : (had has : Option (List ℕ)) (old new : Reached) (text : List ℕ) → Takes had has old [] new → TakesText had has old text new text
+text_none had has old new text p = record { lines = []; split = refl; unbroken = All-nil IsUnbroken; takes = p }
+
+-- one more line is answered
+pub text_more : (a b c : Option (List ℕ)) (old mid new : Reached) (text rest line more l : List ℕ) → TakesText a b old text mid rest → rest ≡ line ++ more → line ≡ ended l → IsUnbroken l → Takes b c mid (l ∷ []) new → TakesText a c old text new more
+text_more a b c old mid new text rest line more l p split is unbroken one =
+    let lines : List (List ℕ) = p.lines in
+    record {
+      lines = lines ++ l ∷ [];
+      split = p.split ∙ ap (λ t. joined lines ++ t) (split ∙ ap (λ t. t ++ more) (is ∙ sym (joined_one l))) ∙ sym (append_assoc (joined lines) (joined (l ∷ [])) more) ∙ ap (λ t. t ++ more) (sym (joined-append lines (l ∷ [])));
+      unbroken = All-push IsUnbroken lines l p.unbroken unbroken;
+      takes = takes_then a b c old mid new lines (l ∷ []) p.takes one;
+    }
+
+-- answers are written, and no line is answered
+pub text_sent : (a b c : Option (List ℕ)) (old mid new : Reached) (text rest : List ℕ) → TakesText a b old text mid rest → Takes b c mid [] new → TakesText a c old text new rest
+text_sent a b c old mid new text rest p sent = record { lines = p.lines; split = p.split; unbroken = p.unbroken; takes = takes_behind a b c old mid new p.lines p.takes sent }
+
+-- behind the lines of one text come those of its rest and of what was read behind it
+pub texts_then : (a b c : Option (List ℕ)) (old mid new : Reached) (text rest bytes more whole last : List ℕ) → TakesText a b old text mid rest → rest ++ bytes ≡ more → text ++ bytes ≡ whole → TakesText b c mid more new last → TakesText a c old whole new last
+texts_then a b c old mid new text rest bytes more whole last p left all q =
+    record {
+      lines = p.lines ++ q.lines;
+      split = sym all ∙ ap (λ t. t ++ bytes) p.split ∙ append_assoc (joined p.lines) rest bytes ∙ ap (λ t. joined p.lines ++ t) (left ∙ q.split) ∙ sym (append_assoc (joined p.lines) (joined q.lines) last) ∙ ap (λ t. t ++ last) (sym (joined-append p.lines q.lines));
+      unbroken = All-append IsUnbroken p.lines q.lines p.unbroken q.unbroken;
+      takes = takes_then a b c old mid new p.lines q.lines p.takes q.takes;
+    }
+
+-- the answers that waited are written before
+pub text_behind : (a b c : Option (List ℕ)) (old mid new : Reached) (text rest : List ℕ) → Takes a b old [] mid → TakesText b c mid text new rest → TakesText a c old text new rest
+text_behind a b c old mid new text rest p q = record { lines = q.lines; split = q.split; unbroken = q.unbroken; takes = takes_then a b c old mid new [] q.lines p q.takes }
+
+pub text_rest : (a b : Option (List ℕ)) (old new : Reached) (text rest : List ℕ) → TakesText a b old text new rest → (length rest ≤ length text) × (drop (length text - length rest) text ≡ rest)
+text_rest a b old new text rest p =
+    let len : length text ≡ length (joined p.lines) + length rest = ap length p.split ∙ length-append (joined p.lines) rest in
+    (omega (arith, len), ap (drop (length text - length rest)) p.split ∙ drop_at (joined p.lines) rest (length text - length rest) (omega (arith, len)))
+
+-- ---- a text whose lines aren't all answered
+
+-- its next line isn't answered
+pub line_stops : (fault : ReplayFault) (to a b c : Option (List ℕ)) (old mid : Reached) (text rest line more l output : List ℕ) → TakesText a b old text mid rest → rest ≡ line ++ more → line ≡ ended l → IsUnbroken l → LineStops fault b c mid l output → TextStops fault to a c old text output
+line_stops (BadLine number place expected) to a b c old mid text rest line more l output p split is unbroken s =
+    let same : s.0.lines ≡ mid.lines = same_count b c mid s.0 s.1 in (
+      s.0,
+      rest,
+      text_sent a b c old mid s.0 text rest p s.1,
+      (
+        s.2,
+        s.3,
+        record {
+          line = l;
+          more = 10 ∷ more;
+          split = split ∙ ap (λ t. t ++ more) is ∙ append_assoc l (10 ∷ []) more;
+          unbroken = unbroken;
+          bad = subst (λ (n : ℕ). IsBadBehind n l place) (sym same) s.4;
+          ends = inl (more, refl);
+        },
+        s.5 ∙ ap suc (sym same),
+      ),
+    )
+line_stops ReadFault to a b c old mid text rest line more l output p split is unbroken s = absurd s
+line_stops WriteFault to a b c old mid text rest line more l output p split is unbroken s =
+    elim s.2 [
+      | inl none ↦ (s.1, rest, text_sent a b c old mid s.1 text rest p (subst (λ (ls : List (List ℕ)). Takes b c mid ls s.1) none s.3), tt)
+      | inr all ↦ (s.1, more, text_more a b c old mid s.1 text rest line more l p split is unbroken (subst (λ (ls : List (List ℕ)). Takes b c mid ls s.1) all s.3), tt)
+    ]
+line_stops NoRoom to a b c old mid text rest line more l output p split is unbroken s = (s.0, rest, text_sent a b c old mid s.0 text rest p s.1, s.2)
+
+-- its rest isn't, with what was read behind it
+pub stops_then : (fault : ReplayFault) (to a b c : Option (List ℕ)) (old mid : Reached) (text rest bytes more whole output : List ℕ) → TakesText a b old text mid rest → rest ++ bytes ≡ more → text ++ bytes ≡ whole → TextStops fault to b c mid more output → TextStops fault to a c old whole output
+stops_then fault to a b c old mid text rest bytes more whole output p left all s = (s.0, s.1, texts_then a b c old mid s.0 text rest bytes more whole s.1 p left all s.2, s.3)
+
+pub stops_behind : (fault : ReplayFault) (to a b c : Option (List ℕ)) (old mid : Reached) (text output : List ℕ) → Takes a b old [] mid → TextStops fault to b c mid text output → TextStops fault to a c old text output
+stops_behind fault to a b c old mid text output p s = (s.0, s.1, text_behind a b c old mid s.0 text s.1 p s.2, s.3)
+
+-- a front of a line is too long
+pub overlong : (fault : ReplayFault) (to had has : Option (List ℕ)) (old : Reached) (front output : List ℕ) (number place : ℕ) → EndsAtBad fault number place had has old.waiting output → number ≡ suc old.lines → place ≡ 4096 → old.policy ≡ End → IsUnbroken front → 4096 < length front → TextStops fault to had has old front output
+overlong (BadLine n p expected) to had has old front output number place e numbered placed ends unbroken long = (
+  waits old output,
+  front,
+  text_none had has old (waits old output) front (takes_written had has old output e.2 e.3),
+  (ends, refl, record { line = front; more = []; split = sym (append-nil front); unbroken = unbroken; bad = inl (long, e.1 ∙ placed); ends = inr (inr long) }, e.0 ∙ numbered),
+)
+overlong ReadFault to had has old front output number place e numbered placed ends unbroken long = absurd e
+overlong WriteFault to had has old front output number place e numbered placed ends unbroken long = (waits old e.1, front, text_none had has old (waits old e.1) front (takes_sent had has old e.0 e.1 e.2 e.3), tt)
+overlong NoRoom to had has old front output number place e numbered placed ends unbroken long = absurd e
+
+-- ---- the last line
+
+-- it isn't answered
+pub last_stops : (fault : ReplayFault) (to had has : Option (List ℕ)) (old : Reached) (pending output : List ℕ) → LineStops fault had has old pending output → unended pending ≡ pending ∷ [] → IsUnbroken pending → IsAtEnd to → LastStops fault to had has old pending output
+last_stops (BadLine number place expected) to had has old pending output s one unbroken end =
+    let same : s.0.lines ≡ old.lines = same_count had has old s.0 s.1 in
+    inl (
+      s.0,
+      pending,
+      text_none had has old s.0 pending s.1,
+      (
+        s.2,
+        s.3,
+        record { line = pending; more = []; split = sym (append-nil pending); unbroken = unbroken; bad = subst (λ (n : ℕ). IsBadBehind n pending place) (sym same) s.4; ends = inr (inl (refl, end)) },
+        s.5 ∙ ap suc (sym same),
+      ),
+    )
+last_stops ReadFault to had has old pending output s one unbroken end = absurd s
+last_stops WriteFault to had has old pending output s one unbroken end = inr (refl, (s.0, s.1, subst (λ (whole : List (List ℕ)). (s.0 ≡ []) ⊎ (s.0 ≡ whole)) (sym one) s.2, s.3))
+last_stops NoRoom to had has old pending output s one unbroken end = inl (s.0, pending, text_none had has old s.0 pending s.1, s.2)
+
+-- the writer failed before it, or behind it
+pub last_unsent : (to a b c : Option (List ℕ)) (old mid : Reached) (pending sent left output : List ℕ) (ls : List (List ℕ)) → Takes a b old ls mid → (ls ≡ []) ⊎ (ls ≡ unended pending) → mid.waiting ≡ sent ++ left → Appends b c sent → LastStops WriteFault to a c old pending output
+last_unsent to a b c old mid pending sent left output ls p which split written = inr (refl, (ls, waits mid left, which, takes_behind a b c old mid (waits mid left) ls p (takes_sent b c mid sent left split written)))
+
+pub last_behind : (fault : ReplayFault) (to a b c : Option (List ℕ)) (old mid : Reached) (pending output : List ℕ) → Takes a b old [] mid → LastStops fault to b c mid pending output → LastStops fault to a c old pending output
+last_behind fault to a b c old mid pending output p s =
+    elim s [
+      | inl t ↦ inl (stops_behind fault to a b c old mid pending output p t)
+      | inr t ↦ inr (t.0, (t.1.0, t.1.1, t.1.2, takes_then a b c old mid t.1.1 [] t.1.0 p t.1.3))
+    ]
