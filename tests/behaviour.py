@@ -41,18 +41,23 @@ GOOD = [
     b"check 127 256",
     b'map "a" 8',
     b"entries 18446744073709551615",
+    b"ring 4096",
+    b"since * 1 0 256",
+    b'since "a" 15 9 8 1',
+    b"snapshot *",
+    b'snapshot "a" 4',
+    b"page * - 1",
+    b"page * - u32 256",
+    b'page "a" 15 -a.b label 7',
+    b"side b",
+    b"deliver 9 m8 *",
+    b"deliver 0 a 4",
+    b"clear 9",
+    b"restart b 9",
 ]
 MEMORY = 64 << 10  # KiB of address space, where a behaviour limits it
 # A line of each command that isn't there yet.
 NOT_YET = b"""\
-ring 2
-since * 1 0 8
-snapshot *
-side a
-deliver 0 b *
-clear 0
-restart a 3
-page * - 1
 settings service = []
 service up disk 0
 death 1/16 1 5
@@ -270,6 +275,48 @@ def a_full_store_under_all_subscriptions(program):
     expect(end(begin(program, limit=MEMORY), b"".join(subscribes + offers + rest)), b"".join(told), 0)
 
 
+def as_many_messages_as_there_may_be(program):
+    """65,536 messages: what would make another one is refused, on both sides and before all else, and the rest goes on."""
+    last = 65535
+    readings = [b"since * 1 0 1", b'since "(" 15 9 9 0', b"snapshot *", b'snapshot "(" 15', b"page * - 1", b'page "(" 15 - 0']
+    readings += [b"check 0 1", b"check 128 0"]
+    steps = [
+        (b'snapshot "b" 2', b"snapshot 0 1 1"),
+        (b"deliver %d b *" % last, b"merged 0 0 0"),
+        (b"deliver %d b *" % (last + 1), b"refused nomessage"),
+        *[(line, b"refused messagesfull") for line in readings],
+        (b'subscribe 0 ".*" 15 first new', b"subscribed 1\nowed 00000000000000000000000000000001"),
+        (b"check 0 1", b"refused messagesfull"),
+        (b"show", b"a u32 o 1.0 = 1\nshown 1"),
+        (b"side b", b"side b"),
+        (b"since * 2 0 1", b"refused messagesfull"),
+        (b"deliver 0 b *", b"merged 1 1 0"),
+        (b'map ".*" 15', b"map 0"),
+        (b"deliver %d m0 *" % (last - 1), b"merged 1 1 0"),
+        (b"deliver %d m0 1" % last, b"refused toomany"),
+        (b"entries 0", b"a u32 o 1.0 = 1\nshown 1"),
+        (b"restart a 3", b"restarted"),
+        (b"clear 0", b"cleared"),
+        (b"snapshot *", b"refused messagesfull"),
+    ]
+    script = b"offer a u32 o 1.0 = 1\n" + b"since * 1 0 1\n" * last + b"".join(line + b"\n" for line, _ in steps)
+    told = b"taken\n" + b"a u32 o 1.0 = 1\nsince 1 1 1\n" * last + b"".join(answer + b"\n" for _, answer in steps)
+    expect(end(begin(program, limit=4 * MEMORY), script), told, 0)
+
+
+def holders_that_begin_again(program):
+    """A map that is cleared and a store that is restarted, each a thousand times behind 256 items, in little memory."""
+    items = b"".join(b"k%03d mem o 1.0 = %s\n" % (at, b"7f" * 256) for at in range(256))
+    script = b'map ".*" 15\n' + b"".join(b"offer " + it + b"\n" for it in items.splitlines()) + b"snapshot *\n"
+    told = b"map 0\n" + b"taken\n" * 256 + items + b"snapshot 256 1 256\n"
+    with tempfile.TemporaryFile() as given:
+        given.write(script)
+        given.write(b"".join(b"deliver 0 m0 *\nclear 0\ndeliver 0 b *\nrestart b %d\n" % at for at in range(3, 1003)))
+        given.seek(0)
+        turns = b"merged 256 256 0\ncleared\nmerged 256 256 0\nrestarted\n" * 1000
+        expect(end(begin(program, limit=MEMORY, stdin=given)), told + turns, 0)
+
+
 def hostile_patterns(program):
     """The patterns of bench/hostile_patterns are taken up or refused for want of room, and the store goes on."""
     patterns = (harness.TESTS.parent / "bench" / "hostile_patterns").read_bytes().splitlines()
@@ -443,7 +490,7 @@ def explains_each_refusal(program):
     told = re.findall(r"`(\w+)`", "".join(re.findall("^## .*$", document, re.MULTILINE)))
     help_ = harness.run([program, "--help"], b"").output.decode()
     missing = [word for word in told if not re.search(rf"^  {word} ", help_, re.MULTILINE)]
-    assert len(told) == 17 and not missing, f"{len(told)} words; not explained: {missing}"
+    assert len(told) == 23 and not missing, f"{len(told)} words; not explained: {missing}"
 
 
 def points_at_standard_input(program):
@@ -590,6 +637,8 @@ ALL = [
     a_pattern_that_is_too_large,
     costly_subscriptions,
     a_full_store_under_all_subscriptions,
+    as_many_messages_as_there_may_be,
+    holders_that_begin_again,
     hostile_patterns,
     a_reader_that_fails,
     a_reader_that_is_closed,

@@ -12,8 +12,9 @@ MOST_SLOT = 1023
 MOST_NUMBER = 4294967295  # of a sequence number and of a u32
 MOST_TEXT = 256  # bytes of a str
 MOST_BLOB = 1024  # bytes of a mem
-MOST_WORD = 4294967295  # of the number of a subscription, and of how many changes are asked for
-MOST_MAP = 18446744073709551615  # of the number of a map
+MOST_WORD = 4294967295  # of the number of a subscription, and of how many items are asked for or delivered
+MOST_LONG = 18446744073709551615  # of the number of a map, a message or an incarnation, and of a position
+MOST_RING = 4096  # changes that a journal has room for
 KINDS = [b"label", b"u32", b"str", b"mem"]  # in the order of keys
 NAME = re.compile(rb"[A-Za-z0-9._-]*")
 WORD = re.compile(rb"[A-Za-z0-9]*")
@@ -22,6 +23,8 @@ ENDPOINT = re.compile(rb"([0-9]+)/([0-9]+)|")
 HEX = re.compile(rb"[0-9a-f]*")
 QUOTED = re.compile(rb'"(?:[ !#-\[\]-~]|\\["\\])*"|')
 PATTERN = re.compile(rb'"(?:[^"\\\n]|\\["\\])*"|')
+BEGINNING = re.compile(rb"-(?![A-Za-z0-9._-])(?! (?:label|u32|str|mem)(?![A-Za-z0-9]))")  # a dash that begins no name
+ALL = re.compile(rb"\*")
 BYTE = re.compile(rb".?", re.DOTALL)
 
 
@@ -190,6 +193,27 @@ def query(reader):
     return re.sub(rb"\\(.)", rb"\1", spelled[1:-1]), kinds
 
 
+def is_at(reader, run):
+    """Whether such a run begins here."""
+    return run.match(reader.line, reader.at) is not None
+
+
+def scope(reader):
+    """None for all keys, which is written `*`, or a query."""
+    if is_at(reader, ALL):
+        reader.byte(b"*")
+        return None
+    return query(reader)
+
+
+def after(reader):
+    """None for the first page, which is written `-`, or the key that it begins behind."""
+    if is_at(reader, BEGINNING):
+        reader.byte(b"-")
+        return None
+    return key(reader)
+
+
 def subscription(reader):
     """What a `subscribe` takes."""
     sub = number(reader, MOST_WORD)
@@ -201,6 +225,59 @@ def subscription(reader):
 def check(reader):
     """What a `check` takes."""
     return number(reader, MOST_WORD), reader.behind_space(number, MOST_WORD)
+
+
+def ring(reader):
+    """What a `ring` takes."""
+    return (int(reader.part(DIGITS, lambda it: is_number(it, MOST_RING) and it != b"0")),)
+
+
+def since(reader):
+    """What a `since` takes: a cursor, how many items at most, and the scope, which is written first."""
+    asked = scope(reader)
+    incarnation = reader.behind_space(number, MOST_LONG)
+    return incarnation, reader.behind_space(number, MOST_LONG), reader.behind_space(number, MOST_WORD), asked
+
+
+def page(reader):
+    """What a `page` takes: how many changes at most, what it begins behind, and the scope, which is written first."""
+    asked = scope(reader)
+    behind = reader.behind_space(after)
+    return reader.behind_space(number, MOST_WORD), behind, asked
+
+
+def is_holder(text):
+    """A side, or `m` and the number of a map."""
+    return text in (b"a", b"b") or text[:1] == b"m" and is_number(text[1:], MOST_LONG)
+
+
+def holder(reader):
+    """A side as it is written, or the number of a map."""
+    text = reader.part(WORD, is_holder)
+    return int(text[1:]) if text[:1] == b"m" else text
+
+
+def count(reader):
+    """None for all items, which is written `*`, or how many."""
+    if is_at(reader, ALL):
+        reader.byte(b"*")
+        return None
+    return number(reader, MOST_WORD)
+
+
+def delivery(reader):
+    """What a `deliver` takes."""
+    return number(reader, MOST_LONG), reader.behind_space(holder), reader.behind_space(count)
+
+
+def restart(reader):
+    """What a `restart` takes."""
+    return side(reader), reader.behind_space(number, MOST_LONG)
+
+
+def side(reader):
+    """One of the two stores."""
+    return word(reader, b"a", b"b")
 
 
 # What each command takes behind its word and a space; `show` and `all` take nothing.
@@ -216,16 +293,29 @@ COMMANDS = {
     b"subscribe": subscription,
     b"check": check,
     b"map": lambda reader: (query(reader),),
-    b"entries": lambda reader: (number(reader, MOST_MAP),),
+    b"entries": lambda reader: (number(reader, MOST_LONG),),
+    b"ring": ring,
+    b"since": since,
+    b"snapshot": lambda reader: (scope(reader),),
+    b"page": page,
+    b"side": lambda reader: (side(reader),),
+    b"deliver": delivery,
+    b"clear": lambda reader: (number(reader, MOST_LONG),),
+    b"restart": restart,
 }
 
 
-def read(line):
-    """Reads a line without its newline: its command word, and what the command takes."""
+def read(line, is_first=False):
+    """Reads a line without its newline: its command word, and what the command takes. The first line alone may be a `ring`."""
     if len(line) > LONGEST:
         raise BadLine(LONGEST)
     reader = Reader(line)
-    command = word(reader, *COMMANDS)
+    command = word(reader, *(it for it in COMMANDS if is_first or it != b"ring"))
     taken = () if COMMANDS[command] is None else reader.behind_space(COMMANDS[command])
     reader.end()
     return command, taken
+
+
+def item(line):
+    """Reads the line of a change or a floor."""
+    return read(b"offer " + line)[1][0]

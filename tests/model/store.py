@@ -8,7 +8,6 @@ from . import lines
 
 MOST_KEYS = 4096
 MOST_FLOORS = 64
-MOST_MAPS = 64
 MOST_SUBSCRIPTIONS = 128
 MOST_CHECKED = 256  # items of one check
 MOST_PATTERN = 128  # bytes
@@ -55,9 +54,8 @@ class Subscription:
 class Store:
     """What is held: a dictionary from keys to (owner, version, value), the value being None for a tombstone.
 
-    `floors` is a dictionary from owners to generations, `subscriptions` one from numbers, `maps` how many maps there are:
-    nothing is delivered to them. `accepted` has all that took effect, each with its key, a floor with None, and its line;
-    `ring` says how many of the last ones a cursor reaches.
+    `floors` is a dictionary from owners to generations, `subscriptions` one from numbers. `accepted` has all that took effect,
+    each with its key, a floor with None, and its line; `ring` says how many of the last ones a cursor reaches.
     """
 
     def __init__(self, ring=256, incarnation=1):
@@ -67,14 +65,10 @@ class Store:
         self.floors = {}
         self.stamp = 0
         self.subscriptions = {}
-        self.maps = 0
 
     def answer(self, command, taken):
         """Answers a command by the lines that a script prints."""
-        try:
-            return getattr(self, command.decode())(*taken)
-        except Refused as refused:
-            return [b"refused " + str(refused).encode()]
+        return answered(self, command, taken)
 
     # ---- items that others made ----
 
@@ -84,6 +78,21 @@ class Store:
             return self.take_floor(*item) if isinstance(item, lines.Floor) else self.take(*item)
         except Stale:
             return [b"stale"]
+
+    def merge(self, items, is_under=lambda key: True):
+        """Merges items one after the other up to the first that is stopped; those that aren't under a query are passed over."""
+        done = taken = stale = owed = 0
+        for item in items:
+            if isinstance(item, lines.Floor) or is_under(item.key):
+                try:
+                    told, *masks = self.offer(item)
+                except Refused as fault:
+                    return [b"stopped %d %s" % (done, str(fault).encode())] + mask_line(owed)
+                taken += told == b"taken"
+                stale += told == b"stale"
+                owed |= sum(int(it.split()[1], 16) for it in masks)
+            done += 1
+        return [b"merged %d %d %d" % (done, taken, stale)] + mask_line(owed)
 
     def take(self, key, owner, version, value, overwrite=True, is_deletion=False):
         """Takes a change over, or says what stands against it."""
@@ -251,22 +260,6 @@ class Store:
         self.__init__(self.ring, incarnation)
         return [b"restarted"]
 
-    # ---- maps ----
-
-    def map(self, query):
-        """Makes a map."""
-        if self.maps == MOST_MAPS:
-            raise Refused("mapsfull")
-        Query(*query)
-        self.maps += 1
-        return [b"map %d" % (self.maps - 1)]
-
-    def entries(self, number):
-        """What a map has: nothing was delivered to it."""
-        if number >= self.maps:
-            raise Refused("nomap")
-        return [b"shown 0"]
-
     # ---- questions ----
 
     def retrieve(self, key):
@@ -325,5 +318,17 @@ def counted(shown):
 
 def mask(numbers):
     """The line of a mask with these bits, or none where there are none."""
-    bits = sum(1 << number for number in numbers)
+    return mask_line(sum(1 << number for number in numbers))
+
+
+def mask_line(bits):
+    """The line of a mask, or none where it is 0."""
     return [b"owed %032x" % bits] if bits else []
+
+
+def answered(asked, command, taken):
+    """What `asked` answers to a command by the lines that a script prints, a refusal too."""
+    try:
+        return getattr(asked, command.decode())(*taken)
+    except Refused as refused:
+        return [b"refused " + str(refused).encode()]

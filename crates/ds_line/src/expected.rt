@@ -44,6 +44,24 @@ pub enum Expected {
     Initial,
     /// The number of a map.
     Map,
+    /// How many changes a journal has room for.
+    Ring,
+    /// `a` or `b`, a side of a world.
+    Side,
+    /// The number of an incarnation.
+    Incarnation,
+    /// A position in a journal.
+    Position,
+    /// `*`, or a pattern and kinds.
+    Scope,
+    /// The key that a page begins behind, or `-`.
+    After,
+    /// The number of a message.
+    Message,
+    /// Who is given a message: a side, or a map.
+    Holder,
+    /// How many items of a message are given, or `*`.
+    Count,
     /// That the line had ended before: it is too long.
     Limit,
 }

@@ -1,80 +1,110 @@
 -- What the lines of a script are answered. It is a relation, since memory may be refused at any line.
-use Rattle.std.specs.Prelude.{◌≡◌, ℕ, Bool, true, false, ◌⊎◌, List, [], ◌∷◌, ◌++◌, length, slice_get, Option, MatchOption, codes}
-use Rattle.std.specs.List.{flat_map}
+use Rattle.std.specs.Prelude.{◌≡◌, ℕ, zero, suc, Bool, true, false, ◌⊎◌, List, [], ◌++◌, length, Option, MatchOption, codes}
+use Rattle.std.specs.List.{flat_map, slice_get}
 use Rattle.std.specs.Fmt.{decimal}
-use Rattle.std.specs.Option.{option_map, option_map_or}
+use Rattle.std.specs.Option.{option_map_or}
 use Rattle.ds_entry.specs.declared.item.Item.{Item}
 use Rattle.ds_line.specs.ItemSpelling.{item_spelling}
+use Rattle.ds_held.specs.Limits.{larger}
 use Rattle.ds_held.specs.Held.{held_items}
-use Rattle.ds_pattern.specs.declared.query.Query.{Query}
-use Rattle.ds_submap.specs.Map.{SubMapRecord, empty_map, entries_of}
-use Rattle.ds_machine.specs.State.{held}
-use Rattle.ds_machine.specs.declared.command.Command.{Command}
+use Rattle.ds_submap.specs.Map.{SubMapRecord, entries_of}
 use Rattle.ds_machine.specs.declared.reply.Reply.{Reply}
-use Rattle.ds_words.specs.declared.command.ScriptCommand.{ScriptCommand}
-use Rattle.ds_words.specs.declared.command.ScriptCommand.TheVariants.{Show, All, Map, Entries}
-use Rattle.ds_script.specs.declared.maps.MapFault.{MapFault}
+use Rattle.ds_replica.specs.declared.event.Event.{Event}
+use Rattle.ds_replica.specs.declared.event.Side.{Side}
+use Rattle.ds_replica.specs.declared.outcome.Outcome.{Outcome}
+use Rattle.ds_replica.specs.declared.outcome.Outcome.TheVariants.{Made}
+use Rattle.ds_words.specs.Command.{IsCommand, IsLineAs, is_plain}
+use Rattle.ds_words.specs.Later.{IsLater}
 use Rattle.ds_words.specs.Lines.{ended}
-use Rattle.ds_words.specs.Command.{IsLineOf, store_command}
-use Rattle.ds_script.specs.Maps.{map_fault_word}
-use Rattle.ds_script.specs.Session.{ScriptState, StoreSteps, MakesMap, RefusesMap}
-use Rattle.ds_words.specs.declared.wording.Wording.{Wording}
+use Rattle.ds_words.specs.Event.{event_of}
+use Rattle.ds_words.specs.Outcome.{outcome_lines, ring_line, side_line}
 use Rattle.ds_words.specs.Reply.{wording, reply_lines, refused_noroom}
+use Rattle.ds_words.specs.declared.command.ScriptCommand.{ScriptCommand}
+use Rattle.ds_words.specs.declared.command.ScriptCommand.TheVariants as lines
+use Rattle.ds_words.specs.declared.wording.Wording.{Wording}
+use Rattle.ds_script.specs.Session.{SessionContent, IsOpened, IsHappening, turned, held_of}
+
+-- ---- what is held
 
 -- the lines of the items, and then `shown` and their number
 abbrev pub shown : List Item → List ℕ
 shown items = flat_map item_spelling items ++ ended (codes "shown " ++ decimal (length items))
-
--- the store's machine makes a step, and what is answered is the step's reply, so worded, with masks of the store's limits
-abbrev pub AnswersAsked : Wording → Command → ScriptState → List ℕ → ScriptState → Type 0
-AnswersAsked wording asked old out new = (reply : Reply) × StoreSteps asked reply old new × (out ≡ reply_lines wording reply old.store.limits)
-
--- the line of a refusal by its word
-abbrev pub refused_by : List ℕ → List ℕ
-refused_by word = ended (codes "refused " ++ word)
-
--- a map of the query is made, and its number is answered
-abbrev pub AnswersMade : Query → ScriptState → List ℕ → ScriptState → Type 0
-AnswersMade query old out new = (number : ℕ) × MakesMap query number old new × (out ≡ ended (codes "map " ++ decimal number))
-
--- none is made, and the answer has the word of why
-abbrev pub AnswersUnmade : Query → ScriptState → List ℕ → ScriptState → Type 0
-AnswersUnmade query old out new = (fault : MapFault) × RefusesMap query fault old new × (out ≡ refused_by (map_fault_word fault))
-
--- the puts of a map, in key order
-abbrev pub puts_of : SubMapRecord → List Item
-puts_of kept = entries_of (held_items kept.held)
-
--- the lines of the map's puts, or the refusal where there is no such map
-abbrev pub entries_text : Option SubMapRecord → List ℕ
-entries_text kept = option_map_or (λ m. shown (puts_of m)) kept (refused_by (codes "nomap"))
-
--- what is answered to a command, and the state after it
-abbrev pub AnswersCommand : ScriptCommand → ScriptState → List ℕ → ScriptState → Type 0
-AnswersCommand Show old out new = (new ≡ old) × (out ≡ shown (entries_of (held old.store)))
-AnswersCommand All old out new = (new ≡ old) × (out ≡ shown (held old.store))
-AnswersCommand (Map query) old out new = AnswersMade query old out new ⊎ AnswersUnmade query old out new
-AnswersCommand (Entries number) old out new = (new ≡ old) × (out ≡ entries_text (option_map empty_map (slice_get old.maps number)))
-AnswersCommand command old out new = MatchOption (store_command command) ⊥ (λ asked. AnswersAsked (wording command) asked old out new)
 
 -- all of the items, or the puts alone
 abbrev pub picked : Bool → List Item → List Item
 picked true items = items
 picked false items = entries_of items
 
+-- the line of a refusal by its word
+abbrev pub refused_by : List ℕ → List ℕ
+refused_by word = ended (codes "refused " ++ word)
+
+-- the lines of the map's puts, or the refusal where there is no such map
+abbrev pub entries_text : Option SubMapRecord → List ℕ
+entries_text m = option_map_or (λ it. shown (entries_of (held_items it.held))) m (refused_by (codes "nomap"))
+
+-- ---- events
+
+-- What is told of an outcome: its lines; of a message, which is the reply that the store gave, those of the reply. (A message that
+-- was made is there, in a session that stands for a world.)
+abbrev pub told_lines : Wording → Outcome → List Reply → List ℕ
+told_lines wording (Made message) messages = option_map_or (λ reply. reply_lines wording reply larger) (slice_get messages message) []
+told_lines wording outcome messages = outcome_lines wording outcome larger
+
+-- the event happens, and what is told of it is the answer
+pub record AnswersEvent (wording : Wording) (event : Event) (old : SessionContent) (out : List ℕ) (new : SessionContent) : Type 0 where
+  pub outcome : Outcome
+  pub happens : IsHappening event outcome old new
+  pub told : out ≡ told_lines wording outcome new.world.messages
+
+-- the command is an event, which happens
+abbrev pub AnswersAsEvent : ScriptCommand → SessionContent → List ℕ → SessionContent → Type 0
+AnswersAsEvent command old out new = MatchOption (event_of old.side command) ⊥ (λ event. AnswersEvent (wording command) event old out new)
+
+-- ---- commands
+
+-- the session is opened again, with journals that keep so many items
+abbrev pub AnswersRing : ℕ → SessionContent → List ℕ → SessionContent → Type 0
+AnswersRing ring old out new = IsOpened ring new × (out ≡ ring_line ring)
+
+-- from now on the store of this side is asked
+abbrev pub AnswersSide : Side → SessionContent → List ℕ → SessionContent → Type 0
+AnswersSide side old out new = (new ≡ turned old side) × (out ≡ side_line side)
+
+-- what is answered to a command, and the state after it
+abbrev pub AnswersCommand : ScriptCommand → SessionContent → List ℕ → SessionContent → Type 0
+AnswersCommand lines.Show old out new = (new ≡ old) × (out ≡ shown (picked false (held_of old)))
+AnswersCommand lines.All old out new = (new ≡ old) × (out ≡ shown (picked true (held_of old)))
+AnswersCommand (lines.Entries map) old out new = (new ≡ old) × (out ≡ entries_text (slice_get old.world.maps map))
+AnswersCommand (lines.Ring ring) old out new = AnswersRing ring old out new
+AnswersCommand (lines.Side side) old out new = AnswersSide side old out new
+AnswersCommand command old out new = AnswersAsEvent command old out new
+
 -- for want of memory a command is refused, and nothing changes
-abbrev pub IsRefused : ScriptState → List ℕ → ScriptState → Type 0
+abbrev pub IsRefused : SessionContent → List ℕ → SessionContent → Type 0
 IsRefused old out new = (new ≡ old) × (out ≡ refused_noroom)
 
+-- The script itself takes memory for the command: for a copy of what is shown, for the stores' rings, or for what the line asks.
+-- Where others are refused for want of memory, it is the world that refuses them.
+abbrev pub TakesRoom : ScriptCommand → Type 0
+TakesRoom lines.Show = Unit {0}
+TakesRoom lines.All = Unit {0}
+TakesRoom (lines.Entries map) = Unit {0}
+TakesRoom (lines.Ring ring) = Unit {0}
+TakesRoom (lines.Map query) = Unit {0}
+TakesRoom command = is_plain command ≡ false
+
 -- what a command is answered, memory or not
-abbrev pub AnswersOrRefuses : ScriptCommand → ScriptState → List ℕ → ScriptState → Type 0
-AnswersOrRefuses command old out new = IsRefused old out new ⊎ AnswersCommand command old out new
+abbrev pub AnswersOrRefuses : ScriptCommand → SessionContent → List ℕ → SessionContent → Type 0
+AnswersOrRefuses command old out new = (TakesRoom command × IsRefused old out new) ⊎ AnswersCommand command old out new
 
--- what is answered to a line, which has to be a command's, and the state after it
-abbrev pub AnswersLine : ScriptState → List ℕ → List ℕ → ScriptState → Type 0
-AnswersLine old line out new = (command : ScriptCommand) × IsLineOf command line × AnswersOrRefuses command old out new
+-- ---- lines
 
--- the answers to lines, one after the other
-abbrev pub AnswersLines : ScriptState → List (List ℕ) → List ℕ → ScriptState → Type 0
-AnswersLines old [] out new = (out ≡ []) × (new ≡ old)
-AnswersLines old (line ∷ lines) out new = (mid : ScriptState) × (first rest : List ℕ) × AnswersLine old line first mid × AnswersLines mid lines rest new × (out ≡ first ++ rest)
+-- the commands that may stand behind so many lines: `ring` stands on the first line alone
+abbrev pub MayStand : ℕ → ScriptCommand → Type 0
+MayStand zero command = IsCommand command
+MayStand (suc before) command = IsLater command
+
+-- what is answered to a line behind so many others, which has to be a command's, and the state after it
+abbrev pub AnswersLine : ℕ → SessionContent → List ℕ → List ℕ → SessionContent → Type 0
+AnswersLine before old line out new = (command : ScriptCommand) × IsLineAs (MayStand before) command line × AnswersOrRefuses command old out new

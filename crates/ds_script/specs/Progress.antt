@@ -1,86 +1,132 @@
--- How far a replay has come, as its private functions tell each other: of the reader, whose bytes to come are `from`
--- before and `to` after, and of the writer, whose bytes are `had` before and `has` after, where these are known.
-use Rattle.std.specs.Prelude.{◌≡◌, ℕ, ◌+◌, ◌⊎◌, List, [], ◌++◌, length, Option, Some, None, Result, Ok, Err}
+-- How far a replay has come, as its private functions tell each other: of the reader, whose bytes to come are `from` before
+-- and `to` after, and of the writer, whose bytes are `had` before and `has` after, where these are known; and of the replay
+-- itself, before and after.
+use Rattle.std.specs.Prelude.{◌≡◌, ℕ, suc, ◌+◌, ◌⊎◌, Bool, true, false, List, [], ◌∷◌, ◌++◌, length, Option}
 use Rattle.std.specs.List.{All}
 use Rattle.std.specs.Io.KnownBytes.{Appends, Consumes, IsAtEnd}
+use Rattle.ds_words.specs.Lines.{IsUnbroken, joined, unended}
 use Rattle.ds_words.specs.declared.fault.CommandFault.{CommandFault}
 use Rattle.ds_words.specs.declared.fault.CommandFault.TheVariants as lines
-use Rattle.ds_words.specs.Lines.{IsUnbroken, ended, joined, unended}
-use Rattle.ds_words.specs.Command.{IsBadLine}
 use Rattle.ds_script.specs.declared.fault.ReplayFault.{ReplayFault}
 use Rattle.ds_script.specs.declared.fault.ReplayFault.TheVariants.{BadLine, ReadFault, WriteFault, NoRoom}
-use Rattle.ds_script.specs.declared.turn.Answered.{Answered}
-use Rattle.ds_script.specs.declared.turn.Ending.{Ending}
-use Rattle.ds_script.specs.declared.turn.Ending.TheVariants as endings
-use Rattle.ds_script.specs.Session.{SessionContent, Leads}
-use Rattle.ds_script.specs.Answer.{AnswersLines}
-use Rattle.ds_script.specs.Replay.{BeginsBadLine}
+use Rattle.ds_script.specs.declared.report.BadLines.{BadLines}
+use Rattle.ds_script.specs.declared.report.BadLines.TheVariants.{End}
+use Rattle.ds_script.specs.declared.taking.Running.{Running}
+use Rattle.ds_script.specs.Session.{SessionContent}
+use Rattle.ds_script.specs.Replay.{AnswersLines, IsBadBehind, BeginsBadLine, badline, StopsWith}
 
--- The lines were answered: some of the answers were written, behind those that waited before, and `after` waits.
-pub record Answers (had has : Option (List ℕ)) (old : SessionContent) (before : List ℕ) (lines : List (List ℕ)) (new : SessionContent) (after : List ℕ) : Type 0 where
+-- What a replay has reached: what it drives, the answers that wait, the counts of lines and of bad ones, and what becomes of
+-- bad lines.
+pub record Reached : Type 0 where
+  pub session : SessionContent
+  pub waiting : List ℕ
+  pub lines : ℕ
+  pub bad : ℕ
+  pub policy : BadLines
+
+-- that of a replay under way
+abbrev pub reached : Running → Reached
+reached running = record { session = running.session; waiting = running.output.items; lines = running.done.lines; bad = running.done.bad; policy = running.bad_lines }
+
+-- ---- one line
+
+-- why a line behind so many others, without its newline, isn't answered
+abbrev pub IsFaultOf : ℕ → CommandFault → List ℕ → Type 0
+IsFaultOf before (lines.BadLine place expected) text = IsBadBehind before text place
+IsFaultOf before lines.NoRoom text = Unit {0}
+
+-- a line that is bad changes nothing
+abbrev pub Keeps : CommandFault → SessionContent → SessionContent → Type 0
+Keeps (lines.BadLine place expected) old new = new ≡ old
+Keeps lines.NoRoom old new = Unit {0}
+
+-- some of these answers were written, and the writer failed
+abbrev pub WritesPart : Option (List ℕ) → Option (List ℕ) → List ℕ → Type 0
+WritesPart had has answers = (sent left : List ℕ) × (answers ≡ sent ++ left) × Appends had has sent
+
+-- the answers that wait were written, and the bad line is the fault; or the writer failed
+abbrev pub EndsAtBad : ReplayFault → (number place : ℕ) → Option (List ℕ) → Option (List ℕ) → (old new : List ℕ) → Type 0
+EndsAtBad (BadLine n p expected) number place had has old new = (n ≡ number) × (p ≡ place) × Appends had has old × (new ≡ [])
+EndsAtBad WriteFault number place had has old new = WritesPart had has old
+EndsAtBad _ number place had has old new = ⊥
+
+-- why a bad line wasn't passed over: there was no room for its answer, and nothing was written, or the writer failed
+abbrev pub TellsBad : ReplayFault → (number place : ℕ) → Option (List ℕ) → Option (List ℕ) → (old new : List ℕ) → Type 0
+TellsBad NoRoom number place had has old new = Appends had has [] × (new ≡ old)
+TellsBad WriteFault number place had has old new = WritesPart had has (old ++ badline number place)
+TellsBad _ number place had has old new = ⊥
+
+-- ---- lines
+
+-- The lines were answered: some of the answers were written, behind those that waited before.
+pub record Takes (had has : Option (List ℕ)) (old : Reached) (lines : List (List ℕ)) (new : Reached) : Type 0 where
   pub output : List ℕ
   pub sent : List ℕ
-  pub answers : Leads (λ s t. AnswersLines s lines output t) old new
-  pub split : before ++ output ≡ sent ++ after
+  pub bad : ℕ
+  pub answers : AnswersLines old.policy old.lines old.session lines output bad new.session
+  pub split : old.waiting ++ output ≡ sent ++ new.waiting
   pub written : Appends had has sent
+  pub counted : new.lines ≡ old.lines + length lines
+  pub told : new.bad ≡ old.bad + bad
+  pub policy : new.policy ≡ old.policy
 
--- So many lines of a text were answered. Behind them the rest stands.
-pub record AnswersText (had has : Option (List ℕ)) (old : SessionContent) (before text : List ℕ) (count : ℕ) (new : SessionContent) (after rest : List ℕ) : Type 0 where
+-- The lines of a text were answered. Behind them the rest stands.
+pub record TakesText (had has : Option (List ℕ)) (old : Reached) (text : List ℕ) (new : Reached) (rest : List ℕ) : Type 0 where
   pub lines : List (List ℕ)
   pub split : text ≡ joined lines ++ rest
   pub unbroken : All IsUnbroken lines
-  pub counted : length lines ≡ count
-  pub answers : Answers had has old before lines new after
+  pub takes : Takes had has old lines new
 
--- More was read behind what was pending, and so many lines of it were answered. Behind them the rest stands.
-pub record Goes (from to had has : Option (List ℕ)) (old : SessionContent) (before pending : List ℕ) (count : ℕ) (new : SessionContent) (after rest : List ℕ) : Type 0 where
-  pub bytes : List ℕ
-  pub read : Consumes from to bytes
-  pub answers : AnswersText had has old before (pending ++ bytes) count new after rest
+-- ---- why no more lines are answered
 
--- why a line, without its newline, isn't answered
-abbrev pub IsFaultOf : CommandFault → List ℕ → Type 0
-IsFaultOf (lines.BadLine place expected) text = IsBadLine text place
-IsFaultOf lines.NoRoom text = Unit {0}
+-- What is so at a fault: by the answers `output` that wait then, where `mid` is the replay behind the last line that was
+-- answered, and `rest` wasn't.
+abbrev pub Leaves : ReplayFault → (to : Option (List ℕ)) → (output : List ℕ) → (mid : Reached) → (rest : List ℕ) → Type 0
+Leaves (BadLine number place expected) to output mid rest = (mid.policy ≡ End) × (mid.waiting ≡ output) × BeginsBadLine mid.lines to rest place × (number ≡ suc mid.lines)
+Leaves ReadFault to output mid rest = (mid.waiting ≡ output) × IsUnbroken rest
+Leaves WriteFault to output mid rest = Unit {0}
+Leaves NoRoom to output mid rest = mid.waiting ≡ output
 
--- Why a line with its newline isn't answered, where `after` wasn't written of the answers before, and the buffer of
--- answers is `output`.
-abbrev pub LineStops : Ending → (line output after : List ℕ) → Type 0
-LineStops endings.AtEnd line output after = ⊥
-LineStops (endings.BadLine place expected) line output after = (after ≡ output) × ((text : List ℕ) → line ≡ ended text → IsBadLine text place)
-LineStops endings.ReadFault line output after = ⊥
-LineStops endings.WriteFault line output after = Unit {0}
-LineStops endings.NoRoom line output after = after ≡ output
+-- none of the lines was answered, or all were
+abbrev pub TakesNoneOrAll : (had has : Option (List ℕ)) → Reached → List (List ℕ) → Type 0
+TakesNoneOrAll had has old whole = (lines : List (List ℕ)) × (mid : Reached) × ((lines ≡ []) ⊎ (lines ≡ whole)) × Takes had has old lines mid
 
--- What is so when no more is read, or all lines so far are answered: by `session`, the buffer `output` of answers and
--- the bytes `pending`, where `new` stood after the last answered line, `after` wasn't written, and `rest` wasn't
--- answered.
-abbrev pub Leaves : Option Ending → Option (List ℕ) → (session : SessionContent) → (output pending : List ℕ) → (new : SessionContent) → (after rest : List ℕ) → Type 0
-Leaves None to session output pending new after rest = (new ≡ session) × (after ≡ output) × (rest ≡ pending) × IsUnbroken rest
-Leaves (Some endings.AtEnd) to session output pending new after rest = (new ≡ session) × (after ≡ output) × (rest ≡ pending) × IsUnbroken rest × IsAtEnd to
-Leaves (Some (endings.BadLine place expected)) to session output pending new after rest = (after ≡ output) × BeginsBadLine to rest place
-Leaves (Some endings.ReadFault) to session output pending new after rest = (after ≡ output) × IsUnbroken rest
-Leaves (Some endings.WriteFault) to session output pending new after rest = Unit {0}
-Leaves (Some endings.NoRoom) to session output pending new after rest = after ≡ output
+-- a line, without its newline, wasn't answered, or the writer failed behind it
+abbrev pub LineStops : ReplayFault → (had has : Option (List ℕ)) → Reached → List ℕ → (output : List ℕ) → Type 0
+LineStops (BadLine number place expected) had has old line output = (mid : Reached) × Takes had has old [] mid × (mid.policy ≡ End) × (mid.waiting ≡ output) × IsBadBehind old.lines line place × (number ≡ suc old.lines)
+LineStops ReadFault had has old line output = ⊥
+LineStops WriteFault had has old line output = TakesNoneOrAll had has old (line ∷ [])
+LineStops NoRoom had has old line output = (mid : Reached) × Takes had has old [] mid × (mid.waiting ≡ output)
 
--- what one turn does
-abbrev pub Turns : Answered → (from to had has : Option (List ℕ)) → SessionContent → (before pending : List ℕ) → SessionContent → (output waiting : List ℕ) → Type 0
-Turns answered from to had has old before pending session output waiting = (new : SessionContent) × (after rest : List ℕ) × Goes from to had has old before pending answered.lines new after rest × Leaves answered.stop to session output waiting new after rest
+-- some lines of a text were answered, and then the fault came
+abbrev pub TextStops : ReplayFault → (to had has : Option (List ℕ)) → Reached → (text output : List ℕ) → Type 0
+TextStops fault to had has old text output = (mid : Reached) × (rest : List ℕ) × TakesText had has old text mid rest × Leaves fault to output mid rest
 
--- the text was written
-abbrev pub Written : Result ℕ ReplayFault → ℕ → Option (List ℕ) → Option (List ℕ) → List ℕ → Type 0
-Written (Ok count) lines had has text = (count ≡ lines) × Appends had has text
-Written (Err fault) lines had has text = (fault ≡ WriteFault) × (sent left : List ℕ) × (text ≡ sent ++ left) × Appends had has sent
+-- the last line, whose newline is missing, wasn't answered, or the writer failed behind it
+abbrev pub LastStops : ReplayFault → (to had has : Option (List ℕ)) → Reached → (pending output : List ℕ) → Type 0
+LastStops fault to had has old pending output = TextStops fault to had has old pending output ⊎ ((fault ≡ WriteFault) × TakesNoneOrAll had has old (unended pending))
 
--- the text was written before the fault is given, or the writer failed
-abbrev pub Reported : Result ℕ ReplayFault → ReplayFault → Option (List ℕ) → Option (List ℕ) → List ℕ → Type 0
-Reported (Ok count) fault had has text = ⊥
-Reported (Err given) fault had has text = ((given ≡ fault) × Appends had has text) ⊎ ((given ≡ WriteFault) × (sent left : List ℕ) × (text ≡ sent ++ left) × Appends had has sent)
+-- ---- turns
 
--- What becomes of the last line, `rest`, whose newline is missing.
-abbrev pub Finishes : Result ℕ ReplayFault → ℕ → Option (List ℕ) → Option (List ℕ) → SessionContent → List ℕ → List ℕ → Type 0
-Finishes (Ok count) lines had has old before rest = (new : SessionContent) × Answers had has old before (unended rest) new [] × (count ≡ lines + length (unended rest))
-Finishes (Err (BadLine number place expected)) lines had has old before rest = Answers had has old before [] old [] × IsBadLine rest place × (number ≡ lines + 1)
-Finishes (Err ReadFault) lines had has old before rest = ⊥
-Finishes (Err WriteFault) lines had has old before rest = (done : List (List ℕ)) × (new : SessionContent) × (left : List ℕ) × Answers had has old before done new left × ((done ≡ []) ⊎ (done ≡ unended rest))
-Finishes (Err NoRoom) lines had has old before rest = Answers had has old before [] old []
+-- What a turn does: more was read behind what was pending, and lines of it were answered; or there was no more to read, and
+-- what was pending was the last line, if it is one.
+abbrev pub Turns : Bool → (from to had has : Option (List ℕ)) → Reached → (pending : List ℕ) → Reached → (rest : List ℕ) → Type 0
+Turns true from to had has old pending new rest = (bytes : List ℕ) × Consumes from to bytes × TakesText had has old (pending ++ bytes) new rest × IsUnbroken rest
+Turns false from to had has old pending new rest = Consumes from to [] × IsAtEnd to × Takes had has old (unended pending) new × (new.waiting ≡ [])
+
+-- what a turn has done that stopped
+abbrev pub TurnStops : ReplayFault → (from to had has : Option (List ℕ)) → Reached → (pending output : List ℕ) → Type 0
+TurnStops fault from to had has old pending output =
+    ((bytes : List ℕ) × Consumes from to bytes × TextStops fault to had has old (pending ++ bytes) output)
+    ⊎ (Consumes from to [] × IsAtEnd to × LastStops fault to had has old pending output)
+
+-- How the input was answered by what was written and the answers that wait, which is what the fault promises once these are
+-- written too; of a writer that failed it is so already.
+abbrev pub Stops : BadLines → ReplayFault → (to : Option (List ℕ)) → (input output waiting : List ℕ) → Type 0
+Stops policy WriteFault to input output waiting = StopsWith policy WriteFault to input output
+Stops policy fault to input output waiting = StopsWith policy fault to input (output ++ waiting)
+
+-- what the fault of a whole replay is, behind the writing of the answers that waited
+abbrev pub Settles : ReplayFault → ReplayFault → (had has : Option (List ℕ)) → List ℕ → Type 0
+Settles given WriteFault had has output = (given ≡ WriteFault) × (has ≡ had)
+Settles given fault had has output = ((given ≡ fault) × Appends had has output) ⊎ ((given ≡ WriteFault) × WritesPart had has output)

@@ -1,54 +1,47 @@
--- The session of a script: what it drives, and what callers see of that.
-use Rattle.std.specs.Prelude.{◌≡◌, ℕ, ◌<◌, List, [], ◌∷◌, ◌++◌, length, map}
-use Rattle.ds_pattern.specs.declared.query.Query.{Query}
-use Rattle.ds_pattern.specs.Patterns.{IsPattern}
-use Rattle.ds_submap.specs.Map.{SubMapRecord, empty_map}
+-- The session of a script: the world that it drives, as callers see it, and the side whose store is asked.
+use Rattle.std.specs.Prelude.{◌≡◌, ℕ, List}
+use Rattle.ds_entry.specs.declared.item.Item.{Item}
 use Rattle.ds_held.specs.Limits.{larger}
-use Rattle.ds_machine.specs.State.{State, opening}
-use Rattle.ds_machine.specs.Machine.{Step}
-use Rattle.ds_machine.specs.declared.command.Command.{Command}
-use Rattle.ds_machine.specs.declared.reply.Reply.{Reply}
-use Rattle.ds_content.specs.Content.{ContentRecord}
-use Rattle.ds_content.specs.Stands.{Stands}
-use Rattle.ds_script.specs.declared.maps.MapFault.{MapFault}
-use Rattle.ds_script.specs.Maps.{most_maps, IsMapFault}
-
--- the state of what a script drives: one store's, and the query of each map, in the order in which they were made
-pub record ScriptState : Type 0 where
-  pub store : State
-  pub maps : List Query
-
--- at the first line: a store of incarnation 1 whose first item has position 0, with a ring of 256, for 128 subscriptions
--- and 4096 keys, and no maps
-abbrev pub at_start : ScriptState
-at_start = record { store = opening 1 0 256 larger; maps = [] }
+use Rattle.ds_replica.specs.declared.event.Event.{Event}
+use Rattle.ds_replica.specs.declared.event.Side.{Side}
+use Rattle.ds_replica.specs.declared.event.Side.TheVariants.{A}
+use Rattle.ds_replica.specs.declared.outcome.Outcome.{Outcome}
+use Rattle.ds_replica.specs.declared.seed.Seed.{Seed}
+use Rattle.ds_replica.specs.World.{World, new_world}
+use Rattle.ds_world.specs.World.{WorldRecord, Stands, store_in}
+use Rattle.ds_world.specs.Run.{EventLeads}
+use Rattle.ds_world.specs.Told.{IsTold}
 
 -- what callers see of a session
 pub record SessionContent : Type 0 where
-  pub store : ContentRecord
-  pub maps : List SubMapRecord
+  pub world : WorldRecord
+  pub side : Side
 
--- the value is the state's
-pub record StandsFor (value : SessionContent) (state : ScriptState) : Type 0 where
-  pub store : Stands value.store state.store
-  -- nothing was delivered to the maps
-  pub maps : value.maps ≡ map empty_map state.maps
+-- with what the store of an incarnation is opened, by its ring
+abbrev pub seed : ℕ → ℕ → Seed
+seed incarnation ring = record { incarnation = incarnation; first = 0; ring = ring }
 
--- from each state that the old value stands for, this leads to one that the new value stands for
-abbrev pub Leads : (ScriptState → ScriptState → Type 0) → SessionContent → SessionContent → Type 0
-Leads R old new = (s : ScriptState) → StandsFor old s → (t : ScriptState) × R s t × StandsFor new t
+-- a world that was just made, whose journals keep so many items: a has the incarnation 1 and b 2, both begin at position 0, for
+-- 128 subscriptions and 4096 keys
+abbrev pub made : ℕ → World
+made ring = new_world (seed 1 ring) (seed 2 ring) larger
 
--- the store's machine makes a step, and the maps stay
-abbrev pub StoreSteps : Command → Reply → ScriptState → ScriptState → Type 0
-StoreSteps command reply old new = Step old.store command reply new.store × (new.maps ≡ old.maps)
+-- the session stands for such a world, and side a is asked
+pub record IsOpened (ring : ℕ) (session : SessionContent) : Type 0 where
+  pub world : Stands session.world (made ring)
+  pub side : session.side ≡ A
 
--- A map of the query is made, behind so many others, and the store stays. The query's text is a pattern.
-pub record MakesMap (query : Query) (number : ℕ) (old new : ScriptState) : Type 0 where
-  pub few : length old.maps < most_maps
-  pub pattern : IsPattern query.text
-  pub numbered : number ≡ length old.maps
-  pub state : new ≡ record old { maps = old.maps ++ query ∷ [] }
+-- from now on the store of this side is asked
+abbrev pub turned : SessionContent → Side → SessionContent
+turned session side = record session { side = side }
 
--- no map is made of the query, for this fault, and nothing changes
-abbrev pub RefusesMap : Query → MapFault → ScriptState → ScriptState → Type 0
-RefusesMap query fault old new = IsMapFault fault (length old.maps) query × (new ≡ old)
+-- what the store that is asked holds
+abbrev pub held_of : SessionContent → List Item
+held_of session = (store_in session.world session.side).held
+
+-- One event happens in the world: with this outcome it leads from each world of the definitions for which the session stands to
+-- one for which it then does, and what `World::happen` tells of the outcome is so.
+pub record IsHappening (event : Event) (outcome : Outcome) (old new : SessionContent) : Type 0 where
+  pub leads : EventLeads event outcome old.world new.world
+  pub told : IsTold event outcome old.world new.world
+  pub side : new.side ≡ old.side

@@ -1,20 +1,18 @@
 //! Carrying commands out, and their answers.
 
-ghost use Rattle.std.specs.Prelude.{◌≡◌, ◌⊎◌, ◌++◌, List, ℕ, OnOk, OnErr};
-ghost use Rattle.ds_script.specs.Session.{Leads};
-ghost use Rattle.ds_script.specs.Maps.{map_fault_word};
-ghost use Rattle.ds_script.specs.Answer.{AnswersAsked, AnswersMade, AnswersUnmade, AnswersOrRefuses};
+ghost use Rattle.std.specs.Prelude.{◌≡◌, ◌≤◌, ◌⊎◌, ◌++◌, List, ℕ, OnOk, OnErr};
+ghost use Rattle.ds_words.specs.Command.{IsCommand};
+ghost use Rattle.ds_words.specs.Outcome.{side_line};
+ghost use Rattle.ds_script.specs.Session.{turned};
+ghost use Rattle.ds_script.specs.Answer.{AnswersOrRefuses, AnswersRing, IsRefused};
 
 use crate::entries::append_entries;
-use crate::maps::MapFault;
+use crate::event::answer_event;
 use crate::session::Session;
 use crate::shown::append_shown;
-use ds_line::append_all;
-use ds_machine::Command;
 use ds_names::NoRoom;
-use ds_pattern::Query;
-use ds_words::{ScriptCommand, Wording, append_noroom, append_reply};
-use itoa::Buffer;
+use ds_replica::Side;
+use ds_words::{ScriptCommand, append_noroom, append_ring, append_side};
 use std::alloc::Global;
 
 /// Carries a command out, and puts its answer behind those that wait.
@@ -27,67 +25,45 @@ pub(crate) fn answer_command(
     output: &mut Vec<u8>,
     command: ScriptCommand,
 ) -> Result<(), NoRoom>
-    ensures answered { OnOk result ((out : List ℕ) × (output.new.items ≡ output.old.items ++ out) × Leads (λ s t. AnswersOrRefuses command s out t) session.old session.new) }
+    requires { IsCommand command }
+    ensures answered { OnOk result ((out : List ℕ) × (output.new.items ≡ output.old.items ++ out) × AnswersOrRefuses command session.old out session.new) }
     ensures unanswered { OnErr result (output.new.items ≡ output.old.items) }
 {
     match command {
         ScriptCommand::Show => append_shown(alloc, session.held(), output, false),
         ScriptCommand::All => append_shown(alloc, session.held(), output, true),
-        ScriptCommand::Map { query } => answer_map(alloc, session, output, &query),
         ScriptCommand::Entries { map } => append_entries(alloc, session.map(map), output),
-        asking => {
-            let wording = asking.wording();
-            match asking.into_store_command(alloc) {
-                Ok(Some(asked)) => answer_asked(session, output, wording, asked),
-                Ok(None) => unreachable!(),
-                Err(NoRoom) => append_noroom(output),
-            }
-        }
+        ScriptCommand::Ring { ring } => answer_ring(alloc, session, output, ring),
+        ScriptCommand::Side { side } => answer_side(session, output, side),
+        asking => answer_event(alloc, session, output, asking),
     }
 }
 
-// Gives the command to the store, and puts its reply behind the answers that wait.
-fn answer_asked(
-    session: &mut Session,
-    output: &mut Vec<u8>,
-    wording: Wording,
-    asked: Command,
-) -> Result<(), NoRoom>
-    ensures answered { OnOk result ((out : List ℕ) × (output.new.items ≡ output.old.items ++ out) × Leads (λ s t. AnswersAsked wording asked s out t) session.old session.new) }
-    ensures unanswered { OnErr result (output.new.items ≡ output.old.items) }
-{
-    let limits = session.limits();
-    let reply = session.ask(asked);
-    append_reply(output, wording, &reply, limits)
-}
-
-// Makes a map, and puts its number behind the answers that wait, or why none is made.
-fn answer_map(
+// Opens the session again, with journals that keep so many items.
+fn answer_ring(
     alloc: Global,
     session: &mut Session,
     output: &mut Vec<u8>,
-    query: &Query,
+    ring: u32,
 ) -> Result<(), NoRoom>
-    ensures answered { OnOk result ((out : List ℕ) × (output.new.items ≡ output.old.items ++ out) × Leads (λ s t. AnswersMade query.now s out t ⊎ AnswersUnmade query.now s out t) session.old session.new) }
+    requires { (1 ≤ ring) × (ring ≤ 4096) }
+    ensures answered { OnOk result ((out : List ℕ) × (output.new.items ≡ output.old.items ++ out) × (AnswersRing ring session.old out session.new ⊎ IsRefused session.old out session.new)) }
     ensures unanswered { OnErr result (output.new.items ≡ output.old.items) }
 {
-    match session.make_map(alloc, query) {
-        Ok(number) => {
-            let mut digits = Buffer::new();
-            append_all(output, &[b"map ", digits.format(number).as_bytes(), b"\n"])
-        }
-        Err(fault) => append_all(output, &[b"refused ", word_of(fault), b"\n"]),
-    }
+    let Ok(opened) = Session::open(alloc, ring) else {
+        return append_noroom(output);
+    };
+    append_ring(output, ring)?;
+    *session = opened;
+    Ok(())
 }
 
-// The word of why no map is made.
-fn word_of(fault: MapFault) -> &'static [u8]
-    ensures { result.now ≡ map_fault_word fault }
+// Turns to the store of a side.
+fn answer_side(session: &mut Session, output: &mut Vec<u8>, side: Side) -> Result<(), NoRoom>
+    ensures answered { OnOk result ((output.new.items ≡ output.old.items ++ side_line side) × (session.new ≡ turned session.old side)) }
+    ensures unanswered { OnErr result (output.new.items ≡ output.old.items) }
 {
-    match fault {
-        MapFault::MapsFull => b"mapsfull",
-        MapFault::TooLong => b"toolong",
-        MapFault::BadPattern => b"badpattern",
-        MapFault::NoRoom => b"noroom",
-    }
+    append_side(output, side)?;
+    session.turn_to(side);
+    Ok(())
 }

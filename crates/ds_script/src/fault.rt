@@ -1,6 +1,8 @@
 //! Why a replay ends early.
 
+use crate::transfer::WriteFailed;
 use ds_line::Expected;
+use ds_names::NoRoom;
 use thiserror::Error;
 
 /// Why a replay ended before its input did.
@@ -23,4 +25,26 @@ pub enum ReplayFault {
     /// Out of memory for a line or its answer.
     #[error("out of memory")]
     NoRoom,
+}
+
+impl From<WriteFailed> for ReplayFault {
+    ghost use Rattle.std.specs.Prelude.{◌≡◌};
+    ghost use Rattle.ds_script.specs.declared.fault.ReplayFault.TheVariants as faults;
+
+    ghost from_gives = { λ failed fault. fault ≡ faults.WriteFault };
+
+    fn from(_failed: WriteFailed) -> ReplayFault {
+        ReplayFault::WriteFault
+    }
+}
+
+impl From<NoRoom> for ReplayFault {
+    ghost use Rattle.std.specs.Prelude.{◌≡◌};
+    ghost use Rattle.ds_script.specs.declared.fault.ReplayFault.TheVariants as faults;
+
+    ghost from_gives = { λ wanting fault. fault ≡ faults.NoRoom };
+
+    fn from(_wanting: NoRoom) -> ReplayFault {
+        ReplayFault::NoRoom
+    }
 }

@@ -1,26 +1,29 @@
-//! Scripts: a session over one data store, and its replay, which answers a script line by line.
+//! Scripts: a session over a world of two stores, and its replay, which answers a script line by line.
 //!
-//! A script drives one data store with one command a line, and keeps maps beside it. Reading, writing and want of
-//! memory are told apart when a replay ends. The lines and their answers are of this project.
+//! A script asks the stores of a world, makes maps, and delivers messages, with one command a line. Reading, writing and
+//! want of memory are told apart when a replay ends. The lines and their answers are of this project.
 #![tactic(auto)]
 
 mod answer;
+mod bad_line;
 mod entries;
+mod event;
 mod fault;
 mod faulty;
-mod going_line;
-mod going_on;
-mod maps;
+mod laws;
+mod line;
 mod report;
+mod sending;
 mod session;
 mod shown;
 mod stream;
+mod taking;
 mod transfer;
 mod turn;
 
 pub use fault::ReplayFault;
 pub use faulty::{FailRead, FailWrite};
-pub use going_line::Replayed;
-pub use going_on::replay_on;
-pub use report::{BadLine, Report};
-pub use stream::{replay, replay_leaving};
+pub use laws::{none_is_bad_where_one_ends, scripts_are_events};
+pub use report::{BadLine, BadLines, Report};
+pub use stream::{replay, replay_reporting};
+pub use taking::Replayed;

@@ -1,6 +1,15 @@
-//! What is told of lines that can't be read.
+//! What becomes of lines that can't be read, and who is told of them.
 
 use ds_line::Expected;
+
+/// What becomes of a script at a line that is no command's.
+#[derive(Clone, Copy, Debug, PartialEq, Eq)]
+pub enum BadLines {
+    /// The line ends it, and no answer is written for it.
+    End,
+    /// The line is answered `badline` with its number and its place and changes nothing, and the next one follows.
+    GoOn,
+}
 
 /// A line that is no command's.
 #[derive(Clone, Copy, Debug)]
@@ -17,6 +26,14 @@ pub struct BadLine<'a> {
 
 /// Whoever is told of the lines that can't be read.
 pub trait Report {
-    /// A line can't be read, and its answer is written.
+    /// A line can't be read. The answers to the lines before it are written, and its own, if it has one.
     fn bad_line(&mut self, line: &BadLine<'_>);
+}
+
+/// Whoever isn't told.
+#[derive(Clone, Copy, Debug)]
+pub(crate) struct Nobody;
+
+impl Report for Nobody {
+    fn bad_line(&mut self, _line: &BadLine<'_>) {}
 }

@@ -1,96 +1,111 @@
 //! What a script drives.
 
-ghost use Rattle.std.specs.Prelude.{◌≡◌, slice_get, IfOk, IfErr};
+ghost use Rattle.std.specs.Prelude.{◌≡◌, ◌≤◌, slice_get, IfOk};
 ghost use Rattle.std.specs.Option.{option_copied};
 ghost use Rattle.ds_held.specs.Held.{held_items};
-ghost use Rattle.ds_script.specs.Session.{StandsFor, Leads, StoreSteps, MakesMap, RefusesMap, at_start};
+ghost use Rattle.ds_script.specs.Session.{IsOpened, seed as described_seed, held_of, turned, IsHappening};
 
-use crate::fault::ReplayFault;
-use crate::maps::{MapFault, Maps};
-use ds_held::{Held, Limits};
-use ds_machine::{Command, Reply};
-use ds_pattern::Query;
-use ds_store::Store;
+use ds_held::Held;
+use ds_machine::Reply;
+use ds_names::NoRoom;
+use ds_replica::{Event, Outcome, Seed, Side};
 use ds_submap::SubMap;
+use ds_world::World;
 use std::alloc::Global;
 use std::marker::Model;
 
-/// How many of its last items the store's journal keeps.
-const RING: u32 = 256;
+/// How many of its last items the journal of each store keeps, where the first line doesn't say so.
+pub(crate) const RING: u32 = 256;
 
-/// What a script drives: one store, and maps.
+/// What a script drives: a world, and the side whose store is asked.
 #[derive(Drop)]
 pub(crate) struct Session {
-    store: Store,
-    maps: Maps,
+    world: World,
+    side: Side,
 }
 
 impl Model for Session {
-    ghost use Rattle.std.specs.Prelude.{List};
     ghost use Rattle.std.specs.Coded.{code_by, coded×};
-    ghost use Rattle.ds_submap.specs.Map.{SubMapRecord};
-    ghost use Rattle.ds_content.specs.Content.{ContentRecord};
-    ghost use Rattle.ds_store.specs.contracts.store.Store.{the_row as store_row};
-    ghost use Rattle.ds_script.specs.contracts.maps.Maps.{the_row as maps_row};
+    ghost use Rattle.ds_replica.specs.declared.event.Side.{Side};
+    ghost use Rattle.ds_replica.specs.contracts.event.Side.{the_row as side_row};
+    ghost use Rattle.ds_world.specs.World.{WorldRecord};
+    ghost use Rattle.ds_world.specs.contracts.world.World.{the_row as world_row};
     ghost use Rattle.ds_script.specs.Session.{SessionContent};
 
     ghost Value = { SessionContent };
 
-    ghost coded = { code_by (ContentRecord × List SubMapRecord) (coded× store_row.coded maps_row.coded) (λ s. (s.store, s.maps)) (λ p. record { store = p.0; maps = p.1 }) (λ s i. s) };
+    ghost coded = { code_by (WorldRecord × Side) (coded× world_row.coded side_row.coded) (λ s. (s.world, s.side)) (λ p. record { world = p.0; side = p.1 }) (λ s i. s) };
 
-    ghost view = { λ s. record { store = s.store; maps = s.maps } };
+    ghost view = { λ s. record { world = s.world; side = s.side } };
 }
 
 impl Session {
-    /// A store of incarnation 1 that holds nothing, whose first item will have the position 0, and no maps. NoRoom: there
-    /// is no memory for the store's ring.
-    pub(crate) fn open(alloc: Global) -> Result<Session, ReplayFault>
-        ensures opened { IfOk result (λ session. StandsFor session at_start) }
-        ensures refused { IfErr result (λ fault. fault ≡ ReplayFault.NoRoom) }
+    /// A world that was just made, whose stores have the incarnations 1 and 2 and keep so many of their last items, with no
+    /// maps and no messages; side a is asked. NoRoom: there is no memory for the stores' rings.
+    pub(crate) fn open(alloc: Global, ring: u32) -> Result<Session, NoRoom>
+        requires { (1 ≤ ring) × (ring ≤ 4096) }
+        ensures opened { IfOk result (λ session. IsOpened ring session) }
     {
-        match Store::open(alloc, 1, 0, RING) {
-            Ok(store) => Ok(Session {
-                store,
-                maps: Maps::new(alloc),
+        match World::new(alloc, seed(1, ring), seed(2, ring)) {
+            Ok(world) => Ok(Session {
+                world,
+                side: Side::A,
             }),
-            // The ring and the first position are in their ranges.
-            Err(_) => Err(ReplayFault::NoRoom),
+            // The rings are in their range, and the incarnations differ.
+            Err(_) => Err(NoRoom),
         }
     }
 
-    /// What its store holds.
+    /// The side whose store is asked.
+    pub(crate) fn side(&self) -> Side
+        ensures { result ≡ self.now.side }
+    {
+        self.side
+    }
+
+    /// From now on the store of this side is asked.
+    pub(crate) fn turn_to(&mut self, side: Side)
+        ensures { self.new ≡ turned self.old side }
+    {
+        self.side = side;
+    }
+
+    /// Lets one event happen, and gives what came of it.
+    pub(crate) fn happen(&mut self, event: Event) -> Outcome
+        ensures { IsHappening event result self.old self.new }
+    {
+        self.world.happen(event)
+    }
+
+    /// What the store that is asked holds.
     pub(crate) fn held(&self) -> &Held
-        ensures { held_items result.now ≡ self.now.store.held }
+        ensures { held_items result.now ≡ held_of self.now }
     {
-        self.store.held()
-    }
-
-    /// The limits of its store.
-    pub(crate) fn limits(&self) -> Limits
-        ensures { result ≡ self.now.store.limits }
-    {
-        self.store.limits()
-    }
-
-    /// Gives the command to its store.
-    pub(crate) fn ask(&mut self, command: Command) -> Reply
-        ensures { Leads (StoreSteps command result) self.old self.new }
-    {
-        self.store.apply(command)
-    }
-
-    /// Makes a map of a query, and gives its number. A refusal changes nothing.
-    pub(crate) fn make_map(&mut self, alloc: Global, query: &Query) -> Result<usize, MapFault>
-        ensures made { IfOk result (λ number. Leads (MakesMap query.now number) self.old self.new) }
-        ensures refused { IfErr result (λ fault. Leads (RefusesMap query.now fault) self.old self.new) }
-    {
-        self.maps.make(alloc, query)
+        self.world.store(self.side).held()
     }
 
     /// The map of a number.
     pub(crate) fn map(&self, number: u64) -> Option<&SubMap>
-        ensures { option_copied result ≡ slice_get self.now.maps number }
+        ensures { option_copied result ≡ slice_get self.now.world.maps number }
     {
-        self.maps.get(number)
+        self.world.map(number as usize)
+    }
+
+    /// The message of a number: the reply that a store gave.
+    pub(crate) fn message(&self, number: usize) -> Option<&Reply>
+        ensures { option_copied result ≡ slice_get self.now.world.messages number }
+    {
+        self.world.message(number)
+    }
+}
+
+// With what the store of an incarnation is opened.
+fn seed(incarnation: u64, ring: u32) -> Seed
+    ensures { result ≡ described_seed incarnation ring }
+{
+    Seed {
+        incarnation,
+        first: 0,
+        ring,
     }
 }

@@ -1,5 +1,5 @@
 -- A command's line: its word, and what the command takes behind it.
-use Rattle.std.proofs.Common.{◌≡◌, ◌≢◌, ℕ, suc, ◌+◌, ◌-◌, ◌≤◌, true, List, [], ◌∷◌, ◌++◌, length, refl, sym, ap, subst, ◌∙◌, arith, append_assoc, append-nil, length-append}
+use Rattle.std.proofs.Common.{◌≡◌, ◌≢◌, ℕ, suc, ◌+◌, ◌-◌, ◌≤◌, true, List, [], ◌∷◌, ◌++◌, length, None, Some, refl, sym, ap, subst, ◌∙◌, arith, append_assoc, append-nil, length-append}
 use Rattle.std.specs.List.{All, list_all}
 use Rattle.std.specs.Char.{is_ascii_alphanumeric}
 use Rattle.std.specs.Fmt.{decimal}
@@ -7,27 +7,27 @@ use Rattle.std.proofs.lemmas.List.Elements.{All-head, All-tail}
 use Rattle.std.proofs.lemmas.List.Concat.{flat_map-append}
 use Rattle.ds_names.specs.Endpoint.{endpoint_text}
 use Rattle.ds_names.specs.Run.{Begins}
-use Rattle.ds_names.specs.declared.key.Key.{Key}
-use Rattle.ds_names.specs.declared.version.Version.{Version}
-use Rattle.ds_entry.specs.declared.body.Body.TheVariants.{Put}
-use Rattle.ds_line.specs.Part.{Part, part, byte, texts, Word, Name, Number, Endpoint, Quoted}
-use Rattle.ds_line.specs.Spelling.{space, newline, kind_word, quoted, value_part, body_parts}
-use Rattle.ds_line.specs.ItemSpelling.{item_parts}
+use Rattle.ds_line.specs.Part.{Part, part, byte, texts, Word, Name, Number, Endpoint}
+use Rattle.ds_line.specs.Spelling.{space, newline, value_part}
 use Rattle.ds_line.specs.LastNewline.{EndsLine}
 use Rattle.ds_line.specs.FaultPlace.{Stand}
 use Rattle.ds_line.specs.Piece.{Found, Breaks, StopsIn}
 use Rattle.ds_line.specs.declared.part_fault.PartFault.TheVariants.{BadPart}
 use Rattle.ds_line.proofs.PartLemmas.{part_one}
-use Rattle.ds_line.proofs.LineLemmas.{AllStand, stand_length, part_stands, byte_stands, name_stands, body_stands}
+use Rattle.ds_line.proofs.LineLemmas.{stand_length}
 use Rattle.ds_line.proofs.ItemLemmas.{item_ends}
 use Rattle.ds_line.proofs.PieceLemmas.{stand_texts}
 use Rattle.ds_words.specs.declared.command.ScriptCommand.{ScriptCommand}
-use Rattle.ds_words.specs.declared.command.ScriptCommand.TheVariants.{Offer, Show, All as Everything, Publish, Delete, Sweep, Retrieve, NameOf, Subscribe, Check, Map, Entries}
+use Rattle.ds_words.specs.declared.command.ScriptCommand.TheVariants.{Offer, Show, All as Everything, Publish, Delete, Sweep, Retrieve, NameOf, Subscribe, Check, Map, Entries, Ring, Side as OnSide, Clear, Restart, Deliver, Since, Snapshot, Page}
 use Rattle.ds_words.specs.declared.word.Word.TheVariants as words
 use Rattle.ds_words.specs.declared.word.Word.{Word as CommandWord}
-use Rattle.ds_words.specs.Command.{word_of, behind_word, command_parts, IsCommand, IsCommandFault, initial_word, mode_word, key_parts, version_parts, query_parts}
+use Rattle.ds_words.specs.Command.{word_of, behind_word, command_parts, IsCommand, IsCommandFault, initial_word, mode_word}
+use Rattle.ds_words.specs.Key.{key_parts, version_parts}
+use Rattle.ds_words.specs.Page.{range_parts}
+use Rattle.ds_words.specs.Query.{query_parts}
 use Rattle.ds_words.specs.Pieces.{taken_by, text_of}
-use Rattle.ds_words.proofs.OfferLemmas.{item_stands}
+use Rattle.ds_words.specs.World.{side_word, holder_word, count_part}
+use Rattle.ds_words.proofs.StandLemmas.{command_stands}
 
 -- ---- words
 
@@ -44,6 +44,14 @@ word_is (Subscribe sub query initial overwrite) = refl
 word_is (Check sub max) = refl
 word_is (Map query) = refl
 word_is (Entries map) = refl
+word_is (Ring ring) = refl
+word_is (OnSide side) = refl
+word_is (Clear map) = refl
+word_is (Restart side incarnation) = refl
+word_is (Deliver message holder count) = refl
+word_is (Since scope cursor max) = refl
+word_is (Snapshot scope) = refl
+word_is (Page scope after max) = refl
 
 -- each command begins with one of the words
 pub word_there : (command : ScriptCommand) → (word : CommandWord) × (word_of command ≡ text_of word)
@@ -59,6 +67,14 @@ word_there (Subscribe sub query initial overwrite) = (words.Subscribe, refl)
 word_there (Check sub max) = (words.Check, refl)
 word_there (Map query) = (words.Map, refl)
 word_there (Entries map) = (words.Entries, refl)
+word_there (Ring ring) = (words.Ring, refl)
+word_there (OnSide side) = (words.Side, refl)
+word_there (Clear map) = (words.Clear, refl)
+word_there (Restart side incarnation) = (words.Restart, refl)
+word_there (Deliver message holder count) = (words.Deliver, refl)
+word_there (Since scope cursor max) = (words.Since, refl)
+word_there (Snapshot scope) = (words.Snapshot, refl)
+word_there (Page scope after max) = (words.Page, refl)
 
 pub text_is : (word : CommandWord) → list_all is_ascii_alphanumeric (text_of word) ≡ true
 text_is words.Offer = refl
@@ -73,113 +89,21 @@ text_is words.Subscribe = refl
 text_is words.Check = refl
 text_is words.Map = refl
 text_is words.Entries = refl
+text_is words.Ring = refl
+text_is words.Side = refl
+text_is words.Clear = refl
+text_is words.Restart = refl
+text_is words.Deliver = refl
+text_is words.Since = refl
+text_is words.Snapshot = refl
+text_is words.Page = refl
 
 -- two words at one front are one
 pub one_word : (command : ScriptCommand) (line word r s : List ℕ) → list_all is_ascii_alphanumeric word ≡ true → Begins is_ascii_alphanumeric line (word_of command) r → Begins is_ascii_alphanumeric line word s → (word_of command ≡ word) × (r ≡ s)
 one_word command line word r s is first second = part_one Word line (word_of command) word r s (word_is command) is first second
 
--- ---- what is spelled out stands there
+-- ---- the line's word stands at its front
 
-delete_stands : (key : Key) (version : Version) → AllStand (key_parts key ++ space ∷ (version_parts version ++ newline ∷ [])) []
-delete_stands key version =
-    let from_seq : List Part = part Number (decimal version.seq) ∷ newline ∷ [] in
-    let from_epoch : List Part = part Number (decimal version.epoch) ∷ byte 46 ∷ from_seq in
-    let from_kind : List Part = part Word (kind_word key.kind) ∷ space ∷ from_epoch in
-    name_stands key.name from_kind []
-    (byte_stands 32 from_kind []
-    (part_stands (part Word (kind_word key.kind)) (space ∷ from_epoch) [] refl
-    (byte_stands 32 from_epoch []
-    (part_stands (part Number (decimal version.epoch)) (byte 46 ∷ from_seq) [] refl
-    (byte_stands 46 from_seq []
-    (part_stands (part Number (decimal version.seq)) (newline ∷ []) [] refl
-    (byte_stands 10 [] [] refl)))))))
-
-pub command_stands : (command : ScriptCommand) → AllStand (behind_word command) []
-command_stands (Offer i) = byte_stands 32 (item_parts i) [] (item_stands i [])
-command_stands Show = byte_stands 10 [] [] refl
-command_stands Everything = byte_stands 10 [] [] refl
-command_stands (Publish caller key version value overwrite) =
-    let from_mark : List Part = body_parts (Put value) in
-    let from_seq : List Part = part Number (decimal version.seq) ∷ space ∷ from_mark in
-    let from_epoch : List Part = part Number (decimal version.epoch) ∷ byte 46 ∷ from_seq in
-    let from_kind : List Part = part Word (kind_word key.kind) ∷ space ∷ from_epoch in
-    let from_name : List Part = part Name key.name ∷ space ∷ from_kind in
-    let from_mode : List Part = part Word (mode_word overwrite) ∷ space ∷ from_name in
-    byte_stands 32 (part Endpoint (endpoint_text caller) ∷ space ∷ from_mode) []
-    (part_stands (part Endpoint (endpoint_text caller)) (space ∷ from_mode) [] refl
-    (byte_stands 32 from_mode []
-    (part_stands (part Word (mode_word overwrite)) (space ∷ from_name) [] refl
-    (byte_stands 32 from_name []
-    (name_stands key.name from_kind []
-    (byte_stands 32 from_kind []
-    (part_stands (part Word (kind_word key.kind)) (space ∷ from_epoch) [] refl
-    (byte_stands 32 from_epoch []
-    (part_stands (part Number (decimal version.epoch)) (byte 46 ∷ from_seq) [] refl
-    (byte_stands 46 from_seq []
-    (part_stands (part Number (decimal version.seq)) (space ∷ from_mark) [] refl
-    (byte_stands 32 from_mark [] (body_stands (Put value) [])))))))))))))
-command_stands (Delete caller key version) =
-    let from_name : List Part = key_parts key ++ space ∷ (version_parts version ++ newline ∷ []) in
-    byte_stands 32 (part Endpoint (endpoint_text caller) ∷ space ∷ from_name) []
-    (part_stands (part Endpoint (endpoint_text caller)) (space ∷ from_name) [] refl
-    (byte_stands 32 from_name [] (delete_stands key version)))
-command_stands (Sweep caller owner generation) =
-    let from_generation : List Part = part Number (decimal generation) ∷ newline ∷ [] in
-    let from_owner : List Part = part Name owner ∷ space ∷ from_generation in
-    byte_stands 32 (part Endpoint (endpoint_text caller) ∷ space ∷ from_owner) []
-    (part_stands (part Endpoint (endpoint_text caller)) (space ∷ from_owner) [] refl
-    (byte_stands 32 from_owner []
-    (name_stands owner from_generation []
-    (byte_stands 32 from_generation []
-    (part_stands (part Number (decimal generation)) (newline ∷ []) [] refl
-    (byte_stands 10 [] [] refl))))))
-command_stands (Retrieve key) =
-    let from_kind : List Part = part Word (kind_word key.kind) ∷ newline ∷ [] in
-    byte_stands 32 (part Name key.name ∷ space ∷ from_kind) []
-    (name_stands key.name from_kind []
-    (byte_stands 32 from_kind []
-    (part_stands (part Word (kind_word key.kind)) (newline ∷ []) [] refl
-    (byte_stands 10 [] [] refl))))
-command_stands (NameOf endpoint) =
-    byte_stands 32 (part Endpoint (endpoint_text endpoint) ∷ newline ∷ []) []
-    (part_stands (part Endpoint (endpoint_text endpoint)) (newline ∷ []) [] refl
-    (byte_stands 10 [] [] refl))
-command_stands (Subscribe sub query initial overwrite) =
-    let from_mode : List Part = part Word (mode_word overwrite) ∷ newline ∷ [] in
-    let from_initial : List Part = part Word (initial_word initial) ∷ space ∷ from_mode in
-    let from_kinds : List Part = part Number (decimal query.kinds) ∷ space ∷ from_initial in
-    let from_pattern : List Part = part Quoted (quoted query.text) ∷ space ∷ from_kinds in
-    byte_stands 32 (part Number (decimal sub) ∷ space ∷ from_pattern) []
-    (part_stands (part Number (decimal sub)) (space ∷ from_pattern) [] refl
-    (byte_stands 32 from_pattern []
-    (part_stands (part Quoted (quoted query.text)) (space ∷ from_kinds) [] refl
-    (byte_stands 32 from_kinds []
-    (part_stands (part Number (decimal query.kinds)) (space ∷ from_initial) [] refl
-    (byte_stands 32 from_initial []
-    (part_stands (part Word (initial_word initial)) (space ∷ from_mode) [] refl
-    (byte_stands 32 from_mode []
-    (part_stands (part Word (mode_word overwrite)) (newline ∷ []) [] refl
-    (byte_stands 10 [] [] refl))))))))))
-command_stands (Check sub max) =
-    let from_max : List Part = part Number (decimal max) ∷ newline ∷ [] in
-    byte_stands 32 (part Number (decimal sub) ∷ space ∷ from_max) []
-    (part_stands (part Number (decimal sub)) (space ∷ from_max) [] refl
-    (byte_stands 32 from_max []
-    (part_stands (part Number (decimal max)) (newline ∷ []) [] refl
-    (byte_stands 10 [] [] refl))))
-command_stands (Map query) =
-    let from_kinds : List Part = part Number (decimal query.kinds) ∷ newline ∷ [] in
-    byte_stands 32 (part Quoted (quoted query.text) ∷ space ∷ from_kinds) []
-    (part_stands (part Quoted (quoted query.text)) (space ∷ from_kinds) [] refl
-    (byte_stands 32 from_kinds []
-    (part_stands (part Number (decimal query.kinds)) (newline ∷ []) [] refl
-    (byte_stands 10 [] [] refl))))
-command_stands (Entries map) =
-    byte_stands 32 (part Number (decimal map) ∷ newline ∷ []) []
-    (part_stands (part Number (decimal map)) (newline ∷ []) [] refl
-    (byte_stands 10 [] [] refl))
-
--- the line's word stands at its front
 pub word_begins : (command : ScriptCommand) (line : List ℕ) → line ≡ texts (command_parts command) → Begins is_ascii_alphanumeric line (word_of command) (texts (behind_word command))
 word_begins (Offer i) line is = record { parts = is; ends = refl }
 word_begins Show line is = record { parts = is; ends = refl }
@@ -193,6 +117,14 @@ word_begins (Subscribe sub query initial overwrite) line is = record { parts = i
 word_begins (Check sub max) line is = record { parts = is; ends = refl }
 word_begins (Map query) line is = record { parts = is; ends = refl }
 word_begins (Entries map) line is = record { parts = is; ends = refl }
+word_begins (Ring ring) line is = record { parts = is; ends = refl }
+word_begins (OnSide side) line is = record { parts = is; ends = refl }
+word_begins (Clear map) line is = record { parts = is; ends = refl }
+word_begins (Restart side incarnation) line is = record { parts = is; ends = refl }
+word_begins (Deliver message holder count) line is = record { parts = is; ends = refl }
+word_begins (Since scope cursor max) line is = record { parts = is; ends = refl }
+word_begins (Snapshot scope) line is = record { parts = is; ends = refl }
+word_begins (Page scope after max) line is = record { parts = is; ends = refl }
 
 -- ---- the line can't be read
 
@@ -275,6 +207,18 @@ newline_last (Subscribe sub query initial overwrite) is =
 newline_last (Check sub max) is = last_newline (space ∷ part Number (decimal sub) ∷ space ∷ part Number (decimal max) ∷ [])
 newline_last (Map query) is = last_newline (space ∷ query_parts query)
 newline_last (Entries map) is = last_newline (space ∷ part Number (decimal map) ∷ [])
+newline_last (Ring ring) is = last_newline (space ∷ part Number (decimal ring) ∷ [])
+newline_last (OnSide side) is = last_newline (space ∷ part Word (side_word side) ∷ [])
+newline_last (Clear map) is = last_newline (space ∷ part Number (decimal map) ∷ [])
+newline_last (Restart side incarnation) is = last_newline (space ∷ part Word (side_word side) ∷ space ∷ part Number (decimal incarnation) ∷ [])
+newline_last (Since None cursor max) is = last_newline (space ∷ byte 42 ∷ space ∷ part Number (decimal cursor.incarnation) ∷ space ∷ part Number (decimal cursor.position) ∷ space ∷ part Number (decimal max) ∷ [])
+newline_last (Since (Some query) cursor max) is =
+    last_newline (space ∷ (query_parts query ++ space ∷ part Number (decimal cursor.incarnation) ∷ space ∷ part Number (decimal cursor.position) ∷ space ∷ part Number (decimal max) ∷ []))
+newline_last (Snapshot None) is = last_newline (space ∷ byte 42 ∷ [])
+newline_last (Snapshot (Some query)) is = last_newline (space ∷ query_parts query)
+newline_last (Page None after max) is = last_newline (space ∷ byte 42 ∷ space ∷ range_parts after max)
+newline_last (Page (Some query) after max) is = last_newline (space ∷ (query_parts query ++ space ∷ range_parts after max))
+newline_last (Deliver message holder count) is = last_newline (space ∷ part Number (decimal message) ∷ space ∷ part Word (holder_word holder) ∷ space ∷ count_part count ∷ [])
 
 -- the command is all of the line
 pub whole_line : (line word rest after : List ℕ) (command : ScriptCommand) → EndsLine line → Begins is_ascii_alphanumeric line word rest → Found (taken_by word) command rest after → IsCommand command × (line ≡ texts (command_parts command))

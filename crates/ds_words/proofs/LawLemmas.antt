@@ -15,7 +15,11 @@ use Rattle.ds_words.specs.Pieces.{taken_by, text_of}
 use Rattle.ds_words.proofs.LineLemmas.{publish_one, delete_one, sweep_one, retrieve_one, nameof_one}
 use Rattle.ds_words.proofs.SubscriptionLemmas.{subscribe_one, check_one, map_one, entries_one}
 use Rattle.ds_words.proofs.OfferLemmas.{offer_one, show_one, all_one}
-use Rattle.ds_words.proofs.CommandLemmas.{word_there, one_word, word_begins, command_stands, text_is}
+use Rattle.ds_words.proofs.WorldLemmas.{ring_line_one, side_line_one, clear_one, restart_one, deliver_one}
+use Rattle.ds_words.proofs.ScopeLineLemmas.{since_one, snapshot_one}
+use Rattle.ds_words.proofs.PageLineLemmas.{page_one}
+use Rattle.ds_words.proofs.StandLemmas.{command_stands}
+use Rattle.ds_words.proofs.CommandLemmas.{word_there, one_word, word_begins, text_is}
 
 one_taken : (w : CommandWord) → One (taken_by (text_of w))
 one_taken words.Offer = offer_one
@@ -30,6 +34,14 @@ one_taken words.Subscribe = subscribe_one
 one_taken words.Check = check_one
 one_taken words.Map = map_one
 one_taken words.Entries = entries_one
+one_taken words.Ring = ring_line_one
+one_taken words.Side = side_line_one
+one_taken words.Clear = clear_one
+one_taken words.Restart = restart_one
+one_taken words.Deliver = deliver_one
+one_taken words.Since = since_one
+one_taken words.Snapshot = snapshot_one
+one_taken words.Page = page_one
 
 pub one_command : (c d : ScriptCommand) (line : List ℕ) → IsLineOf c line → IsLineOf d line → c ≡ d
 one_command c d line of_c of_d =

@@ -7,6 +7,15 @@ pub mod QueryLemmas
 pub mod OneLemmas
 pub mod LineLemmas
 pub mod SubscriptionLemmas
+pub mod WorldPieceLemmas
+pub mod WorldLemmas
 pub mod OfferLemmas
+pub mod OpenLemmas
+pub mod ScopeLemmas
+pub mod ScopeLineLemmas
+pub mod RangeLemmas
+pub mod PageLineLemmas
+pub mod StandLemmas
 pub mod CommandLemmas
+pub mod LaterLemmas
 pub mod LawLemmas

@@ -25,7 +25,7 @@ takes_stop word bytes NoRoom room s = absurd (room refl)
 
 -- a number that tells the words of commands apart
 abbrev pub code : List ℕ → ℕ
-code word = get_or word 0 0 + 1000 * length word
+code word = get_or word 0 0 + 1000 * length word + 100000 * get_or word 1 0
 
 abbrev some_key : Key
 some_key = record { name = rs_name; kind = U32 }

@@ -3,24 +3,27 @@ use Rattle.std.specs.Prelude.{◌≡◌, ◌≢◌, ℕ, ◌<◌, ◌≤◌, ◌
 use Rattle.std.specs.Fmt.{decimal}
 use Rattle.ds_names.specs.Name.{IsName}
 use Rattle.ds_names.specs.Endpoint.{IsEndpoint, endpoint_text}
-use Rattle.ds_names.specs.declared.key.Key.{Key}
 use Rattle.ds_names.specs.declared.version.Version.{Version}
 use Rattle.ds_entry.specs.declared.body.Body.TheVariants.{Put}
 use Rattle.ds_entry.specs.Change.{IsInPlace}
 use Rattle.ds_entry.specs.Item.{IsItem, IsItemInPlace}
-use Rattle.ds_line.specs.Part.{Part, part, byte, texts, Word, Name, Number, Endpoint, Quoted}
-use Rattle.ds_line.specs.Spelling.{space, newline, kind_word, quoted, body_parts}
+use Rattle.ds_line.specs.Part.{Part, part, texts, Word, Name, Number, Endpoint}
+use Rattle.ds_line.specs.Spelling.{space, newline, body_parts}
 use Rattle.ds_line.specs.ItemSpelling.{item_parts}
 use Rattle.ds_line.specs.FaultPlace.{IsFaultPlace}
 use Rattle.ds_line.specs.Piece.{IsValueOf}
-use Rattle.ds_pattern.specs.declared.query.Query.{Query}
 use Rattle.ds_machine.specs.declared.command.Command.{Command}
 use Rattle.ds_machine.specs.declared.command.Command.TheVariants as commands
-use Rattle.ds_words.specs.Lines.{ended, IsUnbroken}
+use Rattle.ds_words.specs.Lines.{ended}
 use Rattle.ds_words.specs.declared.fault.CommandFault.{CommandFault}
 use Rattle.ds_words.specs.declared.fault.CommandFault.TheVariants.{BadLine, NoRoom}
 use Rattle.ds_words.specs.declared.command.ScriptCommand.{ScriptCommand}
-use Rattle.ds_words.specs.declared.command.ScriptCommand.TheVariants.{Offer, Show, All, Publish, Delete, Sweep, Retrieve, NameOf, Subscribe, Check, Map, Entries}
+use Rattle.ds_words.specs.declared.command.ScriptCommand.TheVariants.{Offer, Show, All, Publish, Delete, Sweep, Retrieve, NameOf, Subscribe, Check, Map, Entries, Ring, Side, Clear, Restart, Deliver, Since, Snapshot, Page}
+use Rattle.ds_words.specs.Key.{key_parts, version_parts}
+use Rattle.ds_words.specs.Page.{page_word, range_parts, IsAfter}
+use Rattle.ds_words.specs.Query.{IsQuery, query_parts}
+use Rattle.ds_words.specs.Scope.{scope_parts, IsScope, is_all, store_scope, ScopeTakesMemory}
+use Rattle.ds_words.specs.World.{ring_word, side_line_word, clear_word, restart_word, deliver_word, since_word, snapshot_word, side_word, holder_word, IsHolder, count_part, IsCount}
 
 -- `offer`
 abbrev pub offer_word : List ℕ
@@ -80,18 +83,6 @@ abbrev pub mode_word : Bool → List ℕ
 mode_word true = codes "over"
 mode_word false = codes "new"
 
--- the name and the word of the kind
-abbrev pub key_parts : Key → List Part
-key_parts key = part Name key.name ∷ space ∷ part Word (kind_word key.kind) ∷ []
-
--- the epoch, a dot, and the sequence number
-abbrev pub version_parts : Version → List Part
-version_parts version = part Number (decimal version.epoch) ∷ byte 46 ∷ part Number (decimal version.seq) ∷ []
-
--- the pattern in quotes, and the mask of the kinds
-abbrev pub query_parts : Query → List Part
-query_parts query = part Quoted (quoted query.text) ∷ space ∷ part Number (decimal query.kinds) ∷ []
-
 -- the word of a command
 abbrev pub word_of : ScriptCommand → List ℕ
 word_of (Offer i) = offer_word
@@ -106,6 +97,14 @@ word_of (Subscribe sub query initial overwrite) = subscribe_word
 word_of (Check sub max) = check_word
 word_of (Map query) = map_word
 word_of (Entries map) = entries_word
+word_of (Ring ring) = ring_word
+word_of (Side side) = side_line_word
+word_of (Clear map) = clear_word
+word_of (Restart side incarnation) = restart_word
+word_of (Deliver message holder count) = deliver_word
+word_of (Since scope cursor max) = since_word
+word_of (Snapshot scope) = snapshot_word
+word_of (Page scope after max) = page_word
 
 -- the parts behind it: what the command takes, and the newline
 abbrev pub behind_word : ScriptCommand → List Part
@@ -127,6 +126,16 @@ behind_word (Subscribe sub query initial overwrite) =
 behind_word (Check sub max) = space ∷ part Number (decimal sub) ∷ space ∷ part Number (decimal max) ∷ newline ∷ []
 behind_word (Map query) = space ∷ (query_parts query ++ newline ∷ [])
 behind_word (Entries map) = space ∷ part Number (decimal map) ∷ newline ∷ []
+behind_word (Ring ring) = space ∷ part Number (decimal ring) ∷ newline ∷ []
+behind_word (Side side) = space ∷ part Word (side_word side) ∷ newline ∷ []
+behind_word (Clear map) = space ∷ part Number (decimal map) ∷ newline ∷ []
+behind_word (Restart side incarnation) = space ∷ part Word (side_word side) ∷ space ∷ part Number (decimal incarnation) ∷ newline ∷ []
+behind_word (Deliver message holder count) =
+    space ∷ part Number (decimal message) ∷ space ∷ part Word (holder_word holder) ∷ space ∷ count_part count ∷ newline ∷ []
+behind_word (Since scope cursor max) =
+    space ∷ (scope_parts scope ++ space ∷ part Number (decimal cursor.incarnation) ∷ space ∷ part Number (decimal cursor.position) ∷ space ∷ part Number (decimal max) ∷ newline ∷ [])
+behind_word (Snapshot scope) = space ∷ (scope_parts scope ++ newline ∷ [])
+behind_word (Page scope after max) = space ∷ (scope_parts scope ++ space ∷ (range_parts after max ++ newline ∷ []))
 
 -- the parts of a command's line: its word, and what it takes
 abbrev pub command_parts : ScriptCommand → List Part
@@ -136,13 +145,6 @@ command_parts command = part Word (word_of command) ∷ behind_word command
 pub record IsVersion (version : Version) : Type 0 where
   pub epoch : version.epoch ≤ 2097151
   pub seq : version.seq < 2 ^ 32
-
--- The text has no newline, and some of the four kinds are named. Whether the text is a pattern is judged by whoever
--- takes the query up.
-pub record IsQuery (query : Query) : Type 0 where
-  pub text : IsUnbroken query.text
-  pub some : 0 < query.kinds
-  pub limit : query.kinds ≤ 15
 
 -- What a command takes is valid. But for an offer, the rules of labels and of sequence numbers aren't judged here: the
 -- store judges what is published.
@@ -159,6 +161,14 @@ IsCommand (Subscribe sub query initial overwrite) = (sub < 2 ^ 32) × IsQuery qu
 IsCommand (Check sub max) = (sub < 2 ^ 32) × (max < 2 ^ 32)
 IsCommand (Map query) = IsQuery query
 IsCommand (Entries map) = map < 2 ^ 64
+IsCommand (Ring ring) = (0 < ring) × (ring ≤ 4096)
+IsCommand (Side side) = Unit {0}
+IsCommand (Clear map) = map < 2 ^ 64
+IsCommand (Restart side incarnation) = incarnation < 2 ^ 64
+IsCommand (Deliver message holder count) = (message < 2 ^ 64) × IsHolder holder × IsCount count
+IsCommand (Since scope cursor max) = IsScope scope × (cursor.incarnation < 2 ^ 64) × (cursor.position < 2 ^ 64) × (max < 2 ^ 32)
+IsCommand (Snapshot scope) = IsScope scope
+IsCommand (Page scope after max) = IsScope scope × IsAfter after × (max < 2 ^ 32)
 
 -- the command has a text, a blob or a pattern
 abbrev pub TakesMemory : ScriptCommand → Type 0
@@ -166,6 +176,9 @@ TakesMemory (Offer i) = ¬ IsItemInPlace i
 TakesMemory (Publish caller key version value overwrite) = ¬ IsInPlace value
 TakesMemory (Subscribe sub query initial overwrite) = Unit {0}
 TakesMemory (Map query) = Unit {0}
+TakesMemory (Since scope cursor max) = ScopeTakesMemory scope
+TakesMemory (Snapshot scope) = ScopeTakesMemory scope
+TakesMemory (Page scope after max) = ScopeTakesMemory scope
 TakesMemory _ = ⊥
 
 -- what the line asks of a store takes no memory: it has no item, no value and no pattern, or the line asks nothing
@@ -182,6 +195,21 @@ is_plain (Subscribe sub query initial overwrite) = false
 is_plain (Check sub max) = true
 is_plain (Map query) = true
 is_plain (Entries map) = true
+is_plain (Ring ring) = true
+is_plain (Side side) = true
+is_plain (Clear map) = true
+is_plain (Restart side incarnation) = true
+is_plain (Deliver message holder count) = true
+is_plain (Since scope cursor max) = is_all scope
+is_plain (Snapshot scope) = is_all scope
+is_plain (Page scope after max) = is_all scope
+
+-- the line has a scope
+abbrev pub has_scope : ScriptCommand → Bool
+has_scope (Since scope cursor max) = true
+has_scope (Snapshot scope) = true
+has_scope (Page scope after max) = true
+has_scope _ = false
 
 -- what the line asks of a store: an offer is a Merge of one item
 abbrev pub store_command : ScriptCommand → Option Command
@@ -197,31 +225,53 @@ store_command (Subscribe sub query initial overwrite) = Some (commands.Subscribe
 store_command (Check sub max) = Some (commands.Check sub max)
 store_command (Map query) = None
 store_command (Entries map) = None
+store_command (Ring ring) = None
+store_command (Side side) = None
+store_command (Clear map) = None
+store_command (Restart side incarnation) = None
+store_command (Deliver message holder count) = None
+store_command (Since scope cursor max) = Some (commands.Since (store_scope scope) cursor max)
+store_command (Snapshot scope) = Some (commands.Snapshot (store_scope scope))
+store_command (Page scope after max) = Some (commands.Page (store_scope scope) after max)
 
--- ---- a line with its newline
+-- ---- a line with its newline, where some of the commands may stand
 
--- the bytes are no command's line, and the first part of one that can't be read begins at the place
-pub record IsCommandFault (bytes : List ℕ) (place : ℕ) : Type 0 where
-  pub none : (command : ScriptCommand) → IsCommand command → bytes ≢ texts (command_parts command)
-  pub first : IsFaultPlace IsCommand command_parts bytes place
+-- the bytes are the line of no such command, and the first part of one that can't be read begins at the place
+pub record IsFaultAmong (May : ScriptCommand → Type 0) (bytes : List ℕ) (place : ℕ) : Type 0 where
+  pub none : (command : ScriptCommand) → May command → bytes ≢ texts (command_parts command)
+  pub first : IsFaultPlace May command_parts bytes place
 
 -- what the reader of a line, newline included, answers: there is no room for texts, blobs and patterns alone
+abbrev pub ReadsAs : (ScriptCommand → Type 0) → List ℕ → Result ScriptCommand CommandFault → Type 0
+ReadsAs May bytes (Ok command) = May command × (bytes ≡ texts (command_parts command))
+ReadsAs May bytes (Err (BadLine place expected)) = IsFaultAmong May bytes place
+ReadsAs May bytes (Err NoRoom) = (command : ScriptCommand) × May command × (bytes ≡ texts (command_parts command)) × TakesMemory command
+
+-- the bytes are no command's line
+abbrev pub IsCommandFault : List ℕ → ℕ → Type 0
+IsCommandFault bytes place = IsFaultAmong IsCommand bytes place
+
+-- each command may stand there
 abbrev pub Reads : List ℕ → Result ScriptCommand CommandFault → Type 0
-Reads bytes (Ok command) = IsCommand command × (bytes ≡ texts (command_parts command))
-Reads bytes (Err (BadLine place expected)) = IsCommandFault bytes place
-Reads bytes (Err NoRoom) = (command : ScriptCommand) × IsCommand command × (bytes ≡ texts (command_parts command)) × TakesMemory command
+Reads bytes result = ReadsAs IsCommand bytes result
 
 -- ---- lines
 
--- the line, without its newline, is the command's
-pub record IsLineOf (command : ScriptCommand) (line : List ℕ) : Type 0 where
-  pub written : IsCommand command
+-- the line, without its newline, is the command's, which may stand there
+pub record IsLineAs (May : ScriptCommand → Type 0) (command : ScriptCommand) (line : List ℕ) : Type 0 where
+  pub written : May command
   pub text : ended line ≡ texts (command_parts command)
   pub short : length line ≤ 4096
 
 -- a line above 4096 bytes is bad there, whatever it holds
+abbrev pub IsBadLineAs : (ScriptCommand → Type 0) → List ℕ → ℕ → Type 0
+IsBadLineAs May line place = ((4096 < length line) × (place ≡ 4096)) ⊎ ((length line ≤ 4096) × IsFaultAmong May (ended line) place)
+
+abbrev pub IsLineOf : ScriptCommand → List ℕ → Type 0
+IsLineOf command line = IsLineAs IsCommand command line
+
 abbrev pub IsBadLine : List ℕ → ℕ → Type 0
-IsBadLine line place = ((4096 < length line) × (place ≡ 4096)) ⊎ ((length line ≤ 4096) × IsCommandFault (ended line) place)
+IsBadLine line place = IsBadLineAs IsCommand line place
 
 -- why a line isn't read: it is bad, or it is a command's, and there is no room for its text, blob or pattern
 abbrev pub IsLineFault : CommandFault → List ℕ → Type 0

@@ -1,4 +1,13 @@
 pub mod Lines
+pub mod Key
 pub mod Command
 pub mod Pieces
+pub mod Query
+pub mod Scope
+pub mod Page
+pub mod World
+pub mod WorldPieces
 pub mod Reply
+pub mod Later
+pub mod Event
+pub mod Outcome

@@ -16,7 +16,10 @@ use Rattle.ds_line.specs.declared.part_fault.PartFault.{PartFault}
 use Rattle.ds_line.specs.declared.part_fault.PartFault.TheVariants.{BadPart, NoRoom}
 use Rattle.ds_words.specs.Lines.{IsUnbroken}
 use Rattle.ds_words.specs.declared.command.ScriptCommand.{ScriptCommand}
-use Rattle.ds_words.specs.Command.{IsCommand, IsVersion, TakesMemory, word_of, behind_word, initial_word, mode_word, key_parts, version_parts, offer_word, show_word, all_word, publish_word, delete_word, sweep_word, retrieve_word, nameof_word, subscribe_word, check_word, map_word, entries_word}
+use Rattle.ds_words.specs.Command.{IsCommand, IsVersion, TakesMemory, word_of, behind_word, initial_word, mode_word, offer_word, show_word, all_word, publish_word, delete_word, sweep_word, retrieve_word, nameof_word, subscribe_word, check_word, map_word, entries_word}
+use Rattle.ds_words.specs.Key.{key_parts, version_parts}
+use Rattle.ds_words.specs.Page.{page_word}
+use Rattle.ds_words.specs.World.{ring_word, side_line_word, clear_word, restart_word, deliver_word, since_word, snapshot_word}
 use Rattle.ds_words.specs.declared.word.Word.{Word}
 use Rattle.ds_words.specs.declared.word.Word.TheVariants as words
 
@@ -116,3 +119,23 @@ text_of words.Subscribe = subscribe_word
 text_of words.Check = check_word
 text_of words.Map = map_word
 text_of words.Entries = entries_word
+text_of words.Ring = ring_word
+text_of words.Side = side_line_word
+text_of words.Clear = clear_word
+text_of words.Restart = restart_word
+text_of words.Deliver = deliver_word
+text_of words.Since = since_word
+text_of words.Snapshot = snapshot_word
+text_of words.Page = page_word
+
+-- the word is of a command to a world
+abbrev pub IsOfWorld : Word → Type 0
+IsOfWorld words.Ring = Unit {0}
+IsOfWorld words.Side = Unit {0}
+IsOfWorld words.Clear = Unit {0}
+IsOfWorld words.Restart = Unit {0}
+IsOfWorld words.Deliver = Unit {0}
+IsOfWorld words.Since = Unit {0}
+IsOfWorld words.Snapshot = Unit {0}
+IsOfWorld words.Page = Unit {0}
+IsOfWorld _ = ⊥

@@ -1,19 +1,21 @@
 //! What a line asks of a store.
 
-ghost use Rattle.std.specs.Prelude.{◌≡◌, ◌∷◌, [], true, false, IfOk, OnErr};
+ghost use Rattle.std.specs.Prelude.{◌≡◌, ◌||◌, ◌∷◌, [], true, false, IfOk, OnErr};
 ghost use Rattle.ds_machine.specs.declared.command.Command.TheVariants as commands;
-ghost use Rattle.ds_words.specs.Command.{is_plain, store_command};
+ghost use Rattle.ds_words.specs.Command.{has_scope, is_plain, store_command};
+ghost use Rattle.ds_words.specs.Scope.{is_all, store_scope};
 
 use crate::command::ScriptCommand;
 use ds_entry::{Item, ItemList};
-use ds_machine::Command;
+use ds_machine::{Command, Scope};
 use ds_names::NoRoom;
+use ds_pattern::Query;
 use std::alloc::Global;
 
 impl ScriptCommand {
     /// The store's command of the line, with copies of what the line has. `None` for a line that asks nothing of a
-    /// store: `show`, `all`, `map` and `entries`. An `offer` is a Merge of one item. NoRoom: out of memory for the
-    /// copies of an item, a value or a pattern, and for no other line.
+    /// store: `show`, `all`, `map`, `entries`, `ring`, `side`, `clear`, `restart` and `deliver`. An `offer` is a Merge of one
+    /// item. NoRoom: out of memory for the copies of an item, a value or a pattern, and for no other line.
     pub fn store_command(&self, alloc: Global) -> Result<Option<Command>, NoRoom>
         ensures command { IfOk result (λ command. command ≡ store_command self.now) }
         ensures room { OnErr result (is_plain self.now ≡ false) }
@@ -44,6 +46,9 @@ impl ScriptCommand {
                 initial: *initial,
                 overwrite: *overwrite,
             })),
+            ScriptCommand::Since { .. }
+            | ScriptCommand::Snapshot { .. }
+            | ScriptCommand::Page { .. } => self.scoped_command(alloc),
             _ => Ok(self.plain_command()),
         }
     }
@@ -80,13 +85,61 @@ impl ScriptCommand {
                 initial,
                 overwrite,
             })),
-            plain => Ok(plain.plain_command()),
+            other => Ok(other.into_scoped_command()),
+        }
+    }
+
+    // The store's command of a line that has a scope, with a copy of its pattern.
+    fn scoped_command(&self, alloc: Global) -> Result<Option<Command>, NoRoom>
+        requires { has_scope self.now ≡ true }
+        ensures command { IfOk result (λ command. command ≡ store_command self.now) }
+        ensures room { OnErr result (is_plain self.now ≡ false) }
+    {
+        match self {
+            ScriptCommand::Since { scope, cursor, max } => Ok(Some(Command::Since {
+                scope: copied_scope(alloc, scope)?,
+                cursor: *cursor,
+                max: *max,
+            })),
+            ScriptCommand::Snapshot { scope } => Ok(Some(Command::Snapshot {
+                scope: copied_scope(alloc, scope)?,
+            })),
+            ScriptCommand::Page { scope, after, max } => Ok(Some(Command::Page {
+                scope: copied_scope(alloc, scope)?,
+                after: *after,
+                max: *max,
+            })),
+            _ => unreachable!(),
+        }
+    }
+
+    // The store's command of a line that has a scope, or takes no memory.
+    fn into_scoped_command(self) -> Option<Command>
+        requires { (has_scope self || is_plain self) ≡ true }
+        ensures { result ≡ store_command self }
+    {
+        match self {
+            ScriptCommand::Since { scope, cursor, max } => Some(Command::Since {
+                scope: into_scope(scope),
+                cursor,
+                max,
+            }),
+            ScriptCommand::Snapshot { scope } => Some(Command::Snapshot {
+                scope: into_scope(scope),
+            }),
+            ScriptCommand::Page { scope, after, max } => Some(Command::Page {
+                scope: into_scope(scope),
+                after,
+                max,
+            }),
+            plain => plain.plain_command(),
         }
     }
 
     // The store's command of a line that asks for what takes no memory, and `None` for one that asks nothing.
     fn plain_command(&self) -> Option<Command>
-        requires { is_plain self.now ≡ true }
+        requires plain { is_plain self.now ≡ true }
+        requires unscoped { has_scope self.now ≡ false }
         ensures { result ≡ store_command self.now }
     {
         match self {
@@ -118,6 +171,27 @@ impl ScriptCommand {
             }),
             _ => None,
         }
+    }
+}
+
+// The store's scope, with a copy of the pattern.
+fn copied_scope(alloc: Global, scope: &Option<Query>) -> Result<Scope, NoRoom>
+    ensures scope { IfOk result (λ copy. copy ≡ store_scope scope.now) }
+    ensures room { OnErr result (is_all scope.now ≡ false) }
+{
+    match scope {
+        None => Ok(Scope::All),
+        Some(query) => Ok(Scope::Under(query.copy(alloc)?)),
+    }
+}
+
+// The store's scope.
+fn into_scope(scope: Option<Query>) -> Scope
+    ensures { result ≡ store_scope scope }
+{
+    match scope {
+        None => Scope::All,
+        Some(query) => Scope::Under(query),
     }
 }
 

@@ -1,8 +1,10 @@
 //! The lines of a script.
 
 use ds_entry::{Item, Value};
+use ds_feed::Cursor;
 use ds_names::{Endpoint, Generation, Key, Name, Version};
 use ds_pattern::Query;
+use ds_replica::{Holder, Side};
 
 /// One line of a script, with its parts.
 #[derive(Debug, PartialEq, Eq, Drop)]
@@ -61,5 +63,48 @@ pub enum ScriptCommand {
     /// `entries J`: prints the puts of a map.
     Entries {
         map: u64,
+    },
+    /// `ring N`: the journals of both stores keep the last N items that took effect, 1 to 4096. It stands on the first line
+    /// alone, of which `read_later_line` knows.
+    Ring {
+        ring: u32,
+    },
+    /// `side a` or `side b`: what follows is asked of the store of this side.
+    Side {
+        side: Side,
+    },
+    /// `clear J`: empties a map.
+    Clear {
+        map: u64,
+    },
+    /// `restart a INCARNATION`, or `b` for `a`: the store of the side is opened again, empty, as this incarnation.
+    Restart {
+        side: Side,
+        incarnation: u64,
+    },
+    /// `deliver K HOLDER COUNT`: gives a store, `a` or `b`, or a map, `mJ`, the first items of a message; `*` for all, which is
+    /// `None`.
+    Deliver {
+        message: u64,
+        holder: Holder,
+        count: Option<u32>,
+    },
+    /// `since SCOPE INCARNATION POSITION MAX`: asks for what took effect under the scope from a cursor on. A scope is a
+    /// pattern and kinds, or `*` for all keys, which is `None`.
+    Since {
+        scope: Option<Query>,
+        cursor: Cursor,
+        max: u32,
+    },
+    /// `snapshot SCOPE`: asks for all that is held under the scope.
+    Snapshot {
+        scope: Option<Query>,
+    },
+    /// `page SCOPE AFTER MAX`: asks for the first changes that are held under the scope behind a key, `NAME KIND`, or behind
+    /// none, which is `-`.
+    Page {
+        scope: Option<Query>,
+        after: Option<Key>,
+        max: u32,
     },
 }

@@ -157,7 +157,7 @@ pub(crate) fn map_at(alloc: Global, rest: &mut Rest) -> Result<ScriptCommand, Pa
 pub(crate) fn entries_at(rest: &mut Rest) -> Result<ScriptCommand, PartFault>
     ensures { Takes entries_word rest.old.bytes.now result }
 {
-    let map = rest.place()?;
+    let map = rest.place(Expected::Map)?;
     rest.end()?;
     Ok(ScriptCommand::Entries { map })
 }

@@ -104,8 +104,8 @@ impl Rest<'_> {
         Ok(name)
     }
 
-    // Reads the word of a kind.
-    fn kind(&mut self) -> Result<Kind, PartFault>
+    /// Reads the word of a kind.
+    pub fn kind(&mut self) -> Result<Kind, PartFault>
         ensures found { IfOk result (λ kind. Found a_kind kind self.old.bytes.now self.new.bytes.now) }
         ensures stop { IfErr result (λ stop. StopsIn a_kind stop self.old.bytes.now) }
         ensures room { IfErr result (λ stop. stop ≢ NoRoom) }
@@ -190,13 +190,13 @@ impl Rest<'_> {
     }
 
     /// Reads a number below 2^64.
-    pub fn place(&mut self) -> Result<u64, PartFault>
+    pub fn place(&mut self, expected: Expected) -> Result<u64, PartFault>
         ensures found { IfOk result (λ n. Found a_place n self.old.bytes.now self.new.bytes.now) }
         ensures stop { IfErr result (λ stop. StopsIn a_place stop self.old.bytes.now) }
         ensures room { IfErr result (λ stop. stop ≢ NoRoom) }
     {
         self.byte(b' ', Expected::Space)?;
-        self.expected = Expected::Map;
+        self.expected = expected;
         let Some((number, rest)) = read_decimal(self.bytes, 18446744073709551615) else {
             return Err(stop_at(self.bytes));
         };

@@ -66,7 +66,7 @@ fn written_byte_at(bytes: &[u8]) -> Option<(u8, &[u8])>
 
 // Reads the text in quotes at the front, and gives what is written between the quotes with what comes behind them.
 // `None` where no text without a newline is written there.
-fn quoted_at(bytes: &[u8]) -> Option<(&[u8], &[u8])>
+pub(crate) fn quoted_at(bytes: &[u8]) -> Option<(&[u8], &[u8])>
     ensures found { IfSome result (λ r. (text : List ℕ) × IsUnbroken text × (r.0.now ≡ escaped text) × (bytes.now ≡ quoted text ++ r.1.now)) }
     ensures none { IfNone result ((text rest : List ℕ) → IsUnbroken text → bytes.now ≢ quoted text ++ rest) }
 {

@@ -13,7 +13,9 @@ use crate::lines::{
     show_at, subscribe_at, sweep_at,
 };
 use crate::pieces::Rest;
+use crate::scope_lines::{page_at, since_at, snapshot_at};
 use crate::word::{Word, word_of};
+use crate::world_lines::{clear_at, deliver_at, restart_at, ring_at, side_at};
 use ds_line::{Expected, PartFault, word_at};
 use std::alloc::Global;
 
@@ -93,5 +95,13 @@ fn behind_word(alloc: Global, word: Word, rest: &mut Rest) -> Result<ScriptComma
         Word::Check => check_at(rest),
         Word::Map => map_at(alloc, rest),
         Word::Entries => entries_at(rest),
+        Word::Ring => ring_at(rest),
+        Word::Side => side_at(rest),
+        Word::Clear => clear_at(rest),
+        Word::Restart => restart_at(rest),
+        Word::Deliver => deliver_at(rest),
+        Word::Since => since_at(alloc, rest),
+        Word::Snapshot => snapshot_at(alloc, rest),
+        Word::Page => page_at(alloc, rest),
     }
 }

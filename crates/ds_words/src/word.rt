@@ -1,7 +1,7 @@
 //! The words that commands begin with.
 
 ghost use Rattle.std.specs.Prelude.{◌≡◌, ◌≢◌, IfSome, IfNone};
-ghost use Rattle.ds_words.specs.Pieces.{text_of};
+ghost use Rattle.ds_words.specs.Pieces.{text_of, IsOfWorld};
 ghost use Rattle.ds_words.specs.declared.word.Word.{Word};
 
 /// The word of a command.
@@ -19,6 +19,14 @@ pub enum Word {
     Check,
     Map,
     Entries,
+    Ring,
+    Side,
+    Clear,
+    Restart,
+    Deliver,
+    Since,
+    Snapshot,
+    Page,
 }
 
 /// The command's word that a text is.
@@ -50,6 +58,32 @@ pub(crate) fn word_of(text: &[u8]) -> Option<Word>
         Some(Word::Show)
     } else if text == b"all".as_slice() {
         Some(Word::All)
+    } else {
+        world_word_of(text)
+    }
+}
+
+// The word of a world's command that a text is.
+fn world_word_of(text: &[u8]) -> Option<Word>
+    ensures found { IfSome result (λ word. text.now ≡ text_of word) }
+    ensures none { IfNone result ((word : Word) → IsOfWorld word → text.now ≢ text_of word) }
+{
+    if text == b"ring".as_slice() {
+        Some(Word::Ring)
+    } else if text == b"side".as_slice() {
+        Some(Word::Side)
+    } else if text == b"clear".as_slice() {
+        Some(Word::Clear)
+    } else if text == b"restart".as_slice() {
+        Some(Word::Restart)
+    } else if text == b"deliver".as_slice() {
+        Some(Word::Deliver)
+    } else if text == b"since".as_slice() {
+        Some(Word::Since)
+    } else if text == b"snapshot".as_slice() {
+        Some(Word::Snapshot)
+    } else if text == b"page".as_slice() {
+        Some(Word::Page)
     } else {
         None
     }

@@ -7,7 +7,7 @@ use std::fmt;
 use std::rt::Runtime;
 
 /// The words that lines begin with.
-const COMMANDS: [&str; 12] = [
+const COMMANDS: [&str; 20] = [
     "publish",
     "delete",
     "sweep",
@@ -20,6 +20,14 @@ const COMMANDS: [&str; 12] = [
     "offer",
     "show",
     "all",
+    "since",
+    "snapshot",
+    "page",
+    "side",
+    "deliver",
+    "clear",
+    "restart",
+    "ring",
 ];
 
 /// The most bytes of a name.
@@ -178,6 +186,22 @@ fn wanted(expected: Expected) -> &'static str {
         Expected::Initial => "`first` or `later` was expected",
         Expected::Map => "J was expected, the number of a map, counted from 0",
         Expected::Limit => "a line has at most 4096 bytes",
+        _ => wanted_of_a_world(expected),
+    }
+}
+
+// What was expected, by a part of the lines of a world alone.
+fn wanted_of_a_world(expected: Expected) -> &'static str {
+    match expected {
+        Expected::Ring => "N was expected, 1 to 4096",
+        Expected::Side => "`a` or `b` was expected",
+        Expected::Incarnation => "INCARNATION was expected, a number below 2^64",
+        Expected::Position => "POSITION was expected, a number below 2^64",
+        Expected::Scope => "SCOPE was expected, `*` or PATTERN KINDS",
+        Expected::After => "AFTER was expected, NAME KIND or `-`",
+        Expected::Message => "K was expected, the number of a message, counted from 0",
+        Expected::Holder => "HOLDER was expected, `a`, `b`, or `m` and the number of a map",
+        _ => "COUNT was expected, a number of items or `*`",
     }
 }
 

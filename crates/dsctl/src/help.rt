@@ -9,7 +9,8 @@ Replays a script against a data store in the manner of MINIX 3's DS, and prints 
 The script is read from standard input, one command a line, and each answer is printed before the next
 line is waited for. The store keeps, for each name and kind, the change with the greatest version, and for
 each owner the highest floor, which ends what the owner left: a late or repeated message never brings a dead
-driver's endpoint back, nor what the driver published.
+driver's endpoint back, nor what the driver published. There are two such stores, side a and side b, and
+maps of subscribers; what a store prints of its items is a message, which any of them can be given.
 
 A line that can't be read ends the script, and standard error says what was expected there;
 `dsctl replay --keep-going` goes on behind it. Somebody who types the script is greeted and prompted.
@@ -30,8 +31,25 @@ Lines of a script:
                      with `over` for `new`. The answer is `subscribed STAMP`
   check SUB MAX      print the first MAX floors and changes that weren't shown to the subscription,
                      then `checked N BEFORE AFTER`, its stamp before and after
-  map PATTERN KINDS  make a map of what is under a query: `map J`; nothing is delivered to it yet
+  since SCOPE INCARNATION POSITION MAX
+                     print the first MAX items that took effect from a cursor on, then
+                     `since N INCARNATION POSITION`, with the cursor to go on from
+  snapshot SCOPE     print the floors and all that is held, then `snapshot N INCARNATION POSITION`
+  page SCOPE AFTER MAX
+                     print the first MAX changes that are held behind the key NAME KIND, or with `-`
+                     for it the floors and the first MAX, then `page N more INCARNATION POSITION`, or
+                     `last` for `more`
+  deliver K HOLDER COUNT
+                     give the first COUNT items of message K, or with `*` all, to `a`, `b` or `mJ`:
+                     `merged DONE TAKEN STALE`, or `stopped DONE` and why
+  side a             ask store a from now on, or with `b` the other one
+  restart a INCARNATION
+                     begin store a again, empty, or with `b` the other one: `restarted`
+  ring N             on the first line alone: how many changes both stores remember for `since`, 256
+                     where it isn't said
+  map PATTERN KINDS  make a map of what is under a query: `map J`
   entries J          print the entries of a map, then `shown N`
+  clear J            take away what a map holds: `cleared`
   offer CHANGE       merge one change, whoever made it
   offer FLOOR        raise a floor, whoever raised it elsewhere
   show               print the entries that stand, in order of their keys, then `shown N`
@@ -47,6 +65,18 @@ SUB is 0 to 127, eight for each of 16 servers; MAX is 1 to 256. PATTERN is a reg
 matches a whole name, with \\\" and \\\\ for a quote and a backslash; KINDS is the sum of 1 for label, 2 for
 u32, 4 for str and 8 for mem; J counts maps from 0, 64 at most. Behind an answer stands `owed MASK` where
 something came under the queries of some subscriptions: in hex, with the bit of each SUB.
+
+SCOPE is `*`, or PATTERN KINDS. Each `check`, `since`, `snapshot` and `page` that isn't refused makes the next
+message, K, counted from 0, of what it printed; it can be delivered late, twice and in any order. A cursor is an
+INCARNATION, at first 1 of side a and 2 of side b, and a POSITION, the number of what took effect before it.
+
+Two replicas, in six lines:
+  publish 0/2 new eth0 label 3.0 = 3/17   at side a, where a script begins
+  snapshot *                              what a holds is message 0
+  deliver 0 b *                           b is given all of it
+  side b                                  from now on b is asked
+  snapshot *                              what b holds is message 1
+  deliver 1 a *                           a is given it, and now both hold the same
 
 A change is a line `NAME KIND OWNER EPOCH.SEQ = VALUE`, which puts a value, or `NAME KIND OWNER EPOCH.SEQ -`,
 which says that the entry is gone. Of two changes of one name and kind the one with the greater version
@@ -71,8 +101,16 @@ Lines of a script (`dsctl --help` explains them):
   nameof ENDPOINT                                 ask whose endpoint it is
   subscribe SUB PATTERN KINDS first new           follow; or `later`, or `over`
   check SUB MAX                                   print what changed
+  since SCOPE INCARNATION POSITION MAX            print what came after a cursor
+  snapshot SCOPE                                  print all that is held
+  page SCOPE AFTER MAX                            print a page of it
+  deliver K HOLDER COUNT                          give a message to a, b or mJ
+  side a                                          ask store a, or `b`
+  restart a INCARNATION                           begin store a again, or `b`
+  ring N                                          line 1: how far since reaches
   map PATTERN KINDS                               make a map
   entries J                                       print the entries of a map
+  clear J                                         empty a map
   offer NAME KIND OWNER EPOCH.SEQ = VALUE         merge a put
   offer NAME KIND OWNER EPOCH.SEQ -               merge a tombstone
   offer ! OWNER GENERATION                        merge a floor
@@ -80,7 +118,8 @@ Lines of a script (`dsctl --help` explains them):
   all                                             print floors, tombstones too
 
 Limits: NAME 64 bytes, str 256, mem 1024, PATTERN 128, a line 4096; 4096 keys,
-64 floors, 128 subscriptions (SUB 0 to 127, eight a server), 64 maps, MAX 256.";
+64 floors, 128 subscriptions (SUB 0 to 127, eight a server), 64 maps, MAX 256,
+65536 messages, a ring of 4096.";
 
 pub(crate) const AFTER_HELP: &str = "\
 Example session (lines behind `>` are typed, the others are printed):
@@ -96,26 +135,34 @@ Example session (lines behind `>` are typed, the others are printed):
   shown 2
 
 Words behind `refused`, in the order in which they are judged:
-  badsub      SUB is above 127
-  mapsfull    64 maps are there already
-  nomap       there is no map J: `map` makes them, and counts from 0
-  toomany     MAX is 0, or above 256: ask for 256, and again
-  toolong     PATTERN is above 128 bytes
-  badpattern  PATTERN is no regular expression over printable ASCII
-  badlabel    a label is published as GENERATION.0 = GENERATION/SLOT, deleted as
-              GENERATION.1, and never named `rs`
-  badversion  EPOCH isn't the caller's generation, or SEQ is 4294967295
-  nocaller    no live label has the endpoint CALLER: the caller is dead, or RS
-              hasn't published it yet
-  notallowed  labels and sweeps are RS's: CALLER is 0/2
-  notowner    the entry is another's: choose another name
-  clash       this very version has another value: count on
-  stale       a greater version is held, or a floor makes the change void: it comes too late
-  exists      say `over` to replace it
-  notfound    there is no such live entry, label or subscription
-  full        4096 keys are held, tombstones too, or 64 owners have floors
-  noroom      memory was wanting, or PATTERN compiles to too much: `[a-z0-9]`
-              takes far less than `\\w`
+  messagesfull    65536 messages are there: no check, since, snapshot or page any more
+  badsub          SUB is above 127
+  nomessage       there is no message K: answered checks, sinces, snapshots and pages
+                  are counted from 0
+  mapsfull        64 maps are there already
+  nomap           there is no map J: `map` makes them, and counts from 0
+  oldincarnation  INCARNATION isn't above all that there were, 1 and 2 at the start
+  toomany         MAX is 0, or above 256: ask for 256, and again; or COUNT is above the
+                  number of items
+  toolong         PATTERN is above 128 bytes
+  badpattern      PATTERN is no regular expression over printable ASCII
+  badlabel        a label is published as GENERATION.0 = GENERATION/SLOT, deleted as
+                  GENERATION.1, and never named `rs`
+  badversion      EPOCH isn't the caller's generation, or SEQ is 4294967295
+  nocaller        no live label has the endpoint CALLER: the caller is dead, or RS
+                  hasn't published it yet
+  notallowed      labels and sweeps are RS's: CALLER is 0/2
+  notowner        the entry is another's: choose another name
+  clash           this very version has another value: count on
+  stale           a greater version is held, or a floor makes the change void: it comes too late
+  exists          say `over` to replace it
+  notfound        there is no such live entry, label or subscription
+  oldcursor       INCARNATION is another store's, or an earlier one
+  ahead           POSITION is above the store's
+  behind          the ring doesn't reach back to POSITION: ask for a snapshot, or pages
+  full            4096 keys are held, tombstones too, or 64 owners have floors
+  noroom          memory was wanting, or PATTERN compiles to too much: `[a-z0-9]`
+                  takes far less than `\\w`
 
 Exit status:
   0  the whole script was answered, or the settings have no fault

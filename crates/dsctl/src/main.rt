@@ -12,8 +12,7 @@ mod terminal;
 mod words;
 
 use bad_line::explain;
-use ds_script::{BadLine, ReplayFault, Replayed, Report, replay_leaving, replay_on};
-use ds_words::split_line;
+use ds_script::{BadLine, BadLines, ReplayFault, Replayed, Report, replay_reporting};
 use std::io::{self, IsTerminal};
 use std::process::ExitCode;
 use std::rt::Runtime;
@@ -30,17 +29,6 @@ enum Failure {
     ReadFault,
     #[error("writefault")]
     WriteFault,
-}
-
-impl From<ReplayFault> for Failure {
-    // Of a line that can't be read nobody was told.
-    fn from(fault: ReplayFault) -> Failure {
-        match fault {
-            ReplayFault::ReadFault | ReplayFault::BadLine { .. } => Failure::ReadFault,
-            ReplayFault::WriteFault => Failure::WriteFault,
-            ReplayFault::NoRoom => Failure::NoRoom,
-        }
-    }
 }
 
 fn main(rt: HostRuntime) -> ExitCode {
@@ -60,8 +48,8 @@ fn main(rt: HostRuntime) -> ExitCode {
 // Judges the words before any input is read, and then does what they ask for.
 fn run(rt: &(impl Runtime + AllocGlobal), terminals: Terminals) -> Result<ExitCode, Failure> {
     match words::read(rt) {
-        Words::Replay => replay_input(rt, terminals),
-        Words::ReplayOn => replay_input_on(rt, terminals),
+        Words::Replay => replay_input(rt, terminals, BadLines::End),
+        Words::ReplayOn => replay_input(rt, terminals, BadLines::GoOn),
         Words::Settings => settings::show_input(rt),
         Words::Shown => Ok(ExitCode::SUCCESS),
         Words::Usage => Ok(ExitCode::from(2)),
@@ -70,79 +58,55 @@ fn run(rt: &(impl Runtime + AllocGlobal), terminals: Terminals) -> Result<ExitCo
     }
 }
 
-// Answers the script on standard input, up to a line that can't be read.
-fn replay_input(
-    rt: &(impl Runtime + AllocGlobal),
-    terminals: Terminals,
-) -> Result<ExitCode, Failure> {
-    let mut reader = Typed::new(rt, terminals, false);
-    let mut unread = Vec::new(rt.alloc());
-    match replay_leaving(rt.alloc(), &mut reader, &mut io::writer(rt), &mut unread) {
-        Ok(_) => Ok(ExitCode::SUCCESS),
-        Err(
-            ReplayFault::BadLine {
-                line,
-                place,
-                expected,
-            },
-        ) => {
-            let bad = BadLine {
-                number: line,
-                place,
-                expected,
-                text: first_line(&unread),
-            };
-            tell(rt, terminals, &bad)
-        }
-        Err(fault) => Err(Failure::from(fault)),
-    }
-}
-
-// The line at the front, without its newline.
-fn first_line(text: &[u8]) -> &[u8] {
-    match split_line(text) {
-        Some((line, _)) => &line[..line.len() - 1],
-        None => text,
-    }
-}
-
-// Prints a line that can't be read, and then says what was expected.
-fn tell(rt: &impl Runtime, terminals: Terminals, bad: &BadLine<'_>) -> Result<ExitCode, Failure> {
-    let number = bad.number;
-    let place = bad.place;
-    if println!(rt; "badline {number} {place}").is_err() {
-        return Err(Failure::WriteFault);
-    }
-    explain(rt, terminals.error, bad);
-    Ok(ExitCode::from(1))
-}
-
-// Says of each line that can't be read what was expected.
+// Says of each line that can't be read what was expected, and prints the line's number and place where it ends the script.
 #[derive(Drop)]
 struct Explainer<'a, R> {
     rt: &'a R,
     at_terminal: bool,
+    bad_lines: BadLines,
+    unwritten: bool,
 }
 
 impl<R: Runtime> Report for Explainer<'_, R> {
     fn bad_line(&mut self, line: &BadLine<'_>) {
+        if self.bad_lines == BadLines::End {
+            let number = line.number;
+            let place = line.place;
+            self.unwritten = println!(self.rt; "badline {number} {place}").is_err();
+            if self.unwritten {
+                return;
+            }
+        }
         explain(self.rt, self.at_terminal, line);
     }
 }
 
-// Answers the script on standard input, behind lines that can't be read too.
-fn replay_input_on(
+// Answers the script on standard input.
+fn replay_input(
     rt: &(impl Runtime + AllocGlobal),
     terminals: Terminals,
+    bad_lines: BadLines,
 ) -> Result<ExitCode, Failure> {
-    let mut reader = Typed::new(rt, terminals, true);
+    let mut reader = Typed::new(rt, terminals, bad_lines);
     let mut explainer = Explainer {
         rt,
         at_terminal: terminals.error,
+        bad_lines,
+        unwritten: false,
     };
-    match replay_on(rt.alloc(), &mut reader, &mut io::writer(rt), &mut explainer) {
+    let replayed = replay_reporting(
+        rt.alloc(),
+        &mut reader,
+        &mut io::writer(rt),
+        &mut explainer,
+        bad_lines,
+    );
+    match replayed {
         Ok(Replayed { bad: 0, .. }) => Ok(ExitCode::SUCCESS),
-        Ok(_) => Ok(ExitCode::from(1)),
-        Err(fault) => Err(Failure::from(fault)),
+        Err(ReplayFault::BadLine { .. }) if explainer.unwritten => Err(Failure::WriteFault),
+        Ok(_) | Err(ReplayFault::BadLine { .. }) => Ok(ExitCode::from(1)),
+        Err(ReplayFault::ReadFault) => Err(Failure::ReadFault),
+        Err(ReplayFault::WriteFault) => Err(Failure::WriteFault),
+        Err(ReplayFault::NoRoom) => Err(Failure::NoRoom),
     }
 }

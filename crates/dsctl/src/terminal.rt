@@ -1,5 +1,6 @@
 //! What somebody at a terminal sees beside the answers: a greeting and a prompt, on standard error.
 
+use ds_script::BadLines;
 use std::io::{self, Read};
 use std::rt::Runtime;
 
@@ -32,10 +33,13 @@ pub(crate) struct Typed<'a, R: Runtime> {
 
 impl<'a, R: Runtime> Typed<'a, R> {
     /// Standard input. Where somebody types it, they are greeted.
-    pub(crate) fn new(rt: &'a R, terminals: Terminals, keep_going: bool) -> Typed<'a, R> {
+    pub(crate) fn new(rt: &'a R, terminals: Terminals, bad_lines: BadLines) -> Typed<'a, R> {
         let prompts = terminals.are_both();
         if prompts {
-            let greeting = if keep_going { GREETING_ON } else { GREETING };
+            let greeting = match bad_lines {
+                BadLines::End => GREETING,
+                BadLines::GoOn => GREETING_ON,
+            };
             let _ = eprintln!(rt; "{greeting}");
         }
         Typed {

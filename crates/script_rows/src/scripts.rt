@@ -10,7 +10,7 @@ struct Row {
     end: Result<u64, ReplayFault>,
 }
 
-const ROWS: [Row; 5] = [
+const ROWS: [Row; 8] = [
     Row {
         script: b"offer eth0 label rs 3.0 = 3/17\noffer eth0 label rs 2.0 = 2/9\nshow",
         answers: b"taken\nstale\neth0 label rs 3.0 = 3/17\nshown 1\n",
@@ -38,6 +38,25 @@ const ROWS: [Row; 5] = [
             line: 2,
             place: 20,
             expected: Expected::Epoch,
+        }),
+    },
+    Row {
+        script: b"ring 2\noffer a u32 eth0 1.0 = 1\noffer b u32 eth0 1.1 = 2\noffer c u32 eth0 1.2 = 3\nsince * 1 0 8\nsince * 1 1 8\nsince * 1 3 8\nsince * 1 4 8\n",
+        answers: b"ring 2\ntaken\ntaken\ntaken\nrefused behind\nb u32 eth0 1.1 = 2\nc u32 eth0 1.2 = 3\nsince 2 1 3\nsince 0 1 3\nrefused ahead\n",
+        end: Ok(8),
+    },
+    Row {
+        script: b"offer eth0 label rs 3.0 = 3/17\nsnapshot *\nside b\ndeliver 0 b *\nshow\nmap \".*\" 1\ndeliver 0 m0 *\nentries 0\nclear 0\nentries 0\nrestart b 3\nshow\ndeliver 1 b *\n",
+        answers: b"taken\neth0 label rs 3.0 = 3/17\nsnapshot 1 1 1\nside b\nmerged 1 1 0\neth0 label rs 3.0 = 3/17\nshown 1\nmap 0\nmerged 1 1 0\neth0 label rs 3.0 = 3/17\nshown 1\ncleared\nshown 0\nrestarted\nshown 0\nrefused nomessage\n",
+        end: Ok(13),
+    },
+    Row {
+        script: b"show\nring 2\n",
+        answers: b"shown 0\n",
+        end: Err(ReplayFault::BadLine {
+            line: 2,
+            place: 0,
+            expected: Expected::Command,
         }),
     },
 ];

@@ -1,30 +1,36 @@
-use Rattle.std.proofs.Common.{◌≡◌, Some, sym, inl, inr, ◌∙◌}
+use Rattle.std.proofs.Common.{inl, inr}
 use Rattle.std.specs.Option.{option_copied}
-use Rattle.ds_words.specs.Command.{store_command}
-use Rattle.ds_script.specs.Answer.{entries_text}
+use Rattle.ds_replica.specs.declared.event.Side.{Side}
+use Rattle.ds_words.specs.Outcome.{side_line}
 use Rattle.ds_words.specs.Reply.{refused_noroom}
 use Rattle.ds_words.proofs.ResultLemmas.{on_ok}
-use Rattle.ds_script.proofs.SessionLemmas.{asked_answers, map_answers, noroom_answers, entries_answers}
+use Rattle.ds_script.specs.Answer.{entries_text}
+use Rattle.ds_script.proofs.EventLemmas.{is_event, event_answers, entries_answers, entries_refused, ring_answers, side_answers}
 use Rattle.ds_script.proofs.answer.answer_command.Goals as goal
-
-pub returns-in-Ok-Some : goal.returns-in-Ok-Some
-returns-in-Ok-Some c =
-    let is : store_command c.args.command ≡ Some c.in-Ok-Some.asked = sym c.in-Ok-Some.ensures.command ∙ c.in-Ok-Some.field-0-is in
-    record {
-      answered = on_ok c.answer_asked.result (λ a. (a.0, a.1, asked_answers c.args.session.now c.answer_asked.new.session c.args.command c.wording-wording.result c.in-Ok-Some.asked a.0 c.wording-wording.ensures is a.2)) c.answer_asked.ensures.answered;
-      unanswered = c.answer_asked.ensures.unanswered;
-    }
-
-pub returns-in-Map-clause-answered : goal.returns-in-Map-clause-answered
-returns-in-Map-clause-answered c =
-    on_ok c.answer_map.result (λ a. (a.0, a.1, map_answers c.args.session.now c.answer_map.new.session c.args.command c.in-Map.query a.0 c.in-Map.is a.2)) c.answer_map.ensures.answered
 
 pub returns-in-Entries-clause-answered : goal.returns-in-Entries-clause-answered
 returns-in-Entries-clause-answered c =
-    let kept = option_copied c.map.result in
+    let m = option_copied c.map.result in
     on_ok c.append_entries.result
     (λ a. elim a [
-      | inl same ↦ (refused_noroom, same, noroom_answers c.args.session.now c.args.command)
-      | inr same ↦ (entries_text kept, same, entries_answers c.args.session.now c.args.command c.in-Entries.map kept c.in-Entries.is c.map.ensures)
+      | inl same ↦ (refused_noroom, same, entries_refused c.args.command c.in-Entries.map c.args.session.now c.in-Entries.is)
+      | inr same ↦ (entries_text m, same, entries_answers c.args.command c.in-Entries.map c.args.session.now m c.in-Entries.is c.map.ensures)
     ])
     c.append_entries.ensures.answered
+
+pub returns-in-Ring-clause-answered : goal.returns-in-Ring-clause-answered
+returns-in-Ring-clause-answered c =
+    on_ok c.answer_ring.result (λ a. (a.0, a.1, ring_answers c.args.command c.in-Ring.ring c.args.session.now a.0 c.answer_ring.new.session c.in-Ring.is a.2)) c.answer_ring.ensures.answered
+
+pub returns-in-Side-clause-answered : goal.returns-in-Side-clause-answered
+returns-in-Side-clause-answered c =
+    on_ok c.answer_side.result (λ a. (side_line c.in-Side.side, a.0, side_answers c.args.command c.in-Side.side c.args.session.now c.answer_side.new.session c.in-Side.is a.1)) c.answer_side.ensures.answered
+
+pub answer_event-requires : goal.answer_event-requires
+answer_event-requires c =
+    let not = c.in_default in
+    is_event c.args.session.now.side c.args.command not.not-Show not.not-All not.not-Entries not.not-Ring not.not-Side
+
+pub returns-in_default-clause-answered : goal.returns-in_default-clause-answered
+returns-in_default-clause-answered c =
+    on_ok c.answer_event.result (λ a. (a.0, a.1, event_answers c.args.command c.args.session.now a.0 c.answer_event.new.session a.2)) c.answer_event.ensures.answered

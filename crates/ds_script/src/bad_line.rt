@@ -1,0 +1,63 @@
+//! Lines that can't be read.
+
+ghost use Rattle.std.specs.Prelude.{◌≡◌, ◌++◌, [], IfErr, OnOk, OnErr};
+ghost use Rattle.std.specs.Io.KnownBytes.{Appends};
+ghost use Rattle.ds_script.specs.Replay.{badline};
+ghost use Rattle.ds_script.specs.Progress.{TellsBad, EndsAtBad};
+
+use crate::fault::ReplayFault;
+use crate::report::{BadLine, Report};
+use crate::sending::send;
+use crate::transfer::WriteFailed;
+use ds_line::append_all;
+use ds_names::NoRoom;
+use itoa::Buffer;
+use std::io::Write;
+
+/// Writes the answers that wait, reports the line, and gives the fault that it is; or WriteFault, and nobody is told.
+pub(crate) fn end_at<W: Write, B: Report>(
+    writer: &mut W,
+    report: &mut B,
+    bad: &BadLine<'_>,
+    output: &mut Vec<u8>,
+) -> ReplayFault
+    ensures { EndsAtBad result bad.now.number bad.now.place (W.contents writer.old) (W.contents writer.new) output.old.items output.new.items }
+{
+    let Ok(()) = send(writer, output) else {
+        return ReplayFault::WriteFault;
+    };
+    report.bad_line(bad);
+    ReplayFault::BadLine {
+        line: bad.number,
+        place: bad.place,
+        expected: bad.expected,
+    }
+}
+
+/// Answers a line that can't be read, and writes the answer behind those that wait, and reports the line.
+pub(crate) fn pass_over<W: Write, B: Report>(
+    writer: &mut W,
+    report: &mut B,
+    bad: &BadLine<'_>,
+    output: &mut Vec<u8>,
+) -> Result<(), ReplayFault>
+    ensures ok { OnOk result (Appends (W.contents writer.old) (W.contents writer.new) (output.old.items ++ badline bad.now.number bad.now.place) × (output.new.items ≡ [])) }
+    ensures err { IfErr result (λ fault. TellsBad fault bad.now.number bad.now.place (W.contents writer.old) (W.contents writer.new) output.old.items output.new.items) }
+{
+    append_badline(output, bad.number, bad.place)?;
+    send(writer, output)?;
+    report.bad_line(bad);
+    Ok(())
+}
+
+// Appends the answer to a line that can't be read, or nothing.
+fn append_badline(output: &mut Vec<u8>, number: u64, place: usize) -> Result<(), NoRoom>
+    ensures written { OnOk result (output.new.items ≡ output.old.items ++ badline number place) }
+    ensures unchanged { OnErr result (output.new.items ≡ output.old.items) }
+{
+    let mut number_digits = Buffer::new();
+    let number = number_digits.format(number).as_bytes();
+    let mut place_digits = Buffer::new();
+    let place = place_digits.format(place).as_bytes();
+    append_all(output, &[b"badline ", number, b" ", place, b"\n"])
+}

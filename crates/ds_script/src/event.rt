@@ -1,0 +1,55 @@
+//! Commands that are events of a world, and what is told of them.
+
+ghost use Rattle.std.specs.Prelude.{◌≡◌, ◌≢◌, ◌⊎◌, ◌++◌, List, ℕ, false, None, OnOk, OnErr};
+ghost use Rattle.ds_words.specs.Command.{is_plain};
+ghost use Rattle.ds_words.specs.Event.{event_of};
+ghost use Rattle.ds_script.specs.Answer.{AnswersAsEvent, IsRefused, told_lines};
+
+use crate::session::Session;
+use ds_held::Limits;
+use ds_names::NoRoom;
+use ds_replica::Outcome;
+use ds_words::{ScriptCommand, Wording, append_noroom, append_outcome, append_reply};
+use std::alloc::Global;
+
+/// Lets the event of a command happen, and puts what came of it behind the answers that wait.
+pub(crate) fn answer_event(
+    alloc: Global,
+    session: &mut Session,
+    output: &mut Vec<u8>,
+    command: ScriptCommand,
+) -> Result<(), NoRoom>
+    requires { event_of session.old.side command ≢ None }
+    ensures answered { OnOk result ((out : List ℕ) × (output.new.items ≡ output.old.items ++ out) × (AnswersAsEvent command session.old out session.new ⊎ ((is_plain command ≡ false) × IsRefused session.old out session.new))) }
+    ensures unanswered { OnErr result (output.new.items ≡ output.old.items) }
+{
+    let wording = command.wording();
+    match command.into_event(alloc, session.side()) {
+        Ok(Some(event)) => {
+            let outcome = session.happen(event);
+            append_told(output, wording, &outcome, session)
+        }
+        Ok(None) => unreachable!(),
+        Err(NoRoom) => append_noroom(output),
+    }
+}
+
+// Appends the lines of what came of an event, of a message those of the reply that it is, or nothing.
+fn append_told(
+    output: &mut Vec<u8>,
+    wording: Wording,
+    outcome: &Outcome,
+    session: &Session,
+) -> Result<(), NoRoom>
+    ensures written { OnOk result (output.new.items ≡ output.old.items ++ told_lines wording outcome.now session.now.world.messages) }
+    ensures unchanged { OnErr result (output.new.items ≡ output.old.items) }
+{
+    let Outcome::Made { message } = outcome else {
+        return append_outcome(output, wording, outcome, Limits::larger());
+    };
+    match session.message(*message) {
+        Some(reply) => append_reply(output, wording, reply, Limits::larger()),
+        // A session that stands for a world has each message that was made.
+        None => Ok(()),
+    }
+}

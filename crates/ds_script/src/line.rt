@@ -1,0 +1,63 @@
+//! One line, and its answer.
+
+ghost use Rattle.std.specs.Prelude.{◌≡◌, ◌++◌, ℕ, List, IfErr, OnOk, OnErr};
+ghost use Rattle.ds_line.specs.LastNewline.{EndsLine};
+ghost use Rattle.ds_words.specs.Lines.{ended};
+ghost use Rattle.ds_words.specs.Command.{ReadsAs};
+ghost use Rattle.ds_script.specs.Answer.{MayStand, AnswersLine};
+ghost use Rattle.ds_script.specs.Progress.{IsFaultOf, Keeps};
+
+use crate::answer::answer_command;
+use crate::session::Session;
+use ds_line::Expected;
+use ds_names::NoRoom;
+use ds_words::{
+    CommandFault, LONGEST_LINE, ScriptCommand, append_noroom, read_later_line, read_line,
+};
+use std::alloc::Global;
+
+/// Answers one line behind so many others, which comes with its newline and has no other. `Err` says that it is no
+/// command's, which changes nothing, or that there was no room for its answer.
+pub(crate) fn answer_line(
+    alloc: Global,
+    line: &[u8],
+    before: u64,
+    session: &mut Session,
+    output: &mut Vec<u8>,
+) -> Result<(), CommandFault>
+    requires { EndsLine line.now }
+    ensures ok { OnOk result ((out : List ℕ) × (output.new.items ≡ output.old.items ++ out) × ((text : List ℕ) → line.now ≡ ended text → AnswersLine before session.old text out session.new)) }
+    ensures err { OnErr result (output.new.items ≡ output.old.items) }
+    ensures fault { IfErr result (λ fault. (text : List ℕ) → line.now ≡ ended text → IsFaultOf before fault text) }
+    ensures kept { IfErr result (λ fault. Keeps fault session.old session.new) }
+{
+    if line.len() > LONGEST_LINE + 1 {
+        return Err(CommandFault::BadLine {
+            place: LONGEST_LINE,
+            expected: Expected::Limit,
+        });
+    }
+    match read_behind(alloc, line, before) {
+        Ok(command) => match answer_command(alloc, session, output, command) {
+            Ok(()) => Ok(()),
+            Err(NoRoom) => Err(CommandFault::NoRoom),
+        },
+        Err(CommandFault::NoRoom) => match append_noroom(output) {
+            Ok(()) => Ok(()),
+            Err(NoRoom) => Err(CommandFault::NoRoom),
+        },
+        Err(bad) => Err(bad),
+    }
+}
+
+// Reads a line behind so many others: `ring` stands on the first line alone.
+fn read_behind(alloc: Global, line: &[u8], before: u64) -> Result<ScriptCommand, CommandFault>
+    requires { EndsLine line.now }
+    ensures { ReadsAs (MayStand before) line.now result }
+{
+    if before == 0 {
+        read_line(alloc, line)
+    } else {
+        read_later_line(alloc, line)
+    }
+}

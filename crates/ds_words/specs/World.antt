@@ -1,0 +1,61 @@
+-- The words of a world: of its sides, and of whom a message is given to.
+use Rattle.std.specs.Prelude.{ℕ, ◌<◌, ◌^◌, List, ◌∷◌, codes, Option, None, Some}
+use Rattle.std.specs.Fmt.{decimal}
+use Rattle.ds_line.specs.Part.{Part, part, byte, Number}
+use Rattle.ds_replica.specs.declared.event.Side.{Side}
+use Rattle.ds_replica.specs.declared.event.Side.TheVariants.{A, B}
+use Rattle.ds_replica.specs.declared.event.Holder.{Holder}
+use Rattle.ds_replica.specs.declared.event.Holder.TheVariants.{Store, Map}
+
+-- `ring`
+abbrev pub ring_word : List ℕ
+ring_word = codes "ring"
+
+-- `side`
+abbrev pub side_line_word : List ℕ
+side_line_word = codes "side"
+
+-- `clear`
+abbrev pub clear_word : List ℕ
+clear_word = codes "clear"
+
+-- `restart`
+abbrev pub restart_word : List ℕ
+restart_word = codes "restart"
+
+-- `deliver`
+abbrev pub deliver_word : List ℕ
+deliver_word = codes "deliver"
+
+-- `since`
+abbrev pub since_word : List ℕ
+since_word = codes "since"
+
+-- `snapshot`
+abbrev pub snapshot_word : List ℕ
+snapshot_word = codes "snapshot"
+
+-- `a` or `b`
+abbrev pub side_word : Side → List ℕ
+side_word A = codes "a"
+side_word B = codes "b"
+
+-- a side's word, or `m` and the number of a map
+abbrev pub holder_word : Holder → List ℕ
+holder_word (Store side) = side_word side
+holder_word (Map map) = 109 ∷ decimal map
+
+-- the number of a map is below 2^64
+abbrev pub IsHolder : Holder → Type 0
+IsHolder (Store side) = Unit {0}
+IsHolder (Map map) = map < 2 ^ 64
+
+-- `*`, or how many items
+abbrev pub count_part : Option ℕ → Part
+count_part None = byte 42
+count_part (Some n) = part Number (decimal n)
+
+-- the number of items is below 2^32
+abbrev pub IsCount : Option ℕ → Type 0
+IsCount None = Unit {0}
+IsCount (Some n) = n < 2 ^ 32

@@ -1,0 +1,51 @@
+//! What a line lets happen in a world.
+
+ghost use Rattle.std.specs.Prelude.{◌≡◌, false, IfOk, OnErr};
+ghost use Rattle.ds_words.specs.Command.{is_plain};
+ghost use Rattle.ds_words.specs.Event.{event_of};
+
+use crate::command::ScriptCommand;
+use ds_names::NoRoom;
+use ds_replica::{Event, Side};
+use std::alloc::Global;
+
+impl ScriptCommand {
+    /// The event that the line is in a world whose store of this side is asked: what the line asks of a store is asked of
+    /// that one. `None` for the lines that let nothing happen: `show`, `all`, `entries`, `ring` and `side`. NoRoom: out of
+    /// memory for the list of an `offer`'s one item.
+    pub fn into_event(self, alloc: Global, side: Side) -> Result<Option<Event>, NoRoom>
+        ensures event { IfOk result (λ event. event ≡ event_of side self) }
+        ensures room { OnErr result (is_plain self ≡ false) }
+    {
+        match self {
+            ScriptCommand::Map { query } => Ok(Some(Event::NewMap { query })),
+            ScriptCommand::Clear { map } => Ok(Some(Event::ClearMap { map: map as usize })),
+            ScriptCommand::Restart { side, incarnation } => {
+                Ok(Some(Event::RestartStore { side, incarnation }))
+            }
+            ScriptCommand::Deliver {
+                message,
+                holder,
+                count,
+            } => Ok(Some(Event::Deliver {
+                message: message as usize,
+                holder,
+                count: widened(count),
+            })),
+            asking => match asking.into_store_command(alloc)? {
+                Some(command) => Ok(Some(Event::Ask { side, command })),
+                None => Ok(None),
+            },
+        }
+    }
+}
+
+// The same number of items.
+fn widened(count: Option<u32>) -> Option<usize>
+    ensures { result ≡ count }
+{
+    match count {
+        Some(count) => Some(count as usize),
+        None => None,
+    }
+}

@@ -1,0 +1,52 @@
+//! Scopes as lines write them: `*`, or a query.
+
+ghost use Rattle.std.specs.Prelude.{◌≢◌, None, IfOk, IfErr, OnErr};
+ghost use Rattle.ds_line.specs.Piece.{StopsIn};
+ghost use Rattle.ds_line.specs.declared.part_fault.PartFault.TheVariants.{NoRoom as TheStopForRoom};
+ghost use Rattle.ds_words.specs.Scope.{a_scope, FindsScope, IsWrittenScope, Writes};
+
+use crate::pieces::Rest;
+use crate::query::{query_of, quoted_at};
+use ds_line::{Expected, PartFault, stop_at};
+use ds_names::{Kinds, NoRoom, read_byte};
+use ds_pattern::Query;
+use std::alloc::Global;
+
+impl<'a> Rest<'a> {
+    /// Reads `*`, or a pattern in quotes and the mask of some kinds, and gives what is written between the quotes with
+    /// the kinds, which are `None` for `*`: only where the whole line is read does the pattern take memory.
+    pub fn scope(&mut self) -> Result<(&'a [u8], Option<Kinds>), PartFault>
+        ensures found { IfOk result (λ written. FindsScope written.0.now written.1 self.old.bytes.now self.new.bytes.now) }
+        ensures stop { IfErr result (λ stop. StopsIn a_scope stop self.old.bytes.now) }
+        ensures room { IfErr result (λ stop. stop ≢ TheStopForRoom) }
+    {
+        self.byte(b' ', Expected::Space)?;
+        self.expected = Expected::Scope;
+        if let Some(rest) = read_byte(self.bytes, b'*') {
+            self.bytes = rest;
+            return Ok((rest, None));
+        }
+        let Some((text, rest)) = quoted_at(self.bytes) else {
+            return Err(stop_at(self.bytes));
+        };
+        self.bytes = rest;
+        let kinds = self.kinds()?;
+        Ok((text, Some(kinds)))
+    }
+}
+
+/// The scope that is written so: `None` for all keys. NoRoom: out of memory for a pattern.
+pub(crate) fn scope_of(
+    alloc: Global,
+    text: &[u8],
+    kinds: Option<Kinds>,
+) -> Result<Option<Query>, NoRoom>
+    requires { IsWrittenScope text.now kinds }
+    ensures scope { IfOk result (λ scope. Writes text.now kinds scope) }
+    ensures room { OnErr result (kinds ≢ None) }
+{
+    match kinds {
+        None => Ok(None),
+        Some(kinds) => Ok(Some(query_of(alloc, text, kinds)?)),
+    }
+}

@@ -1,0 +1,65 @@
+//! What the lines that have a scope have behind their word.
+
+ghost use Rattle.ds_words.specs.Page.{page_word};
+ghost use Rattle.ds_words.specs.World.{since_word, snapshot_word};
+ghost use Rattle.ds_words.specs.Pieces.{Takes};
+
+use crate::command::ScriptCommand;
+use crate::pieces::Rest;
+use crate::scope::scope_of;
+use ds_feed::Cursor;
+use ds_line::{Expected, PartFault};
+use std::alloc::Global;
+
+/// Reads what follows `since`.
+pub(crate) fn since_at(alloc: Global, rest: &mut Rest) -> Result<ScriptCommand, PartFault>
+    ensures { Takes since_word rest.old.bytes.now result }
+{
+    let (text, kinds) = match rest.scope() {
+        Ok(written) => written,
+        Err(stop) => return Err(stop),
+    };
+    let incarnation = rest.place(Expected::Incarnation)?;
+    let position = rest.place(Expected::Position)?;
+    let max = rest.number(Expected::Max)?;
+    rest.end()?;
+    let Ok(scope) = scope_of(alloc, text, kinds) else {
+        return Err(PartFault::NoRoom);
+    };
+    let cursor = Cursor {
+        incarnation,
+        position,
+    };
+    Ok(ScriptCommand::Since { scope, cursor, max })
+}
+
+/// Reads what follows `snapshot`.
+pub(crate) fn snapshot_at(alloc: Global, rest: &mut Rest) -> Result<ScriptCommand, PartFault>
+    ensures { Takes snapshot_word rest.old.bytes.now result }
+{
+    let (text, kinds) = match rest.scope() {
+        Ok(written) => written,
+        Err(stop) => return Err(stop),
+    };
+    rest.end()?;
+    let Ok(scope) = scope_of(alloc, text, kinds) else {
+        return Err(PartFault::NoRoom);
+    };
+    Ok(ScriptCommand::Snapshot { scope })
+}
+
+/// Reads what follows `page`.
+pub(crate) fn page_at(alloc: Global, rest: &mut Rest) -> Result<ScriptCommand, PartFault>
+    ensures { Takes page_word rest.old.bytes.now result }
+{
+    let (text, kinds) = match rest.scope() {
+        Ok(written) => written,
+        Err(stop) => return Err(stop),
+    };
+    let (after, max) = rest.range()?;
+    rest.end()?;
+    let Ok(scope) = scope_of(alloc, text, kinds) else {
+        return Err(PartFault::NoRoom);
+    };
+    Ok(ScriptCommand::Page { scope, after, max })
+}

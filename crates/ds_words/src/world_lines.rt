@@ -1,0 +1,60 @@
+//! What the lines of a world have behind their word.
+
+ghost use Rattle.ds_words.specs.World.{ring_word, side_line_word, clear_word, restart_word, deliver_word};
+ghost use Rattle.ds_words.specs.Pieces.{Takes};
+
+use crate::command::ScriptCommand;
+use crate::pieces::Rest;
+use ds_line::{Expected, PartFault};
+
+/// Reads what follows `ring`.
+pub(crate) fn ring_at(rest: &mut Rest) -> Result<ScriptCommand, PartFault>
+    ensures { Takes ring_word rest.old.bytes.now result }
+{
+    let ring = rest.ring()?;
+    rest.end()?;
+    Ok(ScriptCommand::Ring { ring })
+}
+
+/// Reads what follows `side`.
+pub(crate) fn side_at(rest: &mut Rest) -> Result<ScriptCommand, PartFault>
+    ensures { Takes side_line_word rest.old.bytes.now result }
+{
+    let side = rest.side()?;
+    rest.end()?;
+    Ok(ScriptCommand::Side { side })
+}
+
+/// Reads what follows `clear`.
+pub(crate) fn clear_at(rest: &mut Rest) -> Result<ScriptCommand, PartFault>
+    ensures { Takes clear_word rest.old.bytes.now result }
+{
+    let map = rest.place(Expected::Map)?;
+    rest.end()?;
+    Ok(ScriptCommand::Clear { map })
+}
+
+/// Reads what follows `restart`.
+pub(crate) fn restart_at(rest: &mut Rest) -> Result<ScriptCommand, PartFault>
+    ensures { Takes restart_word rest.old.bytes.now result }
+{
+    let side = rest.side()?;
+    let incarnation = rest.place(Expected::Incarnation)?;
+    rest.end()?;
+    Ok(ScriptCommand::Restart { side, incarnation })
+}
+
+/// Reads what follows `deliver`.
+pub(crate) fn deliver_at(rest: &mut Rest) -> Result<ScriptCommand, PartFault>
+    ensures { Takes deliver_word rest.old.bytes.now result }
+{
+    let message = rest.place(Expected::Message)?;
+    let holder = rest.holder()?;
+    let count = rest.count()?;
+    rest.end()?;
+    Ok(ScriptCommand::Deliver {
+        message,
+        holder,
+        count,
+    })
+}

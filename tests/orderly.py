@@ -1,0 +1,130 @@
+"""Scripts over a world in which each change has a number of its own and each entry one owner, and what holds in all of them."""
+import behaviour
+from world_scripts import LINES, QUERIES, Script
+
+DRIVERS = [b"eth0", b"tty", b"disk"]
+
+
+class Orderly(Script):
+    """RS and drivers who count on, each with names of its own, so that equal versions are equal changes."""
+
+    def __init__(self, seed):
+        super().__init__(seed)
+        self.generation = 0
+        self.drivers = {}  # the generation and slot of each that was started, and the number that it has come to
+        for query in QUERIES:
+            self.ask(b"map " + query)
+        while len(self.lines) < LINES:
+            self.step()
+        self.agreement()
+        self.catch_up()
+        stops = [it[0] for it in self.answers if it[0].startswith(b"stopped")]
+        self.expect(not stops, f"orderly deliveries are {stops[:1]}")
+
+    def step(self):
+        """One line of anybody's."""
+        chance = self.chance
+        if chance.random() < 0.45:
+            line = self.of_world()
+        else:
+            line = chance.choice([self.start, self.end, self.late, *[self.put] * 8, self.subscriber])()
+        self.ask(line)
+
+    def start(self):
+        """RS starts a driver: it publishes its label here, or over there as well."""
+        name, slot = self.chance.choice(DRIVERS), self.chance.randrange(16, 20)
+        self.generation += 1
+        self.drivers[name] = (self.generation, slot, 0)
+        return b"publish 0/2 over %s label %d.0 = %d/%d" % (name, self.generation, self.generation, slot)
+
+    def end(self):
+        """RS ends a driver's label, or sweeps what it left."""
+        name = self.chance.choice(DRIVERS)
+        generation, _, _ = self.drivers.get(name, (1, 16, 0))
+        return self.chance.choice([b"delete 0/2 %s label %d.1", b"sweep 0/2 %s %d"]) % (name, generation)
+
+    def put(self):
+        """A driver publishes or deletes an entry of its own; nobody but those who know its label take it."""
+        name = self.chance.choice(DRIVERS)
+        if name not in self.drivers:
+            return self.start()
+        generation, slot, number = self.drivers[name]
+        self.drivers[name] = (generation, slot, number + 1)
+        kind, value = behaviour.value_by_chance(self.chance)
+        entry = self.chance.choice([b"mtu", b"mac", b"id"])
+        if self.chance.random() < 0.2:
+            return b"delete %d/%d %s.%s %s %d.%d" % (generation, slot, name, entry, kind, generation, number)
+        return b"publish %d/%d over %s.%s %s %d.%d = %s" % (generation, slot, name, entry, kind, generation, number, value)
+
+    def late(self):
+        """An item that some store accepted comes once more, here."""
+        accepted = self.world.stores[self.chance.choice([b"a", b"b"])].accepted
+        return b"offer " + self.chance.choice(accepted)[1] if accepted else b"all"
+
+    def subscriber(self):
+        """Somebody follows a query, or checks."""
+        sub, query = self.chance.choice([0, 1, 126, 127]), self.chance.choice(QUERIES)
+        begins = [b"subscribe %d %s %s over" % (sub, query, mode) for mode in (b"first", b"later")]
+        return self.chance.choice([*begins, *[b"check %d %d" % (sub, most) for most in (1, 2, 8, 256)]])
+
+    # ---- what holds in every orderly world ----
+
+    def message(self, line):
+        """The number of the message that a line makes."""
+        self.ask(line)
+        return len(self.world.messages) - 1
+
+    def agreement(self):
+        """Replicas that gave each other all that they hold hold the same, and so does a map that was given either."""
+        one, other = self.chance.sample([b"a", b"b"], 2)
+        self.ask(b"side " + one)
+        first = self.message(b"snapshot *")
+        self.ask(b"side " + other)
+        second = self.message(b"snapshot *")
+        for number, side in self.chance.sample([(first, other), (second, one)], 2):
+            self.ask(b"deliver %d %s *" % (number, side))
+        there = self.ask(b"all")
+        self.ask(b"side " + one)
+        here = self.ask(b"all")
+        self.expect(here == there, "the replicas differ")
+        self.ask(b"clear 0")
+        for number in self.chance.sample([first, second, second], 3):
+            self.ask(b"deliver %d m0 *" % number)
+        held = self.ask(b"entries 0")
+        self.expect(held == self.ask(b"show"), "the map of all and the store differ")
+
+    def catch_up(self):
+        """A map that is given a snapshot and what came after it, in any order, holds what the store holds under its query."""
+        number = self.chance.randrange(1, len(QUERIES))
+        query, store = QUERIES[number], self.store()
+        self.ask(b"clear %d" % number)
+        messages = [self.message(b"snapshot " + query)]
+        position = len(store.accepted)
+        for _ in range(self.chance.randrange(1, 30)):
+            self.ask(self.chance.choice([self.start, self.end, self.late, *[self.put] * 8])())
+        while True:
+            answer = self.ask(b"since %s %d %d 3" % (query, store.incarnation, position))
+            if answer == [b"refused behind"]:  # it was away for too long, and asks for pages
+                messages += self.pages(query)
+                break
+            messages.append(len(self.world.messages) - 1)
+            position = int(answer[-1].split()[-1])
+            if len(answer) < 4:
+                break
+        self.chance.shuffle(messages)
+        for it in messages:
+            self.ask(b"deliver %d m%d *" % (it, number))
+        held = self.ask(b"entries %d" % number)
+        self.ask(b"clear %d" % number)
+        self.ask(b"deliver %d m%d *" % (self.message(b"snapshot " + query), number))
+        self.expect(held == self.ask(b"entries %d" % number), "the map that caught up and a new one differ")
+
+    def pages(self, query):
+        """The numbers of messages that hold all that the store holds under a query."""
+        after, numbers = b"-", []
+        while True:
+            answer = self.ask(b"page %s %s %d" % (query, after, self.chance.choice([1, 2, 256])))
+            numbers.append(len(self.world.messages) - 1)
+            if answer[-1].split()[2] == b"last":
+                return numbers
+            after = b" ".join(answer[-2].split(b" ")[:2])

@@ -1,0 +1,44 @@
+"""Seeded scripts over a world: two stores, the maps of subscribers, and messages between them.
+
+A script is drawn line by line, and the model answers each line at once, so that cursors, messages and maps are mostly such as
+there are. No holder may ever show an older generation of a driver than it did. Scripts of odd seeds are orderly: each change
+has a number of its own and each entry one owner. What holds in every orderly world is looked for in their answers: no delivery
+is stopped, replicas that exchanged their snapshots hold the same, and so does a map that was fed by a snapshot and what came
+after it, in any order.
+"""
+import random
+
+import harness
+import model
+from orderly import Orderly
+from world_scripts import Disorderly
+
+
+def script_of(seed):
+    """The script of a seed."""
+    return Orderly(seed) if seed % 2 else Disorderly(seed)
+
+
+def spoilt(seed, script):
+    """The script's text with some bytes outside quotes changed, left out or doubled, each in a line of its own."""
+    chance, lines = random.Random(seed), list(script.lines)
+    for _ in range(6):
+        at = chance.randrange(len(lines))
+        line, byte = lines[at], chance.choice(b"0a m*-./ u\x00\xff9Bb!")
+        place = chance.randrange(max(line.find(b'"'), 0) or len(line))
+        lines[at] = line[:place] + chance.choice([bytes([byte]), b"", line[place : place + 1] * 2]) + line[place + 1 :]
+    return b"\n".join(lines)
+
+
+def fault(program, seed):
+    """Says what is wrong with the program's answers to the script of a seed, and to it with bad lines, or answers None."""
+    script = script_of(seed)
+    given = [(["replay"], script.text(), (script.wanted(), 0))]
+    bad = spoilt(seed, script)
+    given += [(["replay", *words], bad, model.replay(bad, words != [])) for words in ([], ["--keep-going"])]
+    for words, text, (answers, status) in given:
+        ran = harness.run([program, *words], text)
+        wrong = harness.difference(ran.output, answers) or harness.unexplained(ran.output, ran.error)
+        if wrong or ran.status != status:
+            return f"{' '.join(words)}{' with bad lines' * (text is bad)}: {wrong or f'status {ran.status}'}"
+    return script.faults[0] if script.faults else None
