@@ -23,7 +23,7 @@ use Rattle.ds_replica.specs.declared.outcome.EventFault.TheVariants.{NoMessage, 
 use Rattle.ds_replica.specs.Delivery.{Tally, StoreTakes, MapTakes}
 use Rattle.ds_replica.specs.World.{MapState, World, with_state}
 use Rattle.ds_replica.specs.Happens.{count_of, delivery_fault, tally_outcome, Happens, Delivers}
-use Rattle.ds_world.specs.World.{WorldRecord, map_state, message_items, Stands}
+use Rattle.ds_world.specs.World.{WorldRecord, map_state, kept_items, Stands}
 use Rattle.ds_world.specs.Run.{EventLeads}
 use Rattle.ds_world.specs.Told.{IsMapTold, IsTold}
 use Rattle.ds_world.proofs.StandLemmas.{map_is, message_is, lt_true, lt_false}
@@ -35,11 +35,11 @@ carried {event' = event'} {outcome = outcome} {outcome' = outcome'} {old = old} 
     (subst (λ (v : WorldRecord). EventLeads event' outcome' v new) was (subst (λ (x : Outcome). EventLeads event' x old new) o (subst (λ (x : Event). EventLeads x outcome old new) e leads)))
 
 module _ (value : WorldRecord) (k : ℕ) (count : Option ℕ) where
-  pub no_message : (holder : Holder) → message_items value.messages k ≡ None → EventLeads (Deliver k holder count) (Refused NoMessage) value value
+  pub no_message : (holder : Holder) → kept_items value.messages k ≡ None → EventLeads (Deliver k holder count) (Refused NoMessage) value value
   no_message holder none w s = (w, (ap (λ (o : Option (List Item)). option_map_or (λ items. delivery_fault w holder count items) o (Some NoMessage)) (message_is value w k s ∙ none), refl), s)
 
   -- such a message is there
-  module _ (items : List Item) (there : message_items value.messages k ≡ Some items) where
+  module _ (items : List Item) (there : kept_items value.messages k ≡ Some items) where
     -- the fault is the delivery's
     by_items : (w : World) (holder : Holder) → Stands value w → option_map_or (λ items. delivery_fault w holder count items) (slice_get w.messages k) (Some NoMessage) ≡ delivery_fault w holder count items
     by_items w holder s = ap (λ (o : Option (List Item)). option_map_or (λ items. delivery_fault w holder count items) o (Some NoMessage)) (message_is value w k s ∙ there)
@@ -129,11 +129,11 @@ set_there (m ∷ maps) (suc j) old new e = set_there maps j old new e
 same : {X : Type 0} (o : Option X) (x y : X) → o ≡ Some x → o ≡ Some y → x ≡ y
 same o x y e f = cc
 
-pub map_told : (value : WorldRecord) (k j : ℕ) (count : Option ℕ) (items : List Item) (old new : SubMapRecord) (outcome : Outcome) → message_items value.messages k ≡ Some items → slice_get value.maps j ≡ Some old
+pub map_told : (value : WorldRecord) (k j : ℕ) (count : Option ℕ) (items : List Item) (old new : SubMapRecord) (outcome : Outcome) → kept_items value.messages k ≡ Some items → slice_get value.maps j ≡ Some old
     → IsMapTold old.query old.held (take (count_of count items) items) outcome new.held → IsTold (Deliver k (Map j) count) outcome value (record value { maps = slice_set value.maps j new })
 map_told value k j count items old new outcome there at told = (
   λ others m n e f g.
-      subst (λ (l : List Item). IsMapTold m.query m.held (take (count_of count l) l) outcome n.held) (same (message_items value.messages k) items others there e)
+      subst (λ (l : List Item). IsMapTold m.query m.held (take (count_of count l) l) outcome n.held) (same (kept_items value.messages k) items others there e)
       (subst (λ (x : SubMapRecord). IsMapTold x.query x.held (take (count_of count items) items) outcome n.held) (same (slice_get value.maps j) old m at f)
       (subst (λ (x : SubMapRecord). IsMapTold old.query old.held (take (count_of count items) items) outcome x.held) (same (slice_get (slice_set value.maps j new) j) new n (set_there value.maps j old new at) g) told)),
   refl,

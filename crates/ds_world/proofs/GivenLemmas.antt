@@ -23,13 +23,13 @@ use Rattle.ds_replica.specs.Happens.{HappenAll}
 use Rattle.ds_replica.specs.Known.{Account, store_of, extended, extended_all}
 use Rattle.ds_replica.specs.Messages.{IsAsked, after, feed_of, IsMessage}
 use Rattle.ds_replica.proofs.EventLemmas.{events_fit}
-use Rattle.ds_replica.proofs.MessageLemmas.{snapshot_is_whole, since_extends, page_is_turn, check_is_turn}
+use Rattle.ds_replica.proofs.MessageLemmas.{snapshot_is_whole, since_is_turn, since_extends, page_is_turn, check_is_turn}
 use Rattle.ds_replica.proofs.CheckLemmas.{checks_are_whole}
 use Rattle.ds_world.specs.World.{WorldRecord}
 use Rattle.ds_world.specs.Run.{paired, RunLeads}
 use Rattle.ds_replica.proofs.ClashLemmas.{nothing_stops}
 use Rattle.ds_world.specs.Account.{IsFor, NothingStops}
-use Rattle.ds_world.specs.Messages.{WasGiven, SnapshotsAreWhole, SincesExtend, PagesAreTurns, ChecksAreTurns, AllChecksAreWhole}
+use Rattle.ds_world.specs.Messages.{WasGiven, SnapshotsAreWhole, SincesAreTurns, SincesExtend, PagesAreTurns, ChecksAreTurns, AllChecksAreWhole}
 
 -- events that happened one after the other, in two parts
 happen_split : (xs ys : List (Event × Outcome)) (w new : World) → HappenAll w (xs ++ ys) new → (mid : World) × HappenAll w xs mid × HappenAll mid ys new
@@ -58,6 +58,11 @@ module _ (account : Account) (old new : WorldRecord) (events : List Event) (outc
   snapshots side scope query k g keep =
       subst (λ (now : Account). (sent : List Sent) × IsMessage now k sent × IsWhole (feed_of now side) query sent (position (feed_of (extended_all account g.before) side))) (now_is side (Snapshot scope) k g)
       (snapshot_is_whole (extended_all account g.before) (parts side (Snapshot scope) k g).0 late side scope query k g.since (asked side (Snapshot scope) k g) keep)
+
+  pub since_turns : SincesAreTurns account (paired events outcomes)
+  since_turns side scope at max k g =
+      subst (λ (now : Account). (t : SinceTurn) × (t.max ≡ max) × IsSinceTurn (feed_of now side) (keeps scope) at t × IsMessage now k (given t.known t.since.items)) (now_is side (Since scope at max) k g)
+      (since_is_turn (extended_all account g.before) (parts side (Since scope at max) k g).0 late side scope at max k g.since (asked side (Since scope at max) k g))
 
   pub sinces : SincesExtend account (paired events outcomes)
   sinces side scope query at max k items g keep =

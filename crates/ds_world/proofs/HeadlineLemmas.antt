@@ -24,7 +24,7 @@ use Rattle.ds_replica.proofs.BringLemmas.{events_bring_items}
 use Rattle.ds_replica.proofs.TurnLemmas.{whole_stays, turns_are_run}
 use Rattle.ds_world.specs.World.{WorldRecord, held_in, store_in, Stands}
 use Rattle.ds_world.specs.Run.{paired, RunLeads}
-use Rattle.ds_world.specs.Account.{IsFor, Agrees, CatchesUp, KeepsUp, NamesNewest, IsAbout, NothingClashes, FloorsStand, WholeStays, StayItems, TurnsAreRun}
+use Rattle.ds_world.specs.Account.{IsFor, Agrees, CatchesUp, KeepsUp, NamesNewest, IsAbout, NothingClashes, NothingBelowFloors, WholeStays, StayItems, TurnsAreRun}
 use Rattle.ds_world.proofs.StandLemmas.{held_is, message_is}
 
 -- what stands at a place is in the list
@@ -67,7 +67,7 @@ module _ (account : Account) (value : WorldRecord) (f : IsFor account value) whe
   clashes : NothingClashes account value
   clashes c d n h k e = nothing_clashes account f.0 c d f.2 n (about _ h) (about _ k) e
 
-  floors : FloorsStand account value
+  floors : NothingBelowFloors account value
   floors h floor c k there = nothing_below_floors account f.0 h floor c f.2 k (subst (λ (l : List Item). Contains l (Changed c)) (sym (held h)) there)
 
 module _ (account : Account) (old new : WorldRecord) (events : List Event) (outcomes : List Outcome) (run : RunLeads events outcomes old new) (f : IsFor account old) where
@@ -90,7 +90,7 @@ module _ (account : Account) (old new : WorldRecord) (events : List Event) (outc
   pub clashes_after : NothingClashes (extended_all account (paired events outcomes)) new
   clashes_after = clashes (extended_all account (paired events outcomes)) new account_fits
 
-  pub floors_after : FloorsStand (extended_all account (paired events outcomes)) new
+  pub floors_after : NothingBelowFloors (extended_all account (paired events outcomes)) new
   floors_after = floors (extended_all account (paired events outcomes)) new account_fits
 
   pub items_stay : StayItems account (paired events outcomes)

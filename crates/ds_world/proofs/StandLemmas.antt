@@ -13,7 +13,7 @@ use Rattle.ds_replica.specs.declared.event.Holder.{Holder}
 use Rattle.ds_replica.specs.declared.event.Holder.TheVariants.{Store, Map}
 use Rattle.ds_replica.specs.World.{MapState, World, map_held, held_at}
 use Rattle.ds_replica.specs.Happens.{items_given}
-use Rattle.ds_world.specs.World.{WorldRecord, held_in, map_state, message_items, Stands}
+use Rattle.ds_world.specs.World.{WorldRecord, held_in, map_state, kept_items, Stands}
 
 -- the map of a number, as the world has it
 pub map_is : (value : WorldRecord) (w : World) (j : ℕ) → Stands value w → slice_get w.maps j ≡ option_map map_state (slice_get value.maps j)
@@ -26,7 +26,7 @@ flattened None (Some items) e = absurd (cc)
 flattened (Some reply) None e = absurd (cc)
 flattened (Some reply) (Some items) e = cc
 
-pub message_is : (value : WorldRecord) (w : World) (k : ℕ) → Stands value w → slice_get w.messages k ≡ message_items value.messages k
+pub message_is : (value : WorldRecord) (w : World) (k : ℕ) → Stands value w → slice_get w.messages k ≡ kept_items value.messages k
 message_is value w k s =
     flattened (slice_get value.messages k) (slice_get w.messages k)
     (sym (slice_get-map items_given value.messages k) ∙ ap (λ (l : List (Option (List Item))). slice_get l k) s.messages ∙ slice_get-map Some w.messages k)

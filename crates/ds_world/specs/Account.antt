@@ -34,7 +34,7 @@ use Rattle.ds_replica.specs.Headline.{IsContradiction}
 use Rattle.ds_replica.specs.CaughtUp.{HasAll, HasNothingElse, AreItems}
 use Rattle.ds_replica.specs.Bringing.{IsProperEvent}
 use Rattle.ds_replica.specs.Turns.{Stays}
-use Rattle.ds_world.specs.World.{WorldRecord, held_in, store_in, message_items, Stands}
+use Rattle.ds_world.specs.World.{WorldRecord, held_in, store_in, kept_items, Stands}
 
 -- the account fits a world for which the value stands
 abbrev pub IsFor : Account → WorldRecord → Type 0
@@ -67,7 +67,7 @@ NamesNewest account value =
 -- *no stop by clash or owner*: no two changes of a key that are held, or can be delivered, have two owners, or two bodies at
 -- one version
 abbrev pub IsAbout : WorldRecord → Item → Type 0
-IsAbout value i = ((h : Holder) × Contains (held_in value h) i) ⊎ ((k : ℕ) × (items : List Item) × (message_items value.messages k ≡ Some items) × Contains items i)
+IsAbout value i = ((h : Holder) × Contains (held_in value h) i) ⊎ ((k : ℕ) × (items : List Item) × (kept_items value.messages k ≡ Some items) × Contains items i)
 
 abbrev pub NothingClashes : Account → WorldRecord → Type 0
 NothingClashes account value =
@@ -80,8 +80,8 @@ NothingStops account events =
     AreSingleNumbered (extended_all account before).brought → ¬ IsContradiction fault
 
 -- *floors*: where a holder knows a floor, it holds nothing that the floor makes void
-abbrev pub FloorsStand : Account → WorldRecord → Type 0
-FloorsStand account value = (h : Holder) (f : Floor) (c : ChangeRecord) → Contains (known_at account h) (Floored f) → Contains (held_in value h) (Changed c) → voids f c ≡ false
+abbrev pub NothingBelowFloors : Account → WorldRecord → Type 0
+NothingBelowFloors account value = (h : Holder) (f : Floor) (c : ChangeRecord) → Contains (known_at account h) (Floored f) → Contains (held_in value h) (Changed c) → voids f c ≡ false
 
 -- *wholeness*: what is whole for a store stays so over these events, unless they restart the store
 abbrev pub WholeStays : Account → List (Event × Outcome) → Type 0

@@ -45,6 +45,13 @@ SnapshotsAreWhole account events =
     let now = extended_all account events in
     (sent : List Sent) × IsMessage now k sent × IsWhole (feed_of now side) query sent (position (feed_of (extended_all account g.before) side))
 
+-- a message of the journal is a turn of the store
+abbrev pub SincesAreTurns : Account → List (Event × Outcome) → Type 0
+SincesAreTurns account events =
+    (side : Side) (scope : Scope) (at : Cursor) (max k : ℕ) → WasGiven events side (Since scope at max) k →
+    let now = extended_all account events in
+    (t : SinceTurn) × (t.max ≡ max) × IsSinceTurn (feed_of now side) (keeps scope) at t × IsMessage now k (given t.known t.since.items)
+
 -- items that are whole up to a cursor, with those of a message of the journal from there, under such a scope, are whole up to
 -- the cursor that came with the message
 abbrev pub SincesExtend : Account → List (Event × Outcome) → Type 0

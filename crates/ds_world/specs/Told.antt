@@ -21,7 +21,7 @@ use Rattle.ds_replica.specs.declared.outcome.Outcome.TheVariants.{Replied, Made,
 use Rattle.ds_replica.specs.World.{World, store_at}
 use Rattle.ds_replica.specs.Happens.{count_of, event_fault, Asks, HappenAll}
 use Rattle.ds_world.specs.Tally.{refusal_of}
-use Rattle.ds_world.specs.World.{WorldRecord, message_items, Stands}
+use Rattle.ds_world.specs.World.{WorldRecord, kept_items, Stands}
 use Rattle.ds_world.specs.Run.{EventLeads}
 
 -- the map took all items, and so many of them took effect and so many were stale; or it took the first ones, and the next one
@@ -55,7 +55,7 @@ IsAskTold side command _ old new = new.messages ≡ old.messages
 abbrev pub IsTold : Event → Outcome → WorldRecord → WorldRecord → Type 0
 IsTold (Ask side command) outcome old new = IsAskTold side command outcome old new
 IsTold (Deliver k (Map j) count) outcome old new =
-    ((items : List Item) (m n : SubMapRecord) → message_items old.messages k ≡ Some items → slice_get old.maps j ≡ Some m → slice_get new.maps j ≡ Some n →
+    ((items : List Item) (m n : SubMapRecord) → kept_items old.messages k ≡ Some items → slice_get old.maps j ≡ Some m → slice_get new.maps j ≡ Some n →
     IsMapTold m.query m.held (take (count_of count items) items) outcome n.held)
     × (new.messages ≡ old.messages)
 IsTold event outcome old new = new.messages ≡ old.messages

@@ -1,5 +1,5 @@
 -- What callers see of a world, and for which worlds of the definitions it stands.
-use Rattle.std.specs.Prelude.{◌≡◌, ℕ, List, map, Option, Some}
+use Rattle.std.specs.Prelude.{◌≡◌, ℕ, true, List, map, Option, Some, is_some}
 use Rattle.std.specs.List.{slice_get}
 use Rattle.std.specs.Option.{option_map, option_and_then}
 use Rattle.ds_entry.specs.declared.item.Item.{Item}
@@ -40,9 +40,13 @@ abbrev pub held_in : WorldRecord → Holder → List Item
 held_in value (Store side) = (store_in value side).held
 held_in value (Map j) = map_held (option_map map_state (slice_get value.maps j))
 
+-- it is a reply with items, as each message is
+abbrev pub HasItems : Reply → Type 0
+HasItems reply = is_some (items_given reply) ≡ true
+
 -- the items of the message of a number, if there is one
-abbrev pub message_items : List Reply → ℕ → Option (List Item)
-message_items messages k = option_and_then items_given (slice_get messages k)
+abbrev pub kept_items : List Reply → ℕ → Option (List Item)
+kept_items messages k = option_and_then items_given (slice_get messages k)
 
 -- the stores stand for the world's, the maps are the world's, and each message has the items that it has in the world
 pub record Stands (value : WorldRecord) (w : World) : Type 0 where

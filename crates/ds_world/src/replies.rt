@@ -3,7 +3,7 @@
 ghost use Rattle.std.specs.Prelude.{◌≡◌, None, Some, is_some, IfSome, IfNone};
 ghost use Rattle.std.specs.Option.{option_copied};
 ghost use Rattle.ds_replica.specs.Happens.{gives_items, items_given};
-ghost use Rattle.ds_world.specs.World.{message_items};
+ghost use Rattle.ds_world.specs.World.{kept_items};
 
 use ds_entry::ItemList;
 use ds_machine::{Command, Reply};
@@ -60,8 +60,8 @@ fn items_of(reply: &Reply) -> Option<&ItemList>
 
 // The items of the message of a number, `None` where there is no such message.
 pub(crate) fn items_at(messages: &[Reply], number: usize) -> Option<&ItemList>
-    ensures some { IfSome result (λ items. message_items messages.now number ≡ Some items.now) }
-    ensures none { IfNone result (message_items messages.now number ≡ None) }
+    ensures some { IfSome result (λ items. kept_items messages.now number ≡ Some items.now) }
+    ensures none { IfNone result (kept_items messages.now number ≡ None) }
 {
     items_of(messages.get(number)?)
 }

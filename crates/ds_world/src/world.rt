@@ -1,16 +1,16 @@
 //! Worlds.
 
-ghost use Rattle.std.specs.Prelude.{◌≡◌, ◌≤◌, [], ◌∷◌, length, slice_get, vec_capacity, IfOk, IfErr, OnOk, OnErr};
+ghost use Rattle.std.specs.Prelude.{◌≡◌, ◌≤◌, [], ◌∷◌, length, slice_get, vec_capacity, IfOk, IfErr, IfSome, OnOk, OnErr};
 ghost use Rattle.std.specs.Option.{option_copied};
 ghost use Rattle.ds_held.specs.Limits.{larger};
 ghost use Rattle.ds_replica.specs.World.{new_world};
 ghost use Rattle.ds_replica.specs.Known.{Account, new_account, extended, extended_all};
-ghost use Rattle.ds_world.specs.World.{store_in, Stands};
+ghost use Rattle.ds_world.specs.World.{store_in, HasItems, Stands};
 ghost use Rattle.ds_world.specs.Seeds.{AreSeeds, IsSeedFault};
 ghost use Rattle.ds_world.specs.Run.{most_events, paired, EventLeads, RunLeads, IsRunFault};
 ghost use Rattle.ds_world.specs.Told.{IsTold, AreTold, RepliesAreKept, MessagesStay};
-ghost use Rattle.ds_world.specs.Messages.{SnapshotsAreWhole, SincesExtend, PagesAreTurns, ChecksAreTurns, AllChecksAreWhole};
-ghost use Rattle.ds_world.specs.Account.{IsFor, Agrees, CatchesUp, KeepsUp, NamesNewest, NothingClashes, NothingStops, FloorsStand, StayItems, TurnsAreRun, WholeStays};
+ghost use Rattle.ds_world.specs.Messages.{SnapshotsAreWhole, SincesAreTurns, SincesExtend, PagesAreTurns, ChecksAreTurns, AllChecksAreWhole};
+ghost use Rattle.ds_world.specs.Account.{IsFor, Agrees, CatchesUp, KeepsUp, NamesNewest, NothingClashes, NothingStops, NothingBelowFloors, StayItems, TurnsAreRun, WholeStays};
 
 use crate::events::Events;
 use crate::fault::{SeedFault, WorldFault};
@@ -43,7 +43,7 @@ pub struct World {
 }
 
 impl Model for World {
-    ghost use Rattle.std.specs.Prelude.{List};
+    ghost use Rattle.std.specs.Prelude.{List, All};
     ghost use Rattle.std.specs.Coded.{code_by, coded×, coded_list};
     ghost use Rattle.ds_content.specs.Content.{ContentRecord};
     ghost use Rattle.ds_machine.specs.declared.reply.Reply.{Reply};
@@ -51,13 +51,15 @@ impl Model for World {
     ghost use Rattle.ds_submap.specs.Map.{SubMapRecord};
     ghost use Rattle.ds_submap.specs.contracts.map.SubMap.{the_row as map_row};
     ghost use Rattle.ds_store.specs.contracts.store.Store.{the_row as store_row};
-    ghost use Rattle.ds_world.specs.World.{WorldRecord, world_of};
+    ghost use Rattle.ds_world.specs.World.{WorldRecord, world_of, HasItems};
 
     ghost Value = { WorldRecord };
 
     ghost coded = { code_by (ContentRecord × (ContentRecord × (List SubMapRecord × List Reply))) (coded× store_row.coded (coded× store_row.coded (coded× (coded_list map_row.coded) (coded_list reply_row.coded)))) (λ w. (w.a, (w.b, (w.maps, w.messages)))) (λ p. world_of p.0 p.1.0 p.1.1.0 p.1.1.1) (λ w i. w) };
 
     ghost view = { λ w. world_of w.a w.b w.maps.items w.messages.items };
+
+    ghost invariant = { λ w. All HasItems w.messages.items };
 }
 
 impl World {
@@ -102,10 +104,11 @@ impl World {
         ensures newest { IfOk result (λ outcomes. (account : Account) → IsFor account self.old → NamesNewest (extended_all account (paired events outcomes)) self.new) }
         ensures clashes { IfOk result (λ outcomes. (account : Account) → IsFor account self.old → NothingClashes (extended_all account (paired events outcomes)) self.new) }
         ensures stops { IfOk result (λ outcomes. (account : Account) → IsFor account self.old → NothingStops account (paired events outcomes)) }
-        ensures floors { IfOk result (λ outcomes. (account : Account) → IsFor account self.old → FloorsStand (extended_all account (paired events outcomes)) self.new) }
+        ensures floors { IfOk result (λ outcomes. (account : Account) → IsFor account self.old → NothingBelowFloors (extended_all account (paired events outcomes)) self.new) }
         ensures items { IfOk result (λ outcomes. (account : Account) → IsFor account self.old → StayItems account (paired events outcomes)) }
         ensures whole { IfOk result (λ outcomes. (account : Account) → IsFor account self.old → WholeStays account (paired events outcomes)) }
         ensures snapshots { IfOk result (λ outcomes. (account : Account) → IsFor account self.old → SnapshotsAreWhole account (paired events outcomes)) }
+        ensures since_turns { IfOk result (λ outcomes. (account : Account) → IsFor account self.old → SincesAreTurns account (paired events outcomes)) }
         ensures sinces { IfOk result (λ outcomes. (account : Account) → IsFor account self.old → SincesExtend account (paired events outcomes)) }
         ensures pages { IfOk result (λ outcomes. (account : Account) → IsFor account self.old → PagesAreTurns account (paired events outcomes)) }
         ensures checks { IfOk result (λ outcomes. (account : Account) → IsFor account self.old → ChecksAreTurns account (paired events outcomes)) }
@@ -152,10 +155,11 @@ impl World {
         ensures newest { (account : Account) → IsFor account self.old → NamesNewest (extended account event result) self.new }
         ensures clashes { (account : Account) → IsFor account self.old → NothingClashes (extended account event result) self.new }
         ensures stops { (account : Account) → IsFor account self.old → NothingStops account ((event, result) ∷ []) }
-        ensures floors { (account : Account) → IsFor account self.old → FloorsStand (extended account event result) self.new }
+        ensures floors { (account : Account) → IsFor account self.old → NothingBelowFloors (extended account event result) self.new }
         ensures items { (account : Account) → IsFor account self.old → StayItems account ((event, result) ∷ []) }
         ensures whole { (account : Account) → IsFor account self.old → WholeStays account ((event, result) ∷ []) }
         ensures snapshots { (account : Account) → IsFor account self.old → SnapshotsAreWhole account ((event, result) ∷ []) }
+        ensures since_turns { (account : Account) → IsFor account self.old → SincesAreTurns account ((event, result) ∷ []) }
         ensures sinces { (account : Account) → IsFor account self.old → SincesExtend account ((event, result) ∷ []) }
         ensures pages { (account : Account) → IsFor account self.old → PagesAreTurns account ((event, result) ∷ []) }
         ensures checks { (account : Account) → IsFor account self.old → ChecksAreTurns account ((event, result) ∷ []) }
@@ -199,10 +203,11 @@ impl World {
         self.maps.get(number)
     }
 
-    /// The message of a number, which is the reply that a store gave: `Checked`, `Journaled`, `Snapped` or `Paged`. `None` where
-    /// there is no such message.
+    /// The message of a number, which is the reply that a store gave, with its items: `Checked`, `Journaled`, `Snapped` or
+    /// `Paged`, and no other. `None` where there is no such message.
     pub fn message(&self, number: usize) -> Option<&Reply>
-        ensures { option_copied result ≡ slice_get self.now.messages number }
+        ensures is { option_copied result ≡ slice_get self.now.messages number }
+        ensures items { IfSome result (λ reply. HasItems reply.now) }
     {
         self.messages.get(number)
     }

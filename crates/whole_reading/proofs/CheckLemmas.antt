@@ -12,7 +12,7 @@ use Rattle.ds_pattern.specs.Under.{is_under}
 use Rattle.ds_whole.specs.Sent.{given}
 use Rattle.ds_whole.specs.Whole.{IsWhole}
 use Rattle.ds_whole.specs.Checked.{CheckTurn, IsCheckTurn, AreChecks}
-use Rattle.ds_whole.specs.Gathered.{checked}
+use Rattle.ds_whole.specs.Gathered as gathered
 use Rattle.ds_machine.specs.Subscription.{Subscription}
 use Rattle.ds_machine.specs.State.{State, held, subscription_at}
 use Rattle.ds_machine.specs.Effect.{GoesOn}
@@ -20,17 +20,11 @@ use Rattle.ds_machine.specs.SubscriptionLaws.{IsPlaced, IsCheckedOn}
 use Rattle.ds_content.specs.Content.{ContentRecord}
 use Rattle.ds_content.specs.Stands.{Stands}
 use Rattle.whole_reading.specs.Goes.{Goes}
-use Rattle.whole_reading.specs.GivesUp.{IsFull}
+use Rattle.whole_reading.specs.GivesUp.{IsFull, Shows, AreAllFull}
 use Rattle.whole_reading.specs.Laws.{Laws}
 use Rattle.whole_reading.specs.ReadWhole.{IsReadWhole}
+use Rattle.whole_reading.specs.declared.reading.Reading.{Reading}
 use Rattle.whole_reading.proofs.StateLemmas.{others_go_on, others_keep}
-
--- the place has a subscription to the query that was shown these items
-pub record Shows (s : State) (sub : ℕ) (query : Query) (shown : List Item) : Type 0 where
-  pub seer : Subscription
-  pub here : subscription_at s sub ≡ Some seer
-  pub query_is : seer.query ≡ query
-  pub shown_is : seer.shown ≡ shown
 
 -- how far a reader has come: the store has gone on, and so many checks gave these items, each as many as it asked for
 pub record Checking (s : State) (sub max : ℕ) (query : Query) (items : List Item) (count : ℕ) (content : ContentRecord) : Type 0 where
@@ -38,7 +32,7 @@ pub record Checking (s : State) (sub max : ℕ) (query : Query) (items : List It
   pub goes : GoesOn s now
   pub turns : List CheckTurn
   pub are : AreChecks s.feed now.feed (is_under query) [] turns
-  pub items_are : checked turns ≡ items
+  pub items_are : gathered.checked turns ≡ items
   pub full : All (IsFull max) turns
   pub count_is : length turns ≡ count
   pub shows : Shows now sub query items
@@ -57,6 +51,20 @@ begun s t sub max query stamp content goes placed stands =
       count_is = refl;
       shows = record { seer = record { query = query; stamp = stamp; shown = [] }; here = placed.here; query_is = refl; shown_is = refl };
       stands = stands;
+    }
+
+-- all checks so far were full
+pub all_full : (s : State) (sub count : ℕ) (reading : Reading) (items : List Item) (content : ContentRecord) (k : Checking s sub reading.max reading.query items count content) → AreAllFull s k.now sub reading k.turns
+all_full s sub count reading items content k = record { are = k.are; full = k.full; shows = subst (Shows k.now sub reading.query) (sym k.items_are) k.shows }
+
+-- and so they are behind what others did
+pub still_full : Laws → (s : State) (sub count : ℕ) (reading : Reading) (items : List Item) (content : ContentRecord) (k : Checking s sub reading.max reading.query items count content) (mid : State) → Goes (Some sub) k.now mid → AreAllFull s mid sub reading k.turns
+still_full laws s sub count reading items content k mid others =
+    let a = all_full s sub count reading items content k in
+    record {
+      are = laws.checks.later s.feed k.now.feed mid.feed (is_under reading.query) [] k.turns (laws.front k.now mid (others_go_on laws k.now mid (Some sub) k.stands.reached others)) a.are;
+      full = a.full;
+      shows = record { seer = a.shows.seer; here = others_keep laws k.now mid sub k.stands.reached others ∙ a.shows.here; query_is = a.shows.query_is; shown_is = a.shows.shown_is };
     }
 
 -- one more check, behind what others did
@@ -79,7 +87,7 @@ module _ (laws : Laws) (s : State) (sub : ℕ) (query : Query) (items more : Lis
   turn : CheckTurn
   turn = record { feed = mid.feed; known = mid.feed.accepted; held = held mid; max = max; items = more }
 
-  is_turn : IsCheckTurn s.feed t.feed (is_under query) (checked k.turns) turn
+  is_turn : IsCheckTurn s.feed t.feed (is_under query) (gathered.checked k.turns) turn
   unfolding turn seer
   is_turn =
       subst (λ (l : List Item). IsCheckTurn s.feed t.feed (is_under query) l turn) (k.shows.shown_is ∙ sym k.items_are)
@@ -92,7 +100,7 @@ module _ (laws : Laws) (s : State) (sub : ℕ) (query : Query) (items more : Lis
   all : AreChecks s.feed t.feed (is_under query) [] (k.turns ++ turn ∷ [])
   all = laws.checks.one_more s.feed t.feed (is_under query) [] k.turns turn are is_turn
 
-  all_items : checked (k.turns ++ turn ∷ []) ≡ items ++ more
+  all_items : gathered.checked (k.turns ++ turn ∷ []) ≡ items ++ more
   unfolding turn
   all_items = laws.checks.items_more k.turns turn ∙ ap (λ (l : List Item). l ++ more) k.items_are
 

@@ -1,15 +1,19 @@
 -- When a reader gives up: where memory is wanting for what it was given, where the store refuses its question, and where as many
 -- questions as may be weren't enough.
-use Rattle.std.specs.Prelude.{◌≡◌, ◌≢◌, ◌⊎◌, ℕ, ◌≤◌, true, List, [], length, None, All}
+use Rattle.std.specs.Prelude.{◌≡◌, ◌≢◌, ◌⊎◌, ℕ, ◌≤◌, true, List, [], length, None, Some, All}
 use Rattle.std.specs.Option.{unwrap_or}
+use Rattle.ds_entry.specs.declared.item.Item.{Item}
 use Rattle.ds_feed.specs.Feed as feeds
 use Rattle.ds_feed.specs.declared.cursor.Cursor.{Cursor}
+use Rattle.ds_pattern.specs.declared.query.Query.{Query}
 use Rattle.ds_pattern.specs.Under.{is_under}
 use Rattle.ds_whole.specs.Checked.{CheckTurn, AreChecks}
+use Rattle.ds_whole.specs.Gathered as gathered
 use Rattle.ds_whole.specs.Journaled.{SinceTurn, AreSince, cursor_after}
 use Rattle.ds_whole.specs.Paged.{PageTurn, IsPageTurn}
 use Rattle.ds_whole.specs.OpenPages.{AreOpenPages, key_after, position_after, first_cursor}
-use Rattle.ds_machine.specs.State.{State}
+use Rattle.ds_machine.specs.State.{State, position, subscription_at}
+use Rattle.ds_machine.specs.Subscription.{Subscription}
 use Rattle.ds_machine.specs.Machine.{Step}
 use Rattle.ds_machine.specs.declared.refusal.Refusal.{Refusal}
 use Rattle.ds_machine.specs.declared.command.Command.{Command}
@@ -28,23 +32,30 @@ pub record IsRefused (t : State) (command : Command) (refusal : Refusal) : Type 
 
 -- ---- a reader by checks
 
+-- the place has a subscription to the query that was shown these items
+pub record Shows (s : State) (sub : ℕ) (query : Query) (shown : List Item) : Type 0 where
+  pub seer : Subscription
+  pub here : subscription_at s sub ≡ Some seer
+  pub query_is : seer.query ≡ query
+  pub shown_is : seer.shown ≡ shown
+
 -- a Check that gave as many items as it was asked for
 pub record IsFull (max : ℕ) (t : CheckTurn) : Type 0 where
   pub asked : t.max ≡ max
   pub full : max ≤ length t.items
 
--- as many Checks as may be, since the Subscribe, and all of them full
-pub record AreAllFull (s t : State) (reading : Reading) : Type 0 where
-  pub turns : List CheckTurn
+-- the Checks so far, since the Subscribe, all of them full; the subscription stands, and was shown what they gave
+pub record AreAllFull (s t : State) (sub : ℕ) (reading : Reading) (turns : List CheckTurn) : Type 0 where
   pub are : AreChecks s.feed t.feed (is_under reading.query) [] turns
   pub full : All (IsFull reading.max) turns
-  pub count : length turns ≡ reading.questions
+  pub shows : Shows t sub reading.query (gathered.checked turns)
 
--- the store, which is `t` now, refused the Subscribe or a Check, or all Checks were full
+-- the store, which is `t` now, refused the Subscribe, with which the reader begins, or the next Check, or there were as many as
+-- may be
 abbrev pub StopsChecks : State → State → ℕ → Reading → ReadFault → Type 0
-StopsChecks s t sub reading (Refused refusal) = IsRefused t (Subscribe sub reading.query true true) refusal ⊎ IsRefused t (Check sub reading.max) refusal
+StopsChecks s t sub reading (Refused refusal) = ((t ≡ s) × IsRefused s (Subscribe sub reading.query true true) refusal) ⊎ ((turns : List CheckTurn) × AreAllFull s t sub reading turns × IsRefused t (Check sub reading.max) refusal)
 StopsChecks s t sub reading NoRoom = Unit {0}
-StopsChecks s t sub reading Unfinished = AreAllFull s t reading
+StopsChecks s t sub reading Unfinished = (turns : List CheckTurn) × AreAllFull s t sub reading turns × (length turns ≡ reading.questions)
 
 -- ---- a reader by the journal
 
@@ -66,28 +77,28 @@ StopsSinces t reading from Unfinished = (turns : List SinceTurn) × AreAllShort 
 
 -- ---- a reader by pages
 
--- the pages so far, none of which was the last
-pub record AreAllOpen (t : State) (reading : Reading) (pages : List PageTurn) : Type 0 where
-  pub are : AreOpenPages t.feed (is_under reading.query) None 0 pages
+-- the pages so far, since the reader began, none of which was the last
+pub record AreAllOpen (s t : State) (reading : Reading) (pages : List PageTurn) : Type 0 where
+  pub are : AreOpenPages t.feed (is_under reading.query) None (position s) pages
   pub asked : All (λ page. page.max ≡ reading.max) pages
 
 -- all pages were read, and this is the cursor of the first one
-pub record ArePaged (t : State) (reading : Reading) (from : Cursor) : Type 0 where
+pub record ArePaged (s t : State) (reading : Reading) (from : Cursor) : Type 0 where
   pub pages : List PageTurn
-  pub open_ones : AreAllOpen t reading pages
+  pub open_ones : AreAllOpen s t reading pages
   pub last : PageTurn
   pub is : IsPageTurn t.feed (is_under reading.query) (key_after None pages) last
   pub asked : last.max ≡ reading.max
-  pub no_earlier : position_after 0 pages ≤ last.page.cursor.position
+  pub no_earlier : position_after (position s) pages ≤ last.page.cursor.position
   pub ends : last.page.last ≡ true
   pub from_is : from ≡ unwrap_or (first_cursor pages) last.page.cursor
 
 -- the next page was refused, or there were as many as may be
-abbrev pub StopsOpen : State → Reading → ReadFault → Type 0
-StopsOpen t reading (Refused refusal) = (pages : List PageTurn) × AreAllOpen t reading pages × IsRefused t (Page (Under reading.query) (key_after None pages) reading.max) refusal
-StopsOpen t reading NoRoom = Unit {0}
-StopsOpen t reading Unfinished = (pages : List PageTurn) × AreAllOpen t reading pages × (length pages ≡ reading.questions)
+abbrev pub StopsOpen : State → State → Reading → ReadFault → Type 0
+StopsOpen s t reading (Refused refusal) = (pages : List PageTurn) × AreAllOpen s t reading pages × IsRefused t (Page (Under reading.query) (key_after None pages) reading.max) refusal
+StopsOpen s t reading NoRoom = Unit {0}
+StopsOpen s t reading Unfinished = (pages : List PageTurn) × AreAllOpen s t reading pages × (length pages ≡ reading.questions)
 
 -- it stopped before the last page, or behind it at the journal
-abbrev pub StopsPages : State → Reading → ReadFault → Type 0
-StopsPages t reading fault = StopsOpen t reading fault ⊎ ((from : Cursor) × ArePaged t reading from × StopsSinces t reading from fault)
+abbrev pub StopsPages : State → State → Reading → ReadFault → Type 0
+StopsPages s t reading fault = StopsOpen s t reading fault ⊎ ((from : Cursor) × ArePaged s t reading from × StopsSinces t reading from fault)

@@ -22,8 +22,8 @@ pub record Laws : Type 0 where
   pub news : NewsAreNew
   pub front : LaterIsFront
   pub kept : RunKeepsSubscription
-  pub subscribed : SubscribedLeaves
-  pub checked : CheckedLeaves
+  pub subscribe_leaves : SubscribedLeaves
+  pub check_leaves : CheckedLeaves
   pub refused : RefusedSays
   pub journaled : JournaledSays
   pub paged : PagedSays

@@ -22,8 +22,9 @@ use std::alloc::Global;
 /// the store's cursor then.
 ///
 /// Where it gives up, the store has gone on, by its own questions and by what others asked. It is `Refused` just where the
-/// store refused the Subscribe or a Check, by this cause, and `Unfinished` just where as many Checks as may be each gave as
-/// many items as they asked for.
+/// store refused the Subscribe, with which it begins, or the next Check, by this cause, and `Unfinished` just where there were
+/// as many Checks as may be. The Checks so far each gave as many items as they asked for, and the subscription stands as they
+/// left it.
 pub fn read_by_checks<O: Others>(
     alloc: Global,
     store: &mut Store,

@@ -51,7 +51,8 @@ fn catch_up<O: Others>(
 ///
 /// Where it gives up, the store has gone on by what others asked. It is `Refused` just where the store refused the next page, or
 /// the next question to the journal, by this cause, and `Unfinished` just where as many questions of one kind as may be were
-/// asked: none of the pages was the last one, or none of the journal's replies came to the store's cursor.
+/// asked: none of the pages was the last one, or none of the journal's replies came to the store's cursor. No page is of a
+/// time before it began.
 pub fn read_by_pages<O: Others>(
     alloc: Global,
     store: &mut Store,
@@ -59,7 +60,7 @@ pub fn read_by_pages<O: Others>(
     reading: &Reading,
 ) -> Result<ItemList, ReadFault>
     ensures whole { IfOk result (λ items. (s : State) → Stands store.old s → (t : State) × GoesOn s t × Stands store.new t × IsReadWhole t reading.now.query items) }
-    ensures stopped { IfErr result (λ fault. (s : State) → Stands store.old s → (t : State) × GoesOn s t × Stands store.new t × StopsPages t reading.now fault) }
+    ensures stopped { IfErr result (λ fault. (s : State) → Stands store.old s → (t : State) × GoesOn s t × Stands store.new t × StopsPages s t reading.now fault) }
 {
     laws();
     let mut items = ItemList::new(alloc);

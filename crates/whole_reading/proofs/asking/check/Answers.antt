@@ -11,7 +11,7 @@ returns-in-Checked-clause-shown c = λ s stands.
       k._before,
       k._after,
       c.laws.ensures.step s step.0 (commands.Check c.args.sub c.args.max) (replies.Checked k.items k._before k._after) stands.reached step.1,
-      (λ seer here. c.laws.ensures.checked s step.0 c.args.sub c.args.max seer k.items k._before k._after stands.reached here step.1),
+      (λ seer here. c.laws.ensures.check_leaves s step.0 c.args.sub c.args.max seer k.items k._before k._after stands.reached here step.1),
       step.2,
     )
 

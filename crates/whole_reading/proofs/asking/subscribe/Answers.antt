@@ -11,7 +11,7 @@ returns-in-Subscribed-clause-made c = λ s stands.
       step.0,
       k._stamp,
       c.laws.ensures.step s step.0 (commands.Subscribe c.args.sub c.args.query true true) (replies.Subscribed k._stamp k._owed) stands.reached step.1,
-      c.laws.ensures.subscribed s step.0 c.args.sub c.args.query true true k._stamp k._owed stands.reached step.1,
+      c.laws.ensures.subscribe_leaves s step.0 c.args.sub c.args.query true true k._stamp k._owed stands.reached step.1,
       step.2,
     )
 

@@ -1,4 +1,4 @@
-use Rattle.std.proofs.Common.{◌≡◌, ◌+◌, ◌<◌, ◌≤◌, true, List, [], length, arith, sym, ◌∙◌, subst, inl, inr}
+use Rattle.std.proofs.Common.{◌≡◌, ◌+◌, ◌<◌, ◌≤◌, true, List, [], length, arith, refl, sym, ◌∙◌, subst, inl, inr}
 use Rattle.std.proofs.lemmas.Result.{err_from_is_err_and}
 use Rattle.ds_entry.specs.declared.item.Item.{Item}
 use Rattle.ds_pattern.specs.declared.query.Query.{Query}
@@ -7,7 +7,7 @@ use Rattle.ds_machine.specs.declared.command.Command.TheVariants.{Subscribe}
 use Rattle.whole_reading.specs.GivesUp.{IsRefused}
 use Rattle.whole_reading.specs.ReadWhole.{IsReadWhole}
 use Rattle.whole_reading.proofs.StateLemmas.{others_go_on}
-use Rattle.whole_reading.proofs.CheckLemmas.{Checking, begun, checked_on, gone, read_whole}
+use Rattle.whole_reading.proofs.CheckLemmas.{Checking, begun, all_full, still_full, checked_on, gone, read_whole}
 use Rattle.whole_reading.proofs.checks.read_by_checks.Goals as goal
 
 pub loop-question-init : goal.loop-question-init
@@ -52,16 +52,18 @@ returns-in_err-subscribe-clause-stopped g c =
     let exit = err_from_is_err_and c.from_residual-in_err-subscribe.result c.from_residual-in_err-subscribe.ensures.1 in
     rw (exit.1, exit.2) (λ s stands.
     (let r = c.in_err-subscribe.ensures.refused s stands in
-    (s, c.laws.ensures.same s, r.1, inl (subst (λ (q : Query). IsRefused s (Subscribe c.args.sub q true true) c.in_err-subscribe.field-0.0) c.in_ok-query.ensures r.0))))
+    (s, c.laws.ensures.same s, r.1, inl (refl, subst (λ (q : Query). IsRefused s (Subscribe c.args.sub q true true) c.in_err-subscribe.field-0.0) c.in_ok-query.ensures r.0))))
 
 pub returns-in_err-given-clause-stopped : goal.returns-in_err-given-clause-stopped
 returns-in_err-given-clause-stopped g c =
     let exit = err_from_is_err_and c.from_residual-in_err-given.result c.from_residual-in_err-given.ensures.1 in
     rw (exit.1, exit.2) (λ s stands.
-    (let k = c.loop-question.invariant s stands in
+    (let q = c.loop-question in
+    let k = q.invariant s stands in
     let o = c.ask.ensures k.now k.stands in
     let r = c.in_err-given.ensures.refused o.0 o.2 in
-    (o.0, c.laws.ensures.later s k.now o.0 k.goes (others_go_on c.laws.ensures k.now o.0 _ k.stands.reached o.1), r.1, inr r.0)))
+    let full = still_full c.laws.ensures s c.args.sub q._question c.args.reading.now q.items q.store k o.0 o.1 in
+    (o.0, c.laws.ensures.later s k.now o.0 k.goes (others_go_on c.laws.ensures k.now o.0 _ k.stands.reached o.1), r.1, inr (k.turns, full, r.0))))
 
 pub returns-in_err-append-clause-stopped : goal.returns-in_err-append-clause-stopped
 returns-in_err-append-clause-stopped g c =
@@ -75,6 +77,7 @@ returns-in_err-append-clause-stopped g c =
 
 pub returns-clause-stopped : goal.returns-clause-stopped
 returns-clause-stopped g c = λ s stands.
-    let k = c.loop-question.invariant s stands in
-    let last : c.loop-question._question ≡ c.args.reading.now.questions = omega (arith, c.loop-question-test.false, c.loop-question.auto._question-end) in
-    (k.now, k.goes, k.stands, record { turns = k.turns; are = k.are; full = k.full; count = k.count_is ∙ last })
+    let q = c.loop-question in
+    let k = q.invariant s stands in
+    let last : q._question ≡ c.args.reading.now.questions = omega (arith, c.loop-question-test.false, q.auto._question-end) in
+    (k.now, k.goes, k.stands, (k.turns, all_full s c.args.sub q._question c.args.reading.now q.items q.store k, k.count_is ∙ last))

@@ -7,7 +7,7 @@ use Rattle.ds_replica.specs.declared.event.Event.TheVariants.{Deliver}
 use Rattle.ds_replica.specs.declared.event.Holder.TheVariants.{Map}
 use Rattle.ds_replica.specs.declared.outcome.Outcome.{Outcome}
 use Rattle.ds_machine.specs.declared.reply.Reply.{Reply}
-use Rattle.ds_world.specs.World.{WorldRecord, world_of, map_state, message_items}
+use Rattle.ds_world.specs.World.{WorldRecord, world_of, map_state, kept_items}
 use Rattle.ds_replica.specs.declared.outcome.Outcome.TheVariants.{Refused}
 use Rattle.ds_replica.specs.declared.outcome.EventFault.TheVariants.{NoMessage, NoMap, TooMany}
 use Rattle.ds_world.specs.Tally.{tally_of}
@@ -24,7 +24,7 @@ returns-clause-leads c =
     let inside = c.self.inside in
     let value : WorldRecord = world_of inside.a inside.b inside.maps.items inside.messages.items in
     let items = c.in-Some.items.now in
-    let there : message_items value.messages k ≡ Some items = subst (λ (l : List Reply). message_items l k ≡ Some items) c.deref.ensures.value c.in-Some.ensures.some in
+    let there : kept_items value.messages k ≡ Some items = subst (λ (l : List Reply). kept_items l k ≡ Some items) c.deref.ensures.value c.in-Some.ensures.some in
     let old = c.index_mut.result.now in
     let within : j < length inside.maps.items = omega (arith, c.if-map-len.false, c.len.ensures, inside.maps.ok.0) in
     let map_there : slice_get value.maps j ≡ Some old = slice_get_read value.maps (length value.maps) j old refl within c.index_mut.ensures.value in
@@ -44,7 +44,7 @@ returns-clause-told c =
     let inside = c.self.inside in
     let value : WorldRecord = world_of inside.a inside.b inside.maps.items inside.messages.items in
     let items = c.in-Some.items.now in
-    let there : message_items value.messages k ≡ Some items = subst (λ (l : List Reply). message_items l k ≡ Some items) c.deref.ensures.value c.in-Some.ensures.some in
+    let there : kept_items value.messages k ≡ Some items = subst (λ (l : List Reply). kept_items l k ≡ Some items) c.deref.ensures.value c.in-Some.ensures.some in
     let old = c.index_mut.result.now in
     let within : j < length inside.maps.items = omega (arith, c.if-map-len.false, c.len.ensures, inside.maps.ok.0) in
     let map_there : slice_get value.maps j ≡ Some old = slice_get_read value.maps (length value.maps) j old refl within c.index_mut.ensures.value in
@@ -60,7 +60,7 @@ returns-in_default-clause-leads c =
     let k = c.args.message in
     let inside = c.self.inside in
     let value : WorldRecord = world_of inside.a inside.b inside.maps.items inside.messages.items in
-    let none : message_items value.messages k ≡ None = subst (λ (l : List Reply). message_items l k ≡ None) c.deref.ensures.value c.in_default.ensures.none in
+    let none : kept_items value.messages k ≡ None = subst (λ (l : List Reply). kept_items l k ≡ None) c.deref.ensures.value c.in_default.ensures.none in
     subst (λ (v : WorldRecord). EventLeads (Deliver k (Map c.args.map) c.args.count) (Refused NoMessage) v v) c.self.view_is (no_message value k c.args.count (Map c.args.map) none)
 
 pub returns-then-map-len-clause-leads : goal.returns-then-map-len-clause-leads
@@ -70,7 +70,7 @@ returns-then-map-len-clause-leads c =
     let inside = c.self.inside in
     let value : WorldRecord = world_of inside.a inside.b inside.maps.items inside.messages.items in
     let items = c.in-Some.items.now in
-    let there : message_items value.messages k ≡ Some items = subst (λ (l : List Reply). message_items l k ≡ Some items) c.deref.ensures.value c.in-Some.ensures.some in
+    let there : kept_items value.messages k ≡ Some items = subst (λ (l : List Reply). kept_items l k ≡ Some items) c.deref.ensures.value c.in-Some.ensures.some in
     let past : length inside.maps.items ≤ j = omega (arith, c.if-map-len.true, c.len.ensures, inside.maps.ok.0) in
     subst (λ (v : WorldRecord). EventLeads (Deliver k (Map j) c.args.count) (Refused NoMap) v v) c.self.view_is (no_map value k c.args.count items there j past)
 
@@ -81,7 +81,7 @@ returns-in_default-count_of-clause-leads c =
     let inside = c.self.inside in
     let value : WorldRecord = world_of inside.a inside.b inside.maps.items inside.messages.items in
     let items = c.in-Some.items.now in
-    let there : message_items value.messages k ≡ Some items = subst (λ (l : List Reply). message_items l k ≡ Some items) c.deref.ensures.value c.in-Some.ensures.some in
+    let there : kept_items value.messages k ≡ Some items = subst (λ (l : List Reply). kept_items l k ≡ Some items) c.deref.ensures.value c.in-Some.ensures.some in
     let within : j < length inside.maps.items = omega (arith, c.if-map-len.false, c.len.ensures, inside.maps.ok.0) in
     let at = map_at value.maps j within in
     subst (λ (v : WorldRecord). EventLeads (Deliver k (Map j) c.args.count) (Refused TooMany) v v) c.self.view_is

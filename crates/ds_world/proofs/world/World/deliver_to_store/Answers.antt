@@ -7,7 +7,7 @@ use Rattle.ds_replica.specs.declared.event.Side.{Side}
 use Rattle.ds_replica.specs.declared.event.Event.TheVariants.{Deliver}
 use Rattle.ds_replica.specs.declared.event.Holder.TheVariants.{Store}
 use Rattle.ds_machine.specs.declared.reply.Reply.{Reply}
-use Rattle.ds_world.specs.World.{WorldRecord, world_of, message_items}
+use Rattle.ds_world.specs.World.{WorldRecord, world_of, kept_items}
 use Rattle.ds_replica.specs.declared.outcome.Outcome.TheVariants.{Refused}
 use Rattle.ds_replica.specs.declared.outcome.EventFault.TheVariants.{NoMessage, TooMany}
 use Rattle.ds_world.specs.declared.tally.Tally.{Tally}
@@ -24,7 +24,7 @@ returns-clause-leads c =
     let inside = c.self.inside in
     let value : WorldRecord = world_of inside.a inside.b inside.maps.items inside.messages.items in
     let items = c.in-Some.items.now in
-    let there : message_items value.messages k ≡ Some items = subst (λ (l : List Reply). message_items l k ≡ Some items) c.deref.ensures.value c.in-Some.ensures.some in
+    let there : kept_items value.messages k ≡ Some items = subst (λ (l : List Reply). kept_items l k ≡ Some items) c.deref.ensures.value c.in-Some.ensures.some in
     let n = c.in-Some-count_of.count in
     let counted = c.in-Some-count_of.ensures.some in
     let few : count_of count items ≤ length items = omega (arith, counted.0, counted.1) in
@@ -57,7 +57,7 @@ returns-in_default-clause-leads c =
     let k = c.args.message in
     let inside = c.self.inside in
     let value : WorldRecord = world_of inside.a inside.b inside.maps.items inside.messages.items in
-    let none : message_items value.messages k ≡ None = subst (λ (l : List Reply). message_items l k ≡ None) c.deref.ensures.value c.in_default.ensures.none in
+    let none : kept_items value.messages k ≡ None = subst (λ (l : List Reply). kept_items l k ≡ None) c.deref.ensures.value c.in_default.ensures.none in
     subst (λ (v : WorldRecord). EventLeads (Deliver k (Store c.args.side) c.args.count) (Refused NoMessage) v v) c.self.view_is (no_message value k c.args.count (Store c.args.side) none)
 
 pub returns-in_default-count_of-clause-leads : goal.returns-in_default-count_of-clause-leads
@@ -66,6 +66,6 @@ returns-in_default-count_of-clause-leads c =
     let inside = c.self.inside in
     let value : WorldRecord = world_of inside.a inside.b inside.maps.items inside.messages.items in
     let items = c.in-Some.items.now in
-    let there : message_items value.messages k ≡ Some items = subst (λ (l : List Reply). message_items l k ≡ Some items) c.deref.ensures.value c.in-Some.ensures.some in
+    let there : kept_items value.messages k ≡ Some items = subst (λ (l : List Reply). kept_items l k ≡ Some items) c.deref.ensures.value c.in-Some.ensures.some in
     subst (λ (v : WorldRecord). EventLeads (Deliver k (Store c.args.side) c.args.count) (Refused TooMany) v v) c.self.view_is
     (too_many_for_store value k c.args.count items there c.args.side c.in_default-count_of.ensures.none)

@@ -1,6 +1,6 @@
 use Rattle.std.proofs.Common.{[], ◌∷◌}
 use Rattle.ds_world.proofs.HeadlineLemmas.{account_fits, agree_after, catch_up_after, keep_up_after, newest_after, clashes_after, floors_after, items_stay, stays_whole, turns}
-use Rattle.ds_world.proofs.GivenLemmas.{snapshots, sinces, pages, checks, stops}
+use Rattle.ds_world.proofs.GivenLemmas.{snapshots, since_turns, sinces, pages, checks, stops}
 use Rattle.ds_world.proofs.ReplyLemmas.{over_one}
 use Rattle.ds_world.proofs.RunLemmas.{led_alone}
 use Rattle.ds_world.proofs.world.World.happen.Goals as goal
@@ -40,6 +40,9 @@ returns-clause-whole c account = stays_whole account c.args.self.now c.carry_out
 
 pub returns-clause-snapshots : goal.returns-clause-snapshots
 returns-clause-snapshots c account = snapshots account c.args.self.now c.carry_out.new.self (c.args.event ∷ []) (c.carry_out.result ∷ []) (led_alone c.args.event c.carry_out.result c.args.self.now c.carry_out.new.self c.carry_out.ensures.leads)
+
+pub returns-clause-since_turns : goal.returns-clause-since_turns
+returns-clause-since_turns c account = since_turns account c.args.self.now c.carry_out.new.self (c.args.event ∷ []) (c.carry_out.result ∷ []) (led_alone c.args.event c.carry_out.result c.args.self.now c.carry_out.new.self c.carry_out.ensures.leads)
 
 pub returns-clause-sinces : goal.returns-clause-sinces
 returns-clause-sinces c account = sinces account c.args.self.now c.carry_out.new.self (c.args.event ∷ []) (c.carry_out.result ∷ []) (led_alone c.args.event c.carry_out.result c.args.self.now c.carry_out.new.self c.carry_out.ensures.leads)

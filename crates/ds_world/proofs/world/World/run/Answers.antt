@@ -1,5 +1,5 @@
 use Rattle.ds_world.proofs.HeadlineLemmas.{account_fits, agree_after, catch_up_after, keep_up_after, newest_after, clashes_after, floors_after, items_stay, stays_whole, turns}
-use Rattle.ds_world.proofs.GivenLemmas.{snapshots, sinces, pages, checks, all_checks, stops}
+use Rattle.ds_world.proofs.GivenLemmas.{snapshots, since_turns, sinces, pages, checks, all_checks, stops}
 use Rattle.ds_world.proofs.ReplyLemmas.{replies_are_kept, messages_stay}
 use Rattle.ds_world.specs.Run.{paired}
 use Rattle.ds_world.proofs.world.World.run.Goals as goal
@@ -42,6 +42,9 @@ returns-clause-whole c account = stays_whole account c.args.self.now c.happen_al
 
 pub returns-clause-snapshots : goal.returns-clause-snapshots
 returns-clause-snapshots c account = snapshots account c.args.self.now c.happen_all.new.self c.args.events c.happen_all.result c.happen_all.ensures.done
+
+pub returns-clause-since_turns : goal.returns-clause-since_turns
+returns-clause-since_turns c account = since_turns account c.args.self.now c.happen_all.new.self c.args.events c.happen_all.result c.happen_all.ensures.done
 
 pub returns-clause-sinces : goal.returns-clause-sinces
 returns-clause-sinces c account = sinces account c.args.self.now c.happen_all.new.self c.args.events c.happen_all.result c.happen_all.ensures.done
