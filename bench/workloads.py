@@ -124,6 +124,21 @@ def long(lines, chance):
         yield (offer(at, seqs[at], value(at), kinds[at % 2]) if which < 0.85 else publish("over", at, seqs[at], value(at), kinds[at % 2]))
 
 
+def catchup(lines, chance):
+    """Offers; behind each 64th a reader asks the journal for its last 256 items, and every 1,024th time one reads pages of 256."""
+    for at in range(NAMES):
+        yield offer(at, 0, 0)
+    names = sorted(f"{owner(at)}.entry-{at}" for at in range(NAMES))
+    offers = rising(lines, chance, lambda at, number: offer(at, number, chance.getrandbits(32)))
+    for number, line in enumerate(offers, start=1):
+        yield line
+        if number % 64 == 0:
+            yield f"since * 1 {NAMES + number - 256} 256\n"
+        if number % 1024 == 0:
+            yield "page * - 256\n"
+            yield from (f"page * {behind} u32 256\n" for behind in names[255::256])
+
+
 ALL = {
     "labels": labels,
     "offers-hot": offers_hot,
@@ -131,6 +146,7 @@ ALL = {
     "publish": publishes,
     "retrieve": retrieves,
     "watch": watch,
+    "catchup": catchup,
     "long": long,
 }
 PART = {"watch": 100}  # a slow workload is measured at one in so many of its lines
