@@ -40,6 +40,10 @@ extended_append : (xs ys : List (Event × Outcome)) (account : Account) → exte
 extended_append [] ys account = refl
 extended_append (x ∷ xs) ys account = extended_append xs ys (extended account x.0 x.1)
 
+-- the account now is the one behind what was asked
+pub now_after : (account : Account) (events : List (Event × Outcome)) (side : Side) (command : Command) (k : ℕ) (g : WasGiven events side command k) → after (extended_all account g.before) side command k g.since ≡ extended_all account events
+now_after account events side command k g = sym (extended_append g.before ((Ask side command, Made k) ∷ g.since) account) ∙ ap (extended_all account) g.all
+
 module _ (account : Account) (old new : WorldRecord) (events : List Event) (outcomes : List Outcome) (run : RunLeads events outcomes old new) (f : IsFor account old) where
   abbrev late : World
   late = (run f.0 f.1).0
@@ -52,7 +56,7 @@ module _ (account : Account) (old new : WorldRecord) (events : List Event) (outc
     asked = record { fits = events_fit account f.0 parts.0 g.before f.2 parts.1; happen = parts.2; stays = g.stays }
 
     now_is : after (extended_all account g.before) side command k g.since ≡ extended_all account (paired events outcomes)
-    now_is = sym (extended_append g.before ((Ask side command, Made k) ∷ g.since) account) ∙ ap (extended_all account) g.all
+    now_is = now_after account (paired events outcomes) side command k g
 
   pub snapshots : SnapshotsAreWhole account (paired events outcomes)
   snapshots side scope query k g keep =

@@ -8,3 +8,4 @@ pub mod MergeLemmas
 pub mod MapLemmas
 pub mod DeliverLemmas
 pub mod GivenLemmas
+pub mod PageLemmas

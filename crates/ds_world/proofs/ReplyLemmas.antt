@@ -1,14 +1,16 @@
 -- That messages stay, and are the replies that stores gave.
-use Rattle.std.proofs.Common.{◌≡◌, ℕ, List, [], ◌∷◌, ◌++◌, length, append-nil, append_assoc, Some, refl, ap, sym, ◌∙◌, subst}
+use Rattle.std.proofs.Common.{◌≡◌, ℕ, List, [], ◌∷◌, ◌++◌, length, append-nil, append_assoc, None, Some, refl, ap, sym, ◌∙◌, subst}
 use Rattle.std.specs.List.{slice_get}
+use Rattle.ds_machine.specs.declared.command.Command.{Command}
 use Rattle.ds_machine.specs.declared.reply.Reply.{Reply}
+use Rattle.ds_replica.specs.declared.event.Side.{Side}
 use Rattle.ds_replica.specs.declared.event.Holder.TheVariants.{Store, Map}
 use Rattle.ds_replica.specs.declared.event.Event.{Event}
 use Rattle.ds_replica.specs.declared.event.Event.TheVariants.{Ask, NewMap, Deliver, ClearMap, RestartStore}
 use Rattle.ds_replica.specs.declared.outcome.Outcome.{Outcome}
 use Rattle.ds_replica.specs.declared.outcome.Outcome.TheVariants.{Replied, Made, MapMade, Merged, Stopped, Cleared, Restarted, Refused}
 use Rattle.ds_replica.specs.World.{World}
-use Rattle.ds_replica.specs.Happens.{HappenAll}
+use Rattle.ds_replica.specs.Happens.{event_fault, Asks, HappenAll}
 use Rattle.ds_world.specs.World.{WorldRecord, Stands}
 use Rattle.ds_world.specs.Told.{IsTold, AreTold, MessagesStay, RepliesAreKept}
 
@@ -56,8 +58,21 @@ behind : (front : List Reply) (reply : Reply) (rest : List Reply) → slice_get 
 behind [] reply rest = refl
 behind (x ∷ front) reply rest = behind front reply rest
 
-pub replies_are_kept : (old new : WorldRecord) (events : List (Event × Outcome)) → AreTold old events new → RepliesAreKept old events new
-replies_are_kept old new events told before since side command k w all s =
+-- how a store was asked for a message that is there now
+pub record WasAsked (before since : List (Event × Outcome)) (side : Side) (command : Command) (k : ℕ) (w : World) (new : WorldRecord) : Type 0 where
+  pub mid : World
+  pub before_happens : HappenAll w before mid
+  pub after : World
+  pub stands_not : event_fault mid (Ask side command) ≡ None
+  pub asks : Asks mid side command (Made k) after
+  pub there : slice_get new.messages k ≡ Some asks.reply
+  pub late : World
+  pub since_happens : HappenAll after since late
+  pub stands : Stands new late
+
+pub asked_for : (old new : WorldRecord) (events : List (Event × Outcome)) → AreTold old events new → (before since : List (Event × Outcome)) (side : Side) (command : Command) (k : ℕ) (w : World) → before ++ (Ask side command, Made k) ∷ since ≡ events → Stands old w
+    → WasAsked before since side command k w new
+asked_for old new events told before since side command k w all s =
     let parts = in_two before ((Ask side command, Made k) ∷ since) old new (subst (λ (l : List (Event × Outcome)). AreTold old l new) (sym all) told) in
     let went = happened before old parts.0 w parts.1 s in
     let mid = parts.2.0 in
@@ -65,6 +80,17 @@ replies_are_kept old new events told before since side command k w all s =
     let asked = kept.answered.asks went.0 went.2 in
     let rest = happened since mid new asked.1 parts.2.3 asked.4 in
     let stay = messages_stay mid new since parts.2.3 in
-    let there : slice_get new.messages k ≡ Some asked.2.reply =
-    ap (λ (l : List Reply). slice_get l k) (stay.1 ∙ ap (λ (l : List Reply). l ++ stay.0) kept.kept) ∙ ap (λ (n : ℕ). slice_get ((parts.0.messages ++ kept.reply ∷ []) ++ stay.0) n) kept.next ∙ behind parts.0.messages kept.reply stay.0 ∙ ap Some (sym asked.3) in
-    (went.0, went.1, asked.1, asked.2, there, rest.0, rest.1, rest.2)
+    record {
+      mid = went.0;
+      before_happens = went.1;
+      after = asked.1;
+      stands_not = asked.0;
+      asks = asked.2;
+      there = ap (λ (l : List Reply). slice_get l k) (stay.1 ∙ ap (λ (l : List Reply). l ++ stay.0) kept.kept) ∙ ap (λ (n : ℕ). slice_get ((parts.0.messages ++ kept.reply ∷ []) ++ stay.0) n) kept.next ∙ behind parts.0.messages kept.reply stay.0 ∙ ap Some (sym asked.3);
+      late = rest.0;
+      since_happens = rest.1;
+      stands = rest.2;
+    }
+
+pub replies_are_kept : (old new : WorldRecord) (events : List (Event × Outcome)) → AreTold old events new → RepliesAreKept old events new
+replies_are_kept old new events told before since side command k w all s = let a = asked_for old new events told before since side command k w all s in (a.mid, a.before_happens, a.after, a.asks, a.there, a.late, a.since_happens, a.stands)

@@ -1,19 +1,22 @@
 -- What a value of a world says of the worlds that it stands for.
-use Rattle.std.proofs.Common.{◌≡◌, ℕ, suc, inl, inr, ◌<◌, ◌≤◌, nat_le, nat_lt, true, false, List, length, Option, Some, None, refl, ap, sym, ◌∙◌, arith}
-use Rattle.std.specs.List.{slice_get}
+use Rattle.std.proofs.Common.{◌≡◌, ℕ, suc, inl, inr, ◌<◌, ◌≤◌, nat_le, nat_lt, true, false, List, [], ◌∷◌, length, map, Option, Some, None, is_some, refl, ap, sym, ◌∙◌, arith}
+use Rattle.std.specs.List.{All, slice_get}
 use Rattle.std.specs.Option.{option_map, option_and_then}
 use Rattle.std.proofs.lemmas.Bool.{le-leb, lt-ltb}
 use Rattle.std.proofs.lemmas.Bool.Decides.{leb_tells}
 use Rattle.std.proofs.lemmas.List.{length-map}
+use Rattle.std.proofs.lemmas.List.Elements.{All-head, All-tail}
 use Rattle.std.proofs.lemmas.Option.{slice_get-map}
 use Rattle.ds_entry.specs.declared.item.Item.{Item}
+use Rattle.ds_machine.specs.State.{State}
 use Rattle.ds_machine.specs.declared.reply.Reply.{Reply}
+use Rattle.ds_content.specs.Stands as contents
 use Rattle.ds_replica.specs.declared.event.Side.TheVariants.{A, B}
 use Rattle.ds_replica.specs.declared.event.Holder.{Holder}
 use Rattle.ds_replica.specs.declared.event.Holder.TheVariants.{Store, Map}
 use Rattle.ds_replica.specs.World.{MapState, World, map_held, held_at}
 use Rattle.ds_replica.specs.Happens.{items_given}
-use Rattle.ds_world.specs.World.{WorldRecord, held_in, map_state, kept_items, Stands}
+use Rattle.ds_world.specs.World.{WorldRecord, held_in, map_state, HasItems, kept_items, Stands}
 
 -- the map of a number, as the world has it
 pub map_is : (value : WorldRecord) (w : World) (j : ℕ) → Stands value w → slice_get w.maps j ≡ option_map map_state (slice_get value.maps j)
@@ -39,6 +42,23 @@ pub held_is : (value : WorldRecord) (w : World) (h : Holder) → Stands value w 
 held_is value w (Store A) s = sym s.a.held
 held_is value w (Store B) s = sym s.b.held
 held_is value w (Map j) s = ap map_held (map_is value w j s)
+
+-- where each message has items, there are worlds for which the value stands, if both stores stand for states
+items_there : (o : Option (List Item)) → is_some o ≡ true → (items : List Item) × (o ≡ Some items)
+items_there None e = absurd (let n : false ≡ true = e in cc)
+items_there (Some items) e = (items, refl)
+
+all_items : (messages : List Reply) → All HasItems messages → (items : List (List Item)) × (map items_given messages ≡ map Some items)
+all_items [] all = ([], refl)
+all_items (reply ∷ messages) all =
+    let one = items_there (items_given reply) (All-head HasItems reply messages all) in
+    let rest = all_items messages (All-tail HasItems reply messages all) in
+    (one.0 ∷ rest.0, ap (λ (o : Option (List Item)). o ∷ map items_given messages) one.1 ∙ ap (λ (l : List (Option (List Item))). Some one.0 ∷ l) rest.1)
+
+pub some_world : (value : WorldRecord) (s t : State) → contents.Stands value.a s → contents.Stands value.b t → All HasItems value.messages → (w : World) × Stands value w
+some_world value s t a b all =
+    let items = all_items value.messages all in
+    (record { a = s; b = t; maps = map map_state value.maps; messages = items.0 }, record { a = a; b = b; maps = refl; messages = items.1 })
 
 -- ---- tests of numbers
 pub le_true : (m n : ℕ) → m ≤ n → nat_le m n ≡ true

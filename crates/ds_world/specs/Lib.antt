@@ -5,3 +5,4 @@ pub mod Run
 pub mod Account
 pub mod Messages
 pub mod Told
+pub mod Pages

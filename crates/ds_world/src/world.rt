@@ -3,19 +3,20 @@
 ghost use Rattle.std.specs.Prelude.{◌≡◌, ◌≤◌, [], ◌∷◌, length, slice_get, vec_capacity, IfOk, IfErr, IfSome, OnOk, OnErr};
 ghost use Rattle.std.specs.Option.{option_copied};
 ghost use Rattle.ds_held.specs.Limits.{larger};
-ghost use Rattle.ds_replica.specs.World.{new_world};
+ghost use Rattle.ds_replica.specs.World.{World as Described, new_world};
 ghost use Rattle.ds_replica.specs.Known.{Account, new_account, extended, extended_all};
 ghost use Rattle.ds_world.specs.World.{store_in, HasItems, Stands};
 ghost use Rattle.ds_world.specs.Seeds.{AreSeeds, IsSeedFault};
 ghost use Rattle.ds_world.specs.Run.{most_events, paired, EventLeads, RunLeads, IsRunFault};
 ghost use Rattle.ds_world.specs.Told.{IsTold, AreTold, RepliesAreKept, MessagesStay};
 ghost use Rattle.ds_world.specs.Messages.{SnapshotsAreWhole, SincesAreTurns, SincesExtend, PagesAreTurns, ChecksAreTurns, AllChecksAreWhole};
+ghost use Rattle.ds_world.specs.Pages.{AllPagesAreWhole};
 ghost use Rattle.ds_world.specs.Account.{IsFor, Agrees, CatchesUp, KeepsUp, NamesNewest, NothingClashes, NothingStops, NothingBelowFloors, StayItems, TurnsAreRun, WholeStays};
 
 use crate::events::Events;
 use crate::fault::{SeedFault, WorldFault};
 use crate::outcomes::Outcomes;
-use ds_machine::Reply;
+use ds_machine::{Reply, answers_say};
 use ds_replica::{Event, Outcome, Seed, Side};
 use ds_store::Store;
 use ds_submap::SubMap;
@@ -111,12 +112,14 @@ impl World {
         ensures since_turns { IfOk result (λ outcomes. (account : Account) → IsFor account self.old → SincesAreTurns account (paired events outcomes)) }
         ensures sinces { IfOk result (λ outcomes. (account : Account) → IsFor account self.old → SincesExtend account (paired events outcomes)) }
         ensures pages { IfOk result (λ outcomes. (account : Account) → IsFor account self.old → PagesAreTurns account (paired events outcomes)) }
+        ensures all_pages { IfOk result (λ outcomes. (account : Account) → IsFor account self.old → AllPagesAreWhole account (paired events outcomes) self.new) }
         ensures checks { IfOk result (λ outcomes. (account : Account) → IsFor account self.old → ChecksAreTurns account (paired events outcomes)) }
         ensures all_checks { IfOk result (λ outcomes. (account : Account) → IsFor account self.old → AllChecksAreWhole account (paired events outcomes)) }
         ensures turns { IfOk result (λ outcomes. TurnsAreRun self.old (paired events outcomes) self.new) }
         ensures refused { IfErr result (λ fault. IsRunFault fault events) }
         ensures unchanged { OnErr result (self.new ≡ self.old) }
     {
+        answers_say();
         if events.len() > MOST_EVENTS {
             return Err(WorldFault::TooMany);
         }
@@ -186,10 +189,13 @@ impl World {
         }
     }
 
-    /// The store of a side.
+    /// The store of a side. Whatever happened, there are worlds of the definitions for which this one stands, and what `happen`
+    /// and `run` say is said of each.
     pub fn store(&self, side: Side) -> &Store
-        ensures { result.now ≡ store_in self.now side }
+        ensures is { result.now ≡ store_in self.now side }
+        ensures stands { (w : Described) × Stands self.now w }
     {
+        let _stood = (self.a.cursor(), self.b.cursor());
         match side {
             Side::A => &self.a,
             Side::B => &self.b,

@@ -1,5 +1,6 @@
 use Rattle.ds_world.proofs.HeadlineLemmas.{account_fits, agree_after, catch_up_after, keep_up_after, newest_after, clashes_after, floors_after, items_stay, stays_whole, turns}
 use Rattle.ds_world.proofs.GivenLemmas.{snapshots, since_turns, sinces, pages, checks, all_checks, stops}
+use Rattle.ds_world.proofs.PageLemmas.{all_pages}
 use Rattle.ds_world.proofs.ReplyLemmas.{replies_are_kept, messages_stay}
 use Rattle.ds_world.specs.Run.{paired}
 use Rattle.ds_world.proofs.world.World.run.Goals as goal
@@ -51,6 +52,9 @@ returns-clause-sinces c account = sinces account c.args.self.now c.happen_all.ne
 
 pub returns-clause-pages : goal.returns-clause-pages
 returns-clause-pages c account = pages account c.args.self.now c.happen_all.new.self c.args.events c.happen_all.result c.happen_all.ensures.done
+
+pub returns-clause-all_pages : goal.returns-clause-all_pages
+returns-clause-all_pages c account = all_pages c.answers_say.ensures.paged c.answers_say.ensures.journaled account c.args.self.now c.happen_all.new.self (paired c.args.events c.happen_all.result) c.happen_all.ensures.told
 
 pub returns-clause-checks : goal.returns-clause-checks
 returns-clause-checks c account = checks account c.args.self.now c.happen_all.new.self c.args.events c.happen_all.result c.happen_all.ensures.done

@@ -1,0 +1,69 @@
+-- What all pages of a run leave out nothing of.
+use Rattle.std.specs.Prelude.{◌≡◌, ℕ, ◌≤◌, Bool, List, [], ◌∷◌, ◌++◌, Option, None, Some, MatchBool}
+use Rattle.std.specs.List.{flat_map, slice_get}
+use Rattle.ds_names.specs.declared.key.Key.{Key}
+use Rattle.ds_feed.specs.declared.cursor.Cursor.{Cursor}
+use Rattle.ds_feed.specs.declared.reading.Page as readings
+use Rattle.ds_feed.specs.declared.reading.Since as journals
+use Rattle.ds_whole.specs.Under.{Keeps}
+use Rattle.ds_whole.specs.Whole.{IsWhole}
+use Rattle.ds_whole.specs.Paged.{last_key}
+use Rattle.ds_machine.specs.Scope.{keeps}
+use Rattle.ds_machine.specs.declared.command.Scope.{Scope}
+use Rattle.ds_machine.specs.declared.command.Command.TheVariants.{Since, Page}
+use Rattle.ds_machine.specs.declared.reply.Reply.{Reply}
+use Rattle.ds_machine.specs.declared.reply.Reply.TheVariants.{Journaled, Paged}
+use Rattle.ds_replica.specs.declared.event.Side.{Side}
+use Rattle.ds_replica.specs.declared.event.Event.{Event}
+use Rattle.ds_replica.specs.declared.outcome.Outcome.{Outcome}
+use Rattle.ds_replica.specs.Known.{Account, extended_all}
+use Rattle.ds_replica.specs.Messages.{feed_of}
+use Rattle.ds_replica.specs.Checks.{sent_in}
+use Rattle.ds_world.specs.World.{WorldRecord}
+use Rattle.ds_world.specs.Messages.{WasGiven}
+
+-- a page that a store gave: how many changes were asked for, and the message that it is
+pub record GivenPage : Type 0 where
+  pub max : ℕ
+  pub message : ℕ
+  pub page : readings.Page
+
+-- and a reply of its journal
+pub record GivenSince : Type 0 where
+  pub max : ℕ
+  pub message : ℕ
+  pub since : journals.Since
+
+-- among the events a store gave these pages, each asked for behind the last key of the one before, and of no earlier time, up
+-- to the last page; they are messages of the world
+abbrev pub WerePaged : List (Event × Outcome) → List Reply → Side → Scope → Option Key → ℕ → List GivenPage → Type 0
+WerePaged events messages side scope after p [] = ⊥
+WerePaged events messages side scope after p (x ∷ xs) =
+    WasGiven events side (Page scope after x.max) x.message × (slice_get messages x.message ≡ Some (Paged x.page)) × (p ≤ x.page.cursor.position)
+    × MatchBool x.page.last (xs ≡ []) (WerePaged events messages side scope (last_key after x.page.items) x.page.cursor.position xs)
+
+-- and these replies of its journal, each asked for from the cursor that the one before gave
+abbrev pub WereJournaled : List (Event × Outcome) → List Reply → Side → Scope → Cursor → List GivenSince → Type 0
+WereJournaled events messages side scope at [] = Unit {0}
+WereJournaled events messages side scope at (x ∷ xs) =
+    WasGiven events side (Since scope at x.max) x.message × (slice_get messages x.message ≡ Some (Journaled x.since)) × WereJournaled events messages side scope x.since.cursor xs
+
+-- the cursor of the last of them, or the one before
+abbrev pub last_page : Cursor → List GivenPage → Cursor
+last_page at [] = at
+last_page at (x ∷ xs) = last_page x.page.cursor xs
+
+abbrev pub last_since : Cursor → List GivenSince → Cursor
+last_since at [] = at
+last_since at (x ∷ xs) = last_since x.since.cursor xs
+
+-- the items of all pages, with those of the journal from the first page's cursor on, are whole up to the cursor that the journal
+-- gave last, if that one isn't before the last page's; whatever happened between them, and in whatever order they were asked for
+abbrev pub AllPagesAreWhole : Account → List (Event × Outcome) → WorldRecord → Type 0
+AllPagesAreWhole account events new =
+    (side : Side) (scope other : Scope) (query : Key → Bool) (first : GivenPage) (pages : List GivenPage) (sinces : List GivenSince) → Keeps (keeps scope) query → Keeps (keeps other) query →
+    WerePaged events new.messages side scope None 0 (first ∷ pages) → WereJournaled events new.messages side other first.page.cursor sinces →
+    let now = extended_all account events in
+    let to = last_since first.page.cursor sinces in
+    (last_page first.page.cursor pages).position ≤ to.position →
+    IsWhole (feed_of now side) query (flat_map (λ x. sent_in now x.message) (first ∷ pages) ++ flat_map (λ x. sent_in now x.message) sinces) to.position
