@@ -1,8 +1,6 @@
 -- Lines, and the commands that may stand on them.
 use Rattle.std.proofs.Common.{◌≡◌, ℕ, zero, suc, false, ◌≤◌, List, ◌++◌, ◌∷◌, [], length, Option, None, Some, Result, refl, sym, ap, subst, ◌∙◌, arith}
-use Rattle.ds_pattern.specs.declared.query.Query.{Query}
 use Rattle.ds_words.specs.Command.{IsCommand, TakesMemory, ReadsAs, is_plain}
-use Rattle.ds_words.specs.Scope.{is_all, ScopeTakesMemory}
 use Rattle.ds_words.specs.declared.command.ScriptCommand.{ScriptCommand}
 use Rattle.ds_words.specs.declared.command.ScriptCommand.TheVariants.{Offer, Show, All, Publish, Subscribe, Map, Entries, Ring, Since, Snapshot, Page}
 use Rattle.ds_words.specs.declared.fault.CommandFault.{CommandFault}
@@ -15,19 +13,15 @@ may_command (suc before) command may = may.0
 
 -- ---- memory
 
-scope_room : (scope : Option Query) → ScopeTakesMemory scope → is_all scope ≡ false
-scope_room None takes = absurd takes
-scope_room (Some query) takes = refl
-
 -- a line with a text, a blob or a pattern takes memory
 pub memory_room : (command : ScriptCommand) → TakesMemory command → TakesRoom command
 memory_room (Offer i) takes = refl
 memory_room (Publish caller key version value overwrite) takes = refl
 memory_room (Subscribe sub query initial overwrite) takes = refl
 memory_room (Map query) takes = tt
-memory_room (Since scope cursor max) takes = scope_room scope takes
-memory_room (Snapshot scope) takes = scope_room scope takes
-memory_room (Page scope after max) takes = scope_room scope takes
+memory_room (Since (Some query) cursor max) takes = refl
+memory_room (Snapshot (Some query)) takes = refl
+memory_room (Page (Some query) after max) takes = refl
 memory_room command takes = absurd takes
 
 -- so does what isn't plain
