@@ -11,7 +11,7 @@ use crate::bad_line::{end_at, pass_over};
 use crate::fault::ReplayFault;
 use crate::line::answer_line;
 use crate::report::{BadLine, BadLines, Report};
-use crate::sending::{send, send_full};
+use crate::sending::send_full;
 use crate::session::Session;
 use crate::transfer::drop_front;
 use ds_line::Expected;
@@ -175,7 +175,7 @@ fn judge_front<W: Write, B: Report>(
     }
 }
 
-/// Answers the last line, if its newline is missing, and writes the answers that wait.
+/// Answers the last line, if its newline is missing.
 pub(crate) fn take_last<W: Write, B: Report>(
     alloc: Global,
     writer: &mut W,
@@ -186,15 +186,14 @@ pub(crate) fn take_last<W: Write, B: Report>(
     requires pending { IsUnbroken pending.old.items }
     requires few { running.old.done.lines < 2 ^ 62 }
     requires bad { running.old.done.bad ≤ running.old.done.lines }
-    ensures ok { OnOk result (Takes (W.contents writer.old) (W.contents writer.new) (reached running.old) (unended pending.old.items) (reached running.new) × (running.new.output.items ≡ [])) }
+    ensures ok { OnOk result (Takes (W.contents writer.old) (W.contents writer.new) (reached running.old) (unended pending.old.items) (reached running.new)) }
     ensures err { IfErr result (λ fault. (to : Option (List ℕ)) → IsAtEnd to → LastStops fault to (W.contents writer.old) (W.contents writer.new) (reached running.old) pending.old.items running.new.output.items) }
 {
-    if !pending.is_empty() {
-        let Ok(()) = pending.push(b'\n') else {
-            return Err(ReplayFault::NoRoom);
-        };
-        take_line(alloc, writer, report, pending.as_slice(), running)?;
+    if pending.is_empty() {
+        return Ok(());
     }
-    send(writer, &mut running.output)?;
-    Ok(())
+    let Ok(()) = pending.push(b'\n') else {
+        return Err(ReplayFault::NoRoom);
+    };
+    take_line(alloc, writer, report, pending.as_slice(), running)
 }

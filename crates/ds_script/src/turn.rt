@@ -12,8 +12,8 @@ use crate::transfer::{Filled, fill};
 use std::alloc::Global;
 use std::io::{Read, Write};
 
-/// Writes the answers that wait, reads once, and answers all whole lines that are there then, or at the end the last one.
-/// Gives whether there may be more to read.
+/// Writes the answers that wait, reads once, and answers all whole lines that are there then; or at the end the last line, whose
+/// answer it writes. Gives whether there may be more to read.
 pub(crate) fn take_turn<R: Read, W: Write, B: Report>(
     alloc: Global,
     reader: &mut R,
@@ -41,6 +41,7 @@ pub(crate) fn take_turn<R: Read, W: Write, B: Report>(
         Filled::Interrupted => Ok(true),
         Filled::End => {
             take_last(alloc, writer, report, pending, running)?;
+            send(writer, &mut running.output)?;
             Ok(false)
         }
         Filled::Failed => Err(ReplayFault::ReadFault),
