@@ -11,7 +11,7 @@ use crate::bad_line::{end_at, pass_over};
 use crate::fault::ReplayFault;
 use crate::line::answer_line;
 use crate::report::{BadLine, BadLines, Report};
-use crate::sending::send_full;
+use crate::sending::{send, send_full};
 use crate::session::Session;
 use crate::transfer::drop_front;
 use ds_line::Expected;
@@ -175,8 +175,27 @@ fn judge_front<W: Write, B: Report>(
     }
 }
 
-/// Answers the last line, if its newline is missing.
+/// Answers the last line, if its newline is missing, and writes the answers that wait.
 pub(crate) fn take_last<W: Write, B: Report>(
+    alloc: Global,
+    writer: &mut W,
+    report: &mut B,
+    pending: &mut Vec<u8>,
+    running: &mut Running,
+) -> Result<(), ReplayFault>
+    requires pending { IsUnbroken pending.old.items }
+    requires few { running.old.done.lines < 2 ^ 62 }
+    requires bad { running.old.done.bad ≤ running.old.done.lines }
+    ensures ok { OnOk result (Takes (W.contents writer.old) (W.contents writer.new) (reached running.old) (unended pending.old.items) (reached running.new) × (running.new.output.items ≡ [])) }
+    ensures err { IfErr result (λ fault. (to : Option (List ℕ)) → IsAtEnd to → LastStops fault to (W.contents writer.old) (W.contents writer.new) (reached running.old) pending.old.items running.new.output.items) }
+{
+    take_unended(alloc, writer, report, pending, running)?;
+    send(writer, &mut running.output)?;
+    Ok(())
+}
+
+// Answers the last line, if its newline is missing.
+fn take_unended<W: Write, B: Report>(
     alloc: Global,
     writer: &mut W,
     report: &mut B,

@@ -1,7 +1,8 @@
 use Rattle.std.proofs.Common.{◌∷◌, [], ◌+◌, length, ap, arith, length-append}
+use Rattle.std.proofs.lemmas.Result.{err_from_is_err_and}
 use Rattle.ds_script.specs.Progress.{Reached, reached}
 use Rattle.ds_script.proofs.ProgressLemmas.{takes_none, takes_few}
-use Rattle.ds_script.proofs.RunLemmas.{text_none, text_more}
+use Rattle.ds_script.proofs.RunLemmas.{text_none, text_more, line_stops}
 use Rattle.ds_script.proofs.taking.take_lines.Goals as goal
 
 pub loop-line-init : goal.loop-line-init
@@ -22,3 +23,16 @@ loop-line-preserved g c =
       text = text_more (g.W.Write.contents c.args.writer.now) (g.W.Write.contents c.loop-line.writer) (g.W.Write.contents c.take_line.new.writer) (reached c.args.running.now) (reached c.loop-line.running) (reached c.take_line.new.running) c.args.text.now c.loop-line.rest.now line more e.front i.text split e.parts e.none one;
       few = omega (arith, i.few, one.counted, ap length split, length-append line more, ap length e.parts, length-append e.front (10 ∷ []));
     }
+
+pub take_line-requires-clause-bad : goal.take_line-requires-clause-bad
+take_line-requires-clause-bad g c =
+    let t = c.loop-line.invariant.text in
+    takes_few (g.W.Write.contents c.args.writer.now) (g.W.Write.contents c.loop-line.writer) (reached c.args.running.now) (reached c.loop-line.running) t.lines t.takes c.requires.bad
+
+pub returns-in_err-take_line-clause-err : goal.returns-in_err-take_line-clause-err
+returns-in_err-take_line-clause-err g c =
+    let exit = err_from_is_err_and c.from_residual.result c.from_residual.ensures.1 in
+    let e = (c.in-Some.ensures).0 in
+    rw (exit.1, exit.2) (λ to.
+    line_stops c.in_err-take_line.field-0.0 to (g.W.Write.contents c.args.writer.now) (g.W.Write.contents c.loop-line.writer) (g.W.Write.contents c.take_line.new.writer) (reached c.args.running.now) (reached c.loop-line.running) c.args.text.now c.loop-line.rest.now c.in-Some.line.now c.in-Some.more.now e.front c.take_line.new.running.output.items
+    c.loop-line.invariant.text (c.in-Some.ensures).1 e.parts e.none ((c.in_err-take_line.ensures).err e.front e.parts))
