@@ -25,6 +25,10 @@ pub where_err : {T E : Type 0} {P Q : E → Type 0} (r : Result T E) → ((e : E
 where_err (Ok t) by p = tt
 where_err (Err e) by p = by e p
 
+-- an error that is known
+pub where_known : {T E : Type 0} (Q : E → Type 0) (r : Result T E) (y e : E) → r ≡ Err y → y ≡ e → Q e → IfErr r Q
+where_known {T} {E} Q r y e at is q = subst (λ (s : Result T E). IfErr s Q) (sym at) (subst Q (sym is) q)
+
 -- ---- answers to lines
 
 lines_both : (policy q : BadLines) (n k x y : ℕ) (a b c : SessionContent) (ls ms : List (List ℕ)) (o p : List ℕ) → q ≡ policy → k ≡ n + length ls → AnswersLines policy n a ls o x b → AnswersLines q k b ms p y c → AnswersLines policy n a (ls ++ ms) (o ++ p) (x + y) c
