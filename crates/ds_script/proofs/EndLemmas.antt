@@ -22,7 +22,7 @@ are_answers policy [] bad output start end opened a = (a.0, a.1)
 are_answers policy (line ∷ lines) bad output start end opened a = (start, end, opened, a)
 
 -- none is bad where a bad line ends the replay
-none_bad : (before : ℕ) (old new : SessionContent) (lines : List (List ℕ)) (out : List ℕ) (bad : ℕ) → AnswersLines End before old lines out bad new → bad ≡ 0
+pub none_bad : (before : ℕ) (old new : SessionContent) (lines : List (List ℕ)) (out : List ℕ) (bad : ℕ) → AnswersLines End before old lines out bad new → bad ≡ 0
 none_bad before old new [] out bad a = a.1
 none_bad before old new (line ∷ lines) out bad a =
     let rest : a.4 ≡ 0 = none_bad (suc before) a.0 new lines a.2 a.4 a.6 in
