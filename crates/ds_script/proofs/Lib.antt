@@ -1,4 +1,7 @@
 pub mod PickLemmas
+pub mod LineLemmas
+pub mod EventLemmas
+pub mod LawLemmas
 pub mod ProgressLemmas
 pub mod RunLemmas
 pub mod EndLemmas

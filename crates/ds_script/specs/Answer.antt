@@ -13,7 +13,7 @@ use Rattle.ds_replica.specs.declared.event.Event.{Event}
 use Rattle.ds_replica.specs.declared.event.Side.{Side}
 use Rattle.ds_replica.specs.declared.outcome.Outcome.{Outcome}
 use Rattle.ds_replica.specs.declared.outcome.Outcome.TheVariants.{Made}
-use Rattle.ds_words.specs.Command.{IsCommand, IsLineAs}
+use Rattle.ds_words.specs.Command.{IsCommand, IsLineAs, is_plain}
 use Rattle.ds_words.specs.Later.{IsLater}
 use Rattle.ds_words.specs.Lines.{ended}
 use Rattle.ds_words.specs.Event.{event_of}
@@ -84,9 +84,19 @@ AnswersCommand command old out new = AnswersAsEvent command old out new
 abbrev pub IsRefused : SessionContent → List ℕ → SessionContent → Type 0
 IsRefused old out new = (new ≡ old) × (out ≡ refused_noroom)
 
+-- The script itself takes memory for the command: for a copy of what is shown, for the stores' rings, or for what the line asks.
+-- Where others are refused for want of memory, it is the world that refuses them.
+abbrev pub TakesRoom : ScriptCommand → Type 0
+TakesRoom lines.Show = Unit {0}
+TakesRoom lines.All = Unit {0}
+TakesRoom (lines.Entries map) = Unit {0}
+TakesRoom (lines.Ring ring) = Unit {0}
+TakesRoom (lines.Map query) = Unit {0}
+TakesRoom command = is_plain command ≡ false
+
 -- what a command is answered, memory or not
 abbrev pub AnswersOrRefuses : ScriptCommand → SessionContent → List ℕ → SessionContent → Type 0
-AnswersOrRefuses command old out new = IsRefused old out new ⊎ AnswersCommand command old out new
+AnswersOrRefuses command old out new = (TakesRoom command × IsRefused old out new) ⊎ AnswersCommand command old out new
 
 -- ---- lines
 

@@ -40,7 +40,7 @@ abbrev pub held_of : SessionContent → List Item
 held_of session = (store_in session.world session.side).held
 
 -- One event happens in the world: with this outcome it leads from each world of the definitions for which the session stands to
--- one for which it then does, and what `World::run` tells of the outcome is so.
+-- one for which it then does, and what `World::happen` tells of the outcome is so.
 pub record IsHappening (event : Event) (outcome : Outcome) (old new : SessionContent) : Type 0 where
   pub leads : EventLeads event outcome old.world new.world
   pub told : IsTold event outcome old.world new.world

@@ -1,6 +1,7 @@
 //! Commands that are events of a world, and what is told of them.
 
-ghost use Rattle.std.specs.Prelude.{◌≡◌, ◌≢◌, ◌⊎◌, ◌++◌, List, ℕ, None, Some, OnOk, OnErr};
+ghost use Rattle.std.specs.Prelude.{◌≡◌, ◌≢◌, ◌⊎◌, ◌++◌, List, ℕ, false, None, OnOk, OnErr};
+ghost use Rattle.ds_words.specs.Command.{is_plain};
 ghost use Rattle.ds_words.specs.Event.{event_of};
 ghost use Rattle.ds_script.specs.Answer.{AnswersAsEvent, IsRefused, told_lines};
 
@@ -19,17 +20,16 @@ pub(crate) fn answer_event(
     command: ScriptCommand,
 ) -> Result<(), NoRoom>
     requires { event_of session.old.side command ≢ None }
-    ensures answered { OnOk result ((out : List ℕ) × (output.new.items ≡ output.old.items ++ out) × (AnswersAsEvent command session.old out session.new ⊎ IsRefused session.old out session.new)) }
+    ensures answered { OnOk result ((out : List ℕ) × (output.new.items ≡ output.old.items ++ out) × (AnswersAsEvent command session.old out session.new ⊎ ((is_plain command ≡ false) × IsRefused session.old out session.new))) }
     ensures unanswered { OnErr result (output.new.items ≡ output.old.items) }
 {
     let wording = command.wording();
-    let event = match command.into_event(alloc, session.side()) {
-        Ok(Some(event)) => event,
+    match command.into_event(alloc, session.side()) {
+        Ok(Some(event)) => {
+            let outcome = session.happen(event);
+            append_told(output, wording, &outcome, session)
+        }
         Ok(None) => unreachable!(),
-        Err(NoRoom) => return append_noroom(output),
-    };
-    match session.happen(alloc, event) {
-        Ok(outcome) => append_told(output, wording, &outcome, session),
         Err(NoRoom) => append_noroom(output),
     }
 }

@@ -1,6 +1,6 @@
 //! What a script drives.
 
-ghost use Rattle.std.specs.Prelude.{◌≡◌, ◌≤◌, slice_get, IfOk, OnErr};
+ghost use Rattle.std.specs.Prelude.{◌≡◌, ◌≤◌, slice_get, IfOk};
 ghost use Rattle.std.specs.Option.{option_copied};
 ghost use Rattle.ds_held.specs.Held.{held_items};
 ghost use Rattle.ds_script.specs.Session.{IsOpened, seed as described_seed, held_of, turned, IsHappening};
@@ -10,7 +10,7 @@ use ds_machine::Reply;
 use ds_names::NoRoom;
 use ds_replica::{Event, Outcome, Seed, Side};
 use ds_submap::SubMap;
-use ds_world::{Events, World};
+use ds_world::World;
 use std::alloc::Global;
 use std::marker::Model;
 
@@ -70,22 +70,11 @@ impl Session {
         self.side = side;
     }
 
-    /// Lets one event happen. NoRoom: there is no memory for the lists of one event and of one outcome, and nothing happened.
-    pub(crate) fn happen(&mut self, alloc: Global, event: Event) -> Result<Outcome, NoRoom>
-        ensures happened { IfOk result (λ outcome. IsHappening event outcome self.old self.new) }
-        ensures unchanged { OnErr result (self.new ≡ self.old) }
+    /// Lets one event happen, and gives what came of it.
+    pub(crate) fn happen(&mut self, event: Event) -> Outcome
+        ensures { IsHappening event result self.old self.new }
     {
-        let mut events = Events::new(alloc);
-        if events.push(event).is_err() {
-            return Err(NoRoom);
-        }
-        let Ok(outcomes) = self.world.run(events) else {
-            return Err(NoRoom);
-        };
-        match outcomes.into_list().pop() {
-            Some(outcome) => Ok(outcome),
-            None => unreachable!(),
-        }
+        self.world.happen(event)
     }
 
     /// What the store that is asked holds.

@@ -1,0 +1,70 @@
+-- Commands, and what they are answered.
+use Rattle.std.proofs.Common.{◌≡◌, ◌≢◌, ℕ, false, ◌⊎◌, inl, inr, Option, Some, None, MatchOption, List, refl, sym, ap, subst, ◌∙◌}
+use Rattle.std.specs.List.{slice_get}
+use Rattle.ds_submap.specs.Map.{SubMapRecord}
+use Rattle.ds_replica.specs.declared.event.Event.{Event}
+use Rattle.ds_replica.specs.declared.event.Side.{Side as OneSide}
+use Rattle.ds_replica.specs.declared.outcome.Outcome.{Outcome}
+use Rattle.ds_words.specs.Command.{is_plain}
+use Rattle.ds_words.specs.Event.{event_of}
+use Rattle.ds_words.specs.Outcome.{side_line}
+use Rattle.ds_words.specs.Reply.{wording, refused_noroom}
+use Rattle.ds_words.specs.declared.command.ScriptCommand.{ScriptCommand}
+use Rattle.ds_words.specs.declared.command.ScriptCommand.TheVariants.{Show, All, Entries, Ring, Side}
+use Rattle.ds_words.specs.declared.wording.Wording.{Wording}
+use Rattle.ds_script.specs.Session.{SessionContent, IsHappening, turned}
+use Rattle.ds_script.specs.Answer.{told_lines, entries_text, AnswersEvent, AnswersAsEvent, AnswersRing, AnswersCommand, IsRefused, AnswersOrRefuses}
+use Rattle.ds_script.proofs.LineLemmas.{plain_room}
+
+-- ---- events
+
+some_is_not_none : {X : Type 0} (x : X) → Some x ≢ None
+some_is_not_none x = λ same. absurd (cc)
+
+-- all commands but these are events
+pub is_event : (side : OneSide) (command : ScriptCommand) → command ≢ Show → command ≢ All → ((map : ℕ) → command ≢ Entries map) → ((ring : ℕ) → command ≢ Ring ring) → ((to : OneSide) → command ≢ Side to)
+    → event_of side command ≢ None
+is_event side Show no_show no_all no_entries no_ring no_side = absurd (no_show refl)
+is_event side All no_show no_all no_entries no_ring no_side = absurd (no_all refl)
+is_event side (Entries map) no_show no_all no_entries no_ring no_side = absurd (no_entries map refl)
+is_event side (Ring ring) no_show no_all no_entries no_ring no_side = absurd (no_ring ring refl)
+is_event side (Side to) no_show no_all no_entries no_ring no_side = absurd (no_side to refl)
+is_event side command no_show no_all no_entries no_ring no_side = λ none. some_is_not_none _ none
+
+-- what is told of the command's event is its answer
+pub as_event : (command : ScriptCommand) (worded : Wording) (side : OneSide) (event : Event) (outcome : Outcome) (old new : SessionContent)
+    → worded ≡ wording command → side ≡ old.side → Some event ≡ event_of side command → IsHappening event outcome old new
+    → AnswersAsEvent command old (told_lines worded outcome new.world.messages) new
+as_event command worded side event outcome old new same at is happens =
+    subst (λ (o : Option Event). MatchOption o ⊥ (λ e. AnswersEvent (wording command) e old (told_lines worded outcome new.world.messages) new)) (is ∙ ap (λ (s : OneSide). event_of s command) at)
+    (record { outcome = outcome; happens = happens; told = ap (λ (w : Wording). told_lines w outcome new.world.messages) same })
+
+-- what a command that is an event is answered, it is answered
+answers_it : (command : ScriptCommand) (old : SessionContent) (out : List ℕ) (new : SessionContent) → AnswersAsEvent command old out new → AnswersCommand command old out new
+answers_it Show old out new a = absurd a
+answers_it All old out new a = absurd a
+answers_it (Entries map) old out new a = absurd a
+answers_it (Ring ring) old out new a = absurd a
+answers_it (Side side) old out new a = absurd a
+answers_it command old out new a = a
+
+pub event_answers : (command : ScriptCommand) (old : SessionContent) (out : List ℕ) (new : SessionContent)
+    → AnswersAsEvent command old out new ⊎ ((is_plain command ≡ false) × IsRefused old out new) → AnswersOrRefuses command old out new
+event_answers command old out new (inl a) = inr (answers_it command old out new a)
+event_answers command old out new (inr r) = inl (plain_room command r.0, r.1)
+
+-- ---- other commands
+
+-- the map of the number, or that there is none, is the answer to `entries`
+pub entries_answers : (command : ScriptCommand) (number : ℕ) (session : SessionContent) (m : Option SubMapRecord) → command ≡ Entries number → m ≡ slice_get session.world.maps number → AnswersOrRefuses command session (entries_text m) session
+entries_answers command number session m is at = subst (λ (k : ScriptCommand). AnswersOrRefuses k session (entries_text m) session) (sym is) (inr (refl, ap entries_text at))
+
+pub entries_refused : (command : ScriptCommand) (number : ℕ) (session : SessionContent) → command ≡ Entries number → AnswersOrRefuses command session refused_noroom session
+entries_refused command number session is = subst (λ (k : ScriptCommand). AnswersOrRefuses k session refused_noroom session) (sym is) (inl (tt, (refl, refl)))
+
+pub ring_answers : (command : ScriptCommand) (ring : ℕ) (old : SessionContent) (out : List ℕ) (new : SessionContent) → command ≡ Ring ring → AnswersRing ring old out new ⊎ IsRefused old out new → AnswersOrRefuses command old out new
+ring_answers command ring old out new is (inl a) = subst (λ (k : ScriptCommand). AnswersOrRefuses k old out new) (sym is) (inr a)
+ring_answers command ring old out new is (inr r) = subst (λ (k : ScriptCommand). AnswersOrRefuses k old out new) (sym is) (inl (tt, r))
+
+pub side_answers : (command : ScriptCommand) (side : OneSide) (old new : SessionContent) → command ≡ Side side → new ≡ turned old side → AnswersOrRefuses command old (side_line side) new
+side_answers command side old new is same = subst (λ (k : ScriptCommand). AnswersOrRefuses k old (side_line side) new) (sym is) (inr (same, refl))
