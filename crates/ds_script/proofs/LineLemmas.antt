@@ -1,8 +1,7 @@
 -- Lines, and the commands that may stand on them.
-use Rattle.std.proofs.Common.{◌≡◌, ℕ, zero, suc, false, ◌≤◌, List, ◌++◌, ◌∷◌, [], length, Option, None, Some, Result, refl, sym, ap, subst, ◌∙◌, arith}
-use Rattle.ds_pattern.specs.declared.query.Query.{Query}
+use Rattle.std.proofs.Common.{◌≡◌, ◌≢◌, ℕ, zero, suc, false, List, Some, Result, refl, sym, subst}
 use Rattle.ds_words.specs.Command.{IsCommand, TakesMemory, ReadsAs, is_plain}
-use Rattle.ds_words.specs.Scope.{is_all, ScopeTakesMemory}
+use Rattle.ds_words.specs.Later.{IsLater}
 use Rattle.ds_words.specs.declared.command.ScriptCommand.{ScriptCommand}
 use Rattle.ds_words.specs.declared.command.ScriptCommand.TheVariants.{Offer, Show, All, Publish, Subscribe, Map, Entries, Ring, Since, Snapshot, Page}
 use Rattle.ds_words.specs.declared.fault.CommandFault.{CommandFault}
@@ -15,19 +14,15 @@ may_command (suc before) command may = may.0
 
 -- ---- memory
 
-scope_room : (scope : Option Query) → ScopeTakesMemory scope → is_all scope ≡ false
-scope_room None takes = absurd takes
-scope_room (Some query) takes = refl
-
 -- a line with a text, a blob or a pattern takes memory
 pub memory_room : (command : ScriptCommand) → TakesMemory command → TakesRoom command
 memory_room (Offer i) takes = refl
 memory_room (Publish caller key version value overwrite) takes = refl
 memory_room (Subscribe sub query initial overwrite) takes = refl
 memory_room (Map query) takes = tt
-memory_room (Since scope cursor max) takes = scope_room scope takes
-memory_room (Snapshot scope) takes = scope_room scope takes
-memory_room (Page scope after max) takes = scope_room scope takes
+memory_room (Since (Some query) cursor max) takes = refl
+memory_room (Snapshot (Some query)) takes = refl
+memory_room (Page (Some query) after max) takes = refl
 memory_room command takes = absurd takes
 
 -- so does what isn't plain
@@ -41,5 +36,9 @@ plain_room command e = e
 
 -- ---- the first line, and those behind it
 
-pub first_line : (before : ℕ) (bytes : List ℕ) (result : Result ScriptCommand CommandFault) → before ≡ 0 → ReadsAs (MayStand 0) bytes result → ReadsAs (MayStand before) bytes result
+pub first_line : (before : ℕ) (bytes : List ℕ) (result : Result ScriptCommand CommandFault) → before ≡ 0 → ReadsAs IsCommand bytes result → ReadsAs (MayStand before) bytes result
 first_line before bytes result none reads = subst (λ (n : ℕ). ReadsAs (MayStand n) bytes result) (sym none) reads
+
+pub later_line : (before : ℕ) (bytes : List ℕ) (result : Result ScriptCommand CommandFault) → before ≢ 0 → ReadsAs IsLater bytes result → ReadsAs (MayStand before) bytes result
+later_line zero bytes result some reads = absurd (some refl)
+later_line (suc before) bytes result some reads = reads

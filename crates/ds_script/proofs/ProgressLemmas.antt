@@ -1,5 +1,5 @@
 -- Lines that are answered, one after the other, bad ones too.
-use Rattle.std.proofs.Common.{◌≡◌, ℕ, suc, ◌+◌, ◌≤◌, ◌⊎◌, List, [], ◌∷◌, ◌++◌, length, Option, refl, sym, ap, subst, ◌∙◌, inl, inr, arith, append_assoc, append-nil, length-append}
+use Rattle.std.proofs.Common.{◌≡◌, ℕ, suc, ◌+◌, ◌≤◌, ◌⊎◌, List, [], ◌∷◌, ◌++◌, length, Option, Result, Ok, Err, OnOk, IfOk, IfErr, refl, sym, ap, subst, ◌∙◌, inl, inr, arith, append_assoc, append-nil, length-append}
 use Rattle.std.specs.Io.KnownBytes.{Appends}
 use Rattle.std.proofs.KnownBytes.{Appends-nil, Appends-trans}
 use Rattle.ds_script.specs.declared.fault.ReplayFault.{ReplayFault}
@@ -10,6 +10,24 @@ use Rattle.ds_script.specs.Session.{SessionContent}
 use Rattle.ds_script.specs.Answer.{AnswersLine}
 use Rattle.ds_script.specs.Replay.{IsBadBehind, badline, AnswersLines}
 use Rattle.ds_script.specs.Progress.{Reached, Takes, EndsAtBad, TellsBad, LineStops}
+
+-- ---- results
+
+pub where_ok : {T E P Q : Type 0} (r : Result T E) → (P → Q) → OnOk r P → OnOk r Q
+where_ok (Ok t) by p = by p
+where_ok (Err e) by p = tt
+
+pub where_if_ok : {T E : Type 0} {P Q : T → Type 0} (r : Result T E) → ((t : T) → P t → Q t) → IfOk r P → IfOk r Q
+where_if_ok (Ok t) by p = by t p
+where_if_ok (Err e) by p = tt
+
+pub where_err : {T E : Type 0} {P Q : E → Type 0} (r : Result T E) → ((e : E) → P e → Q e) → IfErr r P → IfErr r Q
+where_err (Ok t) by p = tt
+where_err (Err e) by p = by e p
+
+-- an error that is known
+pub where_known : {T E : Type 0} (Q : E → Type 0) (r : Result T E) (y e : E) → r ≡ Err y → y ≡ e → Q e → IfErr r Q
+where_known {T} {E} Q r y e at is q = subst (λ (s : Result T E). IfErr s Q) (sym at) (subst Q (sym is) q)
 
 -- ---- answers to lines
 
@@ -42,10 +60,13 @@ bad_few policy n x a b (l ∷ ls) o u =
 abbrev pub waits : Reached → List ℕ → Reached
 waits old waiting = record old { waiting = waiting }
 
--- some of the answers that wait are written
+-- some of the answers that wait are written, and nothing else changes
+pub takes_kept : (had has : Option (List ℕ)) (old new : Reached) (sent : List ℕ) → old.waiting ≡ sent ++ new.waiting → Appends had has sent → new.session ≡ old.session → new.lines ≡ old.lines → new.bad ≡ old.bad → new.policy ≡ old.policy → Takes had has old [] new
+takes_kept had has old new sent split written session lines bad policy =
+    record { output = []; sent = sent; bad = 0; answers = (refl, refl, session); split = append-nil old.waiting ∙ split; written = written; counted = omega (arith, lines); told = omega (arith, bad); policy = policy }
+
 pub takes_sent : (had has : Option (List ℕ)) (old : Reached) (sent left : List ℕ) → old.waiting ≡ sent ++ left → Appends had has sent → Takes had has old [] (waits old left)
-takes_sent had has old sent left split written =
-    record { output = []; sent = sent; bad = 0; answers = (refl, refl, refl); split = append-nil old.waiting ∙ split; written = written; counted = omega arith; told = omega arith; policy = refl }
+takes_sent had has old sent left split written = takes_kept had has old (waits old left) sent split written refl refl refl refl
 
 -- all of them are
 pub takes_written : (had has : Option (List ℕ)) (old : Reached) (waiting : List ℕ) → Appends had has old.waiting → waiting ≡ [] → Takes had has old [] (waits old waiting)

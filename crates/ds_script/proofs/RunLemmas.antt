@@ -2,6 +2,7 @@
 use Rattle.std.specs.List.{All}
 use Rattle.std.proofs.Common.{◌≡◌, ◌≢◌, ℕ, suc, ◌+◌, ◌-◌, ◌<◌, ◌≤◌, Bool, true, false, List, [], ◌∷◌, ◌++◌, length, drop, Option, refl, sym, ap, subst, ◌∙◌, ◌⊎◌, inl, inr, arith, append_assoc, append-nil, length-append}
 use Rattle.std.specs.Io.KnownBytes.{Appends, Consumes, IsAtEnd}
+use Rattle.std.proofs.KnownBytes.{Consumes-nil}
 use Rattle.std.proofs.lemmas.List.{drop_at}
 use Rattle.std.proofs.lemmas.List.Elements.{All-nil, All-append, All-push}
 use Rattle.std.proofs.lemmas.List.Concat.{flat_map-append}
@@ -147,4 +148,54 @@ last_behind fault to a b c old mid pending output p s =
     elim s [
       | inl t ↦ inl (stops_behind fault to a b c old mid pending output p t)
       | inr t ↦ inr (t.0, (t.1.0, t.1.1, t.1.2, takes_then a b c old mid t.1.1 [] t.1.0 p t.1.3))
+    ]
+
+-- ---- turns
+
+-- more is read, and lines of it were answered
+pub turns_more : (from to had has : Option (List ℕ)) (old new : Reached) (pending bytes whole rest : List ℕ) → Consumes from to bytes → whole ≡ pending ++ bytes → TakesText had has old whole new rest → IsUnbroken rest → Turns true from to had has old pending new rest
+turns_more from to had has old new pending bytes whole rest read all text unbroken = (bytes, read, subst (λ (t : List ℕ). TakesText had has old t new rest) all text, unbroken)
+
+-- nothing is
+pub turns_idle : (from to had : Option (List ℕ)) (old : Reached) (pending rest : List ℕ) → Consumes from to [] → rest ≡ pending → IsUnbroken pending → Turns true from to had had old pending old rest
+turns_idle from to had old pending rest read same unbroken =
+    let whole : rest ≡ pending ++ [] = same ∙ sym (append-nil pending) in
+    turns_more from to had had old old pending [] rest rest read whole (text_none had had old old rest (takes_none had old)) (subst IsUnbroken (sym same) unbroken)
+
+-- there is no more
+pub turns_last : (from to had has : Option (List ℕ)) (old new : Reached) (pending whole rest : List ℕ) → Consumes from to [] → IsAtEnd to → whole ≡ pending → Takes had has old (unended whole) new → new.waiting ≡ [] → Turns false from to had has old pending new rest
+turns_last from to had has old new pending whole rest read end same takes none = (read, end, subst (λ (t : List ℕ). Takes had has old (unended t) new) same takes, none)
+
+-- a turn stops in what was read
+pub turn_stops : (fault : ReplayFault) (from to had has : Option (List ℕ)) (old : Reached) (pending bytes whole output : List ℕ) → Consumes from to bytes → whole ≡ pending ++ bytes → TextStops fault to had has old whole output → TurnStops fault from to had has old pending output
+turn_stops fault from to had has old pending bytes whole output read all s = inl (bytes, read, subst (λ (t : List ℕ). TextStops fault to had has old t output) all s)
+
+-- it stops at the last line
+pub turn_stops_last : (fault : ReplayFault) (from to had has : Option (List ℕ)) (old : Reached) (pending whole output : List ℕ) → Consumes from to [] → IsAtEnd to → whole ≡ pending → LastStops fault to had has old whole output → TurnStops fault from to had has old pending output
+turn_stops_last fault from to had has old pending whole output read end same s = inr (read, end, subst (λ (t : List ℕ). LastStops fault to had has old t output) same s)
+
+-- the reader failed
+pub turn_unread : (from to had : Option (List ℕ)) (old : Reached) (pending : List ℕ) → Consumes from to [] → IsUnbroken pending → TurnStops ReadFault from to had had old pending old.waiting
+turn_unread from to had old pending read unbroken =
+    turn_stops ReadFault from to had had old pending [] pending old.waiting read (sym (append-nil pending)) (old, pending, text_none had had old old pending (takes_none had old), (refl, unbroken))
+
+-- there was no room for what was read
+pub turn_unkept : (from to had : Option (List ℕ)) (old : Reached) (pending bytes : List ℕ) → Consumes from to bytes → TurnStops NoRoom from to had had old pending old.waiting
+turn_unkept from to had old pending bytes read = inl (bytes, read, (old, pending ++ bytes, text_none had had old old (pending ++ bytes) (takes_none had old), refl))
+
+-- the answers that waited weren't written
+pub turn_unsent : (from had has : Option (List ℕ)) (old : Reached) (pending sent left output : List ℕ) → old.waiting ≡ sent ++ left → Appends had has sent → TurnStops WriteFault from from had has old pending output
+turn_unsent from had has old pending sent left output split written =
+    inl ([], Consumes-nil from, (waits old left, pending ++ [], text_none had has old (waits old left) (pending ++ []) (takes_sent had has old sent left split written), tt))
+
+-- answers were written before a turn
+pub turns_behind : (more : Bool) (from to a b c : Option (List ℕ)) (old mid new : Reached) (pending rest : List ℕ) → Takes a b old [] mid → Turns more from to b c mid pending new rest → Turns more from to a c old pending new rest
+turns_behind true from to a b c old mid new pending rest p t = (t.0, t.1, text_behind a b c old mid new (pending ++ t.0) rest p t.2, t.3)
+turns_behind false from to a b c old mid new pending rest p t = (t.0, t.1, takes_then a b c old mid new [] (unended pending) p t.2, t.3)
+
+pub turn_stops_behind : (fault : ReplayFault) (from to a b c : Option (List ℕ)) (old mid : Reached) (pending output : List ℕ) → Takes a b old [] mid → TurnStops fault from to b c mid pending output → TurnStops fault from to a c old pending output
+turn_stops_behind fault from to a b c old mid pending output p s =
+    elim s [
+      | inl t ↦ inl (t.0, t.1, stops_behind fault to a b c old mid (pending ++ t.0) output p t.2)
+      | inr t ↦ inr (t.0, t.1, last_behind fault to a b c old mid pending output p t.2)
     ]

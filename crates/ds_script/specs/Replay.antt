@@ -32,9 +32,11 @@ abbrev pub AnswersLines : BadLines → ℕ → SessionContent → List (List ℕ
 AnswersLines policy before old [] out bad new = (out ≡ []) × (bad ≡ 0) × (new ≡ old)
 AnswersLines policy before old (line ∷ lines) out bad new = (mid : SessionContent) × (first rest : List ℕ) × (one more : ℕ) × AnswersOrTells policy before old line first one mid × AnswersLines policy (suc before) mid lines rest more new × (out ≡ first ++ rest) × (bad ≡ one + more)
 
--- the output is what the lines of a script are answered, so many of them bad, from a session whose journals keep 256 items
+-- The output is what the lines of a script are answered, so many of them bad, from a session whose journals keep 256 items. To no
+-- lines nothing is answered.
 abbrev pub AreAnswers : BadLines → List (List ℕ) → ℕ → List ℕ → Type 0
-AreAnswers policy lines bad output = (start end : SessionContent) × IsOpened 256 start × AnswersLines policy 0 start lines output bad end
+AreAnswers policy [] bad output = (output ≡ []) × (bad ≡ 0)
+AreAnswers policy (line ∷ lines) bad output = (start end : SessionContent) × IsOpened 256 start × AnswersLines policy 0 start (line ∷ lines) output bad end
 
 -- The input is so many lines, so many of them bad, and the output is the answers to all of them.
 pub record IsAnswered (policy : BadLines) (input : List ℕ) (count bad : ℕ) (output : List ℕ) : Type 0 where

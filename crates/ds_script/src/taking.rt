@@ -189,12 +189,30 @@ pub(crate) fn take_last<W: Write, B: Report>(
     ensures ok { OnOk result (Takes (W.contents writer.old) (W.contents writer.new) (reached running.old) (unended pending.old.items) (reached running.new) × (running.new.output.items ≡ [])) }
     ensures err { IfErr result (λ fault. (to : Option (List ℕ)) → IsAtEnd to → LastStops fault to (W.contents writer.old) (W.contents writer.new) (reached running.old) pending.old.items running.new.output.items) }
 {
-    if !pending.is_empty() {
-        let Ok(()) = pending.push(b'\n') else {
-            return Err(ReplayFault::NoRoom);
-        };
-        take_line(alloc, writer, report, pending.as_slice(), running)?;
-    }
+    take_unended(alloc, writer, report, pending, running)?;
     send(writer, &mut running.output)?;
     Ok(())
+}
+
+// Answers the last line, if its newline is missing.
+fn take_unended<W: Write, B: Report>(
+    alloc: Global,
+    writer: &mut W,
+    report: &mut B,
+    pending: &mut Vec<u8>,
+    running: &mut Running,
+) -> Result<(), ReplayFault>
+    requires pending { IsUnbroken pending.old.items }
+    requires few { running.old.done.lines < 2 ^ 62 }
+    requires bad { running.old.done.bad ≤ running.old.done.lines }
+    ensures ok { OnOk result (Takes (W.contents writer.old) (W.contents writer.new) (reached running.old) (unended pending.old.items) (reached running.new)) }
+    ensures err { IfErr result (λ fault. (to : Option (List ℕ)) → IsAtEnd to → LastStops fault to (W.contents writer.old) (W.contents writer.new) (reached running.old) pending.old.items running.new.output.items) }
+{
+    if pending.is_empty() {
+        return Ok(());
+    }
+    let Ok(()) = pending.push(b'\n') else {
+        return Err(ReplayFault::NoRoom);
+    };
+    take_line(alloc, writer, report, pending.as_slice(), running)
 }

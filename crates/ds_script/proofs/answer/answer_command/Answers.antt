@@ -1,6 +1,5 @@
 use Rattle.std.proofs.Common.{inl, inr}
 use Rattle.std.specs.Option.{option_copied}
-use Rattle.ds_replica.specs.declared.event.Side.{Side}
 use Rattle.ds_words.specs.Outcome.{side_line}
 use Rattle.ds_words.specs.Reply.{refused_noroom}
 use Rattle.ds_words.proofs.ResultLemmas.{on_ok}
