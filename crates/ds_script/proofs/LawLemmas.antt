@@ -18,11 +18,10 @@ use Rattle.ds_words.specs.Reply.{wording}
 use Rattle.ds_words.specs.declared.command.ScriptCommand.{ScriptCommand}
 use Rattle.ds_words.specs.declared.command.ScriptCommand.TheVariants.{Show, All, Entries, Ring, Side}
 use Rattle.ds_script.specs.declared.report.BadLines.{BadLines}
-use Rattle.ds_script.specs.declared.report.BadLines.TheVariants.{End, GoOn}
 use Rattle.ds_script.specs.Session.{SessionContent, IsOpened, seed, made, turned}
 use Rattle.ds_script.specs.Answer.{AnswersEvent, AnswersCommand, AnswersLine, picked, shown}
 use Rattle.ds_script.specs.Replay.{AnswersOrTells, AnswersLines}
-use Rattle.ds_script.specs.Laws.{CameOf, ScriptsAreEvents, HoldersAgree, ShowsAgree, NoneIsBadWhereOneEnds}
+use Rattle.ds_script.specs.Laws.{CameOf, ScriptsAreEvents, HoldersAgree, ShowsAgree}
 use Rattle.ds_script.proofs.LineLemmas.{may_command}
 
 -- ---- events
@@ -112,22 +111,3 @@ pub shows_agree : ShowsAgree
 shows_agree world session after out stands hold a =
     let same : session.world.a.held ≡ session.world.b.held = stands.a.held ∙ sym (under_all _) ∙ hold.0 ∙ under_all _ ∙ sym stands.b.held in
     (refl, a.1 ∙ ap (λ (l : List Item). shown (picked false l)) same)
-
--- ---- bad lines
-
-none_told : (before : ℕ) (old : SessionContent) (line out : List ℕ) (bad : ℕ) (new : SessionContent) → AnswersOrTells End before old line out bad new → bad ≡ 0
-none_told before old line out bad new a =
-    elim a [
-      | inl answered ↦ answered.1
-      | inr told ↦ absurd (let differ : End ≡ GoOn = told.0 in cc)
-    ]
-
-none_counted : (before : ℕ) (old new : SessionContent) (ls : List (List ℕ)) (out : List ℕ) (bad : ℕ) → AnswersLines End before old ls out bad new → bad ≡ 0
-none_counted before old new [] out bad a = a.1
-none_counted before old new (line ∷ ls) out bad a =
-    let one : a.3 ≡ 0 = none_told before old line a.1 a.3 a.0 a.5 in
-    let more : a.4 ≡ 0 = none_counted (suc before) a.0 new ls a.2 a.4 a.6 in
-    omega (arith, a.8, one, more)
-
-pub none_is_bad : NoneIsBadWhereOneEnds
-none_is_bad before old new ls out bad a = none_counted before old new ls out bad a

@@ -51,6 +51,7 @@ pub(crate) fn answer_line(
 }
 
 // Reads a line behind so many others: `ring` stands on the first line alone.
+#[tactic(auto, using(crate::proofs::LineLemmas::first_line, crate::proofs::LineLemmas::later_line))]
 fn read_behind(alloc: Global, line: &[u8], before: u64) -> Result<ScriptCommand, CommandFault>
     requires { EndsLine line.now }
     ensures { ReadsAs (MayStand before) line.now result }

@@ -16,3 +16,6 @@ returns-clause-stopped g c =
     let has = g.W.Write.contents c.settled.new.writer in
     settled_stops c.args.bad_lines c.in-Err.fault c.settled.result (g.R.Read.remaining c.args.reader.now) (g.R.Read.remaining c.run.new.reader) (g.W.Write.contents c.args.writer.now) is has c.run.new.running.output.items (c.in-Err.ensures).err
     (subst (λ (output : List ℕ). Settles c.settled.result c.in-Err.fault is has output) c.deref.ensures.value c.settled.ensures)
+
+pub returns-in_default-clause-stopped : goal.returns-in_default-clause-stopped
+returns-in_default-clause-stopped g c = ([], [], Consumes-nil (g.R.Read.remaining c.args.reader.now), Appends-nil (g.W.Write.contents c.args.writer.now), (0, 0, [], nothing_answered c.args.bad_lines, tt))
