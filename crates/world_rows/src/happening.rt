@@ -7,7 +7,7 @@ use ds_feed::Cursor;
 use ds_machine::{Command, Scope};
 use ds_names::{Endpoint, Generation, Key, Kind, Kinds, Name, Version};
 use ds_pattern::{PatternText, Query};
-use ds_replica::{Event, Holder, Seed, Side};
+use ds_replica::{Event, Holder, Outcome, Seed, Side};
 use ds_world::{Events, Outcomes, World};
 use std::alloc::Global;
 use std::process::Abort;
@@ -171,6 +171,13 @@ fn outcomes(rt: &impl Abort, world: &mut World, events: Events) -> Outcomes {
     world.run(events).expect(rt, "memory")
 }
 
+// The outcome is the one that is wanted.
+fn compare(rt: &impl Abort, outcome: &Outcome, wanted: &Came) {
+    let given = came(outcome);
+    assert_eq!(rt; given.0, wanted.0);
+    assert!(rt; given.1 == wanted.1 && given.2 == wanted.2 && given.3 == wanted.3);
+}
+
 /// Lets the events of the rows happen, and compares what came of each.
 pub(crate) fn run(rt: &impl Abort, alloc: Global, world: &mut World, rows: &[(Happening, Came)]) {
     let mut events = Events::new(alloc);
@@ -180,8 +187,19 @@ pub(crate) fn run(rt: &impl Abort, alloc: Global, world: &mut World, rows: &[(Ha
     let outcomes = outcomes(rt, world, events);
     assert!(rt; outcomes.len() == rows.len());
     for (index, (_, wanted)) in rows.iter().enumerate() {
-        let given = came(outcomes.get(index).expect(rt, "an outcome"));
-        assert_eq!(rt; given.0, wanted.0);
-        assert!(rt; given.1 == wanted.1 && given.2 == wanted.2 && given.3 == wanted.3);
+        compare(rt, outcomes.get(index).expect(rt, "an outcome"), wanted);
+    }
+}
+
+/// Lets the events of the rows happen one at a time, and compares what came of each.
+pub(crate) fn happen(
+    rt: &impl Abort,
+    alloc: Global,
+    world: &mut World,
+    rows: &[(Happening, Came)],
+) {
+    for (happening, wanted) in rows {
+        let outcome = world.happen(event(rt, alloc, happening));
+        compare(rt, &outcome, wanted);
     }
 }

@@ -1,7 +1,7 @@
 //! Two replicas exchange what they know, and a map follows one of them.
 
 use crate::came::Came;
-use crate::happening::{Happening, label_key, number_key, run, world};
+use crate::happening::{Happening, happen, label_key, number_key, run, world};
 use ds_held::Held;
 use ds_machine::Reply;
 use ds_names::Key;
@@ -137,6 +137,6 @@ fn a_tombstone_comes_before_its_put(rt: HostRuntime) {
     run(&rt, alloc, &mut world, &GONE);
     assert!(rt; given(&rt, &world, 0) == (1, 1) && given(&rt, &world, 1) == (1, 2));
     assert!(rt; number(held(&rt, &world), &number_key(&rt, b"a")) == Some((1, false)));
-    run(&rt, alloc, &mut world, &BEGUN);
+    happen(&rt, alloc, &mut world, &BEGUN);
     assert!(rt; held(&rt, &world).len() == 0 && world.store(Side::A).held().len() == 0);
 }
