@@ -1,6 +1,6 @@
 -- A replay from its start to its end.
 use Rattle.std.specs.List.{All}
-use Rattle.std.proofs.Common.{◌≡◌, ◌≢◌, ℕ, suc, ◌+◌, ◌≤◌, Bool, true, false, List, [], ◌∷◌, ◌++◌, length, Option, refl, sym, ap, subst, ◌∙◌, ◌⊎◌, inl, inr, arith, append_assoc, append-nil, length-append}
+use Rattle.std.proofs.Common.{◌≡◌, ◌≢◌, ℕ, suc, ◌≤◌, Bool, true, false, List, [], ◌∷◌, ◌++◌, length, Option, refl, sym, ap, subst, ◌∙◌, ◌⊎◌, inl, inr, arith, append_assoc, append-nil}
 use Rattle.std.specs.Io.KnownBytes.{Appends, Consumes, IsAtEnd}
 use Rattle.std.proofs.KnownBytes.{Appends-nil, Appends-trans, Consumes-nil, Consumes-trans}
 use Rattle.std.proofs.lemmas.List.Elements.{All-nil}
@@ -10,7 +10,7 @@ use Rattle.ds_script.specs.declared.fault.ReplayFault.TheVariants.{BadLine, Read
 use Rattle.ds_script.specs.declared.report.BadLines.{BadLines}
 use Rattle.ds_script.specs.declared.report.BadLines.TheVariants.{End, GoOn}
 use Rattle.ds_script.specs.Session.{SessionContent, IsOpened}
-use Rattle.ds_script.specs.Replay.{AnswersLines, AreAnswers, IsAnswered, IsAnsweredUpTo, IsAnsweredInPart, BeginsBadLine, StopsAt, StopsWith}
+use Rattle.ds_script.specs.Replay.{AnswersLines, AreAnswers, IsAnswered, IsAnsweredUpTo, IsAnsweredInPart, StopsWith}
 use Rattle.ds_script.specs.Progress.{Reached, Takes, TakesText, TakesNoneOrAll, TextStops, Turns, TurnStops, Stops, Settles}
 use Rattle.ds_script.proofs.ProgressLemmas.{takes_kept, takes_then, takes_few}
 use Rattle.ds_script.proofs.RunLemmas.{text_sent, texts_then, stops_then}

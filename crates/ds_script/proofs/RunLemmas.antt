@@ -1,5 +1,4 @@
 -- The lines of a text, and turn after turn.
-use Rattle.std.specs.List.{All}
 use Rattle.std.proofs.Common.{◌≡◌, ◌≢◌, ℕ, suc, ◌+◌, ◌-◌, ◌<◌, ◌≤◌, Bool, true, false, List, [], ◌∷◌, ◌++◌, length, drop, Option, refl, sym, ap, subst, ◌∙◌, ◌⊎◌, inl, inr, arith, append_assoc, append-nil, length-append}
 use Rattle.std.specs.Io.KnownBytes.{Appends, Consumes, IsAtEnd}
 use Rattle.std.proofs.KnownBytes.{Consumes-nil}
@@ -10,7 +9,7 @@ use Rattle.ds_words.specs.Lines.{IsUnbroken, ended, joined, unended}
 use Rattle.ds_script.specs.declared.fault.ReplayFault.{ReplayFault}
 use Rattle.ds_script.specs.declared.fault.ReplayFault.TheVariants.{BadLine, ReadFault, WriteFault, NoRoom}
 use Rattle.ds_script.specs.declared.report.BadLines.TheVariants.{End}
-use Rattle.ds_script.specs.Replay.{IsBadBehind, BeginsBadLine}
+use Rattle.ds_script.specs.Replay.{IsBadBehind}
 use Rattle.ds_script.specs.Progress.{Reached, Takes, TakesText, EndsAtBad, LineStops, TextStops, LastStops, Turns, TurnStops}
 use Rattle.ds_script.proofs.ProgressLemmas.{waits, takes_sent, takes_written, takes_none, takes_then, takes_behind, same_count}
 

@@ -1,4 +1,4 @@
-use Rattle.std.proofs.Common.{◌+◌, ◌<◌, length, refl, arith}
+use Rattle.std.proofs.Common.{◌+◌, refl, arith}
 use Rattle.ds_script.specs.Progress.{reached}
 use Rattle.ds_script.proofs.ProgressLemmas.{takes_none}
 use Rattle.ds_script.proofs.RunLemmas.{text_none, overlong}
