@@ -1,5 +1,5 @@
 -- Labels in the order of their endpoints: where one belongs, and what an edit leaves.
-use Rattle.std.proofs.Common.{◌≡◌, ℕ, zero, suc, ◌+◌, ◌<◌, ◌≤◌, ◌⊎◌, not, Bool, true, false, cond, List, [], ◌∷◌, length, get_or, set, Option, Some, None, refl, sym, ap, ◌∙◌, subst, arith, inl, inr, Contains}
+use Rattle.std.proofs.Common.{◌≡◌, ℕ, zero, suc, ◌+◌, ◌<◌, ◌≤◌, ◌⊎◌, not, Bool, true, false, cond, List, [], ◌∷◌, length, get_or, set, nat_lt, ◌==◌, Option, Some, None, refl, sym, ap, ◌∙◌, subst, arith, inl, inr, Contains}
 use Rattle.std.specs.declared.cmp.Ordering.{Ordering}
 use Rattle.std.specs.declared.cmp.Ordering.TheVariants.{Less, Equal, Greater}
 use Rattle.std.specs.Ordering.{nat_cmp, ordering_then, is_eq, is_lt, ordering_reverse}
@@ -54,6 +54,15 @@ unset true e = absurd (cc)
 
 opposed : {A : Type 0} (b : Bool) → b ≡ true → b ≡ false → A
 opposed b t f = let no : true ≡ false = sym t ∙ f in absurd (cc)
+
+-- slots that differ tell which label stands behind
+apart_by : (less same : Bool) (x y : Ordering) → same ≡ false → less ≡ is_lt (ordering_then (ordering_then (cond less Less (cond same Equal Greater)) x) y)
+apart_by true same x y e = refl
+apart_by false false x y e = refl
+apart_by false true x y e = absurd (cc)
+
+pub slots_tell : (p q : Named) → (slot_of q.endpoint == slot_of p.endpoint) ≡ false → nat_lt (slot_of q.endpoint) (slot_of p.endpoint) ≡ is_behind p q
+slots_tell p q e = apart_by (nat_lt (slot_of q.endpoint) (slot_of p.endpoint)) (slot_of q.endpoint == slot_of p.endpoint) (nat_cmp (generation_of q.endpoint) (generation_of p.endpoint)) (name_cmp q.name p.name) e
 
 -- ---- where a label belongs
 at : {X : Type 0} (P : X → Type 0) (xs : List X) (j : ℕ) (d : X) → AllByRecursion P xs → j < length xs → P (get_or xs j d)

@@ -58,10 +58,16 @@ fn compare(a: &Named, b: &Named) -> Ordering
     }
 }
 
-/// Whether the label stands behind the other one.
+/// Whether the label stands behind the other one. Most labels have slots of their own, which tell it.
+#[tactic(auto, using(crate::proofs::NamedLemmas::slots_tell))]
 pub(crate) fn is_behind(named: &Named, other: &Named) -> bool
     ensures { result ≡ is_behind named.now other.now }
 {
+    let slot = slot_of(&named.endpoint);
+    let other_slot = slot_of(&other.endpoint);
+    if other_slot != slot {
+        return other_slot < slot;
+    }
     matches!(compare(other, named), Ordering::Less)
 }
 

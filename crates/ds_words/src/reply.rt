@@ -99,7 +99,7 @@ fn append_words(buffer: &mut Vec<u8>, wording: Wording, reply: &Reply) -> Result
             stale,
             ..
         } => match wording {
-            Wording::AsOffer => append_all(buffer, &[offered(*taken, *stale), b"\n"]),
+            Wording::AsOffer => append_all(buffer, &[offered(*taken, *stale)]),
             Wording::AsMerge => append_merged(buffer, *done, *taken, *stale),
         },
         Reply::MergeStopped { done, fault, .. } => match wording {
@@ -110,16 +110,16 @@ fn append_words(buffer: &mut Vec<u8>, wording: Wording, reply: &Reply) -> Result
     }
 }
 
-// What became of an offer, by how many items of its Merge took effect and how many were stale.
+// The line that tells what became of an offer, by how many items of its Merge took effect and how many were stale.
 fn offered(taken: usize, stale: usize) -> &'static [u8]
-    ensures { result.now ≡ merged AsOffer 1 taken stale }
+    ensures { result.now ≡ ended (merged AsOffer 1 taken stale) }
 {
     if taken != 0 {
-        b"taken"
+        b"taken\n"
     } else if stale != 0 {
-        b"stale"
+        b"stale\n"
     } else {
-        b"known"
+        b"known\n"
     }
 }
 
