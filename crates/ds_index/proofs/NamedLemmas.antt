@@ -7,6 +7,7 @@ use Rattle.std.specs.Cmp.{IsTotalOrder, tied_itself}
 use Rattle.std.specs.List.{find, slice_get, insert, remove, AllByRecursion}
 use Rattle.std.specs.Option.{option_map_or}
 use Rattle.std.specs.List.Sorted.{IsStrictlySortedBy, IsPartitionedBy, IsPartitionPoint}
+use Rattle.std.proofs.lemmas.Bool.Decides.{nat_tests}
 use Rattle.std.proofs.lemmas.Cmp.{on_total, then_total, nat_cmp_total, nat_list_cmp_total}
 use Rattle.std.proofs.lemmas.Map.Lookups.{exact_pairs, exact_unsigned, exact_bytes}
 use Rattle.std.proofs.lemmas.Option.{same_Some, slice_get_within, slice_get_cases, slice_get-get_or, get_or_from_slice_get}
@@ -15,7 +16,7 @@ use Rattle.ds_names.specs.Endpoint.{EndpointRecord}
 use Rattle.ds_names.specs.Key.{name_cmp}
 use Rattle.ds_join.proofs.MapLemmas.{from_along}
 use Rattle.ds_index.specs.declared.named.Named.{Named}
-use Rattle.ds_index.specs.Named.{slot_of, generation_of, holder_cmp, named_cmp, is_behind, begins_behind, is_of, inserted}
+use Rattle.ds_index.specs.Named.{slot_of, generation_of, holder_cmp, named_cmp, is_behind, is_behind_in_slot, begins_behind, is_of, inserted}
 use Rattle.ds_index.specs.Index.{IsAdded, IsReplaced}
 
 -- ---- the orders are total, and what compares alike is one
@@ -63,6 +64,15 @@ apart_by false true x y e = absurd (cc)
 
 pub slots_tell : (p q : Named) → (slot_of q.endpoint == slot_of p.endpoint) ≡ false → nat_lt (slot_of q.endpoint) (slot_of p.endpoint) ≡ is_behind p q
 slots_tell p q e = apart_by (nat_lt (slot_of q.endpoint) (slot_of p.endpoint)) (slot_of q.endpoint == slot_of p.endpoint) (nat_cmp (generation_of q.endpoint) (generation_of p.endpoint)) (name_cmp q.name p.name) e
+
+same_number : (a b : ℕ) → (a == b) ≡ true → a ≡ b
+same_number a b e = grind (arith, nat_tests)
+
+-- where they agree, the generations and names tell it
+pub slots_agree : (p q : Named) → (slot_of q.endpoint == slot_of p.endpoint) ≡ true → is_behind_in_slot p q ≡ is_behind p q
+slots_agree p q e =
+    let tied : nat_cmp (slot_of q.endpoint) (slot_of p.endpoint) ≡ Equal = ap (λ n. nat_cmp (slot_of q.endpoint) n) (sym (same_number (slot_of q.endpoint) (slot_of p.endpoint) e)) ∙ tied_itself nat_cmp_total (slot_of q.endpoint) in
+    ap (λ o. is_lt (ordering_then (ordering_then o (nat_cmp (generation_of q.endpoint) (generation_of p.endpoint))) (name_cmp q.name p.name))) (sym tied)
 
 -- ---- where a label belongs
 at : {X : Type 0} (P : X → Type 0) (xs : List X) (j : ℕ) (d : X) → AllByRecursion P xs → j < length xs → P (get_or xs j d)

@@ -32,6 +32,10 @@ named_at endpoint name = record { endpoint = endpoint; name = name }
 abbrev pub is_behind : Named → Named → Bool
 is_behind p q = is_lt (named_cmp q p)
 
+-- the same by generation, then by name
+abbrev pub is_behind_in_slot : Named → Named → Bool
+is_behind_in_slot p q = is_lt (ordering_then (nat_cmp (generation_of q.endpoint) (generation_of p.endpoint)) (name_cmp q.name p.name))
+
 -- the labels of the endpoint begin behind this one
 abbrev pub begins_behind : EndpointRecord → Named → Bool
 begins_behind e p = is_lt (holder_cmp p.endpoint (Some e))

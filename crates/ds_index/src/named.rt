@@ -2,7 +2,7 @@
 
 ghost use Rattle.std.specs.Prelude.{◌≡◌, ◌≢◌, true, false};
 ghost use Rattle.ds_names.specs.declared.kind.Kind.{Kind};
-ghost use Rattle.ds_index.specs.Named.{slot_of, generation_of, holder_cmp, named_cmp, is_behind, begins_behind, is_of};
+ghost use Rattle.ds_index.specs.Named.{slot_of, generation_of, holder_cmp, is_behind, is_behind_in_slot, begins_behind, is_of};
 ghost use Rattle.ds_index.specs.Indexed.{endpoint_in};
 
 use ds_entry::{Body, Change, Value};
@@ -47,19 +47,19 @@ fn compare_endpoints(a: &Option<Endpoint>, b: &Option<Endpoint>) -> Ordering
     }
 }
 
-// By endpoint, then by name.
-fn compare(a: &Named, b: &Named) -> Ordering
-    ensures { result ≡ named_cmp a.now b.now }
+// Whether the label stands behind the other one, where both have one slot: by generation, then by name.
+fn is_behind_in_slot(named: &Named, other: &Named) -> bool
+    ensures { result ≡ is_behind_in_slot named.now other.now }
 {
-    match compare_endpoints(&a.endpoint, &b.endpoint) {
-        Ordering::Less => Ordering::Less,
-        Ordering::Greater => Ordering::Greater,
-        Ordering::Equal => a.name.cmp(&b.name),
+    match generation_of(&other.endpoint).cmp(&generation_of(&named.endpoint)) {
+        Ordering::Less => true,
+        Ordering::Greater => false,
+        Ordering::Equal => matches!(other.name.cmp(&named.name), Ordering::Less),
     }
 }
 
 /// Whether the label stands behind the other one. Most labels have slots of their own, which tell it.
-#[tactic(auto, using(crate::proofs::NamedLemmas::slots_tell))]
+#[tactic(auto, using(crate::proofs::NamedLemmas::slots_tell, crate::proofs::NamedLemmas::slots_agree))]
 pub(crate) fn is_behind(named: &Named, other: &Named) -> bool
     ensures { result ≡ is_behind named.now other.now }
 {
@@ -68,7 +68,7 @@ pub(crate) fn is_behind(named: &Named, other: &Named) -> bool
     if other_slot != slot {
         return other_slot < slot;
     }
-    matches!(compare(other, named), Ordering::Less)
+    is_behind_in_slot(named, other)
 }
 
 /// Whether the labels of the endpoint begin behind this one.

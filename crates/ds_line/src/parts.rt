@@ -29,14 +29,30 @@ pub fn behind_name<'a>(bytes: &'a [u8], name: &Name) -> &'a [u8]
     &bytes[name.bytes().len()..]
 }
 
+// Each letter and digit stands at its own place, and a comma at every other place.
+static WORD_BYTES: [u8; 256] = *b"\
+    ,,,,,,,,,,,,,,,,,,,,,,,,,,,,,,,,\
+    ,,,,,,,,,,,,,,,,0123456789,,,,,,\
+    ,ABCDEFGHIJKLMNOPQRSTUVWXYZ,,,,,\
+    ,abcdefghijklmnopqrstuvwxyz,,,,,\
+    ,,,,,,,,,,,,,,,,,,,,,,,,,,,,,,,,\
+    ,,,,,,,,,,,,,,,,,,,,,,,,,,,,,,,,\
+    ,,,,,,,,,,,,,,,,,,,,,,,,,,,,,,,,\
+    ,,,,,,,,,,,,,,,,,,,,,,,,,,,,,,,,";
+
+// Whether a word may hold the byte.
+#[inline]
+fn is_word_byte(b: u8) -> bool
+    ensures { result ≡ is_ascii_alphanumeric b }
+{
+    WORD_BYTES[usize::from(b)] != b','
+}
+
 // How many letters and digits stand at the front.
 fn word_len(bytes: &[u8]) -> usize
     ensures { result ≡ prefix_len is_ascii_alphanumeric bytes.now }
 {
-    bytes
-        .iter()
-        .take_while(|b| b.is_ascii_alphanumeric())
-        .count()
+    bytes.iter().take_while(|b| is_word_byte(**b)).count()
 }
 
 /// The word at the front, which is the longest run of letters and digits, and what comes behind it. No byte of it may

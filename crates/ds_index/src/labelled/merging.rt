@@ -130,11 +130,10 @@ pub(super) fn merge_labelled<M: Drop>(
     ensures change { IsChange change }
     ensures indexed { IsIndexed held.new.held.changes index.new.names }
 {
-    let key = *change.key();
-    if !is_label(key.kind) {
+    if !is_label(change.key().kind) {
         return held.merge_at(place, change, mark);
     }
-    match listed_at(held, place, &key) {
+    match listed_at(held, place, change.key()) {
         Some(before) => merge_over(held, index, &before, place, change, mark),
         None => merge_new(held, index, place, change, mark),
     }
