@@ -1,0 +1,3 @@
+pub mod CrewLemmas
+pub mod CrossingLemmas
+pub mod DeskLemmas

@@ -1,0 +1,123 @@
+//! Threads at one desk.
+
+ghost use Rattle.std.specs.Prelude.{All, ◌≡◌, IfSome};
+ghost use Rattle.std.specs.List.{AllByRecursion};
+ghost use Rattle.desk.specs.Desk.{identity};
+ghost use Rattle.desk.specs.Pass.{desk_of};
+
+use crate::worker::{Said, Worker};
+use desk::{Account, Desk, Pass, Passes};
+use ds_shared::SharedStore;
+use ds_store::Store;
+use std::alloc::Global;
+use std::sync::Wait;
+use std::thread::{Threads, map_vec};
+
+type StoreWorker = Worker<Pass<SharedStore>>;
+
+/// How many items the journal of a store keeps.
+pub(crate) const RING: u32 = 256;
+
+/// What the threads were answered and counted, and what the desk left.
+#[derive(Drop)]
+pub(crate) struct Crew {
+    /// Every call.
+    pub said: Vec<Said>,
+    /// How many bits the threads counted as raised.
+    pub raises: u64,
+    /// How many bits they counted as taken.
+    pub takes: u64,
+    /// The account of the desk.
+    pub account: Account,
+    /// The position of the store at the end.
+    pub position: u64,
+}
+
+/// Opens a desk over a new store, has that many threads call it, and closes it. `None` where memory is wanting, or where
+/// there are not 1 to 64 threads.
+pub(crate) fn run_crew<R: Threads + Wait + Sync>(
+    rt: &R,
+    alloc: Global,
+    threads: u32,
+    calls: u32,
+) -> Option<Crew> {
+    let (desk, passes) = open_desk(alloc, threads)?;
+    let workers = run_threads(rt, alloc, &desk, passes, calls)?;
+    close_crew(alloc, desk, workers)
+}
+
+/// A desk over a new store, and its passes. `None` where memory is wanting, or where there are not 1 to 64 threads.
+pub(crate) fn open_desk(
+    alloc: Global,
+    threads: u32,
+) -> Option<(Desk<SharedStore>, Passes<SharedStore>)>
+    ensures { IfSome result (λ d. AllByRecursion (λ p. desk_of p ≡ identity d.0) d.1) }
+{
+    let Ok(store) = Store::open(alloc, 1, 0, RING) else {
+        return None;
+    };
+    match Desk::<SharedStore>::open(alloc, SharedStore { store }, threads, 0) {
+        Ok(opened) => Some(opened),
+        Err(_) => None,
+    }
+}
+
+// Has each pass call the desk from a thread of its own, where one can be made.
+fn run_threads<R: Threads + Wait + Sync>(
+    rt: &R,
+    alloc: Global,
+    desk: &Desk<SharedStore>,
+    passes: Passes<SharedStore>,
+    calls: u32,
+) -> Option<Vec<StoreWorker>>
+    requires { AllByRecursion (λ p. desk_of p ≡ identity desk.now) passes }
+    ensures { IfSome result (λ ws. All (λ w. desk_of w.pass ≡ identity desk.now) ws.items) }
+{
+    let each = move |pass: Pass<SharedStore>| -> StoreWorker
+        requires { desk_of pass ≡ identity desk.now }
+        ensures { desk_of result.pass ≡ identity desk.entry.now }
+    {
+        let mut worker = Worker::new(alloc, pass);
+        worker.work(rt, alloc, desk, calls);
+        worker
+    };
+    match map_vec(rt, passes.into_vec(), &each) {
+        Ok(workers) => Some(workers),
+        Err(_) => None,
+    }
+}
+
+// Takes the passes back, adds up what the threads counted, and closes the desk.
+fn close_crew(alloc: Global, desk: Desk<SharedStore>, mut workers: Vec<StoreWorker>) -> Option<Crew>
+    requires { All (λ w. desk_of w.pass ≡ identity desk) workers.items }
+{
+    let mut passes = Passes::<SharedStore>::new(alloc);
+    let mut said = Vec::new(alloc);
+    let mut raises = 0u64;
+    let mut takes = 0u64;
+    while let Some(worker) = workers.pop() {
+        let Worker {
+            pass,
+            said: calls,
+            raises: raised,
+            takes: taken,
+            done,
+        } = worker;
+        if !done || said.extend_from_slice(&calls).is_err() {
+            return None;
+        }
+        raises = raises.wrapping_add(raised);
+        takes = takes.wrapping_add(taken);
+        let Ok(()) = passes.push(pass) else {
+            return None;
+        };
+    }
+    let closed = desk.close(alloc, passes).ok()?;
+    Some(Crew {
+        said,
+        raises,
+        takes,
+        position: closed.machine.store.cursor().position,
+        account: closed.account,
+    })
+}
