@@ -24,8 +24,7 @@ pub(crate) fn answer_event(
     ensures unanswered { OnErr result (output.new.items ≡ output.old.items) }
 {
     let wording = command.wording();
-    let side = session.side();
-    match command.into_event(alloc, side) {
+    match command.into_event(alloc, session.side()) {
         Ok(Some(event)) => {
             let outcome = session.happen(event);
             append_told(output, wording, &outcome, session)
