@@ -204,9 +204,9 @@ def a_million_lines(program):
         expect(end(begin(program, limit=MEMORY, stdin=script)), b"taken\n" * 1000000, 0)
 
 
-def a_hundred_thousand_checks(program):
-    """Checks that show something, one after the other, in little memory."""
-    turns = range(1, 100001)
+def as_many_checks_as_there_may_be(program):
+    """65,536 checks that show something, one after the other, in little memory, though each is kept as a message."""
+    turns = range(1, 65537)
     with tempfile.TemporaryFile() as script:
         script.write(b'subscribe 0 "k" 2 later new\n' + b"".join(b"offer k u32 o 1.%d = 0\ncheck 0 1\n" % at for at in turns))
         script.seek(0)
@@ -631,7 +631,7 @@ ALL = [
     a_gigabyte_without_a_newline,
     a_line_without_end,
     a_million_lines,
-    a_hundred_thousand_checks,
+    as_many_checks_as_there_may_be,
     fifty_thousand_floors,
     a_long_show,
     a_pattern_that_is_too_large,
