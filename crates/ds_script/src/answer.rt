@@ -39,7 +39,8 @@ pub(crate) fn answer_command(
     }
 }
 
-// Opens the session again, with journals that keep so many items.
+// Opens the session again, with journals that keep so many items. It stays a call: two worlds would be in each answer's frame.
+#[inline(never)]
 fn answer_ring(
     alloc: Global,
     session: &mut Session,
