@@ -15,6 +15,12 @@ fn read(rt: &impl Abort, alloc: Global, text: &[u8]) -> Result<ScriptCommand, Co
     read_line(alloc, line)
 }
 
+// What a later line of a script is read as.
+fn read_later(rt: &impl Abort, alloc: Global, text: &[u8]) -> Result<ScriptCommand, CommandFault> {
+    let (line, _) = split_line(text).expect(rt, "a line");
+    read_later_line(alloc, line)
+}
+
 // The line is read as the command, which asks no store.
 fn is_read(rt: &impl Abort, alloc: Global, line: &[u8], command: ScriptCommand) {
     let asked = command.store_command(alloc).expect(rt, "memory");
@@ -175,11 +181,11 @@ fn a_later_ring_is_no_command(rt: HostRuntime) {
         place: 0,
         expected: Expected::Command,
     };
-    assert!(rt; read_later_line(alloc, b"ring 2\n") == Err(bad));
-    assert!(rt; read_later_line(alloc, b"ring 0 \n") == Err(bad));
-    assert!(rt; read_later_line(alloc, b"ringx\n") == Err(bad));
+    assert!(rt; read_later(&rt, alloc, b"ring 2\n") == Err(bad));
+    assert!(rt; read_later(&rt, alloc, b"ring 0 \n") == Err(bad));
+    assert!(rt; read_later(&rt, alloc, b"ringx\n") == Err(bad));
     let side = ScriptCommand::Side { side: Side::B };
-    assert!(rt; read_later_line(alloc, b"side b\n") == Ok(side));
+    assert!(rt; read_later(&rt, alloc, b"side b\n") == Ok(side));
 }
 
 // The event of a line where the store of side b is asked.
@@ -191,26 +197,43 @@ fn event(rt: &impl Abort, alloc: Global, line: &[u8]) -> Option<Event> {
 #[test]
 fn lines_are_events_of_a_world(rt: HostRuntime) {
     let alloc = rt.alloc();
-    assert!(rt; matches!(
-        event(&rt, alloc, b"deliver 9 m7 2\n"),
-        Some(Event::Deliver { message: 9, holder: Holder::Map(7), count: Some(2) })
-    ));
-    assert!(rt; matches!(
-        event(&rt, alloc, b"restart a 3\n"),
-        Some(Event::RestartStore { side: Side::A, incarnation: 3 })
-    ));
-    assert!(rt; matches!(
-        event(&rt, alloc, b"clear 0\n"),
-        Some(Event::ClearMap { map: 0 })
-    ));
-    assert!(rt; matches!(
-        event(&rt, alloc, b"offer a u32 eth0 1.0 = 1\n"),
-        Some(Event::Ask { side: Side::B, .. })
-    ));
-    assert!(rt; matches!(
-        event(&rt, alloc, b"map \".*\" 15\n"),
-        Some(Event::NewMap { .. })
-    ));
+    assert!(rt;
+        matches!(
+            event(&rt, alloc, b"deliver 9 m7 2\n"),
+            Some(Event::Deliver {
+                message: 9,
+                holder: Holder::Map(7),
+                count: Some(2)
+            })
+        )
+    );
+    assert!(rt;
+        matches!(
+            event(&rt, alloc, b"restart a 3\n"),
+            Some(Event::RestartStore {
+                side: Side::A,
+                incarnation: 3
+            })
+        )
+    );
+    assert!(rt;
+        matches!(
+            event(&rt, alloc, b"clear 0\n"),
+            Some(Event::ClearMap { map: 0 })
+        )
+    );
+    assert!(rt;
+        matches!(
+            event(&rt, alloc, b"offer a u32 eth0 1.0 = 1\n"),
+            Some(Event::Ask { side: Side::B, .. })
+        )
+    );
+    assert!(rt;
+        matches!(
+            event(&rt, alloc, b"map \".*\" 15\n"),
+            Some(Event::NewMap { .. })
+        )
+    );
     assert!(rt; event(&rt, alloc, b"entries 0\n").is_none());
 }
 
@@ -230,12 +253,6 @@ fn lines_of_a_world_fault_at_their_parts(rt: HostRuntime) {
     is_bad(&rt, alloc, b"deliver 0 m01 *\n", 10, Expected::Holder);
     is_bad(&rt, alloc, b"deliver 0 m1x *\n", 10, Expected::Holder);
     is_bad(&rt, alloc, b"deliver 0 c *\n", 10, Expected::Holder);
-    is_bad(
-        &rt,
-        alloc,
-        b"deliver 0 a 4294967296\n",
-        12,
-        Expected::Count,
-    );
+    is_bad(&rt, alloc, b"deliver 0 a 4294967296\n", 12, Expected::Count);
     is_bad(&rt, alloc, b"deliver 0 a *1\n", 13, Expected::End);
 }
