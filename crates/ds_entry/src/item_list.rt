@@ -54,4 +54,10 @@ impl ItemList {
     {
         self.items.get(index)
     }
+    /// All of them, as a slice, of which parts can be lent.
+    pub fn as_slice(&self) -> &[Item]
+        ensures { result.now ≡ self.now }
+    {
+        self.items.as_slice()
+    }
 }
