@@ -76,6 +76,17 @@ impl SubMap {
         ensures floors { FloorsStand (held_items self.old.held ++ done_items result items.now) (held_items self.new.held) }
         ensures query { self.new.query ≡ self.old.query }
     {
+        self.take_slice(alloc, items.as_slice())
+    }
+
+    /// Takes items of a slice as `take` does those of a list, as where a part of a list is lent.
+    pub fn take_slice(&mut self, alloc: Global, items: &[Item]) -> Result<Count, Stop>
+        ensures joined { IsTop (held_items self.new.held) (held_items self.old.held ++ under self.old.query (done_items result items.now)) }
+        ensures counted { IfOk result (AreCounted self.old.query self.old.held items.now self.new.held) }
+        ensures stopped { IfErr result (IsTakeStopped self.old.query self.old.held items.now self.new.held) }
+        ensures floors { FloorsStand (held_items self.old.held ++ done_items result items.now) (held_items self.new.held) }
+        ensures query { self.new.query ≡ self.old.query }
+    {
         take_items(alloc, &self.filter, &mut self.held, items)
     }
 

@@ -6,7 +6,7 @@ ghost use Rattle.ds_pattern.specs.declared.query.Query.{Query};
 ghost use Rattle.ds_submap.specs.Take.{AreCounted, IsFloorOrOther, IsFrontTaken, IsItemTaken, IsRefusedUnder, IsTakeStopped, is_asked};
 
 use crate::count::Count;
-use ds_entry::{Item, ItemList};
+use ds_entry::Item;
 use ds_held::Held;
 use ds_join::{JoinFault, Merge, Stop};
 use ds_pattern::{Asker, Filter};
@@ -17,7 +17,7 @@ pub(crate) fn take_items(
     alloc: Global,
     filter: &Filter,
     held: &mut Held,
-    items: &ItemList,
+    items: &[Item],
 ) -> Result<Count, Stop>
     requires { IsSound held.old }
     ensures sound { IsSound held.new }
@@ -31,10 +31,8 @@ pub(crate) fn take_items(
     let Ok(mut asker) = filter.asker(alloc) else {
         return Err(count.stop(JoinFault::NoRoom));
     };
-    for i in count.done..items.len() {
-        let Some(item) = items.get(i) else {
-            unreachable!()
-        };
+    let (_, asked) = items.split_at(count.done);
+    for item in asked {
         match take_one(alloc, &mut asker, held, item) {
             Ok(answer) => count.add(answer),
             Err(fault) => return Err(count.stop(fault)),
@@ -44,17 +42,14 @@ pub(crate) fn take_items(
 }
 
 // Takes the items in front of the first that the query has to be asked about.
-fn take_front(filter: &Filter, held: &mut Held, items: &ItemList) -> Result<Count, Stop>
+fn take_front(filter: &Filter, held: &mut Held, items: &[Item]) -> Result<Count, Stop>
     requires { IsSound held.old }
     ensures sound { IsSound held.new }
     ensures front { IfOk result (IsFrontTaken filter.now held.old items.now held.new) }
     ensures stopped { IfErr result (IsTakeStopped filter.now held.old items.now held.new) }
 {
     let mut count = Count::none();
-    for i in 0..items.len() {
-        let Some(item) = items.get(i) else {
-            unreachable!()
-        };
+    for item in items {
         if is_asked(filter, item) {
             return Ok(count);
         }

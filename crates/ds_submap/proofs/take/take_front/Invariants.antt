@@ -3,8 +3,8 @@ use Rattle.ds_submap.specs.Take.{is_asked}
 use Rattle.ds_submap.proofs.TakeLemmas.{Taking}
 use Rattle.ds_submap.proofs.take.take_front.Given as goal
 
-abbrev pub invariant-loop-i : goal.invariant-loop-i
-invariant-loop-i l = record {
-  taking : Taking l.filter l.fn.held l.items l.i l.held l.count;
-  unasked : All (λ j. IsFalse (is_asked l.filter j)) (take l.i l.items);
+abbrev pub invariant-loop-item : goal.invariant-loop-item
+invariant-loop-item l = record {
+  taking : Taking l.filter l.fn.held l.items l.item-index l.held l.count;
+  unasked : All (λ j. IsFalse (is_asked l.filter j)) (take l.item-index l.items);
 }

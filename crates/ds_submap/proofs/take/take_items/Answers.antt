@@ -1,41 +1,57 @@
-use Rattle.std.proofs.Common.{◌≡◌, Some, None, inl, inr, sym, ◌∙◌, subst, arith}
+use Rattle.std.proofs.Common.{◌≡◌, ◌+◌, Some, drop, length, length-drop, get_or, refl, ap, ◌∙◌, subst, arith}
 use Rattle.std.specs.List.{slice_get}
-use Rattle.std.specs.Option.{option_copied}
-use Rattle.std.proofs.lemmas.Option.{slice_get_cases}
+use Rattle.std.proofs.lemmas.List.{get_or-drop}
+use Rattle.std.proofs.lemmas.Option.{slice_get_read}
 use Rattle.ds_pattern.specs.declared.query.Query.{Query}
 use Rattle.ds_submap.specs.Take.{IsItemTaken}
-use Rattle.ds_submap.proofs.TakeLemmas.{taking_front, taking_goes_on, taking_ends}
+use Rattle.ds_submap.proofs.TakeLemmas.{Taking, taking_front, taking_goes_on, taking_ends}
 use Rattle.ds_submap.proofs.take.take_items.Goals as goal
-use Rattle.ds_submap.proofs.take.take_items.Goals.{In-Some}
 
-pub returns-then-count-len-clause-counted : goal.returns-then-count-len-clause-counted
-returns-then-count-len-clause-counted c =
+pub returns-then-count-items-clause-counted : goal.returns-then-count-items-clause-counted
+returns-then-count-items-clause-counted c =
     let f = c.in_ok-count.ensures.front in
     taking_ends c.args.filter.now c.args.held.now c.args.items.now c.in_ok-count.count.done c.take_front.new.held c.in_ok-count.count
-    (taking_front c.args.filter.now c.args.held.now c.args.items.now c.take_front.new.held c.in_ok-count.count f) (omega (arith, c.if-count-len.true, c.len.ensures))
+    (taking_front c.args.filter.now c.args.held.now c.args.items.now c.take_front.new.held c.in_ok-count.count f) c.if-count-items.true
 
--- an item stands at each index below their number
-pub unreachable-requires : goal.unreachable-requires
-unreachable-requires c =
-    let none : None ≡ slice_get c.args.items.now c.loop-i.i = subst (λ o. option_copied o ≡ slice_get c.args.items.now c.loop-i.i) c.in_default-get.is c.get.ensures in
-    elim (slice_get_cases c.args.items.now c.loop-i.i).1 [
-      | inl h ↦ (let no : None ≡ Some h.0 = none ∙ h.2 in absurd (cc))
-      | inr h ↦ omega (arith, h.0, c.loop-i-test.true, c.len-i-end.ensures)
-    ]
-
-at : (c : In-Some) → slice_get c.args.items.now c.loop-i.i ≡ Some c.in-Some.item.now
-at c = sym (subst (λ o. option_copied o ≡ slice_get c.args.items.now c.loop-i.i) c.in-Some.is c.get.ensures)
-
-pub loop-i-preserved : goal.loop-i-preserved
-loop-i-preserved c =
-    let there = at (goal.at.loop-i-preserved c).In-Some in
-    let taken = subst (λ (q : Query). IsItemTaken q c.loop-i.held c.in-Some.item.now c.in-Ok-take_one.answer c.take_one.new.held) c.loop-i.invariant.query c.in-Ok-take_one.ensures.taken in
+pub loop-item-init : goal.loop-item-init
+loop-item-init c =
+    let q = c.args.filter.now in
+    let old = c.args.held.now in
+    let items = c.args.items.now in
+    let n = c.in_ok-count.count in
+    let front = taking_front q old items c.take_front.new.held n c.in_ok-count.ensures.front in
     record {
-      taking = taking_goes_on c.args.filter.now c.args.held.now c.args.items.now c.loop-i.i c.loop-i.held c.loop-i.count c.in-Some.item.now c.take_one.new.held c.loop-i.invariant.taking there c.in-Ok-take_one.answer c.add.new.self
-          taken c.in-Ok-take_one.ensures.sound c.add.ensures;
-      query = c.in-Ok-take_one.ensures.query ∙ c.loop-i.invariant.query;
+      taking = subst (λ i. Taking q old items i c.take_front.new.held n) (let e : n.done ≡ n.done + 0 = omega arith in e) front;
+      query = c.in-Ok.ensures;
+      behind = c.split_at.ensures.back;
+      within = omega (arith, c.if-count-items.false);
+    }
+
+pub loop-item-preserved : goal.loop-item-preserved
+loop-item-preserved c =
+    let q = c.args.filter.now in
+    let old = c.args.held.now in
+    let items = c.args.items.now in
+    let n = c.in_ok-count.count.done in
+    let i = c.loop-item.item-index in
+    let item = c.item-item.result in
+    let asked = c.split_at.result.1.now in
+    let behind : asked ≡ drop n items = c.split_at.ensures.back in
+    let there : slice_get items (n + i) ≡ Some item =
+    slice_get_read items (length items) (n + i) item refl (omega (arith, c.loop-item-test.true, length-drop n items, ap length behind))
+    (c.item-item.is ∙ ap (λ l. get_or l i item) behind ∙ get_or-drop n items i item) in
+    let taken = subst (λ (x : Query). IsItemTaken x c.loop-item.held item c.in-Ok-take_one.answer c.take_one.new.held) c.loop-item.invariant.query c.in-Ok-take_one.ensures.taken in
+    let more = taking_goes_on q old items (n + i) c.loop-item.held c.loop-item.count item c.take_one.new.held c.loop-item.invariant.taking there c.in-Ok-take_one.answer c.add.new.self taken c.in-Ok-take_one.ensures.sound c.add.ensures in
+    record {
+      taking = subst (λ k. Taking q old items k c.take_one.new.held c.add.new.self) (let e : n + i + 1 ≡ n + (i + 1) = omega arith in e) more;
+      query = c.in-Ok-take_one.ensures.query ∙ c.loop-item.invariant.query;
+      behind = behind;
+      within = c.loop-item.invariant.within;
     }
 
 pub returns-clause-counted : goal.returns-clause-counted
 returns-clause-counted c =
-    taking_ends c.args.filter.now c.args.held.now c.args.items.now c.loop-i.i c.loop-i.held c.loop-i.count c.loop-i.invariant.taking (omega (arith, c.loop-i-test.false, c.len-i-end.ensures))
+    let n = c.in_ok-count.count.done in
+    let items = c.args.items.now in
+    taking_ends c.args.filter.now c.args.held.now items (n + c.loop-item.item-index) c.loop-item.held c.loop-item.count c.loop-item.invariant.taking
+    (omega (arith, c.loop-item-test.false, length-drop n items, ap length c.split_at.ensures.back))

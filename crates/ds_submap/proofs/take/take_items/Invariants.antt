@@ -1,9 +1,12 @@
-use Rattle.std.proofs.Common.{◌≡◌}
+use Rattle.std.proofs.Common.{◌≡◌, ◌+◌, ◌≤◌, length, drop}
 use Rattle.ds_submap.proofs.TakeLemmas.{Taking}
 use Rattle.ds_submap.proofs.take.take_items.Given as goal
 
-abbrev pub invariant-loop-i : goal.invariant-loop-i
-invariant-loop-i l = record {
-  taking : Taking l.filter l.fn.held l.items l.i l.held l.count;
+-- those behind the front are asked about in turn
+abbrev pub invariant-loop-item : goal.invariant-loop-item
+invariant-loop-item l = record {
+  taking : Taking l.filter l.fn.held l.items (l.initial.count.done + l.item-index) l.held l.count;
   query : l.asker ≡ l.filter;
+  behind : l.asked ≡ drop l.initial.count.done l.items;
+  within : l.initial.count.done ≤ length l.items;
 }
