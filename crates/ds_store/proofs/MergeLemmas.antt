@@ -4,7 +4,7 @@ use Rattle.std.proofs.lemmas.List.Sums.{fold_more, fold-append}
 use Rattle.std.proofs.lemmas.List.{take-append-drop, take_all, length-map}
 use Rattle.std.proofs.lemmas.List.Folds.{list_any-append}
 use Rattle.std.proofs.lemmas.Bool.Decides.{nat_tests}
-use Rattle.std.proofs.lemmas.Option.{slice_get_within, get_or_from_slice_get, slice_get_cases}
+use Rattle.std.proofs.lemmas.Option.{slice_get_within, slice_get_read, get_or_from_slice_get, slice_get_cases}
 use Rattle.std.specs.Prelude.{slice_get}
 use Rattle.std.specs.Option.{option_map_or}
 use Rattle.ds_entry.specs.declared.item.Item.{Item}
@@ -89,6 +89,9 @@ course_stopped s items i d fault l e is =
     ∙ ap (λ (x : Course). fold item_merged x (drop (i + 1) items)) (course_more s items i d l ∙ there) ∙ stays (record k { stop = Some fault }) fault (drop (i + 1) items) refl
 
 -- ---- the next item
+pub item_next : (items : List Item) (i n : ℕ) (x : Item) → i < length items → x ≡ get_or items i x → i ≡ n → slice_get items n ≡ Some x
+item_next items i n x l is e = subst (λ k. slice_get items k ≡ Some x) e (slice_get_read items (length items) i x refl l is)
+
 pub next_course : (s : State) (items : List Item) (i : ℕ) (c : Item) → slice_get items i ≡ Some c → course s (take (i + 1) items) ≡ item_merged (course s (take i items)) c
 next_course s items i c at =
     course_more s items i c (slice_get_within items i c at) ∙ ap (item_merged (course s (take i items))) (get_or_from_slice_get items i c c at)

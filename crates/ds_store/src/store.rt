@@ -139,7 +139,7 @@ impl Store {
             Command::Since { scope, cursor, max } => self.since(&scope, cursor, max),
             Command::Snapshot { scope } => self.snapshot(&scope),
             Command::Page { scope, after, max } => self.page(&scope, after, max),
-            Command::Merge { items } => self.merge(&items),
+            Command::Merge { items } => self.merge(items.as_slice()),
         }
     }
 

@@ -43,21 +43,22 @@ impl Store {
         }
     }
 
-    // The first cause against what a caller asks for, where the place of its key is told.
+    // The first cause against what a caller of this name asks for, where the place of its key is told.
     fn cause_against(
         &self,
         place: Result<usize, usize>,
+        caller: &Option<Name>,
         asked: &Asked,
         body: &Body,
     ) -> Option<Cause>
-        requires { IsPlace (changes_in self.now.held) asked.now.key place }
+        requires place { IsPlace (changes_in self.now.held) asked.now.key place }
+        requires named { caller.now ≡ name_of self.now.held asked.now.caller }
         ensures first { (s : State) → Stands self.now s → result ≡ cause_against s (request_of asked.now) body.now }
         ensures free { IfNone result (IsFree self.now (change_asked (name_of self.now.held asked.now.caller) (request_of asked.now) body.now)) }
         ensures made { IfNone result (IsMade (change_asked (name_of self.now.held asked.now.caller) (request_of asked.now) body.now)) }
     {
-        let caller = self.content.name_of(asked.caller);
-        let standing = self.standing_before(place, asked, &caller);
-        cause_of_asked(&standing, caller, asked, body)
+        let standing = self.standing_before(place, asked, caller);
+        cause_of_asked(&standing, *caller, asked, body)
     }
 
     // What a caller asks for takes effect, unless a cause stands against it.
@@ -66,13 +67,14 @@ impl Store {
         ensures last { result ≡ Reply.Refused Refusal.NoRoom → (s : State) → Stands self.old s → cause_against s (request_of asked.now) body ≡ None }
     {
         let place = self.content.place(&asked.key);
-        if let Some(cause) = self.cause_against(place, asked, &body) {
+        let caller = self.content.name_of(asked.caller);
+        if let Some(cause) = self.cause_against(place, &caller, asked, &body) {
             return answer_to(cause);
         }
         let Ok(owed) = self.content.owed_at(place, &asked.key) else {
             return Reply::Refused(Refusal::NoRoom);
         };
-        let change = change_asked(asked, body, self.content.name_of(asked.caller));
+        let change = change_asked(asked, body, caller);
         match self.content.accept_at(place, change, owed) {
             Ok(()) => Reply::Changed {
                 owed: owed.number(),

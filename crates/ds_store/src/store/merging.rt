@@ -7,6 +7,7 @@ ghost use Rattle.ds_machine.specs.Parts.{changes_in};
 ghost use Rattle.ds_machine.specs.Standing.{cause_of};
 ghost use Rattle.ds_machine.specs.State.{State};
 ghost use Rattle.ds_machine.specs.Machine.{Step};
+ghost use Rattle.ds_machine.specs.Says.{IsReplyTo};
 ghost use Rattle.ds_machine.specs.Subscription.{is_owed};
 ghost use Rattle.ds_watch.specs.Mask.{padded};
 ghost use Rattle.ds_judge.specs.Last.{IsLast};
@@ -17,7 +18,7 @@ ghost use Rattle.ds_store.specs.Merging.{MergesItem, owed_after, stale_by, taken
 ghost use Rattle.ds_store.specs.Standing.{standing_in};
 
 use crate::store::Store;
-use ds_entry::{Change, Floor, Item, ItemList};
+use ds_entry::{Change, Floor, Item};
 use ds_join::Merge;
 use ds_judge::{Standing, cause_of_change, cause_of_floor, passed_as, refusal_of_merge};
 use ds_machine::{Cause, Command, Refusal, Reply};
@@ -114,11 +115,14 @@ impl Store {
         }
     }
 
-    // The items take effect in order, up to the first that is refused.
-    pub(super) fn merge(&mut self, items: &ItemList) -> Reply
+    /// Answers as to `Command::Merge` of the items, which are only lent: they take effect in their order, up to the first that
+    /// is refused. TooMany: more than 256. An item is judged before it is copied, so that want of memory comes last.
+    pub fn merge(&mut self, items: &[Item]) -> Reply
         ensures step { (s : State) → Stands self.old s → (t : State) × Step s (Command.Merge items.now) result t × Stands self.new t }
         ensures last { (s : State) → Stands self.old s → IsLast s (Command.Merge items.now) result }
+        ensures fits { IsReplyTo (Command.Merge items.now) result }
     {
+        let _stood = self.cursor();
         if let Some(refusal) = refusal_of_merge(items.len()) {
             return Reply::Refused(refusal);
         }
@@ -126,7 +130,7 @@ impl Store {
         let mut done = 0;
         let mut taken = 0;
         let mut stale = 0;
-        while let Some(item) = items.get(done) {
+        for item in items {
             let join = match self.merge_item(item, &mut owed) {
                 Ok(join) => join,
                 Err(fault) => {

@@ -59,7 +59,7 @@ returns-in-Page-clause-step c = λ s stands. (s, inl (subst (λ (x : Command). A
 pub returns-in-Merge-clause-step : goal.returns-in-Merge-clause-step
 returns-in-Merge-clause-step c = λ s stands.
     let r = c.merge.ensures.step s stands in
-    (r.0, subst (λ (x : Command). Step s x c.merge.result r.0) (sym c.in-Merge.is) r.1, r.2)
+    (r.0, subst (λ (x : Command). Step s x c.merge.result r.0) (ap (λ l. Merge l) c.as_slice.ensures ∙ sym c.in-Merge.is) r.1, r.2)
 
 -- where want of memory is told
 pub returns-in-Publish-clause-last : goal.returns-in-Publish-clause-last
@@ -100,7 +100,7 @@ pub returns-in-Page-clause-last : goal.returns-in-Page-clause-last
 returns-in-Page-clause-last c = λ s stands. subst (λ (x : Command). IsLast s x c.page.result) (sym c.in-Page.is) (c.page.ensures.last s stands)
 
 pub returns-in-Merge-clause-last : goal.returns-in-Merge-clause-last
-returns-in-Merge-clause-last c = λ s stands. subst (λ (x : Command). IsLast s x c.merge.result) (sym c.in-Merge.is) (c.merge.ensures.last s stands)
+returns-in-Merge-clause-last c = λ s stands. subst (λ (x : Command). IsLast s x c.merge.result) (ap (λ l. Merge l) c.as_slice.ensures ∙ sym c.in-Merge.is) (c.merge.ensures.last s stands)
 
 pub returns-in-NameOf-clause-last : goal.returns-in-NameOf-clause-last
 returns-in-NameOf-clause-last c = λ s stands. subst (λ (x : Command). IsLast s x c.name.result) (sym c.in-NameOf.is) (never_last s (NameOf c.in-NameOf.endpoint) c.name.result s (c.name.ensures.answer s stands) c.name.ensures.in_place)
@@ -166,7 +166,4 @@ returns-in-Page-clause-fits c =
     subst (λ (x : Command). IsReplyTo x c.page.result) (sym c.in-Page.is) (replies_fit at.0 at.0 (Page c.in-Page.scope c.in-Page.after c.in-Page.max) c.page.result (inl (c.page.ensures.answer at.0 at.1)))
 
 pub returns-in-Merge-clause-fits : goal.returns-in-Merge-clause-fits
-returns-in-Merge-clause-fits c =
-    let at = c.cursor-stood.ensures.stood in
-    let r = c.merge.ensures.step at.0 at.1 in
-    subst (λ (x : Command). IsReplyTo x c.merge.result) (sym c.in-Merge.is) (replies_fit at.0 r.0 (Merge c.in-Merge.items) c.merge.result r.1)
+returns-in-Merge-clause-fits c = subst (λ (x : Command). IsReplyTo x c.merge.result) (ap (λ l. Merge l) c.as_slice.ensures ∙ sym c.in-Merge.is) c.merge.ensures.fits

@@ -34,7 +34,7 @@ returns-clause-step c = λ s stands.
           (let bits : w.number.result ≡ owed s (Changed change ∷ []) = owed_number s (Changed change) c.in-Ok.owed w.number.result w.number.ensures (c.in-Ok.ensures.owed s change here (ap (λ x. x.key) c.change_asked-change.ensures)) in (
             accepts s (Changed change ∷ []),
             subst (λ (r : Reply). Answers s (asking s a c.args.body) r (accepts s (Changed change ∷ []))) (sym w.result-is)
-                (asked_taken v s a c.args.body change w.number.result here none (c.change_asked-change.ensures ∙ ap (λ m. change_asked m a c.args.body) c.name_of.ensures) bits),
+                (asked_taken v s a c.args.body change w.number.result here none (c.change_asked-change.ensures ∙ ap (λ m. change_asked m a c.args.body) c.name_of-caller.ensures) bits),
             w.in-Ok-accept_at.ensures.ok s here,
           ))
       | in-Err w ↦ (s, inr (record { reply_is = w.result-is; state_is = refl }), subst (λ (x : ContentRecord). Stands x s) (sym w.in-Err.ensures.err) here)

@@ -1,18 +1,18 @@
-use Rattle.std.proofs.Common.{◌≡◌, ◌+◌, ◌-◌, ◌<◌, [], ◌∷◌, length, map, take, Some, None, Err, ap, sym, ◌∙◌, subst, arith}
-use Rattle.std.proofs.lemmas.Option.{slice_get_within}
+use Rattle.std.proofs.Common.{◌≡◌, ◌+◌, ◌<◌, [], ◌∷◌, length, map, take, None, Err, refl, ap, sym, ◌∙◌, subst, arith}
+use Rattle.std.proofs.lemmas.Option.{slice_get_past, slice_get_within}
 use Rattle.std.specs.Prelude.{slice_get}
-use Rattle.std.specs.Option.{option_copied}
 use Rattle.ds_watch.specs.Mask.{padded}
 use Rattle.ds_machine.specs.State.{State}
 use Rattle.ds_machine.specs.Subscription.{is_owed}
 use Rattle.ds_machine.specs.Merging.{Course, course}
 use Rattle.ds_content.specs.Stands.{Stands}
-use Rattle.ds_store.proofs.MergeLemmas.{not_begun, nothing_owed, merge_stopped, merge_done, taken_within, stale_within, next_course, next_reached, item_owed, course_places, course_number, stopped_last}
+use Rattle.ds_store.proofs.MergeLemmas.{item_next, not_begun, nothing_owed, merge_stopped, merge_done, taken_within, stale_within, next_course, next_reached, item_owed, course_places, course_number, stopped_last}
 use Rattle.ds_store.proofs.store.Store.merge.Goals as goal
 
 pub loop-item-init : goal.loop-item-init
 loop-item-init c = record {
-  few = omega (arith, c.len.ensures, c.in_default.ensures.few);
+  counted = refl;
+  few = omega (arith, c.in_default.ensures.few);
   within = omega arith;
   taken = omega arith;
   stale = omega arith;
@@ -27,10 +27,10 @@ returns-in-Err-clause-step c = λ s stands.
     let k = course s (take i items) in
     let at = c.loop-item.invariant.reached s stands in
     let next = c.in-Err.ensures.step k.state at.1 in
-    let item : slice_get items i ≡ Some c.in-Some-get.item.now = sym (subst (λ o. option_copied o ≡ slice_get items i) c.in-Some-get.is c.get.ensures) in
+    let item = item_next items c.loop-item.item-index i c.item-item.result c.loop-item-test.true c.item-item.is c.loop-item.invariant.counted in
     let flags = c.in-Err.ensures.owed k.state at.1 ∙ c.loop-item.invariant.owed s stands in (
       next.0,
-      merge_stopped s items i c.in-Some-get.item.now c.in-Err.fault next.0 c.loop-item.taken c.loop-item.stale c.number.result (course_number s k c.number.result c.merge_item.new.total c.number.ensures flags) c.loop-item.invariant.few item at.0 next.1,
+      merge_stopped s items i c.item-item.result c.in-Err.fault next.0 c.loop-item.taken c.loop-item.stale c.number.result (course_number s k c.number.result c.merge_item.new.total c.number.ensures flags) c.loop-item.invariant.few item at.0 next.1,
       next.2,
     )
 
@@ -40,26 +40,18 @@ returns-in-Err-clause-last c = λ s stands.
     let i = c.loop-item.done in
     let k = course s (take i items) in
     let at = c.loop-item.invariant.reached s stands in
-    let item : slice_get items i ≡ Some c.in-Some-get.item.now = sym (subst (λ o. option_copied o ≡ slice_get items i) c.in-Some-get.is c.get.ensures) in
-    stopped_last s items i c.in-Some-get.item.now c.in-Err.fault c.number.result item (λ e. c.merge_item.ensures.last (c.in-Err.is ∙ ap (λ f. Err f) e) k.state at.1)
-
-pub loop-item-smaller : goal.loop-item-smaller
-loop-item-smaller c =
-    let items = c.args.items.now in
-    let i = c.loop-item.done in
-    let item : slice_get items i ≡ Some c.in-Some-get.item.now = sym (subst (λ o. option_copied o ≡ slice_get items i) c.in-Some-get.is c.get.ensures) in
-    let within : i < length items = slice_get_within items i c.in-Some-get.item.now item in
-    let fewer : length items - (i + 1) < length items - i = omega arith in
-    fewer
+    let item = item_next items c.loop-item.item-index i c.item-item.result c.loop-item-test.true c.item-item.is c.loop-item.invariant.counted in
+    stopped_last s items i c.item-item.result c.in-Err.fault c.number.result item (λ e. c.merge_item.ensures.last (c.in-Err.is ∙ ap (λ f. Err f) e) k.state at.1)
 
 pub loop-item-preserved : goal.loop-item-preserved
 loop-item-preserved c =
     let items = c.args.items.now in
     let i = c.loop-item.done in
-    let it = c.in-Some-get.item.now in
-    let item : slice_get items i ≡ Some it = sym (subst (λ o. option_copied o ≡ slice_get items i) c.in-Some-get.is c.get.ensures) in
+    let it = c.item-item.result in
+    let item = item_next items c.loop-item.item-index i it c.loop-item-test.true c.item-item.is c.loop-item.invariant.counted in
     let within : i < length items = slice_get_within items i it item in
     record {
+      counted = ap (λ n. n + 1) c.loop-item.invariant.counted;
       few = c.loop-item.invariant.few;
       within = omega (arith, within);
       taken = taken_within c.in-Ok.join c.loop-item.taken i c.taken_by-taken.result c.taken_by-taken.ensures c.loop-item.invariant.taken;
@@ -85,7 +77,7 @@ returns-clause-step c = λ s stands.
     let i = c.loop-item.done in
     let k = course s (take i items) in
     let at = c.loop-item.invariant.reached s stands in
-    let gone : slice_get items i ≡ None = sym (subst (λ o. option_copied o ≡ slice_get items i) c.in_default-get.is c.get.ensures) in (
+    let gone : slice_get items i ≡ None = slice_get_past items i (omega (arith, c.loop-item-test.false, c.loop-item.invariant.counted)) in (
       k.state,
       merge_done s items i c.loop-item.taken c.loop-item.stale c.number-2.result (course_number s k c.number-2.result c.loop-item.owed c.number-2.ensures (c.loop-item.invariant.owed s stands)) c.loop-item.invariant.few gone c.loop-item.invariant.within at.0,
       at.1,

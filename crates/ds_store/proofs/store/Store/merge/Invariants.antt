@@ -1,4 +1,4 @@
-use Rattle.std.proofs.Common.{◌≡◌, ◌≤◌, ◌-◌, map, length, take}
+use Rattle.std.proofs.Common.{◌≡◌, ◌≤◌, map, length, take}
 use Rattle.ds_watch.specs.Mask.{padded}
 use Rattle.ds_machine.specs.State.{State}
 use Rattle.ds_machine.specs.Subscription.{is_owed}
@@ -10,6 +10,7 @@ use Rattle.ds_store.proofs.store.Store.merge.Given as goal
 -- the items so far are merged, and those to which they are owed are told
 abbrev pub invariant-loop-item : goal.invariant-loop-item
 invariant-loop-item l = record {
+  counted : l.item-index ≡ l.done;
   few : length l.items ≤ 256;
   within : l.done ≤ length l.items;
   taken : l.taken ≤ l.done;
@@ -17,6 +18,3 @@ invariant-loop-item l = record {
   owed : (s : State) → Stands l.fn.self s → l.owed ≡ padded (map (is_owed (course s (take l.done l.items)).taken) s.subscriptions);
   reached : (s : State) → Stands l.fn.self s → Reached (course s (take l.done l.items)) l.done l.taken l.stale × Stands l.self (course s (take l.done l.items)).state;
 }
-
-abbrev pub decreases-loop-item : goal.decreases-loop-item
-decreases-loop-item l = length l.items - l.done
