@@ -1,7 +1,6 @@
 -- Lines behind the first one of a script: what is read there, and what isn't.
-use Rattle.std.proofs.Common.{◌≡◌, ◌≢◌, ℕ, zero, suc, true, List, Result, Ok, Err, refl, sym, ap, ◌∙◌, arith}
+use Rattle.std.proofs.Common.{◌≡◌, ◌≢◌, ℕ, zero, suc, List, Result, Ok, Err, refl, ap, subst, arith}
 use Rattle.std.specs.Char.{is_ascii_alphanumeric}
-use Rattle.std.specs.List.{list_all}
 use Rattle.ds_names.specs.Run.{Begins}
 use Rattle.ds_line.specs.Part.{texts}
 use Rattle.ds_line.specs.FaultPlace.{CanRead}
@@ -9,7 +8,7 @@ use Rattle.ds_words.specs.declared.command.ScriptCommand.{ScriptCommand}
 use Rattle.ds_words.specs.declared.command.ScriptCommand.TheVariants.{Show}
 use Rattle.ds_words.specs.declared.fault.CommandFault.{CommandFault}
 use Rattle.ds_words.specs.declared.fault.CommandFault.TheVariants.{BadLine, NoRoom}
-use Rattle.ds_words.specs.Command.{behind_word, command_parts, IsCommand, IsFaultAmong, IsCommandFault, Reads}
+use Rattle.ds_words.specs.Command.{word_of, behind_word, command_parts, IsCommand, IsFaultAmong, IsCommandFault, Reads}
 use Rattle.ds_words.specs.Later.{IsLater, ReadsLater}
 use Rattle.ds_words.specs.World.{ring_word}
 use Rattle.ds_words.proofs.LineLemmas.{code}
@@ -37,35 +36,32 @@ ring_is_bad line rest begins =
 
 -- ---- it is another
 
-can_later : (line word rest after : List ℕ) (n : ℕ) → list_all is_ascii_alphanumeric word ≡ true → Begins is_ascii_alphanumeric line word rest → word ≢ ring_word → CanRead IsCommand command_parts n line after → CanRead IsLater command_parts n line after
-can_later line word rest after zero is begins other r = record { member = Show; is = show_is_later; front = r.front }
-can_later line word rest after (suc n) is begins other r =
-    record {
-      member = r.member;
-      is = (r.is, λ same. other (sym (one_word r.member line word r.front.0 rest is r.front.1 begins).0 ∙ same));
-      front = r.front;
-    }
+other_word : (command : ScriptCommand) (line rest : List ℕ) → ((after : List ℕ) → ¬ Begins is_ascii_alphanumeric line ring_word after) → Begins is_ascii_alphanumeric line (word_of command) rest → word_of command ≢ ring_word
+other_word command line rest other begins same = other rest (subst (λ (t : List ℕ). Begins is_ascii_alphanumeric line t rest) same begins)
 
-fault_later : (line word rest : List ℕ) (place : ℕ) → list_all is_ascii_alphanumeric word ≡ true → Begins is_ascii_alphanumeric line word rest → word ≢ ring_word → IsCommandFault line place → IsFaultAmong IsLater line place
-fault_later line word rest place is begins other fault =
+can_later : (line rest : List ℕ) (n : ℕ) → ((after : List ℕ) → ¬ Begins is_ascii_alphanumeric line ring_word after) → CanRead IsCommand command_parts n line rest → CanRead IsLater command_parts n line rest
+can_later line rest zero other r = record { member = Show; is = show_is_later; front = r.front }
+can_later line rest (suc n) other r = record { member = r.member; is = (r.is, other_word r.member line r.front.0 other r.front.1); front = r.front }
+
+fault_later : (line : List ℕ) (place : ℕ) → ((after : List ℕ) → ¬ Begins is_ascii_alphanumeric line ring_word after) → IsCommandFault line place → IsFaultAmong IsLater line place
+fault_later line place other fault =
     record {
       none = λ command can text. fault.none command can.0 text;
       first = record {
         rest = fault.first.rest;
         stops = record {
           count = fault.first.stops.count;
-          read = can_later line word rest fault.first.rest fault.first.stops.count is begins other fault.first.stops.read;
+          read = can_later line fault.first.rest fault.first.stops.count other fault.first.stops.read;
           most = λ after r. fault.first.stops.most after (record { member = r.member; is = r.is.0; front = r.front });
         };
         begins = fault.first.begins;
       };
     }
 
-may_stand : (line word rest : List ℕ) (command : ScriptCommand) → list_all is_ascii_alphanumeric word ≡ true → Begins is_ascii_alphanumeric line word rest → word ≢ ring_word → IsCommand command → line ≡ texts (command_parts command) → IsLater command
-may_stand line word rest command is begins other can text =
-    (can, λ same. other (sym (one_word command line word (texts (behind_word command)) rest is (word_begins command line text) begins).0 ∙ same))
+may_stand : (line : List ℕ) (command : ScriptCommand) → ((after : List ℕ) → ¬ Begins is_ascii_alphanumeric line ring_word after) → IsCommand command → line ≡ texts (command_parts command) → IsLater command
+may_stand line command other can text = (can, other_word command line (texts (behind_word command)) other (word_begins command line text))
 
-pub reads_later : (line word rest : List ℕ) (result : Result ScriptCommand CommandFault) → list_all is_ascii_alphanumeric word ≡ true → Begins is_ascii_alphanumeric line word rest → word ≢ ring_word → Reads line result → ReadsLater line result
-reads_later line word rest (Ok command) is begins other h = (may_stand line word rest command is begins other h.0 h.1, h.1)
-reads_later line word rest (Err (BadLine place expected)) is begins other h = fault_later line word rest place is begins other h
-reads_later line word rest (Err NoRoom) is begins other h = (h.0, may_stand line word rest h.0 is begins other h.1 h.2, h.2, h.3)
+pub reads_later : (line : List ℕ) (result : Result ScriptCommand CommandFault) → ((after : List ℕ) → ¬ Begins is_ascii_alphanumeric line ring_word after) → Reads line result → ReadsLater line result
+reads_later line (Ok command) other h = (may_stand line command other h.0 h.1, h.1)
+reads_later line (Err (BadLine place expected)) other h = fault_later line place other h
+reads_later line (Err NoRoom) other h = (h.0, may_stand line h.0 other h.1 h.2, h.2, h.3)

@@ -1,7 +1,9 @@
 //! The lines behind the first one of a script.
 
-ghost use Rattle.std.specs.Prelude.{◌≡◌, ◌↔◌, IsTrue};
+ghost use Rattle.std.specs.Prelude.{◌↔◌, ℕ, List, IsTrue};
+ghost use Rattle.std.specs.Char.{is_ascii_alphanumeric};
 ghost use Rattle.ds_line.specs.LastNewline.{EndsLine};
+ghost use Rattle.ds_names.specs.Run.{Begins};
 ghost use Rattle.ds_words.specs.Later.{ReadsLater};
 ghost use Rattle.ds_words.specs.World.{ring_word};
 
@@ -17,8 +19,7 @@ pub fn read_later_line(alloc: Global, line: &[u8]) -> Result<ScriptCommand, Comm
     requires { EndsLine line.now }
     ensures { ReadsLater line.now result }
 {
-    let (word, _) = word_at(line);
-    if is_ring(word) {
+    if has_ring(line) {
         return Err(CommandFault::BadLine {
             place: 0,
             expected: Expected::Command,
@@ -27,9 +28,14 @@ pub fn read_later_line(alloc: Global, line: &[u8]) -> Result<ScriptCommand, Comm
     read_line(alloc, line)
 }
 
-// Whether a word is `ring`.
-fn is_ring(word: &[u8]) -> bool
-    ensures { IsTrue result ↔ (word.now ≡ ring_word) }
+// Whether the word of a line is `ring`. The word is read only where its bytes stand at the front: most lines begin with
+// others, and `read_line` is to read their word anyway.
+fn has_ring(line: &[u8]) -> bool
+    ensures { IsTrue result ↔ ((rest : List ℕ) × Begins is_ascii_alphanumeric line.now ring_word rest) }
 {
+    if !line.starts_with(b"ring") {
+        return false;
+    }
+    let (word, _) = word_at(line);
     word == b"ring".as_slice()
 }

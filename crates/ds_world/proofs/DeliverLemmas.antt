@@ -21,11 +21,11 @@ use Rattle.ds_replica.specs.declared.outcome.Outcome.TheVariants.{Refused}
 use Rattle.ds_replica.specs.declared.outcome.EventFault.{EventFault}
 use Rattle.ds_replica.specs.declared.outcome.EventFault.TheVariants.{NoMessage, NoMap, TooMany}
 use Rattle.ds_replica.specs.Delivery.{Tally, StoreTakes, MapTakes}
-use Rattle.ds_replica.specs.World.{MapState, World, with_state}
+use Rattle.ds_replica.specs.World.{MapState, World, store_at, with_state}
 use Rattle.ds_replica.specs.Happens.{count_of, delivery_fault, tally_outcome, Happens, Delivers}
 use Rattle.ds_world.specs.World.{WorldRecord, map_state, kept_items, Stands}
 use Rattle.ds_world.specs.Run.{EventLeads}
-use Rattle.ds_world.specs.Told.{IsMapTold, IsTold}
+use Rattle.ds_world.specs.Told.{IsMapTold, IsStoreTold, IsTold, IsWantLast}
 use Rattle.ds_world.proofs.StandLemmas.{map_is, message_is, lt_true, lt_false}
 
 -- an event that leads from one value to another does so by whatever names they have
@@ -33,6 +33,12 @@ pub carried : {event event' : Event} {outcome outcome' : Outcome} {old old' new 
 carried {event' = event'} {outcome = outcome} {outcome' = outcome'} {old = old} {old' = old'} {new = new} e o was is leads =
     subst (λ (v : WorldRecord). EventLeads event' outcome' old' v) is
     (subst (λ (v : WorldRecord). EventLeads event' outcome' v new) was (subst (λ (x : Outcome). EventLeads event' x old new) o (subst (λ (x : Event). EventLeads x outcome old new) e leads)))
+
+-- and tells the same
+pub told_so : {event event' : Event} {outcome outcome' : Outcome} {old old' new new' : WorldRecord} → event ≡ event' → outcome ≡ outcome' → old ≡ old' → new ≡ new' → IsTold event outcome old new → IsTold event' outcome' old' new'
+told_so {event' = event'} {outcome = outcome} {outcome' = outcome'} {old = old} {old' = old'} {new = new} e o was is told =
+    subst (λ (v : WorldRecord). IsTold event' outcome' old' v) is
+    (subst (λ (v : WorldRecord). IsTold event' outcome' v new) was (subst (λ (x : Outcome). IsTold event' x old new) o (subst (λ (x : Event). IsTold x outcome old new) e told)))
 
 module _ (value : WorldRecord) (k : ℕ) (count : Option ℕ) where
   pub no_message : (holder : Holder) → kept_items value.messages k ≡ None → EventLeads (Deliver k holder count) (Refused NoMessage) value value
@@ -78,25 +84,49 @@ module _ (value : WorldRecord) (k : ℕ) (count : Option ℕ) where
       message_there : (w : World) → Stands value w → slice_get w.messages k ≡ Some items
       message_there w s = message_is value w k s ∙ there
 
-      pub to_a : (new : ContentRecord) → ((s : State) → contents.Stands value.a s → (t : State) × StoreTakes s (take (count_of count items) items) tally t × contents.Stands new t)
-          → EventLeads (Deliver k (Store A) count) (tally_outcome tally tally.stop) value (record value { a = new })
+      -- it led to such a world, in whose store want of memory came last
+      abbrev pub Led : Side → WorldRecord → Type 0
+      Led side new =
+          (w : World) → Stands value w → (after : World) × Happens w (Deliver k (Store side) count) (tally_outcome tally tally.stop) after × IsWantLast (take (count_of count items) items) tally.done tally.stop (store_at after side) × Stands new after
+
+      pub to_a : (new : ContentRecord) → ((s : State) → contents.Stands value.a s → (t : State) × StoreTakes s (take (count_of count items) items) tally t × contents.Stands new t × IsWantLast (take (count_of count items) items) tally.done tally.stop t)
+          → Led A (record value { a = new })
       to_a new takes w s =
           let t = takes w.a s.a in (
             with_state w A t.0,
             happens w (with_state w A t.0) (Store A) not_more s
                 (record { items = items; there = message_there w s; tally = tally; taken = record { after = t.0; takes = t.1; world_is = refl }; outcome_is = refl }),
+            t.3,
             record { a = t.2; b = s.b; maps = s.maps; messages = s.messages },
           )
 
-      pub to_b : (new : ContentRecord) → ((s : State) → contents.Stands value.b s → (t : State) × StoreTakes s (take (count_of count items) items) tally t × contents.Stands new t)
-          → EventLeads (Deliver k (Store B) count) (tally_outcome tally tally.stop) value (record value { b = new })
+      pub to_b : (new : ContentRecord) → ((s : State) → contents.Stands value.b s → (t : State) × StoreTakes s (take (count_of count items) items) tally t × contents.Stands new t × IsWantLast (take (count_of count items) items) tally.done tally.stop t)
+          → Led B (record value { b = new })
       to_b new takes w s =
           let t = takes w.b s.b in (
             with_state w B t.0,
             happens w (with_state w B t.0) (Store B) not_more s
                 (record { items = items; there = message_there w s; tally = tally; taken = record { after = t.0; takes = t.1; world_is = refl }; outcome_is = refl }),
+            t.3,
             record { a = s.a; b = t.2; maps = s.maps; messages = s.messages },
           )
+
+      -- so the event led there
+      pub led : (side : Side) (new : WorldRecord) → Led side new → EventLeads (Deliver k (Store side) count) (tally_outcome tally tally.stop) value new
+      led side new to w s = let there = to w s in (there.0, there.1, there.3)
+
+      -- and want of memory came last
+      pub store_told : (side : Side) (new : WorldRecord) → Led side new → new.messages ≡ value.messages → IsTold (Deliver k (Store side) count) (tally_outcome tally tally.stop) value new
+      store_told side new to same = (λ others e. subst (λ (l : List Item). IsStoreTold (Deliver k (Store side) count) side (take (count_of count l) l) (tally_outcome tally tally.stop) value new) (one (kept_items value.messages k) items others there e) (by_stop tally.stop to), same)
+        where
+          one : (o : Option (List Item)) (x y : List Item) → o ≡ Some x → o ≡ Some y → x ≡ y
+          one o x y e f = cc
+
+          by_stop : (o : Option Refusal)
+              → ((w : World) → Stands value w → (after : World) × Happens w (Deliver k (Store side) count) (tally_outcome tally o) after × IsWantLast (take (count_of count items) items) tally.done o (store_at after side) × Stands new after)
+              → IsStoreTold (Deliver k (Store side) count) side (take (count_of count items) items) (tally_outcome tally o) value new
+          by_stop None to = tt
+          by_stop (Some fault) to = λ w s. (let at = to w s in (at.0, (at.1, at.2), at.3))
 
       pub to_map : (j : ℕ) (m new : SubMapRecord) → slice_get value.maps j ≡ Some m → MapTakes (map_state m) (take (count_of count items) items) tally (map_state new)
           → EventLeads (Deliver k (Map j) count) (tally_outcome tally tally.stop) value (record value { maps = slice_set value.maps j new })
@@ -138,6 +168,9 @@ map_told value k j count items old new outcome there at told = (
       (subst (λ (x : SubMapRecord). IsMapTold old.query old.held (take (count_of count items) items) outcome x.held) (same (slice_get (slice_set value.maps j new) j) new n (set_there value.maps j old new at) g) told)),
   refl,
 )
+
+pub store_refused : (value : WorldRecord) (k : ℕ) (side : Side) (count : Option ℕ) (fault : EventFault) → IsTold (Deliver k (Store side) count) (Refused fault) value value
+store_refused value k side count fault = (λ items e. tt, refl)
 
 pub map_refused : (value : WorldRecord) (k j : ℕ) (count : Option ℕ) (fault : EventFault) → IsTold (Deliver k (Map j) count) (Refused fault) value value
 map_refused value k j count fault = (λ items m n e f g. tt, refl)

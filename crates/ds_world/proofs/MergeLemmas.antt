@@ -1,25 +1,31 @@
 -- That Merges one after the other are what the definitions of deliveries say.
-use Rattle.std.proofs.Common.{◌≡◌, ℕ, ◌+◌, ◌-◌, ◌≤◌, List, [], ◌∷◌, ◌++◌, length, length-drop, get_or, map, take, drop, Some, refl, ap, sym, ◌∙◌, subst, inl, inr, arith, Contains}
+use Rattle.std.proofs.Common.{◌≡◌, ◌≢◌, ℕ, zero, suc, ◌+◌, ◌≤◌, List, [], ◌∷◌, ◌++◌, length, map, take, Option, Some, None, refl, ap, sym, ◌∙◌, subst, inl, inr, arith, Contains}
 use Rattle.std.specs.List.{flat_map}
 use Rattle.std.specs.List.{slice_get}
-use Rattle.std.proofs.lemmas.List.{drop-drop, get_or-drop, length-take, take_more}
-use Rattle.std.proofs.lemmas.Option.{get_or_from_slice_get, slice_get_within}
+use Rattle.std.specs.Option.{option_map_or}
 use Rattle.std.proofs.lemmas.List.Concat.{flat_map-cons}
-use Rattle.std.proofs.Math.Seq.{take-add}
 use Rattle.ds_entry.specs.declared.item.Item.{Item}
 use Rattle.ds_entry.proofs.Members.{Contains-cons, Contains-from_map}
 use Rattle.ds_machine.specs.Limits.{most_items}
-use Rattle.ds_machine.specs.State.{State}
+use Rattle.ds_machine.specs.State.{State, owed}
+use Rattle.ds_machine.specs.Order.{first_refusal}
+use Rattle.ds_machine.specs.Standing.{cause_of}
+use Rattle.ds_machine.specs.Calling.{against_merge}
+use Rattle.ds_machine.specs.Merging.{course, merging}
 use Rattle.ds_machine.specs.Machine.{Step}
 use Rattle.ds_machine.specs.declared.command.Command.TheVariants.{Merge}
 use Rattle.ds_machine.specs.declared.refusal.Refusal.{Refusal}
+use Rattle.ds_machine.specs.declared.refusal.Refusal.TheVariants.{NoRoom}
 use Rattle.ds_machine.specs.Reached.{IsReached}
 use Rattle.ds_machine.specs.Says.{IsMergeReply}
 use Rattle.ds_machine.specs.declared.reply.Reply.{Reply}
 use Rattle.ds_machine.specs.declared.reply.Reply.TheVariants.{Merged, MergeStopped, Refused}
 use Rattle.ds_machine.proofs.SaysLemmas.{merged_says, merge_stopped_says}
+use Rattle.ds_judge.specs.Last.{IsLast}
+use Rattle.ds_judge.proofs.RoomLemmas.{no_course}
 use Rattle.ds_replica.specs.Delivery.{Tally, ended, added, StoreTakes}
 use Rattle.ds_world.specs.Tally.{IsCounted}
+use Rattle.ds_world.specs.Told.{IsWantLast}
 
 -- each item as a group of its own
 abbrev singles : List Item → List (List Item)
@@ -41,43 +47,15 @@ few_cons group groups l few g h = elim (Contains-cons group groups g h) [ inl e 
 all_cons : (group rest : List Item) (groups : List (List Item)) → flat_map (λ (g : List Item). g) groups ≡ rest → flat_map (λ (g : List Item). g) (group ∷ groups) ≡ group ++ rest
 all_cons group rest groups e = flat_map-cons (λ (g : List Item). g) group groups ∙ ap (λ (l : List Item). group ++ l) e
 
--- ---- items in groups
--- the items from one place on and before another, cut at a place between
-cut : (items : List Item) (from end count : ℕ) → from ≤ end → end ≤ count → take (count - from) (drop from items) ≡ take (end - from) (drop from items) ++ take (count - end) (drop end items)
-cut items from end count l m =
-    ap (λ n. take n (drop from items)) (omega (arith, l, m))
-    ∙ take-add (end - from) (count - end) (drop from items)
-    ∙ ap (λ (r : List Item). take (end - from) (drop from items) ++ take (count - end) r) (drop-drop (end - from) from items ∙ ap (λ n. drop n items) (omega (arith, l)))
-
--- one more item of them
-pub copied_more : (items : List Item) (from i : ℕ) (x : Item) → from ≤ i → slice_get items i ≡ Some x → take (i + 1 - from) (drop from items) ≡ take (i - from) (drop from items) ++ x ∷ []
-copied_more items from i x l at =
-    let within = slice_get_within items i x at in
-    ap (λ n. take n (drop from items)) (omega (arith, l))
-    ∙ take_more (drop from items) (i - from) x (omega (arith, l, within, length-drop from items))
-    ∙ ap (λ (y : Item). take (i - from) (drop from items) ++ y ∷ []) (get_or-drop from items (i - from) x ∙ ap (λ n. get_or items n x) (omega (arith, l)) ∙ get_or_from_slice_get items i x x at)
-
 -- ---- a delivery to a store
--- of the items from one place on and before another, those before a place between are a group
-module _ (s mid : State) (items : List Item) (from end count : ℕ) (l : from ≤ end) (m : end ≤ count) (n : end - from ≤ most_items) where
-  abbrev all_items : List Item
-  all_items = take (count - from) (drop from items)
-
-  abbrev group : List Item
-  group = take (end - from) (drop from items)
-
-  abbrev rest : List Item
-  rest = take (count - end) (drop end items)
-
-  few : length group ≤ most_items
-  few = omega (arith, n, length-take (end - from) (drop from items))
-
-  all_in : (groups : List (List Item)) → flat_map (λ (g : List Item). g) groups ≡ rest → flat_map (λ (g : List Item). g) (group ∷ groups) ≡ all_items
-  all_in groups e = all_cons group rest groups e ∙ sym (cut items from end count l m)
+-- the items are a group and the others behind it
+module _ (s mid : State) (items group rest : List Item) (is : group ++ rest ≡ items) (few : length group ≤ most_items) where
+  all_in : (groups : List (List Item)) → flat_map (λ (g : List Item). g) groups ≡ rest → flat_map (λ (g : List Item). g) (group ∷ groups) ≡ items
+  all_in groups e = all_cons group rest groups e ∙ is
 
   -- its Merge was done, and the others follow
-  pub takes_more : (done taken stale owed : ℕ) (later : Tally) (new : State) → done ≡ end - from → Step s (Merge group) (Merged done taken stale owed) mid → StoreTakes mid rest later new
-      → StoreTakes s all_items (added (end - from) taken stale owed later) new
+  pub takes_more : (done taken stale owed : ℕ) (later : Tally) (new : State) → done ≡ length group → Step s (Merge group) (Merged done taken stale owed) mid → StoreTakes mid rest later new
+      → StoreTakes s items (added (length group) taken stale owed later) new
   takes_more done taken stale owed later new e step t =
       record {
         groups = group ∷ t.groups;
@@ -87,7 +65,7 @@ module _ (s mid : State) (items : List Item) (from end count : ℕ) (l : from �
       }
 
   -- its Merge was stopped, or refused, and nothing more was asked
-  pub takes_stopped : (done owed : ℕ) (fault : Refusal) (tally : Tally) → tally ≡ ended done owed (Some fault) → Step s (Merge group) (MergeStopped done fault owed) mid → StoreTakes s all_items tally mid
+  pub takes_stopped : (done owed : ℕ) (fault : Refusal) (tally : Tally) → tally ≡ ended done owed (Some fault) → Step s (Merge group) (MergeStopped done fault owed) mid → StoreTakes s items tally mid
   takes_stopped done owed fault tally e step =
       record {
         groups = group ∷ singles rest;
@@ -96,7 +74,7 @@ module _ (s mid : State) (items : List Item) (from end count : ℕ) (l : from �
         merged = (MergeStopped done fault owed, mid, step, (e, refl));
       }
 
-  pub takes_refused : (fault : Refusal) (tally : Tally) → tally ≡ ended 0 0 (Some fault) → Step s (Merge group) (Refused fault) mid → StoreTakes s all_items tally mid
+  pub takes_refused : (fault : Refusal) (tally : Tally) → tally ≡ ended 0 0 (Some fault) → Step s (Merge group) (Refused fault) mid → StoreTakes s items tally mid
   takes_refused fault tally e step =
       record {
         groups = group ∷ singles rest;
@@ -104,6 +82,52 @@ module _ (s mid : State) (items : List Item) (from end count : ℕ) (l : from �
         few = few_cons group (singles rest) few (singles_few rest);
         merged = (Refused fault, mid, step, (e, refl));
       }
+
+-- ---- where want of memory is told
+-- a place among the first items, and one behind them
+in_front : (xs ys : List Item) (k : ℕ) (x : Item) → slice_get xs k ≡ Some x → slice_get (xs ++ ys) k ≡ Some x
+in_front [] ys k x e = absurd (cc)
+in_front (y ∷ xs) ys zero x e = e
+in_front (y ∷ xs) ys (suc k) x e = in_front xs ys k x e
+
+behind : (xs ys : List Item) (k : ℕ) → slice_get (xs ++ ys) (length xs + k) ≡ slice_get ys k
+behind [] ys k = ap (slice_get ys) (let e : 0 + k ≡ k = omega arith in e)
+behind (x ∷ xs) ys k = ap (slice_get (x ∷ xs ++ ys)) (let e : length (x ∷ xs) + k ≡ suc (length xs + k) = omega arith in e) ∙ behind xs ys k
+
+-- a Merge that wants memory leaves what its first items made
+module _ (s t : State) (items : List Item) (done owes : ℕ) where
+  by_refusal : (o : Option Refusal) → MergeStopped done NoRoom owes ≡ (merging s items o).0 → ⊥
+  by_refusal (Some r) e = cc
+  by_refusal None e = by_stop (course s items).stop (no_course s items) e
+    where
+      by_stop : (o : Option Refusal) → o ≢ Some NoRoom → MergeStopped done NoRoom owes ≡ option_map_or {U = Reply} (λ fault. MergeStopped (course s items).done fault (owed s (course s items).taken)) o (Merged (course s items).done (length (course s items).taken) (course s items).stale (owed s (course s items).taken)) → ⊥
+      by_stop (Some fault) n h = let same : fault ≡ NoRoom = cc in n (ap (λ r. Some r) same)
+      by_stop None n h = cc
+
+  stopped_for_room : Step s (Merge items) (MergeStopped done NoRoom owes) t → t ≡ (course s (take done items)).state
+  stopped_for_room (inl (inl is)) = absurd (by_refusal (first_refusal (against_merge (length items))) is.reply_is)
+  stopped_for_room (inl (inr wants)) = absurd (let e : MergeStopped done NoRoom owes ≡ Refused NoRoom = wants.reply_is in cc)
+  stopped_for_room (inr w) =
+      let e : MergeStopped done NoRoom owes ≡ MergeStopped w.0 NoRoom _ = w.1.reply_is in
+      let same : w.0 ≡ done = cc in
+      w.1.state_is ∙ ap (λ d. (course s (take d items)).state) same
+
+-- of a group that a Merge stopped in
+pub stopped_want : (s t : State) (group rest : List Item) (done owes : ℕ) (fault : Refusal) → Step s (Merge group) (MergeStopped done fault owes) t → IsLast s (Merge group) (MergeStopped done fault owes) → IsWantLast (group ++ rest) done (Some fault) t
+stopped_want s t group rest done owes NoRoom step last =
+    record { item = last.item; is_next = in_front group rest done last.item last.is_next; none = ap (λ (x : State). cause_of x last.item) (stopped_for_room s t group done owes step) ∙ last.none }
+stopped_want s t group rest done owes _ step last = tt
+
+-- a Merge is never refused for want of memory
+pub refused_want : (s : State) (group items : List Item) (fault : Refusal) → IsLast s (Merge group) (Refused fault) → (t : State) → IsWantLast items 0 (Some fault) t
+refused_want s group items NoRoom last t = absurd last
+refused_want s group items _ last t = tt
+
+-- of the others behind a group
+pub later_want : (group rest : List Item) (done : ℕ) (stop : Option Refusal) (t : State) → IsWantLast rest done stop t → IsWantLast (group ++ rest) (length group + done) stop t
+later_want group rest done None t w = tt
+later_want group rest done (Some NoRoom) t w = record { item = w.item; is_next = behind group rest done ∙ w.is_next; none = w.none }
+later_want group rest done (Some _) t w = tt
 
 -- ---- what the reply to a Merge counts
 pub counted : (s t : State) (items : List Item) (n : ℕ) (reply : Reply) → length items ≡ n → IsReached s → Step s (Merge items) reply t → IsMergeReply reply → IsCounted n reply

@@ -1,5 +1,5 @@
 -- That what a map takes is what the definitions of deliveries say.
-use Rattle.std.proofs.Common.{◌≡◌, ◌⊎◌, ℕ, ◌+◌, ◌<◌, ◌≤◌, Bool, true, false, List, [], ◌∷◌, ◌++◌, length, filter, take, Option, Some, None, Ok, Err, refl, ap, sym, subst, inl, inr, arith}
+use Rattle.std.proofs.Common.{◌≡◌, ◌⊎◌, ℕ, ◌+◌, ◌≤◌, Bool, true, false, List, [], ◌∷◌, ◌++◌, length, filter, take, Option, Some, None, Ok, Err, refl, ap, sym, subst, inl, inr, arith}
 use Rattle.std.proofs.lemmas.List.{take_all}
 use Rattle.ds_names.specs.declared.version.Version.{Version}
 use Rattle.ds_entry.specs.Change.{ChangeRecord}
@@ -16,7 +16,6 @@ use Rattle.ds_held.specs.Merge.{UnlessVoid, AnswersNew, AnswersOwn, AnswersFor}
 use Rattle.ds_held.specs.Raise.{AnswersFloor}
 use Rattle.ds_held.specs.Join.{after_item, IsItemRefused}
 use Rattle.ds_held.proofs.HeldLemmas.{change_in}
-use Rattle.ds_held.proofs.JoinLemmas.{all_join}
 use Rattle.ds_pattern.specs.declared.query.Query.{Query}
 use Rattle.ds_machine.specs.declared.refusal.Refusal.TheVariants as refusals
 use Rattle.ds_submap.specs.declared.count.Count.{Count}
@@ -126,8 +125,3 @@ module _ (old new : SubMapRecord) (items : List Item) (query : new.query ≡ old
       against : (IsRefusedUnder old.query new.held n.refused.0 stop.fault ⊎ IsUnasked old.query (take stop.done items) n.refused.0 stop.fault) → StandsAgainst (held_items new.held) n.refused.0 (refusal_of stop.fault)
       against (inl r) = stands new.held sound n.refused.0 stop.fault r.1
       against (inr u) = subst (λ (f : JoinFault). StandsAgainst (held_items new.held) n.refused.0 (refusal_of f)) (sym u.noroom) (wants_room (held_items new.held) n.refused.0)
-
--- nothing was taken, since the items couldn't be copied
-pub uncopied : (m : SubMapRecord) (items : List Item) → 0 < length items → IsSound m.held → MapTakes (map_state m) items (ended 0 0 (Some refusals.NoRoom)) (map_state m)
-uncopied m [] l sound = absurd (omega (arith, l))
-uncopied m (i ∷ items) l sound = record { query = refl; top = all_join m.held [] m.held sound refl; counted = omega arith; owed = refl; ends = (i, refl, inr refl, wants_room (held_items m.held) i) }

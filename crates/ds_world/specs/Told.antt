@@ -1,6 +1,6 @@
 -- What an event tells, beside what it leaves: an Ask of the reply, a delivery to a map of the map, and each event of the
 -- messages. And what a run is, value by value.
-use Rattle.std.specs.Prelude.{◌≡◌, ◌⊎◌, ℕ, List, [], ◌∷◌, ◌++◌, length, take, None, Some}
+use Rattle.std.specs.Prelude.{◌≡◌, ℕ, List, [], ◌∷◌, ◌++◌, length, take, Option, None, Some}
 use Rattle.std.specs.List.{slice_get}
 use Rattle.ds_entry.specs.declared.item.Item.{Item}
 use Rattle.ds_join.specs.declared.merge.JoinFault.{JoinFault}
@@ -10,26 +10,45 @@ use Rattle.ds_submap.specs.Map.{SubMapRecord}
 use Rattle.ds_submap.specs.Take.{AreCounted, IsTakeStopped}
 use Rattle.ds_machine.specs.declared.command.Command.{Command}
 use Rattle.ds_machine.specs.declared.reply.Reply.{Reply}
+use Rattle.ds_machine.specs.declared.refusal.Refusal.{Refusal}
 use Rattle.ds_machine.specs.declared.refusal.Refusal.TheVariants.{NoRoom}
+use Rattle.ds_machine.specs.State.{State}
+use Rattle.ds_machine.specs.Standing.{cause_of}
 use Rattle.ds_judge.specs.Last.{IsLast}
 use Rattle.ds_replica.specs.declared.event.Side.{Side}
-use Rattle.ds_replica.specs.declared.event.Holder.TheVariants.{Map}
+use Rattle.ds_replica.specs.declared.event.Holder.TheVariants.{Store, Map}
 use Rattle.ds_replica.specs.declared.event.Event.{Event}
 use Rattle.ds_replica.specs.declared.event.Event.TheVariants.{Ask, Deliver}
 use Rattle.ds_replica.specs.declared.outcome.Outcome.{Outcome}
 use Rattle.ds_replica.specs.declared.outcome.Outcome.TheVariants.{Replied, Made, Merged, Stopped}
 use Rattle.ds_replica.specs.World.{World, store_at}
-use Rattle.ds_replica.specs.Happens.{count_of, event_fault, Asks, HappenAll}
+use Rattle.ds_replica.specs.Happens.{count_of, event_fault, Asks, Happens, HappenAll}
 use Rattle.ds_world.specs.Tally.{refusal_of}
-use Rattle.ds_world.specs.World.{WorldRecord, kept_items, Stands}
+use Rattle.ds_world.specs.World.{WorldRecord, kept_items, Stands, Leads}
 use Rattle.ds_world.specs.Run.{EventLeads}
 
+-- no cause stands in this state against the item behind so many of them, and it isn't known or stale
+pub record WouldTake (s : State) (items : List Item) (done : ℕ) : Type 0 where
+  pub item : Item
+  pub is_next : slice_get items done ≡ Some item
+  pub none : cause_of s item ≡ None
+
+-- where items were stopped for want of memory, the next one would take effect in the state that they left
+abbrev pub IsWantLast : List Item → ℕ → Option Refusal → State → Type 0
+IsWantLast items done (Some NoRoom) s = WouldTake s items done
+IsWantLast items done _ s = Unit {0}
+
+-- a delivery to a store that was stopped leads to a world in whose store want of memory came last
+abbrev pub IsStoreTold : Event → Side → List Item → Outcome → WorldRecord → WorldRecord → Type 0
+IsStoreTold event side items (Stopped done fault owed) old new = Leads (λ w after. Happens w event (Stopped done fault owed) after × IsWantLast items done (Some fault) (store_at after side)) old new
+IsStoreTold event side items outcome old new = Unit {0}
+
 -- the map took all items, and so many of them took effect and so many were stale; or it took the first ones, and the next one
--- is refused by this fault, as the map's own contract says; or there was no memory to copy them, and it took none
+-- is refused by this fault, as the map's own contract says
 abbrev pub IsMapTold : Query → Holding → List Item → Outcome → Holding → Type 0
 IsMapTold query old items (Merged done taken stale owed) new = AreCounted query old items new (record { done = done; taken = taken; stale = stale })
 IsMapTold query old items (Stopped done fault owed) new =
-    ((stop : JoinFault) × (fault ≡ refusal_of stop) × IsTakeStopped query old items new (record { done = done; fault = stop })) ⊎ ((fault ≡ NoRoom) × (done ≡ 0) × (new ≡ old))
+    (stop : JoinFault) × (fault ≡ refusal_of stop) × IsTakeStopped query old items new (record { done = done; fault = stop })
 IsMapTold query old items _ new = Unit {0}
 
 -- an Ask was answered by this reply, from each world that the old value stands for to one that the new value stands for, and
@@ -51,9 +70,12 @@ IsAskTold side command (Replied reply) old new = IsAnswered side command (Replie
 IsAskTold side command (Made k) old new = IsKept side command k old new
 IsAskTold side command _ old new = new.messages ≡ old.messages
 
--- what an Ask, and a delivery to a map, tell; only an Ask makes a message
+-- what an Ask and a delivery tell; only an Ask makes a message
 abbrev pub IsTold : Event → Outcome → WorldRecord → WorldRecord → Type 0
 IsTold (Ask side command) outcome old new = IsAskTold side command outcome old new
+IsTold (Deliver k (Store side) count) outcome old new =
+    ((items : List Item) → kept_items old.messages k ≡ Some items → IsStoreTold (Deliver k (Store side) count) side (take (count_of count items) items) outcome old new)
+    × (new.messages ≡ old.messages)
 IsTold (Deliver k (Map j) count) outcome old new =
     ((items : List Item) (m n : SubMapRecord) → kept_items old.messages k ≡ Some items → slice_get old.maps j ≡ Some m → slice_get new.maps j ≡ Some n →
     IsMapTold m.query m.held (take (count_of count items) items) outcome n.held)

@@ -5,7 +5,7 @@ ghost use Rattle.std.specs.Option.{option_copied};
 ghost use Rattle.ds_replica.specs.Happens.{gives_items, items_given};
 ghost use Rattle.ds_world.specs.World.{kept_items};
 
-use ds_entry::ItemList;
+use ds_entry::{Item, ItemList};
 use ds_machine::{Command, Reply};
 
 // Whether what a store gives to the command is kept as a message.
@@ -59,9 +59,9 @@ fn items_of(reply: &Reply) -> Option<&ItemList>
 }
 
 // The items of the message of a number, `None` where there is no such message.
-pub(crate) fn items_at(messages: &[Reply], number: usize) -> Option<&ItemList>
+pub(crate) fn items_at(messages: &[Reply], number: usize) -> Option<&[Item]>
     ensures some { IfSome result (λ items. kept_items messages.now number ≡ Some items.now) }
     ensures none { IfNone result (kept_items messages.now number ≡ None) }
 {
-    items_of(messages.get(number)?)
+    Some(items_of(messages.get(number)?)?.as_slice())
 }

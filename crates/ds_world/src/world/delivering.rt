@@ -1,9 +1,10 @@
 //! How items of a message go to a holder.
 
-ghost use Rattle.std.specs.Prelude.{◌≡◌, ◌<◌, ◌≤◌, ◌-◌, ◌+◌, length, take, drop, IfOk, OnErr, IfSome, IfNone};
+ghost use Rattle.std.specs.Prelude.{◌≡◌, ◌<◌, ◌≤◌, ◌+◌, length, take, IfSome, IfNone};
 ghost use Rattle.ds_machine.specs.State.{State};
 ghost use Rattle.ds_machine.specs.Machine.{Step};
 ghost use Rattle.ds_machine.specs.declared.command.Command.TheVariants.{Merge};
+ghost use Rattle.ds_judge.specs.Last.{IsLast};
 ghost use Rattle.ds_content.specs.Stands.{Stands};
 ghost use Rattle.ds_replica.specs.declared.event.Event.TheVariants.{Deliver};
 ghost use Rattle.ds_replica.specs.declared.event.Holder.TheVariants.{Store as OfStore, Map as OfMap};
@@ -11,15 +12,14 @@ ghost use Rattle.ds_replica.specs.Delivery.{StoreTakes, MapTakes};
 ghost use Rattle.ds_replica.specs.Happens.{count_of, tally_outcome};
 ghost use Rattle.ds_world.specs.World.{map_state};
 ghost use Rattle.ds_world.specs.Tally.{tally_of, IsCounted};
-ghost use Rattle.ds_world.specs.Told.{IsMapTold, IsTold};
+ghost use Rattle.ds_world.specs.Told.{IsMapTold, IsTold, IsWantLast};
 ghost use Rattle.ds_world.specs.Run.{EventLeads};
 
 use crate::replies::items_at;
 use crate::tally::{Tally, refusal_of};
 use crate::world::World;
-use ds_entry::ItemList;
-use ds_machine::{Command, Refusal, Reply};
-use ds_names::NoRoom;
+use ds_entry::Item;
+use ds_machine::Reply;
 use ds_replica::{EventFault, Holder, Outcome, Side};
 use ds_store::Store;
 use ds_submap::SubMap;
@@ -28,62 +28,35 @@ use std::alloc::Global;
 /// The most items of one Merge.
 const MOST_ITEMS: usize = 256;
 
-// A copy of the items from `from` on and before `end`. It takes memory only where there are any.
-fn copied(alloc: Global, items: &ItemList, from: usize, end: usize) -> Result<ItemList, NoRoom>
-    requires { (from ≤ end) × (end ≤ length items.now) }
-    ensures group { IfOk result (λ group. group ≡ take (end - from) (drop from items.now)) }
-    ensures some { OnErr result (from < end) }
-{
-    let mut group = ItemList::new(alloc);
-    for i in from..end {
-        let Some(item) = items.get(i) else {
-            unreachable!()
-        };
-        group.push(item.copy(alloc)?)?;
-    }
-    Ok(group)
-}
-
-// Asks a store to merge the items from `from` on and before `end`. Where they can't be copied it is as if it had no memory.
-fn merge_group(alloc: Global, store: &mut Store, items: &ItemList, from: usize, end: usize) -> Reply
-    requires { (from ≤ end) × (end ≤ length items.now) }
-    ensures step { (s : State) → Stands store.old s → (t : State) × Step s (Merge (take (end - from) (drop from items.now))) result t × Stands store.new t }
-    ensures counted { IsCounted (end - from) result }
+// Asks a store to merge items.
+fn merge_group(store: &mut Store, group: &[Item]) -> Reply
+    ensures step { (s : State) → Stands store.old s → (t : State) × Step s (Merge group.now) result t × Stands store.new t }
+    ensures last { (s : State) → Stands store.old s → IsLast s (Merge group.now) result }
+    ensures counted { IsCounted (length group.now) result }
 {
     let _stood = store.cursor();
-    match copied(alloc, items, from, end) {
-        Ok(group) => store.apply(Command::Merge { items: group }),
-        Err(NoRoom) => Reply::Refused(Refusal::NoRoom),
-    }
+    store.merge(group)
 }
 
-// The items from `done` on and before `count` go to a store, as Merges of at most 256. Nothing is asked after one that was
-// stopped.
-fn merge_from(
-    alloc: Global,
-    store: &mut Store,
-    items: &ItemList,
-    done: usize,
-    count: usize,
-) -> Tally
-    requires { (done ≤ count) × (count ≤ length items.now) }
-    ensures takes { (s : State) → Stands store.old s → (t : State) × StoreTakes s (take (count - done) (drop done items.now)) (tally_of result) t × Stands store.new t }
-    ensures within { (result.done ≤ count - done) × (result.taken + result.stale ≤ result.done) }
+// The items go to a store, as Merges of at most 256. Nothing is asked after one that was stopped.
+fn merge_all(store: &mut Store, items: &[Item]) -> Tally
+    ensures takes { (s : State) → Stands store.old s → (t : State) × StoreTakes s items.now (tally_of result) t × Stands store.new t × IsWantLast items.now result.done result.stop t }
+    ensures within { (result.done ≤ length items.now) × (result.taken + result.stale ≤ result.done) }
 {
-    if done >= count {
+    if items.is_empty() {
         return Tally::ended(0, 0, None);
     }
-    let end = done + MOST_ITEMS.min(count - done);
-    match merge_group(alloc, store, items, done, end) {
+    let (group, others) = items.split_at(MOST_ITEMS.min(items.len()));
+    match merge_group(store, group) {
         Reply::Merged {
             taken,
             stale,
             owed,
             ..
         } => {
-            let later = merge_from(alloc, store, items, end, count);
+            let later = merge_all(store, others);
             Tally {
-                done: end - done + later.done,
+                done: group.len() + later.done,
                 taken: taken + later.taken,
                 stale: stale + later.stale,
                 owed: owed | later.owed,
@@ -97,11 +70,11 @@ fn merge_from(
 }
 
 // A map takes items.
-fn take_all(alloc: Global, map: &mut SubMap, items: &ItemList) -> Tally
+fn take_all(alloc: Global, map: &mut SubMap, items: &[Item]) -> Tally
     ensures takes { MapTakes (map_state map.old) items.now (tally_of result) (map_state map.new) }
     ensures told { IsMapTold map.old.query map.old.held items.now (tally_outcome (tally_of result) result.stop) map.new.held }
 {
-    let taken = map.take(alloc, items);
+    let taken = map.take_slice(alloc, items);
     let _held = map.held();
     match taken {
         Ok(count) => Tally {
@@ -115,31 +88,12 @@ fn take_all(alloc: Global, map: &mut SubMap, items: &ItemList) -> Tally
     }
 }
 
-// A map takes the first items. They are copied only where there are others behind them.
-fn take_first(alloc: Global, map: &mut SubMap, items: &ItemList, count: usize) -> Tally
-    requires { count ≤ length items.now }
-    ensures takes { MapTakes (map_state map.old) (take count items.now) (tally_of result) (map_state map.new) }
-    ensures told { IsMapTold map.old.query map.old.held (take count items.now) (tally_outcome (tally_of result) result.stop) map.new.held }
-{
-    if count >= items.len() {
-        return take_all(alloc, map, items);
-    }
-    match copied(alloc, items, 0, count) {
-        Ok(first) => take_all(alloc, map, &first),
-        Err(NoRoom) => {
-            let _held = map.held();
-            Tally::ended(0, 0, Some(Refusal::NoRoom))
-        }
-    }
-}
-
-// How many items of a message go to a holder: so many, or all. `None` where there are fewer.
-fn count_of(items: &ItemList, count: Option<usize>) -> Option<usize>
-    ensures some { IfSome result (λ n. (n ≡ count_of count items.now) × (n ≤ length items.now)) }
+// The items of a message that go to a holder: so many of the first, or all. `None` where there are fewer.
+fn first_of(items: &[Item], count: Option<usize>) -> Option<&[Item]>
+    ensures some { IfSome result (λ first. (first.now ≡ take (count_of count items.now) items.now) × (count_of count items.now ≤ length items.now)) }
     ensures none { IfNone result (length items.now < count_of count items.now) }
 {
-    let count = count.unwrap_or(items.len());
-    (count <= items.len()).then_some(count)
+    items.get(..count.unwrap_or(items.len()))
 }
 
 impl World {
@@ -167,12 +121,12 @@ impl World {
         let Some(items) = items_at(&self.messages, message) else {
             return Outcome::Refused(EventFault::NoMessage);
         };
-        let Some(count) = count_of(items, count) else {
+        let Some(first) = first_of(items, count) else {
             return Outcome::Refused(EventFault::TooMany);
         };
         let tally = match side {
-            Side::A => merge_from(self.alloc, &mut self.a, items, 0, count),
-            Side::B => merge_from(self.alloc, &mut self.b, items, 0, count),
+            Side::A => merge_all(&mut self.a, first),
+            Side::B => merge_all(&mut self.b, first),
         };
         tally.outcome()
     }
@@ -188,9 +142,9 @@ impl World {
         if map >= self.maps.len() {
             return Outcome::Refused(EventFault::NoMap);
         }
-        let Some(count) = count_of(items, count) else {
+        let Some(first) = first_of(items, count) else {
             return Outcome::Refused(EventFault::TooMany);
         };
-        take_first(self.alloc, &mut self.maps[map], items, count).outcome()
+        take_all(self.alloc, &mut self.maps[map], first).outcome()
     }
 }

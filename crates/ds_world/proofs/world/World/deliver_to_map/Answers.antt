@@ -1,8 +1,9 @@
-use Rattle.std.proofs.Common.{◌≡◌, List, ◌≤◌, ◌<◌, ℕ, length, take, None, Some, sym, subst, arith, refl}
+use Rattle.std.proofs.Common.{◌≡◌, List, ◌≤◌, ◌<◌, length, None, Some, sym, subst, arith, refl}
 use Rattle.std.specs.List.{slice_get, slice_set}
 use Rattle.std.proofs.lemmas.Option.{slice_get_read}
+use Rattle.ds_entry.specs.declared.item.Item.{Item}
 use Rattle.ds_replica.specs.Delivery.{MapTakes}
-use Rattle.ds_replica.specs.Happens.{count_of, tally_outcome}
+use Rattle.ds_replica.specs.Happens.{tally_outcome}
 use Rattle.ds_replica.specs.declared.event.Event.TheVariants.{Deliver}
 use Rattle.ds_replica.specs.declared.event.Holder.TheVariants.{Map}
 use Rattle.ds_replica.specs.declared.outcome.Outcome.{Outcome}
@@ -28,13 +29,12 @@ returns-clause-leads c =
     let old = c.index_mut.result.now in
     let within : j < length inside.maps.items = omega (arith, c.if-map-len.false, c.len.ensures, inside.maps.ok.0) in
     let map_there : slice_get value.maps j ≡ Some old = slice_get_read value.maps (length value.maps) j old refl within c.index_mut.ensures.value in
-    let counted = c.in-Some-count_of.ensures.some in
-    let few : count_of count items ≤ length items = omega (arith, counted.0, counted.1) in
-    let taken = subst (λ (n : ℕ). MapTakes (map_state old) (take n items) (tally_of c.take_first.result) (map_state c.take_first.new.map)) counted.0 c.take_first.ensures.takes in
+    let first = c.in-Some-first_of.ensures.some in
+    let taken = subst (λ (l : List Item). MapTakes (map_state old) l (tally_of c.take_all.result) (map_state c.take_all.new.map)) first.0 c.take_all.ensures.takes in
     let by_event = Deliver k (Map j) count in
-    let new : WorldRecord = record value { maps = slice_set value.maps j c.take_first.new.map } in
+    let new : WorldRecord = record value { maps = slice_set value.maps j c.take_all.new.map } in
     subst (λ (v : WorldRecord). EventLeads by_event c.outcome.result v new) c.self.view_is
-    (subst (λ (o : Outcome). EventLeads by_event o value new) (sym c.outcome.ensures) (to_map value k count items there few (tally_of c.take_first.result) j old c.take_first.new.map map_there taken))
+    (subst (λ (o : Outcome). EventLeads by_event o value new) (sym c.outcome.ensures) (to_map value k count items there first.1 (tally_of c.take_all.result) j old c.take_all.new.map map_there taken))
 
 pub returns-clause-told : goal.returns-clause-told
 returns-clause-told c =
@@ -48,9 +48,9 @@ returns-clause-told c =
     let old = c.index_mut.result.now in
     let within : j < length inside.maps.items = omega (arith, c.if-map-len.false, c.len.ensures, inside.maps.ok.0) in
     let map_there : slice_get value.maps j ≡ Some old = slice_get_read value.maps (length value.maps) j old refl within c.index_mut.ensures.value in
-    let taken = c.take_first.new.map in
-    let tally = c.take_first.result in
-    let told = subst (λ (n : ℕ). IsMapTold old.query old.held (take n items) (tally_outcome (tally_of tally) tally.stop) taken.held) c.in-Some-count_of.ensures.some.0 c.take_first.ensures.told in
+    let taken = c.take_all.new.map in
+    let tally = c.take_all.result in
+    let told = subst (λ (l : List Item). IsMapTold old.query old.held l (tally_outcome (tally_of tally) tally.stop) taken.held) c.in-Some-first_of.ensures.some.0 c.take_all.ensures.told in
     let new : WorldRecord = record value { maps = slice_set value.maps j taken } in
     subst (λ (v : WorldRecord). IsTold (Deliver k (Map j) count) c.outcome.result v new) c.self.view_is
     (subst (λ (o : Outcome). IsTold (Deliver k (Map j) count) o value new) (sym c.outcome.ensures) (map_told value k j count items old taken (tally_outcome (tally_of tally) tally.stop) there map_there told))
@@ -74,8 +74,8 @@ returns-then-map-len-clause-leads c =
     let past : length inside.maps.items ≤ j = omega (arith, c.if-map-len.true, c.len.ensures, inside.maps.ok.0) in
     subst (λ (v : WorldRecord). EventLeads (Deliver k (Map j) c.args.count) (Refused NoMap) v v) c.self.view_is (no_map value k c.args.count items there j past)
 
-pub returns-in_default-count_of-clause-leads : goal.returns-in_default-count_of-clause-leads
-returns-in_default-count_of-clause-leads c =
+pub returns-in_default-first_of-clause-leads : goal.returns-in_default-first_of-clause-leads
+returns-in_default-first_of-clause-leads c =
     let k = c.args.message in
     let j = c.args.map in
     let inside = c.self.inside in
@@ -85,4 +85,4 @@ returns-in_default-count_of-clause-leads c =
     let within : j < length inside.maps.items = omega (arith, c.if-map-len.false, c.len.ensures, inside.maps.ok.0) in
     let at = map_at value.maps j within in
     subst (λ (v : WorldRecord). EventLeads (Deliver k (Map j) c.args.count) (Refused TooMany) v v) c.self.view_is
-    (too_many_for_map value k c.args.count items there j at.0 at.1 c.in_default-count_of.ensures.none)
+    (too_many_for_map value k c.args.count items there j at.0 at.1 c.in_default-first_of.ensures.none)

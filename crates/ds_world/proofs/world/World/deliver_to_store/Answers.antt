@@ -1,9 +1,11 @@
-use Rattle.std.proofs.Common.{◌≡◌, List, ◌≤◌, ◌-◌, ℕ, length, take, None, Some, ap, sym, ◌∙◌, subst, arith}
+use Rattle.std.proofs.Common.{◌≡◌, List, ◌≤◌, length, None, Some, refl, ap, sym, ◌∙◌, subst}
+use Rattle.ds_entry.specs.declared.item.Item.{Item}
 use Rattle.ds_machine.specs.State.{State}
 use Rattle.ds_content.specs.Stands as contents
 use Rattle.ds_replica.specs.Delivery.{StoreTakes}
 use Rattle.ds_replica.specs.Happens.{count_of, tally_outcome}
 use Rattle.ds_replica.specs.declared.event.Side.{Side}
+use Rattle.ds_replica.specs.declared.event.Side.TheVariants.{A, B}
 use Rattle.ds_replica.specs.declared.event.Event.TheVariants.{Deliver}
 use Rattle.ds_replica.specs.declared.event.Holder.TheVariants.{Store}
 use Rattle.ds_machine.specs.declared.reply.Reply.{Reply}
@@ -13,7 +15,8 @@ use Rattle.ds_replica.specs.declared.outcome.EventFault.TheVariants.{NoMessage, 
 use Rattle.ds_world.specs.declared.tally.Tally.{Tally}
 use Rattle.ds_world.specs.Run.{EventLeads}
 use Rattle.ds_world.specs.Tally.{tally_of}
-use Rattle.ds_world.proofs.DeliverLemmas.{carried, no_message, too_many_for_store, to_a, to_b}
+use Rattle.ds_world.specs.Told.{IsWantLast}
+use Rattle.ds_world.proofs.DeliverLemmas.{carried, told_so, led, store_told, no_message, too_many_for_store, to_a, to_b}
 use Rattle.ds_world.proofs.world.World.deliver_to_store.Goals as goal
 use Rattle.ds_world.proofs.world.World.deliver_to_store.Goals.{in-A, in-B}
 
@@ -25,31 +28,50 @@ returns-clause-leads c =
     let value : WorldRecord = world_of inside.a inside.b inside.maps.items inside.messages.items in
     let items = c.in-Some.items.now in
     let there : kept_items value.messages k ≡ Some items = subst (λ (l : List Reply). kept_items l k ≡ Some items) c.deref.ensures.value c.in-Some.ensures.some in
-    let n = c.in-Some-count_of.count in
-    let counted = c.in-Some-count_of.ensures.some in
-    let few : count_of count items ≤ length items = omega (arith, counted.0, counted.1) in
-    let all : n - 0 ≡ count_of count items = omega (arith, counted.0) in
+    let first = c.in-Some-first_of.ensures.some.0 in
+    let few : count_of count items ≤ length items = c.in-Some-first_of.ensures.some.1 in
     let by_event = λ (side : Side). Deliver k (Store side) count in
     let ends = λ (t : Tally). tally_outcome (tally_of t) t.stop in
     elim c.match-side.branch [
       | in-A w ↦
-          (let tally = w.merge_from-tally.result in
-          let new = w.merge_from-tally.new.store in
-          let taken = subst (λ (n : ℕ). (s : State) → contents.Stands value.a s → (t : State) × StoreTakes s (take n items) (tally_of tally) t × contents.Stands new t) all w.merge_from-tally.ensures.takes in
-          carried (ap by_event (sym w.in-A.is)) (sym (c.outcome.ensures ∙ ap ends w.tally-is)) c.self.view_is (sym w.self-is) (to_a value k count items there few (tally_of tally) new taken))
+          (let tally = w.merge_all-tally.result in
+          let new = w.merge_all-tally.new.store in
+          let taken = subst (λ (l : List Item). (s : State) → contents.Stands value.a s → (t : State) × StoreTakes s l (tally_of tally) t × contents.Stands new t × IsWantLast l tally.done tally.stop t) first w.merge_all-tally.ensures.takes in
+          let to = to_a value k count items there few (tally_of tally) new taken in
+          carried (ap by_event (sym w.in-A.is)) (sym (c.outcome.ensures ∙ ap ends w.tally-is)) c.self.view_is (sym w.self-is) (led value k count items there few (tally_of tally) A (record value { a = new }) to))
       | in-B w ↦
-          (let tally = w.merge_from-tally-in-B.result in
-          let new = w.merge_from-tally-in-B.new.store in
-          let taken = subst (λ (n : ℕ). (s : State) → contents.Stands value.b s → (t : State) × StoreTakes s (take n items) (tally_of tally) t × contents.Stands new t) all w.merge_from-tally-in-B.ensures.takes in
-          carried (ap by_event (sym w.in-B.is)) (sym (c.outcome.ensures ∙ ap ends w.tally-is)) c.self.view_is (sym w.self-is) (to_b value k count items there few (tally_of tally) new taken))
+          (let tally = w.merge_all-tally-in-B.result in
+          let new = w.merge_all-tally-in-B.new.store in
+          let taken = subst (λ (l : List Item). (s : State) → contents.Stands value.b s → (t : State) × StoreTakes s l (tally_of tally) t × contents.Stands new t × IsWantLast l tally.done tally.stop t) first w.merge_all-tally-in-B.ensures.takes in
+          let to = to_b value k count items there few (tally_of tally) new taken in
+          carried (ap by_event (sym w.in-B.is)) (sym (c.outcome.ensures ∙ ap ends w.tally-is)) c.self.view_is (sym w.self-is) (led value k count items there few (tally_of tally) B (record value { b = new }) to))
     ]
 
 pub returns-clause-told : goal.returns-clause-told
 returns-clause-told c =
-    let messages = λ (v : WorldRecord). v.messages in
+    let k = c.args.message in
+    let count = c.args.count in
+    let inside = c.self.inside in
+    let value : WorldRecord = world_of inside.a inside.b inside.maps.items inside.messages.items in
+    let items = c.in-Some.items.now in
+    let there : kept_items value.messages k ≡ Some items = subst (λ (l : List Reply). kept_items l k ≡ Some items) c.deref.ensures.value c.in-Some.ensures.some in
+    let first = c.in-Some-first_of.ensures.some.0 in
+    let few : count_of count items ≤ length items = c.in-Some-first_of.ensures.some.1 in
+    let by_event = λ (side : Side). Deliver k (Store side) count in
+    let ends = λ (t : Tally). tally_outcome (tally_of t) t.stop in
     elim c.match-side.branch [
-      | in-A w ↦ ap messages w.self-is ∙ ap messages c.self.view_is
-      | in-B w ↦ ap messages w.self-is ∙ ap messages c.self.view_is
+      | in-A w ↦
+          (let tally = w.merge_all-tally.result in
+          let new = w.merge_all-tally.new.store in
+          let taken = subst (λ (l : List Item). (s : State) → contents.Stands value.a s → (t : State) × StoreTakes s l (tally_of tally) t × contents.Stands new t × IsWantLast l tally.done tally.stop t) first w.merge_all-tally.ensures.takes in
+          let to = to_a value k count items there few (tally_of tally) new taken in
+          told_so (ap by_event (sym w.in-A.is)) (sym (c.outcome.ensures ∙ ap ends w.tally-is)) c.self.view_is (sym w.self-is) (store_told value k count items there few (tally_of tally) A (record value { a = new }) to refl))
+      | in-B w ↦
+          (let tally = w.merge_all-tally-in-B.result in
+          let new = w.merge_all-tally-in-B.new.store in
+          let taken = subst (λ (l : List Item). (s : State) → contents.Stands value.b s → (t : State) × StoreTakes s l (tally_of tally) t × contents.Stands new t × IsWantLast l tally.done tally.stop t) first w.merge_all-tally-in-B.ensures.takes in
+          let to = to_b value k count items there few (tally_of tally) new taken in
+          told_so (ap by_event (sym w.in-B.is)) (sym (c.outcome.ensures ∙ ap ends w.tally-is)) c.self.view_is (sym w.self-is) (store_told value k count items there few (tally_of tally) B (record value { b = new }) to refl))
     ]
 
 pub returns-in_default-clause-leads : goal.returns-in_default-clause-leads
@@ -60,12 +82,12 @@ returns-in_default-clause-leads c =
     let none : kept_items value.messages k ≡ None = subst (λ (l : List Reply). kept_items l k ≡ None) c.deref.ensures.value c.in_default.ensures.none in
     subst (λ (v : WorldRecord). EventLeads (Deliver k (Store c.args.side) c.args.count) (Refused NoMessage) v v) c.self.view_is (no_message value k c.args.count (Store c.args.side) none)
 
-pub returns-in_default-count_of-clause-leads : goal.returns-in_default-count_of-clause-leads
-returns-in_default-count_of-clause-leads c =
+pub returns-in_default-first_of-clause-leads : goal.returns-in_default-first_of-clause-leads
+returns-in_default-first_of-clause-leads c =
     let k = c.args.message in
     let inside = c.self.inside in
     let value : WorldRecord = world_of inside.a inside.b inside.maps.items inside.messages.items in
     let items = c.in-Some.items.now in
     let there : kept_items value.messages k ≡ Some items = subst (λ (l : List Reply). kept_items l k ≡ Some items) c.deref.ensures.value c.in-Some.ensures.some in
     subst (λ (v : WorldRecord). EventLeads (Deliver k (Store c.args.side) c.args.count) (Refused TooMany) v v) c.self.view_is
-    (too_many_for_store value k c.args.count items there c.args.side c.in_default-count_of.ensures.none)
+    (too_many_for_store value k c.args.count items there c.args.side c.in_default-first_of.ensures.none)
