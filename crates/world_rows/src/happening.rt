@@ -166,9 +166,23 @@ pub(crate) fn world(rt: &impl Abort, alloc: Global) -> World {
     World::new(alloc, seed(1), seed(2)).expect(rt, "a world")
 }
 
+// The events of the rows.
+fn events(rt: &impl Abort, alloc: Global, rows: &[(Happening, Came)]) -> Events {
+    let mut events = Events::new(alloc);
+    for (happening, _) in rows {
+        assert!(rt; events.push(event(rt, alloc, happening)).is_ok());
+    }
+    events
+}
+
 // What comes of the events.
 fn outcomes(rt: &impl Abort, world: &mut World, events: Events) -> Outcomes {
     world.run(events).expect(rt, "memory")
+}
+
+// What comes of an event.
+fn outcome(world: &mut World, event: Event) -> Outcome {
+    world.happen(event)
 }
 
 // The outcome is the one that is wanted.
@@ -180,11 +194,7 @@ fn compare(rt: &impl Abort, outcome: &Outcome, wanted: &Came) {
 
 /// Lets the events of the rows happen, and compares what came of each.
 pub(crate) fn run(rt: &impl Abort, alloc: Global, world: &mut World, rows: &[(Happening, Came)]) {
-    let mut events = Events::new(alloc);
-    for (happening, _) in rows {
-        assert!(rt; events.push(event(rt, alloc, happening)).is_ok());
-    }
-    let outcomes = outcomes(rt, world, events);
+    let outcomes = outcomes(rt, world, events(rt, alloc, rows));
     assert!(rt; outcomes.len() == rows.len());
     for (index, (_, wanted)) in rows.iter().enumerate() {
         compare(rt, outcomes.get(index).expect(rt, "an outcome"), wanted);
@@ -199,7 +209,6 @@ pub(crate) fn happen(
     rows: &[(Happening, Came)],
 ) {
     for (happening, wanted) in rows {
-        let outcome = world.happen(event(rt, alloc, happening));
-        compare(rt, &outcome, wanted);
+        compare(rt, &outcome(world, event(rt, alloc, happening)), wanted);
     }
 }

@@ -2,6 +2,7 @@
 
 use crate::came::Came;
 use crate::happening::{Happening, happen, label_key, number_key, run, world};
+use ds_feed::{Page, Since, Snapshot};
 use ds_held::Held;
 use ds_machine::Reply;
 use ds_names::Key;
@@ -11,7 +12,7 @@ use std::process::Abort;
 
 const MAP: Holder = Holder::Map(0);
 
-const CONVERGE: [(Happening, Came); 8] = [
+static CONVERGE: [(Happening, Came); 8] = [
     (
         Happening::Label(Side::A, b"eth0", 3, 17),
         ("merged", 1, 1, 0),
@@ -40,7 +41,7 @@ const CONVERGE: [(Happening, Came); 8] = [
     ),
 ];
 
-const PAGES: [(Happening, Came); 11] = [
+static PAGES: [(Happening, Came); 11] = [
     (Happening::Number(b"a", 0, Some(1)), ("merged", 1, 1, 0)),
     (Happening::Number(b"c", 1, Some(3)), ("merged", 1, 1, 0)),
     (Happening::Map, ("map", 0, 0, 0)),
@@ -54,7 +55,7 @@ const PAGES: [(Happening, Came); 11] = [
     (Happening::Deliver(2, MAP, None), ("merged", 2, 2, 0)),
 ];
 
-const GONE: [(Happening, Came); 7] = [
+static GONE: [(Happening, Came); 7] = [
     (Happening::Number(b"a", 0, Some(1)), ("merged", 1, 1, 0)),
     (Happening::Map, ("map", 0, 0, 0)),
     (Happening::Snapshot(Side::A), ("message", 0, 0, 0)),
@@ -64,7 +65,7 @@ const GONE: [(Happening, Came); 7] = [
     (Happening::Deliver(0, MAP, None), ("merged", 1, 0, 1)),
 ];
 
-const BEGUN: [(Happening, Came); 6] = [
+static BEGUN: [(Happening, Came); 6] = [
     (Happening::Deliver(0, MAP, Some(2)), ("too many", 0, 0, 0)),
     (
         Happening::Deliver(0, Holder::Map(7), None),
@@ -76,6 +77,40 @@ const BEGUN: [(Happening, Came); 6] = [
     (Happening::Clear(0), ("cleared", 0, 0, 0)),
 ];
 
+// The labels that both stores hold after `CONVERGE`.
+static CONVERGE_HELD: [(&[u8], u32); 2] = [(b"eth0", 3), (b"tty", 4)];
+
+// How many items the messages of `PAGES` have, and the positions of their cursors.
+static PAGES_GIVEN: [(usize, u64); 3] = [(1, 2), (1, 4), (2, 4)];
+
+// What the map holds after `PAGES`.
+static PAGES_HELD: [(&[u8], u32, bool); 3] = [(b"A", 3, true), (b"a", 2, false), (b"c", 1, true)];
+
+// How many items took effect, and the position of the cursor that came with them.
+fn took_effect(since: &Since) -> (usize, u64) {
+    (since.items.len(), since.cursor.position)
+}
+
+// The same of all that is held.
+fn all_held(snapshot: &Snapshot) -> (usize, u64) {
+    (snapshot.items.len(), snapshot.cursor.position)
+}
+
+// The same of a page.
+fn on_page(page: &Page) -> (usize, u64) {
+    (page.items.len(), page.cursor.position)
+}
+
+// How many items the reply has, and the position of the cursor that came with them.
+fn counted(reply: &Reply) -> Option<(usize, u64)> {
+    match reply {
+        Reply::Journaled(since) => Some(took_effect(since)),
+        Reply::Snapped(snapshot) => Some(all_held(snapshot)),
+        Reply::Paged(page) => Some(on_page(page)),
+        _ => None,
+    }
+}
+
 // Of which generation the change of the key is.
 fn generation(held: &Held, key: &Key) -> Option<u32> {
     Some(held.get(key)?.version().epoch.number())
@@ -86,57 +121,65 @@ fn number(held: &Held, key: &Key) -> Option<(u32, bool)> {
     Some((held.get(key)?.version().seq, held.live(key).is_some()))
 }
 
-// How many items the message has, and the position of the cursor that came with them.
-fn given(rt: &impl Abort, world: &World, message: usize) -> (usize, u64) {
-    match world.message(message).expect(rt, "a message") {
-        Reply::Journaled(since) => (since.items.len(), since.cursor.position),
-        Reply::Snapped(snapshot) => (snapshot.items.len(), snapshot.cursor.position),
-        Reply::Paged(page) => (page.items.len(), page.cursor.position),
-        _ => panic!(rt; "a reply without a cursor"),
-    }
-}
-
 // What the map holds.
 fn held<'a>(rt: &impl Abort, world: &'a World) -> &'a Held {
     world.map(0).expect(rt, "a map").held()
 }
 
+// The messages, in their order, have so many items and cursors at these positions.
+fn given(rt: &impl Abort, world: &World, wanted: &[(usize, u64)]) {
+    for (message, wanted) in wanted.iter().enumerate() {
+        let reply = world.message(message).expect(rt, "a message");
+        assert!(rt; counted(reply) == Some(*wanted));
+    }
+}
+
+// The labels that are held are those of these names, and of these generations.
+fn labels(rt: &impl Abort, held: &Held, wanted: &[(&'static [u8], u32)]) {
+    assert!(rt; held.len() == wanted.len());
+    for (name, wanted) in wanted {
+        assert!(rt; generation(held, &label_key(rt, name)) == Some(*wanted));
+    }
+}
+
+// The numbers that are held are those of these names, of these sequence numbers, and puts or not.
+fn numbers(rt: &impl Abort, held: &Held, wanted: &[(&'static [u8], u32, bool)]) {
+    assert!(rt; held.len() == wanted.len());
+    for (name, seq, put) in wanted {
+        assert!(rt; number(held, &number_key(rt, name)) == Some((*seq, *put)));
+    }
+}
+
+// Neither the map nor store A holds anything.
+fn empty(rt: &impl Abort, world: &World) {
+    assert!(rt; held(rt, world).len() == 0);
+    assert!(rt; world.store(Side::A).held().len() == 0);
+}
+
 #[test]
 fn two_replicas_converge(rt: HostRuntime) {
-    let alloc = rt.alloc();
-    let mut world = world(&rt, alloc);
-    run(&rt, alloc, &mut world, &CONVERGE);
-    assert!(rt; given(&rt, &world, 0) == (2, 2) && given(&rt, &world, 1) == (1, 1));
+    let mut world = world(&rt, rt.alloc());
+    run(&rt, rt.alloc(), &mut world, &CONVERGE);
+    given(&rt, &world, &[(2, 2), (1, 1)]);
     for side in [Side::A, Side::B] {
-        let held = world.store(side).held();
-        assert!(rt; held.len() == 2);
-        assert!(rt; generation(held, &label_key(&rt, b"eth0")) == Some(3));
-        assert!(rt; generation(held, &label_key(&rt, b"tty")) == Some(4));
+        labels(&rt, world.store(side).held(), &CONVERGE_HELD);
     }
 }
 
 #[test]
 fn pages_and_the_journal_catch_up(rt: HostRuntime) {
-    let alloc = rt.alloc();
-    let mut world = world(&rt, alloc);
-    run(&rt, alloc, &mut world, &PAGES);
-    assert!(rt; given(&rt, &world, 0) == (1, 2));
-    assert!(rt; given(&rt, &world, 1) == (1, 4));
-    assert!(rt; given(&rt, &world, 2) == (2, 4));
-    let held = held(&rt, &world);
-    assert!(rt; held.len() == 3);
-    assert!(rt; number(held, &number_key(&rt, b"A")) == Some((3, true)));
-    assert!(rt; number(held, &number_key(&rt, b"a")) == Some((2, false)));
-    assert!(rt; number(held, &number_key(&rt, b"c")) == Some((1, true)));
+    let mut world = world(&rt, rt.alloc());
+    run(&rt, rt.alloc(), &mut world, &PAGES);
+    given(&rt, &world, &PAGES_GIVEN);
+    numbers(&rt, held(&rt, &world), &PAGES_HELD);
 }
 
 #[test]
 fn a_tombstone_comes_before_its_put(rt: HostRuntime) {
-    let alloc = rt.alloc();
-    let mut world = world(&rt, alloc);
-    run(&rt, alloc, &mut world, &GONE);
-    assert!(rt; given(&rt, &world, 0) == (1, 1) && given(&rt, &world, 1) == (1, 2));
-    assert!(rt; number(held(&rt, &world), &number_key(&rt, b"a")) == Some((1, false)));
-    happen(&rt, alloc, &mut world, &BEGUN);
-    assert!(rt; held(&rt, &world).len() == 0 && world.store(Side::A).held().len() == 0);
+    let mut world = world(&rt, rt.alloc());
+    run(&rt, rt.alloc(), &mut world, &GONE);
+    given(&rt, &world, &[(1, 1), (1, 2)]);
+    numbers(&rt, held(&rt, &world), &[(b"a", 1, false)]);
+    happen(&rt, rt.alloc(), &mut world, &BEGUN);
+    empty(&rt, &world);
 }
