@@ -58,6 +58,20 @@ impl Model for Change {
 }
 
 impl Change {
+    /// The change of four parts that fit together. It judges nothing, and takes no memory.
+    pub fn from_parts(key: Key, owner: Name, version: Version, body: Body) -> Change
+        requires parts { IsChange (change_of key owner version body) }
+        ensures made { result ≡ change_of key owner version body }
+        ensures change { IsChange result }
+    {
+        Change {
+            key,
+            owner,
+            version,
+            body,
+        }
+    }
+
     /// Makes the change of four parts, or gives the first fault that they have. It takes no memory.
     pub fn make(key: Key, owner: Name, version: Version, body: Body) -> Result<Change, EntryFault>
         ensures made { IfOk result (λ change. change ≡ change_of key owner version body) }
@@ -66,12 +80,7 @@ impl Change {
     {
         match fault_of(&key, &owner, &version, &body) {
             Some(fault) => Err(fault),
-            None => Ok(Change {
-                key,
-                owner,
-                version,
-                body,
-            }),
+            None => Ok(Change::from_parts(key, owner, version, body)),
         }
     }
 
@@ -81,11 +90,12 @@ impl Change {
         ensures in_place { IsBodyInPlace self.now.body → IsOk result }
         ensures change { IsChange self.now }
     {
+        let body = self.body.copy(alloc)?;
         Ok(Change {
             key: self.key,
             owner: self.owner,
             version: self.version,
-            body: self.body.copy(alloc)?,
+            body,
         })
     }
 

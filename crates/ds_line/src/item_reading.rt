@@ -32,6 +32,7 @@ pub fn read_item(alloc: Global, bytes: &[u8]) -> Result<(Item, usize), LineFault
 
 /// Reads an item as `read_item` does, and notes the part that it reads next: at BadLine it is the part that begins at
 /// the place.
+#[tactic(auto, using(crate::proofs::ItemLemmas::change_faults))]
 pub fn read_item_noting(
     alloc: Global,
     bytes: &[u8],
@@ -43,22 +44,19 @@ pub fn read_item_noting(
     ensures fault { IfErr result (λ fault. IsItemFaultIn fault bytes.now) }
 {
     let Some(_behind) = read_byte(bytes, b'!') else {
-        return match read_change_noting(alloc, bytes, expected) {
-            Ok((change, length)) => Ok((Item::Change(change), length)),
-            Err(fault) => Err(fault),
-        };
+        let (change, length) = read_change_noting(alloc, bytes, expected)?;
+        return Ok((Item::Change(change), length));
     };
-    match floor_at(bytes, expected) {
-        Ok((floor, left)) => {
-            let length = bytes.len() - left;
-            Ok((Item::Floor(floor), length))
-        }
+    let (floor, left) = match floor_at(bytes, expected) {
+        Ok(read) => read,
         Err(PartFault::BadPart { left }) => {
             let place = bytes.len() - left;
-            Err(LineFault::BadLine { place })
+            return Err(LineFault::BadLine { place });
         }
-        Err(PartFault::NoRoom) => Err(LineFault::NoRoom),
-    }
+        Err(PartFault::NoRoom) => return Err(LineFault::NoRoom),
+    };
+    let length = bytes.len() - left;
+    Ok((Item::Floor(floor), length))
 }
 
 // Reads a floor from its mark on, and gives how many bytes are left behind its line.

@@ -48,17 +48,16 @@ pub fn read_change_noting(
     ensures length { IfOk result (λ r. r.1 ≡ length (spelling r.0)) }
     ensures fault { IfErr result (λ fault. IsFaultIn fault bytes.now) }
 {
-    match change_at(alloc, bytes, expected) {
-        Ok((change, left)) => {
-            let length = bytes.len() - left;
-            Ok((change, length))
-        }
+    let (change, left) = match change_at(alloc, bytes, expected) {
+        Ok(read) => read,
         Err(PartFault::BadPart { left }) => {
             let place = bytes.len() - left;
-            Err(LineFault::BadLine { place })
+            return Err(LineFault::BadLine { place });
         }
-        Err(PartFault::NoRoom) => Err(LineFault::NoRoom),
-    }
+        Err(PartFault::NoRoom) => return Err(LineFault::NoRoom),
+    };
+    let length = bytes.len() - left;
+    Ok((change, length))
 }
 
 // Each reader below gives the change and how many bytes are left behind its line, or how many are left from the
@@ -290,8 +289,6 @@ fn whole(
     requires { IsChange (change_of key.now owner.now version body) }
     ensures { result ≡ Ok (change_of key.now owner.now version body, length rest.now) }
 {
-    match Change::make(*key, *owner, version, body) {
-        Ok(change) => Ok((change, rest.len())),
-        Err(_) => Err(stop_at(rest)),
-    }
+    let change = Change::from_parts(*key, *owner, version, body);
+    Ok((change, rest.len()))
 }

@@ -1,5 +1,5 @@
 -- Lines, and the commands that may stand on them.
-use Rattle.std.proofs.Common.{◌≡◌, ◌≢◌, ℕ, zero, suc, false, List, Some, Result, refl, sym, subst}
+use Rattle.std.proofs.Common.{◌≡◌, ◌≢◌, ℕ, zero, suc, false, List, Some, Result, refl, arith}
 use Rattle.ds_words.specs.Command.{IsCommand, TakesMemory, ReadsAs, is_plain}
 use Rattle.ds_words.specs.Later.{IsLater}
 use Rattle.ds_words.specs.declared.command.ScriptCommand.{ScriptCommand}
@@ -36,9 +36,6 @@ plain_room command e = e
 
 -- ---- the first line, and those behind it
 
-pub first_line : (before : ℕ) (bytes : List ℕ) (result : Result ScriptCommand CommandFault) → before ≡ 0 → ReadsAs IsCommand bytes result → ReadsAs (MayStand before) bytes result
-first_line before bytes result none reads = subst (λ (n : ℕ). ReadsAs (MayStand n) bytes result) (sym none) reads
-
-pub later_line : (before : ℕ) (bytes : List ℕ) (result : Result ScriptCommand CommandFault) → before ≢ 0 → ReadsAs IsLater bytes result → ReadsAs (MayStand before) bytes result
-later_line zero bytes result some reads = absurd (some refl)
-later_line (suc before) bytes result some reads = reads
+pub line_behind : (before : ℕ) (bytes : List ℕ) (result : Result ScriptCommand CommandFault) → (before ≡ 0 → ReadsAs IsCommand bytes result) → (before ≢ 0 → ReadsAs IsLater bytes result) → ReadsAs (MayStand before) bytes result
+line_behind zero bytes result first later = first refl
+line_behind (suc before) bytes result first later = later (λ none. omega (arith, none))

@@ -24,14 +24,13 @@ pub(crate) fn answer_event(
     ensures unanswered { OnErr result (output.new.items ≡ output.old.items) }
 {
     let wording = command.wording();
-    match command.into_event(alloc, session.side()) {
-        Ok(Some(event)) => {
-            let outcome = session.happen(event);
-            append_told(output, wording, &outcome, session)
-        }
+    let event = match command.into_event(alloc, session.side()) {
+        Ok(Some(event)) => event,
         Ok(None) => unreachable!(),
-        Err(NoRoom) => append_noroom(output),
-    }
+        Err(NoRoom) => return append_noroom(output),
+    };
+    let outcome = session.happen(event);
+    append_told(output, wording, &outcome, session)
 }
 
 // Appends the lines of what came of an event, of a message those of the reply that it is, or nothing.

@@ -11,9 +11,7 @@ use crate::answer::answer_command;
 use crate::session::Session;
 use ds_line::Expected;
 use ds_names::NoRoom;
-use ds_words::{
-    CommandFault, LONGEST_LINE, ScriptCommand, append_noroom, read_later_line, read_line,
-};
+use ds_words::{CommandFault, LONGEST_LINE, ScriptCommand, append_noroom, read_line_behind};
 use std::alloc::Global;
 
 /// Answers one line behind so many others, which comes with its newline and has no other. `Err` says that it is no
@@ -37,28 +35,26 @@ pub(crate) fn answer_line(
             expected: Expected::Limit,
         });
     }
-    match read_behind(alloc, line, before) {
-        Ok(command) => match answer_command(alloc, session, output, command) {
-            Ok(()) => Ok(()),
-            Err(NoRoom) => Err(CommandFault::NoRoom),
-        },
-        Err(CommandFault::NoRoom) => match append_noroom(output) {
-            Ok(()) => Ok(()),
-            Err(NoRoom) => Err(CommandFault::NoRoom),
-        },
-        Err(bad) => Err(bad),
+    let command = match read_behind(alloc, line, before) {
+        Ok(command) => command,
+        Err(CommandFault::NoRoom) => {
+            return match append_noroom(output) {
+                Ok(()) => Ok(()),
+                Err(NoRoom) => Err(CommandFault::NoRoom),
+            };
+        }
+        Err(bad) => return Err(bad),
+    };
+    match answer_command(alloc, session, output, command) {
+        Ok(()) => Ok(()),
+        Err(NoRoom) => Err(CommandFault::NoRoom),
     }
 }
 
 // Reads a line behind so many others: `ring` stands on the first line alone.
-#[tactic(auto, using(crate::proofs::LineLemmas::first_line, crate::proofs::LineLemmas::later_line))]
 fn read_behind(alloc: Global, line: &[u8], before: u64) -> Result<ScriptCommand, CommandFault>
     requires { EndsLine line.now }
     ensures { ReadsAs (MayStand before) line.now result }
 {
-    if before == 0 {
-        read_line(alloc, line)
-    } else {
-        read_later_line(alloc, line)
-    }
+    read_line_behind(alloc, line, before)
 }

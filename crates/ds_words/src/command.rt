@@ -65,7 +65,7 @@ pub enum ScriptCommand {
         map: u64,
     },
     /// `ring N`: the journals of both stores keep the last N items that took effect, 1 to 4096. It stands on the first line
-    /// alone, of which `read_later_line` knows.
+    /// alone, of which `read_line_behind` knows.
     Ring {
         ring: u32,
     },

@@ -32,10 +32,12 @@ impl ScriptCommand {
                 holder,
                 count: widened(count),
             })),
-            asking => match asking.into_store_command(alloc)? {
-                Some(command) => Ok(Some(Event::Ask { side, command })),
-                None => Ok(None),
-            },
+            asking => {
+                let Some(command) = asking.into_store_command(alloc)? else {
+                    return Ok(None);
+                };
+                Ok(Some(Event::Ask { side, command }))
+            }
         }
     }
 }

@@ -1,9 +1,10 @@
-//! The lines behind the first one of a script.
+//! The lines of a script, the first one and those behind it.
 
-ghost use Rattle.std.specs.Prelude.{◌↔◌, ℕ, List, IsTrue};
+ghost use Rattle.std.specs.Prelude.{◌≡◌, ◌≢◌, ◌↔◌, ℕ, List, IsTrue};
 ghost use Rattle.std.specs.Char.{is_ascii_alphanumeric};
 ghost use Rattle.ds_line.specs.LastNewline.{EndsLine};
 ghost use Rattle.ds_names.specs.Run.{Begins};
+ghost use Rattle.ds_words.specs.Command.{Reads};
 ghost use Rattle.ds_words.specs.Later.{ReadsLater};
 ghost use Rattle.ds_words.specs.World.{ring_word};
 
@@ -13,13 +14,19 @@ use crate::reading::read_line;
 use ds_line::{Expected, word_at};
 use std::alloc::Global;
 
-/// Reads the command of a line that isn't a script's first one, and comes with its newline and has no other: as
-/// `read_line`, but that `ring` is an unknown word there, so that such a line is bad at place 0, whatever else it holds.
-pub fn read_later_line(alloc: Global, line: &[u8]) -> Result<ScriptCommand, CommandFault>
+/// Reads the command of a line that has so many before it in its script, and comes with its newline and has no other: the
+/// first one as `read_line`, and each behind it so too, but that `ring` is an unknown word there, so that such a line is bad
+/// at place 0, whatever else it holds.
+pub fn read_line_behind(
+    alloc: Global,
+    line: &[u8],
+    before: u64,
+) -> Result<ScriptCommand, CommandFault>
     requires { EndsLine line.now }
-    ensures { ReadsLater line.now result }
+    ensures first { before ≡ 0 → Reads line.now result }
+    ensures later { before ≢ 0 → ReadsLater line.now result }
 {
-    if has_ring(line) {
+    if before > 0 && has_ring(line) {
         return Err(CommandFault::BadLine {
             place: 0,
             expected: Expected::Command,

@@ -32,7 +32,7 @@ mod world_pieces;
 
 pub use command::ScriptCommand;
 pub use fault::CommandFault;
-pub use later::read_later_line;
+pub use later::read_line_behind;
 pub use laws::lines_have_one_command;
 pub use outcome::{append_outcome, append_ring, append_side};
 pub use reading::{LONGEST_LINE, read_command, read_line};

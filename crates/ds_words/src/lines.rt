@@ -34,13 +34,15 @@ pub(crate) fn offer_at(alloc: Global, rest: &mut Rest) -> Result<ScriptCommand, 
     let Some(text) = read_byte(rest.bytes, b' ') else {
         return Err(stop_at(rest.bytes));
     };
-    match read_item_noting(alloc, text, &mut rest.expected) {
-        Ok((item, _)) => Ok(ScriptCommand::Offer(item)),
-        Err(LineFault::BadLine { place }) => Err(PartFault::BadPart {
-            left: text.len() - place,
-        }),
-        Err(LineFault::NoRoom) => Err(PartFault::NoRoom),
-    }
+    let (item, _) = match read_item_noting(alloc, text, &mut rest.expected) {
+        Ok(read) => read,
+        Err(LineFault::BadLine { place }) => {
+            let left = text.len() - place;
+            return Err(PartFault::BadPart { left });
+        }
+        Err(LineFault::NoRoom) => return Err(PartFault::NoRoom),
+    };
+    Ok(ScriptCommand::Offer(item))
 }
 
 /// Reads what follows `publish`.

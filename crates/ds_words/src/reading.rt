@@ -68,14 +68,17 @@ pub fn read_line(alloc: Global, line: &[u8]) -> Result<ScriptCommand, CommandFau
         bytes,
         expected: Expected::Space,
     };
-    match behind_word(alloc, word, &mut rest) {
-        Ok(command) => Ok(command),
-        Err(PartFault::BadPart { left }) => Err(CommandFault::BadLine {
-            place: line.len() - left,
-            expected: rest.expected,
-        }),
-        Err(PartFault::NoRoom) => Err(CommandFault::NoRoom),
-    }
+    let command = match behind_word(alloc, word, &mut rest) {
+        Ok(command) => command,
+        Err(PartFault::BadPart { left }) => {
+            return Err(CommandFault::BadLine {
+                place: line.len() - left,
+                expected: rest.expected,
+            });
+        }
+        Err(PartFault::NoRoom) => return Err(CommandFault::NoRoom),
+    };
+    Ok(command)
 }
 
 // Reads what follows a command's word.

@@ -116,10 +116,7 @@ fn label_put(label: Name, endpoint: Endpoint) -> Change
         epoch: endpoint.generation(),
         seq: 0,
     };
-    match Change::make(key, rs_label(), version, Body::Put(Value::Label(endpoint))) {
-        Ok(change) => change,
-        Err(_) => unreachable!(),
-    }
+    Change::from_parts(key, rs_label(), version, Body::Put(Value::Label(endpoint)))
 }
 
 // The change that takes it back.
@@ -137,10 +134,7 @@ fn label_gone(label: Name, generation: Generation) -> Change
         epoch: generation,
         seq: 1,
     };
-    match Change::make(key, rs_label(), version, Body::Gone) {
-        Ok(change) => change,
-        Err(_) => unreachable!(),
-    }
+    Change::from_parts(key, rs_label(), version, Body::Gone)
 }
 
 // RS's own label, which owns all labels.

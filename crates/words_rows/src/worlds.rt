@@ -5,7 +5,7 @@ use ds_line::Expected;
 use ds_names::{Key, Kind, Kinds, Name};
 use ds_pattern::{PatternText, Query};
 use ds_replica::{Event, Holder, Side};
-use ds_words::{CommandFault, ScriptCommand, read_later_line, read_line, split_line};
+use ds_words::{CommandFault, ScriptCommand, read_line, read_line_behind, split_line};
 use std::alloc::Global;
 use std::process::Abort;
 
@@ -18,7 +18,7 @@ fn read(rt: &impl Abort, alloc: Global, text: &[u8]) -> Result<ScriptCommand, Co
 // What a later line of a script is read as.
 fn read_later(rt: &impl Abort, alloc: Global, text: &[u8]) -> Result<ScriptCommand, CommandFault> {
     let (line, _) = split_line(text).expect(rt, "a line");
-    read_later_line(alloc, line)
+    read_line_behind(alloc, line, 1)
 }
 
 // The line is read as the command, which asks no store.

@@ -8,6 +8,7 @@ use ds_machine::Reply;
 use ds_names::Key;
 use ds_replica::{Holder, Side};
 use ds_world::World;
+use std::alloc::Global;
 use std::process::Abort;
 
 const MAP: Holder = Holder::Map(0);
@@ -156,30 +157,30 @@ fn empty(rt: &impl Abort, world: &World) {
     assert!(rt; world.store(Side::A).held().len() == 0);
 }
 
-#[test]
-fn two_replicas_converge(rt: HostRuntime) {
-    let mut world = world(&rt, rt.alloc());
-    run(&rt, rt.alloc(), &mut world, &CONVERGE);
-    given(&rt, &world, &[(2, 2), (1, 1)]);
+/// Two stores that give one another all that they hold, hold the same.
+pub(crate) fn two_replicas_converge(rt: &impl Abort, alloc: Global) {
+    let mut world = world(rt, alloc);
+    run(rt, alloc, &mut world, &CONVERGE);
+    given(rt, &world, &[(2, 2), (1, 1)]);
     for side in [Side::A, Side::B] {
-        labels(&rt, world.store(side).held(), &CONVERGE_HELD);
+        labels(rt, world.store(side).held(), &CONVERGE_HELD);
     }
 }
 
-#[test]
-fn pages_and_the_journal_catch_up(rt: HostRuntime) {
-    let mut world = world(&rt, rt.alloc());
-    run(&rt, rt.alloc(), &mut world, &PAGES);
-    given(&rt, &world, &PAGES_GIVEN);
-    numbers(&rt, held(&rt, &world), &PAGES_HELD);
+/// A map that got pages, and the journal behind the first of them, holds what the store holds.
+pub(crate) fn pages_and_the_journal_catch_up(rt: &impl Abort, alloc: Global) {
+    let mut world = world(rt, alloc);
+    run(rt, alloc, &mut world, &PAGES);
+    given(rt, &world, &PAGES_GIVEN);
+    numbers(rt, held(rt, &world), &PAGES_HELD);
 }
 
-#[test]
-fn a_tombstone_comes_before_its_put(rt: HostRuntime) {
-    let mut world = world(&rt, rt.alloc());
-    run(&rt, rt.alloc(), &mut world, &GONE);
-    given(&rt, &world, &[(1, 1), (1, 2)]);
-    numbers(&rt, held(&rt, &world), &[(b"a", 1, false)]);
-    happen(&rt, rt.alloc(), &mut world, &BEGUN);
-    empty(&rt, &world);
+/// A map that got a tombstone keeps it when its put comes later; and cursors, deliveries and restarts are refused by their causes.
+pub(crate) fn a_tombstone_comes_before_its_put(rt: &impl Abort, alloc: Global) {
+    let mut world = world(rt, alloc);
+    run(rt, alloc, &mut world, &GONE);
+    given(rt, &world, &[(1, 1), (1, 2)]);
+    numbers(rt, held(rt, &world), &[(b"a", 1, false)]);
+    happen(rt, alloc, &mut world, &BEGUN);
+    empty(rt, &world);
 }

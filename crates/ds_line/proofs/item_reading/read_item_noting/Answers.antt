@@ -2,21 +2,18 @@ use Rattle.std.proofs.Common.{Err, subst, arith}
 use Rattle.ds_line.specs.FloorPiece.{ReadsFloor}
 use Rattle.ds_line.specs.declared.part_fault.PartFault.{PartFault}
 use Rattle.ds_line.proofs.FloorLemmas.{floor_taken, break_left}
-use Rattle.ds_line.proofs.ItemLemmas.{change_faults, floor_faults}
+use Rattle.ds_line.proofs.ItemLemmas.{floor_faults}
 use Rattle.ds_line.proofs.item_reading.read_item_noting.Goals as goal
-
-pub returns-in-Err-clause-fault : goal.returns-in-Err-clause-fault
-returns-in-Err-clause-fault c = change_faults c.in-Err.fault c.args.bytes.now c.in_default.ensures.none c.in-Err.ensures.fault
 
 pub overflow_sub-place : goal.overflow_sub-place
 overflow_sub-place c =
     let k = subst (λ (s : PartFault). ReadsFloor c.args.bytes.now (Err s)) c.in-Err-BadPart.field-0-is c.in-Err-BadPart.ensures in
     omega (arith, break_left c.args.bytes.now k.0 k.1, k.2)
 
-pub returns-in-Ok-floor_at-clause-found : goal.returns-in-Ok-floor_at-clause-found
-returns-in-Ok-floor_at-clause-found c =
-    let k = c.in-Ok-floor_at.ensures in
-    (floor_taken c.in-Ok-floor_at.floor c.args.bytes.now k.0 c.in-Ok-floor_at.left k.1 k.2).0
+pub returns-clause-found : goal.returns-clause-found
+returns-clause-found c =
+    let k = c.in-Ok.ensures in
+    (floor_taken c.in-Ok.read.0 c.args.bytes.now k.0 c.in-Ok.read.1 k.1 k.2).0
 
 pub returns-in-Err-BadPart-clause-fault : goal.returns-in-Err-BadPart-clause-fault
 returns-in-Err-BadPart-clause-fault c =

@@ -4,8 +4,8 @@ use Rattle.ds_words.proofs.ResultLemmas.{on_ok}
 use Rattle.ds_script.proofs.EventLemmas.{as_event}
 use Rattle.ds_script.proofs.event.answer_event.Goals as goal
 
-pub returns-in-Ok-Some-clause-answered : goal.returns-in-Ok-Some-clause-answered
-returns-in-Ok-Some-clause-answered c =
+pub returns-clause-answered : goal.returns-clause-answered
+returns-clause-answered c =
     let outcome = c.happen-outcome.result in
     let new = c.happen-outcome.new.self in
     let out = told_lines c.wording-wording.result outcome new.world.messages in

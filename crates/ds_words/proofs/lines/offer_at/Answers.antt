@@ -11,11 +11,11 @@ pub returns-in_default : goal.returns-in_default
 returns-in_default c =
     takes_stop offer_word c.args.rest.now.bytes.now c.stop_at.result (no_want c.stop_at.result _ c.stop_at.ensures) (offer_no_space c.stop_at.result c.args.rest.now.bytes.now c.stop_at.ensures c.in_default.ensures.none)
 
-pub returns-in-Ok : goal.returns-in-Ok
-returns-in-Ok c = (_, offer_found c.args.rest.now.bytes.now c.in-Some.text.now c.in-Ok.item c.in-Ok.field-0-1 c.in-Some.ensures.found c.in-Ok.ensures.line c.in-Ok.ensures.found)
+pub returns : goal.returns
+returns c = (_, offer_found c.args.rest.now.bytes.now c.in-Some.text.now c.in-Ok.read.0 c.in-Ok.read.1 c.in-Some.ensures.found c.in-Ok.ensures.line c.in-Ok.ensures.found)
 
-pub overflow_sub-result : goal.overflow_sub-result
-overflow_sub-result c = place_fits c.in-Some.text.now c.in-Err-BadLine.place (subst (λ (f : LineFault). IsItemFaultIn f c.in-Some.text.now) c.in-Err-BadLine.field-0-is c.in-Err-BadLine.ensures.fault)
+pub overflow_sub-left : goal.overflow_sub-left
+overflow_sub-left c = place_fits c.in-Some.text.now c.in-Err-BadLine.place (subst (λ (f : LineFault). IsItemFaultIn f c.in-Some.text.now) c.in-Err-BadLine.field-0-is c.in-Err-BadLine.ensures.fault)
 
 pub returns-in-Err-BadLine : goal.returns-in-Err-BadLine
 returns-in-Err-BadLine c =

@@ -15,8 +15,8 @@ overflow_sub-result c =
     let begins = subst (λ t. Begins is_ascii_alphanumeric c.args.line.now t c.word_at.result.1.now) c.in-Some.ensures.found c.word_at.ensures.found in
     omega (arith, k.2, left_fits c.args.line.now (text_of c.in-Some.word) c.word_at.result.1.now k.0 begins k.1)
 
-pub returns-in-Ok : goal.returns-in-Ok
-returns-in-Ok c =
+pub returns : goal.returns
+returns c =
     let begins = subst (λ t. Begins is_ascii_alphanumeric c.args.line.now t c.word_at.result.1.now) c.in-Some.ensures.found c.word_at.ensures.found in
     whole_line c.args.line.now (text_of c.in-Some.word) c.word_at.result.1.now _ c.in-Ok.command c.requires begins c.in-Ok.ensures.1
 
