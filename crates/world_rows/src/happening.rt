@@ -180,11 +180,6 @@ fn outcomes(rt: &impl Abort, world: &mut World, events: Events) -> Outcomes {
     world.run(events).expect(rt, "memory")
 }
 
-// What comes of an event.
-fn outcome(world: &mut World, event: Event) -> Outcome {
-    world.happen(event)
-}
-
 // The outcome is the one that is wanted.
 fn compare(rt: &impl Abort, outcome: &Outcome, wanted: &Came) {
     let given = came(outcome);
@@ -198,17 +193,5 @@ pub(crate) fn run(rt: &impl Abort, alloc: Global, world: &mut World, rows: &[(Ha
     assert!(rt; outcomes.len() == rows.len());
     for (index, (_, wanted)) in rows.iter().enumerate() {
         compare(rt, outcomes.get(index).expect(rt, "an outcome"), wanted);
-    }
-}
-
-/// Lets the events of the rows happen one at a time, and compares what came of each.
-pub(crate) fn happen(
-    rt: &impl Abort,
-    alloc: Global,
-    world: &mut World,
-    rows: &[(Happening, Came)],
-) {
-    for (happening, wanted) in rows {
-        compare(rt, &outcome(world, event(rt, alloc, happening)), wanted);
     }
 }

@@ -1,7 +1,7 @@
 //! Two replicas exchange what they know, and a map follows one of them.
 
 use crate::came::Came;
-use crate::happening::{Happening, happen, label_key, number_key, run, world};
+use crate::happening::{Happening, label_key, number_key, run, world};
 use ds_feed::{Page, Since, Snapshot};
 use ds_held::Held;
 use ds_machine::Reply;
@@ -181,6 +181,6 @@ pub(crate) fn a_tombstone_comes_before_its_put(rt: &impl Abort, alloc: Global) {
     run(rt, alloc, &mut world, &GONE);
     given(rt, &world, &[(1, 1), (1, 2)]);
     numbers(rt, held(rt, &world), &[(b"a", 1, false)]);
-    happen(rt, alloc, &mut world, &BEGUN);
+    run(rt, alloc, &mut world, &BEGUN);
     empty(rt, &world);
 }
