@@ -47,3 +47,8 @@ pub(crate) fn came(outcome: &Outcome) -> Came {
         Outcome::Refused(fault) => (refused(*fault), 0, 0, 0),
     }
 }
+
+/// Whether both came of it.
+pub(crate) fn is_same(given: &Came, wanted: &Came) -> bool {
+    given.0 == wanted.0 && given.1 == wanted.1 && given.2 == wanted.2 && given.3 == wanted.3
+}

@@ -1,16 +1,15 @@
 //! The events of the rows: stores get labels of drivers and numbers of `eth0`, and what they give goes to one another and to
 //! a map.
 
-use crate::came::{Came, came};
+use crate::came::{Came, came, is_same};
 use ds_entry::{Body, Change, Item, ItemList, Value};
 use ds_feed::Cursor;
 use ds_machine::{Command, Scope};
 use ds_names::{Endpoint, Generation, Key, Kind, Kinds, Name, Version};
 use ds_pattern::{PatternText, Query};
-use ds_replica::{Event, Holder, Outcome, Seed, Side};
+use ds_replica::{Event, Holder, Seed, Side};
 use ds_world::{Events, Outcomes, World};
 use std::alloc::Global;
-use std::process::Abort;
 
 /// An event of a row.
 pub(crate) enum Happening {
@@ -32,55 +31,51 @@ pub(crate) enum Happening {
     Restart(u64),
 }
 
-fn name(rt: &impl Abort, text: &[u8]) -> Name {
-    Name::read(text).expect(rt, "a name")
-}
-
-fn version(rt: &impl Abort, generation: u32, seq: u32) -> Version {
-    Version {
-        epoch: Generation::of(generation).expect(rt, "a generation"),
+fn version(generation: u32, seq: u32) -> Option<Version> {
+    Some(Version {
+        epoch: Generation::of(generation)?,
         seq,
-    }
+    })
 }
 
 /// The key of a label.
-pub(crate) fn label_key(rt: &impl Abort, text: &[u8]) -> Key {
-    Key {
-        name: name(rt, text),
+pub(crate) fn label_key(text: &[u8]) -> Option<Key> {
+    Some(Key {
+        name: Name::read(text).ok()?,
         kind: Kind::Label,
-    }
+    })
 }
 
 /// The key of a number.
-pub(crate) fn number_key(rt: &impl Abort, text: &[u8]) -> Key {
-    Key {
-        name: name(rt, text),
+pub(crate) fn number_key(text: &[u8]) -> Option<Key> {
+    Some(Key {
+        name: Name::read(text).ok()?,
         kind: Kind::U32,
-    }
+    })
 }
 
-fn label(rt: &impl Abort, text: &[u8], generation: u32, slot: u16) -> Change {
-    let version = version(rt, generation, 0);
-    let endpoint = Endpoint::of(version.epoch, slot).expect(rt, "an endpoint");
+fn label(text: &[u8], generation: u32, slot: u16) -> Option<Change> {
+    let version = version(generation, 0)?;
+    let endpoint = Endpoint::of(version.epoch, slot)?;
     let body = Body::Put(Value::Label(endpoint));
-    Change::make(label_key(rt, text), name(rt, b"rs"), version, body).expect(rt, "a change")
+    Change::make(label_key(text)?, Name::read(b"rs").ok()?, version, body).ok()
 }
 
-fn number(rt: &impl Abort, text: &[u8], seq: u32, value: Option<u32>) -> Change {
+fn number(text: &[u8], seq: u32, value: Option<u32>) -> Option<Change> {
     let body = match value {
         Some(value) => Body::Put(Value::U32(value)),
         None => Body::Gone,
     };
-    let version = version(rt, 1, seq);
-    Change::make(number_key(rt, text), name(rt, b"eth0"), version, body).expect(rt, "a change")
+    let version = version(1, seq)?;
+    Change::make(number_key(text)?, Name::read(b"eth0").ok()?, version, body).ok()
 }
 
 // Another holder gives one change.
-fn merge(rt: &impl Abort, alloc: Global, side: Side, change: Change) -> Event {
+fn merge(alloc: Global, side: Side, change: Change) -> Option<Event> {
     let mut items = ItemList::new(alloc);
-    assert!(rt; items.push(Item::Change(change)).is_ok());
+    items.push(Item::Change(change)).ok()?;
     let command = Command::Merge { items };
-    Event::Ask { side, command }
+    Some(Event::Ask { side, command })
 }
 
 // Store A is asked.
@@ -103,42 +98,42 @@ fn since(position: u64) -> Command {
     }
 }
 
-fn page(rt: &impl Abort, after: &Option<&'static [u8]>) -> Command {
+fn page(after: &Option<&'static [u8]>) -> Option<Command> {
     let after = match after {
-        Some(text) => Some(number_key(rt, text)),
+        Some(text) => Some(number_key(text)?),
         None => None,
     };
-    Command::Page {
+    Some(Command::Page {
         scope: Scope::All,
         after,
         max: 1,
-    }
+    })
 }
 
 // The query of everything.
-fn everything(rt: &impl Abort, alloc: Global) -> Query {
-    Query {
-        text: PatternText::of(alloc, b".*").expect(rt, "memory"),
-        kinds: Kinds::of(15).expect(rt, "kinds"),
-    }
+fn everything(alloc: Global) -> Option<Query> {
+    Some(Query {
+        text: PatternText::of(alloc, b".*").ok()?,
+        kinds: Kinds::of(15)?,
+    })
 }
 
-fn event(rt: &impl Abort, alloc: Global, happening: &Happening) -> Event {
-    match happening {
+fn event(alloc: Global, happening: &Happening) -> Option<Event> {
+    Some(match happening {
         Happening::Label(side, text, generation, slot) => {
-            merge(rt, alloc, *side, label(rt, text, *generation, *slot))
+            merge(alloc, *side, label(text, *generation, *slot)?)?
         }
         Happening::Number(text, seq, value) => {
-            merge(rt, alloc, Side::A, number(rt, text, *seq, *value))
+            merge(alloc, Side::A, number(text, *seq, *value)?)?
         }
         Happening::Snapshot(side) => Event::Ask {
             side: *side,
             command: Command::Snapshot { scope: Scope::All },
         },
         Happening::Since(position) => ask(since(*position)),
-        Happening::Page(after) => ask(page(rt, after)),
+        Happening::Page(after) => ask(page(after)?),
         Happening::Map => Event::NewMap {
-            query: everything(rt, alloc),
+            query: everything(alloc)?,
         },
         Happening::Deliver(message, holder, count) => Event::Deliver {
             message: *message,
@@ -150,7 +145,7 @@ fn event(rt: &impl Abort, alloc: Global, happening: &Happening) -> Event {
             side: Side::A,
             incarnation: *incarnation,
         },
-    }
+    })
 }
 
 fn seed(incarnation: u64) -> Seed {
@@ -162,36 +157,35 @@ fn seed(incarnation: u64) -> Seed {
 }
 
 /// A world of two stores, of the incarnations 1 and 2.
-pub(crate) fn world(rt: &impl Abort, alloc: Global) -> World {
-    World::new(alloc, seed(1), seed(2)).expect(rt, "a world")
+pub(crate) fn world(alloc: Global) -> Option<World> {
+    World::new(alloc, seed(1), seed(2)).ok()
 }
 
 // The events of the rows.
-fn events(rt: &impl Abort, alloc: Global, rows: &[(Happening, Came)]) -> Events {
+fn events(alloc: Global, rows: &[(Happening, Came)]) -> Option<Events> {
     let mut events = Events::new(alloc);
     for (happening, _) in rows {
-        assert!(rt; events.push(event(rt, alloc, happening)).is_ok());
+        events.push(event(alloc, happening)?).ok()?;
     }
-    events
+    Some(events)
 }
 
-// What comes of the events.
-fn outcomes(rt: &impl Abort, world: &mut World, events: Events) -> Outcomes {
-    world.run(events).expect(rt, "memory")
-}
-
-// The outcome is the one that is wanted.
-fn compare(rt: &impl Abort, outcome: &Outcome, wanted: &Came) {
-    let given = came(outcome);
-    assert_eq!(rt; given.0, wanted.0);
-    assert!(rt; given.1 == wanted.1 && given.2 == wanted.2 && given.3 == wanted.3);
-}
-
-/// Lets the events of the rows happen, and compares what came of each.
-pub(crate) fn run(rt: &impl Abort, alloc: Global, world: &mut World, rows: &[(Happening, Came)]) {
-    let outcomes = outcomes(rt, world, events(rt, alloc, rows));
-    assert!(rt; outcomes.len() == rows.len());
+// Whether there is one outcome for each row, and the one that is wanted.
+fn are_wanted(outcomes: &Outcomes, rows: &[(Happening, Came)]) -> bool {
+    if outcomes.len() != rows.len() {
+        return false;
+    }
     for (index, (_, wanted)) in rows.iter().enumerate() {
-        compare(rt, outcomes.get(index).expect(rt, "an outcome"), wanted);
+        match outcomes.get(index) {
+            Some(outcome) if is_same(&came(outcome), wanted) => {}
+            _ => return false,
+        }
     }
+    true
+}
+
+/// Lets the events of the rows happen. `None` where memory is wanting, or an outcome isn't the one that is wanted.
+pub(crate) fn run(alloc: Global, world: &mut World, rows: &[(Happening, Came)]) -> Option<()> {
+    let outcomes = world.run(events(alloc, rows)?).ok()?;
+    are_wanted(&outcomes, rows).then_some(())
 }

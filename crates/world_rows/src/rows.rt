@@ -9,7 +9,6 @@ use ds_names::Key;
 use ds_replica::{Holder, Side};
 use ds_world::World;
 use std::alloc::Global;
-use std::process::Abort;
 
 const MAP: Holder = Holder::Map(0);
 
@@ -123,64 +122,94 @@ fn number(held: &Held, key: &Key) -> Option<(u32, bool)> {
 }
 
 // What the map holds.
-fn held<'a>(rt: &impl Abort, world: &'a World) -> &'a Held {
-    world.map(0).expect(rt, "a map").held()
+fn held(world: &World) -> Option<&Held> {
+    Some(world.map(0)?.held())
 }
 
 // The messages, in their order, have so many items and cursors at these positions.
-fn given(rt: &impl Abort, world: &World, wanted: &[(usize, u64)]) {
+fn are_given(world: &World, wanted: &[(usize, u64)]) -> bool {
     for (message, wanted) in wanted.iter().enumerate() {
-        let reply = world.message(message).expect(rt, "a message");
-        assert!(rt; counted(reply) == Some(*wanted));
+        match world.message(message) {
+            Some(reply) if counted(reply) == Some(*wanted) => {}
+            _ => return false,
+        }
     }
+    true
 }
 
 // The labels that are held are those of these names, and of these generations.
-fn labels(rt: &impl Abort, held: &Held, wanted: &[(&'static [u8], u32)]) {
-    assert!(rt; held.len() == wanted.len());
+fn are_labels(held: &Held, wanted: &[(&'static [u8], u32)]) -> Option<bool> {
     for (name, wanted) in wanted {
-        assert!(rt; generation(held, &label_key(rt, name)) == Some(*wanted));
+        if generation(held, &label_key(name)?) != Some(*wanted) {
+            return Some(false);
+        }
     }
+    Some(held.len() == wanted.len())
 }
 
 // The numbers that are held are those of these names, of these sequence numbers, and puts or not.
-fn numbers(rt: &impl Abort, held: &Held, wanted: &[(&'static [u8], u32, bool)]) {
-    assert!(rt; held.len() == wanted.len());
+fn are_numbers(held: &Held, wanted: &[(&'static [u8], u32, bool)]) -> Option<bool> {
     for (name, seq, put) in wanted {
-        assert!(rt; number(held, &number_key(rt, name)) == Some((*seq, *put)));
+        if number(held, &number_key(name)?) != Some((*seq, *put)) {
+            return Some(false);
+        }
+    }
+    Some(held.len() == wanted.len())
+}
+
+/// A row: what happens in a new world.
+#[derive(Clone, Copy, Debug, PartialEq, Eq)]
+pub(crate) enum Row {
+    /// Two stores that give one another all that they hold, hold the same.
+    TwoReplicasConverge,
+    /// A map that got pages, and the journal behind the first of them, holds what the store holds.
+    PagesAndTheJournalCatchUp,
+    /// A map that got a tombstone keeps it when its put comes later; and cursors, deliveries and restarts are refused by
+    /// their causes, and a store that begins again and a map that is cleared hold nothing.
+    ATombstoneComesBeforeItsPut,
+}
+
+impl Row {
+    /// Its name, in words.
+    pub(crate) fn name(self) -> &'static str {
+        match self {
+            Row::TwoReplicasConverge => "two replicas converge",
+            Row::PagesAndTheJournalCatchUp => "pages and the journal catch up",
+            Row::ATombstoneComesBeforeItsPut => "a tombstone comes before its put",
+        }
+    }
+
+    /// Whether it goes as it should. `None` where memory is wanting, or an outcome isn't the one that is wanted.
+    pub(crate) fn goes(self, alloc: Global) -> Option<bool> {
+        let mut world = world(alloc)?;
+        match self {
+            Row::TwoReplicasConverge => converges(alloc, &mut world),
+            Row::PagesAndTheJournalCatchUp => catches_up(alloc, &mut world),
+            Row::ATombstoneComesBeforeItsPut => stays_gone(alloc, &mut world),
+        }
     }
 }
 
-// Neither the map nor store A holds anything.
-fn empty(rt: &impl Abort, world: &World) {
-    assert!(rt; held(rt, world).len() == 0);
-    assert!(rt; world.store(Side::A).held().len() == 0);
+// The world is lent: each early return of a function that has a world ends it there, and that is to be proved each time.
+fn converges(alloc: Global, world: &mut World) -> Option<bool> {
+    run(alloc, world, &CONVERGE)?;
+    Some(
+        are_given(world, &[(2, 2), (1, 1)])
+            && are_labels(world.store(Side::A).held(), &CONVERGE_HELD)?
+            && are_labels(world.store(Side::B).held(), &CONVERGE_HELD)?,
+    )
 }
 
-/// Two stores that give one another all that they hold, hold the same.
-pub(crate) fn two_replicas_converge(rt: &impl Abort, alloc: Global) {
-    let mut world = world(rt, alloc);
-    run(rt, alloc, &mut world, &CONVERGE);
-    given(rt, &world, &[(2, 2), (1, 1)]);
-    for side in [Side::A, Side::B] {
-        labels(rt, world.store(side).held(), &CONVERGE_HELD);
-    }
+fn catches_up(alloc: Global, world: &mut World) -> Option<bool> {
+    run(alloc, world, &PAGES)?;
+    Some(are_given(world, &PAGES_GIVEN) && are_numbers(held(world)?, &PAGES_HELD)?)
 }
 
-/// A map that got pages, and the journal behind the first of them, holds what the store holds.
-pub(crate) fn pages_and_the_journal_catch_up(rt: &impl Abort, alloc: Global) {
-    let mut world = world(rt, alloc);
-    run(rt, alloc, &mut world, &PAGES);
-    given(rt, &world, &PAGES_GIVEN);
-    numbers(rt, held(rt, &world), &PAGES_HELD);
-}
-
-/// A map that got a tombstone keeps it when its put comes later; and cursors, deliveries and restarts are refused by their causes.
-pub(crate) fn a_tombstone_comes_before_its_put(rt: &impl Abort, alloc: Global) {
-    let mut world = world(rt, alloc);
-    run(rt, alloc, &mut world, &GONE);
-    given(rt, &world, &[(1, 1), (1, 2)]);
-    numbers(rt, held(rt, &world), &[(b"a", 1, false)]);
-    run(rt, alloc, &mut world, &BEGUN);
-    empty(rt, &world);
+fn stays_gone(alloc: Global, world: &mut World) -> Option<bool> {
+    run(alloc, world, &GONE)?;
+    let given = are_given(world, &[(1, 1), (1, 2)]);
+    let kept = are_numbers(held(world)?, &[(b"a", 1, false)])?;
+    run(alloc, world, &BEGUN)?;
+    let empty = held(world)?.len() == 0 && world.store(Side::A).held().len() == 0;
+    Some(given && kept && empty)
 }
