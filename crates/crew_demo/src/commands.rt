@@ -67,6 +67,15 @@ pub(crate) fn start(label: &[u8], generation: u32, slot: u16) -> Option<Command>
     })
 }
 
+/// The label of the driver of a number, one of a thousand.
+pub(crate) fn label_of(number: u64) -> [u8; 9] {
+    let mut label = *b"driver000";
+    label[6] += (number / 100 % 10) as u8;
+    label[7] += (number / 10 % 10) as u8;
+    label[8] += (number % 10) as u8;
+    label
+}
+
 fn label_key(label: &[u8]) -> Option<Key> {
     Some(Key {
         name: Name::read(label).ok()?,

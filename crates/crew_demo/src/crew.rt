@@ -5,6 +5,7 @@ ghost use Rattle.std.specs.List.{AllByRecursion};
 ghost use Rattle.desk.specs.Desk.{identity};
 ghost use Rattle.desk.specs.Pass.{desk_of};
 
+use crate::task::Task;
 use crate::worker::{Said, Worker};
 use desk::{Account, Desk, Pass, Passes};
 use ds_shared::SharedStore;
@@ -42,8 +43,35 @@ pub(crate) fn run_crew<R: Threads + Wait + Sync>(
     calls: u32,
 ) -> Option<Crew> {
     let (desk, passes) = open_desk(alloc, threads)?;
-    let workers = run_threads(rt, alloc, &desk, passes, calls)?;
+    let task = Task {
+        calls,
+        overwrites: false,
+    };
+    let workers = run_threads(rt, alloc, &desk, passes, task)?;
     close_crew(alloc, desk, workers)
+}
+
+/// Has that many threads overwrite a label each, so often, at one desk over a store that one subscription follows. How many
+/// bits they raised; `None` where memory or a place is wanting.
+pub(crate) fn overwrite_labels<R: Threads + Wait + Sync>(
+    rt: &R,
+    alloc: Global,
+    threads: u32,
+    calls: u32,
+) -> Option<u64> {
+    let (desk, passes) = open_desk(alloc, threads)?;
+    let task = Task {
+        calls,
+        overwrites: true,
+    };
+    let mut raises = 0u64;
+    for worker in &run_threads(rt, alloc, &desk, passes, task)? {
+        if !worker.done {
+            return None;
+        }
+        raises = raises.wrapping_add(worker.raises);
+    }
+    Some(raises)
 }
 
 /// A desk over a new store, and its passes. `None` where memory is wanting, or where there are not 1 to 64 threads.
@@ -62,13 +90,13 @@ pub(crate) fn open_desk(
     }
 }
 
-// Has each pass call the desk from a thread of its own, where one can be made.
+// Has each pass do this from a thread of its own, where one can be made.
 fn run_threads<R: Threads + Wait + Sync>(
     rt: &R,
     alloc: Global,
     desk: &Desk<SharedStore>,
     passes: Passes<SharedStore>,
-    calls: u32,
+    task: Task,
 ) -> Option<Vec<StoreWorker>>
     requires { AllByRecursion (λ p. desk_of p ≡ identity desk.now) passes }
     ensures { IfSome result (λ ws. All (λ w. desk_of w.pass ≡ identity desk.now) ws.items) }
@@ -78,7 +106,7 @@ fn run_threads<R: Threads + Wait + Sync>(
         ensures { desk_of result.pass ≡ identity desk.entry.now }
     {
         let mut worker = Worker::new(alloc, pass);
-        worker.work(rt, alloc, desk, calls);
+        worker.work(rt, alloc, desk, task);
         worker
     };
     match map_vec(rt, passes.into_vec(), &each) {

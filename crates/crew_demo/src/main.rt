@@ -14,9 +14,10 @@ mod digest;
 mod lines;
 mod review;
 mod rounds;
+mod task;
 mod worker;
 
-use crew::run_crew;
+use crew::{overwrite_labels, run_crew};
 use lines::{Line, read_line};
 use review::{account_is_exact, compare_with_one};
 use std::alloc::Global;
@@ -76,7 +77,7 @@ fn answer<R: Print + Threads + Wait + Sync>(
 ) -> Result<(), Failure> {
     let count = match asked {
         Line::Crew { threads, calls } => return share_store(rt, alloc, threads, calls),
-        Line::Overwrite { threads, calls } => rounds::overwrite(rt, alloc, threads, calls),
+        Line::Overwrite { threads, calls } => overwrite_labels(rt, alloc, threads, calls),
         Line::Front(count) => rounds::look(alloc, count),
         Line::Take(count) => rounds::take(alloc, count),
     };

@@ -50,8 +50,9 @@ fn in_places(alloc: Global, said: &[Said]) -> Option<Vec<Option<Said>>> {
         history.push(None).ok()?;
     }
     for one in said {
-        if let Some(entry) = history.get_mut(one.place as usize) {
-            *entry = Some(*one);
+        let place = one.place as usize;
+        if place < history.len() {
+            history[place] = Some(*one);
         }
     }
     Some(history)

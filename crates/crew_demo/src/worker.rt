@@ -4,9 +4,11 @@ ghost use Rattle.std.specs.Prelude.{◌≡◌};
 ghost use Rattle.desk.specs.Desk.{identity};
 ghost use Rattle.desk.specs.Pass.{desk_of};
 
-use crate::commands::command_of;
+use crate::commands::{command_of, follow, label_of, start};
 use crate::digest::Kept;
-use desk::{Desk, Pass};
+use crate::task::Task;
+use desk::{Answer, Desk, Pass};
+use ds_machine::{Command, Reply};
 use ds_shared::SharedStore;
 use std::alloc::Global;
 use std::sync::Wait;
@@ -53,65 +55,97 @@ impl Worker<Pass<SharedStore>> {
         }
     }
 
-    /// Makes that many calls; every fourth is followed by a take of a server. It ends early where memory or a place is
-    /// wanting.
+    /// Does what it is to do. It ends early where memory or a place is wanting.
     pub(crate) fn work<R: Wait>(
         &mut self,
         rt: &R,
         alloc: Global,
         desk: &Desk<SharedStore>,
-        calls: u32,
+        task: Task,
     )
         requires { desk_of self.old.pass ≡ identity desk.now }
         ensures { desk_of self.new.pass ≡ desk_of self.old.pass }
     {
-        for turn in 0..calls {
-            if !self.call(rt, alloc, desk, turn) {
-                return;
-            }
-            if turn % 4 == 3 && !self.take(desk, turn / 4 % 16) {
-                return;
-            }
-        }
-        self.done = true;
+        let done = if task.overwrites {
+            self.overwrite(rt, alloc, desk, task.calls)
+        } else {
+            self.share(rt, alloc, desk, task.calls)
+        };
+        self.done = done.is_some();
     }
 
-    // Makes one call, and keeps what was answered. False where memory or a place is wanting.
-    fn call<R: Wait>(&mut self, rt: &R, alloc: Global, desk: &Desk<SharedStore>, turn: u32) -> bool
+    // Makes that many calls; every fourth is followed by a take of a server.
+    fn share<R: Wait>(
+        &mut self,
+        rt: &R,
+        alloc: Global,
+        desk: &Desk<SharedStore>,
+        calls: u32,
+    ) -> Option<()>
         requires { desk_of self.old.pass ≡ identity desk.now }
         ensures { desk_of self.new.pass ≡ desk_of self.old.pass }
     {
-        let seen = desk.front(&mut self.pass);
-        let Some(command) = command_of(alloc, seen, turn) else {
-            return false;
-        };
-        let Ok(answer) = desk.call(rt, &mut self.pass, command) else {
-            return false;
-        };
-        self.raises = self
-            .raises
-            .wrapping_add(u64::from(answer.raised.count_ones()));
-        let Some(kept) = Kept::of(alloc, &answer.reply) else {
-            return false;
-        };
-        let said = Said {
-            seen,
-            turn,
-            place: answer.place,
-            kept,
-        };
-        self.said.push(said).is_ok()
+        for turn in 0..calls {
+            let seen = desk.front(&mut self.pass);
+            let answer = self.call(rt, desk, command_of(alloc, seen, turn)?)?;
+            self.said
+                .push(Said {
+                    seen,
+                    turn,
+                    place: answer.place,
+                    kept: Kept::of(alloc, &answer.reply)?,
+                })
+                .ok()?;
+            if turn % 4 == 3 {
+                self.take(desk, turn / 4 % 16)?;
+            }
+        }
+        Some(())
+    }
+
+    // Overwrites a label so often that no other thread does: it has the number of the thread's first call.
+    fn overwrite<R: Wait>(
+        &mut self,
+        rt: &R,
+        alloc: Global,
+        desk: &Desk<SharedStore>,
+        calls: u32,
+    ) -> Option<()>
+        requires { desk_of self.old.pass ≡ identity desk.now }
+        ensures { desk_of self.new.pass ≡ desk_of self.old.pass }
+    {
+        let number = self.call(rt, desk, follow(alloc, 0)?)?.place;
+        let label = label_of(number);
+        for turn in 0..calls {
+            let generation = 1 + turn % 2_000_000;
+            self.call(rt, desk, start(&label, generation, (number % 1000) as u16)?)?;
+        }
+        Some(())
+    }
+
+    // Makes one call, and counts what it raised.
+    fn call<R: Wait>(
+        &mut self,
+        rt: &R,
+        desk: &Desk<SharedStore>,
+        command: Command,
+    ) -> Option<Answer<Reply>>
+        requires { desk_of self.old.pass ≡ identity desk.now }
+        ensures { desk_of self.new.pass ≡ desk_of self.old.pass }
+    {
+        let answer = desk.call(rt, &mut self.pass, command).ok()?;
+        let raised = u64::from(answer.raised.count_ones());
+        self.raises = self.raises.wrapping_add(raised);
+        Some(answer)
     }
 
     // Takes the notices of a server, and counts them.
-    fn take(&mut self, desk: &Desk<SharedStore>, server: u32) -> bool
+    fn take(&mut self, desk: &Desk<SharedStore>, server: u32) -> Option<()>
         requires { desk_of self.old.pass ≡ identity desk.now }
         ensures { desk_of self.new.pass ≡ desk_of self.old.pass }
     {
-        let Ok(taken) = desk.take(&mut self.pass, server) else {
-            return false;
-        };
+        let taken = desk.take(&mut self.pass, server).ok()?;
         self.takes = self.takes.wrapping_add(u64::from(taken.bits.count_ones()));
-        true
+        Some(())
     }
 }

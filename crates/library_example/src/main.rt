@@ -11,6 +11,7 @@ mod telling;
 use drivers::{Driver, eth0_and_below};
 use ds_machine::Command;
 use ds_store::Store;
+use std::alloc::Global;
 use std::process::ExitCode;
 use std::rt::Runtime;
 use telling::tell;
@@ -28,24 +29,34 @@ fn main(rt: HostRuntime) -> ExitCode {
 // Answers None where memory or writing fails.
 fn example(rt: &(impl Runtime + AllocGlobal)) -> Option<()> {
     let mut store = Store::open(rt.alloc(), 1, 0, 256).ok()?;
+    follow_eth0(rt, rt.alloc(), &mut store)
+}
+
+// `inet` follows `eth0`, which dies and comes back.
+fn follow_eth0(rt: &impl Print, alloc: Global, store: &mut Store) -> Option<()> {
     let follow = Command::Subscribe {
         sub: INET,
-        query: eth0_and_below(rt.alloc())?,
+        query: eth0_and_below(alloc)?,
         initial: true,
         overwrite: false,
     };
-    tell(rt, &store.apply(follow))?;
+    ask(rt, store, follow)?;
 
     let first = Driver::eth0(3, 16)?;
-    tell(rt, &store.apply(first.started()))?;
-    tell(rt, &store.apply(first.publishes_mtu(1500)?))?;
-    tell(rt, &store.apply(check()))?;
+    ask(rt, store, first.started())?;
+    ask(rt, store, first.publishes_mtu(1500)?)?;
+    ask(rt, store, check())?;
 
     let second = Driver::eth0(4, 16)?;
-    tell(rt, &store.apply(first.died()))?;
-    tell(rt, &store.apply(second.started()))?;
-    tell(rt, &store.apply(first.publishes_mtu(9000)?))?;
-    tell(rt, &store.apply(check()))
+    ask(rt, store, first.died())?;
+    ask(rt, store, second.started())?;
+    ask(rt, store, first.publishes_mtu(9000)?)?;
+    ask(rt, store, check())
+}
+
+// Asks the store, and prints what it says.
+fn ask(rt: &impl Print, store: &mut Store, command: Command) -> Option<()> {
+    tell(rt, &store.apply(command))
 }
 
 // What `inet` asks when it hears a notice.
