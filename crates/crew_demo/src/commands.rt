@@ -67,12 +67,15 @@ pub(crate) fn start(label: &[u8], generation: u32, slot: u16) -> Option<Command>
     })
 }
 
-/// The label of the driver of a number, one of a thousand.
-pub(crate) fn label_of(number: u64) -> [u8; 9] {
-    let mut label = *b"driver000";
-    label[6] += (number / 100 % 10) as u8;
-    label[7] += (number / 10 % 10) as u8;
-    label[8] += (number % 10) as u8;
+/// The label of the driver of a number, of which the last twelve digits stand in it: more than the places of all calls that
+/// 64 threads make take.
+pub(crate) fn label_of(number: u64) -> [u8; 18] {
+    let mut label = *b"driver000000000000";
+    let mut rest = number;
+    for digit in 0..12 {
+        label[17 - digit] = b'0' + (rest % 10) as u8;
+        rest /= 10;
+    }
     label
 }
 
