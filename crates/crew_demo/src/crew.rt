@@ -22,7 +22,7 @@ pub(crate) const RING: u32 = 256;
 /// What the threads were answered and counted, and what the desk left.
 #[derive(Drop)]
 pub(crate) struct Crew {
-    /// Every call.
+    /// Every call, by its place.
     pub said: Vec<Said>,
     /// How many bits the threads counted as raised.
     pub raises: u64,
@@ -81,13 +81,8 @@ pub(crate) fn open_desk(
 ) -> Option<(Desk<SharedStore>, Passes<SharedStore>)>
     ensures { IfSome result (λ d. AllByRecursion (λ p. desk_of p ≡ identity d.0) d.1) }
 {
-    let Ok(store) = Store::open(alloc, 1, 0, RING) else {
-        return None;
-    };
-    match Desk::<SharedStore>::open(alloc, SharedStore { store }, threads, 0) {
-        Ok(opened) => Some(opened),
-        Err(_) => None,
-    }
+    let shared = SharedStore::of(alloc, Store::open(alloc, 1, 0, RING).ok()?).ok()?;
+    Desk::<SharedStore>::open(alloc, shared, threads, 0).ok()
 }
 
 // Has each pass do this from a thread of its own, where one can be made.
@@ -141,6 +136,7 @@ fn close_crew(alloc: Global, desk: Desk<SharedStore>, mut workers: Vec<StoreWork
         };
     }
     let closed = desk.close(alloc, passes).ok()?;
+    said.sort_unstable_by_key(|one| one.place);
     Some(Crew {
         said,
         raises,

@@ -3,7 +3,6 @@
 use crate::commands::command_of;
 use crate::crew::{Crew, RING};
 use crate::digest::Kept;
-use crate::worker::Said;
 use ds_store::Store;
 use std::alloc::Global;
 
@@ -23,39 +22,23 @@ pub(crate) fn compare_with_one(alloc: Global, crew: &Crew) -> Option<Review> {
     let mut store = Store::open(alloc, 1, 0, RING).ok()?;
     let mut legal = true;
     let mut noroom = 0u64;
-    for entry in &in_places(alloc, &crew.said)? {
-        match entry {
-            Some(one) if one.kept == Kept::NoRoom => noroom = noroom.wrapping_add(1),
-            Some(one) => {
-                let reply = store.apply(command_of(alloc, one.seen, one.turn)?);
-                let kept = Kept::of(alloc, &reply)?;
-                if kept == Kept::NoRoom {
-                    return None;
-                }
-                legal &= kept == one.kept && one.seen <= one.place;
-            }
-            None => legal = false,
+    for (place, one) in (0u64..).zip(&crew.said) {
+        legal &= one.place == place && one.seen <= place;
+        if one.kept == Kept::NoRoom {
+            noroom = noroom.wrapping_add(1);
+            continue;
         }
+        let reply = store.apply(command_of(alloc, one.seen, one.turn)?);
+        let kept = Kept::of(alloc, &reply)?;
+        if kept == Kept::NoRoom {
+            return None;
+        }
+        legal &= kept == one.kept;
     }
     Some(Review {
         legal: legal && store.cursor().position == crew.position,
         noroom,
     })
-}
-
-// The calls by their places: none at a place where no call is.
-fn in_places(alloc: Global, said: &[Said]) -> Option<Vec<Option<Said>>> {
-    let mut history = Vec::with_capacity(alloc, said.len()).ok()?;
-    for _ in said {
-        history.push(None).ok()?;
-    }
-    for one in said {
-        let place = one.place as usize;
-        if place < history.len() {
-            history[place] = Some(*one);
-        }
-    }
-    Some(history)
 }
 
 /// Whether in each row of the account raises are takes and what is pending, and all rows together are what the threads

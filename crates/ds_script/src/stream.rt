@@ -74,14 +74,14 @@ pub fn replay_reporting<R: Read, W: Write, B: Report>(
         × Appends (W.contents writer.old) (W.contents writer.new) output
         × StopsWith bad_lines fault (R.remaining reader.new) input output) }
 {
+    let Ok(mut chunk) = zeros(alloc) else {
+        return Err(ReplayFault::NoRoom);
+    };
     let mut running = Running {
         session: Session::open(alloc, RING)?,
         output: Vec::new(alloc),
         done: Replayed { lines: 0, bad: 0 },
         bad_lines,
-    };
-    let Ok(mut chunk) = zeros(alloc) else {
-        return Err(ReplayFault::NoRoom);
     };
     match run(alloc, reader, writer, report, &mut chunk, &mut running) {
         Ok(()) => Ok(running.done),

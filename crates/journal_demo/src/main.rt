@@ -87,17 +87,28 @@ fn show(
     most: u32,
 ) -> Result<(), Failure> {
     let mut store = open(alloc, ring)?;
+    show_changes(rt, &mut store, ring, changes, most)
+}
+
+// So many changes of a new store, and what a reader of it is told.
+fn show_changes(
+    rt: &impl Runtime,
+    store: &mut Store,
+    ring: u32,
+    changes: u32,
+    most: u32,
+) -> Result<(), Failure> {
     for generation in 1..=changes {
-        publish(&mut store, generation)?;
+        publish(store, generation)?;
     }
     let lost = changes.saturating_sub(ring);
     if println!(rt; "ring {ring}, changes {changes}").is_err() {
         return Err(Failure::WriteFault);
     }
-    tell(rt, &mut store, 0, most)?;
+    tell(rt, store, 0, most)?;
     if lost > 0 {
-        tell(rt, &mut store, lost - 1, most)?;
-        tell(rt, &mut store, lost, most)?;
+        tell(rt, store, lost - 1, most)?;
+        tell(rt, store, lost, most)?;
     }
     Ok(())
 }

@@ -55,25 +55,25 @@ fn run(rt: &(impl Runtime + AllocGlobal)) -> Result<(), Failure> {
         });
     }
     let script = Script::read(rt.alloc(), text.as_slice())?;
-    let Ok(store) = Store::open(rt.alloc(), 1, script.first, script.ring) else {
-        return Err(Failure::NoRoom);
-    };
     let Ok(answer) = Vec::with_capacity(rt.alloc(), ANSWER) else {
         return Err(Failure::NoRoom);
     };
-    if println!(rt; "ready").is_err() {
-        return Err(Failure::WriteFault);
-    }
-    answer_all(&mut io::writer(rt), store, script.asked, answer)
+    let Ok(mut store) = Store::open(rt.alloc(), 1, script.first, script.ring) else {
+        return Err(Failure::NoRoom);
+    };
+    answer_all(&mut io::writer(rt), &mut store, script.asked, answer)
 }
 
-// Gives the commands to the store, and prints each reply.
+// Says that all is made; then gives the commands to the store, and prints each reply.
 fn answer_all<W: Write>(
     writer: &mut W,
-    mut store: Store,
+    store: &mut Store,
     commands: Vec<Asked>,
     mut answer: Vec<u8>,
 ) -> Result<(), Failure> {
+    if writer.write_all(b"ready\n").is_err() {
+        return Err(Failure::WriteFault);
+    }
     for asked in commands {
         let words = match asked {
             Asked::Command { command, wording } => {

@@ -74,10 +74,22 @@ fn read_words(rt: &impl Runtime) -> Option<(Asked, u32)> {
     Some((asked, rounds))
 }
 
-// Fills a store, asks it so often, and prints how many items its answers gave.
+// Opens a store, and measures in it.
 fn measure(rt: &(impl Runtime + AllocGlobal), asked: Asked, rounds: u32) -> Result<(), Failed> {
-    let mut store = Store::open(rt.alloc(), 0, 0, 4096).map_err(|_| Failed)?;
-    fill(rt.alloc(), &mut store)?;
+    match Store::open(rt.alloc(), 0, 0, 4096) {
+        Ok(mut store) => measure_in(rt, &mut store, asked, rounds),
+        Err(_) => Err(Failed),
+    }
+}
+
+// Fills the store, asks it so often, and prints how many items its answers gave.
+fn measure_in(
+    rt: &(impl Runtime + AllocGlobal),
+    store: &mut Store,
+    asked: Asked,
+    rounds: u32,
+) -> Result<(), Failed> {
+    fill(rt.alloc(), store)?;
     let cursor = store.cursor();
     let mut given: usize = 0;
     for _ in 0..rounds {

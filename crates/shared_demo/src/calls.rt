@@ -22,13 +22,8 @@ pub(crate) fn open_two(
 ) -> Option<(Desk<SharedStore>, Pass<SharedStore>, Pass<SharedStore>)>
     ensures { IfSome result (λ d. (desk_of d.1 ≡ identity d.0) × (desk_of d.2 ≡ identity d.0)) }
 {
-    let Ok(store) = Store::open(alloc, 1, position, 256) else {
-        return None;
-    };
-    let Ok((desk, mut passes)) = Desk::<SharedStore>::open(alloc, SharedStore { store }, 2, place)
-    else {
-        return None;
-    };
+    let shared = SharedStore::of(alloc, Store::open(alloc, 1, position, 256).ok()?).ok()?;
+    let (desk, mut passes) = Desk::<SharedStore>::open(alloc, shared, 2, place).ok()?;
     let two = passes.pop()?;
     let one = passes.pop()?;
     Some((desk, one, two))

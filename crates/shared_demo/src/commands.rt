@@ -1,43 +1,57 @@
 //! What the store is asked.
 
+use crate::Failure;
 use ds_entry::Value;
 use ds_machine::Command;
 use ds_names::{Endpoint, Generation, Key, Kind, Kinds, Name, Version};
 use ds_pattern::{PatternText, Query};
 use std::alloc::Global;
 
-/// A subscription to everything that comes later, over one of this number. `None` where memory is wanting.
-pub(crate) fn follow(alloc: Global, sub: u32) -> Option<Command> {
-    let query = Query {
-        text: PatternText::of(alloc, b".*").ok()?,
-        kinds: Kinds::of(15)?,
+/// A driver that RS started: its label, and its first endpoint.
+#[derive(Clone, Copy)]
+pub(crate) struct Driver {
+    key: Key,
+    endpoint: Endpoint,
+}
+
+/// The driver of a label in a slot. `None` where there is no such label or slot.
+pub(crate) fn driver_of(label: &[u8], slot: u16) -> Option<Driver> {
+    let key = Key {
+        name: Name::read(label).ok()?,
+        kind: Kind::Label,
     };
-    Some(Command::Subscribe {
+    let endpoint = Endpoint::of(Generation::of(1)?, slot)?;
+    Some(Driver { key, endpoint })
+}
+
+/// A query of everything. NoRoom where memory is wanting.
+pub(crate) fn everything(alloc: Global) -> Result<Query, Failure> {
+    match (PatternText::of(alloc, b".*"), Kinds::of(15)) {
+        (Ok(text), Some(kinds)) => Ok(Query { text, kinds }),
+        _ => Err(Failure::NoRoom),
+    }
+}
+
+/// A subscription to what comes later under a query, over one of this number.
+pub(crate) fn follow(query: Query, sub: u32) -> Command {
+    Command::Subscribe {
         sub,
         query,
         initial: false,
         overwrite: true,
-    })
+    }
 }
 
-/// RS publishes the label of a driver, over that of an earlier generation. `None` where the numbers are no endpoint's.
-pub(crate) fn start(label: &[u8], generation: u32, slot: u16) -> Option<Command> {
-    let endpoint = Endpoint::of(Generation::of(generation)?, slot)?;
-    Some(Command::Publish {
+/// RS publishes the label of a driver.
+pub(crate) fn start(driver: &Driver) -> Command {
+    Command::Publish {
         caller: Endpoint::rs(),
-        key: label_key(label)?,
+        key: driver.key,
         version: Version {
-            epoch: endpoint.generation(),
+            epoch: driver.endpoint.generation(),
             seq: 0,
         },
-        value: Value::Label(endpoint),
+        value: Value::Label(driver.endpoint),
         overwrite: true,
-    })
-}
-
-fn label_key(label: &[u8]) -> Option<Key> {
-    Some(Key {
-        name: Name::read(label).ok()?,
-        kind: Kind::Label,
-    })
+    }
 }

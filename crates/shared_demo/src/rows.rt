@@ -6,9 +6,8 @@ ghost use Rattle.desk.specs.Pass.{desk_of};
 
 use crate::Failure;
 use crate::calls::{call, close_one, close_two, open_two, take, tell_closed, tell_fault};
-use crate::commands::{follow, start};
+use crate::commands::{driver_of, everything, follow, start};
 use desk::{Desk, Pass};
-use ds_machine::Command;
 use ds_shared::SharedStore;
 use std::alloc::Global;
 use std::sync::Wait;
@@ -19,13 +18,12 @@ const LAST: u64 = (1 << 62) - 1;
 /// A follower's bit is raised by one pass, found pending by the other, and taken once; a note that isn't learnt and a pass
 /// that is out keep the desk open.
 pub(crate) fn notice<R: Print + Wait>(rt: &R, alloc: Global) -> Result<(), Failure> {
-    let followed = asked(follow(alloc, 0))?;
-    let first = asked(start(b"eth0", 1, 16))?;
-    let second = asked(start(b"tty", 1, 17))?;
-    let (desk, mut one, mut two) = open_two(alloc, 0, 0).ok_or(Failure::NoRoom)?;
-    call(rt, &desk, &mut one, followed)?;
-    call(rt, &desk, &mut one, first)?;
-    call(rt, &desk, &mut two, second)?;
+    let query = everything(alloc)?;
+    let Some((desk, mut one, mut two)) = open_two(alloc, 0, 0) else {
+        return Err(Failure::NoRoom);
+    };
+    call(rt, &desk, &mut one, follow(query, 0))?;
+    start_two(rt, &desk, &mut one, &mut two)?;
     take(rt, &desk, &mut one, 0)?;
     take(rt, &desk, &mut one, 0)?;
     close_when_learnt(rt, alloc, desk, one, two)
@@ -81,34 +79,84 @@ fn close_and_tell(
 
 /// The last place of a desk is used, and it is Worn; at another desk, which isn't, the store's last position is.
 pub(crate) fn last<R: Print + Wait>(rt: &R, alloc: Global) -> Result<(), Failure> {
-    let first = asked(start(b"eth0", 1, 16))?;
-    let second = asked(start(b"tty", 1, 17))?;
-    let (desk, mut one, mut two) = open_two(alloc, LAST, 0).ok_or(Failure::NoRoom)?;
-    call(rt, &desk, &mut one, first)?;
-    call(rt, &desk, &mut two, second)?;
+    last_place(rt, alloc)?;
+    last_position(rt, alloc)
+}
+
+fn last_place<R: Print + Wait>(rt: &R, alloc: Global) -> Result<(), Failure> {
+    let Some((desk, mut one, mut two)) = open_two(alloc, LAST, 0) else {
+        return Err(Failure::NoRoom);
+    };
+    start_two(rt, &desk, &mut one, &mut two)?;
     take(rt, &desk, &mut one, 0)?;
-    close_and_tell(rt, alloc, desk, one, two)?;
-    let followed = asked(follow(alloc, 0))?;
-    let third = asked(start(b"disk", 1, 18))?;
-    let (desk, mut one, mut two) = open_two(alloc, 0, LAST + 1).ok_or(Failure::NoRoom)?;
-    call(rt, &desk, &mut one, followed)?;
-    call(rt, &desk, &mut two, third)?;
+    close_and_tell(rt, alloc, desk, one, two)
+}
+
+fn last_position<R: Print + Wait>(rt: &R, alloc: Global) -> Result<(), Failure> {
+    let query = everything(alloc)?;
+    let Some((desk, mut one, mut two)) = open_two(alloc, 0, LAST + 1) else {
+        return Err(Failure::NoRoom);
+    };
+    call(rt, &desk, &mut one, follow(query, 0))?;
+    start_one(rt, &desk, &mut two, b"disk", 18)?;
     close_and_tell(rt, alloc, desk, one, two)
 }
 
 /// The subscription 127 is owed a notice, which is bit 7 of server 15's word. There is no server 16.
 pub(crate) fn bits<R: Print + Wait>(rt: &R, alloc: Global) -> Result<(), Failure> {
-    let followed = asked(follow(alloc, 127))?;
-    let first = asked(start(b"eth0", 1, 16))?;
-    let (desk, mut one, mut two) = open_two(alloc, 0, 0).ok_or(Failure::NoRoom)?;
-    call(rt, &desk, &mut one, followed)?;
-    call(rt, &desk, &mut two, first)?;
-    take(rt, &desk, &mut one, 14)?;
-    take(rt, &desk, &mut one, 15)?;
-    take(rt, &desk, &mut one, 16)?;
+    let query = everything(alloc)?;
+    let Some((desk, mut one, mut two)) = open_two(alloc, 0, 0) else {
+        return Err(Failure::NoRoom);
+    };
+    call(rt, &desk, &mut one, follow(query, 127))?;
+    start_one(rt, &desk, &mut two, b"eth0", 16)?;
+    take_from_14_on(rt, &desk, &mut one)?;
     close_and_tell(rt, alloc, desk, one, two)
 }
 
-fn asked(command: Option<Command>) -> Result<Command, Failure> {
-    command.ok_or(Failure::NoRoom)
+// Each pass has RS start a driver.
+fn start_two<R: Print + Wait>(
+    rt: &R,
+    desk: &Desk<SharedStore>,
+    one: &mut Pass<SharedStore>,
+    two: &mut Pass<SharedStore>,
+) -> Result<(), Failure>
+    requires one { desk_of one.old ≡ identity desk.now }
+    requires two { desk_of two.old ≡ identity desk.now }
+    ensures one { desk_of one.new ≡ identity desk.now }
+    ensures two { desk_of two.new ≡ identity desk.now }
+{
+    start_one(rt, desk, one, b"eth0", 16)?;
+    start_one(rt, desk, two, b"tty", 17)
+}
+
+// RS starts a driver.
+fn start_one<R: Print + Wait>(
+    rt: &R,
+    desk: &Desk<SharedStore>,
+    pass: &mut Pass<SharedStore>,
+    label: &[u8],
+    slot: u16,
+) -> Result<(), Failure>
+    requires { desk_of pass.old ≡ identity desk.now }
+    ensures { desk_of pass.new ≡ identity desk.now }
+{
+    match driver_of(label, slot) {
+        Some(driver) => call(rt, desk, pass, start(&driver)),
+        None => Err(Failure::NoRoom),
+    }
+}
+
+// What the last two servers are owed, and one that isn't there.
+fn take_from_14_on<R: Print>(
+    rt: &R,
+    desk: &Desk<SharedStore>,
+    pass: &mut Pass<SharedStore>,
+) -> Result<(), Failure>
+    requires { desk_of pass.old ≡ identity desk.now }
+    ensures { desk_of pass.new ≡ identity desk.now }
+{
+    take(rt, desk, pass, 14)?;
+    take(rt, desk, pass, 15)?;
+    take(rt, desk, pass, 16)
 }

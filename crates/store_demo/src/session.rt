@@ -56,7 +56,7 @@ enum Block {
 pub(crate) struct Session {
     pub(crate) alloc: Global,
     pub(crate) map: Option<SubMap>,
-    store: Option<Store>,
+    store: Option<Box<Store>>,
     block: Option<Block>,
 }
 
@@ -115,6 +115,9 @@ fn open(rt: &impl Runtime, session: &mut Session, words: &str) -> Result<(), Fai
     let (incarnation, first, ring) = (number(incarnation)?, number(first)?, number(ring)?);
     match Store::open_with(session.alloc, incarnation, first, ring, limits) {
         Ok(store) => {
+            let Ok(store) = Box::new(session.alloc, store) else {
+                return Err(Failure::NoRoom);
+            };
             session.store = Some(store);
             print_held(rt, session)
         }
@@ -133,7 +136,10 @@ fn number<T: FromStr>(word: &str) -> Result<T, Failure>
 where
     T::Err: Drop,
 {
-    word.parse().ok().ok_or(Failure::BadLine)
+    match word.parse() {
+        Ok(number) => Ok(number),
+        Err(_) => Err(Failure::BadLine),
+    }
 }
 
 // The command of a line of a script.
