@@ -1,0 +1,54 @@
+"""What `dsctl` says was expected where a line can't be read: each part of a line, as docs/formats.md names it."""
+import behaviour
+import harness
+
+# A first line, the byte where its first part begins that can't be read, and how what is said of it begins.
+PARTS = [
+    (b"", 0, b"a command was expected"),
+    (b"offer", 5, b"a space was expected"),
+    (b"show ", 4, b"the end of the line was expected"),
+    (b"a" * 4097, 4096, b"a line has at most 4096 bytes"),
+    (b"offer ?", 6, b"NAME was expected"),
+    (b"page * a 1", 9, b"KIND was expected"),
+    (b"offer ! ", 8, b"OWNER was expected"),
+    (b"offer a u32 o 01.0 = 1", 14, b"EPOCH was expected"),
+    (b"offer a u32 o 1-0 = 1", 15, b"a dot was expected"),
+    (b"offer a u32 o 1.- = 1", 16, b"SEQ was expected"),
+    (b"offer a u32 o 1.0 : 1", 18, b"`=` and a value, or `-` for a tombstone, was expected"),
+    (b"offer a label rs 1.0 = 2/16", 23, b"VALUE was expected, GENERATION/SLOT"),
+    (b"offer a u32 o 1.0 = x", 20, b"VALUE was expected, 0 to 4294967295"),
+    (b"offer a str o 1.0 = up", 20, b"VALUE was expected, up to 256 printable characters"),
+    (b"offer a mem o 1.0 = 0", 20, b"VALUE was expected, up to 1024 bytes"),
+    (b"sweep rs eth0 3", 6, b"CALLER was expected"),
+    (b"nameof rs", 7, b"ENDPOINT was expected"),
+    (b"publish 0/2 old a u32 0.0 = 1", 12, b"`new` or `over` was expected"),
+    (b"publish 0/2 new a u32 0.0 -", 26, b"`=` and a value were expected"),
+    (b"offer ! eth0 03", 13, b"GENERATION was expected"),
+    (b"check x 1", 6, b"SUB was expected"),
+    (b"since * 1 0 4294967296", 12, b"MAX was expected"),
+    (b"map a 15", 4, b"PATTERN was expected"),
+    (b'snapshot ".*" 16', 14, b"KINDS was expected"),
+    (b'subscribe 0 "a" 1 never new', 18, b"`first` or `later` was expected"),
+    (b"clear m1", 6, b"J was expected"),
+    (b"ring 4097", 5, b"N was expected"),
+    (b"side ax", 5, b"`a` or `b` was expected"),
+    (b"restart a -", 10, b"INCARNATION was expected"),
+    (b"since * 1 - 8", 10, b"POSITION was expected"),
+    (b"since a 1 0 8", 6, b"SCOPE was expected"),
+    (b"page * ,", 7, b"AFTER was expected"),
+    (b"deliver x a *", 8, b"K was expected"),
+    (b"deliver 0 m01 *", 10, b"HOLDER was expected"),
+    (b"deliver 0 a 4294967296", 12, b"COUNT was expected"),
+]
+
+
+def says_which_part_was_expected(program):
+    """Of each part that can't be read, standard error names the byte and what was expected there."""
+    for line, place, words in PARTS:
+        ran = harness.run([program], line + b"\n")
+        behaviour.expect(ran, b"badline 1 %d\n" % place, 1)
+        told = b"line 1, byte %d: %s" % (place, words)
+        assert ran.error.startswith(told), f"{line[:60]!r}: standard error is {ran.error!r}, wanted {told!r}"
+
+
+ALL = [says_which_part_was_expected]
