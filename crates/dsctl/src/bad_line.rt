@@ -104,6 +104,11 @@ fn explain_word(rt: &impl Runtime, number: u64, text: &[u8]) {
     }
     let shown = Plain(&word[..word.len().min(FROM)]);
     match nearest(word) {
+        Some(command) if command.as_bytes() == word => {
+            let _ = eprintln!(rt;
+                "line {number}, byte 0: `{command}` stands on the first line alone"
+            );
+        }
         Some(command) => {
             let _ = eprintln!(rt;
                 "line {number}, byte 0: `{shown}` is no command, the nearest is `{command}`: see --help"

@@ -23,7 +23,9 @@ pub(crate) fn open_two(
     ensures { IfSome result (λ d. (desk_of d.1 ≡ identity d.0) × (desk_of d.2 ≡ identity d.0)) }
 {
     let shared = SharedStore::of(alloc, Store::open(alloc, 1, position, 256).ok()?).ok()?;
-    let (desk, mut passes) = Desk::<SharedStore>::open(alloc, shared, 2, place).ok()?;
+    let Ok((desk, mut passes)) = Desk::<SharedStore>::open(alloc, shared, 2, place) else {
+        return None;
+    };
     let two = passes.pop()?;
     let one = passes.pop()?;
     Some((desk, one, two))
