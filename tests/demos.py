@@ -113,6 +113,17 @@ def cause_fault(refuser, room, it):
     return None
 
 
+def ample_fault(refuser, room, it):
+    """Says what is wrong with the answer to the command of a causes.Case with ample memory, or answers None."""
+    given = pathlib.Path(room) / it.name.replace(" ", "_")
+    given.write_bytes(it.text())
+    ran, _ = refuser.run(harness.Case(it.name, [], given, b""))
+    if (ran.status, ran.error) != (0, b""):
+        return f"status {ran.status}, standard error {ran.error[:200]!r}"
+    answered = ran.output.decode().splitlines()
+    return None if answered[-len(it.ample) :] == it.ample else f"it ended with {answered[-3:]}, wanted {it.ample[-3:]}"
+
+
 def report(program, long, short, others=()):
     """Compares the long scripts and the short ones, each with its name, refuses the short ones memory, and reports.
 
