@@ -1,4 +1,4 @@
-//! With ample memory texts and blobs are read, every copy is made and every change is kept.
+//! With ample memory every copy is made and every change is kept.
 
 use ds_entry::{Blob, Body, Change, Items, Text, Value};
 use ds_names::{Generation, Key, Kind, Name, Version};
@@ -52,20 +52,4 @@ fn copies_are_the_same(rt: HostRuntime) {
     let again = items.copy(alloc).expect(&rt, "memory");
     assert!(rt; again.len() == 4);
     assert!(rt; again == items);
-}
-
-#[test]
-fn the_longest_text_is_read_and_copied(rt: HostRuntime) {
-    let longest = [b'~'; 256];
-    let text = text(&rt, rt.alloc(), &longest);
-    assert!(rt; text.bytes() == longest.as_slice());
-    assert!(rt; text.copy(rt.alloc()).expect(&rt, "memory") == text);
-}
-
-#[test]
-fn the_longest_blob_is_read_and_copied(rt: HostRuntime) {
-    let longest = [0xff; 1024];
-    let blob = blob(&rt, rt.alloc(), &longest);
-    assert!(rt; blob.bytes() == longest.as_slice());
-    assert!(rt; blob.copy(rt.alloc()).expect(&rt, "memory") == blob);
 }

@@ -1,8 +1,7 @@
 //! With ample memory floors are read, written and copied beside changes.
 
-use ds_entry::{Floor, Item};
+use ds_entry::Item;
 use ds_line::{read_item, write_item};
-use ds_names::{Generation, Name};
 use std::alloc::Global;
 use std::process::Abort;
 
@@ -28,15 +27,6 @@ fn floors_and_changes_are_read_and_written(rt: HostRuntime) {
     written_again(&rt, rt.alloc(), b"! eth0 2097151\n");
     written_again(&rt, rt.alloc(), b"mtu u32 eth0 3.0 = 1500\n");
     written_again(&rt, rt.alloc(), b"motd str eth0 3.1 = \"!\"\n");
-}
-
-#[test]
-fn a_floor_is_an_owner_and_a_generation(rt: HostRuntime) {
-    let floor = Floor {
-        owner: Name::read(b"eth0").expect(&rt, "a name"),
-        generation: Generation::of(3).expect(&rt, "a generation"),
-    };
-    assert!(rt; item(&rt, rt.alloc(), b"! eth0 3\n") == Item::Floor(floor));
 }
 
 // Whether the item of the one line covers that of the other.
