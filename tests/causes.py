@@ -186,21 +186,21 @@ ANOTHER = "offer " + NEW + "\n"
 TTY_ENDS = "offer ! tty 3\n"
 
 SINCE = [
-    case("toomany of none", begins(0), f'since 2 0 0 "{LONG}" 15', "refused toomany"),
-    case("toomany", begins(0), f'since 2 0 257 "{LONG}" 15', "refused toomany"),
-    case("toolong", begins(0), f'since 2 0 1 "{LONG}" 15', "refused toolong"),
-    case("badpattern by a byte", begins(0), 'since 2 0 1 "\x01" 15', "refused badpattern"),
-    case("badpattern", begins(0), 'since 2 0 1 "(" 15', "refused badpattern", "refused badpattern", NOROOM),
-    case("oldcursor", begins(1) + HELD, f"since 2 {LAST + 1} 1 *", "refused oldcursor"),
-    case("oldcursor, with a pattern", begins(1) + HELD, f'since 2 {LAST + 1} 1 "id" 15', "refused oldcursor", NOROOM),
-    case("ahead", begins(1) + HELD, f"since 1 {LAST + 1} 1 *", "refused ahead"),
-    case("behind", begins(2) + "ring 1\n" + HELD + TTY_ENDS, f"since 1 {LAST - 2} 1 *", "refused behind"),
-    case("behind, with a pattern", begins(2) + "ring 1\n" + HELD + TTY_ENDS, f'since 1 {LAST - 2} 1 "id" 15', "refused behind", NOROOM),
-    case("behind the first position", begins(1) + HELD, f"since 1 {LAST - 2} 1 *", "refused behind"),
-    case("of nothing", begins(1) + HELD, f"since 1 {LAST} 1 *", f"since 0 1 {LAST}"),
-    case("of a text", HELD, "since 1 0 1 *", SAME + "\nsince 1 1 1", NOROOM),
-    case("of the last in the ring", "ring 1\n" + HELD + TTY_ENDS, "since 1 1 8 *", "! tty 3\nsince 1 1 2", NOROOM),
-    case("of a floor alone", HELD + TTY_ENDS, 'since 1 0 8 "tty" 1', "! tty 3\nsince 1 1 2", NOROOM),
+    case("toomany of none", begins(0), f'since "{LONG}" 15 2 0 0', "refused toomany"),
+    case("toomany", begins(0), f'since "{LONG}" 15 2 0 257', "refused toomany"),
+    case("toolong", begins(0), f'since "{LONG}" 15 2 0 1', "refused toolong"),
+    case("badpattern by a byte", begins(0), 'since "\x01" 15 2 0 1', "refused badpattern"),
+    case("badpattern", begins(0), 'since "(" 15 2 0 1', "refused badpattern", "refused badpattern", NOROOM),
+    case("oldcursor", begins(1) + HELD, f"since * 2 {LAST + 1} 1", "refused oldcursor"),
+    case("oldcursor, with a pattern", begins(1) + HELD, f'since "id" 15 2 {LAST + 1} 1', "refused oldcursor", NOROOM),
+    case("ahead", begins(1) + HELD, f"since * 1 {LAST + 1} 1", "refused ahead"),
+    case("behind", begins(2) + "ring 1\n" + HELD + TTY_ENDS, f"since * 1 {LAST - 2} 1", "refused behind"),
+    case("behind, with a pattern", begins(2) + "ring 1\n" + HELD + TTY_ENDS, f'since "id" 15 1 {LAST - 2} 1', "refused behind", NOROOM),
+    case("behind the first position", begins(1) + HELD, f"since * 1 {LAST - 2} 1", "refused behind"),
+    case("of nothing", begins(1) + HELD, f"since * 1 {LAST} 1", f"since 0 1 {LAST}"),
+    case("of a text", HELD, "since * 1 0 1", SAME + "\nsince 1 1 1", NOROOM),
+    case("of the last in the ring", "ring 1\n" + HELD + TTY_ENDS, "since * 1 1 8", "! tty 3\nsince 1 1 2", NOROOM),
+    case("of a floor alone", HELD + TTY_ENDS, 'since "tty" 1 1 0 8', "! tty 3\nsince 1 1 2", NOROOM),
 ]
 
 SNAPSHOT = [
@@ -214,23 +214,23 @@ SNAPSHOT = [
 ]
 
 PAGE = [
-    case("toomany of none", begins(0), f'page 0 - "{LONG}" 15', "refused toomany"),
-    case("toomany", begins(0), f'page 257 - "{LONG}" 15', "refused toomany"),
-    case("toolong", begins(0), f'page 1 - "{LONG}" 15', "refused toolong"),
-    case("badpattern by a byte", begins(0), 'page 1 - "\x01" 15', "refused badpattern"),
-    case("badpattern", begins(0), 'page 1 - "(" 15', "refused badpattern", "refused badpattern", NOROOM),
-    case("of nothing", begins(1) + HELD, "page 1 id str *", f"page 0 last 1 {LAST}"),
-    case("of a floor and one change of two", HELD + ANOTHER + TTY_ENDS, "page 1 - *", "! tty 3\n" + SAME + "\npage 2 more 1 3", NOROOM),
-    case("of the other one", HELD + ANOTHER + TTY_ENDS, "page 1 id str *", NEW + "\npage 1 last 1 3", NOROOM),
-    case("of one, with a pattern", HELD + ANOTHER + TTY_ENDS, 'page 1 a u32 "i." 4', SAME + "\npage 1 last 1 3", NOROOM),
+    case("toomany of none", begins(0), f'page "{LONG}" 15 - 0', "refused toomany"),
+    case("toomany", begins(0), f'page "{LONG}" 15 - 257', "refused toomany"),
+    case("toolong", begins(0), f'page "{LONG}" 15 - 1', "refused toolong"),
+    case("badpattern by a byte", begins(0), 'page "\x01" 15 - 1', "refused badpattern"),
+    case("badpattern", begins(0), 'page "(" 15 - 1', "refused badpattern", "refused badpattern", NOROOM),
+    case("of nothing", begins(1) + HELD, "page * id str 1", f"page 0 last 1 {LAST}"),
+    case("of a floor and one change of two", HELD + ANOTHER + TTY_ENDS, "page * - 1", "! tty 3\n" + SAME + "\npage 2 more 1 3", NOROOM),
+    case("of the other one", HELD + ANOTHER + TTY_ENDS, "page * id str 1", NEW + "\npage 1 last 1 3", NOROOM),
+    case("of one, with a pattern", HELD + ANOTHER + TTY_ENDS, 'page "i." 4 a u32 1', SAME + "\npage 1 last 1 3", NOROOM),
 ]
 
-AFTER_RESTART = "retrieve id str\ncheck 0 1\nsnapshot *\nsince 1 0 1 *"
+AFTER_RESTART = "retrieve id str\ncheck 0 1\nsnapshot *\nsince * 1 0 1"
 FORGOTTEN = f"refused notfound\nrefused notfound\nsnapshot 0 2 {LAST - 3}\nrefused oldcursor"
 
 RESTART = [
-    case("of a store that holds something", begins(3) + SUB + HELD + TTY_ENDS, "restart 2\n" + AFTER_RESTART, "restarted\n" + FORGOTTEN),
-    case("at the last place", begins(1) + HELD, "restart 2\noffer id str eth0 3.1 -", "restarted\ntaken", "restarted\n" + NOROOM),
+    case("of a store that holds something", begins(3) + SUB + HELD + TTY_ENDS, "restart a 2\n" + AFTER_RESTART, "restarted\n" + FORGOTTEN),
+    case("at the last place", begins(1) + HELD, "restart a 2\noffer id str eth0 3.1 -", "restarted\ntaken", "restarted\n" + NOROOM),
 ]
 
 OFFER = [

@@ -1,0 +1,134 @@
+"""Answers come at once, usage is judged before input, and readers and writers that fail or are closed end the program by name."""
+import os
+import select
+import subprocess
+
+import harness
+
+from .running import answers, begin, end, expect
+from .samples import PUT, TOMBSTONE
+
+# ---- answers come at once ----
+
+
+def answers_each_line_before_the_next(program):
+    """Over a pipe, each answer comes before the next line is written."""
+    steps = [
+        (PUT, b"taken\n"),
+        (PUT, b"known\n"),
+        (b"show", b"eth0 label rs 3.0 = 3/17\n", b"shown 1\n"),
+        (TOMBSTONE, b"taken\n"),
+        (b"show", b"shown 0\n"),
+        (b"all", b"eth0 label rs 3.1 -\n", b"shown 1\n"),
+    ]
+    started = begin(program)
+    try:
+        for line, *wanted in steps:
+            started.stdin.write(line + b"\n")
+            answers(started, *wanted)
+    finally:
+        rest = end(started)
+    expect(rest, b"", 0)
+
+
+def waits_for_a_whole_line(program):
+    """A line that comes in pieces is answered once it is whole, and a bad one without waiting for another."""
+    started = begin(program)
+    try:
+        started.stdin.write(PUT + b"\n" + PUT[:9])
+        answers(started, b"taken\n")
+        assert not select.select([started.stdout], [], [], 0.2)[0], "half a line was answered"
+        started.stdin.write(PUT[9:] + b"\nshow")
+        answers(started, b"known\n")
+        started.stdin.write(b"x\n")
+        answers(started, b"badline 3 0\n")
+    finally:
+        rest = end(started)
+    expect(rest, b"", 1, b"line 3, byte 0: `showx` is no command, the nearest is `show`: see --help\n")
+
+
+def judges_usage_before_input(program):
+    """A usage fault ends the program while its input is still open and empty."""
+    started = begin(program, ["settle"])
+    try:
+        status = started.wait(timeout=10)
+    finally:
+        started.kill()
+        started.communicate()
+    assert status == 2, f"status {status}"
+
+
+# ---- reading and writing that fails ----
+
+
+def a_reader_that_fails(program):
+    """A folder in place of the input, and one that was opened for writing alone."""
+    folder = os.open(os.path.dirname(__file__), os.O_RDONLY)
+    for stream in (folder, os.open(os.devnull, os.O_WRONLY)):
+        expect(end(begin(program, stdin=stream)), b"", 3, b"readfault\n")
+        os.close(stream)
+
+
+def a_reader_that_is_closed(program):
+    """No standard input at all."""
+    words = ["sh", "-c", 'exec "$0" <&-', program]
+    expect(harness.run(words, b""), b"", 3, b"readfault\n")
+
+
+def a_writer_that_is_full(program):
+    """Output that takes no bytes; a bad line can't be told there either."""
+    for script in (PUT + b"\n", b"show\n", b"bad\n", b"show"):
+        with open("/dev/full", "wb") as full:
+            expect(end(begin(program, stdout=full), script), None, 3, b"writefault\n")
+
+
+def a_writer_that_is_gone(program):
+    """A pipe whose reader has gone: a fault by name, and no signal."""
+    for script in (PUT + b"\n", PUT + b"\nbad\n", b"show\n" * 100000):
+        reading, writing = os.pipe()
+        os.close(reading)
+        started = begin(program, stdout=writing)
+        os.close(writing)
+        expect(end(started, script), None, 3, b"writefault\n")
+
+
+def a_writer_that_goes(program):
+    """A reader that goes after the first answer, while the input is still open."""
+    started = begin(program)
+    started.stdin.write(PUT + b"\n")
+    answers(started, b"taken\n")
+    started.stdout.close()
+    started.stdout = None
+    started.stdin.write(PUT + b"\n")
+    expect(end(started), None, 3, b"writefault\n")
+
+
+def a_writer_that_is_closed(program):
+    """No standard output at all: a fault as soon as there is something to write."""
+    words = ["sh", "-c", 'exec "$0" >&-', program]
+    expect(harness.run(words, PUT + b"\n"), b"", 3, b"writefault\n")
+    expect(harness.run(words, b""), b"", 0)
+
+
+def a_reader_that_does_not_wait(program):
+    """Standard input that is set not to block, and has nothing yet, is a read that failed."""
+    reader, writer = os.pipe()
+    os.set_blocking(reader, False)
+    try:
+        ran = subprocess.run([program], stdin=reader, capture_output=True, timeout=harness.SECONDS)
+    finally:
+        os.close(reader)
+        os.close(writer)
+    assert (ran.stdout, ran.returncode, ran.stderr) == (b"", 3, b"readfault\n"), f"{ran}"
+
+
+def a_writer_that_does_not_wait(program):
+    """Standard output that is set not to block, and is full, is a write that failed."""
+    reader, writer = os.pipe()
+    os.set_blocking(writer, False)
+    try:
+        ran = subprocess.run([program], input=PUT + b"\nshow" * 100000, stdout=writer, stderr=subprocess.PIPE, timeout=harness.SECONDS)
+    finally:
+        os.close(reader)
+        os.close(writer)
+    assert (ran.returncode, ran.stderr) == (3, b"writefault\n"), f"{ran}"
