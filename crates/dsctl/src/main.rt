@@ -1,17 +1,16 @@
 //! `dsctl`: the data store at the command line. It reads standard input and writes standard output.
 //!
-//! The program is thin: the words of the command line are `clap`'s, the work is `ds_script`'s and `rs_settings`'s, and
-//! what is left here is the printing of settings, what is said of a line that can't be read, and the choice of the exit
+//! The program is thin: the words of the command line are `clap`'s, the work is `ds_script`'s and `rs_settings`'s, what is said of
+//! a line that can't be read is `ds_explain`'s, and what is left here is the printing of settings and the choice of the exit
 //! status. 0: done. 1: refused input. 2: usage. 3: memory, reading or writing failed, and standard error says which.
 #![tactic(auto)]
 
-mod bad_line;
 mod help;
 mod settings;
 mod terminal;
 mod words;
 
-use bad_line::explain;
+use ds_explain::explain;
 use ds_script::{BadLine, BadLines, ReplayFault, Replayed, Report, replay_reporting};
 use std::io::{self, IsTerminal};
 use std::process::ExitCode;

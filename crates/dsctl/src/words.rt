@@ -67,27 +67,37 @@ const KEEP_GOING: &str = "keep-going";
 
 // The command line of the program.
 fn command<'a>(alloc: Global) -> Result<Command<'a>, AllocError> {
-    let keep_going = Arg::new(alloc, KEEP_GOING)
-        .long(KEEP_GOING)
-        .action(ArgAction::SetTrue)
-        .help(KEEP_GOING_ABOUT);
-    let replay = Command::new(alloc, "replay")
-        .arg(keep_going)?
-        .about("Answer a script; no subcommand means this one")
-        .after_help(LINES);
-    let settings = Command::new(alloc, "settings")
-        .about(SETTINGS_ABOUT)
-        .long_about(SETTINGS_LONG_ABOUT);
-    let program = Command::new(alloc, "dsctl")
+    let replay = replay(alloc)?;
+    let program = program(alloc).subcommand(replay)?;
+    program.subcommand(settings(alloc))
+}
+
+// The program, without its subcommands.
+fn program<'a>(alloc: Global) -> Command<'a> {
+    Command::new(alloc, "dsctl")
         .version("0.1.0")
         .about(ABOUT)
         .long_about(LONG_ABOUT)
         .after_help(LINES)
         .after_long_help(AFTER_HELP)
         .disable_help_subcommand(true)
-        .subcommand(replay)?
-        .subcommand(settings)?;
-    Ok(program)
+}
+
+fn replay<'a>(alloc: Global) -> Result<Command<'a>, AllocError> {
+    let keep_going = Arg::new(alloc, KEEP_GOING)
+        .long(KEEP_GOING)
+        .action(ArgAction::SetTrue)
+        .help(KEEP_GOING_ABOUT);
+    let replay = Command::new(alloc, "replay")
+        .about("Answer a script; no subcommand means this one")
+        .after_help(LINES);
+    replay.arg(keep_going)
+}
+
+fn settings<'a>(alloc: Global) -> Command<'a> {
+    Command::new(alloc, "settings")
+        .about(SETTINGS_ABOUT)
+        .long_about(SETTINGS_LONG_ABOUT)
 }
 
 // What somebody is told who may have named a file.

@@ -40,7 +40,7 @@ const FROM: usize = 28;
 
 /// Says on standard error which part was expected where a line can't be read; at a terminal, below the line and a
 /// caret. That standard error takes it isn't asked for.
-pub(crate) fn explain(rt: &impl Runtime, at_terminal: bool, bad: &BadLine<'_>) {
+pub fn explain(rt: &impl Runtime, at_terminal: bool, bad: &BadLine<'_>) {
     if at_terminal {
         show_place(rt, bad);
     }
