@@ -142,10 +142,7 @@ fn append_items(buffer: &mut Vec<u8>, items: &ItemList) -> Result<(), NoRoom>
     ensures unchanged { OnErr result (buffer.new.items ≡ buffer.old.items) }
 {
     let start = buffer.len();
-    for index in 0..items.len() {
-        let Some(item) = items.get(index) else {
-            unreachable!()
-        };
+    for item in items.as_slice() {
         if append_item(buffer, item).is_err() {
             buffer.truncate(start);
             return Err(NoRoom);
