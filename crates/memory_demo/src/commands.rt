@@ -3,7 +3,6 @@
 ghost use Rattle.ds_line.specs.LastNewline.{EndsLine};
 
 use crate::Failure;
-use crate::readers::{as_merge, read_own};
 use ds_entry::{ItemList, Value};
 use ds_machine::Command;
 use ds_names::{Endpoint, Key, Kind, Name, Version, read_decimal};
@@ -70,8 +69,6 @@ impl Script {
             as_merge(Command::Merge { items })
         } else if line == b"mismatch\n".as_slice() {
             as_merge(mismatch()?)
-        } else if let Some(own) = read_own(alloc, line)? {
-            own
         } else {
             let command = read(alloc, line)?;
             if let Some(items) = &mut self.merge {
@@ -118,8 +115,19 @@ fn push(items: &mut ItemList, command: ScriptCommand) -> Result<(), Failure> {
     }
 }
 
-// What a line of a script asks of a store.
+// A command whose reply is worded as a Merge's.
+fn as_merge(command: Command) -> Asked {
+    Asked::Command {
+        command,
+        wording: Wording::AsMerge,
+    }
+}
+
+// What a line of a script asks of the one store that there is.
 fn asked_by(alloc: Global, command: ScriptCommand) -> Result<Asked, Failure> {
+    if let ScriptCommand::Restart { incarnation, .. } = command {
+        return Ok(Asked::Restart { incarnation });
+    }
     let wording = command.wording();
     match command.into_store_command(alloc) {
         Ok(Some(command)) => Ok(Asked::Command { command, wording }),

@@ -3,16 +3,14 @@
 //! It reads lines, all of them first, makes the store's command of each, prints `ready`, and only then gives them to a store
 //! and prints the replies, as a script's are printed. So a growth of memory behind `ready` is one of the store's calls.
 //!
-//! Beside a script's lines there are, as the first ones, `first N`, where positions and stamps begin, and `ring N`, how many
-//! items the journal keeps, 256 where there is no such line; `merge`, offers and `end`, which are one Merge; `mismatch`, a
-//! Publish of a number under a key of another kind; `since INCARNATION POSITION MAX SCOPE`, `snapshot SCOPE` and `page MAX
-//! AFTER SCOPE`, where SCOPE is `*` or a pattern and kinds as a map has them, and AFTER is `-` or a name and a kind; and
-//! `restart INCARNATION`. Status 0: done. 1: a line that can't be read, or has no newline. 3: memory, reading or writing
-//! failed, and standard error says which.
+//! Beside a script's lines that ask a store there are, as the first ones, `first N`, where positions and stamps begin, and `ring
+//! N`, how many items the journal keeps, 256 where there is no such line; `merge`, offers and `end`, which are one Merge; and
+//! `mismatch`, a Publish of a number under a key of another kind. A `restart` is of the one store, whatever side it names. Status
+//! 0: done. 1: a line that can't be read, asks no store, or has no newline. 3: memory, reading or writing failed, and standard
+//! error says which.
 #![tactic(auto)]
 
 mod commands;
-mod readers;
 
 use commands::{Asked, Script};
 use ds_store::Store;

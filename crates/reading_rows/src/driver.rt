@@ -4,7 +4,6 @@ use ds_entry::Value;
 use ds_machine::Command;
 use ds_names::{Endpoint, Generation, Key, Kind, Name, Version};
 use ds_store::Store;
-use std::process::Abort;
 use whole_reading::Others;
 
 /// The driver, with the numbers that it still publishes, one whenever it is its turn.
@@ -34,66 +33,63 @@ impl Others for Driver {
     }
 }
 
-fn name(rt: &impl Abort, text: &[u8]) -> Name {
-    Name::read(text).expect(rt, "a name")
-}
-
-fn generation(rt: &impl Abort, number: u32) -> Generation {
-    Generation::of(number).expect(rt, "a generation")
-}
-
-fn number(rt: &impl Abort, text: &[u8]) -> Option<Key> {
+fn number(text: &[u8]) -> Option<Key> {
     Some(Key {
-        name: name(rt, text),
+        name: Name::read(text).ok()?,
         kind: Kind::U32,
     })
 }
 
-fn endpoint(rt: &impl Abort) -> Endpoint {
-    Endpoint::of(generation(rt, 3), 17).expect(rt, "an endpoint")
+/// The endpoint of `eth0` in generation 3.
+pub(crate) fn endpoint() -> Option<Endpoint> {
+    Endpoint::of(Generation::of(3)?, 17)
 }
 
-fn version(rt: &impl Abort) -> Version {
-    Version {
-        epoch: generation(rt, 3),
+/// The version of what it publishes first in that generation.
+pub(crate) fn version() -> Option<Version> {
+    Some(Version {
+        epoch: Generation::of(3)?,
         seq: 0,
-    }
+    })
 }
 
-/// The driver, which will publish `eth0.c` and `eth0.d`.
-pub(crate) fn eth0(rt: &impl Abort) -> Driver {
+/// The driver of an endpoint and a version, which will publish `eth0.c` and `eth0.d`.
+pub(crate) fn eth0(endpoint: Endpoint, version: Version) -> Driver {
     Driver {
-        endpoint: endpoint(rt),
-        version: version(rt),
-        next: number(rt, b"eth0.c"),
-        behind: number(rt, b"eth0.d"),
+        endpoint,
+        version,
+        next: number(b"eth0.c"),
+        behind: number(b"eth0.d"),
     }
 }
 
-fn publish(rt: &impl Abort, caller: Endpoint, text: &[u8], value: Value) -> Command {
-    Command::Publish {
+fn publish(store: &mut Store, caller: Endpoint, text: &[u8], value: Value) -> Option<()> {
+    let name = Name::read(text).ok()?;
+    let version = version()?;
+    store.apply(Command::Publish {
         caller,
         key: Key {
-            name: name(rt, text),
+            name,
             kind: value.kind(),
         },
-        version: version(rt),
+        version,
         value,
         overwrite: false,
-    }
+    });
+    Some(())
 }
 
-/// A store in which RS swept what generation 2 left and started generation 3, which published `eth0.a` and `eth0.b`.
-pub(crate) fn begun(rt: &(impl Abort + AllocGlobal), ring: u32) -> Store {
-    let mut store = Store::open(rt.alloc(), 1, 0, ring).expect(rt, "a store");
-    let caller = endpoint(rt);
+/// In the store RS sweeps what generation 2 left and starts generation 3, which publishes `eth0.a` and `eth0.b`.
+pub(crate) fn begin(store: &mut Store) -> Option<()> {
+    let owner = Name::read(b"eth0").ok()?;
+    let generation = Generation::of(2)?;
+    let caller = endpoint()?;
     store.apply(Command::Sweep {
         caller: Endpoint::rs(),
-        owner: name(rt, b"eth0"),
-        generation: generation(rt, 2),
+        owner,
+        generation,
     });
-    store.apply(publish(rt, Endpoint::rs(), b"eth0", Value::Label(caller)));
-    store.apply(publish(rt, caller, b"eth0.a", Value::U32(1)));
-    store.apply(publish(rt, caller, b"eth0.b", Value::U32(2)));
-    store
+    publish(store, Endpoint::rs(), b"eth0", Value::Label(caller))?;
+    publish(store, caller, b"eth0.a", Value::U32(1))?;
+    publish(store, caller, b"eth0.b", Value::U32(2))
 }

@@ -1,21 +1,30 @@
-//! What a service is given, in short.
+//! What a service is told, in words.
 
 use ds_entry::{Item, ItemList};
+use std::alloc::Global;
+use whole_reading::ReadFault;
 
-// The name of a change's key, or the owner of a floor.
-fn is_named(item: Option<&Item>, wanted: &[u8]) -> bool {
-    match item {
-        Some(Item::Change(change)) => change.key().name.bytes() == wanted,
-        Some(Item::Floor(floor)) => floor.owner.bytes() == wanted,
-        None => false,
+/// The names of the items behind the word `items`, or why the reader gave up. `None` where memory is wanting.
+pub(crate) fn tell(alloc: Global, read: &Result<ItemList, ReadFault>) -> Option<String> {
+    match read {
+        Ok(items) => names_of(alloc, items),
+        Err(ReadFault::Refused(refusal)) => format!(in alloc; "refused: {refusal}").ok(),
+        Err(fault) => format!(in alloc; "{fault}").ok(),
     }
 }
 
-/// Whether the items have these names, in this order, and the first is a floor.
-pub(crate) fn are_named(items: &ItemList, wanted: &[&[u8]]) -> bool {
-    let mut same = items.len() == wanted.len() && matches!(items.get(0), Some(Item::Floor(_)));
-    for (index, name) in wanted.iter().enumerate() {
-        same = same && is_named(items.get(index), name);
+// The name of each change's key, and the owner of each floor behind `!`, in their order.
+fn names_of(alloc: Global, items: &ItemList) -> Option<String> {
+    let mut names = String::new(alloc);
+    names.push_str("items").ok()?;
+    for item in items.as_slice() {
+        let (word, name) = match item {
+            Item::Change(change) => (" ", change.key().name),
+            Item::Floor(floor) => (" !", floor.owner),
+        };
+        let text = str::from_utf8(name.bytes()).ok()?;
+        names.push_str(word).ok()?;
+        names.push_str(text).ok()?;
     }
-    same
+    Some(names)
 }

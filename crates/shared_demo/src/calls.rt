@@ -22,13 +22,38 @@ pub(crate) fn open_two(
 ) -> Option<(Desk<SharedStore>, Pass<SharedStore>, Pass<SharedStore>)>
     ensures { IfSome result (λ d. (desk_of d.1 ≡ identity d.0) × (desk_of d.2 ≡ identity d.0)) }
 {
-    let shared = SharedStore::of(alloc, Store::open(alloc, 1, position, 256).ok()?).ok()?;
+    let shared = shared_at(alloc, position)?;
     let Ok((desk, mut passes)) = Desk::<SharedStore>::open(alloc, shared, 2, place) else {
         return None;
     };
     let two = passes.pop()?;
     let one = passes.pop()?;
     Some((desk, one, two))
+}
+
+/// Asks to open a desk of so many passes, and prints why there is none and the position of the store that comes back.
+pub(crate) fn refuse(
+    rt: &impl Print,
+    alloc: Global,
+    passes: u32,
+    place: u64,
+) -> Result<(), Failure> {
+    let Some(shared) = shared_at(alloc, 7) else {
+        return Err(Failure::NoRoom);
+    };
+    let printed = match Desk::<SharedStore>::open(alloc, shared, passes, place) {
+        Ok(_) => println!(rt; "opened"),
+        Err(stop) => {
+            let (fault, position) = (stop.fault, stop.machine.store.cursor().position);
+            println!(rt; "no desk: {fault}; the store is at {position}")
+        }
+    };
+    printed.map_err(|_| Failure::WriteFault)
+}
+
+// A new store for a desk, which begins at a position.
+fn shared_at(alloc: Global, position: u64) -> Option<SharedStore> {
+    SharedStore::of(alloc, Store::open(alloc, 1, position, 256).ok()?).ok()
 }
 
 /// Calls, and prints the answer.
@@ -51,6 +76,19 @@ pub(crate) fn call<R: Print + Wait>(
         }
         Err(fault) => tell_fault(rt, fault),
     }
+}
+
+/// Looks how far the history goes, and prints the first place behind what the pass has then seen.
+pub(crate) fn look<R: Print>(
+    rt: &R,
+    desk: &Desk<SharedStore>,
+    pass: &mut Pass<SharedStore>,
+) -> Result<(), Failure>
+    requires { desk_of pass.old ≡ identity desk.now }
+    ensures { desk_of pass.new ≡ identity desk.now }
+{
+    let front = desk.front(pass);
+    println!(rt; "front {front}").map_err(|_| Failure::WriteFault)
 }
 
 /// Takes what a server is owed, and prints it.

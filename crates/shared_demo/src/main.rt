@@ -1,10 +1,11 @@
 //! `shared_demo`: two passes of one desk call a data store in turn, for tests.
 //!
-//! Each line of standard input names a row. `notice`: a follower's bit is raised by one pass, found set by the other, and
-//! taken; then the desk is closed, where a note is out, where a pass is out, and where neither is. `last`: the last place
-//! of a desk is used, and then the last position of a store. `bits`: the last subscription is owed a notice. Each call
-//! prints a line. Status 0: done. 1: a line that can't be read. 3: memory, reading or writing failed, or a pass was refused
-//! a note, and standard error says which.
+//! Each line of standard input names a row. `notice`: a follower's bit is raised by one pass and found set by the other, whose
+//! call the first then sees by a look; the bit is taken once; the desk refuses to close while a note is out and while a pass is
+//! out, and then closes. `last`: the last place of a desk is used; at another desk the store's last position was used before.
+//! `bits`: the last subscription is owed a notice, and there is no server behind its own. `none`: what opens no desk. Each call
+//! prints a line. Status 0: done. 1: a line that can't be read. 3: memory, reading or writing failed, or a pass was refused a
+//! note, and standard error says which.
 #![tactic(auto)]
 
 mod calls;
@@ -50,6 +51,7 @@ fn run<R: Runtime + AllocGlobal + Wait>(rt: &R) -> Result<ExitCode, Failure> {
             "notice" => rows::notice(rt, rt.alloc())?,
             "last" => rows::last(rt, rt.alloc())?,
             "bits" => rows::bits(rt, rt.alloc())?,
+            "none" => rows::none(rt, rt.alloc())?,
             _ => return Ok(ExitCode::from(1)),
         }
     }

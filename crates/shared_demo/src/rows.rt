@@ -5,7 +5,9 @@ ghost use Rattle.desk.specs.Desk.{identity};
 ghost use Rattle.desk.specs.Pass.{desk_of};
 
 use crate::Failure;
-use crate::calls::{call, close_one, close_two, open_two, take, tell_closed, tell_fault};
+use crate::calls::{
+    call, close_one, close_two, look, open_two, refuse, take, tell_closed, tell_fault,
+};
 use crate::commands::{driver_of, everything, follow, start};
 use desk::{Desk, Pass};
 use ds_shared::SharedStore;
@@ -15,8 +17,8 @@ use std::sync::Wait;
 // The last place of a desk.
 const LAST: u64 = (1 << 62) - 1;
 
-/// A follower's bit is raised by one pass, found pending by the other, and taken once; a note that isn't learnt and a pass
-/// that is out keep the desk open.
+/// A follower's bit is raised by one pass, found pending by the other, whose call the first sees by a look, and taken once; a
+/// note that isn't learnt and a pass that is out keep the desk open.
 pub(crate) fn notice<R: Print + Wait>(rt: &R, alloc: Global) -> Result<(), Failure> {
     let query = everything(alloc)?;
     let Some((desk, mut one, mut two)) = open_two(alloc, 0, 0) else {
@@ -24,6 +26,7 @@ pub(crate) fn notice<R: Print + Wait>(rt: &R, alloc: Global) -> Result<(), Failu
     };
     call(rt, &desk, &mut one, follow(query, 0))?;
     start_two(rt, &desk, &mut one, &mut two)?;
+    look(rt, &desk, &mut one)?;
     take(rt, &desk, &mut one, 0)?;
     take(rt, &desk, &mut one, 0)?;
     close_when_learnt(rt, alloc, desk, one, two)
@@ -112,6 +115,13 @@ pub(crate) fn bits<R: Print + Wait>(rt: &R, alloc: Global) -> Result<(), Failure
     start_one(rt, &desk, &mut two, b"eth0", 16)?;
     take_from_14_on(rt, &desk, &mut one)?;
     close_and_tell(rt, alloc, desk, one, two)
+}
+
+/// No pass, one more than there may be, and a first place too far open no desk, and the store comes back.
+pub(crate) fn none(rt: &impl Print, alloc: Global) -> Result<(), Failure> {
+    refuse(rt, alloc, 0, 0)?;
+    refuse(rt, alloc, 65, LAST + 2)?;
+    refuse(rt, alloc, 1, LAST + 2)
 }
 
 // Each pass has RS start a driver.
