@@ -9,66 +9,88 @@ use std::alloc::Global;
 // The labels that threads publish.
 const LABELS: [&[u8]; 4] = [b"disk", b"eth0", b"inet", b"tty"];
 
+/// A driver that RS started: its label, and its endpoint.
+#[derive(Clone, Copy)]
+pub(crate) struct Driver {
+    key: Key,
+    endpoint: Endpoint,
+}
+
+/// The driver of a label. `None` where there is no such label, generation or slot.
+pub(crate) fn driver_of(label: &[u8], generation: u32, slot: u16) -> Option<Driver> {
+    let key = Key {
+        name: Name::read(label).ok()?,
+        kind: Kind::Label,
+    };
+    let endpoint = Endpoint::of(Generation::of(generation)?, slot)?;
+    Some(Driver { key, endpoint })
+}
+
 /// The command of a thread that had seen so many calls at this turn of its own: now and then it follows everything, asks for
 /// a page, a value or a name, or is shown what it follows, and else it publishes a label, of which others may know a later
 /// generation. `None` where memory is wanting.
 pub(crate) fn command_of(alloc: Global, seen: u64, turn: u32) -> Option<Command> {
     let round = turn / 16;
-    let label = LABELS[(round % 4) as usize];
     let generation = 1 + (seen % 1_000_000) as u32;
-    let slot = (turn % 16) as u16;
-    match turn % 16 {
-        0 => follow(alloc, round % 128),
-        3 => Some(Command::Page {
+    let driver = driver_of(LABELS[(round % 4) as usize], generation, (turn % 16) as u16)?;
+    if turn % 16 == 0 {
+        return Some(follow(everything(alloc)?, round % 128));
+    }
+    Some(ask(&driver, turn % 16, round))
+}
+
+// What a turn that isn't the first of its round asks.
+fn ask(driver: &Driver, turn: u32, round: u32) -> Command {
+    match turn {
+        3 => Command::Page {
             scope: Scope::All,
             after: None,
             max: 1 + round % 4,
-        }),
-        5 => Some(Command::Check {
+        },
+        5 => Command::Check {
             sub: round % 128,
             max: 1 + round % 4,
-        }),
-        9 => Some(Command::Retrieve {
-            key: label_key(label)?,
-        }),
-        12 => Some(Command::NameOf {
-            endpoint: Endpoint::of(Generation::of(generation)?, slot)?,
-        }),
-        _ => start(label, generation, slot),
+        },
+        9 => Command::Retrieve { key: driver.key },
+        12 => Command::NameOf {
+            endpoint: driver.endpoint,
+        },
+        _ => start(driver),
     }
 }
 
-/// A subscription to everything that comes later, over one of this number. `None` where memory is wanting.
-pub(crate) fn follow(alloc: Global, sub: u32) -> Option<Command> {
-    let query = Query {
-        text: PatternText::of(alloc, b".*").ok()?,
-        kinds: Kinds::of(15)?,
-    };
-    Some(Command::Subscribe {
+/// A query of everything. `None` where memory is wanting.
+pub(crate) fn everything(alloc: Global) -> Option<Query> {
+    let kinds = Kinds::of(15)?;
+    let text = PatternText::of(alloc, b".*").ok()?;
+    Some(Query { text, kinds })
+}
+
+/// A subscription to what comes later under a query, over one of this number.
+pub(crate) fn follow(query: Query, sub: u32) -> Command {
+    Command::Subscribe {
         sub,
         query,
         initial: false,
         overwrite: true,
-    })
+    }
 }
 
-/// RS publishes the label of a driver, over that of an earlier generation. `None` where there is no such endpoint.
-pub(crate) fn start(label: &[u8], generation: u32, slot: u16) -> Option<Command> {
-    let endpoint = Endpoint::of(Generation::of(generation)?, slot)?;
-    Some(Command::Publish {
+/// RS publishes the label of a driver, over that of an earlier generation.
+pub(crate) fn start(driver: &Driver) -> Command {
+    Command::Publish {
         caller: Endpoint::rs(),
-        key: label_key(label)?,
+        key: driver.key,
         version: Version {
-            epoch: endpoint.generation(),
+            epoch: driver.endpoint.generation(),
             seq: 0,
         },
-        value: Value::Label(endpoint),
+        value: Value::Label(driver.endpoint),
         overwrite: true,
-    })
+    }
 }
 
-/// The label of the driver of a number, of which the last twelve digits stand in it: more than the places of all calls that
-/// 64 threads make take.
+/// The label of the driver of a number, with its last twelve digits: 64 threads make fewer calls than these can tell apart.
 pub(crate) fn label_of(number: u64) -> [u8; 18] {
     let mut label = *b"driver000000000000";
     let mut rest = number;
@@ -77,11 +99,4 @@ pub(crate) fn label_of(number: u64) -> [u8; 18] {
         rest /= 10;
     }
     label
-}
-
-fn label_key(label: &[u8]) -> Option<Key> {
-    Some(Key {
-        name: Name::read(label).ok()?,
-        kind: Kind::Label,
-    })
 }

@@ -64,8 +64,13 @@ pub(crate) fn overwrite_labels<R: Threads + Wait + Sync>(
         calls,
         overwrites: true,
     };
+    raised_by(&run_threads(rt, alloc, &desk, passes, task)?)
+}
+
+// How many bits the threads raised together. `None` where one of them ended early.
+fn raised_by(workers: &[StoreWorker]) -> Option<u64> {
     let mut raises = 0u64;
-    for worker in &run_threads(rt, alloc, &desk, passes, task)? {
+    for worker in workers {
         if !worker.done {
             return None;
         }

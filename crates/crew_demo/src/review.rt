@@ -20,6 +20,13 @@ pub(crate) struct Review {
 /// where memory is wanting here.
 pub(crate) fn compare_with_one(alloc: Global, crew: &Crew) -> Option<Review> {
     let mut store = Store::open(alloc, 1, 0, RING).ok()?;
+    let mut review = compare_each(alloc, &mut store, crew)?;
+    review.legal &= store.cursor().position == crew.position;
+    Some(review)
+}
+
+// Whether a new store answers each call so.
+fn compare_each(alloc: Global, store: &mut Store, crew: &Crew) -> Option<Review> {
     let mut legal = true;
     let mut noroom = 0u64;
     for (place, one) in (0u64..).zip(&crew.said) {
@@ -35,10 +42,7 @@ pub(crate) fn compare_with_one(alloc: Global, crew: &Crew) -> Option<Review> {
         }
         legal &= kept == one.kept;
     }
-    Some(Review {
-        legal: legal && store.cursor().position == crew.position,
-        noroom,
-    })
+    Some(Review { legal, noroom })
 }
 
 /// Whether in each row of the account raises are takes and what is pending, and all rows together are what the threads

@@ -4,7 +4,7 @@ ghost use Rattle.std.specs.Prelude.{◌≡◌};
 ghost use Rattle.desk.specs.Desk.{identity};
 ghost use Rattle.desk.specs.Pass.{desk_of};
 
-use crate::commands::{command_of, follow, label_of, start};
+use crate::commands::{command_of, driver_of, everything, follow, label_of, start};
 use crate::digest::Kept;
 use crate::task::Task;
 use desk::{Answer, Desk, Pass};
@@ -114,11 +114,12 @@ impl Worker<Pass<SharedStore>> {
         requires { desk_of self.old.pass ≡ identity desk.now }
         ensures { desk_of self.new.pass ≡ desk_of self.old.pass }
     {
-        let number = self.call(rt, desk, follow(alloc, 0)?)?.place;
+        let query = everything(alloc)?;
+        let number = self.call(rt, desk, follow(query, 0))?.place;
         let label = label_of(number);
         for turn in 0..calls {
-            let generation = 1 + turn % 2_000_000;
-            self.call(rt, desk, start(&label, generation, (number % 1000) as u16)?)?;
+            let driver = driver_of(&label, 1 + turn % 2_000_000, (number % 1000) as u16)?;
+            self.call(rt, desk, start(&driver))?;
         }
         Some(())
     }

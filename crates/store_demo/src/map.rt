@@ -34,16 +34,20 @@ pub(crate) fn take(
     let printed = match map.take(session.alloc, items) {
         Ok(Count { done, taken, stale }) => println!(rt; "taken {done} {taken} {stale}"),
         Err(Stop { done, fault }) => {
-            let word = match fault {
-                JoinFault::NotOwner => "notowner",
-                JoinFault::Clash { .. } => "clash",
-                JoinFault::Full => "full",
-                JoinFault::NoRoom => "noroom",
-            };
+            let word = word_of(fault);
             println!(rt; "stopped {done} {word}")
         }
     };
     Ok(printed?)
+}
+
+fn word_of(fault: JoinFault) -> &'static str {
+    match fault {
+        JoinFault::NotOwner => "notowner",
+        JoinFault::Clash { .. } => "clash",
+        JoinFault::Full => "full",
+        JoinFault::NoRoom => "noroom",
+    }
 }
 
 /// `entries`: the puts of the map, and how many changes it holds.
@@ -51,10 +55,8 @@ pub(crate) fn print_entries(rt: &impl Runtime, session: &Session) -> Result<(), 
     let map = session.map.as_ref().ok_or(Failure::BadLine)?;
     let entries = map.entries(session.alloc)?;
     let mut text = Vec::new(session.alloc);
-    for index in 0..entries.len() {
-        if let Some(item) = entries.get(index) {
-            append_item(&mut text, item)?;
-        }
+    for item in entries.as_slice() {
+        append_item(&mut text, item)?;
     }
     print(rt, text.as_slice())?;
     let (shown, held) = (entries.len(), map.held().len());

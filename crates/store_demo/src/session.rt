@@ -36,7 +36,7 @@ impl From<AllocError> for Failure {
 }
 
 impl From<io::Error> for Failure {
-    // Of writing: what is read comes as lines, and a line that can't be read is told by `main`.
+    // Of writing: a read that fails is told by `main`.
     fn from(_: io::Error) -> Failure {
         Failure::WriteFault
     }
@@ -136,10 +136,7 @@ fn number<T: FromStr>(word: &str) -> Result<T, Failure>
 where
     T::Err: Drop,
 {
-    match word.parse() {
-        Ok(number) => Ok(number),
-        Err(_) => Err(Failure::BadLine),
-    }
+    word.parse().ok().ok_or(Failure::BadLine)
 }
 
 // The command of a line of a script.
