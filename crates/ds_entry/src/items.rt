@@ -1,96 +1,98 @@
-//! Lists of changes.
+//! Lists of items.
 
-ghost use Rattle.std.specs.Prelude.{◌≡◌, ◌++◌, ◌∷◌, [], All, List, length, slice_get, OnOk, IfErr, OnErr, IfOk};
+ghost use Rattle.std.specs.Prelude.{◌≡◌, ◌++◌, ◌∷◌, [], length, slice_get, OnOk, IfErr, OnErr, IfOk};
 ghost use Rattle.std.specs.Option.{option_copied};
-ghost use Rattle.ds_entry.specs.Change.{IsChange};
 
-use crate::change::Change;
+use crate::item::Item;
 use ds_names::NoRoom;
 use std::alloc::{AllocFailed, Global};
 use std::marker::Model;
 
-/// Changes in order, as replies and messages carry them. How it keeps them is its own affair.
+/// Items in order, as readers of a holder or a store are given them, and as messages carry them. How it keeps them is its own
+/// affair.
 #[derive(Debug, Drop)]
 pub struct Items {
-    changes: Vec<Change>,
+    items: Vec<Item>,
 }
 
 impl Model for Items {
-    ghost use Rattle.std.specs.Prelude.{All, List};
-    ghost use Rattle.ds_entry.specs.Change.{ChangeRecord, IsChange};
+    ghost use Rattle.std.specs.Prelude.{List};
+    ghost use Rattle.ds_entry.specs.declared.item.Item.{Item};
 
-    ghost Value = { List ChangeRecord };
+    ghost Value = { List Item };
 
-    ghost view = { λ a. a.changes.items };
-
-    ghost invariant = { λ a. All IsChange a.changes.items };
+    ghost view = { λ a. a.items.items };
 }
 
 impl Items {
-    /// A list of no changes. It takes no memory.
+    /// A list of no items. It takes no memory.
     pub fn new(alloc: Global) -> Items
         ensures { result ≡ [] }
     {
         Items {
-            changes: Vec::new(alloc),
+            items: Vec::new(alloc),
         }
     }
 
-    /// Adds a change at the end. Where there is no room, the list is unchanged and the error gives the
-    /// change back.
-    pub fn push(&mut self, change: Change) -> Result<(), AllocFailed<Change>>
-        ensures ok { OnOk result (self.new ≡ self.old ++ change ∷ []) }
+    /// Adds an item at the end. Where there is no room, the list is unchanged and the error gives the item back.
+    pub fn push(&mut self, item: Item) -> Result<(), AllocFailed<Item>>
+        ensures ok { OnOk result (self.new ≡ self.old ++ item ∷ []) }
         ensures err { OnErr result (self.new ≡ self.old) }
-        ensures back { IfErr result (λ back. back.value ≡ change) }
+        ensures back { IfErr result (λ back. back.value ≡ item) }
     {
-        let _key = change.key();
-        self.changes.push(change)
+        self.items.push(item)
     }
 
-    /// How many changes it has.
+    /// How many items it has.
     pub fn len(&self) -> usize
-        ensures count { result ≡ length self.now }
-        ensures changes { All IsChange self.now }
+        ensures { result ≡ length self.now }
     {
-        self.changes.len()
+        self.items.len()
     }
 
-    /// The change at an index from 0, `None` behind the last one.
-    pub fn get(&self, index: usize) -> Option<&Change>
+    /// The item at an index from 0, `None` behind the last one.
+    pub fn get(&self, index: usize) -> Option<&Item>
         ensures { option_copied result ≡ slice_get self.now index }
     {
-        self.changes.get(index)
+        self.items.get(index)
     }
 
-    /// The same changes again, in the same order.
-    pub fn copy(&self, alloc: Global) -> Result<Items, NoRoom>
-        ensures { IfOk result (λ items. items ≡ self.now) }
+    /// All of them, as a slice, of which parts can be lent.
+    pub fn as_slice(&self) -> &[Item]
+        ensures { result.now ≡ self.now }
     {
-        let mut changes = Vec::new(alloc);
-        for change in &self.changes {
-            changes.push(change.copy(alloc)?)?;
+        self.items.as_slice()
+    }
+
+    /// The same items again, in the same order.
+    pub fn copy(&self, alloc: Global) -> Result<Items, NoRoom>
+        ensures { IfOk result (λ copy. copy ≡ self.now) }
+    {
+        let mut items = Vec::new(alloc);
+        for item in &self.items {
+            items.push(item.copy(alloc)?)?;
         }
-        Ok(Items { changes })
+        Ok(Items { items })
     }
 }
 
 impl PartialEq for Items {
     ghost use Rattle.std.specs.Cmp.Lexicographic.{pointwise, lists_per};
-    ghost use Rattle.ds_entry.specs.contracts.change.ChangePartialEq.TheImpl.{ghosts as change};
-    ghost use Rattle.ds_entry.specs.contracts.change.ChangePartialEq.TheImpl.Laws.{laws-law};
+    ghost use Rattle.ds_entry.specs.contracts.item.ItemPartialEq.TheImpl.{ghosts as item};
+    ghost use Rattle.ds_entry.specs.contracts.item.ItemPartialEq.TheImpl.Laws.{laws-law};
 
-    ghost eq = { pointwise change.eq };
+    ghost eq = { pointwise item.eq };
 
     ghost laws = { lists_per laws-law };
 
     fn eq(&self, other: &Items) -> bool {
-        self.changes == other.changes
+        self.items == other.items
     }
 }
 
 impl Eq for Items {
     ghost use Rattle.std.proofs.lemmas.Cmp.{lists_equiv};
-    ghost use Rattle.ds_entry.specs.contracts.change.ChangeEq.TheImpl.Laws.{laws-law};
+    ghost use Rattle.ds_entry.specs.contracts.item.ItemEq.TheImpl.Laws.{laws-law};
 
     ghost laws = { lists_equiv laws-law };
 }

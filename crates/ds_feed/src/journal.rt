@@ -10,7 +10,7 @@ use crate::cursor::Cursor;
 use crate::reading::Since;
 use crate::scope::{AllKeys, KeyScope};
 use circular_buffer::HeapCircularBuffer;
-use ds_entry::{Item, ItemList};
+use ds_entry::{Item, Items};
 use ds_names::NoRoom;
 use std::alloc::Global;
 use std::marker::Model;
@@ -172,7 +172,7 @@ impl Journal {
         ensures scope { S.keeps scope.new ≡ S.keeps scope.old }
     {
         let start = self.start(cursor)?;
-        let mut items = ItemList::new(alloc);
+        let mut items = Items::new(alloc);
         let mut left = max;
         let mut next = start;
         while left > 0 {
@@ -209,7 +209,7 @@ fn add<S: KeyScope>(
     alloc: Global,
     scope: &mut S,
     item: &Item,
-    items: &mut ItemList,
+    items: &mut Items,
 ) -> Result<bool, NoRoom>
     ensures told { IfOk result (λ yes. yes ≡ passes (S.keeps scope.old) item.now) }
     ensures added { OnOk result (items.new ≡ items.old ++ filter (passes (S.keeps scope.old)) (item.now ∷ [])) }

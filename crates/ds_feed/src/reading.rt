@@ -1,12 +1,12 @@
 //! What readers of a store are given.
 
 use crate::cursor::Cursor;
-use ds_entry::ItemList;
+use ds_entry::Items;
 
 /// Items that took effect from a cursor on, in their order, and the cursor behind all that was looked at.
 #[derive(Debug, Drop)]
 pub struct Since {
-    pub items: ItemList,
+    pub items: Items,
     pub cursor: Cursor,
 }
 
@@ -14,7 +14,7 @@ pub struct Since {
 /// which the journal goes on.
 #[derive(Debug, Drop)]
 pub struct Snapshot {
-    pub items: ItemList,
+    pub items: Items,
     pub cursor: Cursor,
 }
 
@@ -22,7 +22,7 @@ pub struct Snapshot {
 /// which is behind no key, all floors before them.
 #[derive(Debug, Drop)]
 pub struct Page {
-    pub items: ItemList,
+    pub items: Items,
     /// Whether no more changes follow.
     pub last: bool,
     /// The cursor at the time of this page. What came between pages is in the journal from the first one's on.

@@ -22,7 +22,7 @@ use crate::list::{merge_copy, merge_into};
 use crate::order::{behind, change_at, first_of, name_of, nth};
 use crate::reading::copy_all;
 use crate::void::raise_into;
-use ds_entry::{Body, Change, Floor, ItemList, Value};
+use ds_entry::{Body, Change, Floor, Items, Value};
 use ds_join::{JoinFault, Merge, Stop};
 use ds_names::{Endpoint, Generation, Key, Name, NoRoom};
 use std::alloc::Global;
@@ -198,7 +198,7 @@ impl Held {
     }
 
     /// All that is held: the floors by the names of their owners, and then the changes in the order of the keys.
-    pub fn all(&self, alloc: Global) -> Result<ItemList, NoRoom>
+    pub fn all(&self, alloc: Global) -> Result<Items, NoRoom>
         ensures value { IfOk result (λ items. items ≡ held_items self.now) }
         ensures changes { All IsChange (held_changes self.now) }
     {

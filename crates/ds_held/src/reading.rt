@@ -4,12 +4,12 @@ ghost use Rattle.std.specs.Prelude.{◌≡◌, ◌++◌, map, IfOk, OnOk};
 ghost use Rattle.ds_held.specs.Held.{change_item};
 ghost use Rattle.ds_held.specs.Kept.{floored};
 
-use ds_entry::{Change, Floor, Item, ItemList};
+use ds_entry::{Change, Floor, Item, Items};
 use ds_names::NoRoom;
 use std::alloc::Global;
 
 // Adds the floors to a list of items.
-fn add_floors(items: &mut ItemList, floors: &[Floor]) -> Result<(), NoRoom>
+fn add_floors(items: &mut Items, floors: &[Floor]) -> Result<(), NoRoom>
     ensures { OnOk result (items.new ≡ items.old ++ map floored floors.now) }
 {
     for floor in floors {
@@ -19,7 +19,7 @@ fn add_floors(items: &mut ItemList, floors: &[Floor]) -> Result<(), NoRoom>
 }
 
 // Adds the changes to a list of items.
-fn add_changes(alloc: Global, items: &mut ItemList, changes: &[Change]) -> Result<(), NoRoom>
+fn add_changes(alloc: Global, items: &mut Items, changes: &[Change]) -> Result<(), NoRoom>
     ensures { OnOk result (items.new ≡ items.old ++ map change_item changes.now) }
 {
     for change in changes {
@@ -29,14 +29,10 @@ fn add_changes(alloc: Global, items: &mut ItemList, changes: &[Change]) -> Resul
 }
 
 // All of them, the floors first.
-pub(crate) fn copy_all(
-    alloc: Global,
-    floors: &[Floor],
-    changes: &[Change],
-) -> Result<ItemList, NoRoom>
+pub(crate) fn copy_all(alloc: Global, floors: &[Floor], changes: &[Change]) -> Result<Items, NoRoom>
     ensures { IfOk result (λ items. items ≡ map floored floors.now ++ map change_item changes.now) }
 {
-    let mut items = ItemList::new(alloc);
+    let mut items = Items::new(alloc);
     add_floors(&mut items, floors)?;
     add_changes(alloc, &mut items, changes)?;
     Ok(items)

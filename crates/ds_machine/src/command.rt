@@ -1,6 +1,6 @@
 //! What a store is asked.
 
-use ds_entry::{ItemList, Value};
+use ds_entry::{Items, Value};
 use ds_feed::Cursor;
 use ds_names::{Endpoint, Generation, Key, Name, Version};
 use ds_pattern::Query;
@@ -79,6 +79,6 @@ pub enum Command {
     },
     /// Takes over items that another holder gave, at most 256. No caller is asked.
     Merge {
-        items: ItemList,
+        items: Items,
     },
 }

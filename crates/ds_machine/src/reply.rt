@@ -4,7 +4,7 @@ ghost use Rattle.std.specs.Prelude.{◌≡◌};
 ghost use Rattle.ds_machine.specs.Owed.{owed_by};
 
 use crate::refusal::Refusal;
-use ds_entry::{ItemList, Value};
+use ds_entry::{Items, Value};
 use ds_feed::{Page, Since, Snapshot};
 use ds_names::Name;
 
@@ -35,7 +35,7 @@ pub enum Reply {
     /// What is shown, floors and tombstones too, with the subscription's stamp before and after: one stamp where nothing is
     /// shown.
     Checked {
-        items: ItemList,
+        items: Items,
         before: u64,
         after: u64,
     },

@@ -8,7 +8,7 @@ ghost use Rattle.ds_submap.specs.Map.{is_put as leaves_value};
 ghost use Rattle.ds_script.specs.Answer.{picked, shown};
 ghost use Rattle.ds_words.specs.Reply.{refused_noroom};
 
-use ds_entry::{Body, Item, ItemList};
+use ds_entry::{Body, Item, Items};
 use ds_held::Held;
 use ds_line::{append_all, append_item};
 use ds_names::NoRoom;
@@ -41,7 +41,7 @@ pub(crate) fn append_shown(
 
 /// Appends the lines of the items, or of the puts among them alone, `shown` and their number, or nothing where there is
 /// no room for all of it.
-pub(crate) fn append_items(items: &ItemList, output: &mut Vec<u8>, all: bool) -> Result<(), NoRoom>
+pub(crate) fn append_items(items: &Items, output: &mut Vec<u8>, all: bool) -> Result<(), NoRoom>
     ensures written { OnOk result (output.new.items ≡ output.old.items ++ shown (picked all items.now)) }
     ensures unwritten { OnErr result (output.new.items ≡ output.old.items) }
 {
@@ -56,7 +56,7 @@ pub(crate) fn append_items(items: &ItemList, output: &mut Vec<u8>, all: bool) ->
 }
 
 // The same, but some of it may stand where there is no room for all.
-fn append_lines(items: &ItemList, output: &mut Vec<u8>, all: bool) -> Result<(), NoRoom>
+fn append_lines(items: &Items, output: &mut Vec<u8>, all: bool) -> Result<(), NoRoom>
     ensures written { OnOk result (output.new.items ≡ output.old.items ++ shown (picked all items.now)) }
     ensures some { OnErr result ((part : List ℕ) × (output.new.items ≡ output.old.items ++ part)) }
 {
@@ -72,12 +72,7 @@ fn append_lines(items: &ItemList, output: &mut Vec<u8>, all: bool) -> Result<(),
 }
 
 // The line of the item at an index, if it is picked, and how many lines that is.
-fn append_nth(
-    items: &ItemList,
-    index: usize,
-    output: &mut Vec<u8>,
-    all: bool,
-) -> Result<usize, NoRoom>
+fn append_nth(items: &Items, index: usize, output: &mut Vec<u8>, all: bool) -> Result<usize, NoRoom>
     requires { index < length items.now }
     ensures item { IfOk result (λ count. (i : Item) × (slice_get items.now index ≡ Some i) × (count ≡ length (picked all (i ∷ []))) × (output.new.items ≡ output.old.items ++ flat_map item_spelling (picked all (i ∷ [])))) }
     ensures unwritten { OnErr result (output.new.items ≡ output.old.items) }

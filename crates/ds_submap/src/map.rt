@@ -14,7 +14,7 @@ ghost use Rattle.ds_submap.specs.Floors.{AreSwept, FloorsStand};
 
 use crate::count::Count;
 use crate::take::take_items;
-use ds_entry::{Body, Change, Item, ItemList, Value};
+use ds_entry::{Body, Change, Item, Items, Value};
 use ds_held::Held;
 use ds_join::Stop;
 use ds_names::{Endpoint, Key, Kind, Name, NoRoom};
@@ -69,7 +69,7 @@ impl SubMap {
     /// Known and stale items count as done, and so do those that are passed over. At the first change of a kind that the query
     /// names it takes memory to ask for names; a floor needs none of that. A change is copied only where it is taken. It stops
     /// at the first item that is refused, and those before it stand.
-    pub fn take(&mut self, alloc: Global, items: &ItemList) -> Result<Count, Stop>
+    pub fn take(&mut self, alloc: Global, items: &Items) -> Result<Count, Stop>
         ensures joined { IsTop (held_items self.new.held) (held_items self.old.held ++ under self.old.query (done_items result items.now)) }
         ensures counted { IfOk result (AreCounted self.old.query self.old.held items.now self.new.held) }
         ensures stopped { IfErr result (IsTakeStopped self.old.query self.old.held items.now self.new.held) }
@@ -129,12 +129,12 @@ impl SubMap {
     }
 
     /// The puts of what is held, in the order of their keys. None of them is one that a held floor makes void.
-    pub fn entries(&self, alloc: Global) -> Result<ItemList, NoRoom>
+    pub fn entries(&self, alloc: Global) -> Result<Items, NoRoom>
         ensures value { IfOk result (λ items. items ≡ entries_of (held_items self.now.held)) }
         ensures floors { IfOk result (AreSwept (held_items self.now.held)) }
         ensures items { IfOk result (λ items. All IsItem items) }
     {
-        let mut puts = ItemList::new(alloc);
+        let mut puts = Items::new(alloc);
         for index in 0..self.held.len() {
             let Some(change) = self.held.at(index) else {
                 unreachable!()

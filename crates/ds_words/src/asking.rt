@@ -6,7 +6,7 @@ ghost use Rattle.ds_words.specs.Command.{has_scope, is_plain, store_command};
 ghost use Rattle.ds_words.specs.Scope.{is_all, store_scope};
 
 use crate::command::ScriptCommand;
-use ds_entry::{Item, ItemList};
+use ds_entry::{Item, Items};
 use ds_machine::{Command, Scope};
 use ds_names::NoRoom;
 use ds_pattern::Query;
@@ -199,7 +199,7 @@ fn into_scope(scope: Option<Query>) -> Scope
 fn merge_of(alloc: Global, item: Item) -> Result<Command, NoRoom>
     ensures { IfOk result (λ command. command ≡ commands.Merge (item ∷ [])) }
 {
-    let mut items = ItemList::new(alloc);
+    let mut items = Items::new(alloc);
     items.push(item)?;
     Ok(Command::Merge { items })
 }

@@ -6,7 +6,7 @@ ghost use Rattle.ds_line.specs.ItemSpelling.{item_spelling};
 ghost use Rattle.ds_words.specs.Lines.{ended};
 ghost use Rattle.ds_words.specs.Reply.{checked, journaled, snapped, page_mark, paged};
 
-use ds_entry::ItemList;
+use ds_entry::Items;
 use ds_feed::{Page, Since, Snapshot};
 use ds_line::{append_all, append_item};
 use ds_names::NoRoom;
@@ -16,7 +16,7 @@ use itoa::Buffer;
 /// after, or nothing.
 pub(crate) fn append_checked(
     buffer: &mut Vec<u8>,
-    items: &ItemList,
+    items: &Items,
     before: u64,
     after: u64,
 ) -> Result<(), NoRoom>
@@ -123,7 +123,7 @@ fn page_mark(last: bool) -> &'static [u8]
 }
 
 // Appends the line of each item, and some texts behind them, or nothing.
-fn append_listed(buffer: &mut Vec<u8>, items: &ItemList, texts: &[&[u8]]) -> Result<(), NoRoom>
+fn append_listed(buffer: &mut Vec<u8>, items: &Items, texts: &[&[u8]]) -> Result<(), NoRoom>
     ensures written { OnOk result (buffer.new.items ≡ buffer.old.items ++ (flat_map item_spelling items.now ++ flat_map (λ text. text.now) texts.now)) }
     ensures unchanged { OnErr result (buffer.new.items ≡ buffer.old.items) }
 {
@@ -137,7 +137,7 @@ fn append_listed(buffer: &mut Vec<u8>, items: &ItemList, texts: &[&[u8]]) -> Res
 }
 
 // Appends the line of each item, or nothing.
-fn append_items(buffer: &mut Vec<u8>, items: &ItemList) -> Result<(), NoRoom>
+fn append_items(buffer: &mut Vec<u8>, items: &Items) -> Result<(), NoRoom>
     ensures written { OnOk result (buffer.new.items ≡ buffer.old.items ++ flat_map item_spelling items.now) }
     ensures unchanged { OnErr result (buffer.new.items ≡ buffer.old.items) }
 {

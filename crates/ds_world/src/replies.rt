@@ -5,7 +5,7 @@ ghost use Rattle.std.specs.Option.{option_copied};
 ghost use Rattle.ds_replica.specs.Happens.{gives_items, items_given};
 ghost use Rattle.ds_world.specs.World.{kept_items};
 
-use ds_entry::{Item, ItemList};
+use ds_entry::{Item, Items};
 use ds_machine::{Command, Reply};
 
 // Whether what a store gives to the command is kept as a message.
@@ -38,7 +38,7 @@ pub(crate) fn has_items(reply: &Reply) -> bool
 }
 
 // The items of a reply, `None` where it has none.
-fn items_of(reply: &Reply) -> Option<&ItemList>
+fn items_of(reply: &Reply) -> Option<&Items>
     ensures { option_copied result ≡ items_given reply.now }
 {
     match reply {

@@ -1,6 +1,6 @@
 //! With ample memory every copy is made and every change is kept.
 
-use ds_entry::{Blob, Body, Change, Items, Text, Value};
+use ds_entry::{Blob, Body, Change, Item, Items, Text, Value};
 use ds_names::{Generation, Key, Kind, Name, Version};
 use std::alloc::Global;
 use std::process::Abort;
@@ -31,7 +31,8 @@ fn blob(rt: &impl Abort, alloc: Global, bytes: &[u8]) -> Blob {
 fn add(rt: &impl Abort, alloc: Global, items: &mut Items, value: Value) {
     let copy = value.copy(alloc).expect(rt, "memory");
     assert!(rt; copy == value);
-    let pushed = items.push(change(rt, value.kind(), Body::Put(value)));
+    let put = change(rt, value.kind(), Body::Put(value));
+    let pushed = items.push(Item::Change(put));
     assert!(rt; pushed.is_ok());
 }
 
@@ -47,7 +48,8 @@ fn copies_are_the_same(rt: HostRuntime) {
         &mut items,
         Value::Mem(blob(&rt, alloc, &[0x00, 0xff])),
     );
-    let pushed = items.push(change(&rt, Kind::Mem, Body::Gone));
+    let gone = change(&rt, Kind::Mem, Body::Gone);
+    let pushed = items.push(Item::Change(gone));
     assert!(rt; pushed.is_ok());
     let again = items.copy(alloc).expect(&rt, "memory");
     assert!(rt; again.len() == 4);

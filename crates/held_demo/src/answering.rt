@@ -2,7 +2,7 @@
 
 use crate::Failure;
 use crate::script::Asked;
-use ds_entry::{Item, ItemList};
+use ds_entry::{Item, Items};
 use ds_held::Held;
 use ds_join::{JoinFault, Merge, Stop};
 use ds_line::append_item;
@@ -87,7 +87,7 @@ fn word_join(buffer: &mut Vec<u8>, answer: Result<(), Stop>) -> Result<(), Failu
     }
 }
 
-fn word_all(buffer: &mut Vec<u8>, items: &ItemList) -> Result<(), Failure> {
+fn word_all(buffer: &mut Vec<u8>, items: &Items) -> Result<(), Failure> {
     for index in 0..items.len() {
         if let Some(item) = items.get(index) {
             append_item(buffer, item).ok().ok_or(Failure::NoRoom)?;

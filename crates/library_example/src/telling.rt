@@ -1,7 +1,7 @@
 //! What the store's replies say.
 
 use crate::INET;
-use ds_entry::{Body, Change, Floor, Item, ItemList, Value};
+use ds_entry::{Body, Change, Floor, Item, Items, Value};
 use ds_machine::Reply;
 use std::rt::Runtime;
 
@@ -26,7 +26,7 @@ fn tell_owed(rt: &impl Print, done: &str, owed: u128) -> Option<()> {
     }
 }
 
-fn tell_items(rt: &impl Print, items: &ItemList) -> Option<()> {
+fn tell_items(rt: &impl Print, items: &Items) -> Option<()> {
     for index in 0..items.len() {
         match items.get(index)? {
             Item::Floor(floor) => tell_floor(rt, floor)?,

@@ -3,7 +3,7 @@
 ghost use Rattle.ds_line.specs.LastNewline.{EndsLine};
 
 use crate::Failure;
-use ds_entry::{ItemList, Value};
+use ds_entry::{Items, Value};
 use ds_machine::Command;
 use ds_names::{Endpoint, Key, Kind, Name, Version, read_decimal};
 use ds_words::{CommandFault, ScriptCommand, Wording, read_line, split_line};
@@ -28,7 +28,7 @@ pub(crate) struct Script {
     pub(crate) ring: u32,
     pub(crate) asked: Vec<Asked>,
     // The items of the Merge whose lines are still read.
-    merge: Option<ItemList>,
+    merge: Option<Items>,
 }
 
 impl Script {
@@ -61,7 +61,7 @@ impl Script {
         requires { EndsLine line.now }
     {
         if line == b"merge\n".as_slice() {
-            self.merge = Some(ItemList::new(alloc));
+            self.merge = Some(Items::new(alloc));
             return Ok(());
         }
         let asked = if line == b"end\n".as_slice() {
@@ -108,7 +108,7 @@ fn read(alloc: Global, line: &[u8]) -> Result<ScriptCommand, Failure>
 }
 
 // One more item of a Merge.
-fn push(items: &mut ItemList, command: ScriptCommand) -> Result<(), Failure> {
+fn push(items: &mut Items, command: ScriptCommand) -> Result<(), Failure> {
     match command {
         ScriptCommand::Offer(item) => items.push(item).ok().ok_or(Failure::NoRoom),
         _ => Err(Failure::BadLine),

@@ -1,11 +1,11 @@
 //! What a service is told, in words.
 
-use ds_entry::{Item, ItemList};
+use ds_entry::{Item, Items};
 use std::alloc::Global;
 use whole_reading::ReadFault;
 
 /// The names of the items behind the word `items`, or why the reader gave up. `None` where memory is wanting.
-pub(crate) fn tell(alloc: Global, read: &Result<ItemList, ReadFault>) -> Option<String> {
+pub(crate) fn tell(alloc: Global, read: &Result<Items, ReadFault>) -> Option<String> {
     match read {
         Ok(items) => names_of(alloc, items),
         Err(ReadFault::Refused(refusal)) => format!(in alloc; "refused: {refusal}").ok(),
@@ -14,7 +14,7 @@ pub(crate) fn tell(alloc: Global, read: &Result<ItemList, ReadFault>) -> Option<
 }
 
 // The name of each change's key, and the owner of each floor behind `!`, in their order.
-fn names_of(alloc: Global, items: &ItemList) -> Option<String> {
+fn names_of(alloc: Global, items: &Items) -> Option<String> {
     let mut names = String::new(alloc);
     names.push_str("items").ok()?;
     for item in items.as_slice() {

@@ -1,7 +1,7 @@
 //! Lines, given to a subscriber's map.
 
 use crate::session::{Failure, Session, print};
-use ds_entry::{Change, ItemList};
+use ds_entry::{Change, Items};
 use ds_join::{JoinFault, Stop};
 use ds_line::{append_item, write_change};
 use ds_names::{Key, Kind, Name};
@@ -25,11 +25,7 @@ pub(crate) fn make(rt: &impl Runtime, session: &mut Session, query: &Query) -> R
 }
 
 /// `take`: the items of a block.
-pub(crate) fn take(
-    rt: &impl Runtime,
-    session: &mut Session,
-    items: &ItemList,
-) -> Result<(), Failure> {
+pub(crate) fn take(rt: &impl Runtime, session: &mut Session, items: &Items) -> Result<(), Failure> {
     let map = session.map.as_mut().ok_or(Failure::BadLine)?;
     let printed = match map.take(session.alloc, items) {
         Ok(Count { done, taken, stale }) => println!(rt; "taken {done} {taken} {stale}"),

@@ -1,7 +1,7 @@
 //! Lines, given to a store or to a map.
 
 use crate::map::{clear, make, print_entries, print_floor, print_label, take};
-use ds_entry::ItemList;
+use ds_entry::Items;
 use ds_held::Limits;
 use ds_machine::{Command, Refusal, Reply};
 use ds_names::NoRoom;
@@ -46,7 +46,7 @@ impl From<io::Error> for Failure {
 #[derive(Drop)]
 enum Block {
     /// `take`: offers, which are the items that the map takes.
-    Take(ItemList),
+    Take(Items),
     /// `run`: commands, which are run as a list.
     Run(Vec<Command>),
 }
@@ -88,7 +88,7 @@ pub(crate) fn answer(rt: &impl Runtime, session: &mut Session, line: &str) -> Re
     }
     let alloc = session.alloc;
     match line {
-        "take" => session.block = Some(Block::Take(ItemList::new(alloc))),
+        "take" => session.block = Some(Block::Take(Items::new(alloc))),
         "run" => session.block = Some(Block::Run(Vec::new(alloc))),
         "end" => return end(rt, session),
         "held" => return print_held(rt, session),

@@ -13,7 +13,7 @@ ghost use Rattle.ds_content.specs.Stands.{Stands};
 ghost use Rattle.whole_reading.specs.GivesUp.{IsRefused};
 
 use crate::known::laws;
-use ds_entry::ItemList;
+use ds_entry::Items;
 use ds_feed::{Cursor, Page, Since};
 use ds_machine::{Command, Refusal, Reply, Scope};
 use ds_names::Key;
@@ -42,7 +42,7 @@ pub(crate) fn subscribe(store: &mut Store, sub: u32, query: Query) -> Result<(),
 }
 
 /// Checks the subscription.
-pub(crate) fn check(store: &mut Store, sub: u32, max: u32) -> Result<ItemList, Refusal>
+pub(crate) fn check(store: &mut Store, sub: u32, max: u32) -> Result<Items, Refusal>
     ensures shown { IfOk result (λ items. (s : State) → Stands store.old s → (t : State) × (before : ℕ) × (after : ℕ) × GoesOn s t × ((seer : Subscription) → subscription_at s sub ≡ Some seer → IsCheckedOn s sub max seer items before after t) × Stands store.new t) }
     ensures refused { IfErr result (λ refusal. (s : State) → Stands store.old s → IsRefused s (commands.Check sub max) refusal × Stands store.new s) }
 {

@@ -13,7 +13,7 @@ use crate::gathering::append;
 use crate::known::laws;
 use crate::others::Others;
 use crate::reading::Reading;
-use ds_entry::ItemList;
+use ds_entry::Items;
 use ds_store::Store;
 use std::alloc::Global;
 
@@ -31,14 +31,14 @@ pub fn read_by_checks<O: Others>(
     others: &mut O,
     sub: u32,
     reading: &Reading,
-) -> Result<ItemList, ReadFault>
+) -> Result<Items, ReadFault>
     ensures whole { IfOk result (λ items. (s : State) → Stands store.old s → (t : State) × GoesOn s t × Stands store.new t × IsReadWhole t reading.now.query items) }
     ensures stopped { IfErr result (λ fault. (s : State) → Stands store.old s → (t : State) × GoesOn s t × Stands store.new t × StopsChecks s t sub reading.now fault) }
 {
     laws();
     let query = reading.query.copy(alloc)?;
     subscribe(store, sub, query)?;
-    let mut items = ItemList::new(alloc);
+    let mut items = Items::new(alloc);
     for _question in 0..reading.questions {
         others.ask(store, Some(sub));
         let given = check(store, sub, reading.max)?;

@@ -4,14 +4,14 @@ ghost use Rattle.std.specs.Prelude.{◌≡◌, ◌++◌, ◌∷◌, [], OnOk, If
 ghost use Rattle.ds_machine.specs.declared.command.Scope.TheVariants.{Under};
 ghost use Rattle.ds_whole.specs.Paged.{last_key};
 
-use ds_entry::{Item, ItemList};
+use ds_entry::{Item, Items};
 use ds_machine::Scope;
 use ds_names::{Key, NoRoom};
 use ds_pattern::Query;
 use std::alloc::Global;
 
 /// Puts copies of the items behind those that are there.
-pub(crate) fn append(alloc: Global, items: &mut ItemList, more: &ItemList) -> Result<(), NoRoom>
+pub(crate) fn append(alloc: Global, items: &mut Items, more: &Items) -> Result<(), NoRoom>
     ensures { OnOk result (items.new ≡ items.old ++ more.now) }
 {
     for index in 0..more.len() {
@@ -33,7 +33,7 @@ fn go_behind_item(key: &mut Option<Key>, item: &Item)
 }
 
 /// Goes on to the key of the last change among the items, if there is one.
-pub(crate) fn go_behind(key: &mut Option<Key>, items: &ItemList)
+pub(crate) fn go_behind(key: &mut Option<Key>, items: &Items)
     ensures { key.new ≡ last_key key.old items.now }
 {
     for index in 0..items.len() {

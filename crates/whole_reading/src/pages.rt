@@ -14,7 +14,7 @@ use crate::gathering::{append, go_behind, scope_of};
 use crate::known::laws;
 use crate::others::Others;
 use crate::reading::Reading;
-use ds_entry::ItemList;
+use ds_entry::Items;
 use ds_feed::Cursor;
 use ds_store::Store;
 use std::alloc::Global;
@@ -26,7 +26,7 @@ fn catch_up<O: Others>(
     others: &mut O,
     reading: &Reading,
     from: Cursor,
-    items: &mut ItemList,
+    items: &mut Items,
 ) -> Result<(), ReadFault>
     ensures caught_up { OnOk result ((s : State) → Stands store.old s → (t : State) × GoesOn s t × Stands store.new t × IsCaughtUp t reading.now.query from items.old items.new) }
     ensures stopped { IfErr result (λ fault. (s : State) → Stands store.old s → (t : State) × GoesOn s t × Stands store.new t × StopsSinces t reading.now from fault) }
@@ -58,12 +58,12 @@ pub fn read_by_pages<O: Others>(
     store: &mut Store,
     others: &mut O,
     reading: &Reading,
-) -> Result<ItemList, ReadFault>
+) -> Result<Items, ReadFault>
     ensures whole { IfOk result (λ items. (s : State) → Stands store.old s → (t : State) × GoesOn s t × Stands store.new t × IsReadWhole t reading.now.query items) }
     ensures stopped { IfErr result (λ fault. (s : State) → Stands store.old s → (t : State) × GoesOn s t × Stands store.new t × StopsPages s t reading.now fault) }
 {
     laws();
-    let mut items = ItemList::new(alloc);
+    let mut items = Items::new(alloc);
     let mut after = None;
     let mut from = None;
     for _question in 0..reading.questions {

@@ -2,7 +2,7 @@
 //! a map.
 
 use crate::came::{Came, came, is_same};
-use ds_entry::{Body, Change, Item, ItemList, Value};
+use ds_entry::{Body, Change, Item, Items, Value};
 use ds_feed::Cursor;
 use ds_machine::{Command, Scope};
 use ds_names::{Endpoint, Generation, Key, Kind, Kinds, Name, Version};
@@ -72,7 +72,7 @@ fn number(text: &[u8], seq: u32, value: Option<u32>) -> Option<Change> {
 
 // Another holder gives one change.
 fn merge(alloc: Global, side: Side, change: Change) -> Option<Event> {
-    let mut items = ItemList::new(alloc);
+    let mut items = Items::new(alloc);
     items.push(Item::Change(change)).ok()?;
     let command = Command::Merge { items };
     Some(Event::Ask { side, command })

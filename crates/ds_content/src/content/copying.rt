@@ -5,7 +5,7 @@ ghost use Rattle.ds_entry.specs.Item.{passes};
 ghost use Rattle.ds_entry.specs.declared.item.Item as entries;
 ghost use Rattle.ds_held.specs.Held.{held_items};
 
-use ds_entry::{Item, ItemList};
+use ds_entry::{Item, Items};
 use ds_feed::KeyScope;
 use ds_held::Held;
 use ds_names::NoRoom;
@@ -35,7 +35,7 @@ fn add_at<S: KeyScope>(
     held: &Held,
     index: usize,
     scope: &mut S,
-    items: &mut ItemList,
+    items: &mut Items,
 ) -> Result<bool, NoRoom>
     ensures there { IfOk result (λ there. there ≡ is_some (slice_get (held_items held.now) index)) }
     ensures added { OnOk result ((i : entries.Item) → slice_get (held_items held.now) index ≡ Some i → items.new ≡ items.old ++ filter (passes (S.keeps scope.old)) (i ∷ [])) }
@@ -64,14 +64,14 @@ pub(super) fn all_under<S: KeyScope>(
     alloc: Global,
     held: &Held,
     scope: &mut S,
-) -> Result<ItemList, NoRoom>
+) -> Result<Items, NoRoom>
     ensures items { IfOk result (λ items. items ≡ filter (passes (S.keeps scope.old)) (held_items held.now)) }
     ensures scope { S.keeps scope.new ≡ S.keeps scope.old }
 {
     let _keys = held.limits().keys();
     let _count = held.len();
     let _floors = held.floor_count();
-    let mut items = ItemList::new(alloc);
+    let mut items = Items::new(alloc);
     let mut index = 0;
     while add_at(alloc, held, index, scope, &mut items)? {
         index += 1;

@@ -12,17 +12,17 @@ ghost use Rattle.ds_content.specs.Paging.{admitted, more_after, given};
 ghost use Rattle.ds_content.specs.Stands.{Stands};
 
 use crate::content::Content;
-use ds_entry::{Change, Item, ItemList};
+use ds_entry::{Change, Item, Items};
 use ds_feed::{KeyScope, Page};
 use ds_held::Held;
 use ds_names::{Key, NoRoom};
 use std::alloc::Global;
 
 // All held floors, for the first page.
-fn first_floors(alloc: Global, held: &Held, first: bool) -> Result<ItemList, NoRoom>
+fn first_floors(alloc: Global, held: &Held, first: bool) -> Result<Items, NoRoom>
     ensures { IfOk result (λ items. items ≡ cond first (map floored (held_floors held.now)) []) }
 {
-    let mut items = ItemList::new(alloc);
+    let mut items = Items::new(alloc);
     if !first {
         return Ok(items);
     }
@@ -41,7 +41,7 @@ fn add_change<S: KeyScope>(
     alloc: Global,
     scope: &mut S,
     change: &Change,
-    items: &mut ItemList,
+    items: &mut Items,
     left: u32,
 ) -> Result<Option<u32>, NoRoom>
     ensures more { IfOk result (λ more. more ≡ more_after (S.keeps scope.old change.now.key) left) }
@@ -64,7 +64,7 @@ fn add_changes<S: KeyScope>(
     changes: &[Change],
     scope: &mut S,
     max: u32,
-    items: &mut ItemList,
+    items: &mut Items,
 ) -> Result<bool, NoRoom>
     ensures added { OnOk result (items.new ≡ items.old ++ map change_item (take max (admitted (S.keeps scope.old) changes.now))) }
     ensures last { IfOk result (λ last. last ≡ nat_le (length (admitted (S.keeps scope.old) changes.now)) max) }

@@ -14,7 +14,7 @@ ghost use Rattle.ds_content.specs.Stands.{Stands};
 use crate::content::Content;
 use crate::content::copying::copy_at;
 use crate::content::marking::{masks_of, show_first};
-use ds_entry::ItemList;
+use ds_entry::Items;
 use ds_index::Labelled;
 use ds_names::NoRoom;
 use ds_watch::Masks;
@@ -23,7 +23,7 @@ use std::alloc::Global;
 /// What is shown, and how many held items were passed for that, from the first on.
 #[derive(Debug, Drop)]
 pub struct Shown {
-    pub items: ItemList,
+    pub items: Items,
     pub passed: usize,
 }
 
@@ -31,7 +31,7 @@ pub struct Shown {
 // is one.
 fn show_unseen(
     alloc: Global,
-    items: &mut ItemList,
+    items: &mut Items,
     held: &Labelled<Masks>,
     index: usize,
     sub: usize,
@@ -71,7 +71,7 @@ fn first_unseen(
     let _keys = content.limits().keys();
     let _count = content.len();
     let _floors = held.floor_count();
-    let mut items = ItemList::new(alloc);
+    let mut items = Items::new(alloc);
     let mut passed = 0;
     while items.len() < max {
         if !show_unseen(alloc, &mut items, held, passed, sub)? {
