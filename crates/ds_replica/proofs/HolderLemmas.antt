@@ -1,5 +1,5 @@
 -- What follows for holders in a world that an account fits.
-use Rattle.std.proofs.Common.{◌≡◌, ℕ, Bool, List, [], Option, Some, None, refl, ap, sym, ◌∙◌, subst, inl, inr, Contains}
+use Rattle.std.proofs.Common.{◌≡◌, ℕ, Bool, true, List, [], Option, Some, None, refl, ap, sym, ◌∙◌, subst, inl, inr, Contains}
 use Rattle.std.specs.List.{slice_get}
 use Rattle.ds_names.specs.declared.key.Key.{Key}
 use Rattle.ds_entry.specs.Item.{passes}
@@ -7,14 +7,14 @@ use Rattle.ds_entry.specs.ItemCovers.{AreSingleNumbered}
 use Rattle.ds_entry.specs.declared.item.Item.{Item}
 use Rattle.ds_entry.specs.declared.item.Item.TheVariants.{Change as Changed}
 use Rattle.ds_entry.proofs.Members.{Contains-nil, Contains-head, Contains-from_filter, Contains-from_map}
+use Rattle.ds_entry.proofs.ItemLemmas.{covers-trans, covers-query}
 use Rattle.ds_join.specs.ItemTop.{IsTop, IsPartOf, CoversAll}
 use Rattle.ds_join.proofs.ItemTopLemmas.{top_of_nothing, void_isnt_held}
 use Rattle.ds_feed.specs.Feed.{position}
 use Rattle.ds_pattern.specs.Under.{is_under}
 use Rattle.ds_whole.specs.Under.{under, entries_of}
 use Rattle.ds_whole.specs.Sent.{Sent}
-use Rattle.ds_whole.specs.Labels.{label_in, IsNewest}
-use Rattle.ds_whole.proofs.SentLemmas.{from_stood, Contains-from_under}
+use Rattle.ds_whole.proofs.SentLemmas.{from_stood, Contains-under, Contains-from_under}
 use Rattle.ds_whole.proofs.HolderLemmas.{holders_agree}
 use Rattle.ds_whole.proofs.HolderLemmas as wholes
 use Rattle.ds_whole.proofs.WholeLemmas.{more_is_whole, earlier_is_whole}
@@ -138,6 +138,34 @@ module _ (account : Account) (w : World) (j : ℕ) (m : MapAccount) (side : Side
       subst (λ (x : State). CoversAll (held_at w (Map j)) (under (is_under m.query) (held x))) same
       (subst (λ l. CoversAll l (under (is_under m.query) (held s))) (sym map_is) covers)
 
+  -- what the map holds is under its query
+  held_passes : (i : Item) → Contains (held_at w (Map j)) i → passes (is_under m.query) i ≡ true
+  held_passes i h =
+      let own : Contains (under (is_under m.query) at.0.held) i = subst (λ l. Contains l i) (map_is ∙ sym (wholes.map_holds_its_query (is_under m.query) m.taken at.0.held at.2.map)) h in
+      (Contains-from_under (is_under m.query) at.0.held i own).1
+
+  abbrev query : Key → Bool
+  query = is_under m.query
+
+  abbrev known : List Item
+  known = (store_of account side).known
+
+  map_top : IsTop (held_at w (Map j)) (known_by m)
+  map_top = subst (λ l. IsTop l (known_by m)) (sym map_is) at.2.map.top
+
+  -- if the map was told nothing else, it is a top of what the store knows under the query
+  top_of_known : IsPartOf (under query (known_by m)) known → IsTop (held_at w (Map j)) (under query known)
+  top_of_known part = record {
+    in_order = map_top.in_order;
+    among = λ i h. Contains-under query known i (part i (Contains-under query (known_by m) i (map_top.among i h) (held_passes i h))) (held_passes i h);
+    greatest = λ i h.
+        let k = Contains-from_under query known i h in
+        let d = (store_fits account w side f).top.greatest i k.0 in
+        let c = least d.0 (Contains-under query (held_at w (Store side)) d.0 d.1 (covers-query query d.0 i d.2 k.1)) in
+        (c.0, c.1, covers-trans c.0 d.0 i c.2 d.2);
+    none_void = map_top.none_void;
+  }
+
 pub holds_the_stores : HoldsTheStores
 holds_the_stores account w j m side f n all part = let e = exact account w j m side f all n part in (e, ap entries_of e)
 
@@ -151,9 +179,8 @@ whole_is_all account j m side items r there part whole l =
 
 -- ---- labels
 pub labels_are_newest : LabelsAreNewest
-labels_are_newest account w j m side name f n items all part q =
-    subst (λ l. IsNewest (store_of account side).known name (label_in l name)) (sym (exact account w j m side f all n part))
-    (labels.labels_are_newest (is_under m.query) (store_of account side).known (held_at w (Store side)) name (λ i h. items i (known_within account w f (Store side) i h)) (top_at account w f (Store side)) q)
+labels_are_newest account w j m side name f items all part q =
+    labels.labels_of_a_top (is_under m.query) (store_of account side).known (held_at w (Map j)) name (λ i h. items i (known_within account w f (Store side) i h)) (top_of_known account w j m side f all part) q
 
 -- ---- floors
 pub nothing_below_floors : NothingBelowFloors

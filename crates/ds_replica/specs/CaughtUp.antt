@@ -48,8 +48,9 @@ abbrev pub AreItems : List Item → Type 0
 AreItems items = (i : Item) → Contains items i → IsItem i
 
 -- where the name's label is under the query of a map that has all, and nothing else, the map names the endpoint of the
--- greatest generation that the store knows for the name, or none where that one is gone or the store knows none
+-- greatest generation that the store knows for the name, or none where that one is gone or the store knows none; whether or not
+-- what was brought in is single-numbered
 abbrev pub LabelsAreNewest : Type 0
 LabelsAreNewest =
-    (account : Account) (w : World) (j : ℕ) (m : MapAccount) (side : Side) (name : List ℕ) → Fits account w → AreSingleNumbered account.brought → AreItems account.brought → HasAll account j m side → HasNothingElse account m side →
+    (account : Account) (w : World) (j : ℕ) (m : MapAccount) (side : Side) (name : List ℕ) → Fits account w → AreItems account.brought → HasAll account j m side → HasNothingElse account m side →
     is_under m.query (label_key name) ≡ true → IsNewest (store_of account side).known name (label_in (held_at w (Map j)) name)

@@ -186,7 +186,10 @@ newest-under query known name (Some s) p h =
       not_gone = λ c k e g. h.not_gone c (Contains-under query known (Changed c) k (ap query e ∙ p)) e g;
     }
 
+-- a top of what is known under the query names it
+pub labels_of_a_top : (query : Key → Bool) (known held : List Item) (name : List ℕ) → ((i : Item) → Contains known i → IsItem i) → IsTop held (under query known) → query (label_key name) ≡ true → IsNewest known name (label_in held name)
+labels_of_a_top query known held name valid t p =
+    newest-under query known name (label_in held name) p (label_newest (under query known) held name t (λ i h. valid i (Contains-from_under query known i h).0))
+
 pub labels_are_newest : LabelsAreNewest
-labels_are_newest query known held name valid t p =
-    newest-under query known name (label_in (under query held) name) p
-    (label_newest (under query known) (under query held) name (top_under_query query known held t) (λ i h. valid i (Contains-from_under query known i h).0))
+labels_are_newest query known held name valid t p = labels_of_a_top query known (under query held) name valid (top_under_query query known held t) p
