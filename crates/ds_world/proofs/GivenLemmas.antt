@@ -1,17 +1,12 @@
 -- The laws of single events, of those of a run.
 use Rattle.std.proofs.Common.{◌≡◌, ℕ, true, List, [], ◌∷◌, ◌++◌, Some, refl, ap, sym, ◌∙◌, subst}
-use Rattle.ds_feed.specs.Feed.{position}
 use Rattle.ds_pattern.specs.Under.{is_under}
-use Rattle.ds_whole.specs.Sent.{Sent, given}
-use Rattle.ds_whole.specs.Whole.{IsWhole}
+use Rattle.ds_whole.specs.Sent.{given}
 use Rattle.ds_whole.specs.Checked.{CheckTurn, IsCheckTurn}
-use Rattle.ds_whole.specs.Journaled.{SinceTurn, IsSinceTurn}
-use Rattle.ds_whole.specs.Paged.{PageTurn, IsPageTurn}
-use Rattle.ds_machine.specs.Scope.{keeps}
 use Rattle.ds_machine.specs.Subscription.{Subscription}
 use Rattle.ds_machine.specs.State.{subscription_at}
 use Rattle.ds_machine.specs.declared.command.Command.{Command}
-use Rattle.ds_machine.specs.declared.command.Command.TheVariants.{Subscribe, Check, Since, Snapshot, Page}
+use Rattle.ds_machine.specs.declared.command.Command.TheVariants.{Subscribe, Check}
 use Rattle.ds_machine.specs.declared.reply.Reply.TheVariants.{Subscribed}
 use Rattle.ds_replica.specs.declared.event.Side.{Side}
 use Rattle.ds_replica.specs.declared.event.Event.{Event}
@@ -23,13 +18,13 @@ use Rattle.ds_replica.specs.Happens.{HappenAll}
 use Rattle.ds_replica.specs.Known.{Account, store_of, extended, extended_all}
 use Rattle.ds_replica.specs.Messages.{IsAsked, after, feed_of, IsMessage}
 use Rattle.ds_replica.proofs.EventLemmas.{events_fit}
-use Rattle.ds_replica.proofs.MessageLemmas.{snapshot_is_whole, since_is_turn, since_extends, page_is_turn, check_is_turn}
+use Rattle.ds_replica.proofs.MessageLemmas.{check_is_turn}
 use Rattle.ds_replica.proofs.CheckLemmas.{checks_are_whole}
 use Rattle.ds_world.specs.World.{WorldRecord}
 use Rattle.ds_world.specs.Run.{paired, RunLeads}
 use Rattle.ds_replica.proofs.ClashLemmas.{nothing_stops}
 use Rattle.ds_world.specs.Account.{IsFor, NothingStops}
-use Rattle.ds_world.specs.Messages.{WasGiven, SnapshotsAreWhole, SincesAreTurns, SincesExtend, PagesAreTurns, ChecksAreTurns, AllChecksAreWhole}
+use Rattle.ds_world.specs.Messages.{WasGiven, ChecksAreTurns, AllChecksAreWhole}
 
 -- events that happened one after the other, in two parts
 happen_split : (xs ys : List (Event × Outcome)) (w new : World) → HappenAll w (xs ++ ys) new → (mid : World) × HappenAll w xs mid × HappenAll mid ys new
@@ -57,28 +52,6 @@ module _ (account : Account) (old new : WorldRecord) (events : List Event) (outc
 
     now_is : after (extended_all account g.before) side command k g.since ≡ extended_all account (paired events outcomes)
     now_is = now_after account (paired events outcomes) side command k g
-
-  pub snapshots : SnapshotsAreWhole account (paired events outcomes)
-  snapshots side scope query k g keep =
-      subst (λ (now : Account). (sent : List Sent) × IsMessage now k sent × IsWhole (feed_of now side) query sent (position (feed_of (extended_all account g.before) side))) (now_is side (Snapshot scope) k g)
-      (snapshot_is_whole (extended_all account g.before) (parts side (Snapshot scope) k g).0 late side scope query k g.since (asked side (Snapshot scope) k g) keep)
-
-  pub since_turns : SincesAreTurns account (paired events outcomes)
-  since_turns side scope at max k g =
-      subst (λ (now : Account). (t : SinceTurn) × (t.max ≡ max) × IsSinceTurn (feed_of now side) (keeps scope) at t × IsMessage now k (given t.known t.since.items)) (now_is side (Since scope at max) k g)
-      (since_is_turn (extended_all account g.before) (parts side (Since scope at max) k g).0 late side scope at max k g.since (asked side (Since scope at max) k g))
-
-  pub sinces : SincesExtend account (paired events outcomes)
-  sinces side scope query at max k items g keep =
-      subst
-      (λ (now : Account). IsWhole (feed_of now side) query items at.position → (t : SinceTurn) × IsSinceTurn (feed_of now side) (keeps scope) at t × IsMessage now k (given t.known t.since.items) × IsWhole (feed_of now side) query (items ++ given t.known t.since.items) t.since.cursor.position)
-      (now_is side (Since scope at max) k g)
-      (since_extends (extended_all account g.before) (parts side (Since scope at max) k g).0 late side scope query at max k g.since items (asked side (Since scope at max) k g) keep)
-
-  pub pages : PagesAreTurns account (paired events outcomes)
-  pages side scope behind max k g =
-      subst (λ (now : Account). (t : PageTurn) × (t.max ≡ max) × (t.feed ≡ feed_of (extended_all account g.before) side) × IsPageTurn (feed_of now side) (keeps scope) behind t × IsMessage now k (given t.known t.page.items)) (now_is side (Page scope behind max) k g)
-      (page_is_turn (extended_all account g.before) (parts side (Page scope behind max) k g).0 late side scope behind max k g.since (asked side (Page scope behind max) k g))
 
   pub checks : ChecksAreTurns account (paired events outcomes)
   checks side sub max k early g front =

@@ -1,11 +1,15 @@
 -- The headline's statements, of the value that callers see.
-use Rattle.std.proofs.Common.{◌≡◌, ℕ, zero, suc, List, [], ◌∷◌, Some, ap, sym, ◌∙◌, subst, inl, inr, Contains}
+use Rattle.std.proofs.Common.{◌≡◌, ℕ, zero, suc, List, [], ◌∷◌, Option, Some, ap, sym, ◌∙◌, subst, inl, inr, Contains}
 use Rattle.std.specs.List.{slice_get}
+use Rattle.std.specs.Option.{option_map}
+use Rattle.ds_names.specs.Endpoint.{EndpointRecord}
 use Rattle.ds_entry.specs.declared.item.Item.{Item}
 use Rattle.ds_entry.proofs.Members.{Contains-head, Contains-tail}
 use Rattle.ds_entry.specs.declared.item.Item.TheVariants.{Change as Changed}
 use Rattle.ds_join.specs.ItemTop.{CoversAll}
+use Rattle.ds_held.specs.Held.{held_items}
 use Rattle.ds_pattern.specs.Under.{is_under}
+use Rattle.ds_submap.specs.Map.{SubMapRecord}
 use Rattle.ds_whole.specs.Under.{under, entries_of}
 use Rattle.ds_whole.specs.Labels.{label_in, IsNewest}
 use Rattle.ds_replica.specs.declared.event.Event.{Event}
@@ -15,16 +19,18 @@ use Rattle.ds_replica.specs.declared.event.Holder.{Holder}
 use Rattle.ds_replica.specs.declared.event.Holder.TheVariants.{Store, Map}
 use Rattle.ds_replica.specs.declared.outcome.Outcome.{Outcome}
 use Rattle.ds_content.specs.Stands as contents
-use Rattle.ds_replica.specs.World.{World, held_at, store_at}
+use Rattle.ds_replica.specs.World.{World, map_held, held_at, store_at}
 use Rattle.ds_replica.specs.Headline as headline
 use Rattle.ds_replica.specs.Known.{Account, store_of, extended_all}
 use Rattle.ds_replica.proofs.EventLemmas.{events_fit}
 use Rattle.ds_replica.proofs.HolderLemmas.{equal_where_known, holds_the_stores, holds_at_least, labels_are_newest, nothing_clashes, nothing_below_floors}
 use Rattle.ds_replica.proofs.BringLemmas.{events_bring_items}
+use Rattle.ds_replica.proofs.StayLemmas.{floors_stand}
 use Rattle.ds_replica.proofs.TurnLemmas.{whole_stays, turns_are_run}
-use Rattle.ds_world.specs.World.{WorldRecord, held_in, store_in, Stands}
+use Rattle.ds_world.specs.World.{WorldRecord, map_state, held_in, store_in, Stands}
 use Rattle.ds_world.specs.Run.{paired, RunLeads}
-use Rattle.ds_world.specs.Account.{IsFor, Agrees, CatchesUp, KeepsUp, NamesNewest, IsAbout, NothingClashes, NothingBelowFloors, WholeStays, StayItems, TurnsAreRun}
+use Rattle.ds_world.specs.Account.{IsFor, Agrees, CatchesUp, KeepsUp, NamesNewest, IsAbout, NothingClashes, NothingBelowFloors, FloorsStand, WholeStays, StayItems, TurnsAreRun}
+use Rattle.ds_world.proofs.NamedLemmas.{named}
 use Rattle.ds_world.proofs.StandLemmas.{held_is, message_is}
 
 -- what stands at a place is in the list
@@ -57,8 +63,10 @@ module _ (account : Account) (value : WorldRecord) (f : IsFor account value) whe
       (subst (λ (l : List Item). CoversAll (held_at f.0 (Map j)) (under (is_under m.query) l)) (held (Store side)) (holds_at_least account f.0 j m side f.2 all))
 
   names_newest : NamesNewest account value
-  names_newest j m side name n items all else u =
-      subst (λ (l : List Item). IsNewest (store_of account side).known name (label_in l name)) (held (Map j)) (labels_are_newest account f.0 j m side name f.2 n items all else u)
+  names_newest j m n side name there map items all else u =
+      let is : held_at f.0 (Map j) ≡ held_items n.held = held (Map j) ∙ ap (λ (o : Option SubMapRecord). map_held (option_map map_state o)) there in
+      subst (λ (o : Option EndpointRecord). IsNewest (store_of account side).known name o) (ap (λ (l : List Item). label_in l name) is ∙ named n.held map.sound name)
+      (labels_are_newest account f.0 j m side name f.2 items all else u)
 
   about : (i : Item) → IsAbout value i → headline.IsAbout f.0 i
   about i (inl h) = inl (h.0, subst (λ (l : List Item). Contains l i) (sym (held h.0)) h.1)
@@ -92,6 +100,11 @@ module _ (account : Account) (old new : WorldRecord) (events : List Event) (outc
 
   pub floors_after : NothingBelowFloors (extended_all account (paired events outcomes)) new
   floors_after = floors (extended_all account (paired events outcomes)) new account_fits
+
+  pub floors_stand_after : FloorsStand account (paired events outcomes) new
+  floors_stand_after h floor c stays k there =
+      let went = run f.0 f.1 in
+      floors_stand account f.0 went.0 h (paired events outcomes) floor c f.2 went.1 stays k (subst (λ (l : List Item). Contains l (Changed c)) (sym (held_is new went.0 h went.2)) there)
 
   pub items_stay : StayItems account (paired events outcomes)
   items_stay proper items = let went = run f.0 f.1 in events_bring_items account f.0 went.0 (paired events outcomes) f.2 went.1 proper items

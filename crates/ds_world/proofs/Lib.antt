@@ -1,4 +1,5 @@
 pub mod StandLemmas
+pub mod NamedLemmas
 pub mod HeadlineLemmas
 pub mod RunLemmas
 pub mod ReplyLemmas

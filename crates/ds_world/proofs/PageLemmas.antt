@@ -1,30 +1,34 @@
--- All pages of a run are whole, with the journal.
-use Rattle.std.proofs.Common.{◌≡◌, ℕ, ◌≤◌, Bool, true, false, List, [], ◌∷◌, ◌++◌, take, Option, None, Some, refl, ap, sym, ◌∙◌, subst}
+-- Messages of a run are turns of the stores that gave them; snapshots are whole, the journal goes on, and all pages are whole with it.
+use Rattle.std.proofs.Common.{◌≡◌, ℕ, ◌≤◌, Bool, true, false, List, [], ◌∷◌, ◌++◌, take, Option, None, Some, refl, ap, sym, ◌∙◌, subst, append-nil}
 use Rattle.std.specs.Prelude.{MatchBool}
 use Rattle.std.specs.List.{filter, flat_map, slice_get}
 use Rattle.ds_names.specs.declared.key.Key.{Key}
 use Rattle.ds_entry.specs.declared.item.Item.{Item}
 use Rattle.ds_feed.specs.declared.cursor.Cursor.{Cursor}
 use Rattle.ds_feed.specs.declared.reading.Page as readings
+use Rattle.ds_feed.specs.declared.reading.Snapshot as snaps
 use Rattle.ds_feed.specs.declared.reading.Since as journals
+use Rattle.ds_feed.specs.Feed.{position}
 use Rattle.ds_feed.specs.Since.{IsGiven, piece, since_of}
 use Rattle.ds_feed.specs.Page.{floors_of, changes_of, still_to_come, page_of}
+use Rattle.ds_whole.specs.Under.{Keeps}
 use Rattle.ds_whole.specs.Sent.{Sent, given}
 use Rattle.ds_whole.specs.Whole.{IsWhole}
 use Rattle.ds_whole.specs.Journaled.{SinceTurn, IsSinceTurn, AreSince, since_items, cursor_after}
 use Rattle.ds_whole.specs.Paged.{PageTurn, IsPageTurn, last_key, ArePages, page_items, last_cursor}
+use Rattle.ds_whole.proofs.JournalLemmas.{sinces_extend}
 use Rattle.ds_whole.proofs.PageLemmas.{pages_are_whole}
 use Rattle.ds_machine.specs.Scope.{keeps, is_kept}
 use Rattle.ds_machine.specs.State.{State, held, cursor}
 use Rattle.ds_machine.specs.Machine.{Step}
 use Rattle.ds_machine.specs.Order.{first_refusal}
 use Rattle.ds_machine.specs.Calling.{against_since, against_page}
-use Rattle.ds_machine.specs.Says.{JournaledSays, PagedSays}
+use Rattle.ds_machine.specs.Says.{JournaledSays, SnappedSays, PagedSays}
 use Rattle.ds_machine.specs.declared.command.Scope.{Scope}
 use Rattle.ds_machine.specs.declared.command.Command.{Command}
-use Rattle.ds_machine.specs.declared.command.Command.TheVariants.{Since, Page}
+use Rattle.ds_machine.specs.declared.command.Command.TheVariants.{Since, Snapshot, Page}
 use Rattle.ds_machine.specs.declared.reply.Reply.{Reply}
-use Rattle.ds_machine.specs.declared.reply.Reply.TheVariants.{Journaled, Paged}
+use Rattle.ds_machine.specs.declared.reply.Reply.TheVariants.{Journaled, Snapped, Paged}
 use Rattle.ds_machine.proofs.ReachedLemmas.{held_is_top}
 use Rattle.ds_replica.specs.declared.event.Side.{Side}
 use Rattle.ds_replica.specs.declared.event.Event.{Event}
@@ -37,11 +41,11 @@ use Rattle.ds_replica.specs.Checks.{sent_in}
 use Rattle.ds_replica.proofs.EventLemmas.{events_fit}
 use Rattle.ds_replica.proofs.FitLemmas.{store_fits, own_fits}
 use Rattle.ds_replica.proofs.GivenLemmas.{given_unless}
-use Rattle.ds_replica.proofs.MessageLemmas.{gave, front}
+use Rattle.ds_replica.proofs.MessageLemmas.{gave, front, snapshot_is_whole}
 use Rattle.ds_world.specs.World.{WorldRecord}
 use Rattle.ds_world.specs.Account.{IsFor}
-use Rattle.ds_world.specs.Messages.{WasGiven}
-use Rattle.ds_world.specs.Pages.{GivenPage, GivenSince, WerePaged, WereJournaled, last_page, last_since, AllPagesAreWhole}
+use Rattle.ds_world.specs.Messages.{WasGiven, GivenSince, GivenPage, SnapshotsAreWhole, SincesAreTurns, SincesExtend, PagesAreTurns}
+use Rattle.ds_world.specs.Pages.{WerePaged, WereJournaled, last_page, last_since, AllPagesAreWhole}
 use Rattle.ds_world.specs.Told.{AreTold}
 use Rattle.ds_world.proofs.GivenLemmas.{now_after}
 use Rattle.ds_world.proofs.ReplyLemmas.{WasAsked, asked_for}
@@ -55,7 +59,7 @@ one_behind : (b : Bool) (y : GivenPage) (ys : List GivenPage) (W : Type 0) → M
 one_behind true y ys W e = cc
 one_behind false y ys W w = (refl, w)
 
-module _ (says_page : PagedSays) (says_since : JournaledSays) (account : Account) (old new : WorldRecord) (events : List (Event × Outcome)) (told : AreTold old events new) (f : IsFor account old) (side : Side) where
+module _ (says_snapshot : SnappedSays) (says_page : PagedSays) (says_since : JournaledSays) (account : Account) (old new : WorldRecord) (events : List (Event × Outcome)) (told : AreTold old events new) (f : IsFor account old) (side : Side) where
   abbrev now : Account
   now = extended_all account events
 
@@ -90,6 +94,23 @@ module _ (says_page : PagedSays) (says_since : JournaledSays) (account : Account
         let same : was.asks.reply ≡ reply = let there = was.there in cc in
         subst (λ (s : State). Step s command reply was.asks.after) (sym (store_fits (extended_all account g.before) was.mid side fits).state_is)
         (subst (λ (r : Reply). Step (store_at was.mid side) command r was.asks.after) same was.asks.step)
+
+  module _ (scope : Scope) (k : ℕ) (snapshot : snaps.Snapshot) (g : WasGiven events side (Snapshot scope) k) (there : slice_get new.messages k ≡ Some (Snapped snapshot)) where
+    abbrev ask_snapshot : Command
+    ask_snapshot = Snapshot scope
+
+    snapshot_at : snapshot.cursor.position ≡ position (known_then g.before).state.feed
+    snapshot_at = ap (λ (s : snaps.Snapshot). s.cursor.position) (says_snapshot (known_then g.before).state (was ask_snapshot k g).asks.after scope snapshot (stepped ask_snapshot k g (Snapped snapshot) there)).0
+
+    whole_snapshot : (query : Key → Bool) → Keeps (keeps scope) query → IsWhole (feed_of now side) query (sent_in now k) snapshot.cursor.position
+    whole_snapshot query keep =
+        let w = was ask_snapshot k g in
+        let at = position (known_then g.before).state.feed in
+        let r =
+        subst (λ (a : Account). (sent : List Sent) × IsMessage a k sent × IsWhole (feed_of a side) query sent at) (now_is ask_snapshot k g)
+        (snapshot_is_whole (extended_all account g.before) w.mid w.late side scope query k g.since (asked ask_snapshot k g) keep) in
+        subst (λ (p : ℕ). IsWhole (feed_of now side) query (sent_in now k) p) (sym snapshot_at)
+        (subst (λ (l : List Sent). IsWhole (feed_of now side) query l at) (sym (ap message_items r.1)) r.2)
 
   module _ (scope : Scope) (behind : Option Key) (x : GivenPage) (g : WasGiven events side (Page scope behind x.max) x.message) (there : slice_get new.messages x.message ≡ Some (Paged x.page)) where
     abbrev ask_page : Command
@@ -138,6 +159,17 @@ module _ (says_page : PagedSays) (says_since : JournaledSays) (account : Account
         let here : IsMessage now x.message (given a.known gift.items) = subst (λ (b : Account). IsMessage b x.message (given a.known gift.items)) (now_is ask_since x.message g) gift.message in
         ap message_items here ∙ ap (λ (l : List Item). given a.known l) (sym (ap (λ (p : journals.Since). p.items) since_is.given ∙ same))
 
+  -- ---- each of them
+  snapshots_whole : (scope : Scope) (query : Key → Bool) (k : ℕ) (snapshot : snaps.Snapshot) → WasGiven events side (Snapshot scope) k → slice_get new.messages k ≡ Some (Snapped snapshot) → Keeps (keeps scope) query → IsWhole (feed_of now side) query (sent_in now k) snapshot.cursor.position
+  snapshots_whole scope query k snapshot g there keep = whole_snapshot scope k snapshot g there query keep
+
+  since_extends : (scope : Scope) (query : Key → Bool) (at : Cursor) (x : GivenSince) (items : List Sent) → WasGiven events side (Since scope at x.max) x.message → slice_get new.messages x.message ≡ Some (Journaled x.since) → Keeps (keeps scope) query →
+      IsWhole (feed_of now side) query items at.position → IsWhole (feed_of now side) query (items ++ sent_in now x.message) x.since.cursor.position
+  since_extends scope query at x items g there keep whole =
+      let t = since_turn g.before x in
+      subst (λ (l : List Sent). IsWhole (feed_of now side) query (items ++ l) x.since.cursor.position) (append-nil (given t.known x.since.items) ∙ sym (since_sent scope at x g there))
+      (sinces_extend (feed_of now side) (keeps scope) query items at (t ∷ []) keep (is_since scope at x g there, tt) whole)
+
   -- ---- all of them
   abbrev page_sents : List GivenPage → List Sent
   page_sents xs = flat_map (λ x. sent_in now x.message) xs
@@ -166,17 +198,44 @@ module _ (says_page : PagedSays) (says_since : JournaledSays) (account : Account
       ap (λ (l : List Sent). l ++ since_items r.0) (sym (since_sent scope at x w.0 w.1)) ∙ ap (λ (l : List Sent). sent_in now x.message ++ l) r.2 in
       (since_turn w.0.before x ∷ r.0, (is_since scope at x w.0 w.1, r.1), items, r.3)
 
-pub all_pages : PagedSays → JournaledSays → (account : Account) (old new : WorldRecord) (events : List (Event × Outcome)) → AreTold old events new → IsFor account old → AllPagesAreWhole account events new
-all_pages says_page says_since account old new events told f side scope other query first pages sinces keep keep_other w v bound =
-    let now = extended_all account events in
-    let p = page_turns says_page says_since account old new events told f side scope first pages None 0 w in
-    let s = since_turns says_page says_since account old new events told f side other sinces first.page.cursor v in
-    let turn = page_turn says_page says_since account old new events told f side w.0.before first in
-    let late : (last_cursor first.page.cursor p.0).position ≤ (cursor_after first.page.cursor s.0).position =
-    subst (λ (c : Cursor). c.position ≤ (cursor_after first.page.cursor s.0).position) (sym (p.3 first.page.cursor)) (subst (λ (c : Cursor). (last_page first.page.cursor pages).position ≤ c.position) (sym s.3) bound) in
-    let law = pages_are_whole (feed_of now side) (keeps scope) (keeps other) query turn p.0 s.0 keep keep_other p.1 s.1 late in
-    let first_sent = page_sent says_page says_since account old new events told f side scope None first w.0 w.1 in
-    let paged = ap (λ (l : List Sent). l ++ page_items p.0) (sym first_sent) ∙ ap (λ (l : List Sent). sent_in now first.message ++ l) p.2 in
-    subst (λ (c : Cursor). IsWhole (feed_of now side) query (flat_map (λ x. sent_in now x.message) (first ∷ pages) ++ flat_map (λ x. sent_in now x.message) sinces) c.position) s.3
-    (subst (λ (l : List Sent). IsWhole (feed_of now side) query (flat_map (λ x. sent_in now x.message) (first ∷ pages) ++ l) (cursor_after first.page.cursor s.0).position) s.2
-    (subst (λ (l : List Sent). IsWhole (feed_of now side) query (l ++ since_items s.0) (cursor_after first.page.cursor s.0).position) paged law))
+module _ (says_snapshot : SnappedSays) (says_page : PagedSays) (says_since : JournaledSays) (account : Account) (old new : WorldRecord) (events : List (Event × Outcome)) (told : AreTold old events new) (f : IsFor account old) where
+  pub snapshots : SnapshotsAreWhole account events new.messages
+  snapshots side scope query k snapshot g there keep = snapshots_whole says_snapshot says_page says_since account old new events told f side scope query k snapshot g there keep
+
+  pub since_turns_are : SincesAreTurns account events new.messages
+  since_turns_are side scope at x g there = (
+    since_turn says_snapshot says_page says_since account old new events told f side g.before x,
+    refl,
+    refl,
+    refl,
+    is_since says_snapshot says_page says_since account old new events told f side scope at x g there,
+    since_sent says_snapshot says_page says_since account old new events told f side scope at x g there,
+  )
+
+  pub sinces : SincesExtend account events new.messages
+  sinces side scope query at x items g there keep whole = since_extends says_snapshot says_page says_since account old new events told f side scope query at x items g there keep whole
+
+  pub pages_are : PagesAreTurns account events new.messages
+  pages_are side scope behind x g there = (
+    page_turn says_snapshot says_page says_since account old new events told f side g.before x,
+    refl,
+    refl,
+    refl,
+    is_page says_snapshot says_page says_since account old new events told f side scope behind x g there,
+    page_sent says_snapshot says_page says_since account old new events told f side scope behind x g there,
+  )
+
+  pub all_pages : AllPagesAreWhole account events new.messages
+  all_pages side scope other query first pages sinces keep keep_other w v bound =
+      let now = extended_all account events in
+      let p = page_turns says_snapshot says_page says_since account old new events told f side scope first pages None 0 w in
+      let s = since_turns says_snapshot says_page says_since account old new events told f side other sinces first.page.cursor v in
+      let turn = page_turn says_snapshot says_page says_since account old new events told f side w.0.before first in
+      let late : (last_cursor first.page.cursor p.0).position ≤ (cursor_after first.page.cursor s.0).position =
+      subst (λ (c : Cursor). c.position ≤ (cursor_after first.page.cursor s.0).position) (sym (p.3 first.page.cursor)) (subst (λ (c : Cursor). (last_page first.page.cursor pages).position ≤ c.position) (sym s.3) bound) in
+      let law = pages_are_whole (feed_of now side) (keeps scope) (keeps other) query turn p.0 s.0 keep keep_other p.1 s.1 late in
+      let first_sent = page_sent says_snapshot says_page says_since account old new events told f side scope None first w.0 w.1 in
+      let paged = ap (λ (l : List Sent). l ++ page_items p.0) (sym first_sent) ∙ ap (λ (l : List Sent). sent_in now first.message ++ l) p.2 in
+      subst (λ (c : Cursor). IsWhole (feed_of now side) query (flat_map (λ x. sent_in now x.message) (first ∷ pages) ++ flat_map (λ x. sent_in now x.message) sinces) c.position) s.3
+      (subst (λ (l : List Sent). IsWhole (feed_of now side) query (flat_map (λ x. sent_in now x.message) (first ∷ pages) ++ l) (cursor_after first.page.cursor s.0).position) s.2
+      (subst (λ (l : List Sent). IsWhole (feed_of now side) query (l ++ since_items s.0) (cursor_after first.page.cursor s.0).position) paged law))

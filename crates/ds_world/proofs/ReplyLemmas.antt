@@ -12,6 +12,7 @@ use Rattle.ds_replica.specs.declared.outcome.Outcome.TheVariants.{Replied, Made,
 use Rattle.ds_replica.specs.World.{World}
 use Rattle.ds_replica.specs.Happens.{event_fault, Asks, HappenAll}
 use Rattle.ds_world.specs.World.{WorldRecord, Stands}
+use Rattle.ds_world.specs.Run.{EventLeads}
 use Rattle.ds_world.specs.Told.{IsTold, AreTold, MessagesStay, RepliesAreKept}
 
 -- ---- messages stay
@@ -39,6 +40,10 @@ over_one (RestartStore side incarnation) outcome old new told = same old new tol
 pub messages_stay : (old new : WorldRecord) (events : List (Event × Outcome)) → AreTold old events new → MessagesStay old new
 messages_stay old new [] told = same old new (ap (λ (v : WorldRecord). v.messages) told)
 messages_stay old new (e ∷ events) told = over_two old told.0 new (over_one e.0 e.1 old told.0 told.2) (messages_stay told.0 new events told.3)
+
+-- what was told of one event was told of a list of that one
+pub told_alone : (event : Event) (outcome : Outcome) (old new : WorldRecord) → EventLeads event outcome old new → IsTold event outcome old new → AreTold old ((event, outcome) ∷ []) new
+told_alone event outcome old new leads told = (new, leads, told, refl)
 
 -- ---- what was told of two parts of a list
 in_two : (xs ys : List (Event × Outcome)) (old new : WorldRecord) → AreTold old (xs ++ ys) new → (mid : WorldRecord) × AreTold old xs mid × AreTold mid ys new

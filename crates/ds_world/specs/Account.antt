@@ -1,5 +1,6 @@
 -- What accounts say of a world's value: the headline's statements, read off what callers see.
 use Rattle.std.specs.Prelude.{◌≡◌, ◌⊎◌, ℕ, ◌≤◌, Bool, true, false, List, ◌∷◌, ◌++◌, Option, Some, Contains}
+use Rattle.std.specs.List.{slice_get}
 use Rattle.ds_names.specs.declared.key.Key.{Key}
 use Rattle.ds_entry.specs.Change.{ChangeRecord}
 use Rattle.ds_entry.specs.Void.{voids}
@@ -10,6 +11,7 @@ use Rattle.ds_entry.specs.declared.item.Item.TheVariants.{Change as Changed, Flo
 use Rattle.ds_join.specs.ItemTop.{CoversAll}
 use Rattle.ds_feed.specs.Feed.{position}
 use Rattle.ds_pattern.specs.Under.{is_under}
+use Rattle.ds_submap.specs.Map.{SubMapRecord, IsMap, endpoint_of_label}
 use Rattle.ds_whole.specs.Under.{under, entries_of}
 use Rattle.ds_machine.specs.Machine.{Run}
 use Rattle.ds_machine.specs.declared.command.Command.{Command}
@@ -17,7 +19,7 @@ use Rattle.ds_machine.specs.declared.reply.Reply.{Reply}
 use Rattle.ds_machine.specs.declared.refusal.Refusal.{Refusal}
 use Rattle.ds_content.specs.Stands as contents
 use Rattle.ds_whole.specs.Agreement.{KnowSame}
-use Rattle.ds_whole.specs.Labels.{label_key, label_in, IsNewest}
+use Rattle.ds_whole.specs.Labels.{label_key, IsNewest}
 use Rattle.ds_whole.specs.Sent.{Sent}
 use Rattle.ds_whole.specs.Whole.{IsWhole}
 use Rattle.ds_replica.specs.declared.event.Side.{Side}
@@ -57,12 +59,12 @@ CatchesUp account value =
 abbrev pub KeepsUp : Account → WorldRecord → Type 0
 KeepsUp account value = (j : ℕ) (m : MapAccount) (side : Side) → HasAll account j m side → CoversAll (held_in value (Map j)) (under (is_under m.query) (held_in value (Store side)))
 
--- *no older generation*: such a map names under each name whose label is under its query the endpoint of the greatest
--- generation that the store knows, or none where that one is gone
+-- *no older generation*: such a map's label, as the map reads it, is for each name whose label is under its query the endpoint
+-- of the greatest generation that the store knows, or none where that one is gone; single-numbered or not
 abbrev pub NamesNewest : Account → WorldRecord → Type 0
 NamesNewest account value =
-    (j : ℕ) (m : MapAccount) (side : Side) (name : List ℕ) → AreSingleNumbered account.brought → AreItems account.brought → HasAll account j m side → HasNothingElse account m side →
-    is_under m.query (label_key name) ≡ true → IsNewest (store_of account side).known name (label_in (held_in value (Map j)) name)
+    (j : ℕ) (m : MapAccount) (n : SubMapRecord) (side : Side) (name : List ℕ) → slice_get value.maps j ≡ Some n → IsMap n → AreItems account.brought → HasAll account j m side → HasNothingElse account m side →
+    is_under m.query (label_key name) ≡ true → IsNewest (store_of account side).known name (endpoint_of_label n.held name)
 
 -- *no stop by clash or owner*: no two changes of a key that are held, or can be delivered, have two owners, or two bodies at
 -- one version
@@ -82,6 +84,11 @@ NothingStops account events =
 -- *floors*: where a holder knows a floor, it holds nothing that the floor makes void
 abbrev pub NothingBelowFloors : Account → WorldRecord → Type 0
 NothingBelowFloors account value = (h : Holder) (f : Floor) (c : ChangeRecord) → Contains (known_at account h) (Floored f) → Contains (held_in value h) (Changed c) → voids f c ≡ false
+
+-- and these events brought nothing that a floor known before them makes void, unless they emptied the holder
+abbrev pub FloorsStand : Account → List (Event × Outcome) → WorldRecord → Type 0
+FloorsStand account events new =
+    (h : Holder) (f : Floor) (c : ChangeRecord) → Stays h events → Contains (known_at account h) (Floored f) → Contains (held_in new h) (Changed c) → voids f c ≡ false
 
 -- *wholeness*: what is whole for a store stays so over these events, unless they restart the store
 abbrev pub WholeStays : Account → List (Event × Outcome) → Type 0

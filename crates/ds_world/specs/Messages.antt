@@ -1,8 +1,11 @@
 -- What the messages leave out nothing of that stores gave in a run.
 use Rattle.std.specs.Prelude.{◌≡◌, ℕ, ◌<◌, Bool, true, false, List, ◌∷◌, ◌++◌, length, Option, Some}
-use Rattle.std.specs.List.{list_any}
+use Rattle.std.specs.List.{list_any, slice_get}
 use Rattle.ds_names.specs.declared.key.Key.{Key}
 use Rattle.ds_feed.specs.declared.cursor.Cursor.{Cursor}
+use Rattle.ds_feed.specs.declared.reading.Since as readings
+use Rattle.ds_feed.specs.declared.reading.Snapshot as snapshots
+use Rattle.ds_feed.specs.declared.reading.Page as pages
 use Rattle.ds_feed.specs.Feed.{Feed, position}
 use Rattle.ds_pattern.specs.declared.query.Query.{Query}
 use Rattle.ds_pattern.specs.Under.{is_under}
@@ -19,7 +22,8 @@ use Rattle.ds_machine.specs.State.{subscription_at}
 use Rattle.ds_machine.specs.declared.command.Scope.{Scope}
 use Rattle.ds_machine.specs.declared.command.Command.{Command}
 use Rattle.ds_machine.specs.declared.command.Command.TheVariants.{Subscribe, Check, Since, Snapshot, Page}
-use Rattle.ds_machine.specs.declared.reply.Reply.TheVariants.{Subscribed}
+use Rattle.ds_machine.specs.declared.reply.Reply.{Reply}
+use Rattle.ds_machine.specs.declared.reply.Reply.TheVariants.{Subscribed, Journaled, Snapped, Paged}
 use Rattle.ds_replica.specs.declared.event.Side.{Side}
 use Rattle.ds_replica.specs.declared.event.Holder.TheVariants.{Store}
 use Rattle.ds_replica.specs.declared.event.Event.{Event}
@@ -38,35 +42,46 @@ pub record WasGiven (events : List (Event × Outcome)) (side : Side) (command : 
   pub all : before ++ (Ask side command, Made k) ∷ since ≡ events
   pub stays : Stays (Store side) since
 
--- a message with a snapshot, under a scope that keeps all of the query, is whole up to the position at which it was asked for
-abbrev pub SnapshotsAreWhole : Account → List (Event × Outcome) → Type 0
-SnapshotsAreWhole account events =
-    (side : Side) (scope : Scope) (query : Key → Bool) (k : ℕ) (g : WasGiven events side (Snapshot scope) k) → Keeps (keeps scope) query →
-    let now = extended_all account events in
-    (sent : List Sent) × IsMessage now k sent × IsWhole (feed_of now side) query sent (position (feed_of (extended_all account g.before) side))
+-- a reply of a store's journal that is a message: how many items were asked for, and the message's number
+pub record GivenSince : Type 0 where
+  pub max : ℕ
+  pub message : ℕ
+  pub since : readings.Since
 
--- a message of the journal is a turn of the store
-abbrev pub SincesAreTurns : Account → List (Event × Outcome) → Type 0
-SincesAreTurns account events =
-    (side : Side) (scope : Scope) (at : Cursor) (max k : ℕ) → WasGiven events side (Since scope at max) k →
-    let now = extended_all account events in
-    (t : SinceTurn) × (t.max ≡ max) × IsSinceTurn (feed_of now side) (keeps scope) at t × IsMessage now k (given t.known t.since.items)
+-- and a page
+pub record GivenPage : Type 0 where
+  pub max : ℕ
+  pub message : ℕ
+  pub page : pages.Page
 
--- items that are whole up to a cursor, with those of a message of the journal from there, under such a scope, are whole up to
--- the cursor that came with the message
-abbrev pub SincesExtend : Account → List (Event × Outcome) → Type 0
-SincesExtend account events =
-    (side : Side) (scope : Scope) (query : Key → Bool) (at : Cursor) (max k : ℕ) (items : List Sent) → WasGiven events side (Since scope at max) k → Keeps (keeps scope) query →
+-- a message with a snapshot, under a scope that keeps all of the query, is whole up to the cursor that came with it
+abbrev pub SnapshotsAreWhole : Account → List (Event × Outcome) → List Reply → Type 0
+SnapshotsAreWhole account events messages =
+    (side : Side) (scope : Scope) (query : Key → Bool) (k : ℕ) (snapshot : snapshots.Snapshot) → WasGiven events side (Snapshot scope) k → slice_get messages k ≡ Some (Snapped snapshot) → Keeps (keeps scope) query →
     let now = extended_all account events in
-    IsWhole (feed_of now side) query items at.position →
-    (t : SinceTurn) × IsSinceTurn (feed_of now side) (keeps scope) at t × IsMessage now k (given t.known t.since.items) × IsWhole (feed_of now side) query (items ++ given t.known t.since.items) t.since.cursor.position
+    IsWhole (feed_of now side) query (sent_in now k) snapshot.cursor.position
+
+-- a message of the journal is a turn of the store as it was when it was asked
+abbrev pub SincesAreTurns : Account → List (Event × Outcome) → List Reply → Type 0
+SincesAreTurns account events messages =
+    (side : Side) (scope : Scope) (at : Cursor) (x : GivenSince) (g : WasGiven events side (Since scope at x.max) x.message) → slice_get messages x.message ≡ Some (Journaled x.since) →
+    let now = extended_all account events in
+    (t : SinceTurn) × (t.max ≡ x.max) × (t.since ≡ x.since) × (t.feed ≡ feed_of (extended_all account g.before) side) × IsSinceTurn (feed_of now side) (keeps scope) at t × (sent_in now x.message ≡ given t.known x.since.items)
+
+-- items that are whole up to a cursor, with those of a message of the journal from there, under a scope that keeps all of the
+-- query, are whole up to the cursor that came with the message
+abbrev pub SincesExtend : Account → List (Event × Outcome) → List Reply → Type 0
+SincesExtend account events messages =
+    (side : Side) (scope : Scope) (query : Key → Bool) (at : Cursor) (x : GivenSince) (items : List Sent) → WasGiven events side (Since scope at x.max) x.message → slice_get messages x.message ≡ Some (Journaled x.since) → Keeps (keeps scope) query →
+    let now = extended_all account events in
+    IsWhole (feed_of now side) query items at.position → IsWhole (feed_of now side) query (items ++ sent_in now x.message) x.since.cursor.position
 
 -- a page is a turn of the store as it was when it was asked, of which the law of pages speaks
-abbrev pub PagesAreTurns : Account → List (Event × Outcome) → Type 0
-PagesAreTurns account events =
-    (side : Side) (scope : Scope) (behind : Option Key) (max k : ℕ) (g : WasGiven events side (Page scope behind max) k) →
+abbrev pub PagesAreTurns : Account → List (Event × Outcome) → List Reply → Type 0
+PagesAreTurns account events messages =
+    (side : Side) (scope : Scope) (behind : Option Key) (x : GivenPage) (g : WasGiven events side (Page scope behind x.max) x.message) → slice_get messages x.message ≡ Some (Paged x.page) →
     let now = extended_all account events in
-    (t : PageTurn) × (t.max ≡ max) × (t.feed ≡ feed_of (extended_all account g.before) side) × IsPageTurn (feed_of now side) (keeps scope) behind t × IsMessage now k (given t.known t.page.items)
+    (t : PageTurn) × (t.max ≡ x.max) × (t.page ≡ x.page) × (t.feed ≡ feed_of (extended_all account g.before) side) × IsPageTurn (feed_of now side) (keeps scope) behind t × (sent_in now x.message ≡ given t.known x.page.items)
 
 -- and so is a check, of the subscription as the store's state has it when it is asked; `early` is any earlier time
 abbrev pub ChecksAreTurns : Account → List (Event × Outcome) → Type 0

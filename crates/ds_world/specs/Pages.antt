@@ -3,8 +3,6 @@ use Rattle.std.specs.Prelude.{◌≡◌, ℕ, ◌≤◌, Bool, List, [], ◌∷�
 use Rattle.std.specs.List.{flat_map, slice_get}
 use Rattle.ds_names.specs.declared.key.Key.{Key}
 use Rattle.ds_feed.specs.declared.cursor.Cursor.{Cursor}
-use Rattle.ds_feed.specs.declared.reading.Page as readings
-use Rattle.ds_feed.specs.declared.reading.Since as journals
 use Rattle.ds_whole.specs.Under.{Keeps}
 use Rattle.ds_whole.specs.Whole.{IsWhole}
 use Rattle.ds_whole.specs.Paged.{last_key}
@@ -19,20 +17,7 @@ use Rattle.ds_replica.specs.declared.outcome.Outcome.{Outcome}
 use Rattle.ds_replica.specs.Known.{Account, extended_all}
 use Rattle.ds_replica.specs.Messages.{feed_of}
 use Rattle.ds_replica.specs.Checks.{sent_in}
-use Rattle.ds_world.specs.World.{WorldRecord}
-use Rattle.ds_world.specs.Messages.{WasGiven}
-
--- a page that a store gave: how many changes were asked for, and the message that it is
-pub record GivenPage : Type 0 where
-  pub max : ℕ
-  pub message : ℕ
-  pub page : readings.Page
-
--- and a reply of its journal
-pub record GivenSince : Type 0 where
-  pub max : ℕ
-  pub message : ℕ
-  pub since : journals.Since
+use Rattle.ds_world.specs.Messages.{WasGiven, GivenSince, GivenPage}
 
 -- among the events a store gave these pages, each asked for behind the last key of the one before, and of no earlier time, up
 -- to the last page; they are messages of the world
@@ -59,10 +44,10 @@ last_since at (x ∷ xs) = last_since x.since.cursor xs
 
 -- the items of all pages, with those of the journal from the first page's cursor on, are whole up to the cursor that the journal
 -- gave last, if that one isn't before the last page's; whatever happened between them, and in whatever order they were asked for
-abbrev pub AllPagesAreWhole : Account → List (Event × Outcome) → WorldRecord → Type 0
-AllPagesAreWhole account events new =
+abbrev pub AllPagesAreWhole : Account → List (Event × Outcome) → List Reply → Type 0
+AllPagesAreWhole account events messages =
     (side : Side) (scope other : Scope) (query : Key → Bool) (first : GivenPage) (pages : List GivenPage) (sinces : List GivenSince) → Keeps (keeps scope) query → Keeps (keeps other) query →
-    WerePaged events new.messages side scope None 0 (first ∷ pages) → WereJournaled events new.messages side other first.page.cursor sinces →
+    WerePaged events messages side scope None 0 (first ∷ pages) → WereJournaled events messages side other first.page.cursor sinces →
     let now = extended_all account events in
     let to = last_since first.page.cursor sinces in
     (last_page first.page.cursor pages).position ≤ to.position →

@@ -11,7 +11,7 @@ ghost use Rattle.ds_world.specs.Run.{most_events, paired, EventLeads, RunLeads, 
 ghost use Rattle.ds_world.specs.Told.{IsTold, AreTold, RepliesAreKept, MessagesStay};
 ghost use Rattle.ds_world.specs.Messages.{SnapshotsAreWhole, SincesAreTurns, SincesExtend, PagesAreTurns, ChecksAreTurns, AllChecksAreWhole};
 ghost use Rattle.ds_world.specs.Pages.{AllPagesAreWhole};
-ghost use Rattle.ds_world.specs.Account.{IsFor, Agrees, CatchesUp, KeepsUp, NamesNewest, NothingClashes, NothingStops, NothingBelowFloors, StayItems, TurnsAreRun, WholeStays};
+ghost use Rattle.ds_world.specs.Account.{IsFor, Agrees, CatchesUp, KeepsUp, NamesNewest, NothingClashes, NothingStops, NothingBelowFloors, FloorsStand, StayItems, TurnsAreRun, WholeStays};
 
 use crate::events::Events;
 use crate::fault::{SeedFault, WorldFault};
@@ -106,13 +106,14 @@ impl World {
         ensures clashes { IfOk result (λ outcomes. (account : Account) → IsFor account self.old → NothingClashes (extended_all account (paired events outcomes)) self.new) }
         ensures stops { IfOk result (λ outcomes. (account : Account) → IsFor account self.old → NothingStops account (paired events outcomes)) }
         ensures floors { IfOk result (λ outcomes. (account : Account) → IsFor account self.old → NothingBelowFloors (extended_all account (paired events outcomes)) self.new) }
+        ensures floors_stand { IfOk result (λ outcomes. (account : Account) → IsFor account self.old → FloorsStand account (paired events outcomes) self.new) }
         ensures items { IfOk result (λ outcomes. (account : Account) → IsFor account self.old → StayItems account (paired events outcomes)) }
         ensures whole { IfOk result (λ outcomes. (account : Account) → IsFor account self.old → WholeStays account (paired events outcomes)) }
-        ensures snapshots { IfOk result (λ outcomes. (account : Account) → IsFor account self.old → SnapshotsAreWhole account (paired events outcomes)) }
-        ensures since_turns { IfOk result (λ outcomes. (account : Account) → IsFor account self.old → SincesAreTurns account (paired events outcomes)) }
-        ensures sinces { IfOk result (λ outcomes. (account : Account) → IsFor account self.old → SincesExtend account (paired events outcomes)) }
-        ensures pages { IfOk result (λ outcomes. (account : Account) → IsFor account self.old → PagesAreTurns account (paired events outcomes)) }
-        ensures all_pages { IfOk result (λ outcomes. (account : Account) → IsFor account self.old → AllPagesAreWhole account (paired events outcomes) self.new) }
+        ensures snapshots { IfOk result (λ outcomes. (account : Account) → IsFor account self.old → SnapshotsAreWhole account (paired events outcomes) self.new.messages) }
+        ensures since_turns { IfOk result (λ outcomes. (account : Account) → IsFor account self.old → SincesAreTurns account (paired events outcomes) self.new.messages) }
+        ensures sinces { IfOk result (λ outcomes. (account : Account) → IsFor account self.old → SincesExtend account (paired events outcomes) self.new.messages) }
+        ensures pages { IfOk result (λ outcomes. (account : Account) → IsFor account self.old → PagesAreTurns account (paired events outcomes) self.new.messages) }
+        ensures all_pages { IfOk result (λ outcomes. (account : Account) → IsFor account self.old → AllPagesAreWhole account (paired events outcomes) self.new.messages) }
         ensures checks { IfOk result (λ outcomes. (account : Account) → IsFor account self.old → ChecksAreTurns account (paired events outcomes)) }
         ensures all_checks { IfOk result (λ outcomes. (account : Account) → IsFor account self.old → AllChecksAreWhole account (paired events outcomes)) }
         ensures turns { IfOk result (λ outcomes. TurnsAreRun self.old (paired events outcomes) self.new) }
@@ -159,15 +160,17 @@ impl World {
         ensures clashes { (account : Account) → IsFor account self.old → NothingClashes (extended account event result) self.new }
         ensures stops { (account : Account) → IsFor account self.old → NothingStops account ((event, result) ∷ []) }
         ensures floors { (account : Account) → IsFor account self.old → NothingBelowFloors (extended account event result) self.new }
+        ensures floors_stand { (account : Account) → IsFor account self.old → FloorsStand account ((event, result) ∷ []) self.new }
         ensures items { (account : Account) → IsFor account self.old → StayItems account ((event, result) ∷ []) }
         ensures whole { (account : Account) → IsFor account self.old → WholeStays account ((event, result) ∷ []) }
-        ensures snapshots { (account : Account) → IsFor account self.old → SnapshotsAreWhole account ((event, result) ∷ []) }
-        ensures since_turns { (account : Account) → IsFor account self.old → SincesAreTurns account ((event, result) ∷ []) }
-        ensures sinces { (account : Account) → IsFor account self.old → SincesExtend account ((event, result) ∷ []) }
-        ensures pages { (account : Account) → IsFor account self.old → PagesAreTurns account ((event, result) ∷ []) }
+        ensures snapshots { (account : Account) → IsFor account self.old → SnapshotsAreWhole account ((event, result) ∷ []) self.new.messages }
+        ensures since_turns { (account : Account) → IsFor account self.old → SincesAreTurns account ((event, result) ∷ []) self.new.messages }
+        ensures sinces { (account : Account) → IsFor account self.old → SincesExtend account ((event, result) ∷ []) self.new.messages }
+        ensures pages { (account : Account) → IsFor account self.old → PagesAreTurns account ((event, result) ∷ []) self.new.messages }
         ensures checks { (account : Account) → IsFor account self.old → ChecksAreTurns account ((event, result) ∷ []) }
         ensures turns { TurnsAreRun self.old ((event, result) ∷ []) self.new }
     {
+        answers_say();
         self.carry_out(event)
     }
 

@@ -1,6 +1,6 @@
-use Rattle.ds_world.proofs.HeadlineLemmas.{account_fits, agree_after, catch_up_after, keep_up_after, newest_after, clashes_after, floors_after, items_stay, stays_whole, turns}
-use Rattle.ds_world.proofs.GivenLemmas.{snapshots, since_turns, sinces, pages, checks, all_checks, stops}
-use Rattle.ds_world.proofs.PageLemmas.{all_pages}
+use Rattle.ds_world.proofs.HeadlineLemmas.{account_fits, agree_after, catch_up_after, keep_up_after, newest_after, clashes_after, floors_after, floors_stand_after, items_stay, stays_whole, turns}
+use Rattle.ds_world.proofs.GivenLemmas.{checks, all_checks, stops}
+use Rattle.ds_world.proofs.PageLemmas.{snapshots, since_turns_are, sinces, pages_are, all_pages}
 use Rattle.ds_world.proofs.ReplyLemmas.{replies_are_kept, messages_stay}
 use Rattle.ds_world.specs.Run.{paired}
 use Rattle.ds_world.proofs.world.World.run.Goals as goal
@@ -35,6 +35,9 @@ returns-clause-stops c account = stops account c.args.self.now c.happen_all.new.
 pub returns-clause-floors : goal.returns-clause-floors
 returns-clause-floors c account = floors_after account c.args.self.now c.happen_all.new.self c.args.events c.happen_all.result c.happen_all.ensures.done
 
+pub returns-clause-floors_stand : goal.returns-clause-floors_stand
+returns-clause-floors_stand c account = floors_stand_after account c.args.self.now c.happen_all.new.self c.args.events c.happen_all.result c.happen_all.ensures.done
+
 pub returns-clause-items : goal.returns-clause-items
 returns-clause-items c account = items_stay account c.args.self.now c.happen_all.new.self c.args.events c.happen_all.result c.happen_all.ensures.done
 
@@ -42,19 +45,19 @@ pub returns-clause-whole : goal.returns-clause-whole
 returns-clause-whole c account = stays_whole account c.args.self.now c.happen_all.new.self c.args.events c.happen_all.result c.happen_all.ensures.done
 
 pub returns-clause-snapshots : goal.returns-clause-snapshots
-returns-clause-snapshots c account = snapshots account c.args.self.now c.happen_all.new.self c.args.events c.happen_all.result c.happen_all.ensures.done
+returns-clause-snapshots c account = snapshots c.answers_say.ensures.snapped c.answers_say.ensures.paged c.answers_say.ensures.journaled account c.args.self.now c.happen_all.new.self (paired c.args.events c.happen_all.result) c.happen_all.ensures.told
 
 pub returns-clause-since_turns : goal.returns-clause-since_turns
-returns-clause-since_turns c account = since_turns account c.args.self.now c.happen_all.new.self c.args.events c.happen_all.result c.happen_all.ensures.done
+returns-clause-since_turns c account = since_turns_are c.answers_say.ensures.snapped c.answers_say.ensures.paged c.answers_say.ensures.journaled account c.args.self.now c.happen_all.new.self (paired c.args.events c.happen_all.result) c.happen_all.ensures.told
 
 pub returns-clause-sinces : goal.returns-clause-sinces
-returns-clause-sinces c account = sinces account c.args.self.now c.happen_all.new.self c.args.events c.happen_all.result c.happen_all.ensures.done
+returns-clause-sinces c account = sinces c.answers_say.ensures.snapped c.answers_say.ensures.paged c.answers_say.ensures.journaled account c.args.self.now c.happen_all.new.self (paired c.args.events c.happen_all.result) c.happen_all.ensures.told
 
 pub returns-clause-pages : goal.returns-clause-pages
-returns-clause-pages c account = pages account c.args.self.now c.happen_all.new.self c.args.events c.happen_all.result c.happen_all.ensures.done
+returns-clause-pages c account = pages_are c.answers_say.ensures.snapped c.answers_say.ensures.paged c.answers_say.ensures.journaled account c.args.self.now c.happen_all.new.self (paired c.args.events c.happen_all.result) c.happen_all.ensures.told
 
 pub returns-clause-all_pages : goal.returns-clause-all_pages
-returns-clause-all_pages c account = all_pages c.answers_say.ensures.paged c.answers_say.ensures.journaled account c.args.self.now c.happen_all.new.self (paired c.args.events c.happen_all.result) c.happen_all.ensures.told
+returns-clause-all_pages c account = all_pages c.answers_say.ensures.snapped c.answers_say.ensures.paged c.answers_say.ensures.journaled account c.args.self.now c.happen_all.new.self (paired c.args.events c.happen_all.result) c.happen_all.ensures.told
 
 pub returns-clause-checks : goal.returns-clause-checks
 returns-clause-checks c account = checks account c.args.self.now c.happen_all.new.self c.args.events c.happen_all.result c.happen_all.ensures.done
