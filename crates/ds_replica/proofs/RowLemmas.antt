@@ -1,22 +1,39 @@
 -- The worked rows.
-use Rattle.std.proofs.Common.{◌≡◌, ℕ, ◌≤◌, List, [], ◌∷◌, length, None, refl, ap, sym, ◌∙◌, subst, inl, arith, Contains}
-use Rattle.ds_entry.specs.Change.{ChangeRecord}
+use Rattle.std.proofs.Common.{◌≡◌, ℕ, ◌≤◌, List, [], ◌∷◌, length, filter, Some, None, refl, ap, sym, ◌∙◌, subst, inl, inr, arith, codes, Contains}
+use Rattle.ds_names.specs.Endpoint.{endpoint_of}
+use Rattle.ds_names.specs.Name.{is_name_byte}
+use Rattle.ds_entry.specs.Change.{ChangeRecord, rs_name}
+use Rattle.ds_entry.specs.Item.{IsItem, passes}
 use Rattle.ds_entry.specs.ItemCovers.{AreSingleNumbered}
+use Rattle.ds_entry.specs.declared.body.Value.TheVariants.{Label, U32 as Number}
+use Rattle.ds_entry.specs.declared.body.Body.TheVariants.{Put, Gone}
 use Rattle.ds_entry.specs.declared.floor.Floor.{Floor}
 use Rattle.ds_entry.specs.declared.item.Item.{Item}
 use Rattle.ds_entry.specs.declared.item.Item.TheVariants.{Change as Changed, Floor as Floored}
-use Rattle.ds_entry.proofs.Members.{Contains-nil, Contains-head, Contains-single}
+use Rattle.ds_entry.proofs.Members.{Contains-nil, Contains-head, Contains-tail, Contains-single, Contains-cons, Contains-from_filter}
 use Rattle.ds_join.specs.ItemTop.{IsTop}
-use Rattle.ds_join.proofs.ItemTopLemmas.{top_of_covered}
 use Rattle.ds_held.specs.Limits.{larger}
 use Rattle.ds_pattern.specs.declared.query.Query.{Query}
+use Rattle.ds_pattern.specs.Under.{is_under}
+use Rattle.ds_whole.specs.Under.{under}
+use Rattle.ds_whole.proofs.Samples.{top_of_one}
+use Rattle.ds_whole.proofs.SentLemmas.{Contains-from_under, stood_wider}
 use Rattle.ds_machine.specs.Limits.{most_items}
 use Rattle.ds_machine.specs.State.{State, accepts, opening}
-use Rattle.ds_machine.specs.declared.reply.Reply.TheVariants.{Changed as Accepted, Swept, Snapped, Merged as AllMerged}
+use Rattle.ds_machine.specs.Machine.{Step, outcome}
+use Rattle.ds_machine.specs.declared.command.Command.{Command}
+use Rattle.ds_machine.specs.declared.command.Command.TheVariants.{Merge}
+use Rattle.ds_machine.specs.declared.refusal.Refusal.{Refusal}
+use Rattle.ds_machine.specs.declared.refusal.Refusal.TheVariants.{Clash}
+use Rattle.ds_machine.specs.declared.reply.Reply.TheVariants.{Merged as AllMerged, MergeStopped}
 use Rattle.ds_machine.proofs.PartLemmas.{changed_same}
-use Rattle.ds_replica.specs.World.{World, MapState}
-use Rattle.ds_replica.specs.Happens.{pattern_fault}
-use Rattle.ds_replica.specs.Rows.{fresh, driver, floor, ReplicasConverge, ReplicasDiffer, MapCatchesUp, MapLags, MapLeads, MapsCatchUp, MapsLag, MapsLead}
+use Rattle.ds_replica.specs.declared.event.Side.{Side}
+use Rattle.ds_replica.specs.World.{World, MapState, store_at, with_state, with_items}
+use Rattle.ds_replica.specs.Happens.{Asks, ask_outcome, items_given}
+use Rattle.ds_replica.specs.Delivery.{Tally, StoreTakes, MapTakes}
+use Rattle.ds_replica.specs.Known.{known_by}
+use Rattle.ds_replica.specs.CaughtUp.{AreItems}
+use Rattle.ds_replica.specs.Rows.{fresh, driver, floor, one, other, later, with_both, AsksForLabel, ReplicasConverge, ReplicasDiffer, MapCatchesUp, MapLags, MapLeads, MapsCatchUp, MapsLag, MapsLead, ReplicasClash}
 
 -- ---- what takes part
 one_change : (c : ChangeRecord) → AreSingleNumbered (Changed c ∷ [])
@@ -25,14 +42,40 @@ one_change c = record { one_change = λ d e h k q v. is d h ∙ sym (is e k); on
     is : (d : ChangeRecord) → Contains (Changed c ∷ []) (Changed d) → d ≡ c
     is d h = changed_same d c (Contains-single (Changed c) (Changed d) h)
 
-no_change : (f : Floor) → AreSingleNumbered (Floored f ∷ [])
-no_change f = record { one_change = λ d e h k q v. absurd (not d h); one_owner = λ d e h k q. absurd (not d h) }
+-- a floor beside a change
+beside : (f : Floor) (c : ChangeRecord) → AreSingleNumbered (Floored f ∷ Changed c ∷ [])
+beside f c = record { one_change = λ d e h k q v. is d h ∙ sym (is e k); one_owner = λ d e h k q. ap (λ (x : ChangeRecord). x.owner) (is d h ∙ sym (is e k)) }
   where
-    not : (d : ChangeRecord) → Contains (Floored f ∷ []) (Changed d) → ⊥
-    not d h = let e : Changed d ≡ Floored f = Contains-single (Floored f) (Changed d) h in cc
+    is : (d : ChangeRecord) → Contains (Floored f ∷ Changed c ∷ []) (Changed d) → d ≡ c
+    is d h = elim (Contains-cons (Floored f) (Changed c ∷ []) (Changed d) h) [ inl e ↦ absurd (let q : Changed d ≡ Floored f = e in cc) | inr k ↦ changed_same d c (Contains-single (Changed c) (Changed d) k) ]
+
+-- of so many items that were done, and of those that were taken
+abbrev done : ℕ → ℕ → Tally
+done count taken = record { done = count; taken = taken; stale = 0; owed = 0; stop = None }
 
 few_there : (i : Item) (group : List Item) → Contains ((i ∷ []) ∷ []) group → length group ≤ most_items
 few_there i group h = subst (λ (l : List Item). length l ≤ most_items) (sym (Contains-single (i ∷ []) group h)) (omega arith)
+
+-- one item goes to a store, as a Merge of its own
+stored : (s : State) (i : Item) → Step s (Merge (i ∷ [])) (AllMerged 1 1 0 0) (accepts s (i ∷ [])) → StoreTakes s (i ∷ []) (done 1 1) (accepts s (i ∷ []))
+stored s i step = record {
+  groups = (i ∷ []) ∷ [];
+  all = refl;
+  few = few_there i;
+  merged = (AllMerged 1 1 0 0, accepts s (i ∷ []), step, (done 0 0, (refl, refl), refl));
+}
+
+-- a store that is asked makes a step
+does : (w : World) (side : Side) (command : Command) →
+    let out = outcome (store_at w side) command in
+    Asks w side command (ask_outcome w out.0 (items_given out.0)) (with_items (with_state w side out.1) (items_given out.0))
+does w side command = record {
+  reply = (outcome (store_at w side) command).0;
+  after = (outcome (store_at w side) command).1;
+  step = inl (inl (record { reply_is = refl; state_is = refl }));
+  outcome_is = refl;
+  world_is = refl;
+}
 
 -- ---- two replicas
 after_publish : State
@@ -42,7 +85,7 @@ pub replicas_differ : ReplicasDiffer
 unfolding after_publish
 replicas_differ = record {
   world = record fresh { a = after_publish };
-  happen = (record fresh { a = after_publish }, (refl, record { reply = Accepted 0; after = after_publish; step = inl (inl (record { reply_is = refl; state_is = refl })); outcome_is = refl; world_is = refl }), refl);
+  happen = (record fresh { a = after_publish }, (refl, does _ _ _), refl);
   numbers = one_change _;
   differ = λ e. (let n : driver ∷ [] ≡ [] = e in cc);
 }
@@ -56,30 +99,15 @@ replicas_converge = record {
   world = delivered;
   happen = (
     record fresh { a = after_publish },
-    (refl, record { reply = Accepted 0; after = after_publish; step = inl (inl (record { reply_is = refl; state_is = refl })); outcome_is = refl; world_is = refl }),
+    (refl, does _ _ _),
     (
       record fresh { a = after_publish; messages = (driver ∷ []) ∷ [] },
-      (refl, record { reply = Snapped (record { items = driver ∷ []; cursor = record { incarnation = 1; position = 1 } }); after = after_publish; step = inl (inl (record { reply_is = refl; state_is = refl })); outcome_is = refl; world_is = refl }),
+      (refl, does _ _ _),
       (
         delivered,
         (
           refl,
-          record {
-            items = driver ∷ [];
-            there = refl;
-            tally = record { done = 1; taken = 1; stale = 0; owed = 0; stop = None };
-            taken = record {
-              after = accepts (opening 2 0 4 larger) (driver ∷ []);
-              takes = record {
-                groups = (driver ∷ []) ∷ [];
-                all = refl;
-                few = few_there driver;
-                merged = (AllMerged 1 1 0 0, accepts (opening 2 0 4 larger) (driver ∷ []), inl (inl (record { reply_is = refl; state_is = refl })), (record { done = 0; taken = 0; stale = 0; owed = 0; stop = None }, (refl, refl), refl));
-              };
-              world_is = refl;
-            };
-            outcome_is = refl;
-          },
+          record { items = driver ∷ []; there = refl; tally = done 1 1; taken = record { after = accepts (opening 2 0 4 larger) (driver ∷ []); takes = stored (opening 2 0 4 larger) driver (inl (inl (record { reply_is = refl; state_is = refl }))); world_is = refl }; outcome_is = refl },
         ),
         refl,
       ),
@@ -91,9 +119,49 @@ replicas_converge = record {
 }
 
 -- ---- a map
-module _ (query : Query) (e : pattern_fault query ≡ None) where
+both : List Item
+both = floor ∷ driver ∷ []
+
+-- what was brought in keeps the rules
+floor_is : IsItem floor
+unfolding is_name_byte
+floor_is = record { owner = record { some = omega arith; limit = omega arith; allowed = refl }; generation = omega arith }
+
+driver_is : IsItem driver
+unfolding is_name_byte
+driver_is = record {
+  name = record { some = omega arith; limit = omega arith; allowed = refl };
+  owner = record { some = omega arith; limit = omega arith; allowed = refl };
+  epoch = omega arith;
+  seq = omega arith;
+  body = record { generation = omega arith; slot = omega arith };
+  kind = refl;
+  rule = record { owner = refl; name = λ e. (let n : codes "eth0" ≡ codes "rs" = e in cc); epoch = omega arith; body = (refl, refl) };
+}
+
+both_are : AreItems both
+unfolding both
+both_are i h = elim (Contains-cons floor (driver ∷ []) i h) [ inl e ↦ subst IsItem (sym e) floor_is | inr k ↦ subst IsItem (sym (Contains-single driver i k)) driver_is ]
+
+-- they are the top of themselves
+itself : IsTop both both
+unfolding both
+itself = top_of_one rs_name (floor ∷ driver ∷ []) (tt, (refl, tt))
+
+-- none of them is gone
+still_put : {P Q : ChangeRecord → Type 0} → ((d : ChangeRecord) × Contains (floor ∷ driver ∷ []) (Changed d) × P d × (d.body ≡ Gone) × Q d) → ⊥
+still_put {P} {Q} g =
+    elim (Contains-cons floor (driver ∷ []) (Changed g.0) g.1) [
+      | inl e ↦ (let q : Changed g.0 ≡ floor = e in cc)
+      | inr k ↦ (let b : g.0.body ≡ Put (Label (endpoint_of 3 17)) = ap (λ (c : ChangeRecord). c.body) (changed_same g.0 _ (Contains-single driver (Changed g.0) k)) in let n : Gone ≡ Put (Label (endpoint_of 3 17)) = sym g.3 ∙ b in cc)
+    ]
+
+module _ (query : Query) (asks : AsksForLabel query) where
   abbrev map_with : List Item → MapState
   map_with held = record { query = query; held = held }
+
+  abbrev told_at : ℕ → State
+  told_at incarnation = accepts (opening incarnation 0 4 larger) (floor ∷ driver ∷ [])
 
   abbrev swept_at : ℕ → State
   swept_at incarnation = accepts (opening incarnation 0 4 larger) (floor ∷ [])
@@ -102,100 +170,175 @@ module _ (query : Query) (e : pattern_fault query ≡ None) where
   made = record fresh { maps = map_with [] ∷ [] }
 
   abbrev at_a : World
-  at_a = record made { a = swept_at 1 }
+  at_a = record made { a = told_at 1 }
 
   abbrev at_b : World
-  at_b = record made { b = swept_at 2 }
+  at_b = record made { b = told_at 2 }
 
-  -- the floor is the top of itself
-  itself : IsTop (floor ∷ []) (floor ∷ [])
-  itself = top_of_covered floor (floor ∷ []) (Contains-head floor [])
+  abbrev sends : World → World
+  sends w = record w { messages = (floor ∷ driver ∷ []) ∷ [] }
+
+  abbrev arrived : World → World
+  arrived w = record w { maps = map_with (floor ∷ driver ∷ []) ∷ [] }
+
+  -- all of both is under the query
+  under_it : under (is_under query) (floor ∷ driver ∷ []) ≡ floor ∷ driver ∷ []
+  under_it = simp asks.label
+
+  taken_top : IsTop (floor ∷ driver ∷ []) (under (is_under query) (floor ∷ driver ∷ []))
+  unfolding both
+  taken_top = subst (IsTop (floor ∷ driver ∷ [])) (sym under_it) itself
+
+  takes : MapTakes (map_with []) (floor ∷ driver ∷ []) (done 2 2) (map_with (floor ∷ driver ∷ []))
+  takes = record { query = refl; top = taken_top; counted = omega arith; owed = refl; ends = refl }
 
   lags : MapLags query
   lags = record {
     world = at_a;
     happen = (
       made,
-      (e, record { outcome_is = refl; world_is = refl }),
-      (at_a, (refl, record { reply = Swept 0 0; after = swept_at 1; step = inl (inl (record { reply_is = refl; state_is = refl })); outcome_is = refl; world_is = refl }), refl),
+      (asks.read, record { outcome_is = refl; world_is = refl }),
+      (
+        record made { a = swept_at 1 },
+        (refl, does _ _ _),
+        (at_a, (refl, does _ _ _), refl),
+      ),
     );
+    numbers = beside _ _;
     nothing_else = λ i h. absurd (Contains-nil i h);
-    differ = λ q. (let n : [] ≡ floor ∷ [] = q in cc);
+    differ = λ q. (let n : [] ≡ under (is_under query) (floor ∷ driver ∷ []) = q in cc under_it);
+    older = λ g. still_put (g _ (Contains-tail floor (driver ∷ []) driver (Contains-head driver [])) refl);
   }
 
   catches_up : MapCatchesUp query
+  unfolding both
   catches_up = record {
-    world = record at_a { maps = map_with (floor ∷ []) ∷ []; messages = (floor ∷ []) ∷ [] };
+    world = arrived (sends at_a);
     happen = (
       made,
-      (e, record { outcome_is = refl; world_is = refl }),
+      (asks.read, record { outcome_is = refl; world_is = refl }),
       (
-        at_a,
-        (refl, record { reply = Swept 0 0; after = swept_at 1; step = inl (inl (record { reply_is = refl; state_is = refl })); outcome_is = refl; world_is = refl }),
+        record made { a = swept_at 1 },
+        (refl, does _ _ _),
         (
-          record at_a { messages = (floor ∷ []) ∷ [] },
-          (refl, record { reply = Snapped (record { items = floor ∷ []; cursor = record { incarnation = 1; position = 1 } }); after = swept_at 1; step = inl (inl (record { reply_is = refl; state_is = refl })); outcome_is = refl; world_is = refl }),
+          at_a,
+          (refl, does _ _ _),
           (
-            record at_a { maps = map_with (floor ∷ []) ∷ []; messages = (floor ∷ []) ∷ [] },
+            sends at_a,
+            (refl, does _ _ _),
             (
+              arrived (sends at_a),
+              (refl, record { items = floor ∷ driver ∷ []; there = refl; tally = done 2 2; taken = record { old = map_with []; there = refl; after = map_with (floor ∷ driver ∷ []); takes = takes; world_is = refl }; outcome_is = refl }),
               refl,
-              record {
-                items = floor ∷ [];
-                there = refl;
-                tally = record { done = 1; taken = 1; stale = 0; owed = 0; stop = None };
-                taken = record { old = map_with []; there = refl; after = map_with (floor ∷ []); takes = record { query = refl; top = itself; counted = omega arith; owed = refl; ends = refl }; world_is = refl };
-                outcome_is = refl;
-              },
             ),
-            refl,
           ),
         ),
       ),
     );
-    numbers = no_change _;
-    all = record { there = refl; whole = λ i h. h };
-    nothing_else = λ i h. h;
+    numbers = beside _ _;
+    items = both_are;
+    all = record { there = refl; whole = λ i h. (Contains-from_under (is_under query) (floor ∷ driver ∷ []) i h).0 };
+    nothing_else = λ i h. stood_wider (filter (λ s. passes (is_under query) s.item) (with_both query).taken) (with_both query).taken (λ s k. (Contains-from_filter (λ s. passes (is_under query) s.item) (with_both query).taken s k).0) i (Contains-from_under (is_under query) (known_by (with_both query)) i h).0;
     held = refl;
+    named = refl;
   }
 
   leads : MapLeads query
   leads = record {
-    world = record at_b { maps = map_with (floor ∷ []) ∷ []; messages = (floor ∷ []) ∷ [] };
+    world = arrived (sends at_b);
     happen = (
       made,
-      (e, record { outcome_is = refl; world_is = refl }),
+      (asks.read, record { outcome_is = refl; world_is = refl }),
       (
-        at_b,
-        (refl, record { reply = Swept 0 0; after = swept_at 2; step = inl (inl (record { reply_is = refl; state_is = refl })); outcome_is = refl; world_is = refl }),
+        record made { b = swept_at 2 },
+        (refl, does _ _ _),
         (
-          record at_b { messages = (floor ∷ []) ∷ [] },
-          (refl, record { reply = Snapped (record { items = floor ∷ []; cursor = record { incarnation = 2; position = 1 } }); after = swept_at 2; step = inl (inl (record { reply_is = refl; state_is = refl })); outcome_is = refl; world_is = refl }),
+          at_b,
+          (refl, does _ _ _),
           (
-            record at_b { maps = map_with (floor ∷ []) ∷ []; messages = (floor ∷ []) ∷ [] },
+            sends at_b,
+            (refl, does _ _ _),
             (
+              arrived (sends at_b),
+              (refl, record { items = floor ∷ driver ∷ []; there = refl; tally = done 2 2; taken = record { old = map_with []; there = refl; after = map_with (floor ∷ driver ∷ []); takes = takes; world_is = refl }; outcome_is = refl }),
               refl,
-              record {
-                items = floor ∷ [];
-                there = refl;
-                tally = record { done = 1; taken = 1; stale = 0; owed = 0; stop = None };
-                taken = record { old = map_with []; there = refl; after = map_with (floor ∷ []); takes = record { query = refl; top = itself; counted = omega arith; owed = refl; ends = refl }; world_is = refl };
-                outcome_is = refl;
-              },
             ),
-            refl,
           ),
         ),
       ),
     );
+    numbers = beside _ _;
     all = record { there = refl; whole = λ i h. absurd (Contains-nil i h) };
-    differ = λ q. (let n : floor ∷ [] ≡ [] = q in cc);
+    differ = λ q. (let n : floor ∷ driver ∷ [] ≡ [] = q in cc);
+    older = λ l. Contains-nil _ l.put.1;
   }
 
 pub maps_catch_up : MapsCatchUp
-maps_catch_up query e = catches_up query e
+maps_catch_up query asks = catches_up query asks
 
 pub maps_lag : MapsLag
-maps_lag query e = lags query e
+maps_lag query asks = lags query asks
 
 pub maps_lead : MapsLead
-maps_lead query e = leads query e
+maps_lead query asks = leads query asks
+
+-- ---- two replicas that were told what contradicts itself
+-- a list of two, the other way round
+swapped : (x y i : Item) → Contains (x ∷ y ∷ []) i → Contains (y ∷ x ∷ []) i
+swapped x y i h = elim (Contains-cons x (y ∷ []) i h) [ inl e ↦ subst (Contains (y ∷ x ∷ [])) (sym e) (Contains-tail y (x ∷ []) x (Contains-head x [])) | inr k ↦ subst (Contains (y ∷ x ∷ [])) (sym (Contains-single y i k)) (Contains-head y (x ∷ [])) ]
+
+abbrev clash : Refusal
+clash = Clash (record { epoch = 3; seq = 0 })
+
+-- or it stops there
+abbrev clashed : Tally
+clashed = record { done = 0; taken = 0; stale = 0; owed = 0; stop = Some clash }
+
+stopped : (s : State) (i : Item) → Step s (Merge (i ∷ [])) (MergeStopped 0 clash 0) s → StoreTakes s (i ∷ []) clashed s
+stopped s i step = record {
+  groups = (i ∷ []) ∷ [];
+  all = refl;
+  few = few_there i;
+  merged = (MergeStopped 0 clash 0, s, step, (refl, refl));
+}
+
+pub replicas_clash : ReplicasClash
+replicas_clash = record {
+  world = record fresh { a = accepts (opening 3 0 4 larger) (one ∷ []); b = accepts (opening 4 0 4 larger) (other ∷ []); messages = (one ∷ []) ∷ (other ∷ []) ∷ [] };
+  happen = (
+    record fresh { a = accepts (opening 1 0 4 larger) (one ∷ later ∷ []) },
+    (refl, does _ _ _),
+    (
+      record fresh { a = accepts (opening 1 0 4 larger) (one ∷ later ∷ []); messages = (one ∷ []) ∷ [] },
+      (refl, does _ _ _),
+      (
+        record fresh { a = opening 3 0 4 larger; messages = (one ∷ []) ∷ [] },
+        (refl, record { outcome_is = refl; world_is = refl }),
+        (
+          record fresh { a = opening 3 0 4 larger; b = accepts (opening 2 0 4 larger) (other ∷ later ∷ []); messages = (one ∷ []) ∷ [] },
+          (refl, does _ _ _),
+          (
+            record fresh { a = opening 3 0 4 larger; b = accepts (opening 2 0 4 larger) (other ∷ later ∷ []); messages = (one ∷ []) ∷ (other ∷ []) ∷ [] },
+            (refl, does _ _ _),
+            (
+              record fresh { a = opening 3 0 4 larger; b = opening 4 0 4 larger; messages = (one ∷ []) ∷ (other ∷ []) ∷ [] },
+              (refl, record { outcome_is = refl; world_is = refl }),
+              (
+                record fresh { a = accepts (opening 3 0 4 larger) (one ∷ []); b = opening 4 0 4 larger; messages = (one ∷ []) ∷ (other ∷ []) ∷ [] },
+                (refl, record { items = one ∷ []; there = refl; tally = done 1 1; taken = record { after = accepts (opening 3 0 4 larger) (one ∷ []); takes = stored (opening 3 0 4 larger) one (inl (inl (record { reply_is = refl; state_is = refl }))); world_is = refl }; outcome_is = refl }),
+                (
+                  record fresh { a = accepts (opening 3 0 4 larger) (one ∷ []); b = accepts (opening 4 0 4 larger) (other ∷ []); messages = (one ∷ []) ∷ (other ∷ []) ∷ [] },
+                  (refl, record { items = other ∷ []; there = refl; tally = done 1 1; taken = record { after = accepts (opening 4 0 4 larger) (other ∷ []); takes = stored (opening 4 0 4 larger) other (inl (inl (record { reply_is = refl; state_is = refl }))); world_is = refl }; outcome_is = refl }),
+                  refl,
+                ),
+              ),
+            ),
+          ),
+        ),
+      ),
+    ),
+  );
+  same = record { there = swapped one other; here = swapped other one };
+  differ = λ q. (let n : one ∷ [] ≡ other ∷ [] = q in let m : one ≡ other = cc in let e : Put (Number 9) ≡ Put (Number 11) = ap (λ (c : ChangeRecord). c.body) (changed_same _ _ m) in cc);
+  stops = (refl, record { items = other ∷ []; there = refl; tally = clashed; taken = record { after = accepts (opening 3 0 4 larger) (one ∷ []); takes = stopped (accepts (opening 3 0 4 larger) (one ∷ [])) other (inl (inl (record { reply_is = refl; state_is = refl }))); world_is = refl }; outcome_is = refl });
+}

@@ -1,12 +1,13 @@
 -- Worked rows: lists of events of a new world that meet what the statements ask for, and some that leave one thing out.
-use Rattle.std.specs.Prelude.{◌≡◌, ◌≢◌, ℕ, Bool, true, List, [], ◌∷◌, ◌++◌, None, codes}
+use Rattle.std.specs.Prelude.{◌≡◌, ◌≢◌, ℕ, ◌+◌, Bool, true, List, [], ◌∷◌, ◌++◌, Some, None, codes}
 use Rattle.ds_names.specs.declared.key.Key.{Key}
+use Rattle.ds_names.specs.declared.kind.Kind.TheVariants.{U32}
 use Rattle.ds_names.specs.declared.version.Version.{Version}
 use Rattle.ds_names.specs.Endpoint.{endpoint_of}
 use Rattle.ds_entry.specs.Change.{change_of, rs_name}
 use Rattle.ds_entry.specs.Floor.{floor_of}
 use Rattle.ds_entry.specs.ItemCovers.{AreSingleNumbered}
-use Rattle.ds_entry.specs.declared.body.Value.TheVariants.{Label}
+use Rattle.ds_entry.specs.declared.body.Value.TheVariants.{Label, U32 as Number}
 use Rattle.ds_entry.specs.declared.body.Body.TheVariants.{Put}
 use Rattle.ds_entry.specs.declared.item.Item.{Item}
 use Rattle.ds_entry.specs.declared.item.Item.TheVariants.{Change as Changed, Floor as Floored}
@@ -15,23 +16,24 @@ use Rattle.ds_pattern.specs.declared.query.Query.{Query}
 use Rattle.ds_pattern.specs.Under.{is_under}
 use Rattle.ds_whole.specs.Under.{under}
 use Rattle.ds_whole.specs.Agreement.{KnowSame}
-use Rattle.ds_whole.specs.Labels.{label_key}
+use Rattle.ds_whole.specs.Labels.{label_key, label_in, IsNewest}
 use Rattle.ds_machine.specs.declared.command.Scope.TheVariants.{All}
 use Rattle.ds_machine.specs.declared.command.Command.{Command}
-use Rattle.ds_machine.specs.declared.command.Command.TheVariants.{Publish, Sweep, Snapshot}
-use Rattle.ds_machine.specs.declared.reply.Reply.TheVariants.{Changed as Accepted, Swept}
+use Rattle.ds_machine.specs.declared.command.Command.TheVariants.{Publish, Sweep, Snapshot, Merge, Since}
+use Rattle.ds_machine.specs.declared.refusal.Refusal.TheVariants.{Clash}
+use Rattle.ds_machine.specs.declared.reply.Reply.TheVariants.{Changed as Accepted, Swept, Merged as AllMerged}
 use Rattle.ds_replica.specs.declared.seed.Seed.{Seed}
 use Rattle.ds_replica.specs.declared.event.Side.{Side}
 use Rattle.ds_replica.specs.declared.event.Side.TheVariants.{A, B}
 use Rattle.ds_replica.specs.declared.event.Holder.TheVariants.{Store, Map}
 use Rattle.ds_replica.specs.declared.event.Event.{Event}
-use Rattle.ds_replica.specs.declared.event.Event.TheVariants.{Ask, NewMap, Deliver}
+use Rattle.ds_replica.specs.declared.event.Event.TheVariants.{Ask, NewMap, Deliver, RestartStore}
 use Rattle.ds_replica.specs.declared.outcome.Outcome.{Outcome}
-use Rattle.ds_replica.specs.declared.outcome.Outcome.TheVariants.{Replied, Made, MapMade, Merged}
+use Rattle.ds_replica.specs.declared.outcome.Outcome.TheVariants.{Replied, Made, MapMade, Merged, Stopped, Restarted}
 use Rattle.ds_replica.specs.World.{World, held_at, new_world}
-use Rattle.ds_replica.specs.Happens.{pattern_fault, HappenAll}
-use Rattle.ds_replica.specs.Known.{Account, MapAccount, known_at, new_account, extended_all}
-use Rattle.ds_replica.specs.CaughtUp.{HasAll, HasNothingElse}
+use Rattle.ds_replica.specs.Happens.{pattern_fault, Happens, HappenAll}
+use Rattle.ds_replica.specs.Known.{Account, MapAccount, store_of, known_at, new_account, extended_all}
+use Rattle.ds_replica.specs.CaughtUp.{HasAll, HasNothingElse, AreItems}
 
 abbrev seed : ℕ → Seed
 seed incarnation = record { incarnation = incarnation; first = 0; ring = 4 }
@@ -88,45 +90,95 @@ pub record ReplicasDiffer : Type 0 where
   pub numbers : AreSingleNumbered (account_of only_published).brought
   pub differ : under all_keys (held_at world (Store A)) ≢ under all_keys (held_at world (Store B))
 
--- a map is made, a floor is swept at a store, and a snapshot of it goes to the map
-abbrev pub only_swept : Query → Side → List (Event × Outcome)
-only_swept query side = (NewMap query, MapMade 0) ∷ (Ask side swept, Replied (Swept 0 0)) ∷ []
+-- a map is made, and a store is told a floor and a label
+abbrev pub only_told : Query → Side → List (Event × Outcome)
+only_told query side = (NewMap query, MapMade 0) ∷ (Ask side swept, Replied (Swept 0 0)) ∷ (Ask side published, Replied (Accepted 0)) ∷ []
 
+-- and a snapshot of it goes to the map
 abbrev pub sent : Query → Side → List (Event × Outcome)
-sent query side = only_swept query side ++ snapshot side ∷ (Deliver 0 (Map 0) None, Merged 1 1 0 0) ∷ []
+sent query side = only_told query side ++ snapshot side ∷ (Deliver 0 (Map 0) None, Merged 2 2 0 0) ∷ []
 
-abbrev pub with_floor : Query → MapAccount
-with_floor query = record { query = query; taken = record { item = floor; stands_for = floor ∷ [] } ∷ [] }
+-- what the map was given then
+abbrev pub with_both : Query → MapAccount
+with_both query = record { query = query; taken = record { item = floor; stands_for = floor ∷ [] } ∷ record { item = driver; stands_for = driver ∷ [] } ∷ [] }
 
--- then the map has all of that store, and nothing else, and holds it
+-- then the map has all of that store, and nothing else, and holds it, the label too
 pub record MapCatchesUp (query : Query) : Type 0 where
   pub world : World
   pub happen : HappenAll fresh (sent query A) world
   pub numbers : AreSingleNumbered (account_of (sent query A)).brought
-  pub all : HasAll (account_of (sent query A)) 0 (with_floor query) A
-  pub nothing_else : HasNothingElse (account_of (sent query A)) (with_floor query) A
-  pub held : held_at world (Map 0) ≡ floor ∷ []
+  pub items : AreItems (account_of (sent query A)).brought
+  pub all : HasAll (account_of (sent query A)) 0 (with_both query) A
+  pub nothing_else : HasNothingElse (account_of (sent query A)) (with_both query) A
+  pub held : held_at world (Map 0) ≡ floor ∷ driver ∷ []
+  pub named : label_in (held_at world (Map 0)) (codes "eth0") ≡ Some (endpoint_of 3 17)
 
--- before that it hasn't all, and doesn't hold what the store holds
+-- before that it hasn't all, and doesn't hold what the store holds, nor name what the store knows as newest
 pub record MapLags (query : Query) : Type 0 where
   pub world : World
-  pub happen : HappenAll fresh (only_swept query A) world
-  pub nothing_else : HasNothingElse (account_of (only_swept query A)) (record { query = query; taken = [] }) A
+  pub happen : HappenAll fresh (only_told query A) world
+  pub numbers : AreSingleNumbered (account_of (only_told query A)).brought
+  pub nothing_else : HasNothingElse (account_of (only_told query A)) (record { query = query; taken = [] }) A
   pub differ : held_at world (Map 0) ≢ under (is_under query) (held_at world (Store A))
+  pub older : ¬ IsNewest (store_of (account_of (only_told query A)) A).known (codes "eth0") (label_in (held_at world (Map 0)) (codes "eth0"))
 
--- and where the other store gave it the floor, it has all of this one, but more
+-- and where the other store told it, it has all of this one, but more, and holds and names what this one doesn't know
 pub record MapLeads (query : Query) : Type 0 where
   pub world : World
   pub happen : HappenAll fresh (sent query B) world
-  pub all : HasAll (account_of (sent query B)) 0 (with_floor query) A
+  pub numbers : AreSingleNumbered (account_of (sent query B)).brought
+  pub all : HasAll (account_of (sent query B)) 0 (with_both query) A
   pub differ : held_at world (Map 0) ≢ under (is_under query) (held_at world (Store A))
+  pub older : ¬ IsNewest (store_of (account_of (sent query B)) A).known (codes "eth0") (label_in (held_at world (Map 0)) (codes "eth0"))
 
--- each for every query that a map is made of
+-- a query that a map is made of, and that the label is under
+pub record AsksForLabel (query : Query) : Type 0 where
+  pub read : pattern_fault query ≡ None
+  pub label : is_under query (label_key (codes "eth0")) ≡ true
+
+-- each for every such query
 abbrev pub MapsCatchUp : Type 0
-MapsCatchUp = (query : Query) → pattern_fault query ≡ None → MapCatchesUp query
+MapsCatchUp = (query : Query) → AsksForLabel query → MapCatchesUp query
 
 abbrev pub MapsLag : Type 0
-MapsLag = (query : Query) → pattern_fault query ≡ None → MapLags query
+MapsLag = (query : Query) → AsksForLabel query → MapLags query
 
 abbrev pub MapsLead : Type 0
-MapsLead = (query : Query) → pattern_fault query ≡ None → MapLeads query
+MapsLead = (query : Query) → AsksForLabel query → MapLeads query
+
+-- ---- changes that contradict each other
+
+-- an entry of the driver's at this sequence number
+abbrev entry : ℕ → ℕ → Item
+entry seq n = Changed (change_of (record { name = codes "irq"; kind = U32 }) (codes "eth0") (record first_version { seq = seq }) (Put (Number n)))
+
+-- two of one version, and a later one
+abbrev pub one : Item
+one = entry 0 9
+
+abbrev pub other : Item
+other = entry 0 11
+
+abbrev pub later : Item
+later = entry 1 9
+
+-- a store is told one of the two, the later one and the other; it gives the first as a message, and is opened again
+abbrev told_both : Side → ℕ → ℕ → Item → Item → List (Event × Outcome)
+told_both side incarnation k first second =
+    (Ask side (Merge (first ∷ later ∷ second ∷ [])), Replied (AllMerged 3 2 1 0)) ∷
+    (Ask side (Since All (record { incarnation = incarnation; position = 0 }) 1), Made k) ∷
+    (RestartStore side (incarnation + 2), Restarted) ∷ []
+
+-- both stores, each the other way round, and then each is given its message
+abbrev pub contradicted : List (Event × Outcome)
+contradicted =
+    told_both A 1 0 one other ++ told_both B 2 1 other one ++
+    (Deliver 0 (Store A) None, Merged 1 1 0 0) ∷ (Deliver 1 (Store B) None, Merged 1 1 0 0) ∷ []
+
+-- then both know the same, but don't hold the same, and the message of the one stops at the other by a clash
+pub record ReplicasClash : Type 0 where
+  pub world : World
+  pub happen : HappenAll fresh contradicted world
+  pub same : KnowSame all_keys (known_at (account_of contradicted) (Store A)) (known_at (account_of contradicted) (Store B))
+  pub differ : under all_keys (held_at world (Store A)) ≢ under all_keys (held_at world (Store B))
+  pub stops : Happens world (Deliver 1 (Store A) None) (Stopped 0 (Clash first_version) 0) world

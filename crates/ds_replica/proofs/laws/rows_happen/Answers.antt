@@ -1,4 +1,4 @@
-use Rattle.ds_replica.proofs.RowLemmas.{replicas_converge, replicas_differ, maps_catch_up, maps_lag, maps_lead}
+use Rattle.ds_replica.proofs.RowLemmas.{replicas_converge, replicas_differ, maps_catch_up, maps_lag, maps_lead, replicas_clash}
 use Rattle.ds_replica.proofs.laws.rows_happen.Goals as goal
 
 pub returns-clause-converge : goal.returns-clause-converge
@@ -15,3 +15,6 @@ returns-clause-lag c = maps_lag
 
 pub returns-clause-lead : goal.returns-clause-lead
 returns-clause-lead c = maps_lead
+
+pub returns-clause-clash : goal.returns-clause-clash
+returns-clause-clash c = replicas_clash
