@@ -1,5 +1,5 @@
 -- The worked rows.
-use Rattle.std.proofs.Common.{◌≡◌, ℕ, ◌≤◌, List, [], ◌∷◌, length, filter, Some, None, refl, ap, sym, ◌∙◌, subst, inl, inr, arith, codes, Contains}
+use Rattle.std.proofs.Common.{◌≡◌, ℕ, ◌≤◌, List, [], ◌∷◌, ◌++◌, length, filter, Some, None, refl, ap, sym, ◌∙◌, subst, inl, inr, arith, codes, Contains}
 use Rattle.ds_names.specs.Endpoint.{endpoint_of}
 use Rattle.ds_names.specs.Name.{is_name_byte}
 use Rattle.ds_entry.specs.Change.{ChangeRecord, rs_name}
@@ -16,6 +16,8 @@ use Rattle.ds_held.specs.Limits.{larger}
 use Rattle.ds_pattern.specs.declared.query.Query.{Query}
 use Rattle.ds_pattern.specs.Under.{is_under}
 use Rattle.ds_whole.specs.Under.{under}
+use Rattle.ds_whole.specs.Labels.{label_key}
+use Rattle.ds_join.proofs.ItemTopLemmas.{top_of_covered}
 use Rattle.ds_whole.proofs.Samples.{top_of_one}
 use Rattle.ds_whole.proofs.SentLemmas.{Contains-from_under, stood_wider}
 use Rattle.ds_machine.specs.Limits.{most_items}
@@ -28,12 +30,17 @@ use Rattle.ds_machine.specs.declared.refusal.Refusal.TheVariants.{Clash}
 use Rattle.ds_machine.specs.declared.reply.Reply.TheVariants.{Merged as AllMerged, MergeStopped}
 use Rattle.ds_machine.proofs.PartLemmas.{changed_same}
 use Rattle.ds_replica.specs.declared.event.Side.{Side}
+use Rattle.ds_replica.specs.declared.event.Event.{Event}
+use Rattle.ds_replica.specs.declared.event.Event.TheVariants.{NewMap, Deliver}
+use Rattle.ds_replica.specs.declared.event.Holder.TheVariants.{Map}
+use Rattle.ds_replica.specs.declared.outcome.Outcome.{Outcome}
+use Rattle.ds_replica.specs.declared.outcome.Outcome.TheVariants.{MapMade, Merged}
 use Rattle.ds_replica.specs.World.{World, MapState, store_at, with_state, with_items}
-use Rattle.ds_replica.specs.Happens.{Asks, ask_outcome, items_given}
+use Rattle.ds_replica.specs.Happens.{Asks, ask_outcome, items_given, HappenAll}
 use Rattle.ds_replica.specs.Delivery.{Tally, StoreTakes, MapTakes}
 use Rattle.ds_replica.specs.Known.{known_by}
 use Rattle.ds_replica.specs.CaughtUp.{AreItems}
-use Rattle.ds_replica.specs.Rows.{fresh, driver, floor, one, other, later, with_both, AsksForLabel, ReplicasConverge, ReplicasDiffer, MapCatchesUp, MapLags, MapLeads, MapsCatchUp, MapsLag, MapsLead, ReplicasClash}
+use Rattle.ds_replica.specs.Rows.{fresh, driver, floor, irq, one, other, later, contradicted, with_both, with_other, AsksFor, ReplicasConverge, ReplicasDiffer, MapCatchesUp, MapLags, MapLeads, MapsCatchUp, MapsLag, MapsLead, ReplicasClash, MapClashes, MapsClash}
 
 -- ---- what takes part
 one_change : (c : ChangeRecord) → AreSingleNumbered (Changed c ∷ [])
@@ -156,7 +163,7 @@ still_put {P} {Q} g =
       | inr k ↦ (let b : g.0.body ≡ Put (Label (endpoint_of 3 17)) = ap (λ (c : ChangeRecord). c.body) (changed_same g.0 _ (Contains-single driver (Changed g.0) k)) in let n : Gone ≡ Put (Label (endpoint_of 3 17)) = sym g.3 ∙ b in cc)
     ]
 
-module _ (query : Query) (asks : AsksForLabel query) where
+module _ (query : Query) (asks : AsksFor query (label_key (codes "eth0"))) where
   abbrev map_with : List Item → MapState
   map_with held = record { query = query; held = held }
 
@@ -183,7 +190,7 @@ module _ (query : Query) (asks : AsksForLabel query) where
 
   -- all of both is under the query
   under_it : under (is_under query) (floor ∷ driver ∷ []) ≡ floor ∷ driver ∷ []
-  under_it = simp asks.label
+  under_it = simp asks.asked
 
   taken_top : IsTop (floor ∷ driver ∷ []) (under (is_under query) (floor ∷ driver ∷ []))
   unfolding both
@@ -287,6 +294,10 @@ maps_lead query asks = leads query asks
 swapped : (x y i : Item) → Contains (x ∷ y ∷ []) i → Contains (y ∷ x ∷ []) i
 swapped x y i h = elim (Contains-cons x (y ∷ []) i h) [ inl e ↦ subst (Contains (y ∷ x ∷ [])) (sym e) (Contains-tail y (x ∷ []) x (Contains-head x [])) | inr k ↦ subst (Contains (y ∷ x ∷ [])) (sym (Contains-single y i k)) (Contains-head y (x ∷ [])) ]
 
+-- what the two stores hold isn't the same
+apart : other ∷ [] ≡ one ∷ [] → ⊥
+apart q = let m : other ≡ one = cc in let e : Put (Number 11) ≡ Put (Number 9) = ap (λ (c : ChangeRecord). c.body) (changed_same _ _ m) in cc
+
 abbrev clash : Refusal
 clash = Clash (record { epoch = 3; seq = 0 })
 
@@ -302,43 +313,88 @@ stopped s i step = record {
   merged = (MergeStopped 0 clash 0, s, step, (refl, refl));
 }
 
-pub replicas_clash : ReplicasClash
-replicas_clash = record {
-  world = record fresh { a = accepts (opening 3 0 4 larger) (one ∷ []); b = accepts (opening 4 0 4 larger) (other ∷ []); messages = (one ∷ []) ∷ (other ∷ []) ∷ [] };
-  happen = (
-    record fresh { a = accepts (opening 1 0 4 larger) (one ∷ later ∷ []) },
+abbrev clashing : World
+clashing = record fresh { a = accepts (opening 3 0 4 larger) (one ∷ []); b = accepts (opening 4 0 4 larger) (other ∷ []); messages = (one ∷ []) ∷ (other ∷ []) ∷ [] }
+
+contradicted_happen : HappenAll fresh contradicted clashing
+contradicted_happen = (
+  record fresh { a = accepts (opening 1 0 4 larger) (one ∷ later ∷ []) },
+  (refl, does _ _ _),
+  (
+    record fresh { a = accepts (opening 1 0 4 larger) (one ∷ later ∷ []); messages = (one ∷ []) ∷ [] },
     (refl, does _ _ _),
     (
-      record fresh { a = accepts (opening 1 0 4 larger) (one ∷ later ∷ []); messages = (one ∷ []) ∷ [] },
-      (refl, does _ _ _),
+      record fresh { a = opening 3 0 4 larger; messages = (one ∷ []) ∷ [] },
+      (refl, record { outcome_is = refl; world_is = refl }),
       (
-        record fresh { a = opening 3 0 4 larger; messages = (one ∷ []) ∷ [] },
-        (refl, record { outcome_is = refl; world_is = refl }),
+        record fresh { a = opening 3 0 4 larger; b = accepts (opening 2 0 4 larger) (other ∷ later ∷ []); messages = (one ∷ []) ∷ [] },
+        (refl, does _ _ _),
         (
-          record fresh { a = opening 3 0 4 larger; b = accepts (opening 2 0 4 larger) (other ∷ later ∷ []); messages = (one ∷ []) ∷ [] },
+          record fresh { a = opening 3 0 4 larger; b = accepts (opening 2 0 4 larger) (other ∷ later ∷ []); messages = (one ∷ []) ∷ (other ∷ []) ∷ [] },
           (refl, does _ _ _),
           (
-            record fresh { a = opening 3 0 4 larger; b = accepts (opening 2 0 4 larger) (other ∷ later ∷ []); messages = (one ∷ []) ∷ (other ∷ []) ∷ [] },
-            (refl, does _ _ _),
+            record fresh { a = opening 3 0 4 larger; b = opening 4 0 4 larger; messages = (one ∷ []) ∷ (other ∷ []) ∷ [] },
+            (refl, record { outcome_is = refl; world_is = refl }),
             (
-              record fresh { a = opening 3 0 4 larger; b = opening 4 0 4 larger; messages = (one ∷ []) ∷ (other ∷ []) ∷ [] },
-              (refl, record { outcome_is = refl; world_is = refl }),
+              record fresh { a = accepts (opening 3 0 4 larger) (one ∷ []); b = opening 4 0 4 larger; messages = (one ∷ []) ∷ (other ∷ []) ∷ [] },
+              (refl, record { items = one ∷ []; there = refl; tally = done 1 1; taken = record { after = accepts (opening 3 0 4 larger) (one ∷ []); takes = stored (opening 3 0 4 larger) one (inl (inl (record { reply_is = refl; state_is = refl }))); world_is = refl }; outcome_is = refl }),
               (
-                record fresh { a = accepts (opening 3 0 4 larger) (one ∷ []); b = opening 4 0 4 larger; messages = (one ∷ []) ∷ (other ∷ []) ∷ [] },
-                (refl, record { items = one ∷ []; there = refl; tally = done 1 1; taken = record { after = accepts (opening 3 0 4 larger) (one ∷ []); takes = stored (opening 3 0 4 larger) one (inl (inl (record { reply_is = refl; state_is = refl }))); world_is = refl }; outcome_is = refl }),
-                (
-                  record fresh { a = accepts (opening 3 0 4 larger) (one ∷ []); b = accepts (opening 4 0 4 larger) (other ∷ []); messages = (one ∷ []) ∷ (other ∷ []) ∷ [] },
-                  (refl, record { items = other ∷ []; there = refl; tally = done 1 1; taken = record { after = accepts (opening 4 0 4 larger) (other ∷ []); takes = stored (opening 4 0 4 larger) other (inl (inl (record { reply_is = refl; state_is = refl }))); world_is = refl }; outcome_is = refl }),
-                  refl,
-                ),
+                record fresh { a = accepts (opening 3 0 4 larger) (one ∷ []); b = accepts (opening 4 0 4 larger) (other ∷ []); messages = (one ∷ []) ∷ (other ∷ []) ∷ [] },
+                (refl, record { items = other ∷ []; there = refl; tally = done 1 1; taken = record { after = accepts (opening 4 0 4 larger) (other ∷ []); takes = stored (opening 4 0 4 larger) other (inl (inl (record { reply_is = refl; state_is = refl }))); world_is = refl }; outcome_is = refl }),
+                refl,
               ),
             ),
           ),
         ),
       ),
     ),
-  );
+  ),
+)
+
+pub replicas_clash : ReplicasClash
+replicas_clash = record {
+  world = clashing;
+  happen = contradicted_happen;
   same = record { there = swapped one other; here = swapped other one };
-  differ = λ q. (let n : one ∷ [] ≡ other ∷ [] = q in let m : one ≡ other = cc in let e : Put (Number 9) ≡ Put (Number 11) = ap (λ (c : ChangeRecord). c.body) (changed_same _ _ m) in cc);
+  differ = λ q. apart (sym q);
   stops = (refl, record { items = other ∷ []; there = refl; tally = clashed; taken = record { after = accepts (opening 3 0 4 larger) (one ∷ []); takes = stopped (accepts (opening 3 0 4 larger) (one ∷ [])) other (inl (inl (record { reply_is = refl; state_is = refl }))); world_is = refl }; outcome_is = refl });
 }
+
+-- and then these events happen
+happen_then : (xs ys : List (Event × Outcome)) (w mid new : World) → HappenAll w xs mid → HappenAll mid ys new → HappenAll w (xs ++ ys) new
+happen_then [] ys w mid new h k = subst (λ (v : World). HappenAll v ys new) h k
+happen_then (e ∷ es) ys w mid new h k = (h.0, h.1, happen_then es ys h.0 mid new h.2 k)
+
+module _ (query : Query) (asks : AsksFor query irq) where
+  abbrev map_of : List Item → MapState
+  map_of held = record { query = query; held = held }
+
+  -- each is under the query
+  under_one : under (is_under query) (one ∷ []) ≡ one ∷ []
+  under_one = simp asks.asked
+
+  under_other : under (is_under query) (other ∷ []) ≡ other ∷ []
+  under_other = simp asks.asked
+
+  other_top : IsTop (other ∷ []) (under (is_under query) (other ∷ []))
+  other_top = subst (IsTop (other ∷ [])) (sym under_other) (top_of_covered other (other ∷ []) (Contains-head other []))
+
+  clashes : MapClashes query
+  clashes = record {
+    world = record clashing { maps = map_of (other ∷ []) ∷ [] };
+    happen = happen_then contradicted ((NewMap query, MapMade 0) ∷ (Deliver 1 (Map 0) None, Merged 1 1 0 0) ∷ []) fresh clashing (record clashing { maps = map_of (other ∷ []) ∷ [] }) contradicted_happen (
+      record clashing { maps = map_of [] ∷ [] },
+      (asks.read, record { outcome_is = refl; world_is = refl }),
+      (
+        record clashing { maps = map_of (other ∷ []) ∷ [] },
+        (refl, record { items = other ∷ []; there = refl; tally = done 1 1; taken = record { old = map_of []; there = refl; after = map_of (other ∷ []); takes = record { query = refl; top = other_top; counted = omega arith; owed = refl; ends = refl }; world_is = refl }; outcome_is = refl }),
+        refl,
+      ),
+    );
+    all = record { there = refl; whole = λ i h. Contains-tail other (one ∷ []) i (Contains-from_under (is_under query) (one ∷ []) i h).0 };
+    nothing_else = λ i h. swapped other one i (stood_wider (filter (λ s. passes (is_under query) s.item) (with_other query).taken) (with_other query).taken (λ s k. (Contains-from_filter (λ s. passes (is_under query) s.item) (with_other query).taken s k).0) i (Contains-from_under (is_under query) (known_by (with_other query)) i h).0);
+    differ = λ q. apart (q ∙ under_one);
+  }
+
+pub maps_clash : MapsClash
+maps_clash query asks = clashes query asks

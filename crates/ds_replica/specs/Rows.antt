@@ -131,26 +131,29 @@ pub record MapLeads (query : Query) : Type 0 where
   pub differ : held_at world (Map 0) ≢ under (is_under query) (held_at world (Store A))
   pub older : ¬ IsNewest (store_of (account_of (sent query B)) A).known (codes "eth0") (label_in (held_at world (Map 0)) (codes "eth0"))
 
--- a query that a map is made of, and that the label is under
-pub record AsksForLabel (query : Query) : Type 0 where
+-- a map is made of the query, and the key is under it
+pub record AsksFor (query : Query) (key : Key) : Type 0 where
   pub read : pattern_fault query ≡ None
-  pub label : is_under query (label_key (codes "eth0")) ≡ true
+  pub asked : is_under query key ≡ true
 
--- each for every such query
+-- each for every query that the label is under
 abbrev pub MapsCatchUp : Type 0
-MapsCatchUp = (query : Query) → AsksForLabel query → MapCatchesUp query
+MapsCatchUp = (query : Query) → AsksFor query (label_key (codes "eth0")) → MapCatchesUp query
 
 abbrev pub MapsLag : Type 0
-MapsLag = (query : Query) → AsksForLabel query → MapLags query
+MapsLag = (query : Query) → AsksFor query (label_key (codes "eth0")) → MapLags query
 
 abbrev pub MapsLead : Type 0
-MapsLead = (query : Query) → AsksForLabel query → MapLeads query
+MapsLead = (query : Query) → AsksFor query (label_key (codes "eth0")) → MapLeads query
 
 -- ---- changes that contradict each other
 
+abbrev pub irq : Key
+irq = record { name = codes "irq"; kind = U32 }
+
 -- an entry of the driver's at this sequence number
 abbrev entry : ℕ → ℕ → Item
-entry seq n = Changed (change_of (record { name = codes "irq"; kind = U32 }) (codes "eth0") (record first_version { seq = seq }) (Put (Number n)))
+entry seq n = Changed (change_of irq (codes "eth0") (record first_version { seq = seq }) (Put (Number n)))
 
 -- two of one version, and a later one
 abbrev pub one : Item
@@ -182,3 +185,23 @@ pub record ReplicasClash : Type 0 where
   pub same : KnowSame all_keys (known_at (account_of contradicted) (Store A)) (known_at (account_of contradicted) (Store B))
   pub differ : under all_keys (held_at world (Store A)) ≢ under all_keys (held_at world (Store B))
   pub stops : Happens world (Deliver 1 (Store A) None) (Stopped 0 (Clash first_version) 0) world
+
+-- and a map is made, and given the message of the other store
+abbrev pub and_a_map : Query → List (Event × Outcome)
+and_a_map query = contradicted ++ (NewMap query, MapMade 0) ∷ (Deliver 1 (Map 0) None, Merged 1 1 0 0) ∷ []
+
+-- what it was given then
+abbrev pub with_other : Query → MapAccount
+with_other query = record { query = query; taken = record { item = other; stands_for = other ∷ one ∷ [] } ∷ [] }
+
+-- then it has all of the first store, and nothing else, but doesn't hold what that one holds
+pub record MapClashes (query : Query) : Type 0 where
+  pub world : World
+  pub happen : HappenAll fresh (and_a_map query) world
+  pub all : HasAll (account_of (and_a_map query)) 0 (with_other query) A
+  pub nothing_else : HasNothingElse (account_of (and_a_map query)) (with_other query) A
+  pub differ : held_at world (Map 0) ≢ under (is_under query) (held_at world (Store A))
+
+-- for every query that their key is under
+abbrev pub MapsClash : Type 0
+MapsClash = (query : Query) → AsksFor query irq → MapClashes query

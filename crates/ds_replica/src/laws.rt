@@ -6,7 +6,7 @@ ghost use Rattle.ds_replica.specs.Checks.{ChecksAreWhole};
 ghost use Rattle.ds_replica.specs.Growth.{NewsAreNew, LaterIsFront};
 ghost use Rattle.ds_replica.specs.Headline.{AccountFitsAtStart, EventsFit, EqualWhereKnown, EqualOverEvents, NothingClashes, NothingStops};
 ghost use Rattle.ds_replica.specs.Messages.{SnapshotIsWhole, SinceIsTurn, SinceExtends, PageIsTurn, CheckIsTurn};
-ghost use Rattle.ds_replica.specs.Rows.{ReplicasConverge, ReplicasDiffer, MapsCatchUp, MapsLag, MapsLead, ReplicasClash};
+ghost use Rattle.ds_replica.specs.Rows.{ReplicasConverge, ReplicasDiffer, MapsCatchUp, MapsLag, MapsLead, ReplicasClash, MapsClash};
 ghost use Rattle.ds_replica.specs.Turns.{TurnsAreRun, WholeStays, KnownStays, NothingBelowFloors, FloorsStand};
 
 /// Of a world that was just made the empty account fits, and over every list of events the account that is extended by
@@ -72,7 +72,7 @@ pub fn floors_stand()
 
 /// Worked rows: events after which two replicas know and hold the same, and a map has all of a store and names its label;
 /// and some in which one thing that the laws ask for is missing, and the rest isn't enough: two replicas don't know the same,
-/// or were told what contradicts itself, and a map wasn't told all, or was told more.
+/// a map wasn't told all, or was told more, and two replicas, or a map, were told what contradicts itself.
 pub fn rows_happen()
     ensures converge { ReplicasConverge }
     ensures differ { ReplicasDiffer }
@@ -80,4 +80,5 @@ pub fn rows_happen()
     ensures lag { MapsLag }
     ensures lead { MapsLead }
     ensures clash { ReplicasClash }
+    ensures map_clash { MapsClash }
 {}
