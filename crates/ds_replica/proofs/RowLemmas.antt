@@ -200,6 +200,7 @@ module _ (query : Query) (asks : AsksFor query (label_key (codes "eth0"))) where
   takes = record { query = refl; top = taken_top; counted = omega arith; owed = refl; ends = refl }
 
   lags : MapLags query
+  unfolding both
   lags = record {
     world = at_a;
     happen = (
@@ -212,6 +213,7 @@ module _ (query : Query) (asks : AsksFor query (label_key (codes "eth0"))) where
       ),
     );
     numbers = beside _ _;
+    items = both_are;
     nothing_else = λ i h. absurd (Contains-nil i h);
     differ = λ q. (let n : [] ≡ under (is_under query) (floor ∷ driver ∷ []) = q in cc under_it);
     older = λ g. still_put (g _ (Contains-tail floor (driver ∷ []) driver (Contains-head driver [])) refl);
@@ -251,6 +253,7 @@ module _ (query : Query) (asks : AsksFor query (label_key (codes "eth0"))) where
   }
 
   leads : MapLeads query
+  unfolding both
   leads = record {
     world = arrived (sends at_b);
     happen = (
@@ -275,6 +278,7 @@ module _ (query : Query) (asks : AsksFor query (label_key (codes "eth0"))) where
       ),
     );
     numbers = beside _ _;
+    items = both_are;
     all = record { there = refl; whole = λ i h. absurd (Contains-nil i h) };
     differ = λ q. (let n : floor ∷ driver ∷ [] ≡ [] = q in cc);
     older = λ l. Contains-nil _ l.put.1;

@@ -118,6 +118,7 @@ pub record MapLags (query : Query) : Type 0 where
   pub world : World
   pub happen : HappenAll fresh (only_told query A) world
   pub numbers : AreSingleNumbered (account_of (only_told query A)).brought
+  pub items : AreItems (account_of (only_told query A)).brought
   pub nothing_else : HasNothingElse (account_of (only_told query A)) (record { query = query; taken = [] }) A
   pub differ : held_at world (Map 0) ≢ under (is_under query) (held_at world (Store A))
   pub older : ¬ IsNewest (store_of (account_of (only_told query A)) A).known (codes "eth0") (label_in (held_at world (Map 0)) (codes "eth0"))
@@ -127,6 +128,7 @@ pub record MapLeads (query : Query) : Type 0 where
   pub world : World
   pub happen : HappenAll fresh (sent query B) world
   pub numbers : AreSingleNumbered (account_of (sent query B)).brought
+  pub items : AreItems (account_of (sent query B)).brought
   pub all : HasAll (account_of (sent query B)) 0 (with_both query) A
   pub differ : held_at world (Map 0) ≢ under (is_under query) (held_at world (Store A))
   pub older : ¬ IsNewest (store_of (account_of (sent query B)) A).known (codes "eth0") (label_in (held_at world (Map 0)) (codes "eth0"))
