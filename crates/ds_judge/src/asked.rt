@@ -1,9 +1,8 @@
 //! What callers ask: publishing and deleting.
 
-ghost use Rattle.std.specs.Prelude.{◌≡◌, ℕ, List, Option, Some, None, IfNone, cond};
+ghost use Rattle.std.specs.Prelude.{◌≡◌, ℕ, List, Option, Some, None, IfNone};
 ghost use Rattle.std.specs.Option.{option_copied};
 ghost use Rattle.std.specs.List.{find};
-ghost use Rattle.ds_entry.specs.Change.{rs_name};
 ghost use Rattle.ds_entry.specs.Void.{is_label};
 ghost use Rattle.ds_entry.specs.declared.body.Body.{Body};
 ghost use Rattle.ds_machine.specs.Order.{first_cause};
@@ -64,18 +63,6 @@ pub(crate) fn is_rs(endpoint: Endpoint) -> bool
     ensures { result ≡ is_rs endpoint }
 {
     endpoint == Endpoint::rs()
-}
-
-/// The name of an endpoint, where `label` is the least name whose live label holds it: RS is `rs`, whatever labels there
-/// are.
-pub fn name_of(endpoint: Endpoint, label: Option<&Name>) -> Option<Name>
-    ensures value { result ≡ cond (is_rs endpoint) (Some rs_name) (option_copied label.entry) }
-    ensures rs { NamesRs result endpoint }
-{
-    if is_rs(endpoint) {
-        return Some(rs_name());
-    }
-    label.copied()
 }
 
 /// Whether a floor of the caller's at this generation makes the change void that is asked for, where there is one.

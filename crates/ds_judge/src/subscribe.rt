@@ -30,7 +30,7 @@ pub struct SubscribeCase {
 }
 
 /// The refusal of a query whose pattern isn't read.
-pub fn refusal_of_pattern(fault: PatternFault) -> Refusal
+pub(crate) fn refusal_of_pattern(fault: PatternFault) -> Refusal
     ensures { result ≡ refusal_of_pattern fault }
 {
     match fault {
