@@ -1,20 +1,14 @@
 -- What a store shows of a subscription, whatever it keeps of it.
 use Rattle.std.specs.Prelude.{ℕ, Bool, false, List, Option, None, Some, map}
 use Rattle.ds_names.specs.declared.key.Key.{Key}
-use Rattle.ds_entry.specs.Change.{ChangeRecord}
 use Rattle.ds_pattern.specs.declared.query.Query.{Query}
 use Rattle.ds_pattern.specs.Under.{is_under}
-use Rattle.ds_watch.specs.Subscription.{Subscription, is_unseen}
 
--- a subscription, with a flag for each held change in key order: whether it is still to be shown
+-- a subscription, with a flag for each held item, floors first and then changes in key order: whether it is still to be shown
 pub record Followed : Type 0 where
   pub query : Query
   pub stamp : ℕ
   pub unseen : List Bool
-
--- what is to be shown to the subscription of what is held
-abbrev pub followed_of : List ChangeRecord → Subscription → Followed
-followed_of held sub = record { query = sub.query; stamp = sub.stamp; unseen = map (is_unseen sub.query sub.shown) held }
 
 -- there is a subscription, and the key is under its query
 abbrev pub owes : Key → Option Followed → Bool
@@ -24,7 +18,3 @@ owes key (Some f) = is_under f.query key
 -- to which of the subscriptions a change of the key is owed
 abbrev pub owed_for : Key → List (Option Followed) → List Bool
 owed_for key subscriptions = map (owes key) subscriptions
-
--- the same for each of the changes
-abbrev pub owed_each : List (Option Followed) → List ChangeRecord → List (List Bool)
-owed_each subscriptions changes = map (λ (c : ChangeRecord). owed_for c.key subscriptions) changes

@@ -1,4 +1,3 @@
-pub mod Subscription
 pub mod Followed
 pub mod Watching
 pub mod Mask
