@@ -1,11 +1,12 @@
-//! What stands beside a held change.
+//! What stands beside a held change or floor.
 
 ghost use Rattle.std.specs.Prelude.{◌≡◌, ◌<◌, ◌&&◌, false, slice_index_or};
 ghost use Rattle.ds_watch.specs.Masks.{fresh, shown_to, made_at};
 
 use crate::mask::Mask;
 
-/// Of a held change: the subscriptions under whose query its key is, and those that it is still to be shown to.
+/// Of a held change or floor: the subscriptions to which it is owed, and those that it is still to be shown to. A change is owed
+/// to those under whose query its key is, a floor to all.
 #[derive(Clone, Copy, Debug)]
 pub struct Masks {
     under: Mask,
@@ -13,7 +14,7 @@ pub struct Masks {
 }
 
 impl Masks {
-    /// Of a change that just took effect: it is to be shown to all under whose query its key is.
+    /// Of what just took effect: it is to be shown to all to which it is owed.
     pub fn fresh(under: Mask) -> Masks
         ensures { result ≡ fresh under }
     {
@@ -23,7 +24,7 @@ impl Masks {
         }
     }
 
-    /// The subscriptions under whose query its key is.
+    /// The subscriptions to which it is owed.
     pub fn under(self) -> Mask
         ensures { result ≡ self.under }
     {
