@@ -1,12 +1,11 @@
 //! Holders of changes and floors.
 
 ghost use Rattle.std.specs.Prelude.{◌≡◌, ◌≤◌, ◌++◌, ◌∷◌, [], All, IfOk, IfErr, IfSome, OnOk, filter, option_and_then, slice_get, take};
-ghost use Rattle.std.specs.Option.{option_copied, option_map};
+ghost use Rattle.std.specs.Option.{option_copied};
 ghost use Rattle.std.specs.List.{find};
-ghost use Rattle.ds_entry.specs.Change.{ChangeRecord, IsChange, IsValue};
+ghost use Rattle.ds_entry.specs.Change.{IsChange, IsValue};
 ghost use Rattle.ds_entry.specs.declared.item.Item.TheVariants.{Change as Changed, Floor as Floored};
 ghost use Rattle.ds_join.specs.Reading.{value_of, comes_after};
-ghost use Rattle.ds_join.specs.Label.{names_endpoint};
 ghost use Rattle.ds_join.specs.ItemTop.{IsTop};
 ghost use Rattle.ds_join.specs.ItemJoin.{IsJoin};
 ghost use Rattle.ds_held.specs.Held.{held_changes, held_items, held_floors, held_for, held_count, floor_for, floor_count, is_void_at, nothing_held, IsSound};
@@ -19,12 +18,12 @@ use crate::floors::{floor_at, is_void, nth_floor};
 use crate::join::join_into;
 use crate::limits::Limits;
 use crate::list::{merge_copy, merge_into};
-use crate::order::{behind, change_at, first_of, name_of, nth};
+use crate::order::{behind, change_at, first_of, nth};
 use crate::reading::copy_all;
 use crate::void::raise_into;
 use ds_entry::{Body, Change, Floor, Items, Value};
 use ds_join::{JoinFault, Merge, Stop};
-use ds_names::{Endpoint, Generation, Key, Name, NoRoom};
+use ds_names::{Generation, Key, Name, NoRoom};
 use std::alloc::Global;
 use std::marker::Model;
 
@@ -186,15 +185,6 @@ impl Held {
         ensures { result.now ≡ filter (comes_after (option_copied after.entry)) (held_changes self.now) }
     {
         behind(&self.changes, after)
-    }
-
-    /// The least name whose live label holds an endpoint. `None` where no live label does. It takes no memory.
-    ///
-    /// MINIX 3's DS names an endpoint by whichever label it finds first; that it is the least one is of this project.
-    pub fn label_at(&self, endpoint: Endpoint) -> Option<&Name>
-        ensures { option_copied result ≡ option_map (λ (c : ChangeRecord). c.key.name) (find (names_endpoint endpoint) (held_changes self.now)) }
-    {
-        name_of(&self.changes, endpoint)
     }
 
     /// All that is held: the floors by the names of their owners, and then the changes in the order of the keys.

@@ -8,7 +8,6 @@ ghost use Rattle.ds_entry.specs.declared.item.Item.TheVariants.{Change as Change
 ghost use Rattle.ds_join.specs.ItemTop.{IsTop};
 ghost use Rattle.ds_held.specs.Held.{held_changes, held_floors, held_items, held_for, floor_count, IsSound};
 ghost use Rattle.ds_held.specs.Kept.{IsPlace};
-ghost use Rattle.ds_held.specs.Limits.{larger};
 ghost use Rattle.ds_held.specs.Marked.{mark_for, floor_mark_for, marks_after, marks_raised, floor_marks_after, nothing_marked, remarked, floor_remarked, HasMarks};
 ghost use Rattle.ds_held.specs.Merge.{after_merge, MergeAnswer};
 ghost use Rattle.ds_held.specs.Raise.{after_raise, RaiseAnswer};
@@ -58,17 +57,6 @@ impl<M> Model for Marked<M> {
 }
 
 impl<M: Drop> Marked<M> {
-    /// A holder of nothing, for up to 4096 keys. It takes no memory.
-    pub fn new(alloc: Global) -> Marked<M>
-        ensures { result ≡ nothing_marked larger }
-    {
-        Marked {
-            held: Held::new(alloc),
-            marks: Vec::new(alloc),
-            floor_marks: Vec::new(alloc),
-        }
-    }
-
     /// A holder of nothing, with these limits. It takes no memory.
     pub fn bounded(alloc: Global, limits: Limits) -> Marked<M>
         ensures { result ≡ nothing_marked limits }
@@ -89,16 +77,6 @@ impl<M: Drop> Marked<M> {
         let _marks = &self.marks;
         let _floor_marks = &self.floor_marks;
         &self.held
-    }
-
-    /// The change that is held for a key, and its mark.
-    pub fn get(&self, key: &Key) -> Option<(&Change, &M)>
-        ensures change { option_map (λ p. p.0.now) result ≡ held_for self.now.held key.now }
-        ensures mark { option_map (λ p. p.1.now) result ≡ mark_for self.now key.now }
-        ensures sound { IsSound self.now.held }
-        ensures valid { IfSome result (λ p. IsChange p.0.now) }
-    {
-        self.get_at(self.place(key))
     }
 
     /// Where the change of a key stands, by an index from 0 in the order of the keys, or else where it would. It is found by
@@ -150,22 +128,8 @@ impl<M: Drop> Marked<M> {
         floor_pair_at(&self.held, &self.floor_marks, index)
     }
 
-    /// Merges a change, as [`Held::merge`] does. Where it is taken, the mark stands beside it, in place of the one that
-    /// stood there.
-    pub fn merge(&mut self, change: Change, mark: M) -> Result<Merge, JoinFault>
-        ensures answer { MergeAnswer self.old.held change result }
-        ensures held { self.new.held ≡ after_merge self.old.held change result }
-        ensures marks { self.new.marks ≡ marks_after self.old.marks change.key mark result }
-        ensures floor_marks { self.new.floor_marks ≡ self.old.floor_marks }
-        ensures joined { OnOk result (IsTop (held_items self.new.held) (held_items self.old.held ++ Changed change ∷ [])) }
-        ensures sound { IsSound self.new.held }
-        ensures change { IsChange change }
-    {
-        let place = self.place(change.key());
-        self.merge_at(place, change, mark)
-    }
-
-    /// Merges a change whose place is told, as `merge` does.
+    /// Merges a change whose place is told, as [`Held::merge`] does. Where it is taken, the mark stands beside it, in place of
+    /// the one that stood there.
     pub fn merge_at(
         &mut self,
         place: Result<usize, usize>,

@@ -2,15 +2,14 @@
 
 ghost use Rattle.std.specs.Prelude.{◌≡◌, filter, IfSome, slice_get};
 ghost use Rattle.std.specs.FinMap.{get};
-ghost use Rattle.std.specs.Option.{option_copied, option_map};
+ghost use Rattle.std.specs.Option.{option_copied};
 ghost use Rattle.std.specs.List.{find};
-ghost use Rattle.ds_entry.specs.Change.{ChangeRecord, IsChange};
-ghost use Rattle.ds_join.specs.Label.{names_endpoint};
+ghost use Rattle.ds_entry.specs.Change.{IsChange};
 ghost use Rattle.ds_join.specs.Reading.{comes_after};
 ghost use Rattle.ds_held.specs.Kept.{AreKeysRising, IsPlace, changes_of};
 
-use ds_entry::{Body, Change, Value};
-use ds_names::{Endpoint, Key, Name};
+use ds_entry::Change;
+use ds_names::Key;
 use std::cmp::Ordering;
 
 // Where the change of a key stands, or else where it would.
@@ -69,31 +68,4 @@ pub(crate) fn first_of<'a>(changes: &'a [Change], after: Option<&Key>) -> Option
     ensures change { IfSome (option_copied result) IsChange }
 {
     nth(behind(changes, after), 0)
-}
-
-// Whether the change leaves a live label that holds the endpoint.
-fn names_endpoint(change: &Change, endpoint: Endpoint) -> bool
-    ensures { result ≡ names_endpoint endpoint change.now }
-{
-    match change.body() {
-        Body::Put(Value::Label(label)) => *label == endpoint,
-        _ => false,
-    }
-}
-
-// The live label that holds the endpoint, the one of the least key.
-fn label_of<'a>(changes: &'a [Change], endpoint: Endpoint) -> Option<&'a Change>
-    ensures { option_copied result ≡ find (names_endpoint endpoint) changes.now }
-{
-    changes
-        .iter()
-        .find(|change| names_endpoint(change, endpoint))
-}
-
-// Its name.
-pub(crate) fn name_of<'a>(changes: &'a [Change], endpoint: Endpoint) -> Option<&'a Name>
-    ensures { option_copied result ≡ option_map (λ (c : ChangeRecord). c.key.name) (find (names_endpoint endpoint) changes.now) }
-{
-    let change = label_of(changes, endpoint)?;
-    Some(&change.key().name)
 }
