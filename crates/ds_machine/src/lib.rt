@@ -1,5 +1,5 @@
-//! The machine of a store in its final form: what its states are, in which order it judges what stands against a command,
-//! what each command does and answers, and laws of its steps and of whole runs. `ds_store` steps by it.
+//! The machine of a store: what its states are, in which order it judges what stands against a command, what each command does
+//! and answers, and laws of its steps and of whole runs. `ds_store` steps by it.
 //!
 //! Publishing, deleting, retrieving, naming, subscribing and checking are MINIX 3's data store's (DS), where each entry has
 //! an owner, only RS publishes labels, and a live entry is overwritten only with the overwrite flag (the DS interface of
