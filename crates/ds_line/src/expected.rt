@@ -44,7 +44,7 @@ pub enum Expected {
     Initial,
     /// The number of a map.
     Map,
-    /// How many changes a journal has room for.
+    /// How many items a journal has room for.
     Ring,
     /// `a` or `b`, a side of a world.
     Side,

@@ -8,7 +8,7 @@ use Rattle.ds_words.specs.World.{side_word, holder_word, IsHolder, count_part, I
 use Rattle.ds_replica.specs.declared.event.Side.{Side}
 use Rattle.ds_replica.specs.declared.event.Holder.{Holder}
 
--- how many changes a journal has room for
+-- how many items a journal has room for
 abbrev pub a_ring : Piece
 a_ring = record { Of = ℕ; Can = λ (n : ℕ). (0 < n) × (n ≤ 4096); parts = λ (n : ℕ). space ∷ part Number (decimal n) ∷ [] }
 

@@ -52,7 +52,7 @@ fn end_line(line: &[u8], block: &mut [u8; LONGEST_LINE + 1])
     block[line.len()] = b'\n';
 }
 
-/// Reads the command of a line, which comes with its newline and has no other.
+/// Reads the command of a line, which comes with its newline and has no other. How long it is, its caller judges.
 pub fn read_line(alloc: Global, line: &[u8]) -> Result<ScriptCommand, CommandFault>
     requires { EndsLine line.now }
     ensures { Reads line.now result }

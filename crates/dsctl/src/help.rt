@@ -45,7 +45,7 @@ Lines of a script:
   side a             ask store a from now on, or with `b` the other one
   restart a INCARNATION
                      begin store a again, empty, or with `b` the other one: `restarted`
-  ring N             on the first line alone: how many changes both stores remember for `since`, 256
+  ring N             on the first line alone: how many items both stores remember for `since`, 256
                      where it isn't said
   map PATTERN KINDS  make a map of what is under a query: `map J`
   entries J          print the entries of a map, then `shown N`
