@@ -21,7 +21,7 @@ use Rattle.ds_script.specs.declared.report.BadLines.{BadLines}
 use Rattle.ds_script.specs.Session.{SessionContent, IsOpened, seed, made, turned}
 use Rattle.ds_script.specs.Answer.{AnswersEvent, AnswersCommand, AnswersLine, picked, shown}
 use Rattle.ds_script.specs.Replay.{AnswersOrTells, AnswersLines}
-use Rattle.ds_script.specs.Laws.{CameOf, ScriptsAreEvents, HoldersAgree, ShowsAgree}
+use Rattle.ds_script.specs.Laws.{CameOf, MakesEvents, LineMakesEvents, LinesMakeEvents, ScriptsAreEvents, HoldersAgree, ShowsAgree}
 use Rattle.ds_script.proofs.LineLemmas.{may_command}
 
 -- ---- events
@@ -31,71 +31,81 @@ happen_last : (events : List (Event × Outcome)) (w mid late : World) (event : E
 happen_last [] w mid late event out h a = (late, subst (λ (x : World). Happens x event out late) h a, refl)
 happen_last (e ∷ events) w mid late event out h a = (h.0, h.1, happen_last events h.0 mid late event out h.2 a)
 
--- the session came of some events
-abbrev Came : SessionContent → Type 0
-Came session = (events : List (Event × Outcome)) × (ring : ℕ) × (world : World) × CameOf events ring world session
+-- the session came of these events
+abbrev Came : SessionContent → List (Event × Outcome) → Type 0
+Came session events = (ring : ℕ) × (world : World) × CameOf events ring world session
 
-came_opened : (ring : ℕ) (session : SessionContent) → 1 ≤ ring → ring ≤ 4096 → IsOpened ring session → Came session
-came_opened ring session least most opened = ([], ring, made ring, record { least = least; most = most; happened = refl; stands = opened.world })
+came_opened : (ring : ℕ) (session : SessionContent) → 1 ≤ ring → ring ≤ 4096 → IsOpened ring session → Came session []
+came_opened ring session least most opened = (ring, made ring, record { least = least; most = most; happened = refl; stands = opened.world })
 
-came_by : (event : Event) (outcome : Outcome) (old new : SessionContent) → EventLeads event outcome old.world new.world → Came old → Came new
-came_by event outcome old new leads came =
-    let c = came.3 in
-    let next = leads came.2 c.stands in (
-      came.0 ++ (event, outcome) ∷ [],
-      came.1,
+came_by : (event : Event) (outcome : Outcome) (old new : SessionContent) (events : List (Event × Outcome)) → EventLeads event outcome old.world new.world → Came old events → Came new (events ++ (event, outcome) ∷ [])
+came_by event outcome old new events leads came =
+    let c = came.2 in
+    let next = leads came.1 c.stands in (
+      came.0,
       next.0,
       record {
         least = c.least;
         most = c.most;
-        happened = happen_last came.0 (made came.1) came.2 next.0 event outcome c.happened next.1;
+        happened = happen_last events (made came.0) came.1 next.0 event outcome c.happened next.1;
         stands = next.2;
       },
     )
 
-came_same : (old new : SessionContent) → new ≡ old → Came old → Came new
-came_same old new same came = subst (λ (s : SessionContent). Came s) (sym same) came
+came_same : (old new : SessionContent) (events : List (Event × Outcome)) → new ≡ old → Came old events → Came new events
+came_same old new events same came = subst (λ (s : SessionContent). Came s events) (sym same) came
 
-came_turned : (old new : SessionContent) (side : OneSide) → new ≡ turned old side → Came old → Came new
-came_turned old new side same came =
-    let c = came.3 in
-    came_same (turned old side) new same (came.0, came.1, came.2, record { least = c.least; most = c.most; happened = c.happened; stands = c.stands })
+came_turned : (old new : SessionContent) (events : List (Event × Outcome)) (side : OneSide) → new ≡ turned old side → Came old events → Came new events
+came_turned old new events side same came =
+    let c = came.2 in
+    came_same (turned old side) new events same (came.0, came.1, record { least = c.least; most = c.most; happened = c.happened; stands = c.stands })
 
-came_event : (command : ScriptCommand) (old : SessionContent) (out : List ℕ) (new : SessionContent) (o : Option Event)
-    → MatchOption o ⊥ (λ event. AnswersEvent (wording command) event old out new) → Came old → Came new
-came_event command old out new None a came = absurd a
-came_event command old out new (Some event) a came = came_by event a.outcome old new a.happens.leads came
+-- what a command, a line and lines make of the events before them, of which the session came that they leave
+abbrev Makes : (List (Event × Outcome) → Type 0) → SessionContent → Type 0
+Makes How new = (events : List (Event × Outcome)) × How events × Came new events
 
-came_command : (command : ScriptCommand) (old : SessionContent) (out : List ℕ) (new : SessionContent) → IsCommand command → AnswersCommand command old out new → Came old → Came new
-came_command Show old out new is a came = came_same old new a.0 came
-came_command All old out new is a came = came_same old new a.0 came
-came_command (Entries map) old out new is a came = came_same old new a.0 came
-came_command (Ring ring) old out new is a came = came_opened ring new (omega (arith, is.0)) is.1 a.0
-came_command (Side side) old out new is a came = came_turned old new side a.0 came
-came_command command old out new is a came = came_event command old out new (event_of old.side command) a came
+made_event : (command : ScriptCommand) (old : SessionContent) (out : List ℕ) (new : SessionContent) (came : List (Event × Outcome)) (o : Option Event) (Else : List (Event × Outcome) → Type 0)
+    → MatchOption o ⊥ (λ event. AnswersEvent (wording command) event old out new) → Came old came
+    → Makes (λ events. MatchOption o (Else events) (λ event. (answer : AnswersEvent (wording command) event old out new) × (events ≡ came ++ (event, answer.outcome) ∷ []))) new
+made_event command old out new came None Else a before = absurd a
+made_event command old out new came (Some event) Else a before = (came ++ (event, a.outcome) ∷ [], (a, refl), came_by event a.outcome old new came a.happens.leads before)
+
+made_command : (command : ScriptCommand) (old : SessionContent) (out : List ℕ) (new : SessionContent) (came : List (Event × Outcome)) → IsCommand command → AnswersCommand command old out new → Came old came → Makes (λ events. MakesEvents command old out new came events) new
+made_command Show old out new came is a before = (came, (a, refl), came_same old new came a.0 before)
+made_command All old out new came is a before = (came, (a, refl), came_same old new came a.0 before)
+made_command (Entries map) old out new came is a before = (came, (a, refl), came_same old new came a.0 before)
+made_command (Ring ring) old out new came is a before = ([], (a, refl), came_opened ring new (omega (arith, is.0)) is.1 a.0)
+made_command (Side side) old out new came is a before = (came, (a, refl), came_turned old new came side a.0 before)
+made_command command old out new came is a before = made_event command old out new came (event_of old.side command) (λ events. AnswersCommand command old out new × (events ≡ came)) a before
 
 -- ---- lines
 
-came_line : (before : ℕ) (old : SessionContent) (line out : List ℕ) (new : SessionContent) → AnswersLine before old line out new → Came old → Came new
-came_line before old line out new a came =
+made_line : (policy : BadLines) (before : ℕ) (old : SessionContent) (line out : List ℕ) (bad : ℕ) (new : SessionContent) (came : List (Event × Outcome)) → AnswersLine before old line out new → bad ≡ 0 → Came old came → Makes (λ events. LineMakesEvents policy before old line out bad new came events) new
+made_line policy before old line out bad new came a none was =
     elim a.2 [
-      | inl refused ↦ came_same old new refused.1.0 came
-      | inr answered ↦ came_command a.0 old out new (may_command before a.0 a.1.written) answered came
+      | inl refused ↦ (came, inl (a.0, a.1, none, inl (refused.0, refused.1, refl)), came_same old new came refused.1.0 was)
+      | inr answered ↦ let m = made_command a.0 old out new came (may_command before a.0 a.1.written) answered was in (m.0, inl (a.0, a.1, none, inr m.1), m.2)
     ]
 
-came_told : (policy : BadLines) (before : ℕ) (old : SessionContent) (line out : List ℕ) (bad : ℕ) (new : SessionContent) → AnswersOrTells policy before old line out bad new → Came old → Came new
-came_told policy before old line out bad new a came =
+made_told : (policy : BadLines) (before : ℕ) (old : SessionContent) (line out : List ℕ) (bad : ℕ) (new : SessionContent) (came : List (Event × Outcome)) → AnswersOrTells policy before old line out bad new → Came old came → Makes (λ events. LineMakesEvents policy before old line out bad new came events) new
+made_told policy before old line out bad new came a was =
     elim a [
-      | inl answered ↦ came_line before old line out new answered.0 came
-      | inr told ↦ came_same old new told.1 came
+      | inl answered ↦ made_line policy before old line out bad new came answered.0 answered.1 was
+      | inr told ↦ (came, inr (told, refl), came_same old new came told.1 was)
     ]
 
-came_lines : (policy : BadLines) (before : ℕ) (old : SessionContent) (ls : List (List ℕ)) (out : List ℕ) (bad : ℕ) (new : SessionContent) → AnswersLines policy before old ls out bad new → Came old → Came new
-came_lines policy before old [] out bad new a came = came_same old new a.2 came
-came_lines policy before old (line ∷ ls) out bad new a came = came_lines policy (suc before) a.0 ls a.2 a.4 new a.6 (came_told policy before old line a.1 a.3 a.0 a.5 came)
+made_lines : (policy : BadLines) (before : ℕ) (old : SessionContent) (ls : List (List ℕ)) (out : List ℕ) (bad : ℕ) (new : SessionContent) (came : List (Event × Outcome)) → AnswersLines policy before old ls out bad new → Came old came
+    → Makes (λ events. LinesMakeEvents policy before old ls out bad new came events) new
+made_lines policy before old [] out bad new came a was = (came, (a.0, a.1, a.2, refl), came_same old new came a.2 was)
+made_lines policy before old (line ∷ ls) out bad new came a was =
+    let one = made_told policy before old line a.1 a.3 a.0 came a.5 was in
+    let all = made_lines policy (suc before) a.0 ls a.2 a.4 new one.0 a.6 one.2 in
+    (all.0, (a.0, a.1, a.2, a.3, a.4, one.0, one.1, all.1, a.7, a.8), all.2)
 
 pub scripts_are_events : ScriptsAreEvents
-scripts_are_events policy ls out bad start end opened a = came_lines policy 0 start ls out bad end a (came_opened 256 start (omega arith) (omega arith) opened)
+scripts_are_events policy ls out bad start end opened a =
+    let m = made_lines policy 0 start ls out bad end [] a (came_opened 256 start (omega arith) (omega arith) opened) in
+    (m.0, m.1, m.2.0, m.2.1, m.2.2)
 
 -- ---- what is held
 

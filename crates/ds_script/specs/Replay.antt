@@ -20,12 +20,14 @@ IsBadBehind before line place = IsBadLineAs (MayStand before) line place
 abbrev pub badline : ℕ → ℕ → List ℕ
 badline number place = ended (codes "badline " ++ (decimal number ++ 32 ∷ decimal place))
 
--- A line behind so many others is answered; or it is bad, and that is its answer, where bad lines end nothing, and nothing
--- changes. `bad` counts it then.
+-- The line behind so many others is bad, and that is its answer, where bad lines end nothing. It changes nothing, and is counted.
+abbrev pub TellsBadLine : BadLines → ℕ → SessionContent → List ℕ → List ℕ → ℕ → SessionContent → Type 0
+TellsBadLine policy before old line out bad new = (policy ≡ GoOn) × (new ≡ old) × (bad ≡ 1) × (place : ℕ) × IsBadBehind before line place × (out ≡ badline (suc before) place)
+
+-- A line behind so many others is answered, or told to be bad.
 abbrev pub AnswersOrTells : BadLines → ℕ → SessionContent → List ℕ → List ℕ → ℕ → SessionContent → Type 0
 AnswersOrTells policy before old line out bad new =
-    (AnswersLine before old line out new × (bad ≡ 0))
-    ⊎ ((policy ≡ GoOn) × (new ≡ old) × (bad ≡ 1) × (place : ℕ) × IsBadBehind before line place × (out ≡ badline (suc before) place))
+    (AnswersLine before old line out new × (bad ≡ 0)) ⊎ TellsBadLine policy before old line out bad new
 
 -- the answers to lines behind so many, one after the other, with the count of the bad ones
 abbrev pub AnswersLines : BadLines → ℕ → SessionContent → List (List ℕ) → List ℕ → ℕ → SessionContent → Type 0
