@@ -1,4 +1,3 @@
-pub mod PickLemmas
 pub mod LineLemmas
 pub mod EventLemmas
 pub mod LawLemmas

@@ -61,26 +61,14 @@ fn append_lines(items: &Items, output: &mut Vec<u8>, all: bool) -> Result<(), No
     ensures some { OnErr result ((part : List ℕ) × (output.new.items ≡ output.old.items ++ part)) }
 {
     let mut count = 0usize;
-    for index in 0..items.len() {
-        match append_nth(items, index, output, all) {
+    for item in items.as_slice() {
+        match append_picked(item, output, all) {
             Ok(lines) => count += lines,
             Err(NoRoom) => return Err(NoRoom),
         }
     }
     let mut digits = Buffer::new();
     append_all(output, &[b"shown ", digits.format(count).as_bytes(), b"\n"])
-}
-
-// The line of the item at an index, if it is picked, and how many lines that is.
-fn append_nth(items: &Items, index: usize, output: &mut Vec<u8>, all: bool) -> Result<usize, NoRoom>
-    requires { index < length items.now }
-    ensures item { IfOk result (λ count. (i : Item) × (slice_get items.now index ≡ Some i) × (count ≡ length (picked all (i ∷ []))) × (output.new.items ≡ output.old.items ++ flat_map item_spelling (picked all (i ∷ [])))) }
-    ensures unwritten { OnErr result (output.new.items ≡ output.old.items) }
-{
-    match items.get(index) {
-        Some(item) => append_picked(item, output, all),
-        None => Ok(0),
-    }
 }
 
 // The line of an item, if it is picked, and how many lines that is.
