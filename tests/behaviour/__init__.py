@@ -37,6 +37,7 @@ ALL = [
     at_a_terminal.is_silent_where_one_stream_is_no_terminal,
     words.the_manual_and_the_completions_are_current,
     words.tells_how_it_is_used,
+    words.does_as_its_help_shows,
     words.reminds_in_rows_of_eighty_columns,
     words.explains_each_refusal,
     words.points_at_standard_input,

@@ -4,7 +4,25 @@ import re
 import harness
 import manual
 
+from .running import expect
 from .samples import GOOD
+
+# What the six lines about two replicas are answered, and then both sides, asked for all that they hold.
+SIX_ANSWERED = b"""\
+taken
+eth0 label rs 3.0 = 3/17
+snapshot 1 1 1
+merged 1 1 0
+side b
+eth0 label rs 3.0 = 3/17
+snapshot 1 2 1
+merged 1 0 0
+eth0 label rs 3.0 = 3/17
+shown 1
+side a
+eth0 label rs 3.0 = 3/17
+shown 1
+"""
 
 
 def the_manual_and_the_completions_are_current(program):
@@ -20,6 +38,29 @@ def tells_how_it_is_used(program):
         assert (ran.status, ran.error) == (0, b""), f"{word}: status {ran.status}, standard error {ran.error[:200]!r}"
         missing = [it for it in wanted if it not in ran.output]
         assert not missing, f"{word} doesn't name {missing}: {ran.output[:300]!r}"
+
+
+def does_as_its_help_shows(program):
+    """The six lines about two replicas do what `--help` says of them, and its example session is answered as it shows."""
+    help_ = harness.run([program, "--help"], b"").output.decode()
+    six = [re.split(" {2,}", row)[0] for row in rows_below("Two replicas, in six lines", help_)]
+    assert len(six) == 6, f"the help shows {six}"
+    expect(harness.run([program], script_of([*six, "all", "side a", "all"])), SIX_ANSWERED, 0)
+    session = rows_below("Example session", help_)
+    typed = [row[2:] for row in session if row.startswith("> ")]
+    assert len(typed) == 4, f"the help shows {session}"
+    expect(harness.run([program], script_of(typed)), script_of(row for row in session if not row.startswith("> ")), 0)
+
+
+def rows_below(title, text):
+    """The rows of a text that stand below the one that begins so, without the two spaces before each."""
+    found = re.search(rf"^{title}.*:\n((?:  .*\n)*)", text, re.MULTILINE)
+    return [row[2:] for row in found[1].splitlines()] if found else []
+
+
+def script_of(rows):
+    """Rows as the bytes of a script, or of answers."""
+    return "".join(row + "\n" for row in rows).encode()
 
 
 def reminds_in_rows_of_eighty_columns(program):
