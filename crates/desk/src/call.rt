@@ -22,7 +22,7 @@ const MOST_NOTES: u64 = 1 << 62;
 
 impl<M: Machine> Desk<M> {
     /// Waits for the turn, steps the machine once, and ends the turn; then posts what the reply owes. It takes no memory but
-    /// what the machine takes. Worn where the last place, 2^62 - 1, was used; then nothing is entered.
+    /// what the machine takes. Worn where no place below 2^62 is left; then nothing is entered, and the command is dropped.
     pub fn call<W: Wait>(
         &self,
         rt: &W,

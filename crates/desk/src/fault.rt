@@ -14,7 +14,7 @@ pub enum DeskFault {
     /// There are 16 servers.
     #[error("no such server")]
     BadServer,
-    /// The last place was used, or the pass made or learnt 2^62 notes.
+    /// No place below 2^62 is left, or the pass made or learnt 2^62 notes.
     #[error("worn out")]
     Worn,
     /// Not all passes are back.
