@@ -182,10 +182,14 @@ pub(crate) fn close_one(
     }
 }
 
-/// Prints what a closed desk left: the position behind all that took effect, and the row of the first subscription.
-pub(crate) fn tell_closed(rt: &impl Print, closed: &Closed<SharedStore>) -> Result<(), Failure> {
+/// Prints what a closed desk left: the position behind all that took effect, and the row of a subscription.
+pub(crate) fn tell_closed(
+    rt: &impl Print,
+    closed: &Closed<SharedStore>,
+    sub: usize,
+) -> Result<(), Failure> {
     let position = closed.machine.store.cursor().position;
-    let Some(row) = closed.account.get(0) else {
+    let Some(row) = closed.account.get(sub) else {
         return Ok(());
     };
     let (raises, takes, pending) = (row.raises, row.takes, row.pending);

@@ -17,18 +17,23 @@ use std::sync::Wait;
 // The last place of a desk.
 const LAST: u64 = (1 << 62) - 1;
 
-/// A follower's bit is raised by one pass, found pending by the other, whose call the first sees by a look, and taken once; a
-/// note that isn't learnt and a pass that is out keep the desk open.
+/// A follower's bit is raised by one pass, and found pending by the other, whose call the first sees by a look. It is taken
+/// once, by a pass that sees the other's call by the take's own look. A note that isn't learnt and a pass that is out keep the
+/// desk open; who learns the note sees a call that the note's pass had made.
 pub(crate) fn notice<R: Print + Wait>(rt: &R, alloc: Global) -> Result<(), Failure> {
     let query = everything(alloc)?;
     let Some((desk, mut one, mut two)) = open_two(alloc, 0, 0) else {
         return Err(Failure::NoRoom);
     };
     call(rt, &desk, &mut one, follow(query, 0))?;
-    start_two(rt, &desk, &mut one, &mut two)?;
+    start_one(rt, &desk, &mut one, b"eth0", 16)?;
     look(rt, &desk, &mut one)?;
+    start_one(rt, &desk, &mut two, b"tty", 17)?;
+    look(rt, &desk, &mut one)?;
+    start_one(rt, &desk, &mut one, b"disk", 18)?;
+    take(rt, &desk, &mut two, 0)?;
     take(rt, &desk, &mut one, 0)?;
-    take(rt, &desk, &mut one, 0)?;
+    start_one(rt, &desk, &mut one, b"inet", 19)?;
     close_when_learnt(rt, alloc, desk, one, two)
 }
 
@@ -47,7 +52,7 @@ fn close_when_learnt(
         return Err(Failure::Worn);
     };
     let (fault, desk, passes) = match close_two(alloc, desk, one, two) {
-        Ok(closed) => return tell_closed(rt, &closed),
+        Ok(closed) => return tell_closed(rt, &closed, 0),
         Err(stop) => stop,
     };
     tell_fault(rt, fault)?;
@@ -55,27 +60,29 @@ fn close_when_learnt(
     if desk.learn(&mut two, note).is_err() {
         return Err(Failure::Worn);
     }
+    look(rt, &desk, &mut two)?;
     let (fault, desk, one) = match close_one(alloc, desk, one) {
-        Ok(closed) => return tell_closed(rt, &closed),
+        Ok(closed) => return tell_closed(rt, &closed, 0),
         Err(stop) => stop,
     };
     tell_fault(rt, fault)?;
-    close_and_tell(rt, alloc, desk, one, two)
+    close_and_tell(rt, alloc, desk, one, two, 0)
 }
 
-// Closes with both passes, and prints what is left.
+// Closes with both passes, and prints what is left, with the row of a subscription.
 fn close_and_tell(
     rt: &impl Print,
     alloc: Global,
     desk: Desk<SharedStore>,
     one: Pass<SharedStore>,
     two: Pass<SharedStore>,
+    sub: usize,
 ) -> Result<(), Failure>
     requires one { desk_of one ≡ identity desk }
     requires two { desk_of two ≡ identity desk }
 {
     match close_two(alloc, desk, one, two) {
-        Ok(closed) => tell_closed(rt, &closed),
+        Ok(closed) => tell_closed(rt, &closed, sub),
         Err(stop) => tell_fault(rt, stop.0),
     }
 }
@@ -92,7 +99,7 @@ fn last_place<R: Print + Wait>(rt: &R, alloc: Global) -> Result<(), Failure> {
     };
     start_two(rt, &desk, &mut one, &mut two)?;
     take(rt, &desk, &mut one, 0)?;
-    close_and_tell(rt, alloc, desk, one, two)
+    close_and_tell(rt, alloc, desk, one, two, 0)
 }
 
 fn last_position<R: Print + Wait>(rt: &R, alloc: Global) -> Result<(), Failure> {
@@ -102,7 +109,7 @@ fn last_position<R: Print + Wait>(rt: &R, alloc: Global) -> Result<(), Failure> 
     };
     call(rt, &desk, &mut one, follow(query, 0))?;
     start_one(rt, &desk, &mut two, b"disk", 18)?;
-    close_and_tell(rt, alloc, desk, one, two)
+    close_and_tell(rt, alloc, desk, one, two, 0)
 }
 
 /// The subscription 127 is owed a notice, which is bit 7 of server 15's word. There is no server 16.
@@ -114,7 +121,7 @@ pub(crate) fn bits<R: Print + Wait>(rt: &R, alloc: Global) -> Result<(), Failure
     call(rt, &desk, &mut one, follow(query, 127))?;
     start_one(rt, &desk, &mut two, b"eth0", 16)?;
     take_from_14_on(rt, &desk, &mut one)?;
-    close_and_tell(rt, alloc, desk, one, two)
+    close_and_tell(rt, alloc, desk, one, two, 127)
 }
 
 /// No pass, one more than there may be, and a first place too far open no desk, and the store comes back.
