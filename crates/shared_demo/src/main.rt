@@ -1,12 +1,12 @@
 //! `shared_demo`: two passes of one desk call a data store in turn, for tests.
 //!
-//! Each line of standard input names a row. `notice`: a follower's bit is raised by one pass and found set by the other, whose
-//! call the first then sees by a look; the bit is taken once, by a pass that sees the other's call by the take's own look; the
-//! desk refuses to close while a note is out and while a pass is out, and then closes; who has learnt the note looks as far as
-//! the note's pass did. `last`: the last place of a desk is used; at another desk the store's last position was used before.
-//! `bits`: the last subscription is owed a notice, and there is no server behind its own. `none`: what opens no desk. Each call
-//! prints a line. Status 0: done. 1: a line that can't be read. 3: memory, reading or writing failed, or a pass was refused a
-//! note, and standard error says which.
+//! Each line of standard input names a row. `notice`: a follower's bit is raised by one pass and found set by the other; the
+//! bit is taken once, by a pass that sees the other's call by the take's own look; the desk refuses to close while a note is out
+//! and while a pass is out, and then closes; who has learnt the note looks as far as the note's pass did. `last`: the last place
+//! of a desk is used; at another desk the store's last position was used before. `bits`: the last subscription is owed a notice,
+//! before which and behind which a pass looks how far the calls go; there is no server behind its own. `none`: what opens no
+//! desk. Each call prints a line. Status 0: done. 1: a line that can't be read. 3: memory, reading or writing failed, or a pass
+//! was refused a note, and standard error says which.
 #![tactic(auto)]
 
 mod calls;

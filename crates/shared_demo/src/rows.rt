@@ -17,23 +17,18 @@ use std::sync::Wait;
 // The last place of a desk.
 const LAST: u64 = (1 << 62) - 1;
 
-/// A follower's bit is raised by one pass, and found pending by the other, whose call the first sees by a look. It is taken
-/// once, by a pass that sees the other's call by the take's own look. A note that isn't learnt and a pass that is out keep the
-/// desk open; who learns the note sees a call that the note's pass had made.
+/// A follower's bit is raised by one pass, and found pending by the other. It is taken once, by a pass that sees the other's call
+/// by the take's own look. A note that isn't learnt and a pass that is out keep the desk open; who learns the note looks at least
+/// as far as the note's pass did.
 pub(crate) fn notice<R: Print + Wait>(rt: &R, alloc: Global) -> Result<(), Failure> {
     let query = everything(alloc)?;
     let Some((desk, mut one, mut two)) = open_two(alloc, 0, 0) else {
         return Err(Failure::NoRoom);
     };
     call(rt, &desk, &mut one, follow(query, 0))?;
-    start_one(rt, &desk, &mut one, b"eth0", 16)?;
-    look(rt, &desk, &mut one)?;
-    start_one(rt, &desk, &mut two, b"tty", 17)?;
-    look(rt, &desk, &mut one)?;
-    start_one(rt, &desk, &mut one, b"disk", 18)?;
-    take(rt, &desk, &mut two, 0)?;
+    start_two(rt, &desk, &mut one, &mut two)?;
     take(rt, &desk, &mut one, 0)?;
-    start_one(rt, &desk, &mut one, b"inet", 19)?;
+    take(rt, &desk, &mut one, 0)?;
     close_when_learnt(rt, alloc, desk, one, two)
 }
 
@@ -112,14 +107,17 @@ fn last_position<R: Print + Wait>(rt: &R, alloc: Global) -> Result<(), Failure> 
     close_and_tell(rt, alloc, desk, one, two, 0)
 }
 
-/// The subscription 127 is owed a notice, which is bit 7 of server 15's word. There is no server 16.
+/// The subscription 127 is owed a notice, which is bit 7 of server 15's word. There is no server 16. Who follows looks one place
+/// further behind the other's call than before it.
 pub(crate) fn bits<R: Print + Wait>(rt: &R, alloc: Global) -> Result<(), Failure> {
     let query = everything(alloc)?;
     let Some((desk, mut one, mut two)) = open_two(alloc, 0, 0) else {
         return Err(Failure::NoRoom);
     };
     call(rt, &desk, &mut one, follow(query, 127))?;
+    look(rt, &desk, &mut one)?;
     start_one(rt, &desk, &mut two, b"eth0", 16)?;
+    look(rt, &desk, &mut one)?;
     take_from_14_on(rt, &desk, &mut one)?;
     close_and_tell(rt, alloc, desk, one, two, 127)
 }
