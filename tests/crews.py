@@ -54,15 +54,18 @@ class Crews:
         wrong = harness.fault(case, ample)
         if wrong or not counts["growth"]:
             return wrong or "no growth of memory was counted at all"
-        ended = 0
+        ended = answered = 0
         for n in range(1, counts["growth"] + 1):
             ran, _ = refuser.run(case, growth=n)
             ended += ran.status == 3
+            answered += ran.status == 0 and ran.output != case.output
             if ran.status == 3 and (ran.error != b"noroom\n" or ran.output not in (b"", first[0])):
                 return f"growth {n}: it ended with {ran.output[:200]!r}, {ran.error[:200]!r}"
             if ran.status != 3 and (ran.status, ran.error, ran.output in wanted) != (0, b"", True):
                 return f"growth {n}: status {ran.status}, output {ran.output[:200]!r}, standard error {ran.error[:200]!r}"
-        return None if ended else "no refused growth ended it"
+        if not ended:
+            return "no refused growth ended it"
+        return None if answered or len(first) == 1 else "no refused growth was answered by name in a call"
 
     def report(self, sizes, refused):
         """Runs crews of these sizes, and those whose growths are refused, and reports each."""

@@ -90,6 +90,11 @@ pub(crate) fn start(driver: &Driver) -> Command {
     }
 }
 
+/// The value of the driver's label is asked for.
+pub(crate) fn retrieve(driver: &Driver) -> Command {
+    Command::Retrieve { key: driver.key }
+}
+
 /// The label of the driver of a number, with its last twelve digits: 64 threads make fewer calls than these can tell apart.
 pub(crate) fn label_of(number: u64) -> [u8; 18] {
     let mut label = *b"driver000000000000";

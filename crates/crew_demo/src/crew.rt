@@ -19,6 +19,9 @@ type StoreWorker = Worker<Pass<SharedStore>>;
 /// How many items the journal of a store keeps.
 pub(crate) const RING: u32 = 256;
 
+/// The position of a new store.
+pub(crate) const FIRST: u64 = 1 << 32;
+
 /// What the threads were answered and counted, and what the desk left.
 #[derive(Drop)]
 pub(crate) struct Crew {
@@ -30,8 +33,8 @@ pub(crate) struct Crew {
     pub takes: u64,
     /// The account of the desk.
     pub account: Account,
-    /// The position of the store at the end.
-    pub position: u64,
+    /// The store that the desk left.
+    pub machine: SharedStore,
 }
 
 /// Opens a desk over a new store, has that many threads call it, and closes it. `None` where memory is wanting, or where
@@ -67,6 +70,23 @@ pub(crate) fn overwrite_labels<R: Threads + Wait + Sync>(
     raised_by(&run_threads(rt, alloc, &desk, passes, task)?)
 }
 
+/// Has two threads overwrite a label each, so often, at one desk, and closes it: the store that it leaves. `None` where memory
+/// or a place is wanting.
+pub(crate) fn store_of_two<R: Threads + Wait + Sync>(
+    rt: &R,
+    alloc: Global,
+    calls: u32,
+) -> Option<SharedStore> {
+    let (desk, passes) = open_desk(alloc, 2)?;
+    let task = Task {
+        calls,
+        overwrites: true,
+    };
+    let workers = run_threads(rt, alloc, &desk, passes, task)?;
+    let crew = close_crew(alloc, desk, workers)?;
+    Some(crew.machine)
+}
+
 // How many bits the threads raised together. `None` where one of them ended early.
 fn raised_by(workers: &[StoreWorker]) -> Option<u64> {
     let mut raises = 0u64;
@@ -86,7 +106,7 @@ pub(crate) fn open_desk(
 ) -> Option<(Desk<SharedStore>, Passes<SharedStore>)>
     ensures { IfSome result (λ d. AllByRecursion (λ p. desk_of p ≡ identity d.0) d.1) }
 {
-    let shared = SharedStore::of(alloc, Store::open(alloc, 1, 0, RING).ok()?).ok()?;
+    let shared = SharedStore::of(alloc, Store::open(alloc, 1, FIRST, RING).ok()?).ok()?;
     Desk::<SharedStore>::open(alloc, shared, threads, 0).ok()
 }
 
@@ -146,7 +166,7 @@ fn close_crew(alloc: Global, desk: Desk<SharedStore>, mut workers: Vec<StoreWork
         said,
         raises,
         takes,
-        position: closed.machine.store.cursor().position,
+        machine: closed.machine,
         account: closed.account,
     })
 }

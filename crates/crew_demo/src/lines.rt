@@ -7,6 +7,8 @@ pub(crate) enum Line {
     Crew { threads: u32, calls: u32 },
     /// As many calls that are only made.
     Overwrite { threads: u32, calls: u32 },
+    /// So many overwrites of a label by each of two threads.
+    Labels(u32),
     /// So many looks how far a history goes.
     Front(u32),
     /// So many takes.
@@ -21,6 +23,7 @@ pub(crate) fn read_line(line: &str) -> Option<Line> {
             let (threads, calls) = sizes_of(rest)?;
             Some(Line::Overwrite { threads, calls })
         }
+        "labels" => Some(Line::Labels(rest.parse::<u32>().ok()?)),
         "front" => Some(Line::Front(rest.parse::<u32>().ok()?)),
         "take" => Some(Line::Take(rest.parse::<u32>().ok()?)),
         _ => {

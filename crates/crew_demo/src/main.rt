@@ -3,7 +3,8 @@
 //! Each line of standard input is `THREADS CALLS`: 1 to 64 threads, each in a thread of its own where one can be made, make
 //! that many calls of one desk. Then every reply is compared with that of a store of one thread which is given the calls in
 //! the order of their places, and the account of the notices with what the threads counted themselves. What is printed is
-//! the same however the threads took turns. Or, to be measured from outside: `overwrite THREADS CALLS`, where the calls are
+//! the same however the threads took turns. Or `labels COUNT`: two threads change a label each so often, and what the closed
+//! desk's store says of it is printed. Or, to be measured from outside: `overwrite THREADS CALLS`, where the calls are
 //! only made; `front COUNT`, `take COUNT`: so many looks, so many takes of one pass. Status 0: done. 1: a line that can't be
 //! read. 3: memory, reading or writing failed, and standard error says which.
 #![tactic(auto)]
@@ -11,6 +12,7 @@
 mod commands;
 mod crew;
 mod digest;
+mod labels;
 mod lines;
 mod review;
 mod rounds;
@@ -18,6 +20,7 @@ mod task;
 mod worker;
 
 use crew::{overwrite_labels, run_crew};
+use labels::{Labels, publish_labels};
 use lines::{Line, read_line};
 use review::{account_is_exact, compare_with_one};
 use std::alloc::Global;
@@ -77,6 +80,7 @@ fn answer<R: Print + Threads + Wait + Sync>(
 ) -> Result<(), Failure> {
     let count = match asked {
         Line::Crew { threads, calls } => return share_store(rt, alloc, threads, calls),
+        Line::Labels(count) => return change_labels(rt, alloc, count),
         Line::Overwrite { threads, calls } => overwrite_labels(rt, alloc, threads, calls),
         Line::Front(count) => rounds::look(alloc, count),
         Line::Take(count) => rounds::take(alloc, count),
@@ -85,6 +89,23 @@ fn answer<R: Print + Threads + Wait + Sync>(
         return Err(Failure::NoRoom);
     };
     println!(rt; "sum {sum}").map_err(|_| Failure::WriteFault)
+}
+
+// Has two threads change labels, and prints how far the position went and which generation each label names.
+fn change_labels<R: Print + Threads + Wait + Sync>(
+    rt: &R,
+    alloc: Global,
+    calls: u32,
+) -> Result<(), Failure> {
+    let Some(labels) = publish_labels(rt, alloc, calls) else {
+        return Err(Failure::NoRoom);
+    };
+    let Labels {
+        changes,
+        first,
+        second,
+    } = labels;
+    println!(rt; "changes {changes} generations {first} {second}").map_err(|_| Failure::WriteFault)
 }
 
 // Runs one crew, and prints what came of it.

@@ -1,7 +1,7 @@
 //! Whether the threads were answered as one thread would be.
 
 use crate::commands::command_of;
-use crate::crew::{Crew, RING};
+use crate::crew::{Crew, FIRST, RING};
 use crate::digest::Kept;
 use ds_store::Store;
 use std::alloc::Global;
@@ -19,9 +19,9 @@ pub(crate) struct Review {
 /// Gives one store the commands in the order of their places, but for those that were refused for want of memory. `None`
 /// where memory is wanting here.
 pub(crate) fn compare_with_one(alloc: Global, crew: &Crew) -> Option<Review> {
-    let mut store = Store::open(alloc, 1, 0, RING).ok()?;
+    let mut store = Store::open(alloc, 1, FIRST, RING).ok()?;
     let mut review = compare_each(alloc, &mut store, crew)?;
-    review.legal &= store.cursor().position == crew.position;
+    review.legal &= store.cursor().position == crew.machine.store.cursor().position;
     Some(review)
 }
 

@@ -5,6 +5,7 @@ ghost use Rattle.desk.specs.Desk.{identity};
 ghost use Rattle.desk.specs.Pass.{desk_of};
 
 use crate::commands::{command_of, driver_of, everything, follow, label_of, start};
+use crate::crew::FIRST;
 use crate::digest::Kept;
 use crate::task::Task;
 use desk::{Answer, Desk, Pass};
@@ -103,7 +104,7 @@ impl Worker<Pass<SharedStore>> {
         Some(())
     }
 
-    // Overwrites a label so often that no other thread does: it has the number of the thread's first call.
+    // Overwrites a label so often that no other thread does: it has the number of the thread's subscription.
     fn overwrite<R: Wait>(
         &mut self,
         rt: &R,
@@ -115,7 +116,11 @@ impl Worker<Pass<SharedStore>> {
         ensures { desk_of self.new.pass ≡ desk_of self.old.pass }
     {
         let query = everything(alloc)?;
-        let number = self.call(rt, desk, follow(query, 0))?.place;
+        let answer = self.call(rt, desk, follow(query, 0))?;
+        let Reply::Subscribed { stamp, .. } = answer.reply else {
+            return None;
+        };
+        let number = stamp.wrapping_sub(FIRST);
         let label = label_of(number);
         for turn in 0..calls {
             let driver = driver_of(&label, 1 + turn % 2_000_000, (number % 1000) as u16)?;
