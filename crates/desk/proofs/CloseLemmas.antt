@@ -3,19 +3,20 @@ use Rattle.std.proofs.Common.{◌≡◌, ℕ, ◌+◌, ◌*◌, ◌/◌, ◌%◌
 use Rattle.std.specs.Prelude.{slice_index}
 use Rattle.std.specs.List.{AllByRecursion}
 use Rattle.std.specs.Int.{bit_at}
+use mathlib.Core.List.{IsPrefix}
 use Rattle.std.proofs.lemmas.Nat.Bits.{bit_at-lt}
 use Rattle.desk_rule.specs.declared.entry.Entry.{Entry}
 use Rattle.desk_rule.specs.declared.entry.PassCalls.{PassCalls}
 use Rattle.desk_rule.specs.declared.view.View.{View}
 use Rattle.desk_rule.specs.History.{calls_by, calls_of, OwnCalls, Stepped, total_of, weigh_all}
-use Rattle.desk_rule.specs.Kinds.{after_pass, Standing}
+use Rattle.desk_rule.specs.Kinds.{after_pass, Looks}
 use Rattle.desk_rule.specs.Notices.{raised_in, taken_in}
 use Rattle.desk_rule.specs.Seat.{IsClosed, SeatOf}
-use Rattle.desk_rule.proofs.ListLemmas.{all_split, only_of, total_append}
+use Rattle.desk_rule.proofs.ListLemmas.{all_append, all_map, all_split, only_of, prefix_trans, total_append}
 use Rattle.desk.specs.declared.account.Row.{Row}
 use Rattle.desk.specs.declared.pass.Sight.{Ghosts}
 use Rattle.desk.specs.Closing.{gathered, IsAccount, IsHistory, IsRow, pending_bit, Sums, Wraps}
-use Rattle.desk.specs.Pass.{calls, number, Pass, posts, takes}
+use Rattle.desk.specs.Pass.{calls, history, number, Pass, posts, takes}
 use Rattle.desk.specs.Sight.{rests_of}
 use Rattle.desk.specs.Tally.{Tallies}
 use Rattle.desk.proofs.RowLemmas.{wraps_more}
@@ -39,35 +40,48 @@ module _ {M C R : Type 0} {G : Ghosts (View M C R)} where
   gathered_last l [] p = refl
   gathered_last l (q ∷ qs) p = ap (λ m. m ++ q.seat.me.0.passes) (gathered_last l qs p)
 
+  -- the history begins with what each of these passes has seen
+  abbrev pub Seen : List (Entry C R) → List (Pass M C R G) → Type 0
+  Seen h ps = AllByRecursion (λ (p : Pass M C R G). IsPrefix (history p) h) ps
+
   -- the seat q is p0 with the passes of all that aren't among ps
   pub record Gathers (p0 q : SeatOf M C R) (all ps : List (Pass M C R G)) (raises takes' : List ℕ) : Type 0 where
     pub same_table : q.table_id ≡ p0.table_id
     pub same_holding : q.me.0.holding ≡ p0.me.0.holding
     pub passes : gathered q.me.0.passes ps ≡ gathered p0.me.0.passes all
     pub raised : (s b : ℕ) → raised_in q.me.0.posts s b + total_of (λ (x : Pass M C R G). raised_in (posts x) s b) ps ≡ raised_in p0.me.0.posts s b + total_of (λ (x : Pass M C R G). raised_in (posts x) s b) all
+    -- what begins with all that it has seen begins with all that p0 and those that aren't among ps have seen
+    pub seen : (h : List (Entry C R)) → IsPrefix q.me.0.seen h → Seen h ps → IsPrefix p0.me.0.seen h × Seen h all
     pub taken : (s b : ℕ) → taken_in q.me.0.takes s b + total_of (λ (x : Pass M C R G). taken_in (takes x) s b) ps ≡ taken_in p0.me.0.takes s b + total_of (λ (x : Pass M C R G). taken_in (takes x) s b) all
     pub rows_raised : Wraps raises (raised_in q.me.0.posts)
     pub rows_taken : Wraps takes' (taken_in q.me.0.takes)
 
   pub gathers_none : (p : SeatOf M C R) (all : List (Pass M C R G)) (raises takes' : List ℕ) → Wraps raises (raised_in p.me.0.posts) → Wraps takes' (taken_in p.me.0.takes) → Gathers p p all all raises takes'
-  gathers_none p all raises takes' r t = record { same_table = refl; same_holding = refl; passes = refl; raised = λ s b. refl; taken = λ s b. refl; rows_raised = r; rows_taken = t }
+  gathers_none p all raises takes' r t = record { same_table = refl; same_holding = refl; passes = refl; raised = λ s b. refl; seen = λ h begins all_seen. (begins, all_seen); taken = λ s b. refl; rows_raised = r; rows_taken = t }
 
-  pub gathers_more : (p0 p q : SeatOf M C R) (all ps ps' : List (Pass M C R G)) (x : Pass M C R G) (raises raises' takes' takes'' more gone : List ℕ)
-      → Gathers p0 p all ps raises takes' → ps ≡ ps' ++ x ∷ [] → q.table_id ≡ p.table_id → q.me ≡ (after_pass p.me.0 x.seat.me.0, p.me.1)
+  pub gathers_more : (steps : M → C → R → M → Type 0) (p0 p q : SeatOf M C R) (all ps ps' : List (Pass M C R G)) (x : Pass M C R G) (found : ℕ) (raises raises' takes' takes'' more gone : List ℕ)
+      → Gathers p0 p all ps raises takes' → ps ≡ ps' ++ x ∷ [] → q.table_id ≡ p.table_id → Looks steps (after_pass p.me.0 x.seat.me.0) found p.me.0.holding q.me.0
       → Tallies more (raised_in x.seat.me.0.posts) → Sums raises more raises' → Tallies gone (taken_in x.seat.me.0.takes) → Sums takes' gone takes'' → Gathers p0 q all ps' raises' takes''
-  gathers_more p0 p q all ps ps' x raises raises' takes' takes'' more gone g is same me tr sr tt' st =
-      let own_raised : (s b : ℕ) → raised_in q.me.0.posts s b ≡ raised_in p.me.0.posts s b + raised_in x.seat.me.0.posts s b = λ s b. ap (λ (m : Standing M C R). raised_in m.0.posts s b) me ∙ total_append _ p.me.0.posts x.seat.me.0.posts in
-      let own_taken : (s b : ℕ) → taken_in q.me.0.takes s b ≡ taken_in p.me.0.takes s b + taken_in x.seat.me.0.takes s b = λ s b. ap (λ (m : Standing M C R). taken_in m.0.takes s b) me ∙ total_append _ p.me.0.takes x.seat.me.0.takes in record {
+  gathers_more steps p0 p q all ps ps' x found raises raises' takes' takes'' more gone g is same l tr sr tt' st =
+      let own_raised : (s b : ℕ) → raised_in q.me.0.posts s b ≡ raised_in p.me.0.posts s b + raised_in x.seat.me.0.posts s b = λ s b. ap (λ (v : View M C R). raised_in v.posts s b) l.is ∙ total_append _ p.me.0.posts x.seat.me.0.posts in
+      let own_taken : (s b : ℕ) → taken_in q.me.0.takes s b ≡ taken_in p.me.0.takes s b + taken_in x.seat.me.0.takes s b = λ s b. ap (λ (v : View M C R). taken_in v.takes s b) l.is ∙ total_append _ p.me.0.takes x.seat.me.0.takes in record {
         same_table = same ∙ g.same_table;
-        same_holding = ap (λ (m : Standing M C R). m.0.holding) me ∙ g.same_holding;
-        passes = ap (λ (m : Standing M C R). gathered m.0.passes ps') me ∙ (sym (gathered_last p.me.0.passes ps' x) ∙ (ap (gathered p.me.0.passes) (sym is) ∙ g.passes));
+        same_holding = ap (λ (v : View M C R). v.holding) l.is ∙ g.same_holding;
+        passes = ap (λ (v : View M C R). gathered v.passes ps') l.is ∙ (sym (gathered_last p.me.0.passes ps' x) ∙ (ap (gathered p.me.0.passes) (sym is) ∙ g.passes));
         raised = λ s b. (let a = g.raised s b in let o = own_raised s b in
             let t : total_of (λ (y : Pass M C R G). raised_in (posts y) s b) ps ≡ total_of (λ (y : Pass M C R G). raised_in (posts y) s b) ps' + (raised_in x.seat.me.0.posts s b + 0) = ap (total_of _) is ∙ total_append _ ps' (x ∷ []) in omega arith);
         taken = λ s b. (let a = g.taken s b in let o = own_taken s b in
             let t : total_of (λ (y : Pass M C R G). taken_in (takes y) s b) ps ≡ total_of (λ (y : Pass M C R G). taken_in (takes y) s b) ps' + (taken_in x.seat.me.0.takes s b + 0) = ap (total_of _) is ∙ total_append _ ps' (x ∷ []) in omega arith);
+        seen = λ h begins rest. g.seen h (prefix_trans _ _ _ l.seen begins)
+            (subst (Seen h) (sym is) (all_append (λ (y : Pass M C R G). IsPrefix (history y) h) ps' (x ∷ []) rest (prefix_trans _ _ _ l.told begins, tt)));
         rows_raised = wraps_more raises more raises' _ _ _ g.rows_raised tr sr own_raised;
         rows_taken = wraps_more takes' gone takes'' _ _ _ g.rows_taken tt' st own_taken;
       }
+
+  -- what begins with all that the last one and the others have seen
+  pub all_seen : (h : List (Entry C R)) (all ps : List (Pass M C R G)) (p : Pass M C R G) (es : List (Entry C R)) → all ≡ ps ++ p ∷ [] → IsPrefix es h → IsPrefix p.seat.me.0.seen es → AllByRecursion (λ (x : Pass M C R G). IsPrefix (history x) es) ps → Seen h all
+  all_seen h all ps p es is begins last others = subst (Seen h) (sym is)
+      (all_append (λ (x : Pass M C R G). IsPrefix (history x) h) ps (p ∷ []) (all_map _ _ (λ x b. prefix_trans _ _ _ b begins) ps others) (prefix_trans _ _ _ last begins, tt))
 
   -- all passes sit at the seat of the last one
   pub all_gathered : (all ps : List (Pass M C R G)) (p : Pass M C R G) (l : List (PassCalls C R)) → all ≡ ps ++ p ∷ [] → l ≡ gathered p.seat.me.0.passes ps → l ≡ gathered [] all
@@ -91,11 +105,12 @@ module _ {M C R : Type 0} {G : Ghosts (View M C R)} where
 
   -- the history of a closed table is that of the passes
   pub history_of : {S : Type 0} → Tells G → (stands : M → S → Type 0) (steps : S → C → R → S → Type 0) (opened m : M) (ps : List (Pass M C R G)) (v : View M C R) → IsClosed (Stepped stands steps) opened v m → v.passes ≡ gathered [] ps
-      → (log : List (Entry C R)) × IsHistory stands steps opened ps m log
-  history_of tells stands steps opened m ps v closed is = (
+      → ((h : List (Entry C R)) → IsPrefix v.seen h → Seen h ps) → (log : List (Entry C R)) × IsHistory stands steps opened ps m log
+  history_of tells stands steps opened m ps v closed is seen = (
     closed.history,
     record {
       leads = states_run stands steps opened closed.history m closed.legal;
+      begins = seen closed.history closed.seen;
       own = own_gathered tells closed.history ps (subst (λ l. OwnCalls closed.history l) is closed.own);
       no_others = λ weigh. closed.no_others weigh ∙ (ap (weigh_all weigh) is ∙ weigh_gathered tells weigh ps);
     },

@@ -3,6 +3,7 @@ use Rattle.std.specs.Prelude.{◌≡◌, ◌≢◌, ℕ, ◌+◌, ◌*◌, ◌/�
 use Rattle.std.specs.List.{AllByRecursion}
 use Rattle.std.specs.Int.{bit_at}
 use mathlib.Core.Option.{some}
+use mathlib.Core.List.{IsPrefix}
 use lib.ListN.{get_elem?}
 use Rattle.desk_rule.specs.declared.entry.Entry.{Entry}
 use Rattle.desk_rule.specs.declared.entry.PassCalls.{PassCalls}
@@ -13,7 +14,7 @@ use Rattle.desk.specs.declared.account.Row.{Row}
 use Rattle.desk.specs.declared.fault.DeskFault.{DeskFault}
 use Rattle.desk.specs.declared.fault.DeskFault.TheVariants.{PassesOut, Noted, NoRoom}
 use Rattle.desk.specs.declared.pass.Sight.{Ghosts}
-use Rattle.desk.specs.Pass.{calls, notes_learnt, notes_made, number, Pass, posts, takes}
+use Rattle.desk.specs.Pass.{calls, history as seen_by, notes_learnt, notes_made, number, Pass, posts, takes}
 use Rattle.desk.specs.Tally.{row_at}
 
 -- rows, each with another added to it modulo 2^64
@@ -39,9 +40,10 @@ module _ {M C R : Type 0} {G : Ghosts (View M C R)} where
   gathered l [] = l
   gathered l (p ∷ ps) = gathered l ps ++ p.seat.me.0.passes
 
-  -- the machine after one legal history, in which the entries of each pass are just its calls, and there are no others
+  -- the machine after one legal history, which begins with all that each pass has seen, in which the entries of each pass are just its calls, and there are no others
   pub record IsHistory {S : Type 0} (stands : M → S → Type 0) (steps : S → C → R → S → Type 0) (opened : M) (passes : List (Pass M C R G)) (machine : M) (history : List (Entry C R)) : Type 0 where
     pub leads : LeadsTo stands steps opened history machine
+    pub begins : AllByRecursion (λ p. IsPrefix (seen_by p) history) passes
     pub own : AllByRecursion (λ p. calls_by (number p) history ≡ calls p) passes
     pub no_others : (weigh : Entry C R → ℕ) → total_of weigh history ≡ total_of (λ p. total_of weigh (calls p)) passes
 

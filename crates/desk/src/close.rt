@@ -2,19 +2,20 @@
 
 ghost use Rattle.std.specs.Prelude.{◌≡◌, ◌≤◌, ◌+◌, ℕ, length, IfSome, IfNone, IfOk, IfErr};
 ghost use Rattle.std.specs.List.{AllByRecursion};
+ghost use mathlib.Core.List.{IsPrefix};
 ghost use Rattle.desk_rule.specs.History.{total_of};
 ghost use Rattle.desk_rule.specs.Notices.{raised_in, taken_in};
 ghost use Rattle.desk_rule.specs.Seat.{IsAtTable};
 ghost use Rattle.desk.specs.Desk.{identity, opened_with, pass_count};
 ghost use Rattle.desk.specs.Closing.{AllLearnt, gathered, IsAccount, IsCloseFault, IsHistory, Wraps};
-ghost use Rattle.desk.specs.Pass.{desk_of, notes_learnt, notes_made, posts, takes};
+ghost use Rattle.desk.specs.Pass.{desk_of, history, notes_learnt, notes_made, posts, takes};
 
 use crate::account::{Account, add_rows, fill_rows, sums_of};
 use crate::desk::{Desk, DeskOf};
 use crate::fault::DeskFault;
 use crate::pass::{Pass, PassOf};
 use crate::passes::{Passes, PassesOf};
-use desk_rule::{DeskSeat, DeskShared, Machine, close_table, join_pass};
+use desk_rule::{DeskSeat, DeskShared, Machine, close_table, join_pass, look};
 use std::alloc::Global;
 
 /// What a closed desk leaves.
@@ -67,7 +68,7 @@ fn stays_open<M: Machine>(made: u32, passes: &Vec<Pass<M>>) -> Option<DeskFault>
     None
 }
 
-// One seat takes the passes of all others in, and their rows are added up.
+// One seat takes the passes of all others in, sees all that these have seen, and their rows are added up.
 fn gather<M: Machine>(
     shared: &DeskShared<M>,
     seat: &mut DeskSeat<M>,
@@ -80,6 +81,7 @@ fn gather<M: Machine>(
     requires counted { Wraps raise_sums.old (raised_in seat.old.me.0.posts) × Wraps take_sums.old (taken_in seat.old.me.0.takes) }
     ensures same { (seat.new.table_id ≡ seat.old.table_id) × (seat.new.me.0.holding ≡ seat.old.me.0.holding) }
     ensures passes { seat.new.me.0.passes ≡ gathered seat.old.me.0.passes others.items }
+    ensures seen { IsPrefix seat.old.me.0.seen seat.new.me.0.seen × AllByRecursion (λ p. IsPrefix (history p) seat.new.me.0.seen) others.items }
     ensures counted { Wraps raise_sums.new (raised_in seat.new.me.0.posts) × Wraps take_sums.new (taken_in seat.new.me.0.takes) }
     ensures raised { (s b : ℕ) → raised_in seat.new.me.0.posts s b ≡ raised_in seat.old.me.0.posts s b + total_of (λ p. raised_in (posts p) s b) others.items }
     ensures taken { (s b : ℕ) → taken_in seat.new.me.0.takes s b ≡ taken_in seat.old.me.0.takes s b + total_of (λ p. taken_in (takes p) s b) others.items }
@@ -95,12 +97,13 @@ fn gather<M: Machine>(
         add_rows(raise_sums, &raises);
         add_rows(take_sums, &takes);
         join_pass(shared, seat, other);
+        look(shared, seat);
     }
 }
 
 impl<M: Machine> Desk<M> {
-    /// Ends the desk: gives the machine after one legal history, whose entries are just the passes' calls, and the account
-    /// of the notices. Refused: PassesOut, where not all passes are back; Noted, where not as many notes were learnt as
+    /// Ends the desk: gives the machine after one legal history, which begins with all that each pass has seen and whose
+    /// entries are just the passes' calls, and the account of the notices. Refused: PassesOut, where not all passes are back; Noted, where not as many notes were learnt as
     /// were made; NoRoom.
     pub fn close(
         self,

@@ -195,7 +195,7 @@ module _ {M C R : Type 0} (steps : M → C → R → M → Type 0) (owes : R →
       (record {
         opened = f.opened;
         seen = f.seen;
-        told = f.told;
+        told = g.seen;
         holds = f.holds;
         own = all_append (Owns r.history seat_of id) v.passes w.passes
             (all_map _ _ (λ b p. (p.0, ap (λ t. cond t id (r.seat_of b.pass)) (ne_eqb (r.seat_of b.pass) other (λ e. apart (sym e ∙ p.1))) ∙ p.1, p.2)) v.passes f.own)

@@ -122,6 +122,7 @@ module _ {M C R : Type 0} (steps : M → C → R → M → Type 0) (owes : R →
         record {
           history = r.history;
           legal = r.legal;
+          seen = f.seen;
           own = all_map _ _ (λ p h. h.0) v.passes f.own;
           no_others = λ weigh. sym (r.all_calls weigh) ∙ total_only pass_count (weight_of weigh) s.views id v at (r.all_passes ∙ sym all) (λ j u _ e. no_calls weigh u.passes e);
         },

@@ -66,9 +66,9 @@ module _ {M C R : Type 0} where
   abbrev pub other_passes : View M C R → View M C R
   other_passes v = record { opening = v.opening; first = v.first; holding = v.holding; seen = v.seen; told = v.told; passes = drop 1 v.passes; posts = v.posts; takes = v.takes }
 
-  -- with the passes, posts and takes of another seat
+  -- with the passes, posts and takes of another seat, and told what that one has seen
   abbrev pub after_pass : View M C R → View M C R → View M C R
-  after_pass v w = record { opening = v.opening; first = v.first; holding = v.holding; seen = v.seen; told = v.told; passes = v.passes ++ w.passes; posts = v.posts ++ w.posts; takes = v.takes ++ w.takes }
+  after_pass v w = record { opening = v.opening; first = v.first; holding = v.holding; seen = v.seen; told = w.seen; passes = v.passes ++ w.passes; posts = v.posts ++ w.posts; takes = v.takes ++ w.takes }
 
 -- w is v after it found word 0 so: the history then begins with all that v saw and was told, is legal, and has just the own entries of each pass
 pub record Looks {M C R : Type 0} (steps : M → C → R → M → Type 0) (v : View M C R) (found : ℕ) (holding : Bool) (w : View M C R) : Type 0 where

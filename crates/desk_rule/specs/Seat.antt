@@ -1,5 +1,6 @@
 -- A seat at the table.
 use Rattle.std.specs.Prelude.{◌≡◌, ℕ, ◌≤◌, ◌<◌, ◌^◌, true, List, [], ◌∷◌, ◌++◌, length, Option, Some, is_some}
+use mathlib.Core.List.{IsPrefix}
 use Rattle.atomic_table.specs.Seated.{TableId}
 use Rattle.atomic_table.specs.declared.shared.Seat.{Seat}
 use Rattle.desk_rule.specs.declared.entry.Entry.{Entry}
@@ -42,9 +43,10 @@ pub record EndsTurn {M C R : Type 0} (steps : M → C → R → M → Type 0) (p
   pub said : home.last ≡ Some last
   pub machine : (m : M) → p.me.0.opening ≡ Some m → Run steps m (p.me.0.seen ++ entry (number_of p.me.0.passes) last.command.value last.reply.value ∷ []) home.machine
 
--- what is left of a table where all passes sat at one seat: the machine after one legal history, which has their entries and no others
+-- what is left of a table where all passes sat at one seat: the machine after one legal history, which begins with what the seat had seen, and has the passes' entries and no others
 pub record IsClosed {M C R : Type 0} (steps : M → C → R → M → Type 0) (opening : M) (v : View M C R) (machine : M) : Type 0 where
   pub history : List (Entry C R)
   pub legal : Run steps opening history machine
+  pub seen : IsPrefix v.seen history
   pub own : OwnCalls history v.passes
   pub no_others : (weigh : Entry C R → ℕ) → total_of weigh history ≡ weigh_all weigh v.passes

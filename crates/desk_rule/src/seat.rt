@@ -41,7 +41,8 @@ pub fn join_note<M: Machine>(shared: &DeskShared<M>, seat: &mut DeskSeat<M>, not
     shared.join_seat::<JoinNote>(seat, note);
 }
 
-/// The passes of the other seat, with their posts and takes, sit here from now on, and its view is spent.
+/// The passes of the other seat, with their posts and takes, sit here from now on. The seat is told what the other has seen,
+/// whose view is spent.
 pub fn join_pass<M: Machine>(shared: &DeskShared<M>, seat: &mut DeskSeat<M>, other: DeskSeat<M>)
     requires at { IsAtTable shared.now.table_id seat.old }
     requires other { IsAtTable shared.now.table_id other × (other.me.1 ≡ []) }
