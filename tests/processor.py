@@ -1,4 +1,4 @@
-"""The processor time of a run of `rt ci`, by crate and by part: proof, tests, edits.
+"""The processor time of a run of `rt ci`, by crate and by part: proof, tests, edits; and how many proofs run side by side.
 
 `rt ci` starts one `rattle` for each, and says nothing of what it took. So while it runs, the processes below it are
 looked at a few times a second, and what the kernel counts for each `rattle` and all that it started is kept.
@@ -9,7 +9,14 @@ import threading
 PARTS = ("proof", "tests", "edits")
 BUDGET = {"proof": 6, "tests": 1, "edits": 4}  # minutes that a crate may take
 INTERVAL = 0.25
+ROOM = 4 << 30  # bytes that a proof may take
 TICK = os.sysconf("SC_CLK_TCK")
+
+
+def side_by_side():
+    """How many proofs run at once, each on a processor of its own: as many as there are processors, and as memory holds."""
+    memory = os.sysconf("SC_PAGE_SIZE") * os.sysconf("SC_PHYS_PAGES")
+    return max(1, min(len(os.sched_getaffinity(0)), memory // ROOM))
 
 
 def read(path):

@@ -1,14 +1,20 @@
--- Where a store may answer that memory is wanting: behind every cause that stands.
-use Rattle.std.specs.Prelude.{◌≡◌, ◌≢◌, ℕ, Bool, true, List, [], ◌∷◌, Option, Some, None, is_some, slice_get, take}
+-- Where a store may answer that memory is wanting: behind every cause that stands, and where memory is taken.
+use Rattle.std.specs.Prelude.{◌≡◌, ◌≢◌, ◌⊎◌, ℕ, Bool, true, List, [], ◌∷◌, Option, Some, None, is_some, slice_get, take}
 use Rattle.std.specs.List.{find}
+use Rattle.ds_names.specs.declared.kind.Kind.{Kind}
+use Rattle.ds_names.specs.declared.kind.Kind.TheVariants.{Label, U32, Str, Mem}
 use Rattle.ds_names.specs.declared.version.Version.{Version}
+use Rattle.ds_entry.specs.Change.{IsBodyInPlace}
 use Rattle.ds_entry.specs.Floor.{floor_of}
+use Rattle.ds_entry.specs.declared.body.Body.{Body}
 use Rattle.ds_entry.specs.declared.body.Body.TheVariants.{Put, Gone}
 use Rattle.ds_entry.specs.declared.item.Item.{Item}
+use Rattle.ds_entry.specs.declared.item.Item.TheVariants.{Change as Changed, Floor as Floored}
+use Rattle.ds_machine.specs.Parts.{held_at, floor_at}
 use Rattle.ds_machine.specs.State.{State, held, subscription_at}
 use Rattle.ds_machine.specs.Order.{first_cause, first_refusal}
 use Rattle.ds_machine.specs.Standing.{cause_of}
-use Rattle.ds_machine.specs.Asking.{published, deleted, name_of, cause_against, sweep_cause}
+use Rattle.ds_machine.specs.Asking.{Request, asked_in, published, deleted, cause_against, sweep_cause}
 use Rattle.ds_machine.specs.Calling.{against_subscribe, against_check, against_scope, against_since, against_page}
 use Rattle.ds_machine.specs.Merging.{course}
 use Rattle.ds_machine.specs.Watching.{subscribe_case, check_case}
@@ -39,14 +45,36 @@ abbrev pub MayLackFor : Scope → (Refusal → Bool) → Type 0
 MayLackFor All stands = first_refusal stands ≡ None
 MayLackFor (Under query) stands = find stands before_patterns ≡ None
 
+-- values of the kind take no memory
+abbrev pub IsKindInPlace : Kind → Type 0
+IsKindInPlace Label = Unit {0}
+IsKindInPlace U32 = Unit {0}
+IsKindInPlace Str = ⊥
+IsKindInPlace Mem = ⊥
+
+-- an item that takes effect takes memory: a change where its key isn't held, or for the copy of a text or a blob; a floor where
+-- its owner has none
+abbrev pub TakesMemory : State → Item → Type 0
+TakesMemory s (Changed c) = (held_at (held s) c.key ≡ None) ⊎ (¬ IsBodyInPlace c.body)
+TakesMemory s (Floored f) = floor_at (held s) f.owner ≡ None
+
+-- what a caller asks for would take effect, since no cause stands against it, and that takes memory
+abbrev pub MayLackAsked : State → Request → Body → Type 0
+MayLackAsked s a body = (cause_against s a body ≡ None) × TakesMemory s (Changed (asked_in s a body))
+
+-- an item that another holder gave would take effect, since no cause stands against it and it isn't known or stale, and that
+-- takes memory
+abbrev pub MayLackItem : State → Item → Type 0
+MayLackItem s i = (cause_of s i ≡ None) × TakesMemory s i
+
 -- where a command may be refused for want of memory: no cause stands against it, or, where it has a pattern, none that is
--- judged before the pattern (a Merge never is: it is stopped at an item)
+-- judged before the pattern; and it takes memory (a Merge never is: it is stopped at an item)
 abbrev pub MayLackRoom : State → Command → Type 0
-MayLackRoom s (Publish caller key version value overwrite) = cause_against s (published caller key version overwrite) (Put value) ≡ None
-MayLackRoom s (Delete caller key version) = cause_against s (deleted caller key version) Gone ≡ None
-MayLackRoom s (Sweep caller owner generation) = sweep_cause s caller (floor_of owner generation) ≡ None
-MayLackRoom s (Retrieve key) = is_some (live_at s key) ≡ true
-MayLackRoom s (NameOf endpoint) = is_some (name_of (held s) endpoint) ≡ true
+MayLackRoom s (Publish caller key version value overwrite) = MayLackAsked s (published caller key version overwrite) (Put value)
+MayLackRoom s (Delete caller key version) = MayLackAsked s (deleted caller key version) Gone
+MayLackRoom s (Sweep caller owner generation) = let f = floor_of owner generation in (sweep_cause s caller f ≡ None) × TakesMemory s (Floored f)
+MayLackRoom s (Retrieve key) = (is_some (live_at s key) ≡ true) × (¬ IsKindInPlace key.kind)
+MayLackRoom s (NameOf endpoint) = ⊥
 MayLackRoom s (Subscribe sub query initial overwrite) = find (against_subscribe (subscribe_case s sub query overwrite)) before_patterns ≡ None
 MayLackRoom s (Check sub max) = first_refusal (against_check (check_case s sub max (subscription_at s sub))) ≡ None
 MayLackRoom s (Since scope at max) = MayLackFor scope (against_since s.feed scope at max)
@@ -54,13 +82,13 @@ MayLackRoom s (Snapshot scope) = MayLackFor scope (against_scope scope)
 MayLackRoom s (Page scope after max) = MayLackFor scope (against_page scope max)
 MayLackRoom s (Merge items) = ⊥
 
--- the item behind so many of a Merge would take effect: no cause stands against it, and it isn't known or stale
+-- the item behind so many of a Merge would take effect, and that takes memory
 pub record TakesNext (s : State) (items : List Item) (done : ℕ) : Type 0 where
   pub item : Item
   pub is_next : slice_get items done ≡ Some item
-  pub none : cause_of (course s (take done items)).state item ≡ None
+  pub lacks : MayLackItem (course s (take done items)).state item
 
--- want of memory is told only there, and a Merge is stopped for it only at an item that would take effect
+-- want of memory is told only there, and a Merge is stopped for it only at an item that would take effect and takes memory
 abbrev pub IsLast : State → Command → Reply → Type 0
 IsLast s command (Refused NoRoom) = MayLackRoom s command
 IsLast s (Merge items) (MergeStopped done NoRoom owed) = TakesNext s items done

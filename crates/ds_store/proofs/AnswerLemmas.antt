@@ -28,12 +28,11 @@ use Rattle.ds_machine.specs.declared.reply.Reply.{Reply}
 use Rattle.ds_machine.specs.declared.reply.Reply.TheVariants as replies
 use Rattle.ds_machine.proofs.PartLemmas.{key_found}
 use Rattle.ds_machine.specs.Says.{IsAskedReply}
-use Rattle.ds_judge.specs.Last.{IsLast, MayLackRoom}
+use Rattle.ds_judge.specs.Last.{IsKindInPlace, IsLast, MayLackRoom}
 use Rattle.ds_judge.specs.Passed.{passed_as}
 use Rattle.ds_judge.proofs.LastLemmas.{last}
 use Rattle.ds_content.specs.Content.{ContentRecord}
 use Rattle.ds_content.specs.Stands.{Stands}
-use Rattle.ds_store.specs.InPlace.{IsKindInPlace}
 use Rattle.ds_store.proofs.ReadingLemmas.{refused_last}
 
 -- what the machine itself answers tells want of memory only where it may

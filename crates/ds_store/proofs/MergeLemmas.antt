@@ -28,7 +28,7 @@ use Rattle.ds_machine.specs.declared.refusal.Cause.TheVariants as causes
 use Rattle.ds_machine.specs.declared.refusal.Refusal.{Refusal}
 use Rattle.ds_machine.specs.declared.refusal.Refusal.TheVariants as refusals
 use Rattle.ds_judge.specs.Passed.{passed_as}
-use Rattle.ds_judge.specs.Last.{IsLast}
+use Rattle.ds_judge.specs.Last.{IsLast, MayLackItem}
 use Rattle.ds_content.specs.Content.{ContentRecord}
 use Rattle.ds_content.specs.Stands.{Stands}
 use Rattle.ds_content.proofs.EnterLemmas.{few_places}
@@ -244,26 +244,26 @@ pub course_number : (s : State) (k : Course) (n : ℕ) (flags : List Bool) → n
 course_number s k n flags e f = e ∙ ap mask f ∙ padded_number (map (is_owed k.taken) s.subscriptions)
 
 -- ---- where it is stopped for want of memory
-pub stopped_last : (s : State) (items : List Item) (i : ℕ) (item : Item) (fault : Refusal) (o : ℕ) → slice_get items i ≡ Some item → (fault ≡ refusals.NoRoom → cause_of (course s (take i items)).state item ≡ None) → IsLast s (Merges items) (MergeStopped i fault o)
-stopped_last s items i item refusals.NoRoom o at none = record { item = item; is_next = at; none = none refl }
-stopped_last s items i item refusals.BadSub o at none = tt
-stopped_last s items i item refusals.TooMany o at none = tt
-stopped_last s items i item refusals.TooLong o at none = tt
-stopped_last s items i item refusals.BadPattern o at none = tt
-stopped_last s items i item refusals.BadKind o at none = tt
-stopped_last s items i item refusals.BadLabel o at none = tt
-stopped_last s items i item refusals.BadVersion o at none = tt
-stopped_last s items i item refusals.NoCaller o at none = tt
-stopped_last s items i item refusals.NotAllowed o at none = tt
-stopped_last s items i item refusals.NotOwner o at none = tt
-stopped_last s items i item (refusals.Clash v) o at none = tt
-stopped_last s items i item refusals.Stale o at none = tt
-stopped_last s items i item refusals.Exists o at none = tt
-stopped_last s items i item refusals.NotFound o at none = tt
-stopped_last s items i item refusals.OldCursor o at none = tt
-stopped_last s items i item refusals.Ahead o at none = tt
-stopped_last s items i item refusals.Behind o at none = tt
-stopped_last s items i item refusals.Full o at none = tt
-stopped_last s items i item refusals.Worn o at none = tt
-stopped_last s items i item refusals.BadRing o at none = tt
-stopped_last s items i item refusals.BadFirst o at none = tt
+pub stopped_last : (s : State) (items : List Item) (i : ℕ) (item : Item) (fault : Refusal) (o : ℕ) → slice_get items i ≡ Some item → (fault ≡ refusals.NoRoom → MayLackItem (course s (take i items)).state item) → IsLast s (Merges items) (MergeStopped i fault o)
+stopped_last s items i item refusals.NoRoom o at lacks = record { item = item; is_next = at; lacks = lacks refl }
+stopped_last s items i item refusals.BadSub o at lacks = tt
+stopped_last s items i item refusals.TooMany o at lacks = tt
+stopped_last s items i item refusals.TooLong o at lacks = tt
+stopped_last s items i item refusals.BadPattern o at lacks = tt
+stopped_last s items i item refusals.BadKind o at lacks = tt
+stopped_last s items i item refusals.BadLabel o at lacks = tt
+stopped_last s items i item refusals.BadVersion o at lacks = tt
+stopped_last s items i item refusals.NoCaller o at lacks = tt
+stopped_last s items i item refusals.NotAllowed o at lacks = tt
+stopped_last s items i item refusals.NotOwner o at lacks = tt
+stopped_last s items i item (refusals.Clash v) o at lacks = tt
+stopped_last s items i item refusals.Stale o at lacks = tt
+stopped_last s items i item refusals.Exists o at lacks = tt
+stopped_last s items i item refusals.NotFound o at lacks = tt
+stopped_last s items i item refusals.OldCursor o at lacks = tt
+stopped_last s items i item refusals.Ahead o at lacks = tt
+stopped_last s items i item refusals.Behind o at lacks = tt
+stopped_last s items i item refusals.Full o at lacks = tt
+stopped_last s items i item refusals.Worn o at lacks = tt
+stopped_last s items i item refusals.BadRing o at lacks = tt
+stopped_last s items i item refusals.BadFirst o at lacks = tt

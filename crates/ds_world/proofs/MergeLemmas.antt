@@ -9,7 +9,6 @@ use Rattle.ds_entry.proofs.Members.{Contains-cons, Contains-from_map}
 use Rattle.ds_machine.specs.Limits.{most_items}
 use Rattle.ds_machine.specs.State.{State, owed}
 use Rattle.ds_machine.specs.Order.{first_refusal}
-use Rattle.ds_machine.specs.Standing.{cause_of}
 use Rattle.ds_machine.specs.Calling.{against_merge}
 use Rattle.ds_machine.specs.Merging.{course, merging}
 use Rattle.ds_machine.specs.Machine.{Step}
@@ -21,7 +20,7 @@ use Rattle.ds_machine.specs.Says.{IsMergeReply}
 use Rattle.ds_machine.specs.declared.reply.Reply.{Reply}
 use Rattle.ds_machine.specs.declared.reply.Reply.TheVariants.{Merged, MergeStopped, Refused}
 use Rattle.ds_machine.proofs.SaysLemmas.{merged_says, merge_stopped_says}
-use Rattle.ds_judge.specs.Last.{IsLast}
+use Rattle.ds_judge.specs.Last.{IsLast, MayLackItem}
 use Rattle.ds_judge.proofs.RoomLemmas.{no_course}
 use Rattle.ds_replica.specs.Delivery.{Tally, ended, added, StoreTakes}
 use Rattle.ds_world.specs.Tally.{IsCounted}
@@ -115,7 +114,7 @@ module _ (s t : State) (items : List Item) (done owes : ℕ) where
 -- of a group that a Merge stopped in
 pub stopped_want : (s t : State) (group rest : List Item) (done owes : ℕ) (fault : Refusal) → Step s (Merge group) (MergeStopped done fault owes) t → IsLast s (Merge group) (MergeStopped done fault owes) → IsWantLast (group ++ rest) done (Some fault) t
 stopped_want s t group rest done owes NoRoom step last =
-    record { item = last.item; is_next = in_front group rest done last.item last.is_next; none = ap (λ (x : State). cause_of x last.item) (stopped_for_room s t group done owes step) ∙ last.none }
+    record { item = last.item; is_next = in_front group rest done last.item last.is_next; lacks = subst (λ (x : State). MayLackItem x last.item) (sym (stopped_for_room s t group done owes step)) last.lacks }
 stopped_want s t group rest done owes _ step last = tt
 
 -- a Merge is never refused for want of memory
@@ -126,7 +125,7 @@ refused_want s group items _ last t = tt
 -- of the others behind a group
 pub later_want : (group rest : List Item) (done : ℕ) (stop : Option Refusal) (t : State) → IsWantLast rest done stop t → IsWantLast (group ++ rest) (length group + done) stop t
 later_want group rest done None t w = tt
-later_want group rest done (Some NoRoom) t w = record { item = w.item; is_next = behind group rest done ∙ w.is_next; none = w.none }
+later_want group rest done (Some NoRoom) t w = record { item = w.item; is_next = behind group rest done ∙ w.is_next; lacks = w.lacks }
 later_want group rest done (Some _) t w = tt
 
 -- ---- what the reply to a Merge counts

@@ -13,8 +13,7 @@ use Rattle.ds_machine.specs.declared.reply.Reply.{Reply}
 use Rattle.ds_machine.specs.declared.refusal.Refusal.{Refusal}
 use Rattle.ds_machine.specs.declared.refusal.Refusal.TheVariants.{NoRoom}
 use Rattle.ds_machine.specs.State.{State}
-use Rattle.ds_machine.specs.Standing.{cause_of}
-use Rattle.ds_judge.specs.Last.{IsLast}
+use Rattle.ds_judge.specs.Last.{IsLast, MayLackItem}
 use Rattle.ds_replica.specs.declared.event.Side.{Side}
 use Rattle.ds_replica.specs.declared.event.Holder.TheVariants.{Store, Map}
 use Rattle.ds_replica.specs.declared.event.Event.{Event}
@@ -27,13 +26,13 @@ use Rattle.ds_world.specs.Tally.{refusal_of}
 use Rattle.ds_world.specs.World.{WorldRecord, kept_items, Stands, Leads}
 use Rattle.ds_world.specs.Run.{EventLeads}
 
--- no cause stands in this state against the item behind so many of them, and it isn't known or stale
+-- the item behind so many of them would take effect in this state, and that takes memory
 pub record WouldTake (s : State) (items : List Item) (done : ℕ) : Type 0 where
   pub item : Item
   pub is_next : slice_get items done ≡ Some item
-  pub none : cause_of s item ≡ None
+  pub lacks : MayLackItem s item
 
--- where items were stopped for want of memory, the next one would take effect in the state that they left
+-- where items were stopped for want of memory, the next one would take effect in the state that they left, and takes memory
 abbrev pub IsWantLast : List Item → ℕ → Option Refusal → State → Type 0
 IsWantLast items done (Some NoRoom) s = WouldTake s items done
 IsWantLast items done _ s = Unit {0}

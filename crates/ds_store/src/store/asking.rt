@@ -7,6 +7,7 @@ ghost use Rattle.ds_machine.specs.Asking.{cause_against, change_asked, name_of};
 ghost use Rattle.ds_machine.specs.Machine.{Answers, asking};
 ghost use Rattle.ds_machine.specs.State.{State};
 ghost use Rattle.ds_judge.specs.Asked.{request_of, IsMade};
+ghost use Rattle.ds_judge.specs.Last.{MayLackAsked};
 ghost use Rattle.ds_judge.specs.Standing.{machine_standing};
 ghost use Rattle.ds_content.specs.Free.{IsFree};
 ghost use Rattle.ds_content.specs.Stands.{Stands};
@@ -64,7 +65,7 @@ impl Store {
     // What a caller asks for takes effect, unless a cause stands against it.
     pub(super) fn ask(&mut self, asked: &Asked, body: Body) -> Reply
         ensures step { (s : State) → Stands self.old s → (t : State) × Answers s (asking s (request_of asked.now) body) result t × Stands self.new t }
-        ensures last { result ≡ Reply.Refused Refusal.NoRoom → (s : State) → Stands self.old s → cause_against s (request_of asked.now) body ≡ None }
+        ensures last { result ≡ Reply.Refused Refusal.NoRoom → (s : State) → Stands self.old s → MayLackAsked s (request_of asked.now) body }
     {
         let place = self.content.place(&asked.key);
         let caller = self.content.name_of(asked.caller);

@@ -3,9 +3,8 @@
 ghost use Rattle.std.specs.Prelude.{◌≡◌, ◌≢◌};
 ghost use Rattle.ds_machine.specs.State.{State};
 ghost use Rattle.ds_machine.specs.Machine.{Answers, retrieving, naming};
-ghost use Rattle.ds_judge.specs.Last.{IsLast};
+ghost use Rattle.ds_judge.specs.Last.{IsKindInPlace, IsLast};
 ghost use Rattle.ds_content.specs.Stands.{Stands};
-ghost use Rattle.ds_store.specs.InPlace.{IsKindInPlace};
 
 use crate::store::Store;
 use ds_entry::Body;

@@ -10,7 +10,7 @@ ghost use Rattle.ds_machine.specs.Machine.{Step};
 ghost use Rattle.ds_machine.specs.Says.{IsReplyTo};
 ghost use Rattle.ds_machine.specs.Subscription.{is_owed};
 ghost use Rattle.ds_watch.specs.Mask.{padded};
-ghost use Rattle.ds_judge.specs.Last.{IsLast};
+ghost use Rattle.ds_judge.specs.Last.{IsLast, MayLackItem};
 ghost use Rattle.ds_judge.specs.Standing.{machine_standing};
 ghost use Rattle.ds_content.specs.Free.{IsFree, IsFloorFree};
 ghost use Rattle.ds_content.specs.Stands.{Stands};
@@ -63,7 +63,7 @@ impl Store {
     fn merge_change(&mut self, change: &Change, total: &mut Mask) -> Result<Merge, Refusal>
         ensures owed { (s : State) → Stands self.old s → total.new ≡ owed_after result total.old (padded (map (is_owed (Changed change.now ∷ [])) s.subscriptions)) }
         ensures step { (s : State) → Stands self.old s → (t : State) × MergesItem s (Changed change.now) result t × Stands self.new t }
-        ensures last { result ≡ Err Refusal.NoRoom → (s : State) → Stands self.old s → cause_of s (Changed change.now) ≡ None }
+        ensures last { result ≡ Err Refusal.NoRoom → (s : State) → Stands self.old s → MayLackItem s (Changed change.now) }
     {
         let place = self.content.place(change.key());
         if let Some(cause) = self.cause_of_change(place, change) {
@@ -88,7 +88,7 @@ impl Store {
     fn merge_floor(&mut self, floor: Floor, total: &mut Mask) -> Result<Merge, Refusal>
         ensures owed { (s : State) → Stands self.old s → total.new ≡ owed_after result total.old (padded (map (is_owed (Floored floor ∷ [])) s.subscriptions)) }
         ensures step { (s : State) → Stands self.old s → (t : State) × MergesItem s (Floored floor) result t × Stands self.new t }
-        ensures last { result ≡ Err Refusal.NoRoom → (s : State) → Stands self.old s → cause_of s (Floored floor) ≡ None }
+        ensures last { result ≡ Err Refusal.NoRoom → (s : State) → Stands self.old s → MayLackItem s (Floored floor) }
     {
         if let Some(cause) = self.cause_of_floor(&floor) {
             return passed_as(cause);
@@ -107,7 +107,7 @@ impl Store {
     fn merge_item(&mut self, item: &Item, total: &mut Mask) -> Result<Merge, Refusal>
         ensures owed { (s : State) → Stands self.old s → total.new ≡ owed_after result total.old (padded (map (is_owed (item.now ∷ [])) s.subscriptions)) }
         ensures step { (s : State) → Stands self.old s → (t : State) × MergesItem s item.now result t × Stands self.new t }
-        ensures last { result ≡ Err Refusal.NoRoom → (s : State) → Stands self.old s → cause_of s item.now ≡ None }
+        ensures last { result ≡ Err Refusal.NoRoom → (s : State) → Stands self.old s → MayLackItem s item.now }
     {
         match item {
             Item::Change(change) => self.merge_change(change, total),

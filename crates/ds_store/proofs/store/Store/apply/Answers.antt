@@ -2,11 +2,11 @@ use Rattle.std.proofs.Common.{sym, ap, inl, subst, ◌∙◌}
 use Rattle.ds_entry.specs.declared.body.Body.TheVariants.{Put, Gone}
 use Rattle.ds_machine.specs.declared.command.Command.{Command}
 use Rattle.ds_machine.specs.declared.command.Command.TheVariants.{Publish, Delete, Sweep, Retrieve, NameOf, Subscribe, Check, Since, Snapshot, Page, Merge}
-use Rattle.ds_machine.specs.Asking.{Request, cause_against}
+use Rattle.ds_machine.specs.Asking.{Request}
 use Rattle.ds_machine.specs.Machine.{Answers, Step, asking, outcome}
 use Rattle.ds_machine.specs.Says.{IsReplyTo}
 use Rattle.ds_machine.proofs.FitLemmas.{replies_fit}
-use Rattle.ds_judge.specs.Last.{IsLast}
+use Rattle.ds_judge.specs.Last.{IsLast, MayLackAsked}
 use Rattle.ds_store.proofs.AnswerLemmas.{asked_last, never_last}
 use Rattle.ds_store.proofs.store.Store.apply.Goals as goal
 
@@ -68,7 +68,7 @@ returns-in-Publish-clause-last c = λ s stands.
     let r = c.ask.ensures.step s stands in
     let of : Answers s (outcome s command) c.ask.result r.0 = subst (λ (a : Request). Answers s (asking s a (Put c.in-Publish.value)) c.ask.result r.0) c.published.ensures r.1 in
     subst (λ (x : Command). IsLast s x c.ask.result) (sym c.in-Publish.is)
-    (asked_last s command c.ask.result (replies_fit s r.0 command c.ask.result (inl of)) (λ e. ap (λ (a : Request). cause_against s a (Put c.in-Publish.value)) (sym c.published.ensures) ∙ c.ask.ensures.last e s stands))
+    (asked_last s command c.ask.result (replies_fit s r.0 command c.ask.result (inl of)) (λ e. subst (λ (a : Request). MayLackAsked s a (Put c.in-Publish.value)) c.published.ensures (c.ask.ensures.last e s stands)))
 
 pub returns-in-Delete-clause-last : goal.returns-in-Delete-clause-last
 returns-in-Delete-clause-last c = λ s stands.
@@ -76,7 +76,7 @@ returns-in-Delete-clause-last c = λ s stands.
     let r = c.ask-in-Delete.ensures.step s stands in
     let of : Answers s (outcome s command) c.ask-in-Delete.result r.0 = subst (λ (a : Request). Answers s (asking s a Gone) c.ask-in-Delete.result r.0) c.deleted.ensures r.1 in
     subst (λ (x : Command). IsLast s x c.ask-in-Delete.result) (sym c.in-Delete.is)
-    (asked_last s command c.ask-in-Delete.result (replies_fit s r.0 command c.ask-in-Delete.result (inl of)) (λ e. ap (λ (a : Request). cause_against s a Gone) (sym c.deleted.ensures) ∙ c.ask-in-Delete.ensures.last e s stands))
+    (asked_last s command c.ask-in-Delete.result (replies_fit s r.0 command c.ask-in-Delete.result (inl of)) (λ e. subst (λ (a : Request). MayLackAsked s a Gone) c.deleted.ensures (c.ask-in-Delete.ensures.last e s stands)))
 
 pub returns-in-Sweep-clause-last : goal.returns-in-Sweep-clause-last
 returns-in-Sweep-clause-last c = λ s stands. subst (λ (x : Command). IsLast s x c.sweep.result) (sym c.in-Sweep.is) (c.sweep.ensures.last s stands)
