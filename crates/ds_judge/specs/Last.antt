@@ -76,7 +76,7 @@ MayLackRoom s (Sweep caller owner generation) = let f = floor_of owner generatio
 MayLackRoom s (Retrieve key) = (is_some (live_at s key) ≡ true) × (¬ IsKindInPlace key.kind)
 MayLackRoom s (NameOf endpoint) = ⊥
 MayLackRoom s (Subscribe sub query initial overwrite) = find (against_subscribe (subscribe_case s sub query overwrite)) before_patterns ≡ None
-MayLackRoom s (Check sub max) = first_refusal (against_check (check_case s sub max (subscription_at s sub))) ≡ None
+MayLackRoom s (Check sub max) = let case = check_case s sub max (subscription_at s sub) in (first_refusal (against_check case) ≡ None) × (case.some ≡ true)
 MayLackRoom s (Since scope at max) = MayLackFor scope (against_since s.feed scope at max)
 MayLackRoom s (Snapshot scope) = MayLackFor scope (against_scope scope)
 MayLackRoom s (Page scope after max) = MayLackFor scope (against_page scope max)

@@ -140,9 +140,9 @@ pub check_short : (s : State) (sub max : ℕ) (o : Option Refusal) → first_ref
 check_short s sub max None e = inr (record { reply_is = refl; state_is = refl })
 check_short s sub max (Some r) e = inl (check_refused s sub max r e)
 
-pub short_last : (s : State) (sub max : ℕ) (o : Option Refusal) → first_refusal (against_check (check_case s sub max (subscription_at s sub))) ≡ o → IsLast s (Check sub max) (Refused (unwrap_or o refusals.NoRoom))
-short_last s sub max None e = e
-short_last s sub max (Some r) e = last_of s (Check sub max) (Refused r) s (check_refused s sub max r e)
+pub short_last : (s : State) (sub max : ℕ) (o : Option Refusal) → (check_case s sub max (subscription_at s sub)).some ≡ true → first_refusal (against_check (check_case s sub max (subscription_at s sub))) ≡ o → IsLast s (Check sub max) (Refused (unwrap_or o refusals.NoRoom))
+short_last s sub max None shown e = (e, shown)
+short_last s sub max (Some r) shown e = last_of s (Check sub max) (Refused r) s (check_refused s sub max r e)
 
 module _ (s : State) (sub max : ℕ) (seer : Subscription) (here : subscription_at s sub ≡ Some seer) where
   abbrev checked_with : Option Refusal → Reply × State

@@ -46,7 +46,7 @@ returns-in_default-first_unseen-clause-last c = λ s stands.
     let seen = seen_at v s c.args.sub c.in-Some-before.before here (sym c.in-Some-before.is ∙ c.stamp_of-before.ensures) in
     let shown = ap (is_shown s) seen.here ∙ c.in_default-first_unseen.ensures.refused s seen.seer here seen.here in
     let worn = left ∙ ap₂ refusal_of_showing shown (sym (c.stamp-stamp.ensures.value ∙ here.stamp)) ∙ sym c.refusal_of_showing-worn.ensures.value in
-    subst (λ (r : Refusal). IsLast s (Check c.args.sub c.args.max) (Refused r)) (sym c.unwrap_or.ensures) (short_last s c.args.sub c.args.max c.refusal_of_showing-worn.result worn)
+    subst (λ (r : Refusal). IsLast s (Check c.args.sub c.args.max) (Refused r)) (sym c.unwrap_or.ensures) (short_last s c.args.sub c.args.max c.refusal_of_showing-worn.result shown worn)
 
 pub returns-then-count-eq0-clause-step : goal.returns-then-count-eq0-clause-step
 returns-then-count-eq0-clause-step c = λ s stands.
