@@ -9,14 +9,15 @@ import threading
 PARTS = ("proof", "tests", "edits")
 BUDGET = {"proof": 6, "tests": 1, "edits": 4}  # minutes that a crate may take
 INTERVAL = 0.25
+AT_ONCE = 2  # proofs: more slow each other so much that they end little sooner
 ROOM = 4 << 30  # bytes that a proof may take
 TICK = os.sysconf("SC_CLK_TCK")
 
 
 def side_by_side():
-    """How many proofs run at once, each on a processor of its own: as many as there are processors, and as memory holds."""
+    """How many proofs run at once, each on a processor of its own: two, where there are processors and memory for them."""
     memory = os.sysconf("SC_PAGE_SIZE") * os.sysconf("SC_PHYS_PAGES")
-    return max(1, min(len(os.sched_getaffinity(0)), memory // ROOM))
+    return max(1, min(AT_ONCE, len(os.sched_getaffinity(0)), memory // ROOM))
 
 
 def read(path):
