@@ -9,7 +9,7 @@ import threading
 PARTS = ("proof", "tests", "edits")
 BUDGET = {"proof": 6, "tests": 1, "edits": 4}  # minutes that a crate may take
 INTERVAL = 0.25
-AT_ONCE = 2  # proofs: more slow each other so much that they end little sooner
+AT_ONCE = 2  # proofs, as on a machine with two processors; four side by side slow each other
 ROOM = 4 << 30  # bytes that a proof may take
 TICK = os.sysconf("SC_CLK_TCK")
 

@@ -103,8 +103,8 @@ fn gather<M: Machine>(
 
 impl<M: Machine> Desk<M> {
     /// Ends the desk: gives the machine after one legal history, which begins with all that each pass has seen and whose
-    /// entries are just the passes' calls, and the account of the notices. Refused: PassesOut, where not all passes are back; Noted, where not as many notes were learnt as
-    /// were made; NoRoom.
+    /// entries are just the passes' calls, and the account of the notices. Refused: PassesOut, where not all passes are back;
+    /// Noted, where not as many notes were learnt as were made; NoRoom.
     pub fn close(
         self,
         alloc: Global,
