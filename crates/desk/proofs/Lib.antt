@@ -1,10 +1,11 @@
 pub mod SightLemmas
 pub mod TurnLemmas
 pub mod StateLemmas
-pub mod SeeLemmas
+pub mod PassLemmas
 pub mod TallyLemmas
 pub mod PostLemmas
 pub mod CallLemmas
+pub mod SeeLemmas
 pub mod RowLemmas
 pub mod OpenLemmas
 pub mod CloseLemmas

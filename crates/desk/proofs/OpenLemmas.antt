@@ -4,7 +4,12 @@ use Rattle.std.specs.Prelude.{is_some}
 use Rattle.std.specs.List.{AllByRecursion}
 use Rattle.atomic_table.specs.Seated.{TableId}
 use Rattle.desk_rule.specs.declared.view.View.{View}
-use Rattle.desk_rule.specs.History.{calls_of, fresh, number_of}
+use Rattle.desk_rule.specs.Notices.{weigh_notices}
+use Rattle.desk_rule.specs.declared.notice.Notice.{Notice}
+use Rattle.desk_rule.specs.declared.view.PassLog.{PassLog}
+use Rattle.desk_rule.specs.History.{total_of}
+use Rattle.desk_rule.specs.Passes.{calls_of, fresh, notices_of, number_of}
+use Rattle.desk.proofs.PassLemmas.{weigh_one_notices}
 use Rattle.desk_rule.specs.Kinds.{one_pass, other_passes}
 use Rattle.desk_rule.specs.Rule.{opening_view}
 use Rattle.desk_rule.specs.Seat.{SeatOf}
@@ -29,8 +34,7 @@ module _ {M C R : Type 0} where
     pub free : v.holding ≡ false
     pub no_history : v.seen ≡ []
     pub passes : v.passes ≡ fresh n
-    pub no_posts : v.posts ≡ []
-    pub no_takes : v.takes ≡ []
+    pub no_order : v.notices ≡ []
 
   pub left_at_first : (opened : M) (first n : ℕ) (v : View M C R) → v ≡ opening_view opened first n → LeftOver opened first n v
   left_at_first opened first n v e = record {
@@ -39,8 +43,7 @@ module _ {M C R : Type 0} where
     free = ap (λ (x : View M C R). x.holding) e;
     no_history = ap (λ (x : View M C R). x.seen) e;
     passes = ap (λ (x : View M C R). x.passes) e;
-    no_posts = ap (λ (x : View M C R). x.posts) e;
-    no_takes = ap (λ (x : View M C R). x.takes) e;
+    no_order = ap (λ (x : View M C R). x.notices) e;
   }
 
   pub left_others : (opened : M) (first n : ℕ) (v w : View M C R) → 1 < n → w ≡ other_passes v → LeftOver opened first n v → LeftOver opened first (n - 1) w
@@ -50,9 +53,12 @@ module _ {M C R : Type 0} where
     free = ap (λ (x : View M C R). x.holding) e ∙ l.free;
     no_history = ap (λ (x : View M C R). x.seen) e ∙ l.no_history;
     passes = ap (λ (x : View M C R). x.passes) e ∙ ap (drop 1) (l.passes ∙ ap fresh (next_of n (omega arith)));
-    no_posts = ap (λ (x : View M C R). x.posts) e ∙ l.no_posts;
-    no_takes = ap (λ (x : View M C R). x.takes) e ∙ l.no_takes;
+    no_order = ap (λ (x : View M C R). x.notices) e ∙ l.no_order;
   }
+
+module _ {C R : Type 0} where
+  pub weighs_none : (weigh : Notice → ℕ) (l : List (PassLog C R)) → length l ≡ 1 → notices_of l ≡ [] → weigh_notices weigh l ≡ 0
+  weighs_none weigh l one none = weigh_one_notices weigh l one ∙ ap (total_of weigh) none
 
 -- a view of one new pass with this number
 pub record IsNewView {M C R : Type 0} (opened : M) (first n : ℕ) (v : View M C R) : Type 0 where
@@ -61,12 +67,14 @@ pub record IsNewView {M C R : Type 0} (opened : M) (first n : ℕ) (v : View M C
   pub free : v.holding ≡ false
   pub no_history : v.seen ≡ []
   pub pass : v.passes ≡ take 1 (fresh (suc n))
-  pub no_posts : v.posts ≡ []
-  pub no_takes : v.takes ≡ []
+  pub no_order : v.notices ≡ []
 
 module _ {M C R : Type 0} where
   pub new_rests : (opened : M) (first n : ℕ) (v : View M C R) → IsNewView opened first n v → rests_of v ≡ true
   new_rests opened first n v e = rests v e.free (ap length e.pass) (ap is_some e.opening)
+
+  pub new_has_none : (opened : M) (first n : ℕ) (v : View M C R) → IsNewView opened first n v → notices_of v.passes ≡ []
+  new_has_none opened first n v e = ap notices_of e.pass
 
   pub cut_off : (opened : M) (first n : ℕ) (v w : View M C R) → 0 < n → w ≡ one_pass v → LeftOver opened first n v → IsNewView opened first (n - 1) w
   cut_off opened first n v w more e l = record {
@@ -75,8 +83,7 @@ module _ {M C R : Type 0} where
     free = ap (λ (x : View M C R). x.holding) e;
     no_history = ap (λ (x : View M C R). x.seen) e ∙ l.no_history;
     pass = ap (λ (x : View M C R). x.passes) e ∙ ap (take 1) (l.passes ∙ ap fresh (next_of n more));
-    no_posts = ap (λ (x : View M C R). x.posts) e;
-    no_takes = ap (λ (x : View M C R). x.takes) e;
+    no_order = ap (λ (x : View M C R). x.notices) e ∙ l.no_order;
   }
 
   pub last_left : (opened : M) (first n : ℕ) (v : View M C R) → n ≡ 1 → LeftOver opened first n v → IsNewView opened first 0 v
@@ -86,8 +93,7 @@ module _ {M C R : Type 0} where
     free = l.free;
     no_history = l.no_history;
     pass = l.passes ∙ ap fresh one;
-    no_posts = l.no_posts;
-    no_takes = l.no_takes;
+    no_order = l.no_order;
   }
 
 module _ {M C R : Type 0} {G : Ghosts (View M C R)} where
@@ -100,8 +106,8 @@ module _ {M C R : Type 0} {G : Ghosts (View M C R)} where
         number_is = ap (λ (x : View M C R). number_of x.passes) same ∙ ap number_of e.pass;
         no_history = ap (λ (x : View M C R). x.seen) same ∙ e.no_history;
         no_calls = ap (λ (x : View M C R). calls_of x.passes) same ∙ ap calls_of e.pass;
-        no_posts = ap (λ (x : View M C R). x.posts) same ∙ e.no_posts;
-        no_takes = ap (λ (x : View M C R). x.takes) same ∙ e.no_takes;
+        no_notices = ap (λ (x : View M C R). notices_of x.passes) same ∙ ap notices_of e.pass;
+        no_order = ap (λ (x : View M C R). x.notices) same ∙ e.no_order;
         no_notes = (made, learnt);
       }
 

@@ -7,20 +7,39 @@ use Rattle.std.proofs.lemmas.Nat.Bits.{bit_at-zero, bit_at_above, bit_at_cat_hig
 use Rattle.std.proofs.lemmas.List.{append-nil}
 use mathlib.Core.Logic.{dite}
 use native.Mathlib.Decide.{dec_le, ℕ_discrete}
-use Rattle.desk_rule.specs.declared.view.Post.{Post}
+use Rattle.desk_rule.specs.declared.notice.Notice.{Notice}
+use Rattle.desk_rule.specs.declared.view.PassLog.{PassLog}
 use Rattle.desk_rule.specs.declared.view.View.{View}
-use Rattle.desk_rule.specs.History.{count_calls}
-use Rattle.desk_rule.specs.Kinds.{after_post, LastOwes}
-use Rattle.desk_rule.specs.Notices.{bits_for, posted_at, raised_at, raised_in}
+use Rattle.desk_rule.specs.History.{count_calls, total_of}
+use Rattle.desk_rule.specs.Kinds.{LastOwes, Notices, post_of}
+use Rattle.desk_rule.specs.Notices.{bits_for, posted_at, raised_at, raised_by}
+use Rattle.desk_rule.specs.Passes.{add_notice, calls_of, notices_of, number_of}
 use Rattle.desk_rule.specs.Seat.{SeatOf}
-use Rattle.desk_rule.proofs.BalanceLemmas.{posted_elsewhere, posted_here, raised_elsewhere, raised_here}
-use Rattle.desk_rule.proofs.ListLemmas.{all_append, total_append}
+use Rattle.desk_rule.proofs.OrderLemmas.{posted_elsewhere, posted_here, raised_elsewhere, raised_here}
+use Rattle.desk_rule.proofs.ListLemmas.{all_append, only_of, prefix_refl, prefix_trans, total_append}
+use Rattle.desk.proofs.PassLemmas.{notice_added, notice_weighs}
 use Rattle.desk.specs.Tally.{CanPost, Counts, Posts, row_at, Tallies}
 use Rattle.desk.proofs.TallyLemmas.{fresh_bit}
 
 module _ {M C R : Type 0} where
-  posts_none : (v : View M C R) (owed : ℕ) → Posts v v 0 owed
-  posts_none v owed = record { opening = refl; first = refl; holding = refl; seen = refl; passes = refl; takes = refl; new = []; grown = sym (append-nil v.posts); here = tt; done = λ s b h. absurd (omega arith); undone = λ s b h. refl }
+  posts_none : (v : View M C R) (owed : ℕ) → CanPost v → Posts v v 0 owed
+  posts_none v owed can = record {
+    opening = refl;
+    first = refl;
+    holding = refl;
+    seen = refl;
+    one_pass = can.one_pass;
+    number = refl;
+    calls = refl;
+    new = [];
+    grown = sym (append-nil (notices_of v.passes));
+    here = tt;
+    done = λ s b h. absurd (omega arith);
+    undone = λ s b h. refl;
+    begins = prefix_refl v.notices;
+    found = can.found;
+    own = can.own;
+  }
 
   -- nothing is owed to the server k
   posts_skip : (v u : View M C R) (k k' owed : ℕ) → k' ≡ k + 1 → bits_for owed k ≡ 0 → Posts v u k owed → Posts v u k' owed
@@ -29,8 +48,9 @@ module _ {M C R : Type 0} where
     first = p.first;
     holding = p.holding;
     seen = p.seen;
-    passes = p.passes;
-    takes = p.takes;
+    one_pass = p.one_pass;
+    number = p.number;
+    calls = p.calls;
     new = p.new;
     grown = p.grown;
     here = p.here;
@@ -38,22 +58,28 @@ module _ {M C R : Type 0} where
         (λ e. p.undone s b (omega arith) ∙ sym (ap (λ n. bit_at (bits_for owed n) b) e ∙ (ap (λ n. bit_at n b) none ∙ bit_at-zero b)))
         (λ ne. p.done s b (omega arith));
     undone = λ s b h. p.undone s b (omega arith);
+    begins = p.begins;
+    found = p.found;
+    own = p.own;
   }
 
   -- what is owed to the server k is posted
-  posts_more : (v u w : View M C R) (k k' owed found : ℕ) → k' ≡ k + 1 → w ≡ after_post u k (bits_for owed k) found → Posts v u k owed → Posts v w k' owed
-  posts_more v u w k k' owed found next is p =
+  posts_more : (v u w : View M C R) (k k' owed found : ℕ) → k' ≡ k + 1 → Notices u (post_of u k (bits_for owed k) found) w → Posts v u k owed → Posts v w k' owed
+  posts_more v u w k k' owed found next n p =
       let bits : ℕ = bits_for owed k in
-      let x : Post = record { server = k; bits = bits; found = found; place = (u.first + length u.seen) - 1 } in
-      let place : x.place ≡ (v.first + length v.seen) - 1 = λ i. (p.first i + length (p.seen i)) - 1 in record {
-        opening = ap (λ (y : View M C R). y.opening) is ∙ p.opening;
-        first = ap (λ (y : View M C R). y.first) is ∙ p.first;
-        holding = ap (λ (y : View M C R). y.holding) is ∙ p.holding;
-        seen = ap (λ (y : View M C R). y.seen) is ∙ p.seen;
-        passes = ap (λ (y : View M C R). y.passes) is ∙ p.passes;
-        takes = ap (λ (y : View M C R). y.takes) is ∙ p.takes;
+      let x : Notice = post_of u k bits found in
+      let added = notice_added u.passes x p.one_pass in
+      let passes : w.passes ≡ add_notice u.passes x = ap (λ (y : View M C R). y.passes) n.is in
+      let place : (u.first + length u.seen) - 1 ≡ (v.first + length v.seen) - 1 = λ i. (p.first i + length (p.seen i)) - 1 in record {
+        opening = ap (λ (y : View M C R). y.opening) n.is ∙ p.opening;
+        first = ap (λ (y : View M C R). y.first) n.is ∙ p.first;
+        holding = ap (λ (y : View M C R). y.holding) n.is ∙ p.holding;
+        seen = ap (λ (y : View M C R). y.seen) n.is ∙ p.seen;
+        one_pass = ap length passes ∙ added.0;
+        number = ap number_of passes ∙ (added.1 ∙ p.number);
+        calls = ap calls_of passes ∙ (added.2 ∙ p.calls);
         new = p.new ++ x ∷ [];
-        grown = ap (λ (y : View M C R). y.posts) is ∙ (ap (λ l. l ++ x ∷ []) p.grown ∙ append_assoc v.posts p.new (x ∷ []));
+        grown = ap notices_of passes ∙ (added.3 ∙ (ap (λ l. l ++ x ∷ []) p.grown ∙ append_assoc (notices_of v.passes) p.new (x ∷ [])));
         here = all_append _ p.new (x ∷ []) p.here (place, tt);
         done = λ s b h. total_append (posted_at s b) p.new (x ∷ []) ∙ dite (ℕ_discrete k s)
             (λ e. let z = p.undone s b (omega arith) in let y = posted_here s b x e in
@@ -61,15 +87,22 @@ module _ {M C R : Type 0} where
             (λ ne. let z = p.done s b (omega arith) in let y = posted_elsewhere s b x ne in omega arith);
         undone = λ s b h. total_append (posted_at s b) p.new (x ∷ [])
             ∙ (let z = p.undone s b (omega arith) in let y = posted_elsewhere s b x (λ e. omega arith) in omega arith);
+        begins = prefix_trans v.notices n.before w.notices (prefix_trans v.notices u.notices n.before p.begins n.seen) (x ∷ [], sym (ap (λ (y : View M C R). y.notices) n.is));
+        found = n.order;
+        own = n.own;
       }
+
+module _ {C R : Type 0} where
+  one_count : (l : List (PassLog C R)) → length l ≡ 1 → count_calls l ≡ total_of (λ _. 1) (calls_of l)
+  one_count l one = let p = only_of l one in subst (λ (k : List (PassLog C R)). count_calls k ≡ total_of (λ _. 1) (calls_of k)) (sym p.1) (omega arith)
 
 -- w is v after posts to the servers below k, with these rows and this mask of what they raised
 pub record Posted {M C R : Type 0} (v w : View M C R) (k owed : ℕ) (rows : List ℕ) (mask : ℕ) : Type 0 where
   pub posts : Posts v w k owed
-  pub counted : Tallies rows (raised_in w.posts)
+  pub counted : Tallies rows (raised_by w.passes)
   pub small : mask < 2 ^ (8 * k)
-  pub raised : (s b : ℕ) → s < 16 → b < 8 → raised_in w.posts s b ≡ raised_in v.posts s b + bit_at mask (8 * s + b)
-  pub same : (s b : ℕ) → k ≤ s → raised_in w.posts s b ≡ raised_in v.posts s b
+  pub raised : (s b : ℕ) → s < 16 → b < 8 → raised_by w.passes s b ≡ raised_by v.passes s b + bit_at mask (8 * s + b)
+  pub same : (s b : ℕ) → k ≤ s → raised_by w.passes s b ≡ raised_by v.passes s b
 
 le_pow : (i j : ℕ) → i ≤ j → 2 ^ i ≤ 2 ^ j
 le_pow i j le = let p : 0 < 2 = omega arith in pow-le-pow_right p le
@@ -93,8 +126,8 @@ pub fresh_small : (owed k found : ℕ) → bit_and (bits_for owed k) (bit_not w6
 fresh_small owed k found = let l = and_le_l (bits_for owed k) (bit_not w64 found) in let m = and_le_r (owed / 2 ^ (8 * k)) 255 in omega arith
 
 module _ {M C R : Type 0} where
-  pub posted_none : (v : View M C R) (owed : ℕ) (rows : List ℕ) → Tallies rows (raised_in v.posts) → Posted v v 0 owed rows 0
-  posted_none v owed rows h = record { posts = posts_none v owed; counted = h; small = omega arith; raised = λ s b _ _. (let z = bit_at-zero (8 * s + b) in omega arith); same = λ s b _. refl }
+  pub posted_none : (v : View M C R) (owed : ℕ) (rows : List ℕ) → CanPost v → Tallies rows (raised_by v.passes) → Posted v v 0 owed rows 0
+  posted_none v owed rows can h = record { posts = posts_none v owed can; counted = h; small = omega arith; raised = λ s b _ _. (let z = bit_at-zero (8 * s + b) in omega arith); same = λ s b _. refl }
 
   pub posted_skip : (v u : View M C R) (k k' owed mask : ℕ) (rows : List ℕ) → k' ≡ k + 1 → bits_for owed k ≡ 0 → Posted v u k owed rows mask → Posted v u k' owed rows mask
   posted_skip v u k k' owed mask rows next none p = record {
@@ -105,18 +138,17 @@ module _ {M C R : Type 0} where
     same = λ s b h. p.same s b (omega arith);
   }
 
-  pub posted_more : (v u w : View M C R) (k k' owed found fresh mask mask' : ℕ) (rows rows' : List ℕ) → k < 16 → k' ≡ k + 1 → found < 2 ^ 64 → w ≡ after_post u k (bits_for owed k) found
+  pub posted_more : (v u w : View M C R) (k k' owed found fresh mask mask' : ℕ) (rows rows' : List ℕ) → k < 16 → k' ≡ k + 1 → found < 2 ^ 64 → Notices u (post_of u k (bits_for owed k) found) w
       → fresh ≡ bit_and (bits_for owed k) (bit_not w64 found) → Counts rows k fresh rows' → mask' ≡ mask + fresh * 2 ^ (8 * k) % 2 ^ 128 → Posted v u k owed rows mask → Posted v w k' owed rows' mask'
-  posted_more v u w k k' owed found fresh mask mask' rows rows' low next wide is fresh_is counts mask_is p =
+  posted_more v u w k k' owed found fresh mask mask' rows rows' low next wide n fresh_is counts mask_is p =
       let bits : ℕ = bits_for owed k in
-      let x : Post = record { server = k; bits = bits; found = found; place = (u.first + length u.seen) - 1 } in
+      let x : Notice = post_of u k bits found in
       let less : fresh < 256 = (let l = fresh_small owed k found in omega arith) in
       let m = mask_more mask mask' fresh k k' low next less p.small mask_is in
-      let one_more : w.posts ≡ u.posts ++ x ∷ [] = ap (λ (y : View M C R). y.posts) is in
-      let grows : (s b : ℕ) → raised_in w.posts s b ≡ raised_in u.posts s b + (raised_at s b x + 0) = λ s b. ap (λ l. raised_in l s b) one_more ∙ total_append (raised_at s b) u.posts (x ∷ []) in
+      let grows : (s b : ℕ) → raised_by w.passes s b ≡ raised_by u.passes s b + raised_at s b x = λ s b. ap (λ (y : View M C R). raised_by y.passes s b) n.is ∙ notice_weighs u.passes x (raised_at s b) p.posts.one_pass in
       let here : (s b : ℕ) → k ≡ s → b < 8 → raised_at s b x ≡ bit_at fresh b = λ s b e hb. raised_here s b x e ∙ sym (ap (λ n. bit_at n b) fresh_is ∙ fresh_bit bits found b wide hb) in
       let mask_at : (i : ℕ) → bit_at mask' i ≡ bit_at (fresh * 2 ^ (8 * k) + mask) i = λ i. ap (λ n. bit_at n i) m.0 in record {
-        posts = posts_more v u w k k' owed found next is p.posts;
+        posts = posts_more v u w k k' owed found next n p.posts;
         counted = λ s b hs hb. counts s b hs hb ∙ dite (ℕ_discrete k s)
             (λ e.
             let c = p.counted s b hs hb in let g = grows s b in let r = here s b e hb in
@@ -140,15 +172,15 @@ module _ {M C R : Type 0} where
 
   -- what a post asks for
   pub owes_still : (owes : R → ℕ) (v w : View M C R) (k owed : ℕ) → LastOwes owes v owed → Posts v w k owed → LastOwes owes w owed
-  owes_still owes v w k owed l p = (l.0, l.1, p.seen ∙ l.2, l.3)
+  owes_still owes v w k owed l p = (l.0, l.1, p.seen ∙ l.2, l.3 ∙ sym p.number, l.4)
 
-  pub few_still : (v w : View M C R) (k owed : ℕ) (rows : List ℕ) (mask : ℕ) → CanPost v → Posted v w k owed rows mask → (b : ℕ) → raised_in w.posts k b < count_calls w.passes
+  pub few_still : (v w : View M C R) (k owed : ℕ) (rows : List ℕ) (mask : ℕ) → CanPost v → Posted v w k owed rows mask → (b : ℕ) → raised_by w.passes k b < count_calls w.passes
   few_still v w k owed rows mask can p b =
-      let a : count_calls w.passes ≡ count_calls v.passes = ap count_calls p.posts.passes in let s = p.same k b (omega arith) in let f = can.1 k b in omega arith
+      let a : count_calls w.passes ≡ count_calls v.passes = one_count w.passes p.posts.one_pass ∙ (ap (total_of (λ _. 1)) p.posts.calls ∙ sym (one_count v.passes can.one_pass)) in let s = p.same k b (omega arith) in let f = can.few k b in omega arith
 
   -- the rows can be counted on
   pub rows_small : (v w : View M C R) (k owed : ℕ) (rows : List ℕ) (mask : ℕ) → CanPost v → k < 16 → Posted v w k owed rows mask → (b : ℕ) → b < 8 → row_at rows k b < 2 ^ 63
-  rows_small v w k owed rows mask can low p b hb = let c = p.counted k b low hb in let s = p.same k b (omega arith) in let f = can.1 k b in let n = can.2 in omega arith
+  rows_small v w k owed rows mask can low p b hb = let c = p.counted k b low hb in let s = p.same k b (omega arith) in let f = can.few k b in let n = can.short in omega arith
 
   -- the mask can be added to
   pub mask_fits : (v u : View M C R) (k owed found mask : ℕ) (rows : List ℕ) → k < 16 → Posted v u k owed rows mask
@@ -165,8 +197,8 @@ module _ {M C R : Type 0} where
     pub out : q.me.1 ≡ p.me.1
     pub posted : Posted p.me.0 q.me.0 k owed rows mask
 
-  pub posting_none : (p : SeatOf M C R) (owed : ℕ) (rows : List ℕ) → Tallies rows (raised_in p.me.0.posts) → Posting p p 0 owed rows 0
-  posting_none p owed rows h = record { table = refl; id = refl; out = refl; posted = posted_none p.me.0 owed rows h }
+  pub posting_none : (p : SeatOf M C R) (owed : ℕ) (rows : List ℕ) → CanPost p.me.0 → Tallies rows (raised_by p.me.0.passes) → Posting p p 0 owed rows 0
+  posting_none p owed rows can h = record { table = refl; id = refl; out = refl; posted = posted_none p.me.0 owed rows can h }
 
   pub posting_moved : (p q q' : SeatOf M C R) (k owed : ℕ) (rows rows' : List ℕ) (mask mask' : ℕ) → q' ≡ q → rows' ≡ rows → mask' ≡ mask → Posting p q k owed rows mask → Posting p q' k owed rows' mask'
   posting_moved p q q' k owed rows rows' mask mask' e e' e'' w = subst (λ (x : SeatOf M C R × (List ℕ × ℕ)). Posting p x.0 k owed x.1.0 x.1.1) (λ i. (sym e i, (sym e' i, sym e'' i))) w

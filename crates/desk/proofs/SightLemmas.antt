@@ -24,9 +24,5 @@ module _ {M C R : Type 0} where
   pub rests : (v : View M C R) → v.holding ≡ false → length v.passes ≡ 1 → is_some v.opening ≡ true → rests_of v ≡ true
   rests v free one opened = ap (λ x. not x && ((length v.passes == 1) && is_some v.opening)) free ∙ (ap (λ x. x && is_some v.opening) (eq-eqb (length v.passes) 1 one) ∙ opened)
 
-  pub listens_facts : (v : View M C R) → listens_of v ≡ true → (v.passes ≡ []) × (v.posts ≡ []) × (v.takes ≡ []) × (v.holding ≡ false)
-  listens_facts v e =
-      let a = both_true (not v.holding) ((length v.passes == 0) && ((length v.posts == 0) && (length v.takes == 0))) e in
-      let b = both_true (length v.passes == 0) ((length v.posts == 0) && (length v.takes == 0)) a.1 in
-      let c = both_true (length v.posts == 0) (length v.takes == 0) b.1 in
-      (nil_of v.passes (eqb-true (length v.passes) 0 b.0), nil_of v.posts (eqb-true (length v.posts) 0 c.0), nil_of v.takes (eqb-true (length v.takes) 0 c.1), false_of v.holding a.0)
+  pub listens_facts : (v : View M C R) → listens_of v ≡ true → (v.passes ≡ []) × (v.holding ≡ false)
+  listens_facts v e = let a = both_true (not v.holding) (length v.passes == 0) e in (nil_of v.passes (eqb-true (length v.passes) 0 a.1), false_of v.holding a.0)

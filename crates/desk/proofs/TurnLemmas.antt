@@ -7,7 +7,9 @@ use Rattle.desk_rule.specs.declared.entry.Entry.{Entry}
 use Rattle.desk_rule.specs.declared.view.View.{View}
 use Rattle.desk_rule.specs.declared.table.Home.{Home}
 use Rattle.desk_rule.specs.declared.table.LastCall.{LastCall}
-use Rattle.desk_rule.specs.History.{entry, IsLegal, number_of, OwnCalls, Run}
+use Rattle.desk_rule.specs.declared.notice.Notice.{Notice}
+use Rattle.desk_rule.specs.History.{entry, IsLegal, OwnCalls, Run}
+use Rattle.desk_rule.specs.Passes.{number_of}
 use Rattle.desk_rule.specs.Kinds.{after_look, after_turn, GetsMachine, Looks, Standing}
 use Rattle.desk_rule.specs.Seat.{EndsTurn, HoldsTurn, SeatOf}
 use Rattle.desk_rule.proofs.ListLemmas.{nil_of, prefix_trans, some_of}
@@ -21,12 +23,11 @@ module _ {M C R : Type 0} where
     pub first : w.first ≡ v.first
     pub holding : w.holding ≡ v.holding
     pub passes : w.passes ≡ v.passes
-    pub posts : w.posts ≡ v.posts
-    pub takes : w.takes ≡ v.takes
     pub begins : (es : List (Entry C R)) → IsPrefix w.seen es → IsPrefix w.told es → IsPrefix v.seen es × IsPrefix v.told es
+    pub notices : (ns : List Notice) → IsPrefix w.notices ns → IsPrefix w.told_notices ns → IsPrefix v.notices ns × IsPrefix v.told_notices ns
 
   pub follows_refl : (v : View M C R) → Follows v v
-  follows_refl v = record { opening = refl; first = refl; holding = refl; passes = refl; posts = refl; takes = refl; begins = λ es p q. (p, q) }
+  follows_refl v = record { opening = refl; first = refl; holding = refl; passes = refl; begins = λ es p q. (p, q); notices = λ ns p q. (p, q) }
 
   pub follows_trans : (v u w : View M C R) → Follows v u → Follows u w → Follows v w
   follows_trans v u w f g = record {
@@ -34,9 +35,8 @@ module _ {M C R : Type 0} where
     first = g.first ∙ f.first;
     holding = g.holding ∙ f.holding;
     passes = g.passes ∙ f.passes;
-    posts = g.posts ∙ f.posts;
-    takes = g.takes ∙ f.takes;
     begins = λ es p q. let h = g.begins es p q in f.begins es h.0 h.1;
+    notices = λ ns p q. let h = g.notices ns p q in f.notices ns h.0 h.1;
   }
 
   -- a seat in the loop: it is the same, nothing is out with it, and its view was looked up
@@ -52,13 +52,13 @@ module _ {M C R : Type 0} where
   pub waits_moved : (p q q' : SeatOf M C R) → q' ≡ q → Waits p q → Waits p q'
   waits_moved p q q' e w = subst (λ x. Waits p x) (sym e) w
 
-  alike : (v w : View M C R) (holding : Bool) (es : List (Entry C R)) → Follows v w → after_look w holding es ≡ after_look v holding es
-  alike v w holding es f i = record { opening = f.opening i; first = f.first i; holding = holding; seen = es; told = []; passes = f.passes i; posts = f.posts i; takes = f.takes i }
+  alike : (v w : View M C R) (holding : Bool) (es : List (Entry C R)) (ns : List Notice) → Follows v w → after_look w holding es ns ≡ after_look v holding es ns
+  alike v w holding es ns f i = record { opening = f.opening i; first = f.first i; holding = holding; seen = es; told = []; notices = ns; told_notices = []; passes = f.passes i }
 
 module _ {M C R : Type 0} (steps : M → C → R → M → Type 0) where
   pub looks_later : (v u w : View M C R) (found : ℕ) (holding : Bool) → Follows v u → Looks steps u found holding w → Looks steps v found holding w
-  looks_later v u w found holding f l = let b = f.begins w.seen l.seen l.told in record {
-    is = l.is ∙ alike v u holding w.seen f;
+  looks_later v u w found holding f l = let b = f.begins w.seen l.seen l.told in let n = f.notices w.notices l.notices l.told_notices in record {
+    is = l.is ∙ alike v u holding w.seen w.notices f;
     seen = b.0;
     told = b.1;
     place = λ m e. l.place m (f.opening ∙ e) ∙ ap (λ n. n + length w.seen) f.first;
@@ -66,6 +66,10 @@ module _ {M C R : Type 0} (steps : M → C → R → M → Type 0) where
     own = l.own;
     few = l.few;
     short = l.short;
+    notices = n.0;
+    told_notices = n.1;
+    order = l.order;
+    own_notices = l.own_notices;
   }
 
   pub follows_look : (v w : View M C R) (found : ℕ) → Looks steps v found v.holding w → Follows v w
@@ -74,9 +78,8 @@ module _ {M C R : Type 0} (steps : M → C → R → M → Type 0) where
     first = ap (λ (x : View M C R). x.first) l.is;
     holding = ap (λ (x : View M C R). x.holding) l.is;
     passes = ap (λ (x : View M C R). x.passes) l.is;
-    posts = ap (λ (x : View M C R). x.posts) l.is;
-    takes = ap (λ (x : View M C R). x.takes) l.is;
     begins = λ es p q. (prefix_trans v.seen w.seen es l.seen p, prefix_trans v.told w.seen es l.told p);
+    notices = λ ns p q. (prefix_trans v.notices w.notices ns l.notices p, prefix_trans v.told_notices w.notices ns l.told_notices p);
   }
 
   -- one look more

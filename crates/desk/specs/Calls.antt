@@ -4,12 +4,13 @@ use Rattle.std.specs.List.{AllByRecursion}
 use Rattle.std.specs.Int.{bit_at}
 use mathlib.Core.List.{IsPrefix}
 use Rattle.desk_rule.specs.declared.entry.Entry.{Entry}
-use Rattle.desk_rule.specs.declared.view.Post.{Post}
+use Rattle.desk_rule.specs.declared.notice.Act.TheVariants.{Take}
+use Rattle.desk_rule.specs.declared.notice.Notice.{Notice}
 use Rattle.desk_rule.specs.declared.view.View.{View}
 use Rattle.desk_rule.specs.History.{calls_by, entry, IsLegalFrom, total_of}
-use Rattle.desk_rule.specs.Notices.{bits_for, posted_at}
+use Rattle.desk_rule.specs.Notices.{bits_for, IsOrder, IsPostAt, notice, notices_by, pending_after, posted_at}
 use Rattle.desk.specs.declared.pass.Sight.{Ghosts}
-use Rattle.desk.specs.Pass.{calls, desk_of, first_place, history, notes_learnt, notes_made, number, opening, Pass, posts, takes}
+use Rattle.desk.specs.Pass.{calls, desk_of, first_place, history, notes_learnt, notes_made, notices, number, opening, order, Pass}
 
 module _ {M C R : Type 0} {G : Ghosts (View M C R)} where
   -- q is the pass p at another time
@@ -23,13 +24,20 @@ module _ {M C R : Type 0} {G : Ghosts (View M C R)} where
   SameNotes p q = (notes_made q ≡ notes_made p) × (notes_learnt q ≡ notes_learnt p)
 
   abbrev pub SameNotices : Pass M C R G → Pass M C R G → Type 0
-  SameNotices p q = (posts q ≡ posts p) × (takes q ≡ takes p)
+  SameNotices p q = notices q ≡ notices p
 
   -- the pass knows what it knew, and called nothing
   pub record KnowsAsMuch (p q : Pass M C R G) : Type 0 where
     pub same : IsSamePass p q
     pub same_calls : calls q ≡ calls p
     pub same_history : history q ≡ history p
+    pub same_order : order q ≡ order p
+
+  -- the order of all notices that the pass has seen begins with what it had seen of it, each of them found its word as those before it left it, and those of the pass are just its notices
+  pub record SeesOrder (p q : Pass M C R G) : Type 0 where
+    pub begins : IsPrefix (order p) (order q)
+    pub found : IsOrder (order q)
+    pub own : notices_by (number p) (order q) ≡ notices q
 
   -- the pass may have seen more and called nothing: the history that it has seen begins with what it had seen, is legal, and its entries of the pass are just the pass's calls
   pub record Sees {S : Type 0} (stands : M → S → Type 0) (steps : S → C → R → S → Type 0) (p q : Pass M C R G) : Type 0 where
@@ -38,6 +46,7 @@ module _ {M C R : Type 0} {G : Ghosts (View M C R)} where
     pub begins : IsPrefix (history p) (history q)
     pub legal : (m : M) → opening p ≡ Some m → IsLegalFrom stands steps m (history q)
     pub own : calls_by (number p) (history q) ≡ calls q
+    pub notices : SeesOrder p q
 
   -- the pass made one call: the history that it has seen begins with what it had seen, ends with the call, is legal, and its entries of the pass are just the pass's calls, of which there is one more
   pub record Calls {S : Type 0} (stands : M → S → Type 0) (steps : S → C → R → S → Type 0) (p q : Pass M C R G) (command : C) (reply : R) (place : ℕ) : Type 0 where
@@ -48,14 +57,22 @@ module _ {M C R : Type 0} {G : Ghosts (View M C R)} where
     pub one_more : calls q ≡ calls p ++ entry (number p) command reply ∷ []
     pub legal : (m : M) → opening p ≡ Some m → IsLegalFrom stands steps m (history q)
     pub own : calls_by (number p) (history q) ≡ calls q
+    pub notices : SeesOrder p q
 
-  -- the posts of the pass are more by just the bits of the mask, each with this place
+  -- the notices of the pass are more by posts of just the bits of the mask, each with this place
   pub record PostsOwed (p q : Pass M C R G) (place owed : ℕ) : Type 0 where
-    pub new : List Post
-    pub grown : posts q ≡ posts p ++ new
-    pub here : AllByRecursion (λ (x : Post). x.place ≡ place) new
+    pub new : List Notice
+    pub grown : notices q ≡ notices p ++ new
+    pub here : AllByRecursion (λ (n : Notice). IsPostAt place n.act) new
     pub exact : (s b : ℕ) → s < 16 → total_of (posted_at s b) new ≡ bit_at (bits_for owed s) b
     pub no_others : (s b : ℕ) → 16 ≤ s → total_of (posted_at s b) new ≡ 0
+
+  -- the notices of the pass are more by one take, which gave all that was pending of the server behind what the pass had seen of the order, and others' notices
+  pub record TakesPending (p q : Pass M C R G) (server bits : ℕ) : Type 0 where
+    pub one_more : notices q ≡ notices p ++ notice (number p) server bits Take ∷ []
+    pub between : List Notice
+    pub at : IsPrefix ((order p ++ between) ++ notice (number p) server bits Take ∷ []) (order q)
+    pub all : bits ≡ pending_after (order p ++ between) server
 
   -- the first place that the history which the pass has seen leaves free
   abbrev pub next_place : Pass M C R G → ℕ

@@ -6,15 +6,16 @@ use mathlib.Core.Option.{some}
 use mathlib.Core.List.{IsPrefix}
 use lib.ListN.{get_elem?}
 use Rattle.desk_rule.specs.declared.entry.Entry.{Entry}
-use Rattle.desk_rule.specs.declared.entry.PassCalls.{PassCalls}
+use Rattle.desk_rule.specs.declared.notice.Notice.{Notice}
+use Rattle.desk_rule.specs.declared.view.PassLog.{PassLog}
 use Rattle.desk_rule.specs.declared.view.View.{View}
 use Rattle.desk_rule.specs.History.{calls_by, LeadsTo, total_of}
-use Rattle.desk_rule.specs.Notices.{raised_in, taken_in}
+use Rattle.desk_rule.specs.Notices.{IsOrder, IsOwed, notices_by, pending_after, raised_in, taken_in}
 use Rattle.desk.specs.declared.account.Row.{Row}
 use Rattle.desk.specs.declared.fault.DeskFault.{DeskFault}
 use Rattle.desk.specs.declared.fault.DeskFault.TheVariants.{PassesOut, Noted, NoRoom}
 use Rattle.desk.specs.declared.pass.Sight.{Ghosts}
-use Rattle.desk.specs.Pass.{calls, history as seen_by, notes_learnt, notes_made, number, Pass, posts, takes}
+use Rattle.desk.specs.Pass.{calls, history as seen_by, notes_learnt, notes_made, notices, number, order as order_seen_by, Pass}
 use Rattle.desk.specs.Tally.{row_at}
 
 -- rows, each with another added to it modulo 2^64
@@ -35,8 +36,8 @@ IsRow words raises takes rows k = (r : Row) × (get_elem? rows k ≡ some r) × 
     × (pending_bit r ≡ bit_at (slice_index words (k / 8)) (k % 8))
 
 module _ {M C R : Type 0} {G : Ghosts (View M C R)} where
-  -- the passes' own calls, gathered at one seat from the last pass on
-  abbrev pub gathered : List (PassCalls C R) → List (Pass M C R G) → List (PassCalls C R)
+  -- what the passes did, gathered at one seat from the last pass on
+  abbrev pub gathered : List (PassLog C R) → List (Pass M C R G) → List (PassLog C R)
   gathered l [] = l
   gathered l (p ∷ ps) = gathered l ps ++ p.seat.me.0.passes
 
@@ -47,11 +48,20 @@ module _ {M C R : Type 0} {G : Ghosts (View M C R)} where
     pub own : AllByRecursion (λ p. calls_by (number p) history ≡ calls p) passes
     pub no_others : (weigh : Entry C R → ℕ) → total_of weigh history ≡ total_of (λ p. total_of weigh (calls p)) passes
 
+  -- one order of all notices, which begins with all that each pass has seen of it, in which those of each pass are just its notices, and there are no others; each found its word as those before it left it, each post is of a call of its pass in the history, and just what that owes, and what is pending in a row is what they left
+  pub record IsOrderOf (owes : R → ℕ) (first : ℕ) (passes : List (Pass M C R G)) (rows : List Row) (history : List (Entry C R)) (order : List Notice) : Type 0 where
+    pub found : IsOrder order
+    pub owed : AllByRecursion (IsOwed owes first history) order
+    pub begins : AllByRecursion (λ p. IsPrefix (order_seen_by p) order) passes
+    pub own : AllByRecursion (λ p. notices_by (number p) order ≡ notices p) passes
+    pub no_others : (weigh : Notice → ℕ) → total_of weigh order ≡ total_of (λ p. total_of weigh (notices p)) passes
+    pub left : (s b : ℕ) → s < 16 → b < 8 → (r : Row) × (get_elem? rows (8 * s + b) ≡ some r) × (pending_bit r ≡ bit_at (pending_after order s) b)
+
   -- 128 rows, each with the sums of the passes' own posts and takes, and in each raises are takes and what is pending
   pub record IsAccount (passes : List (Pass M C R G)) (rows : List Row) : Type 0 where
     pub long : length rows ≡ 128
     pub each : (s b : ℕ) → s < 16 → b < 8 → (r : Row) × (get_elem? rows (8 * s + b) ≡ some r)
-        × (r.raises ≡ total_of (λ p. raised_in (posts p) s b) passes) × (r.takes ≡ total_of (λ p. taken_in (takes p) s b) passes)
+        × (r.raises ≡ total_of (λ p. raised_in (notices p) s b) passes) × (r.takes ≡ total_of (λ p. taken_in (notices p) s b) passes)
         × (r.raises ≡ r.takes + pending_bit r)
 
   abbrev pub AllLearnt : List (Pass M C R G) → Type 0

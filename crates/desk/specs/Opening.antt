@@ -5,7 +5,7 @@ use Rattle.desk_rule.specs.declared.view.View.{View}
 use Rattle.desk.specs.declared.fault.DeskFault.{DeskFault}
 use Rattle.desk.specs.declared.fault.DeskFault.TheVariants.{BadCount, BadFirst, NoRoom}
 use Rattle.desk.specs.declared.pass.Sight.{Ghosts}
-use Rattle.desk.specs.Pass.{calls, desk_of, first_place, history, notes_learnt, notes_made, number, opening, Pass, posts, takes}
+use Rattle.desk.specs.Pass.{calls, desk_of, first_place, history, notes_learnt, notes_made, notices, number, opening, order, Pass}
 
 module _ {M C R : Type 0} {G : Ghosts (View M C R)} where
   -- a pass of this number that has seen, called, posted, taken and noted nothing
@@ -16,8 +16,8 @@ module _ {M C R : Type 0} {G : Ghosts (View M C R)} where
     pub number_is : number p ≡ n
     pub no_history : history p ≡ []
     pub no_calls : calls p ≡ []
-    pub no_posts : posts p ≡ []
-    pub no_takes : takes p ≡ []
+    pub no_notices : notices p ≡ []
+    pub no_order : order p ≡ []
     pub no_notes : (notes_made p ≡ 0) × (notes_learnt p ≡ 0)
 
   -- new passes with the numbers below n from the greatest down, so that no two have the same

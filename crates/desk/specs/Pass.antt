@@ -2,11 +2,10 @@
 use Rattle.std.specs.Prelude.{ℕ, List, Option}
 use Rattle.atomic_table.specs.Seated.{TableId}
 use Rattle.desk_rule.specs.declared.entry.Entry.{Entry}
-use Rattle.desk_rule.specs.declared.view.Post.{Post}
-use Rattle.desk_rule.specs.declared.view.Take.{Take}
+use Rattle.desk_rule.specs.declared.notice.Notice.{Notice}
 use Rattle.desk_rule.specs.declared.view.View.{View}
 use Rattle.desk_rule.specs.declared.table.Home.{Home}
-use Rattle.desk_rule.specs.History.{calls_of, number_of}
+use Rattle.desk_rule.specs.Passes.{calls_of, notices_of, number_of}
 use Rattle.desk.specs.declared.pass.Sight.{Ghosts}
 use Rattle.desk.specs.declared.pass.PassOf.{PassOf}
 use Rattle.desk.specs.declared.pass.NoteOf.{NoteOf}
@@ -37,16 +36,20 @@ module _ {M C R : Type 0} {G : Ghosts (View M C R)} where
   abbrev pub history : Pass M C R G → List (Entry C R)
   history p = p.seat.me.0.seen
 
-  -- the history that the pass had seen when it made the note
+  -- its posts and its takes
+  abbrev pub notices : Pass M C R G → List Notice
+  notices p = notices_of p.seat.me.0.passes
+
+  -- what it has seen of the order of all notices
+  abbrev pub order : Pass M C R G → List Notice
+  order p = p.seat.me.0.notices
+
+  -- the history, and the order of all notices, that the pass had seen when it made the note
   abbrev pub told_by : Note M C R G → List (Entry C R)
   told_by n = n.seat.me.0.seen
 
-  -- the bits that it posted, and those that it took
-  abbrev pub posts : Pass M C R G → List Post
-  posts p = p.seat.me.0.posts
-
-  abbrev pub takes : Pass M C R G → List Take
-  takes p = p.seat.me.0.takes
+  abbrev pub order_told_by : Note M C R G → List Notice
+  order_told_by n = n.seat.me.0.notices
 
   -- the machine that its desk was opened with, and the place of the first call
   abbrev pub opening : Pass M C R G → Option M

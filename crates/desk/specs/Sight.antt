@@ -2,7 +2,7 @@
 use Rattle.std.specs.Prelude.{◌≡◌, ℕ, ◌*◌, ◌<◌, ◌^◌, ◌==◌, Bool, true, not, ◌&&◌, length, is_some}
 use Rattle.desk_rule.specs.declared.view.View.{View}
 use Rattle.desk_rule.specs.Kinds.{Looks}
-use Rattle.desk_rule.specs.Notices.{raised_in, taken_in}
+use Rattle.desk_rule.specs.Notices.{raised_by, taken_by}
 use Rattle.desk_rule.specs.Seat.{SeatOf}
 
 module _ {M C R : Type 0} where
@@ -12,13 +12,13 @@ module _ {M C R : Type 0} where
 
   -- a note
   abbrev pub listens_of : View M C R → Bool
-  listens_of v = not v.holding && ((length v.passes == 0) && ((length v.posts == 0) && (length v.takes == 0)))
+  listens_of v = not v.holding && (length v.passes == 0)
 
   abbrev pub raised_of : View M C R → ℕ → ℕ → ℕ
-  raised_of v = raised_in v.posts
+  raised_of v = raised_by v.passes
 
   abbrev pub taken_of : View M C R → ℕ → ℕ → ℕ
-  taken_of v = taken_in v.takes
+  taken_of v = taken_by v.passes
 
   -- the seat of one pass between its calls, with nothing of the table out
   abbrev pub Rests : SeatOf M C R → Type 0

@@ -2,10 +2,12 @@
 use Rattle.std.specs.Prelude.{◌≡◌, ℕ, ◌+◌, ◌-◌, ◌*◌, ◌^◌, ◌<◌, ◌≤◌, ◌==◌, true, List, ◌++◌, length, if◌then◌else◌, slice_index, is_some}
 use Rattle.std.specs.List.{AllByRecursion}
 use Rattle.std.specs.Int.{bit_at}
-use Rattle.desk_rule.specs.declared.view.Post.{Post}
+use mathlib.Core.List.{IsPrefix}
+use Rattle.desk_rule.specs.declared.notice.Notice.{Notice}
 use Rattle.desk_rule.specs.declared.view.View.{View}
 use Rattle.desk_rule.specs.History.{count_calls, total_of}
-use Rattle.desk_rule.specs.Notices.{bits_for, posted_at, raised_in}
+use Rattle.desk_rule.specs.Notices.{bits_for, IsOrder, IsPostAt, OwnNotices, posted_at, raised_by}
+use Rattle.desk_rule.specs.Passes.{calls_of, notices_of, number_of}
 
 -- the row of a server's bit
 abbrev pub row_at : List ℕ → ℕ → ℕ → ℕ
@@ -23,9 +25,14 @@ Counts old server bits new = (s b : ℕ) → s < 16 → b < 8 → row_at new s b
 abbrev pub RaisesMask : (ℕ → ℕ → ℕ) → (ℕ → ℕ → ℕ) → ℕ → Type 0
 RaisesMask old new mask = (s b : ℕ) → s < 16 → b < 8 → new s b ≡ old s b + bit_at mask (8 * s + b)
 
--- the seat may post once to each server: no bit was raised as often as its passes called
-abbrev pub CanPost : {M C R : Type 0} → View M C R → Type 0
-CanPost v = (is_some v.opening ≡ true) × ((s b : ℕ) → raised_in v.posts s b < count_calls v.passes) × (count_calls v.passes ≤ 2 ^ 62)
+-- the seat of one pass may post once to each server: no bit was raised as often as the pass called
+pub record CanPost {M C R : Type 0} (v : View M C R) : Type 0 where
+  pub opened : is_some v.opening ≡ true
+  pub one_pass : length v.passes ≡ 1
+  pub few : (s b : ℕ) → raised_by v.passes s b < count_calls v.passes
+  pub short : count_calls v.passes ≤ 2 ^ 62
+  pub found : IsOrder v.notices
+  pub own : OwnNotices v.notices v.passes
 
 -- w is v after the call that ends what it has seen posted to the servers below count what is owed, and nothing else
 pub record Posts {M C R : Type 0} (v w : View M C R) (count owed : ℕ) : Type 0 where
@@ -33,10 +40,14 @@ pub record Posts {M C R : Type 0} (v w : View M C R) (count owed : ℕ) : Type 0
   pub first : w.first ≡ v.first
   pub holding : w.holding ≡ v.holding
   pub seen : w.seen ≡ v.seen
-  pub passes : w.passes ≡ v.passes
-  pub takes : w.takes ≡ v.takes
-  pub new : List Post
-  pub grown : w.posts ≡ v.posts ++ new
-  pub here : AllByRecursion (λ (p : Post). p.place ≡ (v.first + length v.seen) - 1) new
+  pub one_pass : length w.passes ≡ 1
+  pub number : number_of w.passes ≡ number_of v.passes
+  pub calls : calls_of w.passes ≡ calls_of v.passes
+  pub new : List Notice
+  pub grown : notices_of w.passes ≡ notices_of v.passes ++ new
+  pub here : AllByRecursion (λ (n : Notice). IsPostAt ((v.first + length v.seen) - 1) n.act) new
   pub done : (s b : ℕ) → s < count → total_of (posted_at s b) new ≡ bit_at (bits_for owed s) b
   pub undone : (s b : ℕ) → count ≤ s → total_of (posted_at s b) new ≡ 0
+  pub begins : IsPrefix v.notices w.notices
+  pub found : IsOrder w.notices
+  pub own : OwnNotices w.notices w.passes

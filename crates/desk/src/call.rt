@@ -5,8 +5,8 @@ ghost use Rattle.std.specs.Int.{bit_at};
 ghost use mathlib.Core.List.{IsPrefix};
 ghost use Rattle.desk_rule.specs.Notices.{OwedIn, raised_in};
 ghost use Rattle.desk.specs.Desk.{identity};
-ghost use Rattle.desk.specs.Calls.{Calls, KnowsAsMuch, PostsOwed, SameNotes, SameNotices, Sees, next_place};
-ghost use Rattle.desk.specs.Pass.{desk_of, desk_of_note, history, notes_learnt, notes_made, posts, takes, told_by};
+ghost use Rattle.desk.specs.Calls.{Calls, KnowsAsMuch, PostsOwed, SameNotes, SameNotices, Sees, TakesPending, next_place};
+ghost use Rattle.desk.specs.Pass.{desk_of, desk_of_note, history, notes_learnt, notes_made, notices, order, order_told_by, told_by};
 ghost use Rattle.desk.specs.Tally.{RaisesMask};
 
 use crate::desk::{Answer, Desk, Taken};
@@ -36,9 +36,9 @@ impl<M: Machine> Desk<M> {
         ensures called { IfOk result (λ a. Calls M.stands M.steps pass.old pass.new command a.reply a.place) }
         ensures place { IfOk result (λ a. a.place < 2 ^ 62) }
         ensures posted { IfOk result (λ a. (a.owed ≡ M.owes a.reply) × PostsOwed pass.old pass.new a.place a.owed) }
-        ensures raised { IfOk result (λ a. RaisesMask (raised_in (posts pass.old)) (raised_in (posts pass.new)) a.raised) }
-        ensures same { SameNotes pass.old pass.new × (takes pass.new ≡ takes pass.old) }
-        ensures worn { IfErr result (λ fault. (fault ≡ DeskFault.Worn) × Sees M.stands M.steps pass.old pass.new × (posts pass.new ≡ posts pass.old) × (next_place pass.new ≡ 2 ^ 62)) }
+        ensures raised { IfOk result (λ a. RaisesMask (raised_in (notices pass.old)) (raised_in (notices pass.new)) a.raised) }
+        ensures same { SameNotes pass.old pass.new }
+        ensures worn { IfErr result (λ fault. (fault ≡ DeskFault.Worn) × Sees M.stands M.steps pass.old pass.new × SameNotices pass.old pass.new × (next_place pass.new ≡ 2 ^ 62)) }
     {
         let shared = &self.table.shared;
         let Some(place) = wait_turn(rt, shared, &mut pass.seat) else {
@@ -56,15 +56,15 @@ impl<M: Machine> Desk<M> {
     }
 
     /// Takes every bit that is pending for a server, and then looks how far the history goes: each of the bits is owed by a
-    /// call below `floor`. It takes no memory and waits for nobody. BadServer from 16 on.
+    /// call below `floor`. Pending are all bits that were posted to the server and not taken, in the one order of all notices. It takes no memory and waits for nobody. BadServer from 16 on.
     pub fn take(&self, pass: &mut Pass<M>, server: u32) -> Result<Taken, DeskFault>
         requires { desk_of pass.old ≡ identity self.now }
         ensures stays { desk_of pass.new ≡ desk_of pass.old }
         ensures sees { OnOk result ((server < 16) × Sees M.stands M.steps pass.old pass.new) }
-        ensures taken { IfOk result (λ t. takes pass.new ≡ takes pass.old ++ record { server = server; bits = t.bits } ∷ []) }
+        ensures taken { IfOk result (λ t. TakesPending pass.old pass.new server t.bits) }
         ensures floor { IfOk result (λ t. t.floor ≡ next_place pass.new) }
         ensures owed { IfOk result (λ t. (b : ℕ) → bit_at t.bits b ≡ 1 → OwedIn M.owes server b (history pass.new)) }
-        ensures same { OnOk result (SameNotes pass.old pass.new × (posts pass.new ≡ posts pass.old)) }
+        ensures same { OnOk result (SameNotes pass.old pass.new) }
         ensures refused { IfErr result (λ fault. (fault ≡ DeskFault.BadServer) × (16 ≤ server) × (pass.new ≡ pass.old)) }
     {
         if server >= 16 {
@@ -91,11 +91,11 @@ impl<M: Machine> Desk<M> {
         look(&self.table.shared, &mut pass.seat) / 2
     }
 
-    /// How far the pass has seen the history, for another pass to learn. It waits for nobody. Worn after 2^62 notes.
+    /// How far the pass has seen the history and the notices, for another pass to learn. It waits for nobody. Worn after 2^62 notes.
     pub fn note(&self, pass: &mut Pass<M>) -> Result<Note<M>, DeskFault>
         requires { desk_of pass.old ≡ identity self.now }
         ensures stays { desk_of pass.new ≡ desk_of pass.old }
-        ensures told { IfOk result (λ n. (desk_of_note n ≡ identity self.now) × (told_by n ≡ history pass.old)) }
+        ensures told { IfOk result (λ n. (desk_of_note n ≡ identity self.now) × (told_by n ≡ history pass.old) × (order_told_by n ≡ order pass.old)) }
         ensures made { OnOk result ((notes_made pass.new ≡ notes_made pass.old + 1) × (notes_learnt pass.new ≡ notes_learnt pass.old)) }
         ensures same { KnowsAsMuch pass.old pass.new × SameNotices pass.old pass.new }
         ensures worn { IfErr result (λ fault. (fault ≡ DeskFault.Worn) × (notes_made pass.old ≡ 2 ^ 62) × (pass.new ≡ pass.old)) }
@@ -115,7 +115,7 @@ impl<M: Machine> Desk<M> {
         requires pass { desk_of pass.old ≡ identity self.now }
         requires note { desk_of_note note ≡ identity self.now }
         ensures stays { desk_of pass.new ≡ desk_of pass.old }
-        ensures learnt { OnOk result (Sees M.stands M.steps pass.old pass.new × IsPrefix (told_by note) (history pass.new)) }
+        ensures learnt { OnOk result (Sees M.stands M.steps pass.old pass.new × IsPrefix (told_by note) (history pass.new) × IsPrefix (order_told_by note) (order pass.new)) }
         ensures counted { OnOk result ((notes_learnt pass.new ≡ notes_learnt pass.old + 1) × (notes_made pass.new ≡ notes_made pass.old)) }
         ensures same { SameNotices pass.old pass.new }
         ensures worn { IfErr result (λ stop. (stop.fault ≡ DeskFault.Worn) × (stop.note ≡ note) × (notes_learnt pass.old ≡ 2 ^ 62) × (pass.new ≡ pass.old)) }

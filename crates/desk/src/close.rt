@@ -4,11 +4,11 @@ ghost use Rattle.std.specs.Prelude.{◌≡◌, ◌≤◌, ◌+◌, ℕ, length, 
 ghost use Rattle.std.specs.List.{AllByRecursion};
 ghost use mathlib.Core.List.{IsPrefix};
 ghost use Rattle.desk_rule.specs.History.{total_of};
-ghost use Rattle.desk_rule.specs.Notices.{raised_in, taken_in};
+ghost use Rattle.desk_rule.specs.Notices.{raised_by, taken_by};
 ghost use Rattle.desk_rule.specs.Seat.{IsAtTable};
-ghost use Rattle.desk.specs.Desk.{identity, opened_with, pass_count};
-ghost use Rattle.desk.specs.Closing.{AllLearnt, gathered, IsAccount, IsCloseFault, IsHistory, Wraps};
-ghost use Rattle.desk.specs.Pass.{desk_of, history, notes_learnt, notes_made, posts, takes};
+ghost use Rattle.desk.specs.Desk.{first_call, identity, opened_with, pass_count};
+ghost use Rattle.desk.specs.Closing.{AllLearnt, gathered, IsAccount, IsCloseFault, IsHistory, IsOrderOf, Wraps};
+ghost use Rattle.desk.specs.Pass.{desk_of, history, notes_learnt, notes_made, order};
 
 use crate::account::{Account, add_rows, fill_rows, sums_of};
 use crate::desk::{Desk, DeskOf};
@@ -78,13 +78,12 @@ fn gather<M: Machine>(
 )
     requires at { IsAtTable shared.now.table_id seat.old }
     requires others { AllByRecursion (λ p. desk_of p ≡ shared.now.table_id) others.items }
-    requires counted { Wraps raise_sums.old (raised_in seat.old.me.0.posts) × Wraps take_sums.old (taken_in seat.old.me.0.takes) }
+    requires counted { Wraps raise_sums.old (raised_by seat.old.me.0.passes) × Wraps take_sums.old (taken_by seat.old.me.0.passes) }
     ensures same { (seat.new.table_id ≡ seat.old.table_id) × (seat.new.me.0.holding ≡ seat.old.me.0.holding) }
     ensures passes { seat.new.me.0.passes ≡ gathered seat.old.me.0.passes others.items }
     ensures seen { IsPrefix seat.old.me.0.seen seat.new.me.0.seen × AllByRecursion (λ p. IsPrefix (history p) seat.new.me.0.seen) others.items }
-    ensures counted { Wraps raise_sums.new (raised_in seat.new.me.0.posts) × Wraps take_sums.new (taken_in seat.new.me.0.takes) }
-    ensures raised { (s b : ℕ) → raised_in seat.new.me.0.posts s b ≡ raised_in seat.old.me.0.posts s b + total_of (λ p. raised_in (posts p) s b) others.items }
-    ensures taken { (s b : ℕ) → taken_in seat.new.me.0.takes s b ≡ taken_in seat.old.me.0.takes s b + total_of (λ p. taken_in (takes p) s b) others.items }
+    ensures notices { IsPrefix seat.old.me.0.notices seat.new.me.0.notices × AllByRecursion (λ p. IsPrefix (order p) seat.new.me.0.notices) others.items }
+    ensures counted { Wraps raise_sums.new (raised_by seat.new.me.0.passes) × Wraps take_sums.new (taken_by seat.new.me.0.passes) }
 {
     while let Some(pass) = others.pop() {
         let PassOf {
@@ -103,7 +102,8 @@ fn gather<M: Machine>(
 
 impl<M: Machine> Desk<M> {
     /// Ends the desk: gives the machine after one legal history, which begins with all that each pass has seen and whose
-    /// entries are just the passes' calls, and the account of the notices. Refused: PassesOut, where not all passes are back;
+    /// entries are just the passes' calls, and the account of the notices, which came in one order: each post found what those
+    /// before it left, each take took it, and what the last ones left is pending. Refused: PassesOut, where not all passes are back;
     /// Noted, where not as many notes were learnt as were made; NoRoom.
     pub fn close(
         self,
@@ -111,7 +111,7 @@ impl<M: Machine> Desk<M> {
         passes: Passes<M>,
     ) -> Result<Closed<M>, CloseStop<Desk<M>, Passes<M>>>
         requires { AllByRecursion (λ p. desk_of p ≡ identity self) passes }
-        ensures history { IfOk result (λ c. (log : _) × IsHistory M.stands M.steps (opened_with self) passes c.machine log) }
+        ensures history { IfOk result (λ c. (log : _) × (notices : _) × IsHistory M.stands M.steps (opened_with self) passes c.machine log × IsOrderOf M.owes (first_call self) passes c.account log notices) }
         ensures account { IfOk result (λ c. IsAccount passes c.account) }
         ensures notes { IfOk result (λ _. (pass_count self ≤ length passes) × AllLearnt passes) }
         ensures refused { IfErr result (λ stop. IsCloseFault stop.fault (pass_count self) passes) }

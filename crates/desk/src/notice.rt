@@ -2,7 +2,7 @@
 
 ghost use Rattle.std.specs.Prelude.{◌≡◌, ℕ, ◌*◌, ◌^◌, ◌<◌};
 ghost use Rattle.desk_rule.specs.Kinds.{LastOwes};
-ghost use Rattle.desk_rule.specs.Notices.{raised_in};
+ghost use Rattle.desk_rule.specs.Notices.{raised_by};
 ghost use Rattle.desk_rule.specs.Seat.{IsAtTable, SameSeat};
 ghost use Rattle.desk.specs.Tally.{CanPost, Counts, Posts, RaisesMask, Tallies, row_at};
 
@@ -29,11 +29,11 @@ pub(crate) fn post_owed<M: Machine>(
     requires at { IsAtTable shared.now.table_id seat.old }
     requires last { LastOwes M.owes seat.old.me.0 owed }
     requires room { CanPost seat.old.me.0 }
-    requires counted { Tallies raises.old (raised_in seat.old.me.0.posts) }
+    requires counted { Tallies raises.old (raised_by seat.old.me.0.passes) }
     ensures same { SameSeat seat.old seat.new × (seat.new.me.1 ≡ seat.old.me.1) }
     ensures posts { Posts seat.old.me.0 seat.new.me.0 16 owed }
-    ensures counted { Tallies raises.new (raised_in seat.new.me.0.posts) }
-    ensures raised { RaisesMask (raised_in seat.old.me.0.posts) (raised_in seat.new.me.0.posts) result }
+    ensures counted { Tallies raises.new (raised_by seat.new.me.0.passes) }
+    ensures raised { RaisesMask (raised_by seat.old.me.0.passes) (raised_by seat.new.me.0.passes) result }
 {
     let mut raised = 0u128;
     for server in 0..16u32 {

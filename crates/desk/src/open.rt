@@ -2,6 +2,7 @@
 
 ghost use Rattle.std.specs.Prelude.{◌≡◌, ◌<◌, ◌≤◌, ◌^◌, [], length, vec_capacity, true, Some, IfOk, IfErr, OnOk};
 ghost use Rattle.std.specs.List.{AllByRecursion};
+ghost use Rattle.desk_rule.specs.Passes.{notices_of};
 ghost use Rattle.desk_rule.specs.Rule.{opening_view};
 ghost use Rattle.desk_rule.specs.Seat.{IsAtTable};
 ghost use Rattle.desk.specs.Desk.{identity, opened_with, pass_count, first_call};
@@ -30,7 +31,7 @@ pub struct OpenStop<M> {
 fn new_pass<M: Machine>(seat: DeskSeat<M>) -> Pass<M>
     requires nothing_out { seat.me.1 ≡ [] }
     requires resting { rests_of seat.me.0 ≡ true }
-    requires counted { (seat.me.0.posts ≡ []) × (seat.me.0.takes ≡ []) }
+    requires none { notices_of seat.me.0.passes ≡ [] }
     ensures { (result.seat ≡ seat) × (result.made ≡ 0) × (result.learnt ≡ 0) }
 {
     PassOf {

@@ -1,5 +1,5 @@
 pub mod ListLemmas
-pub mod BalanceLemmas
+pub mod OrderLemmas
 pub mod RuleLemmas
 pub mod TurnLemmas
 pub mod SeatLemmas

@@ -11,16 +11,18 @@ use lib.ListN.{get_elem?}
 use Rattle.atomic_table.specs.Table.{State}
 use Rattle.atomic_table.proofs.Lists.{at_set, at_longer, set_here, set_else}
 use Rattle.desk_rule.specs.declared.entry.Entry.{Entry}
-use Rattle.desk_rule.specs.declared.entry.PassCalls.{PassCalls}
-use Rattle.desk_rule.specs.declared.view.Post.{Post}
+use Rattle.desk_rule.specs.declared.notice.Notice.{Notice}
+use Rattle.desk_rule.specs.declared.view.PassLog.{PassLog}
 use Rattle.desk_rule.specs.declared.view.View.{View}
 use Rattle.desk_rule.specs.declared.table.Home.{Home}
-use Rattle.desk_rule.specs.History.{add_call, calls_by, count_calls, entry, Run, total_of, weigh_all}
-use Rattle.desk_rule.specs.Notices.{IsOwed}
-use Rattle.desk_rule.specs.Rule.{pass_count, posts_of, RuleHolds, Seated, takes_of, turn_bit, weight_of}
+use Rattle.desk_rule.specs.History.{calls_by, count_calls, entry, Run, total_of, weigh_all}
+use Rattle.desk_rule.specs.Notices.{IsActOwed, IsOwed, notices_by, weigh_notices}
+use Rattle.desk_rule.specs.declared.notice.Act.{Act}
+use Rattle.desk_rule.specs.declared.notice.Act.TheVariants.{Post, Take}
+use Rattle.desk_rule.specs.Passes.{add_call, add_notice}
+use Rattle.desk_rule.specs.Rule.{notice_weight_of, pass_count, RuleHolds, Seated, turn_bit, weight_of}
 use Rattle.desk_rule.specs.Kinds.{after_look, Looks}
 use Rattle.desk_rule.proofs.ListLemmas.{all_map, at_inside, prefix_nil, prefix_refl, total_append, total_part, total_set}
-use Rattle.desk_rule.proofs.BalanceLemmas.{balance_same}
 
 turn_bit_small : (turn : maybe.Option ℕ) → turn_bit turn ≤ 1
 turn_bit_small none = omega arith
@@ -39,11 +41,41 @@ module _ {C R : Type 0} where
       ∙ (ap (λ b. calls_by k history ++ cond b (entry n c r ∷ []) []) (ne_eqb n k other) ∙ append-nil (calls_by k history))
 
   -- one call more of the one pass
-  pub one_call_more : (passes : List (PassCalls C R)) (p : PassCalls C R) (e : Entry C R) (weigh : Entry C R → ℕ) → passes ≡ p ∷ [] → weigh_all weigh (add_call passes e) ≡ weigh_all weigh passes + weigh e
+  pub one_call_more : (passes : List (PassLog C R)) (p : PassLog C R) (e : Entry C R) (weigh : Entry C R → ℕ) → passes ≡ p ∷ [] → weigh_all weigh (add_call passes e) ≡ weigh_all weigh passes + weigh e
   one_call_more passes p e weigh one =
       let before : weigh_all weigh passes ≡ total_of weigh p.calls + 0 = ap (weigh_all weigh) one in
       let after : weigh_all weigh (add_call passes e) ≡ total_of weigh (p.calls ++ e ∷ []) + 0 = ap (λ l. weigh_all weigh (add_call l e)) one in
       let all = total_append weigh p.calls (e ∷ []) in omega arith
+
+  pub no_notice_more : (passes : List (PassLog C R)) (e : Entry C R) (weigh : Notice → ℕ) → weigh_notices weigh (add_call passes e) ≡ weigh_notices weigh passes
+  no_notice_more [] e weigh = refl
+  no_notice_more (p ∷ others) e weigh = refl
+
+  -- one notice more of the one pass
+  pub one_notice_more : (passes : List (PassLog C R)) (p : PassLog C R) (n : Notice) (weigh : Notice → ℕ) → passes ≡ p ∷ [] → weigh_notices weigh (add_notice passes n) ≡ weigh_notices weigh passes + weigh n
+  one_notice_more passes p n weigh one =
+      let before : weigh_notices weigh passes ≡ total_of weigh p.notices + 0 = ap (weigh_notices weigh) one in
+      let after : weigh_notices weigh (add_notice passes n) ≡ total_of weigh (p.notices ++ n ∷ []) + 0 = ap (λ l. weigh_notices weigh (add_notice l n)) one in
+      let all = total_append weigh p.notices (n ∷ []) in omega arith
+
+  pub no_call_more : (passes : List (PassLog C R)) (n : Notice) (weigh : Entry C R → ℕ) → weigh_all weigh (add_notice passes n) ≡ weigh_all weigh passes
+  no_call_more [] n weigh = refl
+  no_call_more (p ∷ others) n weigh = refl
+
+  -- a post that is owed stays owed while the history grows
+  pub owed_still : (owes : R → ℕ) (first : ℕ) (history more : List (Entry C R)) (ns : List Notice) → AllByRecursion (IsOwed owes first history) ns → AllByRecursion (IsOwed owes first (history ++ more)) ns
+  owed_still owes first history more ns all = all_map (IsOwed owes first history) (IsOwed owes first (history ++ more)) (λ n o. still n.pass n.server n.act o) ns all
+    where
+      still : (pass server : ℕ) (act : Act) → IsActOwed owes first history pass server act → IsActOwed owes first (history ++ more) pass server act
+      still pass server (Post bits place) o = (o.0, o.1, at_longer history more o.0 o.1 o.2, o.3, o.4, o.5)
+      still pass server Take o = tt
+
+pub notices_by_own : (order : List Notice) (n : Notice) → notices_by n.pass (order ++ n ∷ []) ≡ notices_by n.pass order ++ n ∷ []
+notices_by_own order n = filter-append (λ (k : Notice). k.pass == n.pass) order (n ∷ []) ∙ ap (λ b. notices_by n.pass order ++ cond b (n ∷ []) []) (eq-eqb n.pass n.pass refl)
+
+pub notices_by_other : (order : List Notice) (n : Notice) (k : ℕ) → n.pass ≢ k → notices_by k (order ++ n ∷ []) ≡ notices_by k order
+notices_by_other order n k other = filter-append (λ (m : Notice). m.pass == k) order (n ∷ [])
+    ∙ (ap (λ b. notices_by k order ++ cond b (n ∷ []) []) (ne_eqb n.pass k other) ∙ append-nil (notices_by k order))
 
 module _ {M C R : Type 0} (steps : M → C → R → M → Type 0) (owes : R → ℕ) (opening : M) (first passes : ℕ) where
   abbrev pub Seen : Type 0
@@ -55,12 +87,12 @@ module _ {M C R : Type 0} (steps : M → C → R → M → Type 0) (owes : R →
   abbrev pub Rule : State Slot Seen → Type 0
   Rule = RuleHolds steps owes opening first passes
 
-  abbrev pub Sits : List (Entry C R) → maybe.Option ℕ → (ℕ → ℕ) → ℕ → Seen → Type 0
-  Sits history turn seat_of j v = Seated owes opening first history turn seat_of passes j v
+  abbrev pub Sits : List (Entry C R) → List Notice → maybe.Option ℕ → (ℕ → ℕ) → ℕ → Seen → Type 0
+  Sits history order turn seat_of j v = Seated opening first history order turn seat_of passes j v
 
-  -- a pass with its own entries, at its seat
-  abbrev pub Own : List (Entry C R) → (ℕ → ℕ) → ℕ → PassCalls C R → Type 0
-  Own history seat_of j p = (calls_by p.pass history ≡ p.calls) × (seat_of p.pass ≡ j) × (p.pass < passes)
+  -- a pass with its own entries and notices, at its seat
+  abbrev pub Own : List (Entry C R) → List Notice → (ℕ → ℕ) → ℕ → PassLog C R → Type 0
+  Own history order seat_of j p = (calls_by p.pass history ≡ p.calls) × (notices_by p.pass order ≡ p.notices) × (seat_of p.pass ≡ j) × (p.pass < passes)
 
   abbrev pub word_0 : State Slot Seen → ℕ
   word_0 s = get_or s.words 0 0
@@ -81,22 +113,22 @@ module _ {M C R : Type 0} (steps : M → C → R → M → Type 0) (owes : R →
   pub calls_short : (s : State Slot Seen) (r : Rule s) (id : ℕ) (v : Seen) → get_elem? s.views id ≡ some v → count_calls v.passes ≤ length r.history
   calls_short s r id v at = let part = total_part (weight_of (λ _. 1)) s.views id v at in let all = r.all_calls (λ _. 1) in let ones = count_ones r.history in omega arith
 
-  -- what a seat is after it has seen the whole history
-  pub sits_looked : (history : List (Entry C R)) (turn : maybe.Option ℕ) (seat_of : ℕ → ℕ) (j : ℕ) (v : Seen) (holding : Bool) → Sits history turn seat_of j v → (holding ≡ true → turn ≡ some j)
-      → Sits history turn seat_of j (after_look v holding history)
-  sits_looked history turn seat_of j v holding f held = record {
+  -- what a seat is after it has seen the whole history and all notices
+  pub sits_looked : (history : List (Entry C R)) (order : List Notice) (turn : maybe.Option ℕ) (seat_of : ℕ → ℕ) (j : ℕ) (v : Seen) (holding : Bool) → Sits history order turn seat_of j v → (holding ≡ true → turn ≡ some j)
+      → Sits history order turn seat_of j (after_look v holding history order)
+  sits_looked history order turn seat_of j v holding f held = record {
     opened = f.opened;
     seen = prefix_refl history;
     told = prefix_nil history;
     holds = λ e. (held e, refl);
+    notices = prefix_refl order;
+    told_notices = prefix_nil order;
     own = f.own;
-    owed = f.owed;
     few = f.few;
-    idle = f.idle;
   }
 
   -- what a look at the word tells it
-  pub looked : (s : State Slot Seen) (r : Rule s) (id : ℕ) (v : Seen) (holding : Bool) → get_elem? s.views id ≡ some v → Looks steps v (word_0 s) holding (after_look v holding r.history)
+  pub looked : (s : State Slot Seen) (r : Rule s) (id : ℕ) (v : Seen) (holding : Bool) → get_elem? s.views id ≡ some v → Looks steps v (word_0 s) holding (after_look v holding r.history r.order)
   looked s r id v holding at =
       let f = r.seated id v at in let small = turn_bit_small r.turn in let word = r.word in record {
         is = refl;
@@ -107,6 +139,10 @@ module _ {M C R : Type 0} (steps : M → C → R → M → Type 0) (owes : R →
         own = all_map _ _ (λ p h. h.0) v.passes f.own;
         few = f.few;
         short = calls_short s r id v at;
+        notices = f.notices;
+        told_notices = f.told_notices;
+        order = r.found;
+        own_notices = all_map _ _ (λ p h. h.1) v.passes f.own;
       }
 
   abbrev Holder : List Seen → ℕ → Type 0
@@ -121,10 +157,11 @@ module _ {M C R : Type 0} (steps : M → C → R → M → Type 0) (owes : R →
       (λ other. (h.0, set_else views id j w other ∙ h.1, h.2, h.3))
 
   -- the rule, where a seat learns more and nothing else changes
-  pub stays : (s : State Slot Seen) (r : Rule s) (id : ℕ) (v w : Seen) → get_elem? s.views id ≡ some v → Sits r.history r.turn r.seat_of id w → w.passes ≡ v.passes → w.holding ≡ v.holding → w.posts ≡ v.posts → w.takes ≡ v.takes
+  pub stays : (s : State Slot Seen) (r : Rule s) (id : ℕ) (v w : Seen) → get_elem? s.views id ≡ some v → Sits r.history r.order r.turn r.seat_of id w → w.passes ≡ v.passes → w.holding ≡ v.holding
       → (words : List ℕ) → words ≡ s.words → Rule record { words = words; homes = s.homes; views = set s.views id w }
-  stays s r id v w at sits same_passes same_holding same_posts same_takes words same = record {
+  stays s r id v w at sits same_passes same_holding words same = record {
     history = r.history;
+    order = r.order;
     machine = r.machine;
     turn = r.turn;
     seat_of = r.seat_of;
@@ -136,11 +173,10 @@ module _ {M C R : Type 0} (steps : M → C → R → M → Type 0) (owes : R →
     holder = λ j e. holder_stays s.views id j v w at (λ h some_pass. (same_holding ∙ h, subst (λ l. 0 < length l) (sym same_passes) some_pass)) (r.holder j e);
     all_passes = (let t = total_set pass_count s.views id v w at in let e : length w.passes ≡ length v.passes = ap length same_passes in let all = r.all_passes in omega arith);
     all_calls = λ weigh. (let t = total_set (weight_of weigh) s.views id v w at in let e : weigh_all weigh w.passes ≡ weigh_all weigh v.passes = ap (weigh_all weigh) same_passes in let all = r.all_calls weigh in omega arith);
-    balance = balance_same posts_of takes_of s.words words s.views id v w at same_posts same_takes (λ k. ap (λ l. get_or l (k + 1) 0) same) r.balance;
+    all_notices = λ weigh. (let t = total_set (notice_weight_of weigh) s.views id v w at in let e : weigh_notices weigh w.passes ≡ weigh_notices weigh v.passes = ap (weigh_notices weigh) same_passes in let all = r.all_notices weigh in omega arith);
+    found = r.found;
+    pending = λ k small. ap (λ l. get_or l (k + 1) 0) same ∙ r.pending k small;
+    owed = r.owed;
     eight_bits = λ k small. subst (λ l. get_or l (k + 1) 0 < 256) (sym same) (r.eight_bits k small);
-    seated = all_views (Sits r.history r.turn r.seat_of) s.views id w sits (λ j u _ e. r.seated j u e);
+    seated = all_views (Sits r.history r.order r.turn r.seat_of) s.views id w sits (λ j u _ e. r.seated j u e);
   }
-
-  -- a post that is owed stays owed while the history grows
-  pub owed_still : (history more : List (Entry C R)) (posts : List Post) → AllByRecursion (IsOwed owes first history) posts → AllByRecursion (IsOwed owes first (history ++ more)) posts
-  owed_still history more posts all = all_map (IsOwed owes first history) (IsOwed owes first (history ++ more)) (λ p o. (o.0, o.1, at_longer history more o.0 o.1 o.2, o.3, o.4)) posts all

@@ -10,18 +10,20 @@ use mathlib.Core.Option.{none, some, some-injective, some-ne-none}
 use lib.ListN.{get_elem?}
 use Rattle.atomic_table.specs.Table.{Final, opening as opening_state, Seen, State}
 use Rattle.desk_rule.specs.declared.entry.Entry.{Entry}
-use Rattle.desk_rule.specs.declared.entry.PassCalls.{PassCalls}
+use Rattle.desk_rule.specs.declared.view.PassLog.{PassLog}
 use Rattle.desk_rule.specs.declared.view.View.{View}
 use Rattle.desk_rule.specs.declared.table.Home.{Home}
 use Rattle.desk_rule.specs.declared.table.LastCall.{LastCall}
-use Rattle.desk_rule.specs.History.{fresh, total_of, weigh_all}
-use Rattle.desk_rule.specs.Notices.{raised_in, taken_in}
-use Rattle.desk_rule.specs.Rule.{IsAtHome, opening_view, pass_count, posts_of, RuleHolds, takes_of, weight_of}
+use Rattle.desk_rule.specs.declared.notice.Notice.{Notice}
+use Rattle.desk_rule.specs.History.{total_of, weigh_all}
+use Rattle.desk_rule.specs.Notices.{pending_after, raised_at, raised_by, taken_at, taken_by, weigh_notices}
+use Rattle.desk_rule.specs.Passes.{fresh}
+use Rattle.desk_rule.specs.Rule.{IsAtHome, notice_weight_of, opening_view, pass_count, RuleHolds, weight_of}
 use Rattle.desk_rule.specs.Seat.{IsClosed}
 use Rattle.desk_rule.proofs.ListLemmas.{all_map, prefix_nil, total_only, total_part}
-use Rattle.desk_rule.proofs.BalanceLemmas.{balance_opening}
+use Rattle.desk_rule.proofs.OrderLemmas.{order_balanced}
 use Rattle.desk_rule.proofs.RuleLemmas.{calls_short, Own, Rule, Sits}
-use Rattle.desk_rule.proofs.SeatLemmas.{length_fresh, weigh_fresh}
+use Rattle.desk_rule.proofs.SeatLemmas.{length_fresh, weigh_fresh, weigh_fresh_notices}
 
 module _ {M C R : Type 0} (steps : M → C → R → M → Type 0) (owes : R → ℕ) (opening : M) (first passes : ℕ) where
   abbrev V : Type 0
@@ -33,9 +35,9 @@ module _ {M C R : Type 0} (steps : M → C → R → M → Type 0) (owes : R →
   abbrev Holds : State S V → Type 0
   Holds = Rule steps owes opening first passes
 
-  fresh_own : (n : ℕ) → n ≤ passes → AllByRecursion (Own steps owes opening first passes [] (λ _. 0) 0) (fresh n)
+  fresh_own : (n : ℕ) → n ≤ passes → AllByRecursion (Own steps owes opening first passes [] [] (λ _. 0) 0) (fresh n)
   fresh_own zero le = tt
-  fresh_own (suc n) le = ((refl, refl, omega arith), fresh_own n (omega arith))
+  fresh_own (suc n) le = ((refl, refl, refl, omega arith), fresh_own n (omega arith))
 
   some_same : (m : M) → let t : Option M = Some opening in t ≡ Some m → m ≡ opening
   some_same m e = cc
@@ -48,6 +50,7 @@ module _ {M C R : Type 0} (steps : M → C → R → M → Type 0) (owes : R →
       → Holds (opening_state words (Some record { machine = opening; last = l } ∷ []) (opening_view opening first passes))
   holds_at_first l words long word zeros small = record {
     history = [];
+    order = [];
     machine = opening;
     turn = none;
     seat_of = λ _. 0;
@@ -59,19 +62,26 @@ module _ {M C R : Type 0} (steps : M → C → R → M → Type 0) (owes : R →
     holder = λ j never. absurd (some-ne-none j (sym never));
     all_passes = let h = length_fresh C R passes in omega arith;
     all_calls = λ weigh. (let e = weigh_fresh C R weigh passes in omega arith);
-    balance = balance_opening (posts_of {M = M} {C = C} {R = R}) (takes_of {M = M} {C = C} {R = R}) words (opening_view opening first passes) refl refl zeros;
+    all_notices = λ weigh. (let e = weigh_fresh_notices C R weigh passes in omega arith);
+    found = tt;
+    pending = zeros;
+    owed = tt;
     eight_bits = λ k below. subst (λ n. n < 256) (sym (zeros k below)) (omega arith);
-    seated = λ j u e. only_view (opening_view opening first passes) u j (Sits steps owes opening first passes [] none (λ _. 0))
-        (record { opened = λ m e. (some_same m e, refl); seen = prefix_nil []; told = prefix_nil []; holds = λ no. absurd (true≢false (sym no)); own = fresh_own passes (omega arith); owed = tt; few = λ t b. omega arith; idle = λ _. refl }) e;
+    seated = λ j u e. only_view (opening_view opening first passes) u j (Sits steps owes opening first passes [] [] none (λ _. 0))
+        (record { opened = λ m e. (some_same m e, refl); seen = prefix_nil []; told = prefix_nil []; holds = λ no. absurd (true≢false (sym no)); notices = prefix_nil []; told_notices = prefix_nil []; own = fresh_own passes (omega arith); few = λ t b. (let none = weigh_fresh_notices C R (raised_at t b) passes in omega arith) }) e;
   }
 
   -- the passes of a view that holds the turn
   held_passes : V → ℕ
   held_passes v = cond v.holding (length v.passes) 0
 
-  no_calls : (weigh : Entry C R → ℕ) (l : List (PassCalls C R)) → length l ≡ 0 → weigh_all weigh l ≡ 0
+  no_calls : (weigh : Entry C R → ℕ) (l : List (PassLog C R)) → length l ≡ 0 → weigh_all weigh l ≡ 0
   no_calls weigh [] e = refl
   no_calls weigh (x ∷ xs) e = absurd (omega arith)
+
+  no_notices : (weigh : Notice → ℕ) (l : List (PassLog C R)) → length l ≡ 0 → weigh_notices weigh l ≡ 0
+  no_notices weigh [] e = refl
+  no_notices weigh (x ∷ xs) e = absurd (omega arith)
 
   none_held : (v : V) → length v.passes ≡ 0 → held_passes v ≡ 0
   unfolding held_passes
@@ -97,22 +107,27 @@ module _ {M C R : Type 0} (steps : M → C → R → M → Type 0) (owes : R →
   all_here : (s : State S V) (r : Holds s) (id : ℕ) (v : V) → get_elem? s.views id ≡ some v → passes ≤ length v.passes → length v.passes ≡ passes
   all_here s r id v at enough = let part = total_part pass_count s.views id v at in let all = r.all_passes in omega arith
 
-  -- where all passes sit at one seat, its posts and takes are all
-  pub notices_at_end : (s : State S V) (r : Holds s) (id : ℕ) (v : V) → get_elem? s.views id ≡ some v → passes ≤ length v.passes → (t b : ℕ) → t < 16
-      → (raised_in v.posts t b ≡ taken_in v.takes t b + bit_at (get_or s.words (t + 1) 0) b) × (raised_in v.posts t b ≤ 2 ^ 62)
-  notices_at_end s r id v at enough t b small =
+  -- where all passes sit at one seat, its notices are all
+  all_its_notices : (s : State S V) (r : Holds s) (id : ℕ) (v : V) → get_elem? s.views id ≡ some v → passes ≤ length v.passes → (weigh : Notice → ℕ) → total_of weigh r.order ≡ weigh_notices weigh v.passes
+  all_its_notices s r id v at enough weigh =
       let all : total_of pass_count s.views ≡ pass_count v = r.all_passes ∙ sym (all_here s r id v at enough) in
-      let raised = total_only pass_count (λ (u : V). raised_in u.posts t b) s.views id v at all
-      (λ j u e no_pass. let few = (r.seated j u e).few t b in let z = no_calls (λ _. 1) u.passes no_pass in omega arith) in
-      let taken = total_only pass_count (λ (u : V). taken_in u.takes t b) s.views id v at all (λ j u e no_pass. ap (λ l. taken_in l t b) ((r.seated j u e).idle no_pass)) in
-      let e = r.balance t b small in
+      sym (r.all_notices weigh) ∙ total_only pass_count (notice_weight_of weigh) s.views id v at all (λ j u _ e. no_notices weigh u.passes e)
+
+  pub notices_at_end : (s : State S V) (r : Holds s) (id : ℕ) (v : V) → get_elem? s.views id ≡ some v → passes ≤ length v.passes → (t b : ℕ) → t < 16
+      → (raised_by v.passes t b ≡ taken_by v.passes t b + bit_at (get_or s.words (t + 1) 0) b) × (raised_by v.passes t b ≤ 2 ^ 62)
+  notices_at_end s r id v at enough t b small =
+      let raised = all_its_notices s r id v at enough (raised_at t b) in
+      let taken = all_its_notices s r id v at enough (taken_at t b) in
+      let e = order_balanced r.order t b r.found in
+      let word : bit_at (get_or s.words (t + 1) 0) b ≡ bit_at (pending_after r.order t) b = ap (λ x. bit_at x b) (r.pending t small) in
       let few = (r.seated id v at).few t b in let short = calls_short steps owes opening first passes s r id v at in let room = r.room in
       (omega arith, omega arith)
 
   -- where all passes sit at one seat, the machine is at home
   pub machine_at_end : (s : State S V) (r : Holds s) (id : ℕ) (v : V) → get_elem? s.views id ≡ some v → v.holding ≡ false → passes ≤ length v.passes
-      → (h : Home M C R) × (s.homes ≡ some (Some h) ∷ []) × IsClosed steps opening v h.machine
-  machine_at_end s r id v at free enough =
+      → (words : List ℕ) → ((t : ℕ) → t < 16 → slice_index words t ≡ get_or s.words (t + 1) 0)
+      → (h : Home M C R) × (s.homes ≡ some (Some h) ∷ []) × IsClosed steps owes opening first v h.machine words
+  machine_at_end s r id v at free enough words same =
       let all = all_here s r id v at enough in
       let turn : r.turn ≡ none = nobody_holds s r id v at free all r.turn refl in
       let home : IsAtHome r.machine s.homes none = subst (λ t. IsAtHome r.machine s.homes t) turn r.home in
@@ -125,20 +140,27 @@ module _ {M C R : Type 0} (steps : M → C → R → M → Type 0) (owes : R →
           seen = f.seen;
           own = all_map _ _ (λ p h. h.0) v.passes f.own;
           no_others = λ weigh. sym (r.all_calls weigh) ∙ total_only pass_count (weight_of weigh) s.views id v at (r.all_passes ∙ sym all) (λ j u _ e. no_calls weigh u.passes e);
+          order = r.order;
+          found = r.found;
+          owed = r.owed;
+          left = λ t small. same t small ∙ r.pending t small;
+          notices = f.notices;
+          own_notices = all_map _ _ (λ p h. h.1) v.passes f.own;
+          no_other_notices = all_its_notices s r id v at enough;
         },
       )
 
   -- the same of what is left of the table
-  pub final_machine : (words : List ℕ) (slots : List S) (id : ℕ) (v : V) (slot : S) → Final (Seen Holds id v) words slots → v.holding ≡ false → passes ≤ length v.passes → get_elem? slots 0 ≡ some slot
-      → (h : Home M C R) × (slot ≡ Some h) × IsClosed steps opening v h.machine
-  final_machine words slots id v slot final free enough at =
-      let e = machine_at_end final.0 final.1.0 id v final.1.1 free enough in
+  pub final_machine : (words pending : List ℕ) (slots : List S) (id : ℕ) (v : V) (slot : S) → Final (Seen Holds id v) words slots → v.holding ≡ false → passes ≤ length v.passes → get_elem? slots 0 ≡ some slot
+      → ((t : ℕ) → t < 16 → slice_index pending t ≡ slice_index words (t + 1)) → (h : Home M C R) × (slot ≡ Some h) × IsClosed steps owes opening first v h.machine pending
+  final_machine words pending slots id v slot final free enough at same =
+      let e = machine_at_end final.0 final.1.0 id v final.1.1 free enough pending (λ t small. same t small ∙ ap (λ l. slice_index l (t + 1)) (sym final.2)) in
       (e.0, some-injective slot (Some e.0) (sym at ∙ final.4 0 (Some e.0) (ap (λ l. get_elem? l 0) e.1)), e.2)
 
   pub final_notices : (words : List ℕ) (slots : List S) (id : ℕ) (v : V) → Final (Seen Holds id v) words slots → passes ≤ length v.passes → (t b : ℕ) → t < 16
-      → (raised_in v.posts t b ≡ taken_in v.takes t b + bit_at (slice_index words (t + 1)) b) × (raised_in v.posts t b ≤ 2 ^ 62)
+      → (raised_by v.passes t b ≡ taken_by v.passes t b + bit_at (slice_index words (t + 1)) b) × (raised_by v.passes t b ≤ 2 ^ 62)
   final_notices words slots id v final enough t b small =
-      subst (λ l. (raised_in v.posts t b ≡ taken_in v.takes t b + bit_at (slice_index l (t + 1)) b) × (raised_in v.posts t b ≤ 2 ^ 62)) final.2
+      subst (λ l. (raised_by v.passes t b ≡ taken_by v.passes t b + bit_at (slice_index l (t + 1)) b) × (raised_by v.passes t b ≤ 2 ^ 62)) final.2
       (notices_at_end final.0 final.1.0 id v final.1.1 enough t b small)
 
 pub new_holds : {M C R : Type 0} (steps : M → C → R → M → Type 0) (owes : R → ℕ) (opening m : M) (l : Option (LastCall C R)) (first passes : ℕ) (words : List ℕ) (slots : List (Option (Home M C R))) → opening ≡ m
@@ -173,10 +195,10 @@ words_more words pending n n' word small next long at read = (
 )
 
 -- the machine that came out of the slot
-pub closed_machine : {M C R : Type 0} (steps : M → C → R → M → Type 0) (opening : M) (v : View M C R) (slot : Option (Home M C R)) (m : M) → ((h : Home M C R) × (slot ≡ Some h) × IsClosed steps opening v h.machine)
-    → IfSome slot (λ h. m ≡ h.machine) → IsClosed steps opening v m
-closed_machine steps opening v (Some k) m e is = let same : e.0 ≡ k = cc in subst (λ x. IsClosed steps opening v x) (ap (λ h. h.machine) same ∙ sym is) e.2
-closed_machine steps opening v None m e is = absurd (cc)
+pub closed_machine : {M C R : Type 0} (steps : M → C → R → M → Type 0) (owes : R → ℕ) (opening : M) (first : ℕ) (v : View M C R) (slot : Option (Home M C R)) (m : M) (pending : List ℕ) → ((h : Home M C R) × (slot ≡ Some h) × IsClosed steps owes opening first v h.machine pending)
+    → IfSome slot (λ h. m ≡ h.machine) → IsClosed steps owes opening first v m pending
+closed_machine steps owes opening first v (Some k) m pending e is = let same : e.0 ≡ k = cc in subst (λ x. IsClosed steps owes opening first v x pending) (ap (λ h. h.machine) same ∙ sym is) e.2
+closed_machine steps owes opening first v None m pending e is = absurd (cc)
 
 pub some_is : {A : Type 0} (x : Option A) (a : A) → x ≡ Some a → Rattle.std.specs.Prelude.is_some x ≡ true
 some_is x a e = ap Rattle.std.specs.Prelude.is_some e

@@ -1,8 +1,8 @@
 -- Histories of a machine, and the calls of each pass in them.
-use Rattle.std.specs.Prelude.{◌≡◌, ℕ, zero, suc, ◌+◌, ◌==◌, List, [], ◌∷◌, ◌++◌, filter}
+use Rattle.std.specs.Prelude.{◌≡◌, ℕ, ◌+◌, ◌==◌, List, [], ◌∷◌, filter}
 use Rattle.std.specs.List.{AllByRecursion}
 use Rattle.desk_rule.specs.declared.entry.Entry.{Entry}
-use Rattle.desk_rule.specs.declared.entry.PassCalls.{PassCalls}
+use Rattle.desk_rule.specs.declared.view.PassLog.{PassLog}
 
 -- what f makes of each element, added up
 abbrev pub total_of : {A : Type 0} → (A → ℕ) → List A → ℕ
@@ -13,43 +13,21 @@ module _ {C R : Type 0} where
   abbrev pub entry : ℕ → C → R → Entry C R
   entry n c r = record { pass = n; command = c; reply = r }
 
-  abbrev pub pass_calls : ℕ → List (Entry C R) → PassCalls C R
-  pass_calls n es = record { pass = n; calls = es }
-
   -- the entries of one pass, in their order
   abbrev pub calls_by : ℕ → List (Entry C R) → List (Entry C R)
   calls_by n es = filter (λ (e : Entry C R). e.pass == n) es
 
-  -- n passes that have called nothing, of which the last has the number 0
-  abbrev pub fresh : ℕ → List (PassCalls C R)
-  fresh zero = []
-  fresh (suc n) = pass_calls n [] ∷ fresh n
-
-  -- the number and the calls of the first pass
-  abbrev pub number_of : List (PassCalls C R) → ℕ
-  number_of [] = 0
-  number_of (p ∷ others) = p.pass
-
-  abbrev pub calls_of : List (PassCalls C R) → List (Entry C R)
-  calls_of [] = []
-  calls_of (p ∷ others) = p.calls
-
-  -- one more call of the first pass
-  abbrev pub add_call : List (PassCalls C R) → Entry C R → List (PassCalls C R)
-  add_call [] e = []
-  add_call (p ∷ others) e = pass_calls p.pass (p.calls ++ e ∷ []) ∷ others
-
   -- what the calls of these passes weigh together
-  abbrev pub weigh_all : (Entry C R → ℕ) → List (PassCalls C R) → ℕ
-  weigh_all weigh passes = total_of (λ (p : PassCalls C R). total_of weigh p.calls) passes
+  abbrev pub weigh_all : (Entry C R → ℕ) → List (PassLog C R) → ℕ
+  weigh_all weigh passes = total_of (λ (p : PassLog C R). total_of weigh p.calls) passes
 
   -- how many calls these passes made
-  abbrev pub count_calls : List (PassCalls C R) → ℕ
+  abbrev pub count_calls : List (PassLog C R) → ℕ
   count_calls passes = weigh_all (λ _. 1) passes
 
   -- the calls of each pass are just the entries that the history has of it
-  abbrev pub OwnCalls : List (Entry C R) → List (PassCalls C R) → Type 0
-  OwnCalls history passes = AllByRecursion (λ (p : PassCalls C R). calls_by p.pass history ≡ p.calls) passes
+  abbrev pub OwnCalls : List (Entry C R) → List (PassLog C R) → Type 0
+  OwnCalls history passes = AllByRecursion (λ (p : PassLog C R). calls_by p.pass history ≡ p.calls) passes
 
 module _ {S C R : Type 0} (steps : S → C → R → S → Type 0) where
   -- each entry in turn is a step from where the one before it led; they lead from s to t

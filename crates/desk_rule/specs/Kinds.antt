@@ -5,94 +5,101 @@ use Rattle.std.specs.Int.{bit_at}
 use mathlib.Core.List.{IsPrefix}
 use Rattle.atomic_table.specs.Table.{Me, Step}
 use Rattle.desk_rule.specs.declared.entry.Entry.{Entry}
+use Rattle.desk_rule.specs.declared.notice.Notice.{Notice}
+use Rattle.desk_rule.specs.declared.notice.Act.TheVariants.{Post, Take}
 use Rattle.desk_rule.specs.declared.view.View.{View}
 use Rattle.desk_rule.specs.declared.table.Home.{Home}
 use Rattle.desk_rule.specs.declared.table.LastCall.{LastCall}
-use Rattle.desk_rule.specs.History.{add_call, count_calls, entry, IsLegal, number_of, OwnCalls, Run}
-use Rattle.desk_rule.specs.Notices.{OwedIn, raised_in, taken_in}
+use Rattle.desk_rule.specs.History.{count_calls, entry, IsLegal, OwnCalls, Run}
+use Rattle.desk_rule.specs.Notices.{IsOrder, notice, OwedIn, OwnNotices, pending_after, raised_by, taken_by}
+use Rattle.desk_rule.specs.Passes.{add_call, add_notice, number_of}
 
 -- a seat's view, and the slots that are out with it
 abbrev pub Standing : Type 0 → Type 0 → Type 0 → Type 0
 Standing M C R = Me (Option (Home M C R)) (View M C R)
 
 module _ {M C R : Type 0} where
-  -- with this seen, which has all that it was told
-  abbrev pub after_look : View M C R → Bool → List (Entry C R) → View M C R
-  after_look v holding es = record { opening = v.opening; first = v.first; holding = holding; seen = es; told = []; passes = v.passes; posts = v.posts; takes = v.takes }
+  -- with this seen of the history and of the order of notices, which have all that it was told
+  abbrev pub after_look : View M C R → Bool → List (Entry C R) → List Notice → View M C R
+  after_look v holding es ns = record { opening = v.opening; first = v.first; holding = holding; seen = es; told = []; notices = ns; told_notices = []; passes = v.passes }
+
+  -- with this seen of the history alone
+  abbrev pub with_seen : View M C R → List (Entry C R) → View M C R
+  with_seen v es = record { opening = v.opening; first = v.first; holding = v.holding; seen = es; told = []; notices = v.notices; told_notices = v.told_notices; passes = v.passes }
 
   -- one entry more, of its first pass
   abbrev pub after_turn : View M C R → C → R → View M C R
   after_turn v c r = let e = entry (number_of v.passes) c r in
-      record { opening = v.opening; first = v.first; holding = false; seen = v.seen ++ e ∷ []; told = []; passes = add_call v.passes e; posts = v.posts; takes = v.takes }
+      record { opening = v.opening; first = v.first; holding = false; seen = v.seen ++ e ∷ []; told = []; notices = v.notices; told_notices = v.told_notices; passes = add_call v.passes e }
 
-  -- one post more, of the call that ends what it has seen
-  abbrev pub after_post : View M C R → ℕ → ℕ → ℕ → View M C R
-  after_post v server bits found = record {
-    opening = v.opening;
-    first = v.first;
-    holding = v.holding;
-    seen = v.seen;
-    told = v.told;
-    passes = v.passes;
-    posts = v.posts ++ record { server = server; bits = bits; found = found; place = (v.first + length v.seen) - 1 } ∷ [];
-    takes = v.takes;
-  }
+  -- one notice more, of its first pass, behind these
+  abbrev pub after_notice : View M C R → List Notice → Notice → View M C R
+  after_notice v before n = record { opening = v.opening; first = v.first; holding = v.holding; seen = v.seen; told = v.told; notices = before ++ n ∷ []; told_notices = []; passes = add_notice v.passes n }
 
-  -- one take more, with this seen
-  abbrev pub after_take : View M C R → List (Entry C R) → ℕ → ℕ → View M C R
-  after_take v es server bits = record {
-    opening = v.opening;
-    first = v.first;
-    holding = v.holding;
-    seen = es;
-    told = [];
-    passes = v.passes;
-    posts = v.posts;
-    takes = v.takes ++ record { server = server; bits = bits } ∷ [];
-  }
+  -- a post of the call that ends what it has seen
+  abbrev pub post_of : View M C R → ℕ → ℕ → ℕ → Notice
+  post_of v server bits found = notice (number_of v.passes) server found (Post bits ((v.first + length v.seen) - 1))
+
+  abbrev pub take_of : View M C R → ℕ → ℕ → Notice
+  take_of v server found = notice (number_of v.passes) server found Take
 
   -- what was seen, and no pass
   abbrev pub note_view : View M C R → View M C R
-  note_view v = record { opening = v.opening; first = v.first; holding = false; seen = v.seen; told = []; passes = []; posts = []; takes = [] }
+  note_view v = record { opening = v.opening; first = v.first; holding = false; seen = v.seen; told = []; notices = v.notices; told_notices = []; passes = [] }
 
   -- told what a note has seen
   abbrev pub after_note : View M C R → View M C R → View M C R
-  after_note v w = record { opening = v.opening; first = v.first; holding = v.holding; seen = v.seen; told = w.seen; passes = v.passes; posts = v.posts; takes = v.takes }
+  after_note v w = record { opening = v.opening; first = v.first; holding = v.holding; seen = v.seen; told = w.seen; notices = v.notices; told_notices = w.notices; passes = v.passes }
 
   -- the first pass alone, and the others
   abbrev pub one_pass : View M C R → View M C R
-  one_pass v = record { opening = v.opening; first = v.first; holding = false; seen = v.seen; told = []; passes = std.take 1 v.passes; posts = []; takes = [] }
+  one_pass v = record { opening = v.opening; first = v.first; holding = false; seen = v.seen; told = []; notices = v.notices; told_notices = []; passes = std.take 1 v.passes }
 
   abbrev pub other_passes : View M C R → View M C R
-  other_passes v = record { opening = v.opening; first = v.first; holding = v.holding; seen = v.seen; told = v.told; passes = drop 1 v.passes; posts = v.posts; takes = v.takes }
+  other_passes v = record { opening = v.opening; first = v.first; holding = v.holding; seen = v.seen; told = v.told; notices = v.notices; told_notices = v.told_notices; passes = drop 1 v.passes }
 
-  -- with the passes, posts and takes of another seat, and told what that one has seen
+  -- with the passes of another seat, and told what that one has seen
   abbrev pub after_pass : View M C R → View M C R → View M C R
-  after_pass v w = record { opening = v.opening; first = v.first; holding = v.holding; seen = v.seen; told = w.seen; passes = v.passes ++ w.passes; posts = v.posts ++ w.posts; takes = v.takes ++ w.takes }
+  after_pass v w = record { opening = v.opening; first = v.first; holding = v.holding; seen = v.seen; told = w.seen; notices = v.notices; told_notices = w.notices; passes = v.passes ++ w.passes }
 
--- w is v after it found word 0 so: the history then begins with all that v saw and was told, is legal, and has just the own entries of each pass
+-- w is v after it found word 0 so: the history then begins with all that v saw and was told, is legal, and has just the own entries of each pass; and the like of the notices' order
 pub record Looks {M C R : Type 0} (steps : M → C → R → M → Type 0) (v : View M C R) (found : ℕ) (holding : Bool) (w : View M C R) : Type 0 where
-  pub is : w ≡ after_look v holding w.seen
+  pub is : w ≡ after_look v holding w.seen w.notices
   pub seen : IsPrefix v.seen w.seen
   pub told : IsPrefix v.told w.seen
   pub place : (m : M) → v.opening ≡ Some m → found / 2 ≡ v.first + length w.seen
   pub legal : (m : M) → v.opening ≡ Some m → IsLegal steps m w.seen
   pub own : OwnCalls w.seen w.passes
-  pub few : (s b : ℕ) → raised_in w.posts s b ≤ count_calls w.passes
+  pub few : (s b : ℕ) → raised_by w.passes s b ≤ count_calls w.passes
   pub short : count_calls w.passes ≤ length w.seen
+  pub notices : IsPrefix v.notices w.notices
+  pub told_notices : IsPrefix v.told_notices w.notices
+  pub order : IsOrder w.notices
+  pub own_notices : OwnNotices w.notices w.passes
+
+-- w is v after a notice, behind all that v saw of the order and was told: it found its word as those before it left it
+pub record Notices {M C R : Type 0} (v : View M C R) (n : Notice) (w : View M C R) : Type 0 where
+  pub before : List Notice
+  pub is : w ≡ after_notice v before n
+  pub seen : IsPrefix v.notices before
+  pub told : IsPrefix v.told_notices before
+  pub found : n.found ≡ pending_after before n.server
+  pub order : IsOrder w.notices
+  pub own : OwnNotices w.notices w.passes
 
 -- w is v after it took a pending word, which was found so: the history then has, for each bit, an entry that owes it
 pub record Takes {M C R : Type 0} (owes : R → ℕ) (v : View M C R) (server found : ℕ) (w : View M C R) : Type 0 where
-  pub is : w ≡ after_take v w.seen server found
-  pub seen : IsPrefix v.seen w.seen
-  pub told : IsPrefix v.told w.seen
+  pub es : List (Entry C R)
+  pub seen : IsPrefix v.seen es
+  pub told : IsPrefix v.told es
+  pub notices : Notices (with_seen v es) (take_of v server found) w
   pub eight_bits : found < 256
-  pub few : (b : ℕ) → taken_in w.takes server b ≤ 2 ^ 62
-  pub owed : (b : ℕ) → bit_at found b ≡ 1 → OwedIn owes server b w.seen
+  pub few : (b : ℕ) → taken_by w.passes server b ≤ 2 ^ 62
+  pub owed : (b : ℕ) → bit_at found b ≡ 1 → OwedIn owes server b es
 
--- the call that ends what was seen owes this
+-- the call that ends what was seen is the first pass's, and owes this
 abbrev pub LastOwes : {M C R : Type 0} → (R → ℕ) → View M C R → ℕ → Type 0
-LastOwes {M} {C} {R} owes v owed = (es : List (Entry C R)) × (e : Entry C R) × (v.seen ≡ es ++ e ∷ []) × (owed ≡ owes e.reply)
+LastOwes {M} {C} {R} owes v owed = (es : List (Entry C R)) × (e : Entry C R) × (v.seen ≡ es ++ e ∷ []) × (e.pass ≡ number_of v.passes) × (owed ≡ owes e.reply)
 
 module _ {M C R : Type 0} (steps : M → C → R → M → Type 0) where
   abbrev pub look : Step (Option (Home M C R)) → Standing M C R → ℕ → Standing M C R → Type 0
@@ -115,7 +122,7 @@ module _ {M C R : Type 0} where
       → (m' ≡ (after_turn m.0 l.command.value l.reply.value, c)) × OwnCalls m'.0.seen m'.0.passes
 
   abbrev pub post : Step (Option (Home M C R)) → Standing M C R → ℕ → Standing M C R → Type 0
-  post st m r m' = m' ≡ (after_post m.0 (st.word - 1) st.first r, m.1)
+  post st m r m' = Notices m.0 (post_of m.0 (st.word - 1) st.first r) m'.0 × (m'.1 ≡ m.1)
 
   abbrev pub take : (R → ℕ) → Step (Option (Home M C R)) → Standing M C R → ℕ → Standing M C R → Type 0
   take owes st m r m' = Takes owes m.0 (st.word - 1) r m'.0 × (m'.1 ≡ m.1)

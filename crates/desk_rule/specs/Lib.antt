@@ -1,5 +1,6 @@
 pub mod History
 pub mod Notices
+pub mod Passes
 pub mod Rule
 pub mod Kinds
 pub mod Seat

@@ -1,52 +1,126 @@
--- The account of notices. The pending word of server s is word s + 1; its bit b is that of subscription b of the server.
-use Rattle.std.specs.Prelude.{◌≡◌, ℕ, ◌+◌, ◌-◌, ◌*◌, ◌/◌, ◌^◌, ◌<◌, ◌==◌, List, if◌then◌else◌, bit_and, slice_index}
+-- The notices. The pending word of server s is word s + 1; its bit b is that of subscription b of the server.
+use Rattle.std.specs.Prelude.{◌≡◌, ℕ, ◌+◌, ◌-◌, ◌*◌, ◌/◌, ◌^◌, ◌==◌, List, [], ◌∷◌, filter, if◌then◌else◌, bit_and, bit_or}
 use Rattle.std.specs.Int.{bit_at}
+use Rattle.std.specs.List.{AllByRecursion}
 use mathlib.Core.Option.{some}
 use lib.ListN.{get_elem?}
 use Rattle.desk_rule.specs.declared.entry.Entry.{Entry}
-use Rattle.desk_rule.specs.declared.view.Post.{Post}
-use Rattle.desk_rule.specs.declared.view.Take.{Take}
+use Rattle.desk_rule.specs.declared.notice.Act.{Act}
+use Rattle.desk_rule.specs.declared.notice.Act.TheVariants.{Post, Take}
+use Rattle.desk_rule.specs.declared.notice.Notice.{Notice}
+use Rattle.desk_rule.specs.declared.view.PassLog.{PassLog}
 use Rattle.desk_rule.specs.History.{total_of}
 
 -- the bits of a mask that are the server's: eight
 abbrev pub bits_for : ℕ → ℕ → ℕ
 bits_for owed s = bit_and (owed / 2 ^ (8 * s)) 255
 
--- 1 where the post set the bit
-abbrev pub posted_at : ℕ → ℕ → Post → ℕ
-posted_at s b p = if p.server == s then bit_at p.bits b else 0
+abbrev pub notice : ℕ → ℕ → ℕ → Act → Notice
+notice pass server found act = record { pass = pass; server = server; found = found; act = act }
 
--- 1 where the post raised the bit: it found it 0 and set it
-abbrev pub raised_at : ℕ → ℕ → Post → ℕ
-raised_at s b p = if p.server == s then (bit_at p.bits b - bit_at p.found b) else 0
+-- what is done leaves of a word that was found so
+abbrev pub left_of : ℕ → Act → ℕ
+left_of found (Post bits place) = bit_or found bits
+left_of found Take = 0
 
--- 1 where the take gave the bit
-abbrev pub taken_at : ℕ → ℕ → Take → ℕ
-taken_at s b t = if t.server == s then bit_at t.bits b else 0
+-- the bits that it sets, and those that it gives
+abbrev pub set_by : Act → ℕ
+set_by (Post bits place) = bits
+set_by Take = 0
 
--- how often these posts raised the bit, and how often these takes gave it
-abbrev pub raised_in : List Post → ℕ → ℕ → ℕ
-raised_in posts s b = total_of (raised_at s b) posts
+abbrev pub given_by : ℕ → Act → ℕ
+given_by found (Post bits place) = 0
+given_by found Take = found
 
-abbrev pub taken_in : List Take → ℕ → ℕ → ℕ
-taken_in takes s b = total_of (taken_at s b) takes
+-- the pending word of each server
+abbrev pub Words : Type 0
+Words = ℕ → ℕ
+
+abbrev pub none_pending : Words
+none_pending s = 0
+
+-- the words after a notice, and after all of these in turn
+abbrev pub after_notice : Words → Notice → Words
+after_notice words n s = if n.server == s then left_of n.found n.act else words s
+
+abbrev pub words_after : Words → List Notice → Words
+words_after words [] = words
+words_after words (n ∷ ns) = words_after (after_notice words n) ns
+
+-- each found its server's word as those before it left it
+abbrev pub AreFound : Words → List Notice → Type 0
+AreFound words [] = Unit {0}
+AreFound words (n ∷ ns) = (n.found ≡ words n.server) × AreFound (after_notice words n) ns
+
+-- an order in which all notices came to words that had no bit set, and the word that they leave of a server
+abbrev pub IsOrder : List Notice → Type 0
+IsOrder ns = AreFound none_pending ns
+
+abbrev pub pending_after : List Notice → ℕ → ℕ
+pending_after ns s = words_after none_pending ns s
+
+-- 1 where the notice set the bit
+abbrev pub posted_at : ℕ → ℕ → Notice → ℕ
+posted_at s b n = if n.server == s then bit_at (set_by n.act) b else 0
+
+-- 1 where it raised the bit: it found it 0 and set it
+abbrev pub raised_at : ℕ → ℕ → Notice → ℕ
+raised_at s b n = if n.server == s then (bit_at (set_by n.act) b - bit_at n.found b) else 0
+
+-- 1 where it took the bit
+abbrev pub taken_at : ℕ → ℕ → Notice → ℕ
+taken_at s b n = if n.server == s then bit_at (given_by n.found n.act) b else 0
+
+-- how often these notices raised the bit, and how often they took it
+abbrev pub raised_in : List Notice → ℕ → ℕ → ℕ
+raised_in ns s b = total_of (raised_at s b) ns
+
+abbrev pub taken_in : List Notice → ℕ → ℕ → ℕ
+taken_in ns s b = total_of (taken_at s b) ns
+
+-- it sets bits
+abbrev pub IsPost : Act → Type 0
+IsPost (Post bits place) = Unit {0}
+IsPost Take = ⊥
+
+-- it sets bits that the call at this place owes
+abbrev pub IsPostAt : ℕ → Act → Type 0
+IsPostAt at (Post bits place) = place ≡ at
+IsPostAt at Take = ⊥
+
+-- none of these takes the server's word
+abbrev pub NoTakes : ℕ → List Notice → Type 0
+NoTakes s ns = AllByRecursion (λ (n : Notice). n.server ≡ s → IsPost n.act) ns
+
+-- the notices of one pass, in their order
+abbrev pub notices_by : ℕ → List Notice → List Notice
+notices_by p ns = filter (λ (n : Notice). n.pass == p) ns
 
 module _ {C R : Type 0} (owes : R → ℕ) where
-  -- the post's call is in the history at the post's place, and its reply owes the server just these bits
-  abbrev pub IsOwed : ℕ → List (Entry C R) → Post → Type 0
-  IsOwed first history p = (i : ℕ) × (e : Entry C R) × (get_elem? history i ≡ some e) × (p.place ≡ first + i) × (p.bits ≡ bits_for (owes e.reply) p.server)
+  -- what is done is a take, or it sets just the bits that are owed to the server by the call of the pass at its place, which is in the history
+  abbrev pub IsActOwed : ℕ → List (Entry C R) → ℕ → ℕ → Act → Type 0
+  IsActOwed first history pass server (Post bits place) = (i : ℕ) × (e : Entry C R) × (get_elem? history i ≡ some e) × (e.pass ≡ pass) × (place ≡ first + i) × (bits ≡ bits_for (owes e.reply) server)
+  IsActOwed first history pass server Take = Unit {0}
+
+  abbrev pub IsOwed : ℕ → List (Entry C R) → Notice → Type 0
+  IsOwed first history n = IsActOwed first history n.pass n.server n.act
 
   -- an entry of the history owes the bit
   abbrev pub OwedIn : ℕ → ℕ → List (Entry C R) → Type 0
   OwedIn s b history = (i : ℕ) × (e : Entry C R) × (get_elem? history i ≡ some e) × (bit_at (bits_for (owes e.reply) s) b ≡ 1)
 
--- over all views: how often the bit was raised, and how often it was taken
-abbrev pub all_raised : {V : Type 0} → (V → List Post) → ℕ → ℕ → List V → ℕ
-all_raised posts s b views = total_of (λ v. raised_in (posts v) s b) views
+module _ {C R : Type 0} where
+  -- what the notices of these passes weigh together
+  abbrev pub weigh_notices : (Notice → ℕ) → List (PassLog C R) → ℕ
+  weigh_notices weigh passes = total_of (λ (p : PassLog C R). total_of weigh p.notices) passes
 
-abbrev pub all_taken : {V : Type 0} → (V → List Take) → ℕ → ℕ → List V → ℕ
-all_taken takes s b views = total_of (λ v. taken_in (takes v) s b) views
+  -- how often these passes raised the bit, and how often they took it
+  abbrev pub raised_by : List (PassLog C R) → ℕ → ℕ → ℕ
+  raised_by passes s b = weigh_notices (raised_at s b) passes
 
--- the account: of each server and bit, raises are takes and the bit now
-abbrev pub Balance : {V : Type 0} → (V → List Post) → (V → List Take) → List ℕ → List V → Type 0
-Balance posts takes words views = (s b : ℕ) → s < 16 → all_raised posts s b views ≡ all_taken takes s b views + bit_at (slice_index words (s + 1)) b
+  abbrev pub taken_by : List (PassLog C R) → ℕ → ℕ → ℕ
+  taken_by passes s b = weigh_notices (taken_at s b) passes
+
+  -- the notices of each pass are just those that the order has of it
+  abbrev pub OwnNotices : List Notice → List (PassLog C R) → Type 0
+  OwnNotices ns passes = AllByRecursion (λ (p : PassLog C R). notices_by p.pass ns ≡ p.notices) passes

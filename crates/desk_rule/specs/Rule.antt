@@ -7,14 +7,14 @@ use mathlib.Core.List.{IsPrefix}
 use lib.ListN.{get_elem?}
 use Rattle.atomic_table.specs.Table.{State}
 use Rattle.desk_rule.specs.declared.entry.Entry.{Entry}
-use Rattle.desk_rule.specs.declared.entry.PassCalls.{PassCalls}
-use Rattle.desk_rule.specs.declared.view.Post.{Post}
-use Rattle.desk_rule.specs.declared.view.Take.{Take}
+use Rattle.desk_rule.specs.declared.notice.Notice.{Notice}
+use Rattle.desk_rule.specs.declared.view.PassLog.{PassLog}
 use Rattle.desk_rule.specs.declared.view.View.{View}
 use Rattle.desk_rule.specs.declared.table.Home.{Home}
 use Rattle.desk_rule.specs.declared.table.LastCall.{LastCall}
-use Rattle.desk_rule.specs.History.{calls_by, count_calls, fresh, Run, total_of, weigh_all}
-use Rattle.desk_rule.specs.Notices.{Balance, IsOwed, raised_in}
+use Rattle.desk_rule.specs.History.{calls_by, count_calls, Run, total_of, weigh_all}
+use Rattle.desk_rule.specs.Notices.{IsOrder, IsOwed, notices_by, pending_after, raised_by, weigh_notices}
+use Rattle.desk_rule.specs.Passes.{fresh}
 
 -- the low bit of word 0, by the seat that holds the turn
 abbrev pub turn_bit : maybe.Option ℕ → ℕ
@@ -24,17 +24,11 @@ turn_bit (some j) = 1
 module _ {M C R : Type 0} where
   -- the view of the first seat, where all passes sit
   abbrev pub opening_view : M → ℕ → ℕ → View M C R
-  opening_view m first passes = record { opening = Some m; first = first; holding = false; seen = []; told = []; passes = fresh passes; posts = []; takes = [] }
+  opening_view m first passes = record { opening = Some m; first = first; holding = false; seen = []; told = []; notices = []; told_notices = []; passes = fresh passes }
 
   -- the view of a seat that another took in
   abbrev pub spent_view : View M C R
-  spent_view = record { opening = None; first = 0; holding = false; seen = []; told = []; passes = []; posts = []; takes = [] }
-
-  abbrev pub posts_of : View M C R → List Post
-  posts_of v = v.posts
-
-  abbrev pub takes_of : View M C R → List Take
-  takes_of v = v.takes
+  spent_view = record { opening = None; first = 0; holding = false; seen = []; told = []; notices = []; told_notices = []; passes = [] }
 
   abbrev pub pass_count : View M C R → ℕ
   pass_count v = length v.passes
@@ -42,29 +36,33 @@ module _ {M C R : Type 0} where
   abbrev pub weight_of : (Entry C R → ℕ) → View M C R → ℕ
   weight_of weigh v = weigh_all weigh v.passes
 
+  abbrev pub notice_weight_of : (Notice → ℕ) → View M C R → ℕ
+  notice_weight_of weigh v = weigh_notices weigh v.passes
+
   -- the slot has the machine, unless a seat holds the turn
   abbrev pub IsAtHome : M → List (maybe.Option (Option (Home M C R))) → maybe.Option ℕ → Type 0
   IsAtHome m homes none = (l : Option (LastCall C R)) × (homes ≡ some (Some record { machine = m; last = l }) ∷ [])
   IsAtHome m homes (some j) = homes ≡ none ∷ []
 
--- what the rule says of the seat j with the view v, by the whole history, the holder of the turn and the seat that each pass sits at
-pub record Seated {M C R : Type 0} (owes : R → ℕ) (opening : M) (first : ℕ) (history : List (Entry C R)) (turn : maybe.Option ℕ) (seat_of : ℕ → ℕ) (passes j : ℕ) (v : View M C R) : Type 0 where
+-- what the rule says of the seat j with the view v, by the whole history, the order of all notices, the holder of the turn and the seat that each pass sits at
+pub record Seated {M C R : Type 0} (opening : M) (first : ℕ) (history : List (Entry C R)) (order : List Notice) (turn : maybe.Option ℕ) (seat_of : ℕ → ℕ) (passes j : ℕ) (v : View M C R) : Type 0 where
   pub opened : (m : M) → v.opening ≡ Some m → (m ≡ opening) × (v.first ≡ first)
   -- what it saw and was told begins the history; who holds the turn has seen all of it
   pub seen : IsPrefix v.seen history
   pub told : IsPrefix v.told history
   pub holds : v.holding ≡ true → (turn ≡ some j) × (v.seen ≡ history)
-  -- each pass that sits here has just its own entries
-  pub own : AllByRecursion (λ (p : PassCalls C R). (calls_by p.pass history ≡ p.calls) × (seat_of p.pass ≡ j) × (p.pass < passes)) v.passes
-  -- each post is of a call that is in the history and owes it
-  pub owed : AllByRecursion (IsOwed owes first history) v.posts
-  -- no bit was raised here more often than the passes here called, and where no pass sits nothing was taken
-  pub few : (s b : ℕ) → raised_in v.posts s b ≤ count_calls v.passes
-  pub idle : length v.passes ≡ 0 → v.takes ≡ []
+  -- and of the notices it begins their order
+  pub notices : IsPrefix v.notices order
+  pub told_notices : IsPrefix v.told_notices order
+  -- each pass that sits here has just its own entries, and its own notices
+  pub own : AllByRecursion (λ (p : PassLog C R). (calls_by p.pass history ≡ p.calls) × (notices_by p.pass order ≡ p.notices) × (seat_of p.pass ≡ j) × (p.pass < passes)) v.passes
+  -- no bit was raised here more often than the passes here called
+  pub few : (s b : ℕ) → raised_by v.passes s b ≤ count_calls v.passes
 
--- the rule: there is one legal history, of which each seat knows a beginning, and the account of notices is exact
+-- the rule: there is one legal history, and one order of all notices, of which each seat knows a beginning; the pending words are as the notices left them
 pub record RuleHolds {M C R : Type 0} (steps : M → C → R → M → Type 0) (owes : R → ℕ) (opening : M) (first passes : ℕ) (s : State (Option (Home M C R)) (View M C R)) : Type 0 where
   pub history : List (Entry C R)
+  pub order : List Notice
   pub machine : M
   pub turn : maybe.Option ℕ
   pub seat_of : ℕ → ℕ
@@ -74,10 +72,14 @@ pub record RuleHolds {M C R : Type 0} (steps : M → C → R → M → Type 0) (
   pub legal : Run steps opening history machine
   pub home : IsAtHome machine s.homes turn
   pub holder : (j : ℕ) → turn ≡ some j → (v : View M C R) × (get_elem? s.views j ≡ some v) × (v.holding ≡ true) × (0 < length v.passes)
-  -- all passes sit somewhere, and each entry is of one of them
+  -- all passes sit somewhere, and each entry and each notice is of one of them
   pub all_passes : total_of pass_count s.views ≡ passes
   pub all_calls : (weigh : Entry C R → ℕ) → total_of (weight_of weigh) s.views ≡ total_of weigh history
-  pub balance : Balance posts_of takes_of s.words s.views
+  pub all_notices : (weigh : Notice → ℕ) → total_of (notice_weight_of weigh) s.views ≡ total_of weigh order
+  pub found : IsOrder order
+  pub pending : (i : ℕ) → i < 16 → slice_index s.words (i + 1) ≡ pending_after order i
+  -- each post is of a call that is in the history and owes it
+  pub owed : AllByRecursion (IsOwed owes first history) order
   -- only the bits 0 to 7 of a pending word are ever set
   pub eight_bits : (i : ℕ) → i < 16 → slice_index s.words (i + 1) < 256
-  pub seated : (j : ℕ) (v : View M C R) → get_elem? s.views j ≡ some v → Seated owes opening first history turn seat_of passes j v
+  pub seated : (j : ℕ) (v : View M C R) → get_elem? s.views j ≡ some v → Seated opening first history order turn seat_of passes j v

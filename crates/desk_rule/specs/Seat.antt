@@ -1,14 +1,17 @@
 -- A seat at the table.
-use Rattle.std.specs.Prelude.{◌≡◌, ℕ, ◌≤◌, ◌<◌, ◌^◌, true, List, [], ◌∷◌, ◌++◌, length, Option, Some, is_some}
+use Rattle.std.specs.Prelude.{◌≡◌, ℕ, ◌≤◌, ◌<◌, ◌^◌, true, List, [], ◌∷◌, ◌++◌, length, Option, Some, is_some, slice_index}
 use mathlib.Core.List.{IsPrefix}
+use Rattle.std.specs.List.{AllByRecursion}
 use Rattle.atomic_table.specs.Seated.{TableId}
 use Rattle.atomic_table.specs.declared.shared.Seat.{Seat}
 use Rattle.desk_rule.specs.declared.entry.Entry.{Entry}
 use Rattle.desk_rule.specs.declared.table.Home.{Home}
 use Rattle.desk_rule.specs.declared.table.LastCall.{LastCall}
 use Rattle.desk_rule.specs.declared.view.View.{View}
-use Rattle.desk_rule.specs.History.{count_calls, entry, number_of, OwnCalls, Run, total_of, weigh_all}
-use Rattle.desk_rule.specs.Notices.{raised_in}
+use Rattle.desk_rule.specs.declared.notice.Notice.{Notice}
+use Rattle.desk_rule.specs.History.{count_calls, entry, OwnCalls, Run, total_of, weigh_all}
+use Rattle.desk_rule.specs.Notices.{IsOrder, IsOwed, OwnNotices, pending_after, raised_by, weigh_notices}
+use Rattle.desk_rule.specs.Passes.{number_of}
 
 abbrev pub SeatOf : Type 0 → Type 0 → Type 0 → Type 0
 SeatOf M C R = Seat (Option (Home M C R)) (View M C R)
@@ -29,7 +32,7 @@ pub record HoldsTurn {M C R : Type 0} (steps : M → C → R → M → Type 0) (
   pub home : Home M C R
   pub out : p.me.1 ≡ (0, Some home) ∷ []
   pub machine : (m : M) → p.me.0.opening ≡ Some m → Run steps m p.me.0.seen home.machine
-  pub few : (s b : ℕ) → raised_in p.me.0.posts s b ≤ count_calls p.me.0.passes
+  pub few : (s b : ℕ) → raised_by p.me.0.passes s b ≤ count_calls p.me.0.passes
   pub short : count_calls p.me.0.passes < 2 ^ 62
 
 -- the machine is back in the slot, as its last call left it, and the turn is still held
@@ -43,10 +46,17 @@ pub record EndsTurn {M C R : Type 0} (steps : M → C → R → M → Type 0) (p
   pub said : home.last ≡ Some last
   pub machine : (m : M) → p.me.0.opening ≡ Some m → Run steps m (p.me.0.seen ++ entry (number_of p.me.0.passes) last.command.value last.reply.value ∷ []) home.machine
 
--- what is left of a table where all passes sat at one seat: the machine after one legal history, which begins with what the seat had seen, and has the passes' entries and no others
-pub record IsClosed {M C R : Type 0} (steps : M → C → R → M → Type 0) (opening : M) (v : View M C R) (machine : M) : Type 0 where
+-- what is left of a table where all passes sat at one seat: the machine after one legal history, and the pending words after one order of all notices; each begins with what the seat had seen, and has the passes' entries, or notices, and no others; each post is of a call of the history that owes it
+pub record IsClosed {M C R : Type 0} (steps : M → C → R → M → Type 0) (owes : R → ℕ) (opening : M) (first : ℕ) (v : View M C R) (machine : M) (pending : List ℕ) : Type 0 where
   pub history : List (Entry C R)
   pub legal : Run steps opening history machine
   pub seen : IsPrefix v.seen history
   pub own : OwnCalls history v.passes
   pub no_others : (weigh : Entry C R → ℕ) → total_of weigh history ≡ weigh_all weigh v.passes
+  pub order : List Notice
+  pub found : IsOrder order
+  pub owed : AllByRecursion (IsOwed owes first history) order
+  pub left : (s : ℕ) → s < 16 → slice_index pending s ≡ pending_after order s
+  pub notices : IsPrefix v.notices order
+  pub own_notices : OwnNotices order v.passes
+  pub no_other_notices : (weigh : Notice → ℕ) → total_of weigh order ≡ weigh_notices weigh v.passes

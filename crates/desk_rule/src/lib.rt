@@ -10,6 +10,7 @@
 mod entry;
 mod law;
 mod machine;
+mod notice;
 mod play;
 mod seat;
 mod step;
@@ -17,9 +18,13 @@ mod table;
 mod turn;
 mod view;
 
-pub use entry::{Entry, PassCalls};
-pub use law::{bits_are_owed, histories_agree, notices_balance, one_seat_holds, posts_are_owed};
+pub use entry::Entry;
+pub use law::{
+    bits_are_owed, histories_agree, notices_agree, notices_balance, one_seat_holds,
+    posted_bits_stay, posts_are_owed, words_follow,
+};
 pub use machine::Machine;
+pub use notice::{Act, Notice};
 pub use play::{EndTurn, Hold, JoinNote, JoinPass, Look, PostBits, SplitNote, SplitPass, TakeBits};
 pub use seat::{join_note, join_pass, split_note, split_pass};
 pub use step::{look, post, take};
@@ -28,4 +33,4 @@ pub use table::{
     close_table, new_table,
 };
 pub use turn::{end_turn, hold, machine_back, machine_out};
-pub use view::{Post, Take, View};
+pub use view::{PassLog, View};

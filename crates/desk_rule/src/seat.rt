@@ -1,8 +1,8 @@
 //! Seats that are split, and seats that are joined.
 
 ghost use Rattle.std.specs.Prelude.{◌≡◌, ℕ, ◌+◌, ◌<◌, [], false};
-ghost use Rattle.desk_rule.specs.History.{fresh};
 ghost use Rattle.desk_rule.specs.Kinds.{after_note, after_pass, note_view, one_pass, other_passes};
+ghost use Rattle.desk_rule.specs.Passes.{fresh};
 ghost use Rattle.desk_rule.specs.Seat.{IsAtTable, SameSeat};
 
 use crate::machine::Machine;
@@ -34,15 +34,15 @@ pub fn split_note<M: Machine>(shared: &DeskShared<M>, seat: &mut DeskSeat<M>) ->
 pub fn join_note<M: Machine>(shared: &DeskShared<M>, seat: &mut DeskSeat<M>, note: DeskSeat<M>)
     requires at { IsAtTable shared.now.table_id seat.old }
     requires note { IsAtTable shared.now.table_id note × (note.me.1 ≡ []) }
-    requires no_pass { (note.me.0.passes ≡ []) × (note.me.0.posts ≡ []) × (note.me.0.takes ≡ []) × (note.me.0.holding ≡ false) }
+    requires no_pass { (note.me.0.passes ≡ []) × (note.me.0.holding ≡ false) }
     ensures same { SameSeat seat.old seat.new }
     ensures told { seat.new.me ≡ (after_note seat.old.me.0 note.me.0, seat.old.me.1) }
 {
     shared.join_seat::<JoinNote>(seat, note);
 }
 
-/// The passes of the other seat, with their posts and takes, sit here from now on. The seat is told what the other has seen,
-/// whose view is spent.
+/// The passes of the other seat sit here from now on, with all that they did. The seat is told what the other has seen, whose
+/// view is spent.
 pub fn join_pass<M: Machine>(shared: &DeskShared<M>, seat: &mut DeskSeat<M>, other: DeskSeat<M>)
     requires at { IsAtTable shared.now.table_id seat.old }
     requires other { IsAtTable shared.now.table_id other × (other.me.1 ≡ []) }

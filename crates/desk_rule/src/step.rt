@@ -2,8 +2,8 @@
 
 ghost use Rattle.std.specs.Prelude.{◌≡◌, ℕ, ◌^◌, ◌<◌, ◌≤◌, true, length, is_some};
 ghost use Rattle.desk_rule.specs.History.{Stepped, count_calls};
-ghost use Rattle.desk_rule.specs.Kinds.{LastOwes, Looks, Takes, after_post};
-ghost use Rattle.desk_rule.specs.Notices.{bits_for, raised_in};
+ghost use Rattle.desk_rule.specs.Kinds.{LastOwes, Looks, Notices, Takes, post_of};
+ghost use Rattle.desk_rule.specs.Notices.{bits_for, raised_by};
 ghost use Rattle.desk_rule.specs.Seat.{IsAtTable, SameSeat};
 
 use crate::machine::Machine;
@@ -21,7 +21,8 @@ pub fn look<M: Machine>(shared: &DeskShared<M>, seat: &mut DeskSeat<M>) -> u64
     shared.load::<Look>(seat, 0)
 }
 
-/// Sets bits of a server's pending word, which the call that ends what the seat has seen owes. Gives the word as it was.
+/// Sets bits of a server's pending word, which the call that ends what the seat has seen owes. Gives the word as it was, which is
+/// as the notices before this one left it.
 pub fn post<M: Machine>(
     shared: &DeskShared<M>,
     seat: &mut DeskSeat<M>,
@@ -31,21 +32,22 @@ pub fn post<M: Machine>(
     requires at { IsAtTable shared.now.table_id seat.old }
     requires server { server < 16 }
     requires opened { is_some seat.old.me.0.opening ≡ true }
+    requires one_pass { length seat.old.me.0.passes ≡ 1 }
     requires owed { (owed : ℕ) × LastOwes M.owes seat.old.me.0 owed × (bits ≡ bits_for owed server) × (bits < 256) }
-    requires few { (b : ℕ) → raised_in seat.old.me.0.posts server b < count_calls seat.old.me.0.passes }
-    ensures same { SameSeat seat.old seat.new }
+    requires few { (b : ℕ) → raised_by seat.old.me.0.passes server b < count_calls seat.old.me.0.passes }
+    ensures same { SameSeat seat.old seat.new × (seat.new.me.1 ≡ seat.old.me.1) }
     ensures word { result < 2 ^ 64 }
-    ensures posted { seat.new.me ≡ (after_post seat.old.me.0 server bits result, seat.old.me.1) }
+    ensures posted { Notices seat.old.me.0 (post_of seat.old.me.0 server bits result) seat.new.me.0 }
 {
     shared.fetch_or::<PostBits>(seat, server + 1, bits)
 }
 
-/// Swaps a server's pending word for 0. Gives the word as it was; for each of its bits the seat has then seen a call that
-/// owes it.
+/// Swaps a server's pending word for 0. Gives the word as it was, which is as the notices before this one left it; for each of
+/// its bits the seat has then seen a call that owes it.
 pub fn take<M: Machine>(shared: &DeskShared<M>, seat: &mut DeskSeat<M>, server: usize) -> u64
     requires at { IsAtTable shared.now.table_id seat.old }
     requires server { server < 16 }
-    requires some_pass { 0 < length seat.old.me.0.passes }
+    requires one_pass { length seat.old.me.0.passes ≡ 1 }
     ensures same { SameSeat seat.old seat.new × (seat.new.me.1 ≡ seat.old.me.1) }
     ensures taken { Takes M.owes seat.old.me.0 server result seat.new.me.0 }
 {

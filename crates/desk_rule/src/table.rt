@@ -4,7 +4,7 @@ ghost use Rattle.std.specs.Prelude.{◌≡◌, ◌≤◌, ◌<◌, ◌+◌, ◌^
 ghost use Rattle.std.specs.Int.{bit_at};
 ghost use Rattle.std.specs.Mem.Slots.{slots_items, slots_len, IsFull};
 ghost use Rattle.desk_rule.specs.History.{Stepped};
-ghost use Rattle.desk_rule.specs.Notices.{raised_in, taken_in};
+ghost use Rattle.desk_rule.specs.Notices.{raised_by, taken_by};
 ghost use Rattle.desk_rule.specs.Rule.{opening_view};
 ghost use Rattle.desk_rule.specs.Seat.{IsAtTable, IsClosed};
 
@@ -135,14 +135,15 @@ fn pending_words<S>(closed: &Closed<S, Global>) -> [u64; 16]
     pending
 }
 
-/// Ends the table with the seat where all passes sit: gives the machine after the history, and the pending words.
+/// Ends the table with the seat where all passes sit: gives the machine after the history, and the pending words after all
+/// notices.
 pub fn close_table<M: Machine>(table: DeskTable<M>, seat: DeskSeat<M>) -> (M, [u64; 16])
     requires at { IsAtTable table.shared.table_id seat }
     requires resting { seat.me.0.holding ≡ false }
     requires all { table.shared.key.passes ≤ length seat.me.0.passes }
-    ensures machine { IsClosed (Stepped M.stands M.steps) table.shared.key.machine.value seat.me.0 result.0 }
-    ensures balance { (server bit : ℕ) → server < 16 → raised_in seat.me.0.posts server bit ≡ taken_in seat.me.0.takes server bit + bit_at (slice_index result.1 server) bit }
-    ensures few { (server bit : ℕ) → server < 16 → raised_in seat.me.0.posts server bit ≤ 2 ^ 62 }
+    ensures closed { IsClosed (Stepped M.stands M.steps) M.owes table.shared.key.machine.value table.shared.key.first seat.me.0 result.0 result.1 }
+    ensures balance { (server bit : ℕ) → server < 16 → raised_by seat.me.0.passes server bit ≡ taken_by seat.me.0.passes server bit + bit_at (slice_index result.1 server) bit }
+    ensures few { (server bit : ℕ) → server < 16 → raised_by seat.me.0.passes server bit ≤ 2 ^ 62 }
 {
     let mut closed = table.close_with(seat);
     let slot = closed.take(0);

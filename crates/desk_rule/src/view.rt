@@ -1,26 +1,17 @@
 //! What a seat at the table knows. No value of these types is ever made: they are what proofs speak of.
 
-use crate::entry::{Entry, PassCalls};
+use crate::entry::Entry;
+use crate::notice::Notice;
 use std::collections::LinkedList;
 
-/// Bits that were set in a server's pending word.
-pub struct Post {
-    /// The server, below 16.
-    pub server: u64,
-    /// The bits, of which bit k is that of its subscription k.
-    pub bits: u64,
-    /// The word as it was.
-    pub found: u64,
-    /// The place of the call that owed them.
-    pub place: u64,
-}
-
-/// Bits that were taken out of a server's pending word, which is 0 then.
-pub struct Take {
-    /// The server, below 16.
-    pub server: u64,
-    /// The bits.
-    pub bits: u64,
+/// What one pass did.
+pub struct PassLog<C, R> {
+    /// The number of the pass.
+    pub pass: u64,
+    /// Its calls, in their order.
+    pub calls: LinkedList<Entry<C, R>>,
+    /// Its posts and takes, in their order.
+    pub notices: LinkedList<Notice>,
 }
 
 /// What one seat knows, and what was done at it.
@@ -35,10 +26,10 @@ pub struct View<M, C, R> {
     pub seen: LinkedList<Entry<C, R>>,
     /// How far a note says that the history goes, which it hasn't looked up yet.
     pub told: LinkedList<Entry<C, R>>,
-    /// The passes that sit here, each with its own calls.
-    pub passes: LinkedList<PassCalls<C, R>>,
-    /// Its posts.
-    pub posts: LinkedList<Post>,
-    /// Its takes.
-    pub takes: LinkedList<Take>,
+    /// How far it has seen the order of all notices.
+    pub notices: LinkedList<Notice>,
+    /// How far a note says that the order goes.
+    pub told_notices: LinkedList<Notice>,
+    /// The passes that sit here, each with what it did.
+    pub passes: LinkedList<PassLog<C, R>>,
 }

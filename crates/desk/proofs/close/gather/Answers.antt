@@ -3,7 +3,7 @@ use Rattle.desk_rule.specs.History.{Stepped}
 use Rattle.desk_rule.specs.Kinds.{after_pass, Looks}
 use Rattle.desk_rule.proofs.ListLemmas.{nil_of, prefix_refl}
 use Rattle.desk.specs.Pass.{desk_of}
-use Rattle.desk.proofs.CloseLemmas.{all_last, gathers_more, Seen}
+use Rattle.desk.proofs.CloseLemmas.{all_last, gathers_more, Noticed, Seen}
 use Rattle.desk.proofs.SightLemmas.{rests_facts}
 use Rattle.desk.proofs.close.gather.Goals as goal
 
@@ -25,6 +25,10 @@ loop-pass-preserved g c = let i = c.loop-pass.invariant in let p = c.in-Some.pas
           (subst (λ m. Looks (Stepped g.M.Machine.stands g.M.Machine.steps) m.0 c.look.result m.0.holding c.look.new.seat.me.0) {y = (after_pass c.loop-pass.seat.me.0 p.seat.me.0, c.loop-pass.seat.me.1)} join.both c.look.ensures.looks) p.raises_counted c.add_rows.ensures p.takes_counted c.add_rows-in-Some.ensures,
       both.0,
     )
+
+pub returns-clause-notices : goal.returns-clause-notices
+returns-clause-notices g c = let none = c.in_default.ensures.cases.0 in let long = c.loop-pass.others.ok.0 in let seen = c.loop-pass.seat.me.0.notices in
+    c.loop-pass.invariant.0.noticed seen (prefix_refl seen) (subst (Noticed seen) (sym (nil_of c.loop-pass.others.items (omega arith))) tt)
 
 pub returns-clause-seen : goal.returns-clause-seen
 returns-clause-seen g c = let none = c.in_default.ensures.cases.0 in let long = c.loop-pass.others.ok.0 in let seen = c.loop-pass.seat.me.0.seen in

@@ -1,5 +1,5 @@
 use Rattle.std.proofs.Common.{◌-◌, ap, arith, ◌∙◌}
-use Rattle.desk_rule.specs.History.{fresh}
+use Rattle.desk_rule.specs.Passes.{fresh}
 use Rattle.desk.proofs.OpenLemmas.{cut_off, dealt_more, is_new_pass, left_others, one_back}
 use Rattle.desk.proofs.open.deal.Goals as goal
 

@@ -1,5 +1,5 @@
 use Rattle.std.proofs.Common.{arith, ◌+◌, suc, ◌∙◌, ap, ◌≡◌}
-use Rattle.desk_rule.specs.History.{fresh}
+use Rattle.desk_rule.specs.Passes.{fresh}
 use Rattle.desk_rule.proofs.SeatLemmas.{pass_splits}
 use Rattle.desk_rule.proofs.seat.split_pass.Goals as goal
 

@@ -2,20 +2,21 @@ use Rattle.std.proofs.Common.{ap, ◌+◌, ◌∙◌, sym}
 use Rattle.std.specs.Prelude.{slice_index}
 use Rattle.std.specs.Int.{bit_at}
 use Rattle.std.specs.Mem.Slots.{slots_items}
-use Rattle.desk_rule.specs.Notices.{taken_in}
+use Rattle.desk_rule.specs.Notices.{taken_by}
 use Rattle.desk_rule.proofs.TableLemmas.{closed_machine, final_machine, final_notices, some_is}
 use Rattle.desk_rule.proofs.table.close_table.Goals as goal
 
 pub machine_of-requires : goal.machine_of-requires
-machine_of-requires g c = let e = final_machine _ _ _ _ _ _ _ _ _ _ c.close_with-closed.ensures.values.2 c.requires.resting c.requires.all c.take-slot.ensures.value in some_is _ _ e.1
+machine_of-requires g c = let e = final_machine _ _ _ _ _ _ _ _ _ _ _ c.close_with-closed.ensures.values.2 c.requires.resting c.requires.all c.take-slot.ensures.value (λ t small. c.pending_words-pending.ensures t small ∙ ap (λ w. slice_index (slots_items w) (t + 1)) c.take-slot.ensures.others.3) in some_is _ _ e.1
 
-pub returns-clause-machine : goal.returns-clause-machine
-returns-clause-machine g c =
-    closed_machine _ _ _ _ _ (final_machine _ _ _ _ _ _ _ _ _ _ c.close_with-closed.ensures.values.2 c.requires.resting c.requires.all c.take-slot.ensures.value) c.machine_of.ensures
+pub returns-clause-closed : goal.returns-clause-closed
+returns-clause-closed g c =
+    closed_machine _ _ _ _ _ _ _ _ (final_machine _ _ _ _ _ _ _ _ _ _ _ c.close_with-closed.ensures.values.2 c.requires.resting c.requires.all c.take-slot.ensures.value
+    (λ t small. c.pending_words-pending.ensures t small ∙ ap (λ w. slice_index (slots_items w) (t + 1)) c.take-slot.ensures.others.3)) c.machine_of.ensures
 
 pub returns-clause-balance : goal.returns-clause-balance
 returns-clause-balance g c server bit small = (final_notices _ _ _ _ _ _ _ _ _ c.close_with-closed.ensures.values.2 c.requires.all server bit small).0
-    ∙ ap (λ n. taken_in c.args.seat.me.0.takes server bit + bit_at n bit) (sym (c.pending_words-pending.ensures server small ∙ ap (λ w. slice_index (slots_items w) (server + 1)) c.take-slot.ensures.others.3))
+    ∙ ap (λ n. taken_by c.args.seat.me.0.passes server bit + bit_at n bit) (sym (c.pending_words-pending.ensures server small ∙ ap (λ w. slice_index (slots_items w) (server + 1)) c.take-slot.ensures.others.3))
 
 pub returns-clause-few : goal.returns-clause-few
 returns-clause-few g c server bit small = (final_notices _ _ _ _ _ _ _ _ _ c.close_with-closed.ensures.values.2 c.requires.all server bit small).1

@@ -1,7 +1,7 @@
-use Rattle.std.proofs.Common.{◌≡◌, ◌++◌, [], length, arith, ◌∙◌, ap, refl, sym}
+use Rattle.std.proofs.Common.{◌≡◌, ◌++◌, [], length, arith, ◌∙◌, ap, sym}
 use Rattle.std.specs.Option.{option_to_list}
 use Rattle.desk.specs.Pass.{desk_of}
-use Rattle.desk.proofs.CloseLemmas.{account_of, all_gathered, all_last, all_seen, history_of, length_gathered}
+use Rattle.desk.proofs.CloseLemmas.{account_of, all_gathered, all_last, all_noticed, all_seen, left_of_passes, length_gathered}
 use Rattle.desk.proofs.RowLemmas.{wraps_first}
 use Rattle.desk.proofs.close.Desk+M.close.Goals as goal
 
@@ -27,12 +27,14 @@ pub returns-clause-history : goal.returns-clause-history
 returns-clause-history g c =
     let items = sym c.passes.view_is ∙ (c.pop.ensures.items ∙ ap (λ o. c.pop.new.self.items ++ option_to_list o) c.unwrap-last.ensures) in
     let is = all_gathered c.args.passes c.pop.new.self.items c.unwrap-last.result _ items c.gather.ensures.passes in
-    let seen = c.gather.ensures.seen in
-    history_of (λ v e. e) g.M.Machine.stands g.M.Machine.steps _ _ c.args.passes c.gather.new.seat.me.0 c.close_table-machine.ensures.machine is
+    let seen = c.gather.ensures.seen in let noticed = c.gather.ensures.notices in
+    left_of_passes (λ v e. e) g.M.Machine.stands g.M.Machine.steps _ _ _ _ c.args.passes c.gather.new.seat.me.0 _ _ _ _ c.close_table-machine.ensures.closed is
     (λ h begins. all_seen h c.args.passes c.pop.new.self.items c.unwrap-last.result _ items begins seen.0 seen.1)
+    (λ ns begins. all_noticed ns c.args.passes c.pop.new.self.items c.unwrap-last.result _ items begins noticed.0 noticed.1) c.fill_rows.ensures.rows
 
 pub returns-clause-account : goal.returns-clause-account
 returns-clause-account g c =
     let items = sym c.passes.view_is ∙ (c.pop.ensures.items ∙ ap (λ o. c.pop.new.self.items ++ option_to_list o) c.unwrap-last.ensures) in
+    let is = all_gathered c.args.passes c.pop.new.self.items c.unwrap-last.result _ items c.gather.ensures.passes in
     let t = c.close_table-machine.ensures in let n = c.gather.ensures in
-    account_of c.gather.new.seat.me.0 c.unwrap-last.result.seat.me.0 c.args.passes c.pop.new.self.items c.unwrap-last.result _ _ _ _ items refl t.balance t.few n.counted.0 n.counted.1 n.raised n.taken c.fill_rows.ensures.long c.fill_rows.ensures.rows
+    account_of (λ v e. e) c.gather.new.seat.me.0 c.args.passes _ _ _ _ is t.balance t.few n.counted.0 n.counted.1 c.fill_rows.ensures.long c.fill_rows.ensures.rows

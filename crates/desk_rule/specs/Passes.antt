@@ -1,0 +1,36 @@
+-- What the passes did that sit at one seat.
+use Rattle.std.specs.Prelude.{ℕ, zero, suc, List, [], ◌∷◌, ◌++◌}
+use Rattle.desk_rule.specs.declared.entry.Entry.{Entry}
+use Rattle.desk_rule.specs.declared.notice.Notice.{Notice}
+use Rattle.desk_rule.specs.declared.view.PassLog.{PassLog}
+
+module _ {C R : Type 0} where
+  abbrev pub pass_log : ℕ → List (Entry C R) → List Notice → PassLog C R
+  pass_log n calls notices = record { pass = n; calls = calls; notices = notices }
+
+  -- n passes that have done nothing, of which the last has the number 0
+  abbrev pub fresh : ℕ → List (PassLog C R)
+  fresh zero = []
+  fresh (suc n) = pass_log n [] [] ∷ fresh n
+
+  -- the number, the calls and the notices of the first pass
+  abbrev pub number_of : List (PassLog C R) → ℕ
+  number_of [] = 0
+  number_of (p ∷ others) = p.pass
+
+  abbrev pub calls_of : List (PassLog C R) → List (Entry C R)
+  calls_of [] = []
+  calls_of (p ∷ others) = p.calls
+
+  abbrev pub notices_of : List (PassLog C R) → List Notice
+  notices_of [] = []
+  notices_of (p ∷ others) = p.notices
+
+  -- one more call, and one more notice, of the first pass
+  abbrev pub add_call : List (PassLog C R) → Entry C R → List (PassLog C R)
+  add_call [] e = []
+  add_call (p ∷ others) e = pass_log p.pass (p.calls ++ e ∷ []) p.notices ∷ others
+
+  abbrev pub add_notice : List (PassLog C R) → Notice → List (PassLog C R)
+  add_notice [] n = []
+  add_notice (p ∷ others) n = pass_log p.pass p.calls (p.notices ++ n ∷ []) ∷ others
