@@ -62,5 +62,5 @@ pub struct NoteOf<S, V: Sight> {
 /// The right to call a desk. It knows how far it has seen the history, and which of its entries are its own.
 pub type Pass<M> = PassOf<Slot<M>, DeskView<M>>;
 
-/// How far one pass had seen the history, for another to learn.
+/// How far one pass had seen the history and the order of notices, for another to learn.
 pub type Note<M> = NoteOf<Slot<M>, DeskView<M>>;
