@@ -10,8 +10,8 @@ use Rattle.ds_entry.specs.declared.item.Item.TheVariants.{Change as Changed, Flo
 use Rattle.ds_held.specs.Held.{Holding, held_items, held_changes, held_floors, held_count, floor_count, change_item, IsSound}
 use Rattle.ds_held.specs.Kept.{floored}
 use Rattle.ds_held.specs.Limits.{LimitsRecord, IsLimits}
-use Rattle.ds_held.specs.Marked.{MarkedHolding, mark_for, floor_mark_for, HasMarks}
 use Rattle.ds_held.proofs.HeldLemmas.{is_held}
+use Rattle.ds_marked.specs.Marked.{MarkedHolding, mark_for, floor_mark_for, HasMarks}
 use Rattle.ds_pattern.specs.declared.query.Query.{Query}
 use Rattle.ds_pattern.specs.Under.{is_under}
 use Rattle.ds_watch.specs.declared.masks.Masks.{Masks}

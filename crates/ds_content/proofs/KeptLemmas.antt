@@ -18,10 +18,10 @@ use Rattle.ds_entry.proofs.CoversLemmas.{same_key-refl, same_name, same_name-ref
 use Rattle.ds_join.specs.ItemTop.{IsTop}
 use Rattle.ds_join.specs.declared.merge.Merge.TheVariants.{Taken}
 use Rattle.ds_held.specs.Held.{Holding, held_items, held_for, floor_for, IsSound}
-use Rattle.ds_held.specs.Marked.{MarkedHolding, mark_for, floor_mark_for, HasMarks}
 use Rattle.ds_held.specs.Merge.{after_merge}
 use Rattle.ds_held.specs.Raise.{after_raise, at_kept_keys, stays}
 use Rattle.ds_held.proofs.HeldLemmas.{is_held, change_in}
+use Rattle.ds_marked.specs.Marked.{MarkedHolding, mark_for, floor_mark_for, HasMarks}
 use Rattle.ds_watch.specs.Mask.{padded}
 use Rattle.ds_watch.specs.Masks.{fresh}
 use Rattle.ds_watch.specs.Watching.{Watching}

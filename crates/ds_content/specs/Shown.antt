@@ -2,7 +2,7 @@
 use Rattle.std.specs.Prelude.{◌≡◌, ℕ, ◌≤◌, ◌⊎◌, Bool, true, false, List, [], ◌∷◌, length, take, filter, slice_index_or, Some, None}
 use Rattle.ds_entry.specs.declared.item.Item.{Item}
 use Rattle.ds_held.specs.Held.{held_items}
-use Rattle.ds_held.specs.Marked.{MarkedHolding}
+use Rattle.ds_marked.specs.Marked.{MarkedHolding}
 use Rattle.ds_watch.specs.Followed.{Followed}
 use Rattle.ds_watch.specs.declared.masks.Masks.{Masks}
 use Rattle.ds_content.specs.Content.{ContentRecord}

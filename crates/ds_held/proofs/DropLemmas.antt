@@ -7,7 +7,7 @@ use Rattle.std.specs.List.{slice_get, swap}
 use Rattle.ds_entry.specs.Change.{ChangeRecord}
 use Rattle.ds_entry.specs.Void.{voids}
 use Rattle.ds_entry.specs.declared.floor.Floor.{Floor}
-use Rattle.ds_held.specs.Beside.{marks_left}
+use Rattle.ds_held.specs.Kept.{marks_left}
 
 none_and : (n : ℕ) → 0 + n ≡ n
 none_and n = omega arith

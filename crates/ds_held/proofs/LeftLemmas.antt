@@ -1,10 +1,10 @@
--- What a floor leaves of changes in the order of their keys, and of marks beside them.
-use Rattle.std.proofs.Common.{◌≡◌, suc, ◌≤◌, List, [], ◌∷◌, length, not, true, false, cond, Bool, Option, Some, None, refl, sym, ap, ◌∙◌, arith}
+-- What a floor leaves of changes in the order of their keys.
+use Rattle.std.proofs.Common.{◌≡◌, ◌≤◌, List, [], ◌∷◌, length, not, true, false, cond, Bool, Option, Some, None, refl, sym, ap, ◌∙◌, arith}
 use Rattle.std.specs.List.{AllByRecursion}
 use Rattle.std.specs.List.Sorted.{IsStrictlySortedBy}
 use Rattle.std.specs.declared.cmp.Ordering.TheVariants.{Less}
 use Rattle.std.specs.Ordering.{eq_by_cmp, is_eq}
-use Rattle.std.specs.FinMap.{find, get, from_entries, get-from_entries, get-retain_keys, same_map}
+use Rattle.std.specs.FinMap.{find, get, get-from_entries, get-retain_keys, same_map}
 use Rattle.ds_names.specs.declared.key.Key.{Key}
 use Rattle.ds_names.specs.Key.{key_cmp}
 use Rattle.ds_names.proofs.OrderLemmas.{keys_total, exact_keys}
@@ -15,85 +15,50 @@ use Rattle.ds_entry.specs.declared.floor.Floor.{Floor}
 use Rattle.ds_entry.proofs.CoversLemmas.{same_key}
 use Rattle.ds_held.specs.Raise.{stays, at_kept_keys}
 use Rattle.ds_held.specs.Kept.{keyed, by_key, changes_of, AreKeysRising, left_by}
-use Rattle.ds_held.specs.Beside.{marked_keys, marks_beside, marks_left}
 use Rattle.ds_held.proofs.SearchLemmas.{rising_order}
 
-cond_none : {X : Type 0} (b : Bool) (o : Option X) → o ≡ None → cond b o None ≡ None
+pub cond_none : {X : Type 0} (b : Bool) (o : Option X) → o ≡ None → cond b o None ≡ None
 cond_none true o e = e
 cond_none false o e = refl
 
-module _ {M : Type 0} (f : Floor) where
+module _ (f : Floor) where
   -- a key below all of a list isn't found there
-  not_found : (q k : Key) (cs : List ChangeRecord) (ms : List M) → AllByRecursion (λ (d : ChangeRecord). key_cmp k d.key ≡ Less) cs → eq_by_cmp key_cmp q k ≡ true → find key_cmp q (marked_keys cs ms) ≡ None
-  not_found q k [] ms a t = refl
-  not_found q k (c ∷ cs) [] a t = refl
-  not_found q k (c ∷ cs) (m ∷ ms) a t =
-      ap (λ r. cond (is_eq r) (Some m) (find key_cmp q (marked_keys cs ms))) (ap (λ (z : Key). key_cmp z c.key) (same_key q k t) ∙ a.0) ∙ not_found q k cs ms a.1 t
+  not_found : (q k : Key) (cs : List ChangeRecord) → AllByRecursion (λ (d : ChangeRecord). key_cmp k d.key ≡ Less) cs → eq_by_cmp key_cmp q k ≡ true → find key_cmp q (by_key cs) ≡ None
+  not_found q k [] a t = refl
+  not_found q k (c ∷ cs) a t =
+      ap (λ r. cond (is_eq r) (Some c) (find key_cmp q (by_key cs))) (ap (λ (z : Key). key_cmp z c.key) (same_key q k t) ∙ a.0) ∙ not_found q k cs a.1 t
 
-  abbrev found_left : Key → List ChangeRecord → List M → Option M
-  found_left q cs ms = find key_cmp q (marked_keys (left_by f cs) (marks_left f cs ms))
+  abbrev found_left : Key → List ChangeRecord → Option ChangeRecord
+  found_left q cs = find key_cmp q (by_key (left_by f cs))
 
-  find_left : (q : Key) (cs : List ChangeRecord) (ms : List M) → length ms ≡ length cs → IsStrictlySortedBy change_cmp cs → found_left q cs ms ≡ cond (stays f (find key_cmp q (by_key cs))) (find key_cmp q (marked_keys cs ms)) None
+  find_left : (q : Key) (cs : List ChangeRecord) → IsStrictlySortedBy change_cmp cs → found_left q cs ≡ cond (stays f (find key_cmp q (by_key cs))) (find key_cmp q (by_key cs)) None
   unfolding IsStrictlySortedBy
-  find_left q [] ms e s = refl
-  find_left q (c ∷ cs) [] e s = absurd (omega (arith, e))
-  find_left q (c ∷ cs) (m ∷ ms) e s = by_tests (find_left q cs ms (omega (arith, e)) s.1) (eq_by_cmp key_cmp q c.key) refl (voids f c) refl
+  find_left q [] s = refl
+  find_left q (c ∷ cs) s = by_tests (find_left q cs s.1) (eq_by_cmp key_cmp q c.key) refl (voids f c) refl
     where
       -- what is found where the change stays, or doesn't
-      now : Bool → Option M
-      now v = find key_cmp q (marked_keys (cond (not v) (c ∷ left_by f cs) (left_by f cs)) (cond v (marks_left f cs ms) (m ∷ marks_left f cs ms)))
+      now : Bool → Option ChangeRecord
+      now v = find key_cmp q (by_key (cond (not v) (c ∷ left_by f cs) (left_by f cs)))
 
-      then : Bool → Option M
-      then t = cond (stays f (cond t (Some c) (find key_cmp q (by_key cs)))) (cond t (Some m) (find key_cmp q (marked_keys cs ms))) None
+      then : Bool → Option ChangeRecord
+      then t = cond (stays f (cond t (Some c) (find key_cmp q (by_key cs)))) (cond t (Some c) (find key_cmp q (by_key cs))) None
 
-      by_tests : found_left q cs ms ≡ cond (stays f (find key_cmp q (by_key cs))) (find key_cmp q (marked_keys cs ms)) None
+      by_tests : found_left q cs ≡ cond (stays f (find key_cmp q (by_key cs))) (find key_cmp q (by_key cs)) None
           → (t : Bool) → eq_by_cmp key_cmp q c.key ≡ t → (v : Bool) → voids f c ≡ v → now (voids f c) ≡ then (eq_by_cmp key_cmp q c.key)
       by_tests rest true t true v =
-          ap now v ∙ rest ∙ cond_none (stays f (find key_cmp q (by_key cs))) (find key_cmp q (marked_keys cs ms)) (not_found q c.key cs ms s.0 t)
-          ∙ sym (ap then t ∙ ap (λ b. cond (not b) (Some m) None) v)
+          ap now v ∙ rest ∙ cond_none (stays f (find key_cmp q (by_key cs))) (find key_cmp q (by_key cs)) (not_found q c.key cs s.0 t)
+          ∙ sym (ap then t ∙ ap (λ b. cond (not b) (Some c) None) v)
       by_tests rest true t false v =
-          ap now v ∙ ap (λ b. cond b (Some m) (found_left q cs ms)) t ∙ sym (ap then t ∙ ap (λ b. cond (not b) (Some m) None) v)
+          ap now v ∙ ap (λ b. cond b (Some c) (found_left q cs)) t ∙ sym (ap then t ∙ ap (λ b. cond (not b) (Some c) None) v)
       by_tests rest false t true v = ap now v ∙ rest ∙ sym (ap then t)
-      by_tests rest false t false v = ap now v ∙ ap (λ b. cond b (Some m) (found_left q cs ms)) t ∙ rest ∙ sym (ap then t)
+      by_tests rest false t false v = ap now v ∙ ap (λ b. cond b (Some c) (found_left q cs)) t ∙ rest ∙ sym (ap then t)
 
-  -- the marks of the changes that are left
-  pub marks_are_left : (cs : List ChangeRecord) (ms : List M) → length ms ≡ length cs → AreKeysRising cs → marks_beside (left_by f cs) (marks_left f cs ms) ≡ at_kept_keys f (changes_of cs) (marks_beside cs ms)
-  marks_are_left cs ms e s = same_map keys_total exact_keys _ _ (λ q.
-      get-from_entries keys_total (marked_keys (left_by f cs) (marks_left f cs ms)) q
-      ∙ find_left q cs ms e (rising_order key_cmp keys_total exact_keys keyed cs s)
-      ∙ ap (λ o. cond (stays f o) (find key_cmp q (marked_keys cs ms)) None) (sym (get-from_entries keys_total (by_key cs) q))
-      ∙ ap (λ o. cond (stays f (get (changes_of cs) q)) o None) (sym (get-from_entries keys_total (marked_keys cs ms) q))
-      ∙ sym (get-retain_keys (marks_beside cs ms) (λ k. stays f (get (changes_of cs) k)) q (λ x t. ap (λ k. stays f (get (changes_of cs) k)) (sym (exact_keys q x t)))))
-
-  -- as many as the changes
-  pub each_left : (cs : List ChangeRecord) (ms : List M) → length ms ≡ length cs → length (marks_left f cs ms) ≡ length (left_by f cs)
-  each_left [] [] e = refl
-  each_left [] (m ∷ ms) e = absurd (omega (arith, e))
-  each_left (c ∷ cs) [] e = absurd (omega (arith, e))
-  each_left (c ∷ cs) (m ∷ ms) e =
-      elim (voids f c) as (λ v. length (cond v (marks_left f cs ms) (m ∷ marks_left f cs ms)) ≡ length (cond (not v) (c ∷ left_by f cs) (left_by f cs))) [
-        | true ↦ each_left cs ms (omega (arith, e))
-        | false ↦ ap suc (each_left cs ms (omega (arith, e)))
-      ]
-
--- ---- the changes themselves, as if they were marks
-beside_itself : (cs : List ChangeRecord) → marked_keys cs cs ≡ by_key cs
-beside_itself [] = refl
-beside_itself (c ∷ cs) = ap (λ l. (c.key, c) ∷ l) (beside_itself cs)
-
-left_itself : (f : Floor) (cs : List ChangeRecord) → marks_left f cs cs ≡ left_by f cs
-left_itself f [] = refl
-left_itself f (c ∷ cs) =
-    elim (voids f c) as (λ v. cond v (marks_left f cs cs) (c ∷ marks_left f cs cs) ≡ cond (not v) (c ∷ left_by f cs) (left_by f cs)) [
-      | true ↦ left_itself f cs
-      | false ↦ ap (λ l. c ∷ l) (left_itself f cs)
-    ]
-
-pub changes_are_left : (f : Floor) (cs : List ChangeRecord) → AreKeysRising cs → changes_of (left_by f cs) ≡ at_kept_keys f (changes_of cs) (changes_of cs)
-changes_are_left f cs s =
-    ap (λ es. from_entries {R = key_cmp} es) (sym (beside_itself (left_by f cs)) ∙ ap (marked_keys (left_by f cs)) (sym (left_itself f cs)))
-    ∙ marks_are_left f cs cs refl s
-    ∙ ap (λ es. at_kept_keys f (changes_of cs) (from_entries {R = key_cmp} es)) (beside_itself cs)
+  pub changes_are_left : (cs : List ChangeRecord) → AreKeysRising cs → changes_of (left_by f cs) ≡ at_kept_keys f (changes_of cs) (changes_of cs)
+  changes_are_left cs s = same_map keys_total exact_keys _ _ (λ q.
+      get-from_entries keys_total (by_key (left_by f cs)) q
+      ∙ find_left q cs (rising_order key_cmp keys_total exact_keys keyed cs s)
+      ∙ ap (λ o. cond (stays f o) o None) (sym (get-from_entries keys_total (by_key cs) q))
+      ∙ sym (get-retain_keys (changes_of cs) (λ k. stays f (get (changes_of cs) k)) q (λ x t. ap (λ k. stays f (get (changes_of cs) k)) (sym (exact_keys q x t)))))
 
 pub few_left : (f : Floor) (cs : List ChangeRecord) → length (left_by f cs) ≤ length cs
 few_left f [] = omega arith

@@ -8,8 +8,6 @@ pub mod RaiseLemmas
 pub mod JoinLemmas
 pub mod LeftLemmas
 pub mod KeptLemmas
+pub mod FloorLemmas
 pub mod DropLemmas
-pub mod RowMarkLemmas
-pub mod MarkLemmas
-pub mod FloorMarkLemmas
 pub mod MemoryLemmas

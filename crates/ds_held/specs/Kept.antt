@@ -1,5 +1,5 @@
 -- How lists of floors and changes are seen as a holding.
-use Rattle.std.specs.Prelude.{◌≡◌, ℕ, ◌<◌, ◌≤◌, List, map, filter, not, length, All, Result, Ok, Err, slice_set}
+use Rattle.std.specs.Prelude.{◌≡◌, if◌then◌else◌, ℕ, ◌<◌, ◌≤◌, List, [], ◌∷◌, map, filter, not, length, All, Result, Ok, Err, slice_set}
 use Rattle.std.specs.List.{insert, HoldsAt}
 use Rattle.std.specs.List.Sorted.{IsPartitionPoint}
 use Rattle.std.specs.declared.cmp.Ordering.{Ordering}
@@ -107,3 +107,10 @@ module _ {X : Type 0} where
 -- the changes that the floor doesn't make void
 abbrev pub left_by : Floor → List ChangeRecord → List ChangeRecord
 left_by f changes = filter (λ (c : ChangeRecord). not (voids f c)) changes
+
+-- the marks beside the changes that the floor doesn't make void
+module _ {M : Type 0} where
+  abbrev pub marks_left : Floor → List ChangeRecord → List M → List M
+  marks_left f [] marks = []
+  marks_left f (c ∷ cs) [] = []
+  marks_left f (c ∷ cs) (m ∷ ms) = if voids f c then marks_left f cs ms else m ∷ marks_left f cs ms

@@ -3,7 +3,5 @@ pub mod Held
 pub mod Merge
 pub mod Raise
 pub mod Join
-pub mod Marked
 pub mod Kept
-pub mod Beside
 pub mod Memory

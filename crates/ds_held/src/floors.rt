@@ -14,8 +14,8 @@ use ds_join::{JoinFault, Merge};
 use ds_names::{Generation, Name};
 use std::cmp::Ordering;
 
-// The most owners that have floors.
-pub(crate) const MOST_FLOORS: usize = 64;
+/// The most owners that have floors.
+pub const MOST_FLOORS: usize = 64;
 
 // Where the floor of an owner stands, or else where it would.
 pub(crate) fn place_of(floors: &[Floor], owner: &Name) -> Result<usize, usize>

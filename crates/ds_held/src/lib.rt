@@ -12,12 +12,11 @@ mod join;
 mod laws;
 mod limits;
 mod list;
-mod marked;
 mod order;
 mod reading;
 mod void;
 
+pub use floors::MOST_FLOORS;
 pub use held::Held;
 pub use laws::held_places_need_no_room;
 pub use limits::Limits;
-pub use marked::Marked;

@@ -2,8 +2,7 @@
 
 ghost use Rattle.std.specs.Prelude.{◌≡◌, ◌<◌, ◌≤◌, ◌+◌, if◌then◌else◌, length, vec_len};
 ghost use Rattle.std.specs.List.{swap};
-ghost use Rattle.ds_held.specs.Beside.{marks_left};
-ghost use Rattle.ds_held.specs.Kept.{holding_of, left_by, list_after, IsKept};
+ghost use Rattle.ds_held.specs.Kept.{holding_of, left_by, list_after, marks_left, IsKept};
 ghost use Rattle.ds_held.specs.Raise.{after_raise, RaiseAnswer};
 
 use crate::floors::raise;

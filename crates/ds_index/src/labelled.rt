@@ -10,14 +10,15 @@ ghost use Rattle.ds_join.specs.ItemTop.{IsTop};
 ghost use Rattle.ds_join.specs.Label.{names_endpoint};
 ghost use Rattle.ds_held.specs.Held.{held_changes, held_floors, held_for, held_items, floor_count, IsSound};
 ghost use Rattle.ds_held.specs.Kept.{IsPlace};
-ghost use Rattle.ds_held.specs.Marked.{mark_for, floor_mark_for, nothing_marked, marks_after, marks_raised, floor_marks_after, remarked, floor_remarked, HasMarks};
 ghost use Rattle.ds_held.specs.Merge.{MergeAnswer, after_merge};
 ghost use Rattle.ds_held.specs.Raise.{RaiseAnswer, after_raise};
+ghost use Rattle.ds_marked.specs.Marked.{mark_for, floor_mark_for, nothing_marked, marks_after, marks_raised, floor_marks_after, remarked, floor_remarked, HasMarks};
 
 use crate::index::Index;
 use ds_entry::{Change, Floor};
-use ds_held::{Held, Limits, Marked};
+use ds_held::{Held, Limits};
 use ds_join::{JoinFault, Merge};
+use ds_marked::Marked;
 use ds_names::{Endpoint, Key, Name};
 use merging::merge_labelled;
 use std::alloc::Global;
@@ -40,7 +41,7 @@ impl<M> Model for Labelled<M> {
     ghost use Rattle.ds_names.specs.contracts.name.Name.{the_row as name_row};
     ghost use Rattle.ds_held.specs.Held.{Holding};
     ghost use Rattle.ds_held.specs.contracts.held.Held.{the_row as held_row};
-    ghost use Rattle.ds_held.specs.Marked.{MarkedHolding};
+    ghost use Rattle.ds_marked.specs.Marked.{MarkedHolding};
     ghost use Rattle.ds_index.specs.Indexed.{IsIndexed};
 
     ghost Value = { MarkedHolding M };

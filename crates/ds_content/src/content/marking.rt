@@ -6,7 +6,7 @@ ghost use Rattle.ds_entry.specs.Change.{ChangeRecord};
 ghost use Rattle.ds_entry.specs.declared.floor.Floor.{Floor};
 ghost use Rattle.ds_entry.specs.declared.item.Item as items;
 ghost use Rattle.ds_held.specs.Held.{held_items, held_changes, held_floors};
-ghost use Rattle.ds_held.specs.Marked.{mark_for, floor_mark_for};
+ghost use Rattle.ds_marked.specs.Marked.{mark_for, floor_mark_for};
 ghost use Rattle.ds_machine.specs.Scope.{is_item_under};
 ghost use Rattle.ds_watch.specs.Masks.{shown_to, made_at};
 ghost use Rattle.ds_content.specs.Kept.{masks_at};

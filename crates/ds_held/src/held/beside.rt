@@ -3,9 +3,8 @@
 ghost use Rattle.std.specs.Prelude.{◌≡◌, length, Ok};
 ghost use Rattle.ds_entry.specs.Change.{IsChange};
 ghost use Rattle.ds_join.specs.declared.merge.Merge.TheVariants.{Taken};
-ghost use Rattle.ds_held.specs.Beside.{marks_left};
 ghost use Rattle.ds_held.specs.Held.{held_changes, held_floors, IsSound};
-ghost use Rattle.ds_held.specs.Kept.{left_by, list_after, put_at, IsFloorPlace, IsPlace, IsPut};
+ghost use Rattle.ds_held.specs.Kept.{left_by, list_after, marks_left, put_at, IsFloorPlace, IsPlace, IsPut};
 ghost use Rattle.ds_held.specs.Merge.{after_merge, MergeAnswer};
 ghost use Rattle.ds_held.specs.Raise.{after_raise, RaiseAnswer};
 
@@ -19,31 +18,27 @@ use ds_join::{JoinFault, Merge};
 use ds_names::{Key, Name};
 
 impl Held {
-    // Where the change of a key stands, or else where it would.
-    pub(crate) fn place(&self, key: &Key) -> Result<usize, usize>
+    /// Where the change of a key stands, by an index from 0 in the order of the keys, or else where it would. One search finds
+    /// it.
+    pub fn place(&self, key: &Key) -> Result<usize, usize>
         ensures { IsPlace (held_changes self.now) key.now result }
     {
         place_of(&self.changes, key)
     }
 
-    // What a change, whose place is told, is answered, where there is memory for it.
-    pub(crate) fn outlook(
-        &self,
-        place: Result<usize, usize>,
-        change: &Change,
-    ) -> Result<Merge, JoinFault>
+    /// What [`Held::merge`] answers a change whose place is told, where there is memory for it. It takes none, and changes
+    /// nothing.
+    pub fn outlook(&self, place: Result<usize, usize>, change: &Change) -> Result<Merge, JoinFault>
         requires { IsPlace (held_changes self.now) change.now.key place }
         ensures { MergeAnswer self.now change.now result }
     {
         outlook(&self.floors, &self.changes, self.limits, place, change)
     }
 
-    // Puts a change that is to be taken at its place.
-    pub(crate) fn put(
-        &mut self,
-        place: Result<usize, usize>,
-        change: Change,
-    ) -> Result<Merge, JoinFault>
+    /// Puts a change that is to be taken at its place, as [`Held::outlook`] tells it. All else stays.
+    ///
+    /// It takes memory only for a key that isn't held, and only for want of it is the change refused; then nothing changes.
+    pub fn put(&mut self, place: Result<usize, usize>, change: Change) -> Result<Merge, JoinFault>
         requires place { IsPlace (held_changes self.old) change.key place }
         requires taken { MergeAnswer self.old change (Ok Taken) }
         ensures put { IsPut place result }
@@ -55,15 +50,19 @@ impl Held {
         put(&mut self.changes, place, change)
     }
 
-    // Where the floor of an owner stands, or else where it would.
-    pub(crate) fn floor_place(&self, owner: &Name) -> Result<usize, usize>
+    /// Where the floor of an owner stands, by an index from 0 in the order of the owners' names, or else where it would. One
+    /// search finds it.
+    pub fn floor_place(&self, owner: &Name) -> Result<usize, usize>
         ensures { IsFloorPlace (held_floors self.now) owner.now result }
     {
         floors::place_of(&self.floors, owner)
     }
 
-    // Raises a floor, and drops the marks of the changes that it makes void with them.
-    pub(crate) fn raise_beside<M: Drop>(
+    /// Raises the floor of an owner, as [`Held::raise`] does, and drops from a list beside the changes what stands beside the
+    /// dropped ones. The others in the list stay, in their order.
+    ///
+    /// It takes memory only for an owner who has no floor. A refusal changes neither what is held nor the list.
+    pub fn raise_beside<M: Drop>(
         &mut self,
         marks: &mut Vec<M>,
         floor: Floor,

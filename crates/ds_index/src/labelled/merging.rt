@@ -8,16 +8,16 @@ ghost use Rattle.ds_entry.specs.declared.item.Item.TheVariants.{Change as Change
 ghost use Rattle.ds_join.specs.ItemTop.{IsTop};
 ghost use Rattle.ds_held.specs.Held.{held_changes, held_for, held_items, IsSound};
 ghost use Rattle.ds_held.specs.Kept.{IsPlace};
-ghost use Rattle.ds_held.specs.Marked.{marks_after};
 ghost use Rattle.ds_held.specs.Merge.{MergeAnswer, after_merge};
+ghost use Rattle.ds_marked.specs.Marked.{marks_after};
 ghost use Rattle.ds_index.specs.Named.{named_at};
 ghost use Rattle.ds_index.specs.Indexed.{endpoint_in, label_key, IsIndexed};
 
 use crate::index::Index;
 use crate::named::{Named, endpoint_in, is_label};
 use ds_entry::Change;
-use ds_held::Marked;
 use ds_join::{JoinFault, Merge};
+use ds_marked::Marked;
 use ds_names::{Key, NoRoom};
 
 // Merges the change of a label that is held as `before`.

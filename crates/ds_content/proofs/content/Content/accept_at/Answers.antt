@@ -8,8 +8,8 @@ use Rattle.ds_feed.specs.Feed.{Feed}
 use Rattle.ds_feed.specs.Kept.{Keeps}
 use Rattle.ds_held.specs.Held.{Holding, held_items}
 use Rattle.ds_held.specs.Kept.{IsPlace}
-use Rattle.ds_held.specs.Marked.{marks_after}
 use Rattle.ds_held.specs.Merge.{after_merge, MergeAnswer}
+use Rattle.ds_marked.specs.Marked.{marks_after}
 use Rattle.ds_join.specs.ItemTop.{IsTop}
 use Rattle.ds_join.specs.declared.merge.Merge.TheVariants.{Taken}
 use Rattle.ds_machine.specs.Parts.{changes_in, held_at}

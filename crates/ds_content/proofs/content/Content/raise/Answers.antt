@@ -7,8 +7,8 @@ use Rattle.ds_feed.specs.Feed as feeds
 use Rattle.ds_feed.specs.Feed.{Feed}
 use Rattle.ds_feed.specs.Kept.{Keeps}
 use Rattle.ds_held.specs.Held.{Holding, held_items}
-use Rattle.ds_held.specs.Marked.{marks_raised, floor_marks_after}
 use Rattle.ds_held.specs.Raise.{after_raise, at_kept_keys, RaiseAnswer}
+use Rattle.ds_marked.specs.Marked.{marks_raised, floor_marks_after}
 use Rattle.ds_join.specs.ItemTop.{IsTop}
 use Rattle.ds_join.specs.declared.merge.Merge.TheVariants.{Taken}
 use Rattle.ds_machine.specs.Parts.{floor_at}

@@ -1,7 +1,7 @@
 use Rattle.std.proofs.Common.{sym, ap, ◌∙◌}
 use Rattle.std.specs.List.{slice_get}
 use Rattle.ds_held.specs.Held.{Holding, held_floors}
-use Rattle.ds_held.proofs.FloorMarkLemmas.{floors_are}
+use Rattle.ds_held.proofs.FloorLemmas.{floors_are}
 use Rattle.ds_held.proofs.held.Held.floor_at.Goals as goal
 
 pub returns : goal.returns

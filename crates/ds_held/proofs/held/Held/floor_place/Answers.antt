@@ -1,7 +1,7 @@
 use Rattle.std.proofs.Common.{sym, ◌∙◌, subst}
 use Rattle.ds_held.specs.Held.{Holding, held_floors}
 use Rattle.ds_held.specs.Kept.{IsFloorPlace}
-use Rattle.ds_held.proofs.FloorMarkLemmas.{floors_are}
+use Rattle.ds_held.proofs.FloorLemmas.{floors_are}
 use Rattle.ds_held.proofs.held.Held.floor_place.Goals as goal
 
 pub returns : goal.returns

@@ -1,7 +1,6 @@
 use Rattle.std.proofs.Common.{length, sym, ap, ◌∙◌}
 use Rattle.ds_held.specs.Held.{Holding, held_changes}
-use Rattle.ds_held.specs.Kept.{left_by, list_after}
-use Rattle.ds_held.specs.Beside.{marks_left}
+use Rattle.ds_held.specs.Kept.{left_by, list_after, marks_left}
 use Rattle.ds_held.proofs.KeptLemmas.{changes_are}
 use Rattle.ds_held.proofs.held.Held.raise_beside.Goals as goal
 

@@ -1,0 +1,164 @@
+-- The held floors as a list, and marks beside them.
+use Rattle.std.proofs.Common.{◌≡◌, ℕ, ◌<◌, ◌≤◌, List, [], length, set, map, Option, Some, None, is_some, Result, Ok, Err, refl, sym, ap, ◌∙◌, subst, arith, length-set}
+use Rattle.std.proofs.lemmas.Cmp.{nat_list_cmp_total}
+use Rattle.std.proofs.lemmas.Map.Lookups.{exact_bytes}
+use Rattle.std.specs.List.{slice_get}
+use Rattle.std.specs.Option.{option_map, IfSome}
+use Rattle.std.specs.Result.{MatchResult}
+use Rattle.std.specs.Prelude.{⊤}
+use Rattle.std.specs.FinMap.{FinMap, find, get, put, get-from_entries, get-entries, entries, entries_sorted, entries-insert, same_map, is_sorted}
+use Rattle.std.specs.FinMap as finite
+use lib.Dec.{T}
+use Rattle.ds_names.specs.Key.{name_cmp}
+use Rattle.ds_entry.specs.Change.{ChangeRecord}
+use Rattle.ds_entry.specs.declared.floor.Floor.{Floor}
+use Rattle.ds_join.specs.declared.merge.Merge.{Merge}
+use Rattle.ds_join.specs.declared.merge.Merge.TheVariants.{Taken, Known, Stale}
+use Rattle.ds_join.specs.declared.merge.JoinFault.{JoinFault}
+use Rattle.ds_join.specs.declared.merge.JoinFault.TheVariants.{NoRoom}
+use Rattle.ds_held.specs.Limits.{LimitsRecord}
+use Rattle.ds_held.specs.Held.{Holding, held_changes, held_floors, floor_for, floor_count, nothing_held}
+use Rattle.ds_held.specs.Merge.{after_merge}
+use Rattle.ds_held.specs.Raise.{AnswersFloor, RaiseAnswer, after_raise}
+use Rattle.ds_held.specs.Kept.{owned, by_owner, floors_of, AreOwnersRising, IsFloorPlace, IsPut, put_at, list_after}
+use Rattle.ds_held.proofs.PlaceLemmas.{put_there, get_none}
+use Rattle.ds_held.proofs.FloorLemmas.{floor_from, owned_back, floors_back, floors_are}
+use Rattle.ds_marked.specs.Marked.{MarkedHolding, nothing_marked, floor_marks_after, floor_remarked}
+use Rattle.ds_marked.specs.Beside.{marks_beside, marked_owners, marks_beside_floors, IsBesideFloors}
+use Rattle.ds_marked.proofs.RowMarkLemmas.{place_from_get, find_mark, marked_too, marks_put, each_put, marks_at, marks_past}
+use Rattle.ds_marked.proofs.MarkLemmas.{marks_nothing}
+
+-- ---- the held floors, as a list
+module _ (h : Holding) where
+  own_floors : by_owner (held_floors h) ≡ entries h.floors
+  own_floors = owned_back (entries h.floors)
+
+  pub rising_floors : AreOwnersRising (held_floors h)
+  rising_floors = subst (λ es. T (is_sorted name_cmp es)) (sym own_floors) (entries_sorted h.floors)
+
+  floors_held : floors_of (held_floors h) ≡ h.floors
+  floors_held = same_map nat_list_cmp_total exact_bytes _ _ (λ q. get-from_entries nat_list_cmp_total (by_owner (held_floors h)) q ∙ ap (find name_cmp q) own_floors ∙ sym (get-entries h.floors q))
+
+  pub floor_missing : (owner : List ℕ) (i : ℕ) → IsFloorPlace (held_floors h) owner (Err i) → floor_for h owner ≡ None
+  floor_missing owner i p = ap (λ (m : FinMap name_cmp ℕ). get m owner) (sym floors_held) ∙ get_none name_cmp nat_list_cmp_total exact_bytes owned (held_floors h) owner i p
+
+  -- a merge leaves the floors
+  pub merge_leaves : (c : ChangeRecord) (r : Result Merge JoinFault) → held_floors (after_merge h c r) ≡ held_floors h
+  merge_leaves c (Ok Taken) = refl
+  merge_leaves c (Ok Known) = refl
+  merge_leaves c (Ok Stale) = refl
+  merge_leaves c (Err fault) = refl
+
+  -- a floor that is taken stands at its place
+  module _ (f : Floor) (place : Result ℕ ℕ) (at : IsFloorPlace (held_floors h) f.owner place) where
+    pub raise_puts : (r : Result Merge JoinFault) → held_floors (after_raise h f r) ≡ list_after (held_floors h) (put_at (held_floors h) place f) r
+    raise_puts (Ok Taken) =
+        ap (λ es. map floor_from es)
+        (entries-insert nat_list_cmp_total h.floors f.owner f.generation ∙ ap (put name_cmp f.owner f.generation) (sym own_floors)
+        ∙ sym (put_there name_cmp nat_list_cmp_total exact_bytes owned (held_floors h) f place rising_floors at))
+        ∙ floors_back (put_at (held_floors h) place f)
+    raise_puts (Ok Known) = refl
+    raise_puts (Ok Stale) = refl
+    raise_puts (Err fault) = refl
+
+    -- no room for a mark is told of the floor of a new owner alone, and where there may be one more
+    pub raise_wants : floor_count h < 64 → IsPut place (Err NoRoom) → RaiseAnswer h f (Err NoRoom)
+    raise_wants = by_place place at
+      where
+        by_place : (p : Result ℕ ℕ) → IsFloorPlace (held_floors h) f.owner p → floor_count h < 64 → IsPut p (Err NoRoom) → RaiseAnswer h f (Err NoRoom)
+        by_place (Ok i) at few put = absurd put
+        by_place (Err i) at few put = subst (λ o. AnswersFloor o (floor_count h) f.generation (Err NoRoom)) (sym (floor_missing f.owner i at)) few
+
+    -- where a floor is taken there is room for its mark
+    pub room_for_floor : (n cap : ℕ) → n ≡ length (held_floors h) → RaiseAnswer h f (Ok Taken) → (floor_count h < 64 → MatchResult place (λ i. ⊤) (λ i. n < cap)) → MatchResult place (λ i. i < n) (λ i. (i ≤ n) × (n < cap))
+    room_for_floor n cap e a room = by_place place at room
+      where
+        by_place : (p : Result ℕ ℕ) → IsFloorPlace (held_floors h) f.owner p → (floor_count h < 64 → MatchResult p (λ i. ⊤) (λ i. n < cap)) → MatchResult p (λ i. i < n) (λ i. (i ≤ n) × (n < cap))
+        by_place (Ok i) at room = omega (arith, at.0, e)
+        by_place (Err i) at room = (omega (arith, at.0, e), room (subst (λ o. AnswersFloor o (floor_count h) f.generation (Ok Taken)) (floor_missing f.owner i at) a))
+
+-- ---- what is found beside an owner
+module _ {M : Type 0} (h : Holding) (ms : List M) (beside : IsBesideFloors h ms) where
+  mark_is : (owner : List ℕ) → get (marks_beside_floors (held_floors h) ms) owner ≡ find name_cmp owner (marked_owners (held_floors h) ms)
+  mark_is owner = get-from_entries nat_list_cmp_total (marked_owners (held_floors h) ms) owner
+
+  -- just the owners whose floors are held have marks
+  pub marked_owner : (owner : List ℕ) → is_some (get (marks_beside_floors (held_floors h) ms) owner) ≡ is_some (floor_for h owner)
+  marked_owner owner =
+      ap is_some (mark_is owner) ∙ marked_too name_cmp nat_list_cmp_total exact_bytes owned (held_floors h) ms owner beside
+      ∙ ap is_some (sym (get-from_entries nat_list_cmp_total (by_owner (held_floors h)) owner)) ∙ ap (λ (m : FinMap name_cmp ℕ). is_some (get m owner)) (floors_held h)
+
+  -- a floor and a mark at one index stand beside each other
+  floor_mark_at : (i : ℕ) (f : Floor) (m : M) → slice_get (held_floors h) i ≡ Some f → slice_get ms i ≡ Some m → get (marks_beside_floors (held_floors h) ms) f.owner ≡ Some m
+  floor_mark_at i f m e g =
+      mark_is f.owner
+      ∙ find_mark name_cmp nat_list_cmp_total exact_bytes owned (held_floors h) ms f.owner i (rising_floors h) beside (place_from_get name_cmp nat_list_cmp_total exact_bytes owned (held_floors h) i f e)
+      ∙ g
+
+  pub floor_beside_at : {P : Type 0} (r : Option P) (f : P → Floor) (m : P → M) (i : ℕ) → option_map f r ≡ slice_get (held_floors h) i → option_map m r ≡ slice_get ms i → IfSome r (λ p. get (marks_beside_floors (held_floors h) ms) (f p).owner ≡ Some (m p))
+  floor_beside_at None f m i e g = tt
+  floor_beside_at (Some p) f m i e g = floor_mark_at i (f p) (m p) (sym e) (sym g)
+
+  -- ---- another mark at an index
+  pub floor_beside_set : (i : ℕ) (m : M) → IsBesideFloors h (set ms i m)
+  floor_beside_set i m = omega (arith, length-set ms i m, beside)
+
+  pub floor_marks_set : (i : ℕ) (m : M) → marks_beside_floors (held_floors h) (set ms i m) ≡ floor_remarked (marks_beside_floors (held_floors h) ms) (slice_get (held_floors h) i) m
+  floor_marks_set i m = by_found (slice_get (held_floors h) i) refl
+    where
+      by_found : (o : Option Floor) → slice_get (held_floors h) i ≡ o → marks_beside_floors (held_floors h) (set ms i m) ≡ floor_remarked (marks_beside_floors (held_floors h) ms) o m
+      by_found None q = marks_past name_cmp nat_list_cmp_total exact_bytes owned (held_floors h) ms i m beside q
+      by_found (Some f) q = marks_at name_cmp nat_list_cmp_total exact_bytes owned (held_floors h) ms i f m (rising_floors h) beside q
+
+  -- ---- what a raised floor and its mark leave
+  module _ (f : Floor) (place : Result ℕ ℕ) (at : IsFloorPlace (held_floors h) f.owner place) (m : M) where
+    raised_each : (r : Result Merge JoinFault) → length (list_after ms (put_at ms place m) r) ≡ length (list_after (held_floors h) (put_at (held_floors h) place f) r)
+    raised_each (Ok Taken) = each_put name_cmp nat_list_cmp_total exact_bytes owned (held_floors h) ms f m place beside at
+    raised_each (Ok Known) = beside
+    raised_each (Ok Stale) = beside
+    raised_each (Err fault) = beside
+
+    raised_marks : (r : Result Merge JoinFault) → marks_beside_floors (list_after (held_floors h) (put_at (held_floors h) place f) r) (list_after ms (put_at ms place m) r) ≡ floor_marks_after (marks_beside_floors (held_floors h) ms) f.owner m r
+    raised_marks (Ok Taken) = marks_put name_cmp nat_list_cmp_total exact_bytes owned (held_floors h) ms f m place (rising_floors h) beside at
+    raised_marks (Ok Known) = refl
+    raised_marks (Ok Stale) = refl
+    raised_marks (Err fault) = refl
+
+    module _ (r : Result Merge JoinFault) (new : Holding) (ns : List M) (after : new ≡ after_raise h f r) (marks : ns ≡ list_after ms (put_at ms place m) r) where
+      list : held_floors new ≡ list_after (held_floors h) (put_at (held_floors h) place f) r
+      list = ap (λ (x : Holding). held_floors x) after ∙ raise_puts h f place at r
+
+      pub floor_beside_raised : IsBesideFloors new ns
+      floor_beside_raised = ap length marks ∙ raised_each r ∙ sym (ap length list)
+
+      pub floor_marks_raised : marks_beside_floors (held_floors new) ns ≡ floor_marks_after (marks_beside_floors (held_floors h) ms) f.owner m r
+      floor_marks_raised = ap (λ l. marks_beside_floors l ns) list ∙ ap (marks_beside_floors (list_after (held_floors h) (put_at (held_floors h) place f) r)) marks ∙ raised_marks r
+
+  -- ---- what a merge leaves
+  module _ (c : ChangeRecord) (r : Result Merge JoinFault) (new : Holding) (after : new ≡ after_merge h c r) where
+    same : held_floors new ≡ held_floors h
+    same = ap (λ (x : Holding). held_floors x) after ∙ merge_leaves h c r
+
+    pub floor_beside_merged : IsBesideFloors new ms
+    floor_beside_merged = beside ∙ sym (ap length same)
+
+    pub floor_marks_merged : marks_beside_floors (held_floors new) ms ≡ marks_beside_floors (held_floors h) ms
+    floor_marks_merged = ap (λ l. marks_beside_floors l ms) same
+
+-- ---- nothing
+module _ (lim : LimitsRecord) (h : Holding) (e : h ≡ nothing_held lim) where
+  no_floors : held_floors h ≡ []
+  no_floors = ap (λ (g : Holding). held_floors g) e ∙ floors_are [] [] lim tt
+
+  module _ {M : Type 0} where
+    pub floor_beside_nothing : (ms : List M) → ms ≡ [] → IsBesideFloors h ms
+    floor_beside_nothing ms f = ap length f ∙ sym (ap length no_floors)
+
+    floor_marks_nothing : (ms : List M) → ms ≡ [] → marks_beside_floors (held_floors h) ms ≡ finite.empty
+    floor_marks_nothing ms f = ap (λ l. marks_beside_floors l ms) no_floors ∙ ap (λ l. marks_beside_floors {M = M} [] l) f
+
+    abbrev marked_of : List M → List M → MarkedHolding M
+    marked_of ms ns = record { held = h; marks = marks_beside (held_changes h) ms; floor_marks = marks_beside_floors (held_floors h) ns }
+
+    pub nothing_is : (ms ns : List M) → ms ≡ [] → ns ≡ [] → marked_of ms ns ≡ nothing_marked lim
+    nothing_is ms ns f g = λ i. record { held = e i; marks = marks_nothing lim h ms e f i; floor_marks = floor_marks_nothing ns g i }

@@ -1,0 +1,4 @@
+pub mod LeftMarkLemmas
+pub mod RowMarkLemmas
+pub mod MarkLemmas
+pub mod FloorMarkLemmas

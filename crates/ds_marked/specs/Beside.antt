@@ -1,0 +1,41 @@
+-- How lists of marks stand beside changes in the order of their keys, and beside floors in the order of their owners' names.
+use Rattle.std.specs.Prelude.{◌≡◌, ℕ, List, [], ◌∷◌, length}
+use Rattle.std.specs.FinMap.{FinMap, from_entries}
+use Rattle.ds_names.specs.declared.key.Key.{Key}
+use Rattle.ds_names.specs.Key.{name_cmp, key_cmp}
+use Rattle.ds_entry.specs.Change.{ChangeRecord}
+use Rattle.ds_entry.specs.declared.floor.Floor.{Floor}
+use Rattle.ds_held.specs.Held.{Holding, held_changes, held_floors, IsSound}
+
+-- what each element stands under, with the mark at the same index
+module _ {K X M : Type 0} (key : X → K) where
+  abbrev pub marked_rows : List X → List M → List (K × M)
+  marked_rows [] marks = []
+  marked_rows (x ∷ xs) [] = []
+  marked_rows (x ∷ xs) (m ∷ ms) = (key x, m) ∷ marked_rows xs ms
+
+module _ {M : Type 0} where
+  -- the key of each change, with the mark at the same index
+  abbrev pub marked_keys : List ChangeRecord → List M → List (Key × M)
+  marked_keys changes marks = marked_rows (λ (c : ChangeRecord). c.key) changes marks
+
+  -- from each key its mark
+  abbrev pub marks_beside : List ChangeRecord → List M → FinMap key_cmp M
+  marks_beside changes marks = from_entries (marked_keys changes marks)
+
+  -- the owner of each floor, with the mark at the same index
+  abbrev pub marked_owners : List Floor → List M → List (List ℕ × M)
+  marked_owners floors marks = marked_rows (λ (f : Floor). f.owner) floors marks
+
+  -- from each owner the mark of its floor
+  abbrev pub marks_beside_floors : List Floor → List M → FinMap name_cmp M
+  marks_beside_floors floors marks = from_entries (marked_owners floors marks)
+
+  -- there is one mark for each change that is held, at its own key
+  pub record IsBeside (held : Holding) (marks : List M) : Type 0 where
+    pub sound : IsSound held
+    pub each : length marks ≡ length (held_changes held)
+
+  -- there is one mark for each floor that is held
+  abbrev pub IsBesideFloors : Holding → List M → Type 0
+  IsBesideFloors held marks = length marks ≡ length (held_floors held)
