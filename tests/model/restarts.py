@@ -241,7 +241,7 @@ def written(settings):
 
 
 class Session:
-    """RS and a numberer, which answer commands as `rs_demo` does its lines."""
+    """RS and a numberer, which answer commands as `test_services` does its lines."""
 
     def __init__(self):
         self.rs = self.numbers = None

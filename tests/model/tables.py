@@ -99,7 +99,7 @@ def told(move):
 
 
 class Tables:
-    """Both tables, which answer commands as `tables_demo` does its lines."""
+    """Both tables, which answer commands as `test_services` does its lines."""
 
     def __init__(self):
         self.tables = {"file": Table("file"), "net": Table("net")}

@@ -1,0 +1,90 @@
+"""The words of the command line, the help, and the manual and completions that are made from it."""
+import re
+
+import harness
+import manual
+
+from .running import expect
+from .samples import GOOD
+
+# What the six lines about two replicas are answered, and then both sides, asked for all that they hold.
+SIX_ANSWERED = b"""\
+taken
+eth0 label rs 3.0 = 3/17
+snapshot 1 1 1
+merged 1 1 0
+side b
+eth0 label rs 3.0 = 3/17
+snapshot 1 2 1
+merged 1 0 0
+eth0 label rs 3.0 = 3/17
+shown 1
+side a
+eth0 label rs 3.0 = 3/17
+shown 1
+"""
+
+
+def the_manual_and_the_completions_are_current(program):
+    """man/ and completions/ have what the program's help makes."""
+    stale = [str(path.relative_to(manual.ROOT)) for path, text in manual.made(program).items() if not path.exists() or path.read_text() != text]
+    assert not stale, f"not what `tests/dsctl/manual {program}` writes: {', '.join(stale)}"
+
+
+def tells_how_it_is_used(program):
+    """`--help` names the subcommand, the lines and an answer, `--version` a version; both leave the input alone."""
+    for word, wanted in (("--help", (b"dsctl", b"replay", b"offer", b"publish", b"subscribe", b"check", b"show", b"taken")), ("--version", (b"dsctl ", b"."))):
+        ran = harness.run([program, word], b"bad\n")
+        assert (ran.status, ran.error) == (0, b""), f"{word}: status {ran.status}, standard error {ran.error[:200]!r}"
+        missing = [it for it in wanted if it not in ran.output]
+        assert not missing, f"{word} doesn't name {missing}: {ran.output[:300]!r}"
+
+
+def does_as_its_help_shows(program):
+    """The six lines about two replicas do what `--help` says of them, and its example session is answered as it shows."""
+    help_ = harness.run([program, "--help"], b"").output.decode()
+    six = [re.split(" {2,}", row)[0] for row in rows_below("Two replicas, in six lines", help_)]
+    assert len(six) == 6, f"the help shows {six}"
+    expect(harness.run([program], script_of([*six, "all", "side a", "all"])), SIX_ANSWERED, 0)
+    session = rows_below("Example session", help_)
+    typed = [row[2:] for row in session if row.startswith("> ")]
+    assert len(typed) == 4, f"the help shows {session}"
+    expect(harness.run([program], script_of(typed)), script_of(row for row in session if not row.startswith("> ")), 0)
+
+
+def rows_below(title, text):
+    """The rows of a text that stand below the one that begins so, without the two spaces before each."""
+    found = re.search(rf"^{title}.*:\n((?:  .*\n)*)", text, re.MULTILINE)
+    return [row[2:] for row in found[1].splitlines()] if found else []
+
+
+def script_of(rows):
+    """Rows as the bytes of a script, or of answers."""
+    return "".join(row + "\n" for row in rows).encode()
+
+
+def reminds_in_rows_of_eighty_columns(program):
+    """`-h` and `replay --help` have each line of a script in one row, no longer than a terminal's."""
+    forms = {line.split()[0].decode() for line in GOOD}
+    for words in (["-h"], ["replay", "-h"], ["replay", "--help"]):
+        ran = harness.run([program, *words], b"")
+        rows = ran.output.decode().splitlines()
+        assert (ran.status, ran.error) == (0, b""), f"{words}: status {ran.status}, standard error {ran.error[:200]!r}"
+        assert forms <= {row.split()[0] for row in rows if row.startswith("  ")}, f"{words}: {ran.output!r}"
+        assert max(map(len, rows)) <= 80, f"{words}: a row of {max(map(len, rows))} columns"
+
+
+def explains_each_refusal(program):
+    """`--help` has a row for each word that stands behind `refused`."""
+    document = (harness.DOCUMENTS / "refusals.md").read_text()
+    told = re.findall(r"`(\w+)`", "".join(re.findall("^## .*$", document, re.MULTILINE)))
+    help_ = harness.run([program, "--help"], b"").output.decode()
+    missing = [word for word in told if not re.search(rf"^  {word} ", help_, re.MULTILINE)]
+    assert len(told) == 23 and not missing, f"{len(told)} words; not explained: {missing}"
+
+
+def points_at_standard_input(program):
+    """Who names a script as a word is told how it is given, and who asks to go on before any word, where that stands."""
+    for word, tip in (("script.ds", b"dsctl < SCRIPT"), ("--keep-going", b"dsctl replay --keep-going")):
+        ran = harness.run([program, word], b"")
+        assert (ran.status, ran.output) == (2, b"") and tip in ran.error, f"{ran}"

@@ -1,0 +1,178 @@
+"""The manual page and the completions, made from what the program says of itself."""
+import os
+import pathlib
+import re
+import subprocess
+from dataclasses import dataclass
+from typing import List, Tuple
+
+ROOT = pathlib.Path(__file__).resolve().parents[2]
+MADE = "made by tests/dsctl/manual from the program's help"
+ESCAPES = {"\\": "\\e", "-": "\\-", "`": "\\(ga", "'": "\\(aq", "^": "\\(ha", "~": "\\(ti"}
+
+
+@dataclass
+class Help:
+    """What `--help` says, in its parts."""
+
+    about: str  # before the usage
+    usage: str
+    commands: List[Tuple[str, str]]  # words, and what each does
+    options: List[Tuple[str, str]]  # as `-h, --help`, and what each does
+    rest: str  # behind the options
+
+
+def said(program, *words):
+    """What the program prints."""
+    return subprocess.run([program, *words], stdin=subprocess.DEVNULL, capture_output=True, check=True).stdout.decode()
+
+
+def read_help(text):
+    """Takes a help apart."""
+    about, usage, behind = re.fullmatch(r"(.*?)\n*^Usage: (.*?)$\n*(.*)", text, re.DOTALL | re.MULTILINE).groups()
+    commands, behind = section("Commands", behind)
+    options, behind = section("Options", behind)
+    return Help(about.strip("\n"), usage, commands, options, behind.strip("\n"))
+
+
+def section(title, text):
+    """The rows below a title, if it stands at the front, and what comes behind them."""
+    if not text.startswith(f"{title}:\n"):
+        return [], text
+    rows, at = [], 1
+    lines = text.split("\n")
+    while at < len(lines) and (not lines[at] or lines[at].startswith("  ")):
+        row = re.fullmatch(r"  (?:    )?(-\S.*?|\w\S*)(?:  +(.*))?", lines[at])
+        if row:
+            rows.append((row[1], row[2] or ""))
+        elif lines[at].strip():
+            word, told = rows.pop()
+            rows.append((word, f"{told} {lines[at].strip()}".strip()))
+        at += 1
+    return rows, "\n".join(lines[at:])
+
+
+def shown(text):
+    """Text for the manual's language."""
+    escaped = "".join(ESCAPES.get(it, it) for it in text)
+    return "\\&" + escaped if escaped.startswith(".") else escaped
+
+
+def paragraphs(text):
+    """The lines of a text: rows that stand further in are shown as they are."""
+    lines, plain = [], False
+    for line in text.split("\n"):
+        row = line.startswith("  ")
+        if row and not plain:
+            lines.append(".nf")
+        elif plain and not row:
+            lines.append(".fi")
+        plain = row
+        lines.append(shown(line) if line.strip() else ".PP")
+    return lines + [".fi"] * plain
+
+
+def entries(rows):
+    """A tagged paragraph for each row."""
+    return [line for word, told in rows for line in (".TP", f"\\fB{shown(word)}\\fR", shown(told))]
+
+
+def manual(version, whole, parts):
+    """The manual page."""
+    about = parts["replay"][0].about
+    short = whole["short"].about.split("\n")[0]
+    help_ = whole["long"]
+    lines = [f'.\\" {MADE}', f'.TH DSCTL 1 "" "{version}" "User Commands"', ".SH NAME", shown(f"dsctl - {short[0].lower()}{short[1:]}"), ".SH SYNOPSIS"]
+    for usage in [help_.usage] + [it.usage for it, _ in parts.values()]:
+        lines += [f"\\fB{shown(usage)}\\fR", ".br"]
+    lines += [".SH DESCRIPTION", *paragraphs(help_.about), ".SH OPTIONS", *entries(help_.options), ".SH COMMANDS"]
+    for name, (it, _) in parts.items():
+        lines += [f".SS {name}", *paragraphs(it.about), *entries(it.options)]
+    lines += [".SH LINES", *paragraphs(parts["replay"][0].rest), ".SH ANSWERS AND STATUSES", *paragraphs(help_.rest)]
+    assert about, "replay says nothing of itself"
+    return "\n".join(lines) + "\n"
+
+
+def words_of(rows):
+    """The single words of options."""
+    return [word for names, _ in rows for word in names.split(", ")]
+
+
+def bash(whole, parts):
+    """Completions for bash."""
+    commands = "|".join(parts)
+    cases = "".join(f'        {name}) words="{" ".join(words_of(it.options))}" ;;\n' for name, (it, _) in parts.items())
+    first = " ".join([*parts, *words_of(whole["long"].options)])
+    return f"""# Completions for bash, {MADE}.
+_dsctl() {{
+    local at command= words="{first}"
+    for ((at = 1; at < COMP_CWORD; at++)); do
+        case ${{COMP_WORDS[at]}} in
+            {commands}) command=${{COMP_WORDS[at]}} ;;
+        esac
+    done
+    case $command in
+{cases}    esac
+    COMPREPLY=($(compgen -W "$words" -- "${{COMP_WORDS[COMP_CWORD]}}"))
+}}
+complete -F _dsctl dsctl
+"""
+
+
+def quoted(text):
+    """A text in quotes that both zsh and fish read."""
+    return "'" + text.replace("'", "") + "'"
+
+
+def zsh(whole, parts):
+    """Completions for zsh."""
+
+    def arguments(rows):
+        return " ".join(quoted(f"{word}[{told}]") for names, told in rows for word in names.split(", "))
+
+    commands = " ".join(quoted(f"{name}:{told}") for name, told in whole["long"].commands)
+    cases = "".join(f"        {name}) _arguments {arguments(it.options)} ;;\n" for name, (it, _) in parts.items())
+    return f"""#compdef dsctl
+# Completions for zsh, {MADE}.
+_dsctl() {{
+    local -a commands=({commands})
+    if (( CURRENT == 2 )); then
+        _describe command commands
+        _arguments {arguments(whole["long"].options)}
+        return
+    fi
+    case $words[2] in
+{cases}    esac
+}}
+compdef _dsctl dsctl
+"""
+
+
+def fish(whole, parts):
+    """Completions for fish."""
+
+    def option(condition, names, told):
+        flags = " ".join(f"-l {it[2:]}" if it.startswith("--") else f"-s {it[1:]}" for it in names.split(", "))
+        return f"complete -c dsctl -n {condition} {flags} -d {quoted(told)}"
+
+    lines = [f"# Completions for fish, {MADE}.", "complete -c dsctl -f"]
+    lines += [f"complete -c dsctl -n __fish_use_subcommand -a {name} -d {quoted(told)}" for name, told in whole["long"].commands]
+    lines += [option("__fish_use_subcommand", *row) for row in whole["long"].options]
+    for name, (it, _) in parts.items():
+        lines += [option(f"'__fish_seen_subcommand_from {name}'", *row) for row in it.options]
+    return "\n".join(lines) + "\n"
+
+
+def made(program):
+    """The texts that the program's help makes, by their paths."""
+    program = os.path.abspath(program)
+    whole = {"short": read_help(said(program, "-h")), "long": read_help(said(program, "--help"))}
+    names = [name for name, _ in whole["long"].commands]
+    parts = {name: (read_help(said(program, name, "--help")), name) for name in names}
+    version = said(program, "--version").strip()
+    return {
+        ROOT / "man" / "dsctl.1": manual(version, whole, parts),
+        ROOT / "completions" / "dsctl.bash": bash(whole, parts),
+        ROOT / "completions" / "_dsctl": zsh(whole, parts),
+        ROOT / "completions" / "dsctl.fish": fish(whole, parts),
+    }

@@ -1,0 +1,140 @@
+"""What services and store of tests/programs share: seeded scripts that a model answers too."""
+import pathlib
+import random
+import tempfile
+
+import harness
+from refuser import Refuser
+
+
+class Script:
+    """Commands drawn by a seed, with the answers of a model so far, to draw sensible ones.
+
+    A library may do without a growth that it asked for, so that every answer is as with ample memory.
+    """
+
+    part = None  # the line that begins these commands, where a program has several parts
+
+    def __init__(self, seed, model):
+        self.random = random.Random(seed)
+        self.new_model = model
+        self.model = model()
+        self.lines, self.answers, self.kinds = [], [], []
+
+    def ask(self, *command):
+        line, answers = self.model.answer(*command)
+        self.lines.append(line)
+        self.answers.append(answers)
+        self.kinds.append(command)
+        return answers
+
+    def may_lack_room(self, command, ample):
+        """Whether the command, which has this answer with ample memory, may be refused memory."""
+        raise NotImplementedError
+
+    def text(self):
+        lines = [self.part, *self.lines] if self.part else self.lines
+        return "".join(line + "\n" for line in lines).encode()
+
+    def wanted(self):
+        return "".join(line + "\n" for answers in self.answers for line in answers).encode()
+
+
+def agreement(program, script):
+    """Says how the program's answers differ from the model's, or answers None."""
+    ran = harness.run([program], script.text())
+    wrong = harness.difference(ran.output, script.wanted())
+    return wrong or (None if (ran.status, ran.error) == (0, b"") else f"status {ran.status}, standard error {ran.error[:200]!r}")
+
+
+def growths(refuser, room, name, script):
+    """Refuses each growth of a script in turn. Says what was wrong with the first bad answer, or answers None."""
+    given = pathlib.Path(room) / name.replace(" ", "_")
+    given.write_bytes(script.text())
+    case = harness.Case(name, [], given, script.wanted())
+    ample, counts = refuser.run(case)
+    wrong = harness.fault(case, ample)
+    if wrong or not counts["growth"]:
+        return wrong or "no growth of memory was counted at all"
+    for n in range(1, counts["growth"] + 1):
+        ran, _ = refuser.run(case, growth=n)
+        wrong = refused(script, ran, refuser)
+        if wrong:
+            return f"growth {n}: {wrong}"
+    return None
+
+
+def refused(script, ran, refuser):
+    """A refused growth ends the program by name, or is answered so by one call, which then did nothing."""
+    lines = ran.output.decode().splitlines()
+    if ran.status == 3:
+        whole = [it for answers in script.answers for it in answers]
+        return None if ran.error == b"noroom\n" and lines == whole[: len(lines)] else f"it ended with {lines[-1:]}, {ran.error!r}"
+    if (ran.status, ran.error) != (0, b""):
+        return f"status {ran.status}, standard error {ran.error[:200]!r}"
+    if ran.output == script.wanted():
+        return refuser.unseen_fault()
+    if lines.count("refused noroom") != 1:
+        return f"{lines.count('refused noroom')} answers are noroom"
+    model, wanted = script.new_model(), []
+    for command, ample in zip(script.kinds, script.answers):
+        if lines[len(wanted) : len(wanted) + 1] == ["refused noroom"]:
+            if not script.may_lack_room(command, ample):
+                return f"{command} was answered noroom in place of {ample}"
+            wanted.append("refused noroom")
+        else:
+            wanted += model.answer(*command)[1]
+    return harness.difference(ran.output, "".join(it + "\n" for it in wanted).encode())
+
+
+def cause_fault(refuser, room, it):
+    """Says what is wrong with the answer to the command of a causes.Case where its growths are refused, or answers None."""
+
+    def answers(name, lines, **refused):
+        given = pathlib.Path(room) / name
+        given.write_text("".join(line + "\n" for line in lines))
+        ran, counts = refuser.run(harness.Case(name, [], given, b""), **refused)
+        wrong = None if (ran.status, ran.error) == (0, b"") else f"status {ran.status}, standard error {ran.error[:200]!r}"
+        return wrong, ran.output.decode().splitlines(), counts
+
+    name = it.name.replace(" ", "_")
+    wrong, before, counts = answers(name + ".before", it.before)
+    wrong_ample, ample, growths = answers(name, it.before + it.command, behind=counts["write"])
+    if wrong or wrong_ample or ample != before + it.ample:
+        return wrong or wrong_ample or f"answered {ample[len(before):]}, wanted {it.ample}"
+    tried = [(1, 1, it.without), *((n, 0, (it.ample, *it.without)) for n in range(1, growths["growth"] + 1))]
+    for n, later, may_come in tried:
+        wrong, answered, _ = answers(name, it.before + it.command, behind=counts["write"], growth=n, later=later)
+        if wrong or answered not in [before + lines for lines in may_come]:
+            which = "every growth" if later else f"growth {n}"
+            return f"{which} refused: {wrong or answered[len(before):]}, wanted {' or '.join(map(str, may_come))}"
+    return None
+
+
+def ample_fault(refuser, room, it):
+    """Says what is wrong with the answer to the command of a causes.Case with ample memory, or answers None."""
+    given = pathlib.Path(room) / it.name.replace(" ", "_")
+    given.write_bytes(it.text())
+    ran, _ = refuser.run(harness.Case(it.name, [], given, b""))
+    if (ran.status, ran.error) != (0, b""):
+        return f"status {ran.status}, standard error {ran.error[:200]!r}"
+    answered = ran.output.decode().splitlines()
+    return None if answered[-len(it.ample) :] == it.ample else f"it ended with {answered[-3:]}, wanted {it.ample[-3:]}"
+
+
+def report(program, long, short, others=()):
+    """Compares the long scripts and the short ones, each with its name, refuses the short ones memory, and reports.
+
+    `others` has what else is tried: a name, a function that says what is wrong or answers None, and what it is given.
+    """
+    compared = long + short
+    named = list(zip([name for name, _ in compared], harness.at_once(lambda it: agreement(program, it[1]), compared)))
+    with tempfile.TemporaryDirectory() as room:
+        refuser = Refuser(program, room)
+        found = harness.at_once(lambda it: growths(refuser, room, *it), short)
+        tried = harness.at_once(lambda it: it[1](refuser, room, it[2]), others)
+        passed_by = refuser.names_passed_by()
+    named += [(f"growths of {name}", wrong) for (name, _), wrong in zip(short, found)]
+    named += [(name, wrong) for (name, *_), wrong in zip(others, tried)]
+    named.append(("names", f"tests/kit/refuse.c doesn't take over {passed_by}" if passed_by else None))
+    return harness.report(named)

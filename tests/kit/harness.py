@@ -1,0 +1,191 @@
+"""What the test scripts share: the cases, and one run of the program on a case."""
+import multiprocessing
+import os
+import pathlib
+import re
+import subprocess
+import sys
+from concurrent.futures import ProcessPoolExecutor
+from dataclasses import dataclass
+from typing import List, Optional
+
+TESTS = pathlib.Path(__file__).resolve().parent.parent
+CASES = TESTS / "dsctl" / "cases"
+EXAMPLES = TESTS.parent / "examples"
+DOCUMENTS = TESTS.parent / "docs"
+SESSION = re.compile(r"(?<=\n\n)    > .*\n(?:    .*\n)*")  # within a document
+BAD_LINE = re.compile(rb"^badline (\d+) (\d+)$", re.MULTILINE)  # within answers
+SECONDS = 120  # the longest that one run may take, on a busy machine too
+
+
+@dataclass
+class Case:
+    """One run of the program: what it is given, and what it must answer."""
+
+    name: str
+    args: List[str]
+    input: pathlib.Path
+    output: bytes
+    status: int = 0
+    error: Optional[bytes] = None  # None: any text where the status is above 1, else a line for each bad line
+
+
+@dataclass
+class Session:
+    """What somebody types and is answered, as a document shows it."""
+
+    name: str
+    typed: bytes
+    answered: bytes
+
+
+@dataclass
+class Ran:
+    """What one run of the program answered; a status below 0 is the signal that ended it."""
+
+    output: bytes
+    status: Optional[int]  # None: the program hadn't ended in time
+    error: bytes
+
+
+def read_case(folder):
+    """Reads the case that the files of a folder describe."""
+
+    def part(name, otherwise=None):
+        path = folder / name
+        return path.read_bytes() if path.exists() else otherwise
+
+    return Case(
+        name=str(folder.relative_to(CASES)),
+        args=[os.fsdecode(word) for word in part("args", b"").split(b"\n")[:-1]],
+        input=folder / "input",
+        output=part("output"),
+        status=int(part("status", b"0")),
+        error=part("error"),
+    )
+
+
+def all_cases():
+    """Reads every case of tests/dsctl/cases, and every script and settings text of examples/ as a case of its own."""
+    folders = sorted(path.parent for path in CASES.rglob("output"))
+    words = {".ds": [], ".toml": ["settings"]}
+    files = sorted(it for it in EXAMPLES.iterdir() if it.suffix in words)
+    told = [Case(f"examples/{it.name}", words[it.suffix], it, it.with_suffix(".out").read_bytes()) for it in files]
+    return [read_case(folder) for folder in folders] + told
+
+
+def all_sessions():
+    """Reads each session of the documents: a block of indented lines, of which those that are typed stand behind `>`."""
+    sessions = []
+    for document in sorted(DOCUMENTS.glob("*.md")):
+        blocks = [it.group().splitlines() for it in SESSION.finditer(document.read_text())]
+        for number, block in enumerate(blocks, 1):
+            lines = [it[4:].encode() for it in block]
+            typed = b"".join(it[2:] + b"\n" for it in lines if it.startswith(b"> "))
+            answered = b"".join(it + b"\n" for it in lines if not it.startswith(b"> "))
+            sessions.append(Session(f"docs/{document.name}: session {number}", typed, answered))
+    return sessions
+
+
+def run(words, given, environment=None):
+    """Runs a command on the bytes, or the file, that it is given."""
+    how = {"input": given} if isinstance(given, bytes) else {"stdin": given}
+    try:
+        ran = subprocess.run(words, capture_output=True, timeout=SECONDS, env=environment, **how)
+    except subprocess.TimeoutExpired as late:
+        return Ran(late.stdout or b"", None, late.stderr or b"")
+    return Ran(ran.stdout, ran.returncode, ran.stderr)
+
+
+def run_case(program, case, environment=None):
+    """Runs the program on a case."""
+    with case.input.open("rb") as given:
+        return run([program, *case.args], given, environment)
+
+
+def difference(got, wanted):
+    """Names the first line in which two outputs differ, or answers None where they are equal."""
+    if got == wanted:
+        return None
+    lines, wanted_lines = got.split(b"\n"), wanted.split(b"\n")
+    pairs = enumerate(zip(lines, wanted_lines))
+    at = next((at for at, (one, other) in pairs if one != other), min(len(lines), len(wanted_lines)))
+    shown = [repr(it[at][:120])[1:] if at < len(it) else "nothing" for it in (lines, wanted_lines)]
+    return f"line {at + 1} is {shown[0]}, wanted {shown[1]}"
+
+
+def fault(case, ran):
+    """Says what is wrong with the answer to a case, or answers None."""
+    if ran.status is None:
+        return f"the program hadn't ended after {SECONDS} seconds"
+    wrong = difference(ran.output, case.output)
+    if wrong:
+        return f"output: {wrong} (status {ran.status})"
+    if ran.status != case.status:
+        return f"status {ran.status}, wanted {case.status}; standard error: {ran.error[-200:]!r}"
+    if case.error is not None:
+        wrong = difference(ran.error, case.error)
+        return wrong and f"standard error: {wrong}"
+    if case.status > 1:
+        return None if ran.error else f"standard error is empty at status {ran.status}"
+    return unexplained(ran.output, ran.error)
+
+
+def unexplained(output, error):
+    """Says that standard error hasn't just a line for each bad line of the output, or answers None."""
+    wanted = [b"line %s, byte %s: " % it for it in BAD_LINE.findall(output)]
+    told = error.splitlines()
+    if len(told) == len(wanted) and all(map(bytes.startswith, told, wanted)):
+        return None
+    return f"standard error is {error[:200]!r}, wanted a line for each of {wanted[:3]}"
+
+
+def named(ran, word):
+    """Whether a run ended with status 3 and the word, which stands behind what is said of bad lines."""
+    return ran.status == 3 and ran.error.endswith(word) and not unexplained(ran.output, ran.error[: -len(word)])
+
+
+def session_fault(program, session):
+    """Says what is wrong with the answers to a session, or answers None."""
+    ran = run([program], session.typed)
+    wrong = difference(ran.output, session.answered)
+    if wrong or ran.status or ran.error:
+        return wrong or f"status {ran.status}; standard error: {ran.error[-200:]!r}"
+    return None
+
+
+_work = None  # the function and the items of `at_once`, which its processes get by being forked
+
+
+def _done(at):
+    function, items = _work
+    return function(items[at])
+
+
+def at_once(function, items):
+    """Calls the function on each item, in as many processes as there are processors, and gives the results in order."""
+    global _work
+    items = list(items)
+    _work = function, items
+    with ProcessPoolExecutor(os.cpu_count(), multiprocessing.get_context("fork")) as pool:
+        try:
+            return list(pool.map(_done, range(len(items)), chunksize=1 + len(items) // 256))
+        except Exception:
+            pool.shutdown(cancel_futures=True)
+            raise
+
+
+def report(faults):
+    """Prints each fault by its name, then the count, and gives the exit status. `faults` has pairs (name, fault or None)."""
+    bad = [(name, it) for name, it in faults if it]
+    for name, it in bad:
+        print(f"FAILED {name}: {it}")
+    print(f"{len(faults) - len(bad)} passed, {len(bad)} failed", flush=True)
+    return 1 if bad else 0
+
+
+def program_given():
+    """Gives the absolute path of the program that the command line names."""
+    if len(sys.argv) != 2 or not os.access(sys.argv[1], os.X_OK):
+        sys.exit(f"usage: {sys.argv[0]} PROGRAM")
+    return os.path.abspath(sys.argv[1])

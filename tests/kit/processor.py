@@ -1,0 +1,126 @@
+"""The processor time of a run of `rt ci`, by crate and by part: proof, tests, edits; and how many proofs run side by side.
+
+`rt ci` starts one `rattle` for each, and says nothing of what it took. So while it runs, the processes below it are
+looked at a few times a second, and what the kernel counts for each `rattle` and all that it started is kept.
+"""
+import os
+import re
+import threading
+
+PARTS = ("proof", "tests", "edits")
+BUDGET = {"proof": 6, "tests": 1, "edits": 4}  # minutes that a crate may take
+INTERVAL = 0.25
+MOST = 4  # proofs at once
+UNKNOWN = 2  # proofs at once, for what can't be found out
+ROOM = 5 << 30  # bytes that are to be free for each proof
+TICK = os.sysconf("SC_CLK_TCK")
+
+
+def side_by_side(processors, free):
+    """How many proofs run at once, with so many processors and bytes of free memory; None is what can't be found out."""
+    by_processors = UNKNOWN if processors is None else processors
+    by_memory = UNKNOWN if free is None else free // ROOM
+    return max(1, min(MOST, by_processors, by_memory))
+
+
+def usable_processors():
+    """How many processors this process may run on, or None."""
+    return len(os.sched_getaffinity(0)) if hasattr(os, "sched_getaffinity") else None
+
+
+def free_memory(path="/proc/meminfo"):
+    """How many bytes of memory programs may take now, or None."""
+    found = re.search(rb"^MemAvailable: +(\d+) kB$", read(path), re.MULTILINE)
+    return int(found[1]) << 10 if found else None
+
+
+def read(path):
+    try:
+        with open(path, "rb") as it:
+            return it.read()
+    except OSError:
+        return b""
+
+
+def processes():
+    """Each process's parent and the seconds that it and its ended children took, by its number."""
+    found = {}
+    for name in os.listdir("/proc"):
+        fields = read(f"/proc/{name}/stat").rpartition(b")")[2].split() if name.isdigit() else []
+        if len(fields) > 14:
+            found[int(name)] = int(fields[1]), sum(map(int, fields[11:15])) / TICK
+    return found
+
+
+def part_of(number):
+    """The crate and the part that a `rattle` works at, or None where the process is no `rattle`."""
+    words = read(f"/proc/{number}/cmdline").split(b"\0")
+    if not words[0].endswith(b"/rattle") or b"--crate-name" not in words:
+        return None
+    crate = os.fsdecode(words[words.index(b"--crate-name") + 1])
+    try:
+        folder = os.path.basename(os.readlink(f"/proc/{number}/cwd"))
+    except OSError:
+        return None
+    return crate, "edits" if folder.startswith("rt-edit") else "tests" if b"--test" in words else "proof"
+
+
+class Clock:
+    """Looks on while the process `number` and all below it run: `with Clock(number) as clock: ..`."""
+
+    def __init__(self, number):
+        self.number = number
+        self.ended = threading.Event()
+        self.seconds = {}  # by the number of a `rattle`: its crate, its part, and what it took so far
+        self.looking = threading.Thread(target=self.look_on)
+
+    def __enter__(self):
+        self.looking.start()
+        return self
+
+    def __exit__(self, *_):
+        self.ended.set()
+        self.looking.join()
+
+    def look_on(self):
+        while not self.ended.wait(INTERVAL):
+            found = processes()
+            children = {}
+            for number, (parent, _) in found.items():
+                children.setdefault(parent, []).append(number)
+            self.look(self.number, found, children)
+
+    def look(self, number, found, children):
+        """Finds each first `rattle` below a process."""
+        for child in children.get(number, ()):
+            part = part_of(child)
+            if part:
+                took = self.taken(child, found, children)
+                self.seconds[child, part] = max(took, self.seconds.get((child, part), 0))
+            else:
+                self.look(child, found, children)
+
+    def taken(self, number, found, children):
+        return found[number][1] + sum(self.taken(child, found, children) for child in children.get(number, ()))
+
+    def minutes(self):
+        """The minutes of each crate and part."""
+        sums = {}
+        for (_, part), seconds in self.seconds.items():
+            sums[part] = sums.get(part, 0) + seconds / 60
+        return sums
+
+
+def table(minutes, rest):
+    """The lines that tell the minutes of each crate and part, and of the rest by its name; and what is above its budget.
+
+    The crate that took most stands first, and behind the crates stand their sums.
+    """
+    crates = [(crate, *(minutes.get((crate, part), 0) for part in PARTS)) for crate in {crate for crate, _ in minutes}]
+    crates.sort(key=lambda row: (-sum(row[1:]), row[0]))
+    sums = ("all crates", *(sum(row[at] for row in crates) for at in range(1, len(PARTS) + 1)))
+    lines = [f"{'processor minutes':<20}" + "".join(f"{part:>8}" for part in PARTS) + f"{'sum':>8}"]
+    lines += [f"{row[0]:<20}" + "".join(f"{it:8.1f}" for it in (*row[1:], sum(row[1:]))) for row in [*crates, sums]]
+    lines += [f"{name:<44}{it:8.1f}" for name, it in [*rest, ("all", sum(sums[1:]) + sum(it for _, it in rest))]]
+    over = [(row[0], part) for row in crates for part, it in zip(PARTS, row[1:]) if it > BUDGET[part]]
+    return lines + [f"above its budget of {BUDGET[part]}: {crate}, {part}" for crate, part in over]

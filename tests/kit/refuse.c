@@ -1,0 +1,220 @@
+// Preloaded into a program (LD_PRELOAD), this refuses it one growth of memory, one read or one write.
+//
+//   REFUSE_GROWTH=n  the n-th growth of memory fails with ENOMEM
+//   REFUSE_LATER=1   and so does each later one
+//   REFUSE_BEHIND=k  growths behind the k-th write alone are counted
+//   REFUSE_READ=n    the n-th read of standard input fails with EIO
+//   REFUSE_WRITE=n   the n-th write to standard output fails with EIO
+//   REFUSE_SHORT=k   each read of standard input gives, and each write to standard output takes, at most k bytes
+//   REFUSE_STACK=F   the file F gets, at the growth that is refused, the place where the program stands in memory and
+//                    the words of its stack from there up to main: they tell who asked (tests/kit/askers.py)
+//   REFUSE_TALLY=F   the file F, four 64-bit words, gets the number of growths, reads and writes that were asked for,
+//                    and of the bytes that were read
+//
+// Calls are counted from the start of the program's `main`, over all its threads. What the loader and the C library ask
+// for before `main` is theirs, and differs from machine to machine; so `__libc_start_main` is taken over, and counting
+// begins where it enters `main`. The tally is a shared mapping, so it is whole however the program ends. Writes to
+// standard error aren't counted: there the program names its fault.
+//
+// Memory is passed on to the C library's own names, since `dlsym` may itself take memory. Each function below stands for
+// one name by which a program may ask for memory, read or write; tests/dsctl/refusals stops at a program that imports others.
+#define _GNU_SOURCE
+#include <dlfcn.h>
+#include <errno.h>
+#include <fcntl.h>
+#include <stdatomic.h>
+#include <stddef.h>
+#include <stdint.h>
+#include <stdlib.h>
+#include <sys/mman.h>
+#include <sys/syscall.h>
+#include <sys/uio.h>
+#include <unistd.h>
+
+enum call { GROWTH, READ, WRITE, BYTES, WORDS };
+enum { MOST_STACK = 8 << 20 };
+
+static _Atomic uint64_t *tally; // NULL until main begins
+static uint64_t refused[WORDS]; // which call of each kind fails; 0 for none
+static uint64_t most = SIZE_MAX; // bytes of one read or write
+static uint64_t writes_before;   // so many writes come before the first growth that is counted
+static uint64_t later;           // whether growths behind the one that fails fail too
+static int stack_file = -1; // none
+static char *main_frame;
+
+static uint64_t number_of(const char *name) {
+    const char *text = getenv(name);
+    return text ? strtoull(text, NULL, 10) : 0;
+}
+
+static int opened(const char *name) {
+    const char *path = getenv(name);
+    return path ? open(path, O_RDWR) : -1;
+}
+
+static void begin(void) {
+    int file = opened("REFUSE_TALLY");
+    void *words = mmap(NULL, WORDS * sizeof *tally, PROT_READ | PROT_WRITE, MAP_SHARED, file, 0);
+    if (words == MAP_FAILED)
+        _exit(99);
+    close(file);
+    for (size_t at = 0; at < WORDS; at++)
+        ((_Atomic uint64_t *)words)[at] = 0;
+    refused[GROWTH] = number_of("REFUSE_GROWTH");
+    refused[READ] = number_of("REFUSE_READ");
+    refused[WRITE] = number_of("REFUSE_WRITE");
+    if (number_of("REFUSE_SHORT"))
+        most = number_of("REFUSE_SHORT");
+    writes_before = number_of("REFUSE_BEHIND");
+    later = number_of("REFUSE_LATER");
+    stack_file = opened("REFUSE_STACK");
+    tally = words;
+}
+
+// ---- the start of main ----
+
+typedef int main_function(int, char **, char **);
+typedef int start_function(main_function *, int, char **, void (*)(void), void (*)(void), void (*)(void), void *);
+
+static main_function *main_of_program;
+
+static int counted_main(int count, char **words, char **environment) {
+    main_frame = __builtin_frame_address(0);
+    begin();
+    return main_of_program(count, words, environment);
+}
+
+int __libc_start_main(main_function *main, int count, char **words, void (*init)(void), void (*fini)(void),
+                      void (*loader_fini)(void), void *stack_end) {
+    start_function *start = (start_function *)dlsym(RTLD_NEXT, "__libc_start_main");
+    main_of_program = main;
+    return start(counted_main, count, words, init, fini, loader_fini, stack_end);
+}
+
+// ---- growths of memory ----
+
+extern void *__libc_malloc(size_t);
+extern void *__libc_calloc(size_t, size_t);
+extern void *__libc_realloc(void *, size_t);
+extern void *__libc_memalign(size_t, size_t);
+
+static int refuses(enum call call) {
+    return tally && atomic_fetch_add(&tally[call], 1) + 1 == refused[call];
+}
+
+// Only the thread that runs main has its stack told.
+static void tell_stack(char *frame) {
+    Dl_info program;
+    if (stack_file < 0 || frame > main_frame || main_frame - frame > MOST_STACK || !dladdr((void *)main_of_program, &program))
+        return;
+    syscall(SYS_write, stack_file, &program.dli_fbase, sizeof program.dli_fbase);
+    syscall(SYS_write, stack_file, frame, main_frame - frame);
+}
+
+static int refuses_growth(void) {
+    if (!tally || atomic_load(&tally[WRITE]) < writes_before)
+        return 0;
+    int is_later = later && refused[GROWTH] && atomic_load(&tally[GROWTH]) >= refused[GROWTH];
+    if (!refuses(GROWTH) && !is_later)
+        return 0;
+    tell_stack(__builtin_frame_address(0));
+    errno = ENOMEM;
+    return 1;
+}
+
+void *malloc(size_t size) {
+    return refuses_growth() ? NULL : __libc_malloc(size);
+}
+
+void *calloc(size_t count, size_t size) {
+    return refuses_growth() ? NULL : __libc_calloc(count, size);
+}
+
+void *realloc(void *old, size_t size) {
+    return (size || !old) && refuses_growth() ? NULL : __libc_realloc(old, size);
+}
+
+void *reallocarray(void *old, size_t count, size_t size) {
+    size_t whole;
+    if (__builtin_mul_overflow(count, size, &whole)) {
+        errno = ENOMEM;
+        return NULL;
+    }
+    return realloc(old, whole);
+}
+
+void *memalign(size_t alignment, size_t size) {
+    return refuses_growth() ? NULL : __libc_memalign(alignment, size);
+}
+
+void *aligned_alloc(size_t alignment, size_t size) {
+    return memalign(alignment, size);
+}
+
+int posix_memalign(void **to, size_t alignment, size_t size) {
+    void *given = memalign(alignment, size);
+    if (!given)
+        return ENOMEM;
+    *to = given;
+    return 0;
+}
+
+// ---- reads of standard input ----
+
+static size_t shorter(size_t count) {
+    return tally && count > most ? most : count;
+}
+
+// A call on several parts is a shorter one on the first that isn't empty.
+static const struct iovec *first_filled(const struct iovec *parts, int count) {
+    while (count-- > 1 && !parts->iov_len)
+        parts++;
+    return parts;
+}
+
+ssize_t read(int file, void *to, size_t count) {
+    if (file != STDIN_FILENO)
+        return syscall(SYS_read, file, to, count);
+    if (refuses(READ)) {
+        errno = EIO;
+        return -1;
+    }
+    ssize_t done = syscall(SYS_read, file, to, shorter(count));
+    if (tally && done > 0)
+        atomic_fetch_add(&tally[BYTES], done);
+    return done;
+}
+
+ssize_t __read(int file, void *to, size_t count) {
+    return read(file, to, count);
+}
+
+ssize_t readv(int file, const struct iovec *parts, int count) {
+    if (file != STDIN_FILENO)
+        return syscall(SYS_readv, file, parts, count);
+    const struct iovec *first = first_filled(parts, count);
+    return read(file, first->iov_base, first->iov_len);
+}
+
+// ---- writes to standard output ----
+
+ssize_t write(int file, const void *from, size_t count) {
+    if (file != STDOUT_FILENO)
+        return syscall(SYS_write, file, from, count);
+    if (refuses(WRITE)) {
+        errno = EIO;
+        return -1;
+    }
+    return syscall(SYS_write, file, from, shorter(count));
+}
+
+ssize_t __write(int file, const void *from, size_t count) {
+    return write(file, from, count);
+}
+
+ssize_t writev(int file, const struct iovec *parts, int count) {
+    if (file != STDOUT_FILENO)
+        return syscall(SYS_writev, file, parts, count);
+    const struct iovec *first = first_filled(parts, count);
+    return write(file, first->iov_base, first->iov_len);
+}

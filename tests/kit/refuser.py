@@ -1,0 +1,68 @@
+"""Runs a program under tests/kit/refuse.c, which refuses it one growth of memory, one read or one write."""
+import os
+import re
+import struct
+import subprocess
+
+import askers
+import harness
+
+CALLS = ("growth", "read", "write")
+# Names that take memory, read or write, by which a program would pass the library of tests/kit/refuse.c by.
+MOVES = re.compile(
+    "alloc|memalign|mmap|mremap|brk$|strn?dup|getline|getdelim|read|recv|scanf|getc|gets|write|send|printf|put[sc]|splice|syscall"
+)
+HARMLESS = re.compile(r"^pthread_|^v?sn?printf$|^readlink$")
+# Who may be refused a growth with no answer changed: `clap`, where it looks for a similar word; `regex`, where it reads a
+# pattern, also where its reader is compiled into `tree_of`, which asks for nothing itself; `toml`, where it reads a number.
+DOES_WITHOUT = re.compile(r"^((strsim|regex_(class|syntax)|toml(_[a-z]+)?)::|ds_pattern::pattern::tree_of$)")
+# What asks a Since's pattern about keys may want room, and then the cursor is judged all the same: its refusals come before
+# want of memory.
+SEARCH = "regex_vm::pikevm::PikeVm::new"
+CURSOR_REFUSED = re.compile(rb"^refused (oldcursor|ahead|behind)$", re.MULTILINE)
+
+
+class Refuser:
+    """Runs a program with one call refused, and says how many calls of each kind it made."""
+
+    def __init__(self, program, room):
+        self.program = program
+        self.askers = askers.Askers(program)
+        self.room = room
+        self.library = os.path.join(room, "refuse.so")
+        words = [os.environ.get("CC", "cc"), "-O2", "-shared", "-fPIC", "-o", self.library, str(harness.TESTS / "kit" / "refuse.c"), "-ldl"]
+        subprocess.run(words, check=True)
+
+    def run(self, case, **refused):
+        """Runs a case with `growth=n`, `read=n` or `write=n` refused, or with `short=k`."""
+        tally, stack = self.file("tally"), self.file("stack")
+        for path, empty in ((tally, bytes(32)), (stack, b"")):
+            with open(path, "wb") as words:
+                words.write(empty)
+        named = {f"REFUSE_{name.upper()}": str(number) for name, number in refused.items()}
+        environment = {**os.environ, "LD_PRELOAD": self.library, "REFUSE_TALLY": tally, "REFUSE_STACK": stack, **named}
+        ran = harness.run_case(self.program, case, environment)
+        with open(tally, "rb") as words:
+            counts = struct.unpack("4Q", words.read())
+        return ran, dict(zip((*CALLS, "bytes"), counts))
+
+    def file(self, word):
+        """A file of this process."""
+        return os.path.join(self.room, f"{word}-{os.getpid()}")
+
+    def unseen_fault(self, output=b""):
+        """Says what is wrong where the growth that was refused last changed nothing of the output, or answers None."""
+        with open(self.file("stack"), "rb") as words:
+            asker = self.askers.asker(words.read())
+        does_without = DOES_WITHOUT.search(asker) or asker == SEARCH and CURSOR_REFUSED.search(output)
+        return None if does_without else f"no answer tells of it, and {asker} asked for it"
+
+    def names_passed_by(self):
+        """The names that the program imports to take memory, read or write, and that the library doesn't have."""
+
+        def names(file, which):
+            listed = subprocess.run(["nm", "-D", which, file], stdout=subprocess.PIPE, text=True, check=True).stdout
+            return {line.split()[-1].partition("@")[0] for line in listed.splitlines()}
+
+        asked = names(self.program, "--undefined-only") - names(self.library, "--defined-only")
+        return sorted(it for it in asked if MOVES.search(it) and not HARMLESS.search(it))

@@ -1,0 +1,85 @@
+"""What tests/programs/desk asks of threads: crews of them at one desk, over a counter or a store, and refused growths of memory.
+
+The program compares every reply with that of one thread that is given the history, and the account with what the threads
+counted. Each line that it is given, `counter THREADS CALLS` or `store THREADS CALLS`, is answered by one line, the same
+however the threads take turns. Where the n-th growth is refused, the run ends as `noroom`, behind the lines that it had printed;
+or one call of a store is answered so, which is one entry of the history and changes nothing, and all others are answered as
+ever; or a thread couldn't be made, and all is as with ample memory.
+"""
+import pathlib
+
+import harness
+
+RUNS = 5  # of each crew, since every run takes its turns otherwise
+REFUSED = ((1, 12), (2, 6), (1, 0))  # threads, and the calls of each
+UNREAD = ("2", "two 3", "2 3 ", "2 -1", "0 1", "65 1")  # and of no threads there is no desk
+
+
+class Crews:
+    """Crews that share one thing; `words` are those of an answer between its numbers, that with ample memory first."""
+
+    def __init__(self, shared, sizes, *words):
+        self.shared, self.sizes, self.words = shared, sizes, words
+
+    def asked(self, threads, calls):
+        return f"{self.shared} {threads} {calls}\n".encode()
+
+    def lines_of(self, threads, calls):
+        """The lines that may answer a crew, that with ample memory first."""
+        return [f"threads {threads} entries {threads * calls} {words}history legal account exact\n".encode() for words in self.words]
+
+    def fault(self, program, threads, calls):
+        """Runs a crew, and says what is wrong with what it prints, or answers None."""
+        ran = harness.run([program], self.asked(threads, calls))
+        wrong = harness.difference(ran.output, self.lines_of(threads, calls)[0])
+        return wrong or (None if (ran.status, ran.error) == (0, b"") else f"status {ran.status}, standard error {ran.error[:200]!r}")
+
+    def input_faults(self, program):
+        """Lines that can't be read end the program with status 1, after those before them."""
+        good = self.asked(1, 2)
+        for line in [b"\n", *(f"{self.shared} {sizes}\n".encode() for sizes in UNREAD)]:
+            ran = harness.run([program], good + line + good)
+            if (ran.status, ran.output) != (1, self.lines_of(1, 2)[0]):
+                return f"{line!r}: status {ran.status}, output {ran.output[:200]!r}"
+        return None
+
+    def growths(self, refuser, room, threads, calls):
+        """Refuses each growth of one crew in turn. Says what was wrong with the first bad answer, or answers None."""
+        given = pathlib.Path(room) / f"{self.shared}_{threads}_{calls}"
+        given.write_bytes(self.asked(1, 1) + self.asked(threads, calls))
+        first, second = self.lines_of(1, 1), self.lines_of(threads, calls)
+        case = harness.Case(given.name, [], given, first[0] + second[0])
+        wanted = {case.output} | {line + second[0] for line in first} | {first[0] + line for line in second}
+        ample, counts = refuser.run(case)
+        wrong = harness.fault(case, ample)
+        if wrong or not counts["growth"]:
+            return wrong or "no growth of memory was counted at all"
+        ended = answered = 0
+        for n in range(1, counts["growth"] + 1):
+            ran, _ = refuser.run(case, growth=n)
+            ended += ran.status == 3
+            answered += ran.status == 0 and ran.output != case.output
+            if ran.status == 3 and (ran.error != b"noroom\n" or ran.output not in (b"", first[0])):
+                return f"growth {n}: it ended with {ran.output[:200]!r}, {ran.error[:200]!r}"
+            if ran.status != 3 and (ran.status, ran.error, ran.output in wanted) != (0, b"", True):
+                return f"growth {n}: status {ran.status}, output {ran.output[:200]!r}, standard error {ran.error[:200]!r}"
+        if not ended:
+            return "no refused growth ended it"
+        return None if answered or len(first) == 1 else "no refused growth was answered by name in a call"
+
+    def faults(self, refuser, room):
+        """What was wrong with each crew, each several times, and with the growths of small ones, or None."""
+        named = []
+        for threads, calls in self.sizes:
+            runs = (self.fault(refuser.program, threads, calls) for _ in range(RUNS))
+            named.append((f"{self.shared}: {threads} threads of {calls} calls", next(filter(None, runs), None)))
+        named.append((f"{self.shared}: lines that can't be read", self.input_faults(refuser.program)))
+        for threads, calls in REFUSED:
+            named.append((f"{self.shared}: growths of {threads} threads of {calls} calls", self.growths(refuser, room, threads, calls)))
+        return named
+
+
+ALL = (
+    Crews("counter", ((2, 4000), (4, 2000), (8, 1000), (64, 40)), ""),
+    Crews("store", ((2, 1000), (4, 500), (8, 250), (64, 20)), "noroom 0 ", "noroom 1 "),
+)
