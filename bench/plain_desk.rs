@@ -1,6 +1,6 @@
 //! `plain_desk`: a plain, fast, unproved store behind a `Mutex`, to compare a desk over a store with.
 //!
-//! Each line of standard input is `overwrite THREADS CALLS`, as `crew_demo` has it: threads that overwrite a label each,
+//! Each line of standard input is `overwrite THREADS CALLS`, as `test_desk` has it: threads that overwrite a label each,
 //! under one subscription; or `load COUNT`: so many loads of an atomic word. The store keeps what is held in an ordered map
 //! with the subscriptions that each key is under, the floors of owners, the names of endpoints, and the last 256 changes;
 //! notices are bits of 16 atomic words. `rustc -O` builds it.

@@ -1,3 +1,0 @@
-pub mod CrewLemmas
-pub mod CrossingLemmas
-pub mod DeskLemmas

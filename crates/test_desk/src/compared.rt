@@ -1,0 +1,23 @@
+//! Machines that threads share, and one thread has alone.
+
+use crate::kept::Kept;
+use desk_rule::Machine;
+use std::alloc::Global;
+
+/// A machine that threads share at a desk, and that one thread has alone, to compare how both are answered.
+pub(crate) trait Compared: Machine {
+    /// A new one. `None` where memory is wanting.
+    fn begin(alloc: Global) -> Option<Self>;
+
+    /// The command of a thread that had seen so many calls at this turn of its own. `None` where memory is wanting.
+    fn command_of(alloc: Global, seen: u64, turn: u32) -> Option<Self::Command>;
+
+    /// Answers one thread, with no desk.
+    fn answer(&mut self, command: Self::Command) -> Self::Reply;
+
+    /// What is kept of a reply. `None` where memory is wanting.
+    fn kept_of(alloc: Global, reply: &Self::Reply) -> Option<Kept>;
+
+    /// Whether it came as far as the other, where both took the same commands.
+    fn is_as_far_as(&self, other: &Self) -> bool;
+}

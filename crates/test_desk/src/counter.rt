@@ -1,0 +1,92 @@
+//! A counter that threads share at a desk: it adds, and owes a notice to those who watch it.
+//!
+//! It shows that a desk knows nothing of the machine that it holds.
+
+ghost use Rattle.std.specs.Prelude.{◌≡◌};
+
+use desk_rule::Machine;
+
+/// What a counter is asked.
+#[derive(Clone, Copy)]
+pub(crate) enum Count {
+    /// Tell these subscriptions, and no others, from now on: bit 8 s + k is that of subscription k of server s.
+    Watch(u128),
+    /// Add this to the sum, modulo 2^64.
+    Add(u64),
+    /// Say the sum.
+    Read,
+}
+
+/// What it answers.
+#[derive(Clone, Copy, PartialEq, Eq)]
+pub(crate) struct Counted {
+    /// The sum.
+    pub total: u64,
+    /// Who is owed a notice.
+    pub owed: u128,
+}
+
+/// A sum, and the subscriptions that are told when it is added to.
+#[derive(Clone, Copy, PartialEq, Eq)]
+pub(crate) struct Counter {
+    /// The sum.
+    pub total: u64,
+    /// The subscriptions.
+    pub watchers: u128,
+}
+
+impl Counter {
+    /// A sum that nobody watches.
+    pub(crate) fn new(total: u64) -> Counter
+        ensures { (result.total ≡ total) × (result.watchers ≡ 0) }
+    {
+        Counter { total, watchers: 0 }
+    }
+}
+
+impl Machine for Counter {
+    ghost use Rattle.test_desk.specs.Counting.{CounterStep, owes_of};
+    ghost use Rattle.test_desk.specs.declared.counter.Counter.{Counter};
+
+    type Command = Count;
+
+    type Reply = Counted;
+
+    ghost State = { Counter };
+
+    ghost stands = { λ m s. m ≡ s };
+
+    ghost steps = { CounterStep };
+
+    ghost owes = { owes_of };
+
+    fn step(&mut self, command: Count) -> Counted {
+        match command {
+            Count::Watch(watchers) => {
+                self.watchers = watchers;
+                self.answer(0)
+            }
+            Count::Add(amount) => {
+                self.total = self.total.wrapping_add(amount);
+                self.answer(self.watchers)
+            }
+            Count::Read => self.answer(0),
+        }
+    }
+
+    fn owed(reply: &Counted) -> u128 {
+        reply.owed
+    }
+}
+
+impl Counter {
+    // The sum, with who is owed a notice.
+    fn answer(&self, owed: u128) -> Counted
+        ensures { (result.total ≡ self.now.total) × (result.owed ≡ owed) }
+    {
+        Counted {
+            total: self.total,
+            owed,
+        }
+    }
+}

@@ -1,0 +1,34 @@
+//! What threads ask of a counter.
+
+use crate::compared::Compared;
+use crate::counter::{Count, Counted, Counter};
+use crate::kept::Kept;
+use desk_rule::Machine;
+use std::alloc::Global;
+
+impl Compared for Counter {
+    fn begin(_alloc: Global) -> Option<Counter> {
+        Some(Counter::new(0))
+    }
+
+    /// Now and then a thread says who is to be told, or reads, and else it adds.
+    fn command_of(_alloc: Global, _seen: u64, turn: u32) -> Option<Count> {
+        Some(match turn % 8 {
+            0 => Count::Watch((1u128 << (turn % 128)) | 1),
+            3 => Count::Read,
+            _ => Count::Add(u64::from(turn)),
+        })
+    }
+
+    fn answer(&mut self, command: Count) -> Counted {
+        self.step(command)
+    }
+
+    fn kept_of(_alloc: Global, reply: &Counted) -> Option<Kept> {
+        Some(Kept::Counted(*reply))
+    }
+
+    fn is_as_far_as(&self, other: &Counter) -> bool {
+        self == other
+    }
+}

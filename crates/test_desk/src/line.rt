@@ -1,0 +1,72 @@
+//! The lines of standard input.
+
+/// What a line asks for.
+#[derive(Clone, Copy)]
+pub(crate) enum Line {
+    /// Calls of a counter by threads, to be compared with one thread's.
+    Counter(Sizes),
+    /// Calls of a store by threads, to be compared with one thread's.
+    Store(Sizes),
+    /// Overwrites of a store's labels by threads, which are only made.
+    Overwrite(Sizes),
+    /// So many overwrites of a label by each of two threads.
+    Labels(u32),
+    /// So many looks how far a history goes.
+    Front(u32),
+    /// So many takes.
+    Take(u32),
+    /// Two passes that call a store in turn.
+    Row(Row),
+}
+
+/// How many threads there are, 1 to 64, and how many calls each makes.
+#[derive(Clone, Copy)]
+pub(crate) struct Sizes {
+    pub threads: u32,
+    pub calls: u32,
+}
+
+/// What two passes do.
+#[derive(Clone, Copy)]
+pub(crate) enum Row {
+    Notice,
+    Last,
+    Bits,
+    None,
+}
+
+/// Reads a line. `None` where it is none of these.
+pub(crate) fn read_line(line: &str) -> Option<Line> {
+    let Some((word, rest)) = line.split_once(' ') else {
+        return Some(Line::Row(read_row(line)?));
+    };
+    match word {
+        "counter" => Some(Line::Counter(read_sizes(rest)?)),
+        "store" => Some(Line::Store(read_sizes(rest)?)),
+        "overwrite" => Some(Line::Overwrite(read_sizes(rest)?)),
+        "labels" => Some(Line::Labels(rest.parse().ok()?)),
+        "front" => Some(Line::Front(rest.parse().ok()?)),
+        "take" => Some(Line::Take(rest.parse().ok()?)),
+        _ => None,
+    }
+}
+
+fn read_row(word: &str) -> Option<Row> {
+    match word {
+        "notice" => Some(Row::Notice),
+        "last" => Some(Row::Last),
+        "bits" => Some(Row::Bits),
+        "none" => Some(Row::None),
+        _ => None,
+    }
+}
+
+fn read_sizes(words: &str) -> Option<Sizes> {
+    let (threads, calls) = words.split_once(' ')?;
+    let threads = threads.parse::<u32>().ok()?;
+    if threads == 0 || threads > 64 {
+        return None;
+    }
+    let calls = calls.parse::<u32>().ok()?;
+    Some(Sizes { threads, calls })
+}

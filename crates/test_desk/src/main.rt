@@ -1,0 +1,70 @@
+//! `test_desk`: threads that share a counter or a data store at a desk, compared with one thread alone, and two passes in turn.
+//!
+//! Each line of standard input asks for one thing, and what is printed is the same however the threads took turns:
+//! - `counter THREADS CALLS`, `store THREADS CALLS`: 1 to 64 threads, each in a thread of its own where one can be made, make
+//!   that many calls of one desk. Then every reply is compared with that of a machine of one thread which is given the calls in
+//!   the order of their places, and the account of the notices with what the threads counted themselves.
+//! - `labels COUNT`: two threads change a label each so often, and what the closed desk's store says of it is printed.
+//! - `notice`, `last`, `bits`, `none`: two passes of one desk call a store in turn (`rows`).
+//! - `overwrite THREADS CALLS`, `front COUNT`, `take COUNT`, to be measured from outside: calls of a store that are only made,
+//!   looks and takes of one pass.
+//! Status 0: done. 1: a line that can't be read. 3: memory, reading or writing failed, or a pass was refused a note, and
+//! standard error says which.
+#![tactic(auto)]
+
+mod answer;
+mod calls;
+mod commands;
+mod compared;
+mod counter;
+mod counter_compared;
+mod crew;
+mod failure;
+mod kept;
+mod labels;
+mod line;
+mod new_store;
+mod overwrite;
+mod review;
+mod rounds;
+mod rows;
+mod share;
+mod store_compared;
+mod task;
+mod told;
+mod worker;
+
+use answer::answer;
+use failure::Failure;
+use line::read_line;
+use std::io::{BufRead, BufReader};
+use std::process::ExitCode;
+use std::rt::Runtime;
+use std::sync::Wait;
+use std::thread::Threads;
+
+fn main(rt: HostRuntime) -> ExitCode {
+    let word = match run(&rt) {
+        Ok(()) => return ExitCode::SUCCESS,
+        Err(Failure::BadLine) => return ExitCode::from(1),
+        Err(Failure::NoRoom) => "noroom",
+        Err(Failure::ReadFault) => "readfault",
+        Err(Failure::WriteFault) => "writefault",
+        Err(Failure::Worn) => "worn",
+    };
+    let _ = eprintln!(rt; "{word}");
+    ExitCode::from(3)
+}
+
+// Takes the lines in turn, up to the first that can't be read.
+fn run<R: Runtime + AllocGlobal + Threads + Wait + Sync>(rt: &R) -> Result<(), Failure> {
+    let Ok(reader) = BufReader::new(rt.alloc(), rt.reader()) else {
+        return Err(Failure::NoRoom);
+    };
+    for line in reader.lines(rt.alloc()) {
+        let line = line.map_err(Failure::of_reading)?;
+        let asked = read_line(line.as_str()).ok_or(Failure::BadLine)?;
+        answer(rt, rt.alloc(), asked)?;
+    }
+    Ok(())
+}

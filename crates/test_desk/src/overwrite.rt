@@ -1,0 +1,61 @@
+//! Calls of a store that are only made.
+
+ghost use Rattle.std.specs.Prelude.{◌≡◌};
+ghost use Rattle.desk.specs.Desk.{identity};
+ghost use Rattle.desk.specs.Pass.{desk_of};
+
+use crate::commands::{driver_of, everything, follow, label_of, start};
+use crate::compared::Compared;
+use crate::crew::run_crew;
+use crate::line::Sizes;
+use crate::store_compared::FIRST;
+use crate::task::Task;
+use crate::worker::Worker;
+use desk::{Desk, Pass};
+use ds_machine::Reply;
+use ds_shared::SharedStore;
+use std::alloc::Global;
+use std::sync::Wait;
+use std::thread::Threads;
+
+/// So many overwrites of a label that no other thread overwrites: it has the number of the thread's subscription.
+#[derive(Clone, Copy)]
+pub(crate) struct Overwrite {
+    pub calls: u32,
+}
+
+impl Task<SharedStore> for Overwrite {
+    fn work<R: Wait>(
+        &self,
+        rt: &R,
+        alloc: Global,
+        desk: &Desk<SharedStore>,
+        worker: &mut Worker<Pass<SharedStore>>,
+    ) -> Option<()> {
+        let query = everything(alloc)?;
+        let answer = worker.call(rt, desk, follow(query, 0))?;
+        let Reply::Subscribed { stamp, .. } = answer.reply else {
+            return None;
+        };
+        let number = stamp.wrapping_sub(FIRST);
+        let label = label_of(number);
+        for turn in 0..self.calls {
+            let driver = driver_of(&label, 1 + turn % 2_000_000, (number % 1000) as u16)?;
+            worker.call(rt, desk, start(&driver))?;
+        }
+        Some(())
+    }
+}
+
+/// Has so many threads overwrite a label each of one store, which each of them follows. How many bits they raised; `None` where
+/// memory or a place is wanting.
+pub(crate) fn overwrite_labels<R: Threads + Wait + Sync>(
+    rt: &R,
+    alloc: Global,
+    sizes: Sizes,
+) -> Option<u64> {
+    let Sizes { threads, calls } = sizes;
+    let store = SharedStore::begin(alloc)?;
+    let crew = run_crew(rt, alloc, store, threads, Overwrite { calls })?;
+    Some(crew.raises)
+}

@@ -1,0 +1,52 @@
+//! Calls to be compared with one thread's.
+
+ghost use Rattle.std.specs.Prelude.{◌≡◌};
+ghost use Rattle.desk.specs.Desk.{identity};
+ghost use Rattle.desk.specs.Pass.{desk_of};
+
+use crate::compared::Compared;
+use crate::task::Task;
+use crate::worker::{Said, Worker};
+use desk::{Desk, Pass};
+use std::alloc::Global;
+use std::sync::Wait;
+
+/// So many calls, every fourth of which is followed by a take of a server.
+#[derive(Clone, Copy)]
+pub(crate) struct Share {
+    pub calls: u32,
+}
+
+impl<M: Compared> Task<M> for Share
+where
+    M::Command: Drop + Send,
+    M::Reply: Drop + Send,
+{
+    fn work<R: Wait>(
+        &self,
+        rt: &R,
+        alloc: Global,
+        desk: &Desk<M>,
+        worker: &mut Worker<Pass<M>>,
+    ) -> Option<()> {
+        for turn in 0..self.calls {
+            let seen = desk.front(&mut worker.pass);
+            let answer = worker.call(rt, desk, M::command_of(alloc, seen, turn)?)?;
+            let kept = M::kept_of(alloc, &answer.reply)?;
+            let place = answer.place;
+            worker
+                .said
+                .push(Said {
+                    seen,
+                    turn,
+                    place,
+                    kept,
+                })
+                .ok()?;
+            if turn % 4 == 3 {
+                worker.take(desk, turn / 4 % 16)?;
+            }
+        }
+        Some(())
+    }
+}

@@ -1,0 +1,86 @@
+//! The driver `eth0` of generation 3, which publishes while a service reads.
+
+use crate::keys::{number_key, version};
+use ds_entry::Value;
+use ds_machine::Command;
+use ds_names::{Endpoint, Generation, Key, Name, Version};
+use ds_store::Store;
+use whole_reading::Others;
+
+/// The driver, with the numbers that it still publishes, one whenever it is its turn.
+#[derive(Drop)]
+pub(crate) struct Driver {
+    endpoint: Endpoint,
+    version: Version,
+    /// The key of the next number, and the one behind it.
+    next: Option<Key>,
+    behind: Option<Key>,
+}
+
+impl Others for Driver {
+    fn ask(&mut self, store: &mut Store, _spared: Option<u32>) {
+        let next = self.next;
+        self.next = self.behind;
+        self.behind = None;
+        if let Some(key) = next {
+            store.apply(Command::Publish {
+                caller: self.endpoint,
+                key,
+                version: self.version,
+                value: Value::U32(1500),
+                overwrite: true,
+            });
+        }
+    }
+}
+
+/// The version of what it publishes.
+pub(crate) fn first_version() -> Option<Version> {
+    version(3, 0)
+}
+
+/// The endpoint of `eth0` in generation 3.
+pub(crate) fn endpoint() -> Option<Endpoint> {
+    Endpoint::of(Generation::of(3)?, 17)
+}
+
+/// The driver of an endpoint and a version, which will publish `eth0.c` and `eth0.d`.
+pub(crate) fn eth0(endpoint: Endpoint, version: Version) -> Driver {
+    Driver {
+        endpoint,
+        version,
+        next: number_key(b"eth0.c"),
+        behind: number_key(b"eth0.d"),
+    }
+}
+
+fn publish(store: &mut Store, caller: Endpoint, text: &[u8], value: Value) -> Option<()> {
+    let name = Name::read(text).ok()?;
+    let version = first_version()?;
+    store.apply(Command::Publish {
+        caller,
+        key: Key {
+            name,
+            kind: value.kind(),
+        },
+        version,
+        value,
+        overwrite: false,
+    });
+    Some(())
+}
+
+/// In the store RS sweeps what generation 2 left and starts generation 3, which publishes `eth0.a` and `eth0.b`.
+pub(crate) fn begin(store: &mut Store) -> Option<()> {
+    let owner = Name::read(b"eth0").ok()?;
+    let generation = Generation::of(2)?;
+    let caller = endpoint()?;
+    store.apply(Command::Sweep {
+        caller: Endpoint::rs(),
+        owner,
+        generation,
+    });
+    publish(store, Endpoint::rs(), b"eth0", Value::Label(caller))?;
+    publish(store, caller, b"eth0.a", Value::U32(1))?;
+    publish(store, caller, b"eth0.b", Value::U32(2))
+}

@@ -1,0 +1,37 @@
+//! Keys, versions and queries of the rows.
+
+use ds_names::{Generation, Key, Kind, Kinds, Name, Version};
+use ds_pattern::{PatternText, Query};
+use std::alloc::Global;
+
+/// The key of a label.
+pub(crate) fn label_key(text: &[u8]) -> Option<Key> {
+    Some(Key {
+        name: Name::read(text).ok()?,
+        kind: Kind::Label,
+    })
+}
+
+/// The key of a number.
+pub(crate) fn number_key(text: &[u8]) -> Option<Key> {
+    Some(Key {
+        name: Name::read(text).ok()?,
+        kind: Kind::U32,
+    })
+}
+
+/// A version of a generation.
+pub(crate) fn version(generation: u32, seq: u32) -> Option<Version> {
+    Some(Version {
+        epoch: Generation::of(generation)?,
+        seq,
+    })
+}
+
+/// The query of all kinds under a pattern. `None` where memory is wanting.
+pub(crate) fn all_under(alloc: Global, pattern: &[u8]) -> Option<Query> {
+    Some(Query {
+        text: PatternText::of(alloc, pattern).ok()?,
+        kinds: Kinds::of(15)?,
+    })
+}

@@ -1,0 +1,5 @@
+//! The reincarnation server.
+
+pub(crate) mod answer;
+mod command;
+mod printing;

@@ -1,0 +1,65 @@
+//! What the reincarnation server is asked.
+
+use crate::words::{read_endpoint, read_name, read_number};
+use ds_names::{Generation, Name};
+use rs_core::Event;
+use std::str::Split;
+
+/// What a line asks for.
+#[derive(Clone, Copy)]
+pub(crate) enum Command {
+    /// `settings NEXT`: RS begins with the settings that the lines up to `end` are, and with this generation next.
+    Settings(u32),
+    /// `up LABEL TICK`, also `stop`, `refresh` and `restart`; `death ENDPOINT CAUSE TICK`; `beat ENDPOINT TICK`; `tick TICK`
+    Event { event: Event, tick: u64 },
+    /// `state LABEL`: what RS knows of the service.
+    State(Name),
+    /// `service INDEX`: what the settings say of it.
+    Service(usize),
+    /// `key`: the key of the slot that is free next.
+    Key,
+    /// `numbers GENERATION SEQ`: a numberer begins.
+    Numbers { generation: Generation, seq: u32 },
+    /// `number`: the numberer's next number.
+    Number,
+}
+
+/// The command of a line, if it is one. What stands behind it isn't looked at.
+pub(crate) fn read_command(line: &str) -> Option<Command> {
+    let mut words = line.split(' ');
+    match words.next()? {
+        "settings" => Some(Command::Settings(read_number(&mut words)?)),
+        "key" => Some(Command::Key),
+        "number" => Some(Command::Number),
+        "numbers" => {
+            let generation = Generation::of(read_number(&mut words)?)?;
+            let seq = read_number(&mut words)?;
+            Some(Command::Numbers { generation, seq })
+        }
+        "state" => Some(Command::State(read_name(&mut words)?)),
+        "service" => Some(Command::Service(read_number(&mut words)?)),
+        verb => {
+            let event = read_event(verb, &mut words)?;
+            let tick = read_number(&mut words)?;
+            Some(Command::Event { event, tick })
+        }
+    }
+}
+
+// The event of a line, but for its tick.
+fn read_event(verb: &str, words: &mut Split<'_, char>) -> Option<Event> {
+    match verb {
+        "up" => Some(Event::Up(read_name(words)?)),
+        "stop" => Some(Event::Stop(read_name(words)?)),
+        "refresh" => Some(Event::Refresh(read_name(words)?)),
+        "restart" => Some(Event::Restart(read_name(words)?)),
+        "death" => {
+            let endpoint = read_endpoint(words.next()?)?;
+            let cause = read_number(words)?;
+            Some(Event::Death(endpoint, cause))
+        }
+        "beat" => Some(Event::Beat(read_endpoint(words.next()?)?)),
+        "tick" => Some(Event::Tick),
+        _ => None,
+    }
+}

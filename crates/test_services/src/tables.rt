@@ -1,0 +1,4 @@
+//! The driver tables.
+
+pub(crate) mod answer;
+mod command;

@@ -1,0 +1,141 @@
+//! A holder of changes and floors.
+//!
+//! `offer ITEM` merges a change or raises a floor, and `copy CHANGE` merges a change that stays with the program. `join`,
+//! offers and `end` join with another holder, which took these items. `all` asks for all that is held, and `clear` has
+//! nothing held.
+
+use crate::entries::{Entry, offered, read_line};
+use crate::failure::Failure;
+use crate::subject::{Subject, add, ask_all, word_of};
+use ds_entry::{Change, Item, Items};
+use ds_held::Held;
+use ds_join::{JoinFault, Merge, Stop};
+use ds_line::append_item;
+use ds_words::ScriptCommand;
+use std::alloc::Global;
+use std::io::Write;
+use std::rt::Runtime;
+
+/// What a holder is asked.
+#[derive(Drop)]
+pub(crate) enum Asked {
+    /// To merge a change, or to raise a floor.
+    Offer(Item),
+    /// To merge a change that stays where it is.
+    Copy(Change),
+    /// To join with another holder.
+    Join(Held),
+    /// All that is held.
+    All,
+    /// To hold nothing again.
+    Clear,
+}
+
+/// Asks a new holder the lines.
+pub(crate) fn answer_part(rt: &impl Runtime, alloc: Global, lines: &str) -> Result<(), Failure> {
+    ask_all(rt, alloc, &mut Held::new(alloc), lines)
+}
+
+impl Subject for Held {
+    type Asked = Asked;
+
+    fn make(alloc: Global, entry: Entry) -> Result<Asked, Failure> {
+        let Entry { line, block } = entry;
+        match line.as_str() {
+            "join" => Ok(Asked::Join(other(alloc, block)?)),
+            "all" => Ok(Asked::All),
+            "clear" => Ok(Asked::Clear),
+            line => match line.strip_prefix("copy ") {
+                Some(change) => Ok(Asked::Copy(change_of(alloc, change)?)),
+                None => Ok(Asked::Offer(offered(read_line(alloc, line)?)?)),
+            },
+        }
+    }
+
+    fn answer(&mut self, alloc: Global, text: &mut Vec<u8>, asked: Asked) -> Result<(), Failure> {
+        match asked {
+            Asked::Offer(Item::Change(change)) => add_merge(text, self.merge(change)),
+            Asked::Offer(Item::Floor(floor)) => add_merge(text, self.raise(floor)),
+            Asked::Copy(change) => add_merge(text, self.merge_copy(alloc, &change)),
+            Asked::Join(other) => add_join(text, self.join(alloc, &other)),
+            Asked::All => match self.all(alloc) {
+                Ok(items) => add_all(text, &items),
+                Err(_) => add(text, "refused noroom\n"),
+            },
+            Asked::Clear => {
+                self.clear();
+                add(text, "cleared\n")
+            }
+        }
+    }
+}
+
+// The change of a `copy`, which is spelled as in an `offer`.
+fn change_of(alloc: Global, change: &str) -> Result<Change, Failure> {
+    let line = format!(in alloc; "offer {change}")?;
+    match offered(read_line(alloc, line.as_str())?)? {
+        Item::Change(change) => Ok(change),
+        Item::Floor(_) => Err(Failure::BadLine),
+    }
+}
+
+// Another holder, which took the items of a block.
+fn other(alloc: Global, block: Vec<ScriptCommand>) -> Result<Held, Failure> {
+    let mut held = Held::new(alloc);
+    for command in block {
+        let taken = match offered(command)? {
+            Item::Change(change) => held.merge(change),
+            Item::Floor(floor) => held.raise(floor),
+        };
+        match taken {
+            Ok(_) => {}
+            Err(JoinFault::NoRoom) => return Err(Failure::NoRoom),
+            Err(_) => return Err(Failure::BadLine),
+        }
+    }
+    Ok(held)
+}
+
+fn add_merge(text: &mut Vec<u8>, merged: Result<Merge, JoinFault>) -> Result<(), Failure> {
+    match merged {
+        Ok(Merge::Taken) => add(text, "taken\n"),
+        Ok(Merge::Known) => add(text, "known\n"),
+        Ok(Merge::Stale) => add(text, "stale\n"),
+        Err(fault) => {
+            add(text, "refused ")?;
+            add_fault(text, fault)
+        }
+    }
+}
+
+fn add_join(text: &mut Vec<u8>, joined: Result<(), Stop>) -> Result<(), Failure> {
+    match joined {
+        Ok(()) => add(text, "joined\n"),
+        Err(Stop { done, fault }) => {
+            write!(text, "stopped {done} ").ok().ok_or(Failure::NoRoom)?;
+            add_fault(text, fault)
+        }
+    }
+}
+
+fn add_fault(text: &mut Vec<u8>, fault: JoinFault) -> Result<(), Failure> {
+    match fault {
+        JoinFault::Clash { version } => {
+            let (epoch, seq) = (version.epoch.number(), version.seq);
+            let written = write!(text, "clash {epoch}.{seq}\n");
+            written.ok().ok_or(Failure::NoRoom)
+        }
+        other => {
+            add(text, word_of(other))?;
+            add(text, "\n")
+        }
+    }
+}
+
+fn add_all(text: &mut Vec<u8>, items: &Items) -> Result<(), Failure> {
+    for item in items.as_slice() {
+        append_item(text, item)?;
+    }
+    let count = items.len();
+    write!(text, "shown {count}\n").ok().ok_or(Failure::NoRoom)
+}
