@@ -2,4 +2,3 @@ pub mod CrossingLemmas
 pub mod NarrowLemmas
 pub mod PrintableLemmas
 pub mod RegexLemmas
-pub mod WalkLemmas

@@ -4,7 +4,7 @@ use Rattle.std.specs.Prelude.{nat_le, slice_get}
 use Rattle.std.specs.Int.{is_in_range}
 use Rattle.std.specs.Option.{option_or}
 use Rattle.std.specs.Str.{IsAscii}
-use Rattle.std.proofs.lemmas.Bool.{le-leb, lt-leb}
+use Rattle.std.proofs.lemmas.Bool.{le-leb, lt-leb, and_parts}
 use Rattle.std.proofs.lemmas.Bool.Decides.{nat_tests}
 use Rattle.std.proofs.lemmas.List.Elements.{All-from_get_or}
 use Rattle.std.proofs.lemmas.Option.{slice_get_cases, get_or_from_slice_get}
@@ -26,8 +26,8 @@ use Rattle.ds_pattern.specs.declared.pattern.PatternFault.{PatternFault}
 use Rattle.ds_pattern.specs.declared.pattern.PatternFault.TheVariants as fault
 use Rattle.ds_pattern.specs.Narrow.{SameInAscii}
 use Rattle.ds_pattern.specs.Under.{anchored, is_printable, is_read_as, is_regex, matches_whole, FindsWhole}
-use Rattle.ds_pattern.specs.Patterns.{is_pattern, IsFaultOf, IsPatternFault, IsReadAs, IsSyntaxFault}
-use Rattle.ds_pattern.proofs.PrintableLemmas.{both, ascii_of_printable, chars_of_printable, printable_anchored, printable_of_name}
+use Rattle.ds_pattern.specs.Patterns.{is_pattern, IsRegexFault, IsPatternFault, IsReadAs, IsSyntaxFault}
+use Rattle.ds_pattern.proofs.PrintableLemmas.{ascii_of_printable, chars_of_printable, printable_anchored, printable_of_name}
 
 -- what a tree says of the text that it was read from
 abbrev IsFound : Re → Names → ℕ → Nested Re × Names → Type 0
@@ -107,7 +107,7 @@ unfolding is_regex Refuses
 no_regex_of_refused text k refused other printable = refused_by _ _ k other (rw (chars_of_printable text printable) at refused)
 
 -- what an error of `regex` is told as, it is as a fault of the text
-pub syntax_fault : (text : List ℕ) (k : ErrorKind) (f : PatternFault) → IsFaultOf k f → Refuses default_config text k → is_printable text ≡ true → IsSyntaxFault f text
+pub syntax_fault : (text : List ℕ) (k : ErrorKind) (f : PatternFault) → IsRegexFault k f → Refuses default_config text k → is_printable text ≡ true → IsSyntaxFault f text
 syntax_fault text k f (inl h) refused printable = rw h.1 tt
 syntax_fault text k f (inr h) refused printable = rw h.1 (no_regex_of_refused text k refused h.0 printable)
 
@@ -118,11 +118,11 @@ accepted_of_parts p printable alone whole = rw (printable, alone, whole) refl
 
 pub printable_of_accepted : (p : List ℕ) → is_pattern p ≡ true → is_printable p ≡ true
 unfolding is_pattern
-printable_of_accepted p h = (both _ _ (both _ _ h).0).0
+printable_of_accepted p h = (and_parts _ _ (and_parts _ _ h).0).0
 
 pub whole_of_accepted : (p : List ℕ) → is_pattern p ≡ true → is_regex (anchored p) ≡ true
 unfolding is_pattern
-whole_of_accepted p h = (both _ _ h).1
+whole_of_accepted p h = (and_parts _ _ h).1
 
 -- a byte that isn't printable makes a text none
 pub refused_unprintable : (p : List ℕ) → is_printable p ≡ false → is_pattern p ≡ false

@@ -1,4 +1,3 @@
 pub mod Under
 pub mod Patterns
-pub mod Steps
 pub mod Narrow

@@ -25,8 +25,8 @@ IsPatternFault BadPattern p = (length p ≤ 128) × IsFalse (is_pattern p)
 IsPatternFault NoRoom p = (length p ≤ 128) × IsTrue (is_printable p)
 
 -- the fault of an error of `regex`: want of memory is NoRoom, all else says that the text is no pattern
-abbrev pub IsFaultOf : ErrorKind → PatternFault → Type 0
-IsFaultOf kind fault = ((kind ≡ OutOfMemory) × (fault ≡ NoRoom)) ⊎ ((kind ≢ OutOfMemory) × (fault ≡ BadPattern))
+abbrev pub IsRegexFault : ErrorKind → PatternFault → Type 0
+IsRegexFault kind fault = ((kind ≡ OutOfMemory) × (fault ≡ NoRoom)) ⊎ ((kind ≢ OutOfMemory) × (fault ≡ BadPattern))
 
 -- the same, of what `regex` reads in a text
 abbrev pub IsSyntaxFault : PatternFault → List ℕ → Type 0

@@ -12,11 +12,9 @@ mod narrow;
 mod pattern;
 mod query;
 mod threads;
-mod work;
 
 pub use asker::Asker;
 pub use filter::Filter;
 pub use pattern::{Pattern, PatternFault, SIZE_LIMIT};
 pub use query::{PatternText, Query};
 pub use threads::filters_cross_threads;
-pub use work::MOST_STEPS;

@@ -1,17 +1,15 @@
 //! Patterns that were read, and what they match.
 
-ghost use Rattle.std.specs.Prelude.{◌≡◌, ◌≤◌, ◌+◌, IsTrue, IfOk, OnOk, IfErr, is_some, length, string_bytes, vec_len};
+ghost use Rattle.std.specs.Prelude.{◌≡◌, ◌≤◌, IsTrue, IfOk, OnOk, IfErr, is_some, length, string_bytes, vec_len};
 ghost use Rattle.regex_vm.specs.Found.{first_match};
 ghost use Rattle.ds_names.specs.Name.{IsName};
 ghost use Rattle.regex_hir.specs.declared.hir.Hir.{Hir};
 ghost use Rattle.regex_nfa.specs.Sizes.{table_bytes};
 ghost use Rattle.ds_pattern.specs.Under.{anchored, is_printable, is_regex, matches_whole, FindsWhole};
 ghost use Rattle.ds_pattern.specs.Patterns.{IsPattern, IsPatternFault, IsSyntaxFault, IsReadAs};
-ghost use Rattle.ds_pattern.specs.Steps.{IsCheap};
 
 use crate::narrow::narrowed;
 use crate::query::PatternText;
-use crate::work::{MOST_STEPS, steps};
 use ds_names::{Name, NoRoom};
 use regex_hir::Hir;
 use regex_nfa::Nfa;
@@ -32,8 +30,8 @@ pub enum PatternFault {
     /// deep.
     #[error("not a pattern over names")]
     BadPattern,
-    /// A growth was refused, or the pattern is beyond a bound: its compiled table would take more than `SIZE_LIMIT`
-    /// bytes, or a search for it more than `MOST_STEPS` steps. It may be answered in the place of BadPattern.
+    /// A growth was refused, or the compiled table of the pattern would take more than `SIZE_LIMIT` bytes. It may be
+    /// answered in the place of BadPattern.
     #[error("out of memory")]
     NoRoom,
 }
@@ -61,9 +59,9 @@ impl From<regex_compile::Error> for PatternFault {
 }
 
 impl From<regex_syntax::Error> for PatternFault {
-    ghost use Rattle.ds_pattern.specs.Patterns.{IsFaultOf};
+    ghost use Rattle.ds_pattern.specs.Patterns.{IsRegexFault};
 
-    ghost from_gives = { λ error fault. IsFaultOf error.kind fault };
+    ghost from_gives = { λ error fault. IsRegexFault error.kind fault };
 
     fn from(error: regex_syntax::Error) -> PatternFault {
         match error.kind {
@@ -105,7 +103,6 @@ impl Pattern {
     pub fn read(alloc: Global, text: &PatternText) -> Result<Pattern, PatternFault>
         ensures read { IfOk result (λ pattern. pattern ≡ text.now) }
         ensures pattern { IfOk result IsPattern }
-        ensures cheap { IfOk result IsCheap }
         ensures refused { IfErr result (λ fault. IsPatternFault fault text.now) }
     {
         let bytes = text.bytes();
@@ -193,17 +190,13 @@ fn tree_of(alloc: Global, text: &str) -> Result<Hir, PatternFault>
     Ok(parsed.hir)
 }
 
-// Asks whether the text is a pattern, and refuses one that takes too many steps.
+// Asks whether the text is a pattern.
 fn judge(alloc: Global, text: &str) -> Result<(), PatternFault>
     requires { IsTrue (is_printable text.now) }
     ensures ok { OnOk result (IsTrue (is_regex text.now)) }
-    ensures cheap { OnOk result (IsCheap text.now) }
     ensures refused { IfErr result (λ fault. IsSyntaxFault fault text.now) }
 {
-    let tree = tree_of(alloc, text)?;
-    if steps(&tree) > MOST_STEPS {
-        return Err(PatternFault::NoRoom);
-    }
+    let _tree = tree_of(alloc, text)?;
     Ok(())
 }
 
