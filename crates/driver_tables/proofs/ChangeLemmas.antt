@@ -13,31 +13,33 @@ use Rattle.driver_tables.specs.declared.device.Class.{Class}
 use Rattle.driver_tables.specs.declared.device.Class.TheVariants.{Block, Character, Network}
 use Rattle.driver_tables.specs.declared.device.Device.{Device}
 use Rattle.driver_tables.specs.declared.request.Pending.{Pending}
-use Rattle.driver_tables.specs.Driver.{Driver, is_same_name, driver_of, has_label}
+use Rattle.driver_tables.specs.Driver.{Driver, driver_of, has_label}
 use Rattle.driver_tables.specs.Label.{LabelState, endpoint_now, newest, newer, is_same_state, is_old}
-use Rattle.driver_tables.specs.DriverTable.{DriverTable, Request, values_of, is_pending, pending, is_asked}
-use Rattle.driver_tables.specs.Doing.{sent_by, answered_by, does}
-use Rattle.driver_tables.specs.Changed.{started, start, settled, settled_of, settle, all_moves, notes, changing}
-use Rattle.driver_tables.specs.Reached.{IsServed, IsReached, IsAnsweredBy}
-use Rattle.driver_tables.specs.Stands.{TableRecord, Stands, unit_of, pending_of}
-use Rattle.driver_tables.specs.Devices.{is_of, noted, started_at}
+use Rattle.driver_tables.specs.DriverTable.{DriverTable, Request, values_of, is_pending, pending, is_requested}
+use Rattle.driver_tables.specs.Doing.{sends_of, answered_by, does}
+use Rattle.driver_tables.specs.Changed.{network_start, start, settled, settled_of, settle, all_moves, notes, changing}
+use Rattle.driver_tables.specs.Reached.{IsRequestServed, IsTableReached, IsAnsweredBy}
+use Rattle.driver_tables.specs.Stands.{TableRecord, TableStands, unit_of, pending_of}
+use Rattle.driver_tables.specs.Devices.{is_of_label, noted, start_move}
 use Rattle.driver_tables.specs.Requests.{settled_in, is_kept_in, kept_in}
-use Rattle.driver_tables.proofs.TestLemmas.{equal_number, same_name, or_false, and_true}
+use Rattle.driver_tables.proofs.TestLemmas.{equal_number, same_name}
 use Rattle.driver_tables.proofs.UnitLemmas.{now_after, newest_after, noted_all, starts_are, settles_as}
 use Rattle.driver_tables.proofs.MoveLemmas.{values-append, answered, sent, endings, targets, IsOf, answers_left, sends_left, parts, parts_are, none_left, each_left}
 use Rattle.driver_tables.proofs.RequestLemmas.{Follows, Reaches, pending_after, served_after}
 use Rattle.driver_tables.proofs.StandsLemmas.{first_device, no_device}
+use Rattle.ds_names.specs.Name.{is_same_name}
+use Rattle.std.proofs.lemmas.Bool.{and_parts, or_parts}
 
 -- ---- the answer
 abbrev judged : DriverTable → List ℕ → Option EndpointRecord → Bool → Bool → Bool → Result (List Move) TableFault × DriverTable
 judged t label state has old same =
     cond (not has) (Ok [], t) (cond old (Err OldEndpoint, t) (Ok (cond same [] (all_moves t label state)), does (notes t label state) (cond same [] (all_moves t label state))))
 
-pub change_nothing : (v : TableRecord) (t : DriverTable) (label : List ℕ) (state : Option EndpointRecord) → Stands v t → option_map (λ (u : ℕ × Device). u.1) (find (is_of label) v.devices) ≡ None → changing t label state ≡ (Ok [], t)
+pub change_nothing : (v : TableRecord) (t : DriverTable) (label : List ℕ) (state : Option EndpointRecord) → TableStands v t → option_map (λ (u : ℕ × Device). u.1) (find (is_of_label label) v.devices) ≡ None → changing t label state ≡ (Ok [], t)
 change_nothing v t label state s e =
     ap (λ (b : Bool). judged t label state b (is_old (newest t.states label) (endpoint_now t.states label) state) (is_same_state (endpoint_now t.states label) state)) (no_device v t label s e)
 
-pub change_judged : (v : TableRecord) (t : DriverTable) (label : List ℕ) (state : Option EndpointRecord) (d : Device) (old same : Bool) → Stands v t → option_map (λ (u : ℕ × Device). u.1) (find (is_of label) v.devices) ≡ Some d →
+pub change_judged : (v : TableRecord) (t : DriverTable) (label : List ℕ) (state : Option EndpointRecord) (d : Device) (old same : Bool) → TableStands v t → option_map (λ (u : ℕ × Device). u.1) (find (is_of_label label) v.devices) ≡ Some d →
     is_old d.newest d.endpoint state ≡ old → is_same_state d.endpoint state ≡ same → changing t label state ≡ judged t label state true old same
 change_judged v t label state d old same s e o h =
     let k = first_device v t label d s e in
@@ -47,13 +49,13 @@ change_judged v t label state d old same s e o h =
     ∙ (ap (λ (b : Bool). judged t label state true b (is_same_state d.endpoint state)) o ∙ ap (judged t label state true old) h)))
 
 -- a state that the device finds not old isn't
-pub not_old : (v : TableRecord) (t : DriverTable) (label : List ℕ) (state : Option EndpointRecord) (d : Device) → Stands v t → option_map (λ (u : ℕ × Device). u.1) (find (is_of label) v.devices) ≡ Some d →
+pub not_old : (v : TableRecord) (t : DriverTable) (label : List ℕ) (state : Option EndpointRecord) (d : Device) → TableStands v t → option_map (λ (u : ℕ × Device). u.1) (find (is_of_label label) v.devices) ≡ Some d →
     is_old d.newest d.endpoint state ≡ false → is_old (newest t.states label) (endpoint_now t.states label) state ≡ false
 not_old v t label state d s e o =
     let k = first_device v t label d s e in
     ap (λ (x : Option ℕ). is_old x (endpoint_now t.states label) state) (sym k.2) ∙ (ap (λ (x : Option EndpointRecord). is_old d.newest x state) (sym k.1) ∙ o)
 
-pub new_state : (v : TableRecord) (t : DriverTable) (label : List ℕ) (state : Option EndpointRecord) (d : Device) (same : Bool) → Stands v t → option_map (λ (u : ℕ × Device). u.1) (find (is_of label) v.devices) ≡ Some d →
+pub new_state : (v : TableRecord) (t : DriverTable) (label : List ℕ) (state : Option EndpointRecord) (d : Device) (same : Bool) → TableStands v t → option_map (λ (u : ℕ × Device). u.1) (find (is_of_label label) v.devices) ≡ Some d →
     is_same_state d.endpoint state ≡ same → is_same_state (endpoint_now t.states label) state ≡ same
 new_state v t label state d same s e h = ap (λ (x : Option EndpointRecord). is_same_state x state) (sym (first_device v t label d s e).1) ∙ h
 
@@ -80,18 +82,18 @@ starts_answer : (units : List (ℕ × Driver)) (label : List ℕ) (state : Optio
 starts_answer [] label state = refl
 starts_answer (u ∷ units) label state = by (is_same_name label u.1.label) u.1.class state ∙ starts_answer units label state
   where
-    by : (b : Bool) (class : Class) (s : Option EndpointRecord) → flat_map answered_by (cons_option (cond b (started class u.0 s) None) (filter_map (start label state) units)) ≡ flat_map answered_by (filter_map (start label state) units)
+    by : (b : Bool) (class : Class) (s : Option EndpointRecord) → flat_map answered_by (cons_option (cond b (network_start class u.0 s) None) (filter_map (start label state) units)) ≡ flat_map answered_by (filter_map (start label state) units)
     by false class s = refl
     by true Block s = refl
     by true Character s = refl
     by true Network None = refl
     by true Network (Some e) = refl
 
-starts_send : (units : List (ℕ × Driver)) (label : List ℕ) (state : Option EndpointRecord) → flat_map sent_by (filter_map (start label state) units) ≡ []
+starts_send : (units : List (ℕ × Driver)) (label : List ℕ) (state : Option EndpointRecord) → flat_map sends_of (filter_map (start label state) units) ≡ []
 starts_send [] label state = refl
 starts_send (u ∷ units) label state = by (is_same_name label u.1.label) u.1.class state ∙ starts_send units label state
   where
-    by : (b : Bool) (class : Class) (s : Option EndpointRecord) → flat_map sent_by (cons_option (cond b (started class u.0 s) None) (filter_map (start label state) units)) ≡ flat_map sent_by (filter_map (start label state) units)
+    by : (b : Bool) (class : Class) (s : Option EndpointRecord) → flat_map sends_of (cons_option (cond b (network_start class u.0 s) None) (filter_map (start label state) units)) ≡ flat_map sends_of (filter_map (start label state) units)
     by false class s = refl
     by true Block s = refl
     by true Character s = refl
@@ -114,8 +116,8 @@ does_is t label state =
     let rest = filter_map ask (pending t) in
     let a : flat_map answered_by (starts ++ rest) ≡ more_answers t label state =
     flat_map-append answered_by starts rest ∙ (ap (λ (l : List (ℕ × Ending)). l ++ flat_map answered_by rest) (starts_answer t.units label state) ∙ parts_are answered_by answered refl (λ m. refl) ask (is_pending t.answers) t.requests) in
-    let b : flat_map sent_by (starts ++ rest) ≡ more_sends t label state =
-    flat_map-append sent_by starts rest ∙ (ap (λ (l : List (ℕ × EndpointRecord)). l ++ flat_map sent_by rest) (starts_send t.units label state) ∙ parts_are sent_by sent refl (λ m. refl) ask (is_pending t.answers) t.requests) in
+    let b : flat_map sends_of (starts ++ rest) ≡ more_sends t label state =
+    flat_map-append sends_of starts rest ∙ (ap (λ (l : List (ℕ × EndpointRecord)). l ++ flat_map sends_of rest) (starts_send t.units label state) ∙ parts_are sends_of sent refl (λ m. refl) ask (is_pending t.answers) t.requests) in
     ap (λ (l : List (ℕ × EndpointRecord)). record (notes t label state) { sends = t.sends ++ l; answers = t.answers ++ flat_map answered_by (starts ++ rest) }) b
     ∙ ap (λ (l : List (ℕ × Ending)). record (notes t label state) { sends = t.sends ++ more_sends t label state; answers = t.answers ++ l }) a
 
@@ -126,10 +128,10 @@ settled_are states units label state sends (r ∷ requests) =
     ap (λ (o : Option Move). cons_option o (filter_map (settled_in (map (unit_of states) units) label state) (map (pending_of sends) requests))) (settles_as states units label state r (pending_of sends r) refl refl)
     ∙ ap (cons_option (settle units label state r)) (settled_are states units label state sends requests)
 
-pub moves_are : (v : TableRecord) (t : DriverTable) (label : List ℕ) (state : Option EndpointRecord) → Stands v t → filter_map (started_at label state) v.devices ++ filter_map (settled_in v.devices label state) v.pending ≡ all_moves t label state
+pub moves_are : (v : TableRecord) (t : DriverTable) (label : List ℕ) (state : Option EndpointRecord) → TableStands v t → filter_map (start_move label state) v.devices ++ filter_map (settled_in v.devices label state) v.pending ≡ all_moves t label state
 moves_are v t label state s =
-    ap (λ (d : List (ℕ × Device)). filter_map (started_at label state) d ++ filter_map (settled_in d label state) v.pending) s.devices
-    ∙ (ap (λ (l : List Pending). filter_map (started_at label state) (map (unit_of t.states) t.units) ++ filter_map (settled_in (map (unit_of t.states) t.units) label state) l) s.pending
+    ap (λ (d : List (ℕ × Device)). filter_map (start_move label state) d ++ filter_map (settled_in d label state) v.pending) s.devices
+    ∙ (ap (λ (l : List Pending). filter_map (start_move label state) (map (unit_of t.states) t.units) ++ filter_map (settled_in (map (unit_of t.states) t.units) label state) l) s.pending
     ∙ (ap (λ (l : List Move). l ++ filter_map (settled_in (map (unit_of t.states) t.units) label state) (map (pending_of t.sends) (pending t))) (starts_are t.states t.units label state)
     ∙ ap (λ (l : List Move). filter_map (start label state) t.units ++ l) (settled_are t.states t.units label state t.sends (pending t))))
 
@@ -140,7 +142,7 @@ both_follow : (t : DriverTable) (answers : List (ℕ × Ending)) (sends : List (
 both_follow t answers sends ask [] a s = tt
 both_follow t answers sends ask (r ∷ requests) a s = (record { answered = a.0; sent = s.0 }, both_follow t answers sends ask requests a.1 s.1)
 
-pub all_follow : (t : DriverTable) (label : List ℕ) (state : Option EndpointRecord) → IsReached t → AllByRecursion (λ (r : Request). Follows t (more_answers t label state) (more_sends t label state) r (settle t.units label state r)) t.requests
+pub all_follow : (t : DriverTable) (label : List ℕ) (state : Option EndpointRecord) → IsTableReached t → AllByRecursion (λ (r : Request). Follows t (more_answers t label state) (more_sends t label state) r (settle t.units label state r)) t.requests
 all_follow t label state h =
     both_follow t (more_answers t label state) (more_sends t label state) ask t.requests
     (each_left answered endings answers_left ask (settle_own t.units label state) (is_pending t.answers) t.requests h.distinct)
@@ -150,13 +152,13 @@ all_follow t label state h =
     ask = settle t.units label state
 
 -- an id of no request differs from that of each
-pub all_differ : (requests : List Request) (id : ℕ) → is_asked requests id ≡ false → AllByRecursion (λ (r : Request). r.id == id ≡ false) requests
+pub all_differ : (requests : List Request) (id : ℕ) → is_requested requests id ≡ false → AllByRecursion (λ (r : Request). r.id == id ≡ false) requests
 all_differ [] id e = tt
-all_differ (r ∷ requests) id e = let l = or_false (r.id == id) (is_asked requests id) e in (l.0, all_differ requests id l.1)
+all_differ (r ∷ requests) id e = let l = or_parts (r.id == id) (is_requested requests id) e in (l.0, all_differ requests id l.1)
 
 -- ---- labels
 -- a new state of a label that has a unit says nothing of one that has none
-labels_still : (t : DriverTable) (label : List ℕ) (state : Option EndpointRecord) → has_label t.units label ≡ true → IsReached t → (other : List ℕ) → has_label t.units other ≡ false →
+labels_still : (t : DriverTable) (label : List ℕ) (state : Option EndpointRecord) → has_label t.units label ≡ true → IsTableReached t → (other : List ℕ) → has_label t.units other ≡ false →
     (endpoint_now (notes t label state).states other ≡ None) × (newest (notes t label state).states other ≡ None)
 labels_still t label state has h other none = by (is_same_name label other) refl
   where
@@ -175,7 +177,7 @@ labels_still t label state has h other none = by (is_same_name label other) refl
 newer_is : (g : Option ℕ) (now : Option EndpointRecord) (e : EndpointRecord) → is_old g now (Some e) ≡ false → newer g (Some e) ≡ Some e.generation
 newer_is None now e o = refl
 newer_is (Some g) now e o =
-    let l : nat_lt e.generation g ≡ false = (or_false (nat_lt e.generation g) ((e.generation == g) && not (is_same_state now (Some e))) o).0 in
+    let l : nat_lt e.generation g ≡ false = (or_parts (nat_lt e.generation g) ((e.generation == g) && not (is_same_state now (Some e))) o).0 in
     let n : cond (nat_lt g e.generation) e.generation g ≡ e.generation = greatest (nat_lt g e.generation) refl l in
     ap (λ (k : ℕ). Some k) n
   where
@@ -183,7 +185,7 @@ newer_is (Some g) now e o =
     greatest true h l = refl
     greatest false h l = grind (arith, nat_tests)
 
-current_still : (t : DriverTable) (label : List ℕ) (state : Option EndpointRecord) → is_old (newest t.states label) (endpoint_now t.states label) state ≡ false → IsReached t → (other : List ℕ) (e : EndpointRecord) →
+current_still : (t : DriverTable) (label : List ℕ) (state : Option EndpointRecord) → is_old (newest t.states label) (endpoint_now t.states label) state ≡ false → IsTableReached t → (other : List ℕ) (e : EndpointRecord) →
     endpoint_now (notes t label state).states other ≡ Some e → newest (notes t label state).states other ≡ Some e.generation
 current_still t label state old h other e k = by (is_same_name label other) refl
   where
@@ -202,7 +204,7 @@ current_still t label state old h other e k = by (is_same_name label other) refl
 
 -- ---- each request is served by the driver that there is now
 served_moved : (t : DriverTable) (label : List ℕ) (state : Option EndpointRecord) (requests : List Request) → AllByRecursion (λ (r : Request). Follows t (more_answers t label state) (more_sends t label state) r (settle t.units label state r)) requests →
-    AllByRecursion (IsServed t) requests → AllByRecursion (IsServed (moved t label state)) requests
+    AllByRecursion (IsRequestServed t) requests → AllByRecursion (IsRequestServed (moved t label state)) requests
 served_moved t label state [] f h = tt
 served_moved t label state (r ∷ requests) f h = (
   served_after t (moved t label state) (more_answers t label state) (more_sends t label state) r (settle t.units label state r) f.0 h.0 refl refl h.0.found
@@ -237,7 +239,7 @@ served_moved t label state (r ∷ requests) f h = (
     reaches true q Character new n e now silent = cc
     reaches true q Network new n e now silent = cc
 
-pub reached_moved : (t : DriverTable) (label : List ℕ) (state : Option EndpointRecord) → IsReached t → has_label t.units label ≡ true → is_old (newest t.states label) (endpoint_now t.states label) state ≡ false → IsReached (moved t label state)
+pub reached_moved : (t : DriverTable) (label : List ℕ) (state : Option EndpointRecord) → IsTableReached t → has_label t.units label ≡ true → is_old (newest t.states label) (endpoint_now t.states label) state ≡ false → IsTableReached (moved t label state)
 reached_moved t label state h has old = record {
   units = h.units;
   labels = labels_still t label state has h;
@@ -261,7 +263,7 @@ same_state None None h = refl
 same_state None (Some e) h = cc
 same_state (Some d) None h = cc
 same_state (Some d) (Some e) h =
-    let l = and_true (d.generation == e.generation) (d.slot == e.slot) h in
+    let l = and_parts (d.generation == e.generation) (d.slot == e.slot) h in
     let g : d.generation ≡ e.generation = equal_number d.generation e.generation l.0 in
     let n : d.slot ≡ e.slot = equal_number d.slot e.slot l.1 in
     ap (λ (k : ℕ). Some (record { generation = k; slot = d.slot })) g ∙ ap (λ (k : ℕ). Some (record { generation = e.generation; slot = k })) n
@@ -276,12 +278,12 @@ now_still t label state same other = now_after t.states s other ∙ by (is_same_
     by true q = sym (same_state (endpoint_now t.states label) state same) ∙ ap (endpoint_now t.states) (same_name label other q)
     by false q = refl
 
-served_noted : (t : DriverTable) (label : List ℕ) (state : Option EndpointRecord) → is_same_state (endpoint_now t.states label) state ≡ true → (requests : List Request) → AllByRecursion (IsServed t) requests → AllByRecursion (IsServed (notes t label state)) requests
+served_noted : (t : DriverTable) (label : List ℕ) (state : Option EndpointRecord) → is_same_state (endpoint_now t.states label) state ≡ true → (requests : List Request) → AllByRecursion (IsRequestServed t) requests → AllByRecursion (IsRequestServed (notes t label state)) requests
 served_noted t label state same [] h = tt
 served_noted t label state same (r ∷ requests) h =
     (record { driver = h.0.driver; found = h.0.found; answered = h.0.answered; sent = λ none e now. h.0.sent none e (sym (now_still t label state same h.0.driver.label) ∙ now) }, served_noted t label state same requests h.1)
 
-pub reached_noted : (t : DriverTable) (label : List ℕ) (state : Option EndpointRecord) → IsReached t → has_label t.units label ≡ true → is_old (newest t.states label) (endpoint_now t.states label) state ≡ false → is_same_state (endpoint_now t.states label) state ≡ true → IsReached (notes t label state)
+pub reached_noted : (t : DriverTable) (label : List ℕ) (state : Option EndpointRecord) → IsTableReached t → has_label t.units label ≡ true → is_old (newest t.states label) (endpoint_now t.states label) state ≡ false → is_same_state (endpoint_now t.states label) state ≡ true → IsTableReached (notes t label state)
 reached_noted t label state h has old same = record {
   units = h.units;
   labels = labels_still t label state has h;
@@ -303,10 +305,10 @@ follow_kept t label state answers sends [] f = tt
 follow_kept t label state answers sends (r ∷ requests) f =
     (subst (Follows t answers sends r) (sym (settles_as t.states t.units label state r (pending_of t.sends r) refl refl)) f.0, follow_kept t label state answers sends requests f.1)
 
-pub stands_moved : (v : TableRecord) (t : DriverTable) (label : List ℕ) (state : Option EndpointRecord) (devices : List (ℕ × Device)) (left : List Pending) → Stands v t → has_label t.units label ≡ true → is_old (newest t.states label) (endpoint_now t.states label) state ≡ false →
+pub stands_moved : (v : TableRecord) (t : DriverTable) (label : List ℕ) (state : Option EndpointRecord) (devices : List (ℕ × Device)) (left : List Pending) → TableStands v t → has_label t.units label ≡ true → is_old (newest t.states label) (endpoint_now t.states label) state ≡ false →
     devices ≡ map (noted label state) v.devices → left ≡ retain_mut (is_kept_in v.devices label state) (kept_in v.devices label state) v.pending →
-    Stands (record { devices = devices; pending = left; last = v.last }) (does (notes t label state) (all_moves t label state))
-stands_moved v t label state devices left s has old d e = subst (Stands (record { devices = devices; pending = left; last = v.last })) (sym (does_is t label state)) (record {
+    TableStands (record { devices = devices; pending = left; last = v.last }) (does (notes t label state) (all_moves t label state))
+stands_moved v t label state devices left s has old d e = subst (TableStands (record { devices = devices; pending = left; last = v.last })) (sym (does_is t label state)) (record {
   devices = d ∙ (ap (map (noted label state)) s.devices ∙ noted_all t.states t.units label state);
   pending = e ∙ (ap (λ (l : List (ℕ × Device)). retain_mut (is_kept_in l label state) (kept_in l label state) v.pending) s.devices ∙ (ap (retain_mut (is_kept_in kept label state) (kept_in kept label state)) s.pending
       ∙ pending_after t (more_answers t label state) (more_sends t label state) (settled_in kept label state) t.requests (follow_kept t label state (more_answers t label state) (more_sends t label state) t.requests (all_follow t label state s.reached))));
@@ -317,9 +319,9 @@ stands_moved v t label state devices left s has old d e = subst (Stands (record 
     kept : List (ℕ × Device)
     kept = map (unit_of t.states) t.units
 
-pub stands_noted : (v : TableRecord) (t : DriverTable) (label : List ℕ) (state : Option EndpointRecord) (devices : List (ℕ × Device)) → Stands v t → has_label t.units label ≡ true → is_old (newest t.states label) (endpoint_now t.states label) state ≡ false →
-    is_same_state (endpoint_now t.states label) state ≡ true → devices ≡ map (noted label state) v.devices → Stands (record { devices = devices; pending = v.pending; last = v.last }) (does (notes t label state) [])
-stands_noted v t label state devices s has old same d = subst (Stands (record { devices = devices; pending = v.pending; last = v.last })) (sym (notes_is t label state)) (record {
+pub stands_noted : (v : TableRecord) (t : DriverTable) (label : List ℕ) (state : Option EndpointRecord) (devices : List (ℕ × Device)) → TableStands v t → has_label t.units label ≡ true → is_old (newest t.states label) (endpoint_now t.states label) state ≡ false →
+    is_same_state (endpoint_now t.states label) state ≡ true → devices ≡ map (noted label state) v.devices → TableStands (record { devices = devices; pending = v.pending; last = v.last }) (does (notes t label state) [])
+stands_noted v t label state devices s has old same d = subst (TableStands (record { devices = devices; pending = v.pending; last = v.last })) (sym (notes_is t label state)) (record {
   devices = d ∙ (ap (map (noted label state)) s.devices ∙ noted_all t.states t.units label state);
   pending = s.pending;
   last = s.last;

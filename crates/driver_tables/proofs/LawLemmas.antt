@@ -12,24 +12,25 @@ use Rattle.driver_tables.specs.declared.moves.Move.TheVariants.{Answer}
 use Rattle.driver_tables.specs.declared.fault.TableFault.{TableFault}
 use Rattle.driver_tables.specs.declared.device.Class.{Class}
 use Rattle.driver_tables.specs.declared.device.Class.TheVariants.{Block, Character, Network}
-use Rattle.driver_tables.specs.Driver.{Driver, is_same_name, driver_of, has_label}
+use Rattle.driver_tables.specs.Driver.{Driver, driver_of, has_label}
 use Rattle.driver_tables.specs.Label.{LabelState, endpoint_now, newest, newer, is_same_state, is_old}
-use Rattle.driver_tables.specs.DriverTable.{DriverTable, Request, opening, values_of, last_sent, pending, is_pending, is_for, is_asked, is_above}
+use Rattle.driver_tables.specs.DriverTable.{DriverTable, Request, empty_table, values_of, last_sent, pending, is_pending, is_for, is_requested, is_above}
 use Rattle.driver_tables.specs.Doing.{does}
-use Rattle.driver_tables.specs.Changed.{started, start, settled, settled_of, settle, all_moves, notes}
-use Rattle.driver_tables.specs.Submit.{submitted, move_of, accepts}
-use Rattle.driver_tables.specs.Reached.{IsAnsweredBy, IsServed, IsReached}
-use Rattle.driver_tables.specs.Run.{Call, Step, outcome, no_moves, one_move}
+use Rattle.driver_tables.specs.Changed.{network_start, start, settled, settled_of, settle, all_moves, notes}
+use Rattle.driver_tables.specs.Submit.{submitted, move_of, with_request}
+use Rattle.driver_tables.specs.Reached.{IsAnsweredBy, IsRequestServed, IsTableReached}
+use Rattle.driver_tables.specs.Run.{Call, TableStep, table_outcome, no_moves, one_move}
 use Rattle.driver_tables.specs.Run.{Assign, Changed, Submit, Reply}
-use Rattle.driver_tables.specs.Laws.{ListsTell, AnswersOnce, is_done, DoneByItsDriver, GoesToLiving, NoneToOlder, NewestRises, IsKept, BlockRequestsAreKept}
+use Rattle.driver_tables.specs.Laws.{ListsTell, AnswersOnce, is_done, DoneByItsDriver, GoesToLiving, NoneToOlder, NewestRises, IsRequestKept, BlockRequestsAreKept}
 use Rattle.driver_tables.proofs.TestLemmas.{equal_number, equal_itself}
 use Rattle.driver_tables.proofs.UnitLemmas.{now_after, newest_after}
 use Rattle.driver_tables.proofs.SubmitLemmas.{other_ids}
 use Rattle.driver_tables.proofs.ChangeLemmas.{same_state}
 use Rattle.driver_tables.proofs.RunLemmas.{assigned_so, changed_so, submitted_so, replied_so, reached_outcome, reached, tells_run}
+use Rattle.ds_names.specs.Name.{is_same_name}
 
 pub lists_tell : ListsTell
-lists_tell entries t run = tells_run opening t entries run
+lists_tell entries t run = tells_run empty_table t entries run
 
 -- ---- answers
 few : (class : Class) (l : List Ending) → IsAnsweredBy class l → length l ≤ 1
@@ -45,21 +46,21 @@ few Block (Fault ∷ b ∷ l) h = absurd h
 few Character (Fault ∷ b ∷ l) h = absurd h
 few Network (Fault ∷ b ∷ l) h = absurd h
 
-once_asked : (t : DriverTable) (requests : List Request) (id : ℕ) → AllByRecursion (IsServed t) requests → is_asked requests id ≡ true → length (values_of id t.answers) ≤ 1
+once_asked : (t : DriverTable) (requests : List Request) (id : ℕ) → AllByRecursion (IsRequestServed t) requests → is_requested requests id ≡ true → length (values_of id t.answers) ≤ 1
 once_asked t [] id h e = cc
 once_asked t (r ∷ requests) id h e = by (r.id == id) refl e (once_asked t requests id h.1)
   where
-    by : (b : Bool) → r.id == id ≡ b → b || is_asked requests id ≡ true → (is_asked requests id ≡ true → length (values_of id t.answers) ≤ 1) → length (values_of id t.answers) ≤ 1
+    by : (b : Bool) → r.id == id ≡ b → b || is_requested requests id ≡ true → (is_requested requests id ≡ true → length (values_of id t.answers) ≤ 1) → length (values_of id t.answers) ≤ 1
     by true q e rest = subst (λ (n : ℕ). length (values_of n t.answers) ≤ 1) (equal_number r.id id q) (few h.0.driver.class (values_of r.id t.answers) h.0.answered)
     by false q e rest = rest e
 
 pub answers_once : AnswersOnce
-answers_once entries t run id = by (is_asked t.requests id) refl
+answers_once entries t run id = by (is_requested t.requests id) refl
   where
-    h : IsReached t
+    h : IsTableReached t
     h = reached t entries run
 
-    by : (b : Bool) → is_asked t.requests id ≡ b → length (values_of id t.answers) ≤ 1
+    by : (b : Bool) → is_requested t.requests id ≡ b → length (values_of id t.answers) ≤ 1
     by true e = once_asked t t.requests id h.served e
     by false e = subst (λ (l : List Ending). length l ≤ 1) (sym (h.unasked id e).1) (omega arith)
 
@@ -71,7 +72,7 @@ none_started id label state (u ∷ units) = by (is_same_name label u.1.label) u.
     rest_of : List Move
     rest_of = filter_map (start label state) units
 
-    by : (b : Bool) (class : Class) (s : Option EndpointRecord) → list_any (is_done id) rest_of ≡ false → list_any (is_done id) (cons_option (cond b (started class u.0 s) None) rest_of) ≡ false
+    by : (b : Bool) (class : Class) (s : Option EndpointRecord) → list_any (is_done id) rest_of ≡ false → list_any (is_done id) (cons_option (cond b (network_start class u.0 s) None) rest_of) ≡ false
     by false class s rest = rest
     by true Block s rest = rest
     by true Character s rest = rest
@@ -108,7 +109,7 @@ none_moved id t label state false =
 abbrev IsItsDriver : DriverTable → Call → ℕ → Type 0
 IsItsDriver t call id = (endpoint : EndpointRecord) × (call ≡ Reply endpoint id) × (last_sent t.sends id ≡ Some endpoint)
 
-done_so : (t : DriverTable) (call : Call) (moves : List Move) (id : ℕ) → (outcome t call).0 ≡ Ok moves → list_any (is_done id) moves ≡ true → IsItsDriver t call id
+done_so : (t : DriverTable) (call : Call) (moves : List Move) (id : ℕ) → (table_outcome t call).0 ≡ Ok moves → list_any (is_done id) moves ≡ true → IsItsDriver t call id
 done_so t (Assign unit driver) moves id e h = by (is_some (driver_of t.units unit)) e
   where
     by : (b : Bool) → no_moves (assigned_so t unit driver b).0 ≡ Ok moves → IsItsDriver t (Assign unit driver) id
@@ -135,7 +136,7 @@ done_so t (Submit i unit) moves id e h = by (is_above t.requests i) (driver_of t
     by false d e = cc
     by true None e = cc
     by true (Some d) e = let one : move_of t r d ∷ [] ≡ moves = cc in let k : false ≡ true = sym (not_done d.class (endpoint_now t.states d.label)) ∙ (ap (list_any (is_done id)) one ∙ h) in absurd (cc)
-done_so t (Reply endpoint i) moves id e h = by (is_asked (pending t) i) (is_same_state (last_sent t.sends i) (Some endpoint)) refl e
+done_so t (Reply endpoint i) moves id e h = by (is_requested (pending t) i) (is_same_state (last_sent t.sends i) (Some endpoint)) refl e
   where
     sure : (b : Bool) → b || false ≡ true → b ≡ true
     sure true k = refl
@@ -175,7 +176,7 @@ find_new (r ∷ requests) new h = ap (λ (b : Bool). cond b (Some r) (find (is_f
 now_is : (t : DriverTable) (label : List ℕ) (e : EndpointRecord) (d : Driver) → is_same_name label d.label ≡ true → endpoint_now (notes t label (Some e)).states d.label ≡ Some e
 now_is t label e d q = now_after t.states (record { label = label; endpoint = Some e }) d.label ∙ ap (λ (b : Bool). cond b (Some e) (endpoint_now t.states d.label)) q
 
-starts_go : (t u : DriverTable) (label : List ℕ) (state : Option EndpointRecord) → IsReached u → u.units ≡ t.units → u.states ≡ (notes t label state).states → (units : List (ℕ × Driver)) → AllByRecursion (λ (x : ℕ × Driver). driver_of t.units x.0 ≡ Some x.1) units →
+starts_go : (t u : DriverTable) (label : List ℕ) (state : Option EndpointRecord) → IsTableReached u → u.units ≡ t.units → u.states ≡ (notes t label state).states → (units : List (ℕ × Driver)) → AllByRecursion (λ (x : ℕ × Driver). driver_of t.units x.0 ≡ Some x.1) units →
     AllByRecursion (GoesToLiving u) (filter_map (start label state) units)
 starts_go t u label state h same states [] f = tt
 starts_go t u label state h same states (x ∷ units) f = by (is_same_name label x.1.label) refl x.1.class state refl (starts_go t u label state h same states units f.1)
@@ -183,7 +184,7 @@ starts_go t u label state h same states (x ∷ units) f = by (is_same_name label
     rest_of : List Move
     rest_of = filter_map (start label state) units
 
-    by : (b : Bool) → is_same_name label x.1.label ≡ b → (class : Class) (s : Option EndpointRecord) → s ≡ state → AllByRecursion (GoesToLiving u) rest_of → AllByRecursion (GoesToLiving u) (cons_option (cond b (started class x.0 s) None) rest_of)
+    by : (b : Bool) → is_same_name label x.1.label ≡ b → (class : Class) (s : Option EndpointRecord) → s ≡ state → AllByRecursion (GoesToLiving u) rest_of → AllByRecursion (GoesToLiving u) (cons_option (cond b (network_start class x.0 s) None) rest_of)
     by false q class s n rest = rest
     by true q Block s n rest = rest
     by true q Character s n rest = rest
@@ -192,7 +193,7 @@ starts_go t u label state h same states (x ∷ units) f = by (is_same_name label
         let now : endpoint_now u.states x.1.label ≡ Some e = ap (λ (l : List LabelState). endpoint_now l x.1.label) states ∙ (ap (λ (s : Option EndpointRecord). endpoint_now (notes t label s).states x.1.label) (sym n) ∙ now_is t label e x.1 q) in
         (record { driver = x.1; found = ap (λ (l : List (ℕ × Driver)). driver_of l x.0) same ∙ f.0; now = now; greatest = h.current x.1.label e now }, rest)
 
-settles_go : (t u : DriverTable) (label : List ℕ) (state : Option EndpointRecord) → IsReached u → u.units ≡ t.units → u.states ≡ (notes t label state).states → u.requests ≡ t.requests → (test : Request → Bool) (requests : List Request) → AllByRecursion (λ (r : Request). find (is_for r.id) t.requests ≡ Some r) requests →
+settles_go : (t u : DriverTable) (label : List ℕ) (state : Option EndpointRecord) → IsTableReached u → u.units ≡ t.units → u.states ≡ (notes t label state).states → u.requests ≡ t.requests → (test : Request → Bool) (requests : List Request) → AllByRecursion (λ (r : Request). find (is_for r.id) t.requests ≡ Some r) requests →
     AllByRecursion (GoesToLiving u) (filter_map (settle t.units label state) (filter test requests))
 settles_go t u label state h same states asked test [] f = tt
 settles_go t u label state h same states asked test (r ∷ requests) f = by_pending (test r) (settles_go t u label state h same states asked test requests f.1)
@@ -220,7 +221,7 @@ settles_go t u label state h same states asked test (r ∷ requests) f = by_pend
     by_pending false rest = rest
     by_pending true rest = by (driver_of t.units r.unit) refl rest
 
-goes_so : (t : DriverTable) (call : Call) (moves : List Move) → IsReached t → IsReached (outcome t call).1 → (outcome t call).0 ≡ Ok moves → AllByRecursion (GoesToLiving (outcome t call).1) moves
+goes_so : (t : DriverTable) (call : Call) (moves : List Move) → IsTableReached t → IsTableReached (table_outcome t call).1 → (table_outcome t call).0 ≡ Ok moves → AllByRecursion (GoesToLiving (table_outcome t call).1) moves
 goes_so t (Assign unit driver) moves h after e = by (is_some (driver_of t.units unit)) e
   where
     by : (b : Bool) → no_moves (assigned_so t unit driver b).0 ≡ Ok moves → AllByRecursion (GoesToLiving (assigned_so t unit driver b).1) moves
@@ -228,7 +229,7 @@ goes_so t (Assign unit driver) moves h after e = by (is_some (driver_of t.units 
     by false e = let none : [] ≡ moves = cc in subst (AllByRecursion (GoesToLiving (assigned_so t unit driver false).1)) none tt
 goes_so t (Changed label state) moves h after e = by (has_label t.units label) (is_old (newest t.states label) (endpoint_now t.states label) state) (is_same_state (endpoint_now t.states label) state) after e
   where
-    by : (has old same : Bool) → IsReached (changed_so t label state has old same).1 → (changed_so t label state has old same).0 ≡ Ok moves → AllByRecursion (GoesToLiving (changed_so t label state has old same).1) moves
+    by : (has old same : Bool) → IsTableReached (changed_so t label state has old same).1 → (changed_so t label state has old same).0 ≡ Ok moves → AllByRecursion (GoesToLiving (changed_so t label state has old same).1) moves
     by false old same after e = let none : [] ≡ moves = cc in subst (AllByRecursion (GoesToLiving t)) none tt
     by true true same after e = cc
     by true false true after e = let none : [] ≡ moves = cc in subst (AllByRecursion (GoesToLiving (changed_so t label state true false true).1)) none tt
@@ -243,17 +244,17 @@ goes_so t (Submit id unit) moves h after e = by (is_above t.requests id) refl (d
     r : Request
     r = record { id = id; unit = unit }
 
-    one : (d : Driver) → is_above t.requests id ≡ true → driver_of t.units unit ≡ Some d → IsReached (does (accepts t r) (move_of t r d ∷ [])) → (s : Option EndpointRecord) → endpoint_now t.states d.label ≡ s → (class : Class) → GoesToLiving (does (accepts t r) (move_of t r d ∷ [])) (submitted class id s)
+    one : (d : Driver) → is_above t.requests id ≡ true → driver_of t.units unit ≡ Some d → IsTableReached (does (with_request t r) (move_of t r d ∷ [])) → (s : Option EndpointRecord) → endpoint_now t.states d.label ≡ s → (class : Class) → GoesToLiving (does (with_request t r) (move_of t r d ∷ [])) (submitted class id s)
     one d above found after (Some e) now class = (r, find_new t.requests r (other_ids t.requests id above), record { driver = d; found = found; now = now; greatest = after.current d.label e now })
     one d above found after None now Block = tt
     one d above found after None now Character = tt
     one d above found after None now Network = tt
 
-    by : (above : Bool) → is_above t.requests id ≡ above → (d : Option Driver) → driver_of t.units unit ≡ d → IsReached (submitted_so t r above d).1 → one_move (submitted_so t r above d).0 ≡ Ok moves → AllByRecursion (GoesToLiving (submitted_so t r above d).1) moves
+    by : (above : Bool) → is_above t.requests id ≡ above → (d : Option Driver) → driver_of t.units unit ≡ d → IsTableReached (submitted_so t r above d).1 → one_move (submitted_so t r above d).0 ≡ Ok moves → AllByRecursion (GoesToLiving (submitted_so t r above d).1) moves
     by false a d found after e = cc
     by true a None found after e = cc
-    by true a (Some d) found after e = let this : move_of t r d ∷ [] ≡ moves = cc in subst (AllByRecursion (GoesToLiving (does (accepts t r) (move_of t r d ∷ [])))) this (one d a found after (endpoint_now t.states d.label) refl d.class, tt)
-goes_so t (Reply endpoint id) moves h after e = by (is_asked (pending t) id) (is_same_state (last_sent t.sends id) (Some endpoint)) e
+    by true a (Some d) found after e = let this : move_of t r d ∷ [] ≡ moves = cc in subst (AllByRecursion (GoesToLiving (does (with_request t r) (move_of t r d ∷ [])))) this (one d a found after (endpoint_now t.states d.label) refl d.class, tt)
+goes_so t (Reply endpoint id) moves h after e = by (is_requested (pending t) id) (is_same_state (last_sent t.sends id) (Some endpoint)) e
   where
     by : (there same : Bool) → one_move (replied_so t id there same).0 ≡ Ok moves → AllByRecursion (GoesToLiving (replied_so t id there same).1) moves
     by false same e = cc
@@ -290,7 +291,7 @@ one_rises states s label g e = by (is_same_name s.label label) (newest_after sta
     by false q = (g, q ∙ e, omega arith)
     by true q = greater s.endpoint (q ∙ ap (λ (n : Option ℕ). newer n s.endpoint) e)
 
-rises_outcome : (t : DriverTable) (call : Call) (label : List ℕ) (g : ℕ) → Rises t.states (outcome t call).1.states label g
+rises_outcome : (t : DriverTable) (call : Call) (label : List ℕ) (g : ℕ) → Rises t.states (table_outcome t call).1.states label g
 rises_outcome t (Assign unit driver) label g = by (is_some (driver_of t.units unit))
   where
     by : (b : Bool) → Rises t.states (assigned_so t unit driver b).1.states label g
@@ -308,14 +309,14 @@ rises_outcome t (Submit id unit) label g = by (is_above t.requests id) (driver_o
     by false d = stays t.states label g
     by true None = stays t.states label g
     by true (Some d) = stays t.states label g
-rises_outcome t (Reply endpoint id) label g = by (is_asked (pending t) id) (is_same_state (last_sent t.sends id) (Some endpoint))
+rises_outcome t (Reply endpoint id) label g = by (is_requested (pending t) id) (is_same_state (last_sent t.sends id) (Some endpoint))
   where
     by : (there same : Bool) → Rises t.states (replied_so t id there same).1.states label g
     by false same = stays t.states label g
     by true false = stays t.states label g
     by true true = stays t.states label g
 
-rises_step : (t u : DriverTable) (call : Call) (answer : Result (List Move) TableFault) (label : List ℕ) (g : ℕ) → Step t call answer u → Rises t.states u.states label g
+rises_step : (t u : DriverTable) (call : Call) (answer : Result (List Move) TableFault) (label : List ℕ) (g : ℕ) → TableStep t call answer u → Rises t.states u.states label g
 rises_step t u call (Ok moves) label g s = subst (λ (x : DriverTable). Rises t.states x.states label g) (sym s.after) (rises_outcome t call label g)
 rises_step t u call (Err fault) label g s = subst (λ (x : DriverTable). Rises t.states x.states label g) (sym s.unchanged) (stays t.states label g)
 
@@ -331,7 +332,7 @@ newest_rises t u (entry ∷ entries) label g run e =
 
 -- ---- requests to block drivers
 kept_from : (t : DriverTable) (r : Request) (d : Driver) (l : List Ending) → values_of r.id t.answers ≡ l → (class : Class) → class ≡ Block → IsAnsweredBy class l →
-    (values_of r.id t.answers ≡ [] → (e : EndpointRecord) → endpoint_now t.states d.label ≡ Some e → last_sent t.sends r.id ≡ Some e) → IsKept t r d
+    (values_of r.id t.answers ≡ [] → (e : EndpointRecord) → endpoint_now t.states d.label ≡ Some e → last_sent t.sends r.id ≡ Some e) → IsRequestKept t r d
 kept_from t r d [] q class b h sent = inr (q, sent q)
 kept_from t r d (Done ∷ []) q class b h sent = inl q
 kept_from t r d (Fault ∷ []) q Block b h sent = absurd h
@@ -344,12 +345,12 @@ kept_from t r d (Fault ∷ y ∷ l) q Block b h sent = absurd h
 kept_from t r d (Fault ∷ y ∷ l) q Character b h sent = absurd h
 kept_from t r d (Fault ∷ y ∷ l) q Network b h sent = absurd h
 
-kept_each : (t : DriverTable) (requests : List Request) → AllByRecursion (IsServed t) requests → AllByRecursion (λ (r : Request). (d : Driver) → driver_of t.units r.unit ≡ Some d → d.class ≡ Block → IsKept t r d) requests
+kept_each : (t : DriverTable) (requests : List Request) → AllByRecursion (IsRequestServed t) requests → AllByRecursion (λ (r : Request). (d : Driver) → driver_of t.units r.unit ≡ Some d → d.class ≡ Block → IsRequestKept t r d) requests
 kept_each t [] h = tt
 kept_each t (r ∷ requests) h = (
   λ d found block.
       let same : h.0.driver ≡ d = one h.0.driver d (sym h.0.found ∙ found) in
-      subst (IsKept t r) same (kept_from t r h.0.driver (values_of r.id t.answers) refl h.0.driver.class (ap (λ (x : Driver). x.class) same ∙ block) h.0.answered h.0.sent),
+      subst (IsRequestKept t r) same (kept_from t r h.0.driver (values_of r.id t.answers) refl h.0.driver.class (ap (λ (x : Driver). x.class) same ∙ block) h.0.answered h.0.sent),
   kept_each t requests h.1,
 )
   where

@@ -1,5 +1,5 @@
 -- Lists that a loop goes through, and look-ups in longer ones.
-use Rattle.std.proofs.Common.{◌≡◌, ℕ, ◌+◌, Bool, true, false, cond, List, [], ◌∷◌, ◌++◌, length, drop, take, map, Option, Some, None, zero, suc, refl, sym, ap, ◌∙◌, subst, arith}
+use Rattle.std.proofs.Common.{◌≡◌, ◌≢◌, ℕ, ◌+◌, Bool, true, false, cond, List, [], ◌∷◌, ◌++◌, length, drop, take, map, Option, Some, None, zero, suc, refl, sym, ap, ◌∙◌, subst, arith}
 use Rattle.std.specs.List.{slice_get, filter_map, cons_option, find, retain_mut, last_or}
 use Rattle.std.specs.List.Retain.{RetainsInTurn}
 use Rattle.std.specs.Map.{lookup}
@@ -101,3 +101,25 @@ lookup_added {K} {X} test (p ∷ xs) ys e = by (test p.0) e (lookup_added test x
     by : (b : Bool) → cond b (Some p.1) (lookup test xs) ≡ None → (lookup test xs ≡ None → lookup test (xs ++ ys) ≡ lookup test ys) → cond b (Some p.1) (lookup test (xs ++ ys)) ≡ lookup test ys
     by true e rest = cc
     by false e rest = rest e
+
+-- what one item gives is in the list of what all give
+pub filter_map_some : {X Y : Type 0} (h : X → Option Y) (xs : List X) (i : ℕ) (x : X) → slice_get xs i ≡ Some x → h x ≢ None → filter_map h xs ≢ []
+filter_map_some h [] i x e some = cc
+filter_map_some h (y ∷ ys) zero x e some = let k : y ≡ x = cc in by (h y) (filter_map h ys) (λ n. some (sym (ap h k) ∙ n))
+  where
+    by : {Y : Type 0} (o : Option Y) (l : List Y) → o ≢ None → cons_option o l ≢ []
+    by None l n = absurd (n refl)
+    by (Some z) l n = λ q. cc
+filter_map_some h (y ∷ ys) (suc i) x e some = by (h y) (filter_map h ys) (filter_map_some h ys i x e some)
+  where
+    by : {Y : Type 0} (o : Option Y) (l : List Y) → l ≢ [] → cons_option o l ≢ []
+    by None l n = n
+    by (Some z) l n = λ q. cc
+
+pub either_part : {X : Type 0} (xs ys : List X) → xs ≢ [] → xs ++ ys ≢ []
+either_part [] ys n = absurd (n refl)
+either_part (x ∷ xs) ys n = λ q. cc
+
+pub second_part : {X : Type 0} (xs ys : List X) → ys ≢ [] → xs ++ ys ≢ []
+second_part [] ys n = n
+second_part (x ∷ xs) ys n = λ q. cc

@@ -6,12 +6,12 @@ use Rattle.ds_names.specs.Endpoint.{EndpointRecord}
 use Rattle.driver_tables.specs.declared.moves.Ending.{Ending}
 use Rattle.driver_tables.specs.declared.moves.Move.{Move}
 use Rattle.driver_tables.specs.declared.moves.Move.TheVariants.{Start, Send, Answer, Held}
-use Rattle.driver_tables.specs.DriverTable.{Request, value_of, values_of}
-use Rattle.driver_tables.specs.Doing.{sent_by, answered_by}
+use Rattle.driver_tables.specs.DriverTable.{Request, value_for, values_of}
+use Rattle.driver_tables.specs.Doing.{sends_of, answered_by}
 use Rattle.driver_tables.proofs.TestLemmas.{equal_itself, equal_turned}
 
 pub values-append : {X : Type 0} (id : ℕ) (xs ys : List (ℕ × X)) → values_of id (xs ++ ys) ≡ values_of id xs ++ values_of id ys
-values-append id xs ys = filter_map-append (value_of id) xs ys
+values-append id xs ys = filter_map-append (value_for id) xs ys
 
 -- ---- one move, or none
 
@@ -22,7 +22,7 @@ answered (Some m) = answered_by m
 
 abbrev pub sent : Option Move → List (ℕ × EndpointRecord)
 sent None = []
-sent (Some m) = sent_by m
+sent (Some m) = sends_of m
 
 -- the same, without the id
 abbrev pub endings : Option Move → List Ending

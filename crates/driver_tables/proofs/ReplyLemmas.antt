@@ -13,10 +13,10 @@ use Rattle.driver_tables.specs.declared.device.Class.{Class}
 use Rattle.driver_tables.specs.declared.device.Class.TheVariants.{Block, Character, Network}
 use Rattle.driver_tables.specs.declared.request.Pending.{Pending}
 use Rattle.driver_tables.specs.Label.{is_same_state}
-use Rattle.driver_tables.specs.DriverTable.{DriverTable, Request, values_of, last_sent, is_empty, is_pending, pending, is_asked}
+use Rattle.driver_tables.specs.DriverTable.{DriverTable, Request, values_of, last_sent, is_empty, is_pending, pending, is_requested}
 use Rattle.driver_tables.specs.Reply.{finishes, replying}
-use Rattle.driver_tables.specs.Reached.{IsServed, IsReached, IsAnsweredBy}
-use Rattle.driver_tables.specs.Stands.{TableRecord, Stands}
+use Rattle.driver_tables.specs.Reached.{IsRequestServed, IsTableReached, IsAnsweredBy}
+use Rattle.driver_tables.specs.Stands.{TableRecord, TableStands}
 use Rattle.driver_tables.specs.Requests.{stays_pending, kept_after}
 use Rattle.driver_tables.proofs.TestLemmas.{equal_number, equal_turned}
 use Rattle.driver_tables.proofs.MoveLemmas.{values-append, endings, targets, answers_left}
@@ -27,22 +27,22 @@ use Rattle.driver_tables.proofs.StandsLemmas.{sent_kept}
 abbrev judged : DriverTable → ℕ → Bool → Bool → Result Move TableFault × DriverTable
 judged t id there same = cond there (cond same (Ok (Answer id Done), finishes t id) (Err OldEndpoint, t)) (Err NotPending, t)
 
-pub reply_missing : (v : TableRecord) (t : DriverTable) (endpoint : EndpointRecord) (id : ℕ) → Stands v t → option_map (λ (p : Pending). p.sent) (find (λ (p : Pending). p.id == id) v.pending) ≡ None → replying t endpoint id ≡ (Err NotPending, t)
-reply_missing v t endpoint id s e = by (is_asked (pending t) id) (sym (sent_kept v t id s) ∙ e)
+pub reply_missing : (v : TableRecord) (t : DriverTable) (endpoint : EndpointRecord) (id : ℕ) → TableStands v t → option_map (λ (p : Pending). p.sent) (find (λ (p : Pending). p.id == id) v.pending) ≡ None → replying t endpoint id ≡ (Err NotPending, t)
+reply_missing v t endpoint id s e = by (is_requested (pending t) id) (sym (sent_kept v t id s) ∙ e)
   where
     by : (b : Bool) → cond b (Some (last_sent t.sends id)) None ≡ None → judged t id b (is_same_state (last_sent t.sends id) (Some endpoint)) ≡ (Err NotPending, t)
     by true h = cc
     by false h = refl
 
-pub reply_there : (v : TableRecord) (t : DriverTable) (id : ℕ) (sent : Option EndpointRecord) → Stands v t → option_map (λ (p : Pending). p.sent) (find (λ (p : Pending). p.id == id) v.pending) ≡ Some sent →
-    (is_asked (pending t) id ≡ true) × (last_sent t.sends id ≡ sent)
-reply_there v t id sent s e = by (is_asked (pending t) id) (sym (sent_kept v t id s) ∙ e)
+pub reply_there : (v : TableRecord) (t : DriverTable) (id : ℕ) (sent : Option EndpointRecord) → TableStands v t → option_map (λ (p : Pending). p.sent) (find (λ (p : Pending). p.id == id) v.pending) ≡ Some sent →
+    (is_requested (pending t) id ≡ true) × (last_sent t.sends id ≡ sent)
+reply_there v t id sent s e = by (is_requested (pending t) id) (sym (sent_kept v t id s) ∙ e)
   where
     by : (b : Bool) → cond b (Some (last_sent t.sends id)) None ≡ Some sent → (b ≡ true) × (last_sent t.sends id ≡ sent)
     by true h = let k : last_sent t.sends id ≡ sent = cc in (refl, k)
     by false h = cc
 
-pub reply_judged : (v : TableRecord) (t : DriverTable) (endpoint : EndpointRecord) (id : ℕ) (sent : Option EndpointRecord) (same : Bool) → Stands v t → option_map (λ (p : Pending). p.sent) (find (λ (p : Pending). p.id == id) v.pending) ≡ Some sent →
+pub reply_judged : (v : TableRecord) (t : DriverTable) (endpoint : EndpointRecord) (id : ℕ) (sent : Option EndpointRecord) (same : Bool) → TableStands v t → option_map (λ (p : Pending). p.sent) (find (λ (p : Pending). p.id == id) v.pending) ≡ Some sent →
     is_same_state sent (Some endpoint) ≡ same → replying t endpoint id ≡ judged t id true same
 reply_judged v t endpoint id sent same s e h =
     let k = reply_there v t id sent s e in
@@ -50,25 +50,25 @@ reply_judged v t endpoint id sent same s e h =
 
 -- ---- what it leaves
 -- the request that is pending has no answer
-pub open_id : (answers : List (ℕ × Ending)) (requests : List Request) (id : ℕ) → is_asked (filter (is_pending answers) requests) id ≡ true → is_empty (values_of id answers) ≡ true
+pub open_id : (answers : List (ℕ × Ending)) (requests : List Request) (id : ℕ) → is_requested (filter (is_pending answers) requests) id ≡ true → is_empty (values_of id answers) ≡ true
 open_id answers [] id e = cc
 open_id answers (r ∷ requests) id e = by (is_pending answers r) refl (r.id == id) refl e (open_id answers requests id)
   where
-    by : (b : Bool) → is_pending answers r ≡ b → (c : Bool) → r.id == id ≡ c → is_asked (cond b (r ∷ filter (is_pending answers) requests) (filter (is_pending answers) requests)) id ≡ true →
-        (is_asked (filter (is_pending answers) requests) id ≡ true → is_empty (values_of id answers) ≡ true) → is_empty (values_of id answers) ≡ true
+    by : (b : Bool) → is_pending answers r ≡ b → (c : Bool) → r.id == id ≡ c → is_requested (cond b (r ∷ filter (is_pending answers) requests) (filter (is_pending answers) requests)) id ≡ true →
+        (is_requested (filter (is_pending answers) requests) id ≡ true → is_empty (values_of id answers) ≡ true) → is_empty (values_of id answers) ≡ true
     by false p c q e rest = rest e
     by true p true q e rest = ap (λ (n : ℕ). is_empty (values_of n answers)) (sym (equal_number r.id id q)) ∙ p
-    by true p false q e rest = rest (sym (ap (λ (b : Bool). b || is_asked (filter (is_pending answers) requests) id) q) ∙ e)
+    by true p false q e rest = rest (sym (ap (λ (b : Bool). b || is_requested (filter (is_pending answers) requests) id) q) ∙ e)
 
 -- and is among those that were accepted
-pub asked_all : (test : Request → Bool) (requests : List Request) (id : ℕ) → is_asked (filter test requests) id ≡ true → is_asked requests id ≡ true
+pub asked_all : (test : Request → Bool) (requests : List Request) (id : ℕ) → is_requested (filter test requests) id ≡ true → is_requested requests id ≡ true
 asked_all test [] id e = cc
 asked_all test (r ∷ requests) id e = by (test r) (r.id == id) refl e (asked_all test requests id)
   where
-    by : (b c : Bool) → r.id == id ≡ c → is_asked (cond b (r ∷ filter test requests) (filter test requests)) id ≡ true → (is_asked (filter test requests) id ≡ true → is_asked requests id ≡ true) → r.id == id || is_asked requests id ≡ true
-    by b true q e rest = ap (λ (c : Bool). c || is_asked requests id) q
-    by true false q e rest = ap (λ (c : Bool). c || is_asked requests id) q ∙ rest (sym (ap (λ (b : Bool). b || is_asked (filter test requests) id) q) ∙ e)
-    by false false q e rest = ap (λ (c : Bool). c || is_asked requests id) q ∙ rest e
+    by : (b c : Bool) → r.id == id ≡ c → is_requested (cond b (r ∷ filter test requests) (filter test requests)) id ≡ true → (is_requested (filter test requests) id ≡ true → is_requested requests id ≡ true) → r.id == id || is_requested requests id ≡ true
+    by b true q e rest = ap (λ (c : Bool). c || is_requested requests id) q
+    by true false q e rest = ap (λ (c : Bool). c || is_requested requests id) q ∙ rest (sym (ap (λ (b : Bool). b || is_requested (filter test requests) id) q) ∙ e)
+    by false false q e rest = ap (λ (c : Bool). c || is_requested requests id) q ∙ rest e
 
 -- the move of each pending request
 abbrev pub ending_for : ℕ → ℕ → Option Move
@@ -102,7 +102,7 @@ all_follow : (t : DriverTable) (id : ℕ) (requests : List Request) → is_empty
 all_follow t id [] o = tt
 all_follow t id (r ∷ requests) o = (done_follows t id r o, all_follow t id requests o)
 
-served_still : (t : DriverTable) (id : ℕ) (requests : List Request) → is_empty (values_of id t.answers) ≡ true → AllByRecursion (IsServed t) requests → AllByRecursion (IsServed (finishes t id)) requests
+served_still : (t : DriverTable) (id : ℕ) (requests : List Request) → is_empty (values_of id t.answers) ≡ true → AllByRecursion (IsRequestServed t) requests → AllByRecursion (IsRequestServed (finishes t id)) requests
 served_still t id [] o h = tt
 served_still t id (r ∷ requests) o h =
     (served_after t (finishes t id) ((id, Done) ∷ []) [] r (ending_for id r.id) (done_follows t id r o) h.0 refl refl h.0.found (λ p. fits (r.id == id) h.0.driver.class) (λ p e now silent. inr (no_target (r.id == id), now)), served_still t id requests o h.1)
@@ -117,7 +117,7 @@ served_still t id (r ∷ requests) o h =
     fits true Network = tt
     fits false class = tt
 
-pub reached_finished : (t : DriverTable) (id : ℕ) → IsReached t → is_asked (pending t) id ≡ true → IsReached (finishes t id)
+pub reached_finished : (t : DriverTable) (id : ℕ) → IsTableReached t → is_requested (pending t) id ≡ true → IsTableReached (finishes t id)
 reached_finished t id h there = record {
   units = h.units;
   labels = h.labels;
@@ -131,11 +131,11 @@ reached_finished t id h there = record {
   served = served_still t id t.requests (open_id t.answers t.requests id there) h.served;
 }
   where
-    differs : (k : ℕ) → is_asked t.requests k ≡ false → id == k ≡ false
+    differs : (k : ℕ) → is_requested t.requests k ≡ false → id == k ≡ false
     differs k none = by (id == k) refl
       where
         by : (b : Bool) → id == k ≡ b → b ≡ false
-        by true q = let here : is_asked t.requests k ≡ true = ap (is_asked t.requests) (sym (equal_number id k q)) ∙ asked_all (is_pending t.answers) t.requests id there in cc
+        by true q = let here : is_requested t.requests k ≡ true = ap (is_requested t.requests) (sym (equal_number id k q)) ∙ asked_all (is_pending t.answers) t.requests id there in cc
         by false q = refl
 
 -- ---- the list of pending requests
@@ -150,8 +150,8 @@ retained_others id (p ∷ l) = by (p.id == id) (retained_others id l)
     by true e = e
     by false e = ap (λ (l : List Pending). p ∷ l) e
 
-pub stands_finished : (v : TableRecord) (t : DriverTable) (id : ℕ) (left : List Pending) → Stands v t → is_asked (pending t) id ≡ true → left ≡ filter (λ (p : Pending). not (p.id == id)) v.pending →
-    Stands (record { devices = v.devices; pending = left; last = v.last }) (finishes t id)
+pub stands_finished : (v : TableRecord) (t : DriverTable) (id : ℕ) (left : List Pending) → TableStands v t → is_requested (pending t) id ≡ true → left ≡ filter (λ (p : Pending). not (p.id == id)) v.pending →
+    TableStands (record { devices = v.devices; pending = left; last = v.last }) (finishes t id)
 stands_finished v t id left s there e = record {
   devices = s.devices;
   pending = e ∙ (retained_others id v.pending ∙ (ap (retain_mut (λ p. stays_pending (ending_for id p.id)) (λ p. kept_after (ending_for id p.id) p)) s.pending

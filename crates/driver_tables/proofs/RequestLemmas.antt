@@ -10,7 +10,7 @@ use Rattle.driver_tables.specs.declared.request.Pending.{Pending}
 use Rattle.driver_tables.specs.Driver.{driver_of}
 use Rattle.driver_tables.specs.Label.{endpoint_now}
 use Rattle.driver_tables.specs.DriverTable.{DriverTable, Request, values_of, last_sent, is_empty, is_pending}
-use Rattle.driver_tables.specs.Reached.{IsServed, IsAnsweredBy}
+use Rattle.driver_tables.specs.Reached.{IsRequestServed, IsAnsweredBy}
 use Rattle.driver_tables.specs.Stands.{pending_of}
 use Rattle.driver_tables.specs.Requests.{stays_pending, kept_after}
 use Rattle.driver_tables.proofs.ListLemmas.{last_or-append}
@@ -104,9 +104,9 @@ pending_after t answers sends ask (r ∷ requests) h = by (is_pending t.answers 
 abbrev pub Reaches : Option EndpointRecord → Option EndpointRecord → Option Move → Type 0
 Reaches before after m = (e : EndpointRecord) → after ≡ Some e → endings m ≡ [] → (targets m ≡ e ∷ []) ⊎ ((targets m ≡ []) × (before ≡ Some e))
 
-pub served_after : (t u : DriverTable) (answers : List (ℕ × Ending)) (sends : List (ℕ × EndpointRecord)) (r : Request) (m : Option Move) → Follows t answers sends r m → (served : IsServed t r) →
+pub served_after : (t u : DriverTable) (answers : List (ℕ × Ending)) (sends : List (ℕ × EndpointRecord)) (r : Request) (m : Option Move) → Follows t answers sends r m → (served : IsRequestServed t r) →
     u.answers ≡ t.answers ++ answers → u.sends ≡ t.sends ++ sends → driver_of u.units r.unit ≡ Some served.driver → (is_pending t.answers r ≡ true → IsAnsweredBy served.driver.class (endings m)) →
-    (is_pending t.answers r ≡ true → Reaches (endpoint_now t.states served.driver.label) (endpoint_now u.states served.driver.label) m) → IsServed u r
+    (is_pending t.answers r ≡ true → Reaches (endpoint_now t.states served.driver.label) (endpoint_now u.states served.driver.label) m) → IsRequestServed u r
 served_after t u answers sends r m follows served a s found fits reaches = record {
   driver = served.driver;
   found = found;

@@ -17,28 +17,29 @@ use Rattle.driver_tables.specs.declared.device.Device.{Device}
 use Rattle.driver_tables.specs.declared.request.Pending.{Pending}
 use Rattle.driver_tables.specs.Driver.{Driver, driver_of}
 use Rattle.driver_tables.specs.Label.{endpoint_now}
-use Rattle.driver_tables.specs.DriverTable.{DriverTable, Request, values_of, last_sent, is_empty, is_pending, pending, is_for, is_asked, is_above}
-use Rattle.driver_tables.specs.Doing.{sent_by, answered_by, does}
-use Rattle.driver_tables.specs.Submit.{submitted, move_of, accepts, submitting_to, submitting}
-use Rattle.driver_tables.specs.Reached.{IsServed, IsReached, IsAnsweredBy}
-use Rattle.driver_tables.specs.Stands.{TableRecord, Stands, device_of, pending_of, is_above_last}
+use Rattle.driver_tables.specs.DriverTable.{DriverTable, Request, values_of, last_sent, is_empty, is_pending, pending, is_for, is_requested, is_above}
+use Rattle.driver_tables.specs.Doing.{sends_of, answered_by, does}
+use Rattle.driver_tables.specs.Submit.{submitted, move_of, with_request, submitting_to, submitting}
+use Rattle.driver_tables.specs.Reached.{IsRequestServed, IsTableReached, IsAnsweredBy}
+use Rattle.driver_tables.specs.Stands.{TableRecord, TableStands, device_of, pending_of, is_above_last}
 use Rattle.driver_tables.specs.Requests.{is_ending}
-use Rattle.driver_tables.proofs.TestLemmas.{equal_turned, below_differs, below_trans, and_true, or_false}
+use Rattle.driver_tables.proofs.TestLemmas.{equal_turned, below_differs, below_trans}
 use Rattle.driver_tables.proofs.MoveLemmas.{values-append, endings, targets, IsOf, answers_left, sends_left}
 use Rattle.driver_tables.proofs.RequestLemmas.{Follows, pending_after, served_after}
 use Rattle.driver_tables.proofs.StandsLemmas.{driver_kept}
+use Rattle.std.proofs.lemmas.Bool.{and_parts, or_parts}
 
 -- ---- the answer
 abbrev judged : DriverTable → Request → Bool → Option Driver → Result Move TableFault × DriverTable
 judged t r above d = cond above (submitting_to t r d) (Err TwoIds, t)
 
-pub submit_twice : (v : TableRecord) (t : DriverTable) (id unit : ℕ) → Stands v t → is_above_last v.last id ≡ false → submitting t id unit ≡ (Err TwoIds, t)
+pub submit_twice : (v : TableRecord) (t : DriverTable) (id unit : ℕ) → TableStands v t → is_above_last v.last id ≡ false → submitting t id unit ≡ (Err TwoIds, t)
 submit_twice v t id unit s e = ap (λ (b : Bool). judged t (record { id = id; unit = unit }) b (driver_of t.units unit)) (s.last id ∙ e)
 
-above : (v : TableRecord) (t : DriverTable) (id unit : ℕ) → Stands v t → is_above_last v.last id ≡ true → submitting t id unit ≡ submitting_to t (record { id = id; unit = unit }) (driver_of t.units unit)
+above : (v : TableRecord) (t : DriverTable) (id unit : ℕ) → TableStands v t → is_above_last v.last id ≡ true → submitting t id unit ≡ submitting_to t (record { id = id; unit = unit }) (driver_of t.units unit)
 above v t id unit s e = ap (λ (b : Bool). judged t (record { id = id; unit = unit }) b (driver_of t.units unit)) (s.last id ∙ e)
 
-pub submit_nowhere : (v : TableRecord) (t : DriverTable) (id unit : ℕ) → Stands v t → is_above_last v.last id ≡ true → lookup (λ u. unit == u) v.devices ≡ None → submitting t id unit ≡ (Err NoDevice, t)
+pub submit_nowhere : (v : TableRecord) (t : DriverTable) (id unit : ℕ) → TableStands v t → is_above_last v.last id ≡ true → lookup (λ u. unit == u) v.devices ≡ None → submitting t id unit ≡ (Err NoDevice, t)
 submit_nowhere v t id unit s e n = above v t id unit s e ∙ by (driver_of t.units unit) (sym (driver_kept v t unit s) ∙ n)
   where
     by : (d : Option Driver) → option_map (device_of t.states) d ≡ None → submitting_to t (record { id = id; unit = unit }) d ≡ (Err NoDevice, t)
@@ -47,17 +48,17 @@ submit_nowhere v t id unit s e n = above v t id unit s e ∙ by (driver_of t.uni
 
 -- the table after a request and its move
 abbrev pub taken : DriverTable → Request → Move → DriverTable
-taken t r m = does (accepts t r) (m ∷ [])
+taken t r m = does (with_request t r) (m ∷ [])
 
 -- the unit's driver, where the device was found
-pub driver_there : (v : TableRecord) (t : DriverTable) (unit : ℕ) (d : Device) → Stands v t → lookup (λ u. unit == u) v.devices ≡ Some d → (o : Driver) × (driver_of t.units unit ≡ Some o) × (device_of t.states o ≡ d)
+pub driver_there : (v : TableRecord) (t : DriverTable) (unit : ℕ) (d : Device) → TableStands v t → lookup (λ u. unit == u) v.devices ≡ Some d → (o : Driver) × (driver_of t.units unit ≡ Some o) × (device_of t.states o ≡ d)
 driver_there v t unit d s n = by (driver_of t.units unit) refl (sym (driver_kept v t unit s) ∙ n)
   where
     by : (o : Option Driver) → driver_of t.units unit ≡ o → option_map (device_of t.states) o ≡ Some d → (x : Driver) × (driver_of t.units unit ≡ Some x) × (device_of t.states x ≡ d)
     by None q e = cc
     by (Some o) q e = let same : device_of t.states o ≡ d = cc in (o, q, same)
 
-pub submit_is : (v : TableRecord) (t : DriverTable) (id unit : ℕ) (d : Device) → Stands v t → is_above_last v.last id ≡ true → lookup (λ u. unit == u) v.devices ≡ Some d →
+pub submit_is : (v : TableRecord) (t : DriverTable) (id unit : ℕ) (d : Device) → TableStands v t → is_above_last v.last id ≡ true → lookup (λ u. unit == u) v.devices ≡ Some d →
     submitting t id unit ≡ (Ok (submitted d.class id d.endpoint), taken t (record { id = id; unit = unit }) (submitted d.class id d.endpoint))
 submit_is v t id unit d s e n =
     let r : Request = record { id = id; unit = unit } in
@@ -68,16 +69,16 @@ submit_is v t id unit d s e n =
 -- a new id differs from all before
 pub other_ids : (requests : List Request) (id : ℕ) → is_above requests id ≡ true → AllByRecursion (λ (r : Request). r.id == id ≡ false) requests
 other_ids [] id e = tt
-other_ids (r ∷ requests) id e = let l = and_true (nat_lt r.id id) (is_above requests id) e in (below_differs r.id id l.0, other_ids requests id l.1)
+other_ids (r ∷ requests) id e = let l = and_parts (nat_lt r.id id) (is_above requests id) e in (below_differs r.id id l.0, other_ids requests id l.1)
 
-pub not_asked : (requests : List Request) (id : ℕ) → AllByRecursion (λ (r : Request). r.id == id ≡ false) requests → is_asked requests id ≡ false
+pub not_asked : (requests : List Request) (id : ℕ) → AllByRecursion (λ (r : Request). r.id == id ≡ false) requests → is_requested requests id ≡ false
 not_asked [] id h = refl
-not_asked (r ∷ requests) id h = ap (λ (b : Bool). b || is_asked requests id) h.0 ∙ not_asked requests id h.1
+not_asked (r ∷ requests) id h = ap (λ (b : Bool). b || is_requested requests id) h.0 ∙ not_asked requests id h.1
 
 above_on : (requests : List Request) (id k : ℕ) → is_above requests id ≡ true → nat_lt id k ≡ true → is_above requests k ≡ true
 above_on [] id k e l = refl
 above_on (r ∷ requests) id k e l =
-    let h = and_true (nat_lt r.id id) (is_above requests id) e in
+    let h = and_parts (nat_lt r.id id) (is_above requests id) e in
     ap (λ (x : Bool). x && is_above requests k) (below_trans r.id id k h.0 l) ∙ above_on requests id k h.1 l
 
 -- the new id is the last one
@@ -112,15 +113,15 @@ submitted_of Network id None = refl
 other_answer : (m : Move) (id k : ℕ) → IsOf (Some m) id → id == k ≡ false → values_of k (answered_by m ++ []) ≡ []
 other_answer m id k o h = ap (values_of k) (append-nil (answered_by m)) ∙ answers_left.other (Some m) id k o h
 
-other_send : (m : Move) (id k : ℕ) → IsOf (Some m) id → id == k ≡ false → values_of k (sent_by m ++ []) ≡ []
-other_send m id k o h = ap (values_of k) (append-nil (sent_by m)) ∙ sends_left.other (Some m) id k o h
+other_send : (m : Move) (id k : ℕ) → IsOf (Some m) id → id == k ≡ false → values_of k (sends_of m ++ []) ≡ []
+other_send m id k o h = ap (values_of k) (append-nil (sends_of m)) ∙ sends_left.other (Some m) id k o h
 
 either_nothing : {X : Type 0} (b : Bool) → ◌≡◌ {A = List X} (cond b [] []) []
 either_nothing true = refl
 either_nothing false = refl
 
 before_follow : (t : DriverTable) (id : ℕ) (m : Move) → IsOf (Some m) id → (requests : List Request) → AllByRecursion (λ (r : Request). r.id == id ≡ false) requests →
-    AllByRecursion (λ (r : Request). Follows t (answered_by m ++ []) (sent_by m ++ []) r None) requests
+    AllByRecursion (λ (r : Request). Follows t (answered_by m ++ []) (sends_of m ++ []) r None) requests
 before_follow t id m own [] h = tt
 before_follow t id m own (r ∷ requests) h =
     let other : id == r.id ≡ false = equal_turned id r.id ∙ h.0 in (
@@ -135,18 +136,18 @@ retained_all : (l : List Pending) → retain_mut (λ p. true) (λ p. p) l ≡ l
 retained_all [] = refl
 retained_all (p ∷ l) = ap (λ (l : List Pending). p ∷ l) (retained_all l)
 
-served_before : (t : DriverTable) (new : Request) (m : Move) (requests : List Request) → AllByRecursion (λ (r : Request). Follows t (answered_by m ++ []) (sent_by m ++ []) r None) requests → AllByRecursion (IsServed t) requests → AllByRecursion (IsServed (taken t new m)) requests
+served_before : (t : DriverTable) (new : Request) (m : Move) (requests : List Request) → AllByRecursion (λ (r : Request). Follows t (answered_by m ++ []) (sends_of m ++ []) r None) requests → AllByRecursion (IsRequestServed t) requests → AllByRecursion (IsRequestServed (taken t new m)) requests
 served_before t new m [] f h = tt
 served_before t new m (r ∷ requests) f h =
-    (served_after t (taken t new m) (answered_by m ++ []) (sent_by m ++ []) r None f.0 h.0 refl refl h.0.found (λ o. tt) (λ o e now silent. inr (refl, now)), served_before t new m requests f.1 h.1)
+    (served_after t (taken t new m) (answered_by m ++ []) (sends_of m ++ []) r None f.0 h.0 refl refl h.0.found (λ o. tt) (λ o e now silent. inr (refl, now)), served_before t new m requests f.1 h.1)
 
 -- ---- the new request
 -- its answers and sends are those of its move
 new_answers : (t : DriverTable) (id : ℕ) (m : Move) → IsOf (Some m) id → values_of id t.answers ≡ [] → values_of id (t.answers ++ (answered_by m ++ [])) ≡ endings (Some m)
 new_answers t id m own none = values-append id t.answers (answered_by m ++ []) ∙ (ap (λ (l : List Ending). l ++ values_of id (answered_by m ++ [])) none ∙ (ap (values_of id) (append-nil (answered_by m)) ∙ answers_left.own (Some m) id own))
 
-new_sends : (t : DriverTable) (id : ℕ) (m : Move) → IsOf (Some m) id → values_of id t.sends ≡ [] → values_of id (t.sends ++ (sent_by m ++ [])) ≡ targets (Some m)
-new_sends t id m own none = values-append id t.sends (sent_by m ++ []) ∙ (ap (λ (l : List EndpointRecord). l ++ values_of id (sent_by m ++ [])) none ∙ (ap (values_of id) (append-nil (sent_by m)) ∙ sends_left.own (Some m) id own))
+new_sends : (t : DriverTable) (id : ℕ) (m : Move) → IsOf (Some m) id → values_of id t.sends ≡ [] → values_of id (t.sends ++ (sends_of m ++ [])) ≡ targets (Some m)
+new_sends t id m own none = values-append id t.sends (sends_of m ++ []) ∙ (ap (λ (l : List EndpointRecord). l ++ values_of id (sends_of m ++ [])) none ∙ (ap (values_of id) (append-nil (sends_of m)) ∙ sends_left.own (Some m) id own))
 
 abbrev shown : Request → Move → Option EndpointRecord → List Pending
 shown new m o = cond (not (is_ending m)) (record { id = new.id; unit = new.unit; sent = o } ∷ []) []
@@ -169,7 +170,7 @@ new_pending class e new answers sends a s = ap (λ (l : List Ending). map (pendi
     target Character None = refl
     target Network None = refl
 
-new_served : (t : DriverTable) (new : Request) (d : Driver) → driver_of t.units new.unit ≡ Some d → values_of new.id t.answers ≡ [] → values_of new.id t.sends ≡ [] → IsServed (taken t new (move_of t new d)) new
+new_served : (t : DriverTable) (new : Request) (d : Driver) → driver_of t.units new.unit ≡ Some d → values_of new.id t.answers ≡ [] → values_of new.id t.sends ≡ [] → IsRequestServed (taken t new (move_of t new d)) new
 new_served t new d found a s = record {
   driver = d;
   found = found;
@@ -186,7 +187,7 @@ new_served t new d found a s = record {
     answers_are : values_of new.id (t.answers ++ (answered_by m ++ [])) ≡ endings (Some m)
     answers_are = new_answers t new.id m own a
 
-    sends_are : values_of new.id (t.sends ++ (sent_by m ++ [])) ≡ targets (Some m)
+    sends_are : values_of new.id (t.sends ++ (sends_of m ++ [])) ≡ targets (Some m)
     sends_are = new_sends t new.id m own s
 
     fits : (class : Class) (e : Option EndpointRecord) → IsAnsweredBy class (endings (Some (submitted class new.id e)))
@@ -200,20 +201,20 @@ all_and_one : (P : Request → Type 0) (l : List Request) (r : Request) → AllB
 all_and_one P [] r h p = (p, tt)
 all_and_one P (x ∷ l) r h p = (h.0, all_and_one P l r h.1 p)
 
-pub reached_taken : (t : DriverTable) (new : Request) (d : Driver) → IsReached t → is_above t.requests new.id ≡ true → driver_of t.units new.unit ≡ Some d → IsReached (taken t new (move_of t new d))
+pub reached_taken : (t : DriverTable) (new : Request) (d : Driver) → IsTableReached t → is_above t.requests new.id ≡ true → driver_of t.units new.unit ≡ Some d → IsTableReached (taken t new (move_of t new d))
 reached_taken t new d h above_all found = record {
   units = h.units;
   labels = h.labels;
   current = h.current;
   distinct = distinct_on t.requests new others h.distinct;
   unasked = λ k none.
-      let parts = or_false (is_asked t.requests k) (is_asked (new ∷ []) k) (sym (list_any-append (is_for k) t.requests (new ∷ [])) ∙ none) in
-      let other : new.id == k ≡ false = (or_false (new.id == k) false parts.1).0 in
+      let parts = or_parts (is_requested t.requests k) (is_requested (new ∷ []) k) (sym (list_any-append (is_for k) t.requests (new ∷ [])) ∙ none) in
+      let other : new.id == k ≡ false = (or_parts (new.id == k) false parts.1).0 in
       let before = h.unasked k parts.0 in (
-        values-append k t.sends (sent_by m ++ []) ∙ (ap (λ (l : List EndpointRecord). l ++ values_of k (sent_by m ++ [])) before.0 ∙ other_send m new.id k own other),
+        values-append k t.sends (sends_of m ++ []) ∙ (ap (λ (l : List EndpointRecord). l ++ values_of k (sends_of m ++ [])) before.0 ∙ other_send m new.id k own other),
         values-append k t.answers (answered_by m ++ []) ∙ (ap (λ (l : List Ending). l ++ values_of k (answered_by m ++ [])) before.1 ∙ other_answer m new.id k own other),
       );
-  served = all_and_one (IsServed (taken t new m)) t.requests new (served_before t new m t.requests (before_follow t new.id m own t.requests others) h.served) (new_served t new d found fresh.1 fresh.0);
+  served = all_and_one (IsRequestServed (taken t new m)) t.requests new (served_before t new m t.requests (before_follow t new.id m own t.requests others) h.served) (new_served t new d found fresh.1 fresh.0);
 }
   where
     m : Move
@@ -228,9 +229,9 @@ reached_taken t new d h above_all found = record {
     fresh : (values_of new.id t.sends ≡ []) × (values_of new.id t.answers ≡ [])
     fresh = h.unasked new.id (not_asked t.requests new.id others)
 
-pub stands_taken : (v : TableRecord) (t : DriverTable) (new : Request) (d : Driver) (left : List Pending) → Stands v t → is_above_last v.last new.id ≡ true → driver_of t.units new.unit ≡ Some d →
+pub stands_taken : (v : TableRecord) (t : DriverTable) (new : Request) (d : Driver) (left : List Pending) → TableStands v t → is_above_last v.last new.id ≡ true → driver_of t.units new.unit ≡ Some d →
     left ≡ v.pending ++ cond (not (is_ending (move_of t new d))) (record { id = new.id; unit = new.unit; sent = endpoint_now t.states d.label } ∷ []) [] →
-    Stands (record { devices = v.devices; pending = left; last = Some new.id }) (taken t new (move_of t new d))
+    TableStands (record { devices = v.devices; pending = left; last = Some new.id }) (taken t new (move_of t new d))
 stands_taken v t new d left s above_last found e = record {
   devices = s.devices;
   pending = e ∙ (ap (λ (l : List Pending). l ++ one) before ∙ (ap (λ (l : List Pending). map (pending_of sends) (filter (is_pending answers) t.requests) ++ l) (sym last) ∙ sym both));
@@ -251,7 +252,7 @@ stands_taken v t new d left s above_last found e = record {
     answers = t.answers ++ (answered_by m ++ [])
 
     sends : List (ℕ × EndpointRecord)
-    sends = t.sends ++ (sent_by m ++ [])
+    sends = t.sends ++ (sends_of m ++ [])
 
     above_all : is_above t.requests new.id ≡ true
     above_all = s.last new.id ∙ above_last
@@ -268,7 +269,7 @@ stands_taken v t new d left s above_last found e = record {
     before : v.pending ≡ map (pending_of sends) (filter (is_pending answers) t.requests)
     before =
         s.pending ∙ (sym (retained_all (map (pending_of t.sends) (pending t)))
-        ∙ pending_after t (answered_by m ++ []) (sent_by m ++ []) (λ p. None) t.requests (before_follow t new.id m own t.requests others))
+        ∙ pending_after t (answered_by m ++ []) (sends_of m ++ []) (λ p. None) t.requests (before_follow t new.id m own t.requests others))
 
     last : map (pending_of sends) (filter (is_pending answers) (new ∷ [])) ≡ one
     last = new_pending d.class now new answers sends (new_answers t new.id m own fresh.1) (new_sends t new.id m own fresh.0)
@@ -277,12 +278,12 @@ stands_taken v t new d left s above_last found e = record {
     both = ap (map (pending_of sends)) (filter-append (is_pending answers) t.requests (new ∷ [])) ∙ map-append (pending_of sends) (filter (is_pending answers) t.requests) (filter (is_pending answers) (new ∷ []))
 
 -- the same, for the device that was found
-pub stands_submitted : (v : TableRecord) (t : DriverTable) (id unit : ℕ) (d : Device) (left : List Pending) → Stands v t → is_above_last v.last id ≡ true → lookup (λ u. unit == u) v.devices ≡ Some d →
+pub stands_submitted : (v : TableRecord) (t : DriverTable) (id unit : ℕ) (d : Device) (left : List Pending) → TableStands v t → is_above_last v.last id ≡ true → lookup (λ u. unit == u) v.devices ≡ Some d →
     left ≡ v.pending ++ cond (not (is_ending (submitted d.class id d.endpoint))) (record { id = id; unit = unit; sent = d.endpoint } ∷ []) [] →
-    Stands (record { devices = v.devices; pending = left; last = Some id }) (submitting t id unit).1
+    TableStands (record { devices = v.devices; pending = left; last = Some id }) (submitting t id unit).1
 stands_submitted v t id unit d left s above_last n e =
     let r : Request = record { id = id; unit = unit } in
     let there = driver_there v t unit d s n in
     let kept : (x : Device) → List Pending = λ x. v.pending ++ cond (not (is_ending (submitted x.class id x.endpoint))) (record { id = id; unit = unit; sent = x.endpoint } ∷ []) [] in
     let stands = stands_taken v t r there.0 left s above_last there.1 (e ∙ sym (ap kept there.2)) in
-    subst (Stands (record { devices = v.devices; pending = left; last = Some id })) (sym (ap (λ p. p.1) (above v t id unit s above_last ∙ ap (submitting_to t r) there.1))) stands
+    subst (TableStands (record { devices = v.devices; pending = left; last = Some id })) (sym (ap (λ p. p.1) (above v t id unit s above_last ∙ ap (submitting_to t r) there.1))) stands

@@ -1,8 +1,8 @@
 -- Tests of numbers, names and truth.
-use Rattle.std.proofs.Common.{◌≡◌, ℕ, ◌==◌, nat_lt, ◌||◌, ◌&&◌, Bool, true, false, List, [], ◌∷◌, Option, Some, None, is_some, refl, sym, arith}
+use Rattle.std.proofs.Common.{◌≡◌, ℕ, ◌==◌, nat_lt, ◌||◌, Bool, true, false, List, [], ◌∷◌, refl, sym, arith}
 use Rattle.std.proofs.lemmas.Bool.Decides.{nat_tests}
 use Rattle.std.specs.Cmp.Lexicographic.{same_text}
-use Rattle.driver_tables.specs.Driver.{is_same_name}
+use Rattle.ds_names.specs.Name.{is_same_name}
 
 pub equal_number : (m n : ℕ) → m == n ≡ true → m ≡ n
 equal_number m n e = grind (arith, nat_tests)
@@ -26,18 +26,6 @@ pub name_itself : (a : List ℕ) → is_same_name a a ≡ true
 name_itself [] = refl
 name_itself (n ∷ ns) = cc (equal_itself n, name_itself ns)
 
-pub or_false : (a b : Bool) → a || b ≡ false → (a ≡ false) × (b ≡ false)
-or_false true b e = cc
-or_false false b e = (refl, e)
-
-pub and_true : (a b : Bool) → a && b ≡ true → (a ≡ true) × (b ≡ true)
-and_true true b e = (refl, e)
-and_true false b e = cc
-
 pub or_nothing : (b : Bool) → b || false ≡ b
 or_nothing true = refl
 or_nothing false = refl
-
-pub none_from : {X : Type 0} (o : Option X) → is_some o ≡ false → o ≡ None
-none_from None e = refl
-none_from (Some x) e = cc

@@ -7,14 +7,15 @@ use Rattle.std.proofs.lemmas.List.Sums.{fold-append}
 use Rattle.ds_names.specs.Endpoint.{EndpointRecord}
 use Rattle.driver_tables.specs.declared.device.Device.{Device}
 use Rattle.driver_tables.specs.declared.request.Pending.{Pending}
-use Rattle.driver_tables.specs.Driver.{Driver, is_same_name, driver_of, has_label}
+use Rattle.driver_tables.specs.Driver.{Driver, driver_of, has_label}
 use Rattle.driver_tables.specs.Label.{LabelState, endpoint_now, newest, newer}
 use Rattle.driver_tables.specs.DriverTable.{Request}
 use Rattle.driver_tables.specs.Changed.{start, settled_of, settle}
 use Rattle.driver_tables.specs.Stands.{device_of, unit_of}
-use Rattle.driver_tables.specs.Devices.{is_of, status_of, noted, started_at}
+use Rattle.driver_tables.specs.Devices.{is_of_label, status_of, noted, start_move}
 use Rattle.driver_tables.specs.Requests.{settled_by, settled_in}
 use Rattle.driver_tables.proofs.TestLemmas.{same_name}
+use Rattle.ds_names.specs.Name.{is_same_name}
 
 -- the driver of a unit, as it is kept
 pub device_is : (states : List LabelState) (units : List (ℕ × Driver)) (unit : ℕ) → lookup (λ u. unit == u) (map (unit_of states) units) ≡ option_map (device_of states) (driver_of units unit)
@@ -27,20 +28,20 @@ device_is states (u ∷ units) unit = at (unit == u.0) (device_is states units u
     at false rest = rest
 
 -- what the first unit of a label tells
-pub first_tells : (states : List LabelState) (units : List (ℕ × Driver)) (label : List ℕ) → has_label units label ≡ true → status_of (find (is_of label) (map (unit_of states) units)) ≡ (endpoint_now states label, newest states label)
+pub first_tells : (states : List LabelState) (units : List (ℕ × Driver)) (label : List ℕ) → has_label units label ≡ true → status_of (find (is_of_label label) (map (unit_of states) units)) ≡ (endpoint_now states label, newest states label)
 first_tells states [] label e = cc
 first_tells states (u ∷ units) label e = at (is_same_name label u.1.label) refl e (first_tells states units label)
   where
-    at : (b : Bool) → is_same_name label u.1.label ≡ b → b || has_label units label ≡ true → (has_label units label ≡ true → status_of (find (is_of label) (map (unit_of states) units)) ≡ (endpoint_now states label, newest states label)) →
-        status_of (cond b (Some (unit_of states u)) (find (is_of label) (map (unit_of states) units))) ≡ (endpoint_now states label, newest states label)
+    at : (b : Bool) → is_same_name label u.1.label ≡ b → b || has_label units label ≡ true → (has_label units label ≡ true → status_of (find (is_of_label label) (map (unit_of states) units)) ≡ (endpoint_now states label, newest states label)) →
+        status_of (cond b (Some (unit_of states u)) (find (is_of_label label) (map (unit_of states) units))) ≡ (endpoint_now states label, newest states label)
     at true h k rest = ap (λ (l : List ℕ). (endpoint_now states l, newest states l)) (sym (same_name label u.1.label h))
     at false h k rest = rest k
 
-pub first_is : (states : List LabelState) (units : List (ℕ × Driver)) (label : List ℕ) → is_some (find (is_of label) (map (unit_of states) units)) ≡ has_label units label
+pub first_is : (states : List LabelState) (units : List (ℕ × Driver)) (label : List ℕ) → is_some (find (is_of_label label) (map (unit_of states) units)) ≡ has_label units label
 first_is states [] label = refl
 first_is states (u ∷ units) label = at (is_same_name label u.1.label) (first_is states units label)
   where
-    at : (b : Bool) → is_some (find (is_of label) (map (unit_of states) units)) ≡ has_label units label → is_some (cond b (Some (unit_of states u)) (find (is_of label) (map (unit_of states) units))) ≡ b || has_label units label
+    at : (b : Bool) → is_some (find (is_of_label label) (map (unit_of states) units)) ≡ has_label units label → is_some (cond b (Some (unit_of states u)) (find (is_of_label label) (map (unit_of states) units))) ≡ b || has_label units label
     at true rest = refl
     at false rest = rest
 
@@ -71,7 +72,7 @@ noted_all states (u ∷ units) label state = cc (one, noted_all states units lab
     one = ap (λ (d : Device). (u.0, d)) (at (is_same_name label u.1.label) ∙ (ap (λ (e : Option EndpointRecord). made e (cond (is_same_name label u.1.label) (newer (newest states u.1.label) state) (newest states u.1.label))) (sym (now_after states s u.1.label)) ∙ ap (made (endpoint_now (states ++ s ∷ []) u.1.label)) (sym (newest_after states s u.1.label))))
 
 -- the starts of a label's units
-pub starts_are : (states : List LabelState) (units : List (ℕ × Driver)) (label : List ℕ) (state : Option EndpointRecord) → filter_map (started_at label state) (map (unit_of states) units) ≡ filter_map (start label state) units
+pub starts_are : (states : List LabelState) (units : List (ℕ × Driver)) (label : List ℕ) (state : Option EndpointRecord) → filter_map (start_move label state) (map (unit_of states) units) ≡ filter_map (start label state) units
 starts_are states [] label state = refl
 starts_are states (u ∷ units) label state = ap (cons_option (start label state u)) (starts_are states units label state)
 

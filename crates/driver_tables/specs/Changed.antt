@@ -10,19 +10,20 @@ use Rattle.driver_tables.specs.declared.fault.TableFault.{TableFault}
 use Rattle.driver_tables.specs.declared.fault.TableFault.TheVariants.{OldEndpoint}
 use Rattle.driver_tables.specs.declared.device.Class.{Class}
 use Rattle.driver_tables.specs.declared.device.Class.TheVariants.{Block, Network}
-use Rattle.driver_tables.specs.Driver.{Driver, is_same_name, driver_of, has_label}
+use Rattle.driver_tables.specs.Driver.{Driver, driver_of, has_label}
 use Rattle.driver_tables.specs.Label.{endpoint_now, newest, is_same_state, is_old}
 use Rattle.driver_tables.specs.DriverTable.{DriverTable, Request, pending}
 use Rattle.driver_tables.specs.Doing.{does}
+use Rattle.ds_names.specs.Name.{is_same_name}
 
 -- a port starts anew at an endpoint, other units don't
-abbrev pub started : Class → ℕ → Option EndpointRecord → Option Move
-started Network unit (Some e) = Some (Start unit e)
-started _ unit state = None
+abbrev pub network_start : Class → ℕ → Option EndpointRecord → Option Move
+network_start Network unit (Some e) = Some (Start unit e)
+network_start _ unit state = None
 
 -- a unit of the label is started so, other units aren't
 abbrev pub start : List ℕ → Option EndpointRecord → ℕ × Driver → Option Move
-start label state u = if is_same_name label u.1.label then started u.1.class u.0 state else None
+start label state u = if is_same_name label u.1.label then network_start u.1.class u.0 state else None
 
 -- a block driver's pending request is sent again, or stays where there is no endpoint; another driver's fails
 abbrev pub settled : Class → ℕ → Option EndpointRecord → Option Move

@@ -3,25 +3,25 @@ use Rattle.std.specs.Prelude.{if◌then◌else◌, ℕ, Bool, List, Option, Some
 use Rattle.ds_names.specs.Endpoint.{EndpointRecord}
 use Rattle.driver_tables.specs.declared.moves.Move.{Move}
 use Rattle.driver_tables.specs.declared.device.Device.{Device}
-use Rattle.driver_tables.specs.Driver.{is_same_name}
 use Rattle.driver_tables.specs.Label.{newer}
-use Rattle.driver_tables.specs.Changed.{started}
+use Rattle.driver_tables.specs.Changed.{network_start}
+use Rattle.ds_names.specs.Name.{is_same_name}
 
 -- the unit is the label's
-abbrev pub is_of : List ℕ → ℕ × Device → Bool
-is_of label u = is_same_name label u.1.label
+abbrev pub is_of_label : List ℕ → ℕ × Device → Bool
+is_of_label label u = is_same_name label u.1.label
 
 -- what a unit tells of its label: the endpoint now and the greatest generation
 abbrev pub status_of : Option (ℕ × Device) → Option EndpointRecord × Option ℕ
 status_of None = (None, None)
 status_of (Some u) = (u.1.endpoint, u.1.newest)
 
-abbrev pub with_state : Option EndpointRecord → Device → Device
-with_state state d = record { class = d.class; label = d.label; endpoint = state; newest = newer d.newest state }
+abbrev pub device_with : Option EndpointRecord → Device → Device
+device_with state d = record { class = d.class; label = d.label; endpoint = state; newest = newer d.newest state }
 
 -- the unit after a new state of the label
 abbrev pub noted : List ℕ → Option EndpointRecord → ℕ × Device → ℕ × Device
-noted label state u = (u.0, if is_same_name label u.1.label then with_state state u.1 else u.1)
+noted label state u = (u.0, if is_same_name label u.1.label then device_with state u.1 else u.1)
 
-abbrev pub started_at : List ℕ → Option EndpointRecord → ℕ × Device → Option Move
-started_at label state u = if is_same_name label u.1.label then started u.1.class u.0 state else None
+abbrev pub start_move : List ℕ → Option EndpointRecord → ℕ × Device → Option Move
+start_move label state u = if is_same_name label u.1.label then network_start u.1.class u.0 state else None

@@ -7,9 +7,9 @@ use Rattle.driver_tables.specs.declared.moves.Move.{Move}
 use Rattle.driver_tables.specs.declared.moves.Move.TheVariants.{Send, Answer}
 use Rattle.driver_tables.specs.DriverTable.{DriverTable}
 
-abbrev pub sent_by : Move → List (ℕ × EndpointRecord)
-sent_by (Send id endpoint) = (id, endpoint) ∷ []
-sent_by _ = []
+abbrev pub sends_of : Move → List (ℕ × EndpointRecord)
+sends_of (Send id endpoint) = (id, endpoint) ∷ []
+sends_of _ = []
 
 abbrev pub answered_by : Move → List (ℕ × Ending)
 answered_by (Answer id ending) = (id, ending) ∷ []
@@ -17,4 +17,4 @@ answered_by _ = []
 
 -- the table after the moves
 abbrev pub does : DriverTable → List Move → DriverTable
-does t moves = record t { sends = t.sends ++ flat_map sent_by moves; answers = t.answers ++ flat_map answered_by moves }
+does t moves = record t { sends = t.sends ++ flat_map sends_of moves; answers = t.answers ++ flat_map answered_by moves }

@@ -2,9 +2,9 @@
 use Rattle.std.specs.Prelude.{ℕ, ◌==◌, Bool, List, Option}
 use Rattle.std.specs.List.{list_any}
 use Rattle.std.specs.Map.{lookup}
-use Rattle.std.specs.Cmp.Lexicographic.{pointwise}
 use Rattle.driver_tables.specs.declared.device.Class.{Class}
 use Rattle.driver_tables.specs.declared.device.Class.TheVariants.{Network}
+use Rattle.ds_names.specs.Name.{is_same_name}
 
 -- what a driver drives, and the label under which RS starts it
 pub record Driver : Type 0 where
@@ -14,10 +14,6 @@ pub record Driver : Type 0 where
 -- the driver of a port
 abbrev pub net_driver : List ℕ → Driver
 net_driver label = record { class = Network; label = label }
-
--- the names are one, byte by byte
-abbrev pub is_same_name : List ℕ → List ℕ → Bool
-is_same_name = pointwise ◌==◌
 
 -- the driver of a unit, if the unit is assigned
 abbrev pub driver_of : List (ℕ × Driver) → ℕ → Option Driver

@@ -23,16 +23,16 @@ pub record DriverTable : Type 0 where
   pub answers : List (ℕ × Ending)
 
 -- a table of no units, of which nothing was asked
-abbrev pub opening : DriverTable
-opening = record { units = []; states = []; requests = []; sends = []; answers = [] }
+abbrev pub empty_table : DriverTable
+empty_table = record { units = []; states = []; requests = []; sends = []; answers = [] }
 
 -- the value of a pair of the id
-abbrev pub value_of : {X : Type 0} → ℕ → ℕ × X → Option X
-value_of id pair = if pair.0 == id then Some pair.1 else None
+abbrev pub value_for : {X : Type 0} → ℕ → ℕ × X → Option X
+value_for id pair = if pair.0 == id then Some pair.1 else None
 
 -- the values that a list of pairs has for an id, in order
 abbrev pub values_of : {X : Type 0} → ℕ → List (ℕ × X) → List X
-values_of id pairs = filter_map (value_of id) pairs
+values_of id pairs = filter_map (value_for id) pairs
 
 -- where a request was last sent to
 abbrev pub last_sent : List (ℕ × EndpointRecord) → ℕ → Option EndpointRecord
@@ -54,8 +54,8 @@ abbrev pub is_for : ℕ → Request → Bool
 is_for id r = r.id == id
 
 -- some request has the id
-abbrev pub is_asked : List Request → ℕ → Bool
-is_asked requests id = list_any (is_for id) requests
+abbrev pub is_requested : List Request → ℕ → Bool
+is_requested requests id = list_any (is_for id) requests
 
 -- the id is above every id that was accepted
 abbrev pub is_above : List Request → ℕ → Bool

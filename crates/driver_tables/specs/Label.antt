@@ -2,7 +2,7 @@
 use Rattle.std.specs.Prelude.{if◌then◌else◌, ℕ, ◌==◌, nat_lt, Bool, true, false, not, ◌&&◌, ◌||◌, List, Option, Some, None}
 use Rattle.std.specs.List.{fold}
 use Rattle.ds_names.specs.Endpoint.{EndpointRecord}
-use Rattle.driver_tables.specs.Driver.{is_same_name}
+use Rattle.ds_names.specs.Name.{is_same_name}
 
 -- a state of a label: the endpoint of its driver, or none
 pub record LabelState : Type 0 where

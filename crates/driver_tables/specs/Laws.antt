@@ -8,19 +8,19 @@ use Rattle.driver_tables.specs.declared.moves.Move.TheVariants.{Start, Send, Ans
 use Rattle.driver_tables.specs.declared.device.Class.TheVariants.{Block}
 use Rattle.driver_tables.specs.Driver.{Driver, driver_of}
 use Rattle.driver_tables.specs.Label.{endpoint_now, newest}
-use Rattle.driver_tables.specs.DriverTable.{DriverTable, Request, opening, values_of, last_sent, is_for}
-use Rattle.driver_tables.specs.Doing.{sent_by, answered_by}
-use Rattle.driver_tables.specs.Run.{Call, Entry, Step, Run, all_moves_in, requests_in}
+use Rattle.driver_tables.specs.DriverTable.{DriverTable, Request, empty_table, values_of, last_sent, is_for}
+use Rattle.driver_tables.specs.Doing.{sends_of, answered_by}
+use Rattle.driver_tables.specs.Run.{Call, Entry, TableStep, TableRun, all_moves_in, requests_in}
 use Rattle.driver_tables.specs.Run.{Reply}
 
 -- a table's requests, sends and answers are what the calls were answered
 abbrev pub ListsTell : Type 0
-ListsTell = (entries : List Entry) (t : DriverTable) → Run opening entries t →
-    (t.requests ≡ requests_in entries) × (t.sends ≡ flat_map sent_by (all_moves_in entries)) × (t.answers ≡ flat_map answered_by (all_moves_in entries))
+ListsTell = (entries : List Entry) (t : DriverTable) → TableRun empty_table entries t →
+    (t.requests ≡ requests_in entries) × (t.sends ≡ flat_map sends_of (all_moves_in entries)) × (t.answers ≡ flat_map answered_by (all_moves_in entries))
 
 -- each id is answered at most once
 abbrev pub AnswersOnce : Type 0
-AnswersOnce = (entries : List Entry) (t : DriverTable) → Run opening entries t → (id : ℕ) → length (values_of id t.answers) ≤ 1
+AnswersOnce = (entries : List Entry) (t : DriverTable) → TableRun empty_table entries t → (id : ℕ) → length (values_of id t.answers) ≤ 1
 
 -- the move answers the id with Done
 abbrev pub is_done : ℕ → Move → Bool
@@ -29,7 +29,7 @@ is_done id _ = false
 
 -- Done is answered for a reply alone, of the endpoint that the request was last sent to
 abbrev pub DoneByItsDriver : Type 0
-DoneByItsDriver = (entries : List Entry) (t u : DriverTable) (call : Call) (moves : List Move) (id : ℕ) → Run opening entries t → Step t call (Ok moves) u → list_any (is_done id) moves ≡ true →
+DoneByItsDriver = (entries : List Entry) (t u : DriverTable) (call : Call) (moves : List Move) (id : ℕ) → TableRun empty_table entries t → TableStep t call (Ok moves) u → list_any (is_done id) moves ≡ true →
     (endpoint : EndpointRecord) × (call ≡ Reply endpoint id) × (last_sent t.sends id ≡ Some endpoint)
 
 -- the unit's driver has the endpoint now, and no greater generation of its label was seen
@@ -46,16 +46,16 @@ GoesToLiving t (Send id endpoint) = (r : Request) × (find (is_for id) t.request
 GoesToLiving t _ = Unit {0}
 
 abbrev pub NoneToOlder : Type 0
-NoneToOlder = (entries : List Entry) (t u : DriverTable) (call : Call) (moves : List Move) → Run opening entries t → Step t call (Ok moves) u → AllByRecursion (GoesToLiving u) moves
+NoneToOlder = (entries : List Entry) (t u : DriverTable) (call : Call) (moves : List Move) → TableRun empty_table entries t → TableStep t call (Ok moves) u → AllByRecursion (GoesToLiving u) moves
 
 -- the greatest generation of a label never falls
 abbrev pub NewestRises : Type 0
-NewestRises = (t u : DriverTable) (entries : List Entry) (label : List ℕ) (g : ℕ) → Run t entries u → newest t.states label ≡ Some g → (h : ℕ) × (newest u.states label ≡ Some h) × (g ≤ h)
+NewestRises = (t u : DriverTable) (entries : List Entry) (label : List ℕ) (g : ℕ) → TableRun t entries u → newest t.states label ≡ Some g → (h : ℕ) × (newest u.states label ≡ Some h) × (g ≤ h)
 
 -- a request was answered Done and no more; or it has no answer, and was last sent to the driver's endpoint now, if there is one
-abbrev pub IsKept : DriverTable → Request → Driver → Type 0
-IsKept t r d = (values_of r.id t.answers ≡ Done ∷ []) ⊎ ((values_of r.id t.answers ≡ []) × ((endpoint : EndpointRecord) → endpoint_now t.states d.label ≡ Some endpoint → last_sent t.sends r.id ≡ Some endpoint))
+abbrev pub IsRequestKept : DriverTable → Request → Driver → Type 0
+IsRequestKept t r d = (values_of r.id t.answers ≡ Done ∷ []) ⊎ ((values_of r.id t.answers ≡ []) × ((endpoint : EndpointRecord) → endpoint_now t.states d.label ≡ Some endpoint → last_sent t.sends r.id ≡ Some endpoint))
 
 -- no request to a block driver is lost
 abbrev pub BlockRequestsAreKept : Type 0
-BlockRequestsAreKept = (entries : List Entry) (t : DriverTable) → Run opening entries t → AllByRecursion (λ (r : Request). (d : Driver) → driver_of t.units r.unit ≡ Some d → d.class ≡ Block → IsKept t r d) t.requests
+BlockRequestsAreKept = (entries : List Entry) (t : DriverTable) → TableRun empty_table entries t → AllByRecursion (λ (r : Request). (d : Driver) → driver_of t.units r.unit ≡ Some d → d.class ≡ Block → IsRequestKept t r d) t.requests

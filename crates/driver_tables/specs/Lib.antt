@@ -15,3 +15,4 @@ pub mod Devices
 pub mod Requests
 pub mod Run
 pub mod Laws
+pub mod Room

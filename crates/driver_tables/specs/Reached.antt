@@ -8,7 +8,7 @@ use Rattle.driver_tables.specs.declared.device.Class.{Class}
 use Rattle.driver_tables.specs.declared.device.Class.TheVariants.{Block}
 use Rattle.driver_tables.specs.Driver.{Driver, driver_of, has_label}
 use Rattle.driver_tables.specs.Label.{endpoint_now, newest}
-use Rattle.driver_tables.specs.DriverTable.{DriverTable, Request, values_of, last_sent, is_asked}
+use Rattle.driver_tables.specs.DriverTable.{DriverTable, Request, values_of, last_sent, is_requested}
 
 -- a request is answered at most once, and one to a block driver not with Fault
 abbrev pub IsAnsweredBy : Class → List Ending → Type 0
@@ -19,13 +19,13 @@ IsAnsweredBy class (Fault ∷ []) = Unit {0}
 IsAnsweredBy class (a ∷ b ∷ answers) = ⊥
 
 -- a request has a driver; while it is pending it was last sent to the driver's endpoint now, if there is one
-pub record IsServed (t : DriverTable) (r : Request) : Type 0 where
+pub record IsRequestServed (t : DriverTable) (r : Request) : Type 0 where
   pub driver : Driver
   pub found : driver_of t.units r.unit ≡ Some driver
   pub answered : IsAnsweredBy driver.class (values_of r.id t.answers)
   pub sent : values_of r.id t.answers ≡ [] → (e : EndpointRecord) → endpoint_now t.states driver.label ≡ Some e → last_sent t.sends r.id ≡ Some e
 
-pub record IsReached (t : DriverTable) : Type 0 where
+pub record IsTableReached (t : DriverTable) : Type 0 where
   -- each unit is assigned once
   pub units : AllByRecursion (λ (u : ℕ × Driver). driver_of t.units u.0 ≡ Some u.1) t.units
   -- states are of labels with a unit alone
@@ -35,5 +35,5 @@ pub record IsReached (t : DriverTable) : Type 0 where
   -- no two requests have one id
   pub distinct : IsDistinct (λ (r s : Request). r.id == s.id) t.requests
   -- what no request asked for was neither sent nor answered
-  pub unasked : (id : ℕ) → is_asked t.requests id ≡ false → (values_of id t.sends ≡ []) × (values_of id t.answers ≡ [])
-  pub served : AllByRecursion (IsServed t) t.requests
+  pub unasked : (id : ℕ) → is_requested t.requests id ≡ false → (values_of id t.sends ≡ []) × (values_of id t.answers ≡ [])
+  pub served : AllByRecursion (IsRequestServed t) t.requests

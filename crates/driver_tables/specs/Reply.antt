@@ -7,7 +7,7 @@ use Rattle.driver_tables.specs.declared.moves.Move.TheVariants.{Answer}
 use Rattle.driver_tables.specs.declared.fault.TableFault.{TableFault}
 use Rattle.driver_tables.specs.declared.fault.TableFault.TheVariants.{NotPending, OldEndpoint}
 use Rattle.driver_tables.specs.Label.{is_same_state}
-use Rattle.driver_tables.specs.DriverTable.{DriverTable, last_sent, pending, is_asked}
+use Rattle.driver_tables.specs.DriverTable.{DriverTable, last_sent, pending, is_requested}
 use Rattle.driver_tables.specs.Doing.{does}
 
 -- the request is answered Done
@@ -17,5 +17,5 @@ finishes t id = does t (Answer id Done ∷ [])
 -- what a reply is answered, and the table after it
 abbrev pub replying : DriverTable → EndpointRecord → ℕ → Result Move TableFault × DriverTable
 replying t endpoint id =
-    if is_asked (pending t) id then (if is_same_state (last_sent t.sends id) (Some endpoint) then (Ok (Answer id Done), finishes t id) else (Err OldEndpoint, t))
+    if is_requested (pending t) id then (if is_same_state (last_sent t.sends id) (Some endpoint) then (Ok (Answer id Done), finishes t id) else (Err OldEndpoint, t))
     else (Err NotPending, t)

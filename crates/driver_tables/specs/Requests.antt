@@ -7,8 +7,8 @@ use Rattle.driver_tables.specs.declared.moves.Move.{Move}
 use Rattle.driver_tables.specs.declared.moves.Move.TheVariants.{Send, Answer}
 use Rattle.driver_tables.specs.declared.device.Device.{Device}
 use Rattle.driver_tables.specs.declared.request.Pending.{Pending}
-use Rattle.driver_tables.specs.Driver.{is_same_name}
 use Rattle.driver_tables.specs.Changed.{settled}
+use Rattle.ds_names.specs.Name.{is_same_name}
 
 -- the move ends its request
 abbrev pub is_ending : Move → Bool

@@ -28,16 +28,16 @@ one_move (Ok m) = Ok (m ∷ [])
 one_move (Err fault) = Err fault
 
 -- what a call is answered, and the table after it
-abbrev pub outcome : DriverTable → Call → Result (List Move) TableFault × DriverTable
-outcome t (Assign unit driver) = (no_moves (assigning t unit driver).0, (assigning t unit driver).1)
-outcome t (Changed label state) = changing t label state
-outcome t (Submit id unit) = (one_move (submitting t id unit).0, (submitting t id unit).1)
-outcome t (Reply endpoint id) = (one_move (replying t endpoint id).0, (replying t endpoint id).1)
+abbrev pub table_outcome : DriverTable → Call → Result (List Move) TableFault × DriverTable
+table_outcome t (Assign unit driver) = (no_moves (assigning t unit driver).0, (assigning t unit driver).1)
+table_outcome t (Changed label state) = changing t label state
+table_outcome t (Submit id unit) = (one_move (submitting t id unit).0, (submitting t id unit).1)
+table_outcome t (Reply endpoint id) = (one_move (replying t endpoint id).0, (replying t endpoint id).1)
 
 -- the call was answered so: what isn't refused leaves the table's outcome, what is refused leaves the table as it was
-pub record Step (t : DriverTable) (call : Call) (answer : Result (List Move) TableFault) (u : DriverTable) : Type 0 where
-  pub answer_is : IsAnswer (outcome t call).0 answer
-  pub after : OnOk answer (u ≡ (outcome t call).1)
+pub record TableStep (t : DriverTable) (call : Call) (answer : Result (List Move) TableFault) (u : DriverTable) : Type 0 where
+  pub answer_is : IsAnswer (table_outcome t call).0 answer
+  pub after : OnOk answer (u ≡ (table_outcome t call).1)
   pub unchanged : OnErr answer (u ≡ t)
 
 -- a call with its answer
@@ -46,9 +46,9 @@ pub record Entry : Type 0 where
   pub answer : Result (List Move) TableFault
 
 -- the calls were answered so, one after the other
-abbrev pub Run : DriverTable → List Entry → DriverTable → Type 0
-Run t [] u = u ≡ t
-Run t (entry ∷ entries) u = (mid : DriverTable) × Step t entry.call entry.answer mid × Run mid entries u
+abbrev pub TableRun : DriverTable → List Entry → DriverTable → Type 0
+TableRun t [] u = u ≡ t
+TableRun t (entry ∷ entries) u = (mid : DriverTable) × TableStep t entry.call entry.answer mid × TableRun mid entries u
 
 -- ---- what was answered
 

@@ -6,7 +6,7 @@ use Rattle.driver_tables.specs.declared.request.Pending.{Pending}
 use Rattle.driver_tables.specs.Driver.{Driver}
 use Rattle.driver_tables.specs.Label.{LabelState, endpoint_now, newest}
 use Rattle.driver_tables.specs.DriverTable.{DriverTable, Request, last_sent, pending, is_above}
-use Rattle.driver_tables.specs.Reached.{IsReached}
+use Rattle.driver_tables.specs.Reached.{IsTableReached}
 
 pub record TableRecord : Type 0 where
   -- the units, each with its driver and what is known of the driver's label
@@ -31,8 +31,8 @@ is_above_last None id = true
 is_above_last (Some last) id = nat_lt last id
 
 -- the value is what is kept of the table, which began empty
-pub record Stands (v : TableRecord) (t : DriverTable) : Type 0 where
+pub record TableStands (v : TableRecord) (t : DriverTable) : Type 0 where
   pub devices : v.devices ≡ map (unit_of t.states) t.units
   pub pending : v.pending ≡ map (pending_of t.sends) (pending t)
   pub last : (id : ℕ) → is_above t.requests id ≡ is_above_last v.last id
-  pub reached : IsReached t
+  pub reached : IsTableReached t

@@ -23,12 +23,12 @@ submitted _ id None = Answer id Fault
 abbrev pub move_of : DriverTable → Request → Driver → Move
 move_of t r d = submitted d.class r.id (endpoint_now t.states d.label)
 
-abbrev pub accepts : DriverTable → Request → DriverTable
-accepts t r = record t { requests = t.requests ++ r ∷ [] }
+abbrev pub with_request : DriverTable → Request → DriverTable
+with_request t r = record t { requests = t.requests ++ r ∷ [] }
 
 abbrev pub submitting_to : DriverTable → Request → Option Driver → Result Move TableFault × DriverTable
 submitting_to t r None = (Err NoDevice, t)
-submitting_to t r (Some d) = (Ok (move_of t r d), does (accepts t r) (move_of t r d ∷ []))
+submitting_to t r (Some d) = (Ok (move_of t r d), does (with_request t r) (move_of t r d ∷ []))
 
 -- what a request is answered, and the table after it
 abbrev pub submitting : DriverTable → ℕ → ℕ → Result Move TableFault × DriverTable

@@ -1,10 +1,10 @@
 //! The units with their drivers, in order of assignment.
 
-ghost use Rattle.std.specs.Prelude.{◌≡◌, ◌==◌, ◌++◌, ◌<◌, Some, length, map, slice_get, OnOk};
+ghost use Rattle.std.specs.Prelude.{◌≡◌, ◌≢◌, ◌==◌, ◌++◌, ◌<◌, [], Some, length, map, slice_get, OnOk, OnErr};
 ghost use Rattle.std.specs.List.{find, filter_map};
 ghost use Rattle.std.specs.Map.{lookup};
 ghost use Rattle.std.specs.Option.{option_map};
-ghost use Rattle.driver_tables.specs.Devices.{is_of, status_of, with_state, noted, started_at};
+ghost use Rattle.driver_tables.specs.Devices.{is_of_label, status_of, device_with, noted, start_move};
 
 use crate::moves::{Move, Moves};
 use crate::state::newer;
@@ -53,7 +53,7 @@ fn unit_at(devices: &IndexMap<u8, Device>, i: usize) -> (u8, Device)
 
 // The first device of the label.
 pub(crate) fn first_of(devices: &IndexMap<u8, Device>, label: &Name) -> Option<Device>
-    ensures { result ≡ option_map (λ u. u.1) (find (is_of label.now) devices.now.entries) }
+    ensures { result ≡ option_map (λ u. u.1) (find (is_of_label label.now) devices.now.entries) }
 {
     for i in 0..devices.len() {
         let (_, device) = unit_at(devices, i);
@@ -69,7 +69,7 @@ pub(crate) fn status(
     devices: &IndexMap<u8, Device>,
     label: &Name,
 ) -> (Option<Endpoint>, Option<Generation>)
-    ensures { result ≡ status_of (find (is_of label.now) devices.now.entries) }
+    ensures { result ≡ status_of (find (is_of_label label.now) devices.now.entries) }
 {
     match first_of(devices, label) {
         Some(device) => (device.endpoint, device.newest),
@@ -90,7 +90,7 @@ pub(crate) fn note(devices: &mut IndexMap<u8, Device>, label: &Name, state: &Opt
 }
 
 fn with_state(device: &Device, state: &Option<Endpoint>) -> Device
-    ensures { result ≡ with_state state.now device.now }
+    ensures { result ≡ device_with state.now device.now }
 {
     Device {
         class: device.class,
@@ -107,7 +107,8 @@ pub(crate) fn add_starts(
     label: &Name,
     state: &Option<Endpoint>,
 ) -> Result<(), NoRoom>
-    ensures { OnOk result (moves.new ≡ moves.old ++ filter_map (started_at label.now state.now) devices.now.entries) }
+    ensures added { OnOk result (moves.new ≡ moves.old ++ filter_map (start_move label.now state.now) devices.now.entries) }
+    ensures room { OnErr result (filter_map (start_move label.now state.now) devices.now.entries ≢ []) }
 {
     for i in 0..devices.len() {
         let (unit, device) = unit_at(devices, i);
@@ -118,7 +119,7 @@ pub(crate) fn add_starts(
 
 // A port of the label starts where there is an endpoint.
 fn started_at(unit: u8, device: &Device, label: &Name, state: &Option<Endpoint>) -> Option<Move>
-    ensures { result ≡ started_at label.now state.now (unit, device.now) }
+    ensures { result ≡ start_move label.now state.now (unit, device.now) }
 {
     if *label != device.label {
         return None;

@@ -2,13 +2,14 @@
 
 ghost use Rattle.std.specs.Prelude.{◌≡◌, OnOk, OnErr};
 ghost use Rattle.driver_tables.specs.Label.{newest};
-ghost use Rattle.driver_tables.specs.DriverTable.{DriverTable, opening};
+ghost use Rattle.driver_tables.specs.DriverTable.{DriverTable, empty_table};
 ghost use Rattle.driver_tables.specs.Answer.{IsAnswer};
+ghost use Rattle.driver_tables.specs.Room.{LacksOnlyWhere, StateTakesMemory, RequestTakesMemory};
 ghost use Rattle.driver_tables.specs.Assign.{assigning};
 ghost use Rattle.driver_tables.specs.Changed.{changing};
 ghost use Rattle.driver_tables.specs.Submit.{submitting};
 ghost use Rattle.driver_tables.specs.Reply.{replying};
-ghost use Rattle.driver_tables.specs.Stands.{Stands};
+ghost use Rattle.driver_tables.specs.Stands.{TableStands};
 ghost use Rattle.driver_tables.specs.FileDriver.{file_driver};
 
 use crate::device::Class;
@@ -48,7 +49,7 @@ impl Model for FileTable {
 impl FileTable {
     /// A table of no units. It takes no memory.
     pub fn new(alloc: Global) -> FileTable
-        ensures { Stands result opening }
+        ensures { TableStands result empty_table }
     {
         FileTable {
             table: Table::new(alloc),
@@ -59,8 +60,8 @@ impl FileTable {
     ///
     /// Where its label has other devices, the new one has their endpoint now.
     pub fn assign(&mut self, major: u8, class: FileClass, label: &Name) -> Result<(), TableFault>
-        ensures answer { (t : DriverTable) → Stands self.old t → IsAnswer (assigning t major (file_driver class label.now)).0 result }
-        ensures after { (t : DriverTable) → Stands self.old t → OnOk result (Stands self.new (assigning t major (file_driver class label.now)).1) }
+        ensures answer { (t : DriverTable) → TableStands self.old t → IsAnswer (assigning t major (file_driver class label.now)).0 result }
+        ensures after { (t : DriverTable) → TableStands self.old t → OnOk result (TableStands self.new (assigning t major (file_driver class label.now)).1) }
         ensures unchanged { OnErr result (self.new ≡ self.old) }
     {
         let class = match class {
@@ -76,9 +77,11 @@ impl FileTable {
     ///
     /// A label without a device has no moves, nor has a state that the label has already. OldEndpoint where
     /// the generation is below the greatest that the label had, or is that one and the endpoint isn't the one now.
+    /// NoRoom comes last, and only where there are moves.
     pub fn changed(&mut self, label: &Name, state: Option<Endpoint>) -> Result<Moves, TableFault>
-        ensures answer { (t : DriverTable) → Stands self.old t → IsAnswer (changing t label.now state).0 result }
-        ensures after { (t : DriverTable) → Stands self.old t → OnOk result (Stands self.new (changing t label.now state).1) }
+        ensures answer { (t : DriverTable) → TableStands self.old t → IsAnswer (changing t label.now state).0 result }
+        ensures room { (t : DriverTable) → TableStands self.old t → LacksOnlyWhere (StateTakesMemory t label.now state) result }
+        ensures after { (t : DriverTable) → TableStands self.old t → OnOk result (TableStands self.new (changing t label.now state).1) }
         ensures unchanged { OnErr result (self.new ≡ self.old) }
     {
         self.table.changed(label, &state)
@@ -86,7 +89,7 @@ impl FileTable {
 
     /// The greatest generation that a label had, if it has a device and ever had an endpoint. It takes no memory.
     pub fn newest(&self, label: &Name) -> Option<Generation>
-        ensures { (t : DriverTable) → Stands self.now t → result ≡ newest t.states label.now }
+        ensures { (t : DriverTable) → TableStands self.now t → result ≡ newest t.states label.now }
     {
         self.table.newest(label)
     }
@@ -94,10 +97,11 @@ impl FileTable {
     /// Takes a request to a major device, by an id that is above all before it. With a driver it is sent; else
     /// it is held for a block device, and answered Fault for a character device, which uses its id.
     ///
-    /// TwoIds, then NoDevice, which uses no id.
+    /// TwoIds, then NoDevice, which uses no id. NoRoom comes last, and only for a request that is sent or held.
     pub fn submit(&mut self, id: u64, major: u8) -> Result<Move, TableFault>
-        ensures answer { (t : DriverTable) → Stands self.old t → IsAnswer (submitting t id major).0 result }
-        ensures after { (t : DriverTable) → Stands self.old t → OnOk result (Stands self.new (submitting t id major).1) }
+        ensures answer { (t : DriverTable) → TableStands self.old t → IsAnswer (submitting t id major).0 result }
+        ensures room { (t : DriverTable) → TableStands self.old t → LacksOnlyWhere (RequestTakesMemory t id major) result }
+        ensures after { (t : DriverTable) → TableStands self.old t → OnOk result (TableStands self.new (submitting t id major).1) }
         ensures unchanged { OnErr result (self.new ≡ self.old) }
     {
         self.table.submit(id, major)
@@ -107,8 +111,8 @@ impl FileTable {
     ///
     /// NotPending, then OldEndpoint where the request wasn't last sent to this endpoint.
     pub fn reply(&mut self, endpoint: Endpoint, id: u64) -> Result<Move, TableFault>
-        ensures answer { (t : DriverTable) → Stands self.old t → result ≡ (replying t endpoint id).0 }
-        ensures after { (t : DriverTable) → Stands self.old t → OnOk result (Stands self.new (replying t endpoint id).1) }
+        ensures answer { (t : DriverTable) → TableStands self.old t → result ≡ (replying t endpoint id).0 }
+        ensures after { (t : DriverTable) → TableStands self.old t → OnOk result (TableStands self.new (replying t endpoint id).1) }
         ensures unchanged { OnErr result (self.new ≡ self.old) }
     {
         self.table.reply(endpoint, id)

@@ -1,6 +1,6 @@
 //! What a server does, move by move.
 
-ghost use Rattle.std.specs.Prelude.{◌≡◌, ◌++◌, ◌∷◌, [], List, length, slice_get, OnOk, IfErr, OnErr, IfOk};
+ghost use Rattle.std.specs.Prelude.{◌≡◌, ◌≢◌, ◌++◌, ◌∷◌, [], List, length, slice_get, OnOk, IfErr, OnErr, IfOk};
 ghost use Rattle.std.specs.Option.{option_copied, option_to_list};
 
 use ds_names::{Endpoint, NoRoom};
@@ -90,7 +90,8 @@ impl Moves {
 
     // Adds the move, if there is one.
     pub(crate) fn add(&mut self, step: Option<Move>) -> Result<(), NoRoom>
-        ensures { OnOk result (self.new ≡ self.old ++ option_to_list step) }
+        ensures added { OnOk result (self.new ≡ self.old ++ option_to_list step) }
+        ensures room { OnErr result (step ≢ None) }
     {
         if let Some(step) = step {
             self.push(step)?;

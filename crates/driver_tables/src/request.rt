@@ -1,6 +1,6 @@
 //! The pending requests, in order of submission.
 
-ghost use Rattle.std.specs.Prelude.{◌≡◌, ◌++◌, ◌==◌, Bool, true, false, filter, not, OnOk};
+ghost use Rattle.std.specs.Prelude.{◌≡◌, ◌≢◌, ◌++◌, ◌==◌, [], Bool, true, false, filter, not, OnOk, OnErr};
 ghost use Rattle.std.specs.List.{find, filter_map, retain_mut};
 ghost use Rattle.std.specs.Option.{option_map};
 ghost use Rattle.driver_tables.specs.Submit.{submitted};
@@ -79,7 +79,8 @@ pub(crate) fn add_settled(
     label: &Name,
     state: &Option<Endpoint>,
 ) -> Result<(), NoRoom>
-    ensures { OnOk result (moves.new ≡ moves.old ++ filter_map (settled_in devices.now.entries label.now state.now) pending.now.items) }
+    ensures added { OnOk result (moves.new ≡ moves.old ++ filter_map (settled_in devices.now.entries label.now state.now) pending.now.items) }
+    ensures room { OnErr result (filter_map (settled_in devices.now.entries label.now state.now) pending.now.items ≢ []) }
 {
     for p in pending {
         moves.add(settled(devices, label, state, p))?;

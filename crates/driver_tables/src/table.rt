@@ -2,13 +2,14 @@
 
 ghost use Rattle.std.specs.Prelude.{◌≡◌, OnOk, OnErr};
 ghost use Rattle.driver_tables.specs.Label.{newest};
-ghost use Rattle.driver_tables.specs.DriverTable.{DriverTable, opening};
+ghost use Rattle.driver_tables.specs.DriverTable.{DriverTable, empty_table};
 ghost use Rattle.driver_tables.specs.Answer.{IsAnswer};
+ghost use Rattle.driver_tables.specs.Room.{LacksOnlyWhere, StateTakesMemory, RequestTakesMemory};
 ghost use Rattle.driver_tables.specs.Assign.{assigning};
 ghost use Rattle.driver_tables.specs.Changed.{changing};
 ghost use Rattle.driver_tables.specs.Submit.{submitting};
 ghost use Rattle.driver_tables.specs.Reply.{replying};
-ghost use Rattle.driver_tables.specs.Stands.{Stands, is_above_last};
+ghost use Rattle.driver_tables.specs.Stands.{TableStands, is_above_last};
 
 use crate::device::{Class, Device, add_starts, device_at, first_of, note, status};
 use crate::fault::TableFault;
@@ -40,7 +41,7 @@ impl Model for Table {
 
 impl Table {
     pub fn new(alloc: Global) -> Table
-        ensures { Stands result opening }
+        ensures { TableStands result empty_table }
     {
         Table {
             alloc,
@@ -51,8 +52,8 @@ impl Table {
     }
 
     pub fn assign(&mut self, unit: u8, class: Class, label: &Name) -> Result<(), TableFault>
-        ensures answer { (t : DriverTable) → Stands self.old t → IsAnswer (assigning t unit (record { class = class; label = label.now })).0 result }
-        ensures after { (t : DriverTable) → Stands self.old t → OnOk result (Stands self.new (assigning t unit (record { class = class; label = label.now })).1) }
+        ensures answer { (t : DriverTable) → TableStands self.old t → IsAnswer (assigning t unit (record { class = class; label = label.now })).0 result }
+        ensures after { (t : DriverTable) → TableStands self.old t → OnOk result (TableStands self.new (assigning t unit (record { class = class; label = label.now })).1) }
         ensures unchanged { OnErr result (self.new ≡ self.old) }
     {
         if self.devices.contains_key(&unit) {
@@ -70,8 +71,9 @@ impl Table {
     }
 
     pub fn changed(&mut self, label: &Name, state: &Option<Endpoint>) -> Result<Moves, TableFault>
-        ensures answer { (t : DriverTable) → Stands self.old t → IsAnswer (changing t label.now state.now).0 result }
-        ensures after { (t : DriverTable) → Stands self.old t → OnOk result (Stands self.new (changing t label.now state.now).1) }
+        ensures answer { (t : DriverTable) → TableStands self.old t → IsAnswer (changing t label.now state.now).0 result }
+        ensures room { (t : DriverTable) → TableStands self.old t → LacksOnlyWhere (StateTakesMemory t label.now state.now) result }
+        ensures after { (t : DriverTable) → TableStands self.old t → OnOk result (TableStands self.new (changing t label.now state.now).1) }
         ensures unchanged { OnErr result (self.new ≡ self.old) }
     {
         let Some(device) = first_of(&self.devices, label) else {
@@ -93,14 +95,15 @@ impl Table {
     }
 
     pub fn newest(&self, label: &Name) -> Option<Generation>
-        ensures { (t : DriverTable) → Stands self.now t → result ≡ newest t.states label.now }
+        ensures { (t : DriverTable) → TableStands self.now t → result ≡ newest t.states label.now }
     {
         status(&self.devices, label).1
     }
 
     pub fn submit(&mut self, id: u64, unit: u8) -> Result<Move, TableFault>
-        ensures answer { (t : DriverTable) → Stands self.old t → IsAnswer (submitting t id unit).0 result }
-        ensures after { (t : DriverTable) → Stands self.old t → OnOk result (Stands self.new (submitting t id unit).1) }
+        ensures answer { (t : DriverTable) → TableStands self.old t → IsAnswer (submitting t id unit).0 result }
+        ensures room { (t : DriverTable) → TableStands self.old t → LacksOnlyWhere (RequestTakesMemory t id unit) result }
+        ensures after { (t : DriverTable) → TableStands self.old t → OnOk result (TableStands self.new (submitting t id unit).1) }
         ensures unchanged { OnErr result (self.new ≡ self.old) }
     {
         if !is_above(self.last, id) {
@@ -119,8 +122,8 @@ impl Table {
     }
 
     pub fn reply(&mut self, endpoint: Endpoint, id: u64) -> Result<Move, TableFault>
-        ensures answer { (t : DriverTable) → Stands self.old t → result ≡ (replying t endpoint id).0 }
-        ensures after { (t : DriverTable) → Stands self.old t → OnOk result (Stands self.new (replying t endpoint id).1) }
+        ensures answer { (t : DriverTable) → TableStands self.old t → result ≡ (replying t endpoint id).0 }
+        ensures after { (t : DriverTable) → TableStands self.old t → OnOk result (TableStands self.new (replying t endpoint id).1) }
         ensures unchanged { OnErr result (self.new ≡ self.old) }
     {
         let Some(sent) = sent_of(&self.pending, id) else {

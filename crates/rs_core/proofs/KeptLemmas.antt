@@ -1,16 +1,17 @@
 -- What RS keeps, over the writes of a stop and of a start in one slot.
-use Rattle.std.proofs.Common.{◌≡◌, ◌≢◌, ℕ, ◌<◌, ◌≤◌, ◌-◌, ◌^◌, List, get_or, length, Option, Some, refl, sym, ◌∙◌, ap, subst, inl, inr, arith}
+use Rattle.std.proofs.Common.{◌≡◌, ◌≢◌, ℕ, ◌<◌, ◌≤◌, ◌+◌, ◌-◌, ◌^◌, List, get_or, length, false, Option, Some, refl, sym, ◌∙◌, ap, subst, inl, inr, cond, arith}
 use Rattle.std.proofs.Math.ListN.{set, length-set}
 use Rattle.std.proofs.lemmas.List.{get_or-set_same, get_or-set_other}
 use Rattle.std.proofs.lemmas.Bool.{cases_eq}
 use Rattle.std.proofs.Common.{◌⊎◌}
 use Rattle.std.proofs.Math.Pow.{pow_mono}
-use Rattle.slab.specs.Slab.{Slab, get, Updates}
+use Rattle.std.proofs.lemmas.List.Sums.{sum_by-set}
+use Rattle.slab.specs.Slab.{Slab, get, slab_len, Updates}
 use Rattle.rs_settings.specs.Settings.{SettingsRecord}
 use Rattle.rs_core.specs.declared.state.State.{State}
 use Rattle.rs_core.specs.declared.state.State.TheVariants.{Down, Up, Waiting, GaveUp}
 use Rattle.rs_core.specs.declared.state.Running.{Running}
-use Rattle.rs_core.specs.Kept.{IsRunning, IsState, IsRs, IsAtRest, HaveTwoSlots}
+use Rattle.rs_core.specs.Kept.{IsRunning, IsState, IsRs, IsAtRest, HaveTwoSlots, is_up}
 use Rattle.rs_core.specs.Machine.{pause}
 
 -- a state without an instance asks nothing of the slots
@@ -39,19 +40,28 @@ stands next more old new key slot at i GaveUp le holds up other h = tt
 
 pub replaced : (settings : SettingsRecord) (states : List State) (tick now next more : ℕ) (old new : Slab ℕ) (key : ℕ) (slot : Option ℕ) (at : ℕ) (state : State)
     → IsRs settings states tick next old → at < length states → now ≤ 2 ^ 62 → next ≤ more → more ≤ 2097152 → get old key ≡ Some at → Updates old new key slot → IsState more new at state
+    → slab_len new + cond (is_up (get_or states at Down)) 1 0 ≡ slab_len old + cond (is_up state) 1 0
     → IsRs settings (set states at state) now more new
-replaced settings states tick now next more old new key slot at state kept within worn le spent holds up here = record {
+replaced settings states tick now next more old new key slot at state kept within worn le spent holds up here len = record {
   checked = kept.checked;
   count = length-set states at state ∙ kept.count;
   worn = worn;
   some = omega (arith, kept.some);
   spent = spent;
   each = λ i l. by_place i l (cases_eq i at);
+  taken = omega (arith, kept.taken, len, sum_by-set (λ s. cond (is_up s) 1 0) states at state Down within);
 }
   where
     by_place : (i : ℕ) → i < length (set states at state) → (i ≡ at) ⊎ (i ≢ at) → IsState more new i (get_or (set states at state) i Down)
     by_place i l (inl e) = subst (λ k. IsState more new k (get_or (set states at state) k Down)) (sym e) (subst (λ (z : State). IsState more new at z) (sym (get_or-set_same states at state Down within)) here)
     by_place i l (inr other) = subst (λ (z : State). IsState more new i z) (sym (get_or-set_other states at i state Down other)) (stands next more old new key slot at i (get_or states i Down) le holds up other (kept.each i (subst (λ n. i < n) (length-set states at state) l)))
+
+-- a state at rest is not up
+pub rest_not_up : (state : State) → IsAtRest state → is_up state ≡ false
+rest_not_up (Up r) h = absurd h
+rest_not_up (Waiting p) h = refl
+rest_not_up Down h = refl
+rest_not_up GaveUp h = refl
 
 -- what the instance of a service that is up keeps
 pub up_keeps : (settings : SettingsRecord) (states : List State) (tick next : ℕ) (slots : Slab ℕ) (at : ℕ) (r : Running) → IsRs settings states tick next slots → at < length states → get_or states at Down ≡ Up r → IsRunning next slots at r

@@ -4,7 +4,7 @@ use Rattle.std.specs.List.{flat_map, Contains}
 use Rattle.ds_names.specs.Endpoint.{EndpointRecord}
 use Rattle.ds_names.specs.declared.key.Key.{Key}
 use Rattle.ds_names.specs.declared.version.Version.{Version}
-use Rattle.ds_entry.specs.Change.{ChangeRecord, rs_name}
+use Rattle.ds_entry.specs.Change.{ChangeRecord}
 use Rattle.ds_entry.proofs.Members.{In, In-from_Contains}
 use Rattle.rs_settings.specs.declared.service.Service.{Service}
 use Rattle.rs_core.specs.declared.action.Action.{Action}
@@ -16,16 +16,18 @@ use Rattle.rs_core.specs.declared.deed.Plan.{Plan}
 use Rattle.rs_core.specs.Action.{label_put, label_gone, start_actions, stop_actions}
 use Rattle.rs_core.specs.State.{RsRecord, state_at, service_at}
 use Rattle.rs_core.specs.Machine.{actions_of, next_after, new_endpoint, same_slot}
-use Rattle.rs_core.specs.Step.{Follows}
-use Rattle.rs_core.specs.Run.{Run, starts, offers, AreRising, StartsRise, LabelsAreSingleNumbered}
+use Rattle.rs_core.specs.Step.{IsCarriedOut}
+use Rattle.rs_core.specs.Run.{RsRun, starts, offers, AreRising, StartsRise, LabelsAreSingleNumbered}
 use Rattle.rs_core.specs.Numbering.{NumbererRecord, AreNumbered, NumbersRise}
+use Rattle.ds_names.specs.Name.{rs_name}
 
 -- ---- starts
 
 -- a deed starts the next generation, or none
 deed_rises : (s : RsRecord) (service : Service) (state : State) (deed : Deed) → AreRising s.next (starts (actions_of s service state deed)) (next_after s state deed)
-deed_rises s service state Begin = (omega arith, omega arith)
-deed_rises s service state Resume = (omega arith, omega arith)
+deed_rises s service Down Begin = (omega arith, omega arith)
+deed_rises s service GaveUp Begin = (omega arith, omega arith)
+deed_rises s service (Waiting p) Resume = (omega arith, omega arith)
 deed_rises s service (Up r) Replace = (omega arith, omega arith)
 deed_rises s service (Up r) (Lose true) = omega arith
 deed_rises s service (Up r) (Lose false) = omega arith
@@ -34,7 +36,7 @@ deed_rises s service (Up r) deed = omega arith
 deed_rises s service (Waiting p) deed = omega arith
 deed_rises s service GaveUp deed = omega arith
 
-follow_rises : (s : RsRecord) (tick : ℕ) (p : Option Plan) (actions : List Action) (t : RsRecord) → Follows s tick p actions t → AreRising s.next (starts actions) t.next
+follow_rises : (s : RsRecord) (tick : ℕ) (p : Option Plan) (actions : List Action) (t : RsRecord) → IsCarriedOut s tick p actions t → AreRising s.next (starts actions) t.next
 follow_rises s tick None actions t h =
     let n : s.next ≡ t.next = sym (ap (λ (r : RsRecord). r.next) h.after) in
     subst (λ (z : List Action). AreRising s.next (starts z) t.next) (sym h.done) (omega arith)
@@ -117,8 +119,9 @@ replaced_label label e f c (inr (inl same)) = inl (label, f, inl refl, same)
 replaced_label label e f c (inr (inr h)) = absurd h
 
 deed_labels : (s : RsRecord) (service : Service) (state : State) (deed : Deed) (c : ChangeRecord) → In c (offers (actions_of s service state deed)) → IsLabelOf (starts (actions_of s service state deed)) c
-deed_labels s service state Begin c h = started_label service.label (new_endpoint s) c h
-deed_labels s service state Resume c h = started_label service.label (new_endpoint s) c h
+deed_labels s service Down Begin c h = started_label service.label (new_endpoint s) c h
+deed_labels s service GaveUp Begin c h = started_label service.label (new_endpoint s) c h
+deed_labels s service (Waiting p) Resume c h = started_label service.label (new_endpoint s) c h
 deed_labels s service (Up r) Replace c h = replaced_label service.label r.endpoint (same_slot s r) c h
 deed_labels s service (Up r) (Lose kill) c h = stopped_label kill service.label r.endpoint c h
 deed_labels s service (Up r) Halt c h = stopped_label true service.label r.endpoint c h
@@ -128,11 +131,11 @@ deed_labels s service (Up r) deed c h = absurd h
 deed_labels s service (Waiting p) deed c h = absurd h
 deed_labels s service GaveUp deed c h = absurd h
 
-follow_labels : (s : RsRecord) (tick : ℕ) (p : Option Plan) (actions : List Action) (t : RsRecord) (c : ChangeRecord) → Follows s tick p actions t → In c (offers actions) → IsLabelOf (starts actions) c
+follow_labels : (s : RsRecord) (tick : ℕ) (p : Option Plan) (actions : List Action) (t : RsRecord) (c : ChangeRecord) → IsCarriedOut s tick p actions t → In c (offers actions) → IsLabelOf (starts actions) c
 follow_labels s tick None actions t c h i = absurd (subst (λ (z : List Action). In c (offers z)) h.done i)
 follow_labels s tick (Some p) actions t c h i = subst (λ (z : List Action). IsLabelOf (starts z) c) (sym h.done) (deed_labels s (service_at s p.place) (state_at s p.place) p.deed c (subst (λ (z : List Action). In c (offers z)) h.done i))
 
-run_labels : (s t : RsRecord) (steps : List (List Action)) (c : ChangeRecord) → Run s steps t → In c (flat_map offers steps) → IsLabelOf (flat_map starts steps) c
+run_labels : (s t : RsRecord) (steps : List (List Action)) (c : ChangeRecord) → RsRun s steps t → In c (flat_map offers steps) → IsLabelOf (flat_map starts steps) c
 run_labels s t [] c run i = absurd i
 run_labels s t (actions ∷ rest) c (event, tick, m, step, run) i = elim (In-cases c (offers actions) (flat_map offers rest) i) [
   | inl here ↦ label_left (starts actions) (flat_map starts rest) c (follow_labels s tick step.0 actions m c step.3 here)

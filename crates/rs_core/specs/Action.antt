@@ -1,15 +1,15 @@
 -- What RS does when an instance of a service starts, and when one is stopped.
 use Rattle.std.specs.Prelude.{ℕ, Bool, List, [], ◌∷◌, ◌++◌, if◌then◌else◌}
-use Rattle.ds_names.specs.declared.kind.Kind.TheVariants.{Label}
-use Rattle.ds_names.specs.declared.key.Key.{Key}
 use Rattle.ds_names.specs.declared.version.Version.{Version}
 use Rattle.ds_names.specs.Endpoint.{EndpointRecord}
-use Rattle.ds_entry.specs.Change.{ChangeRecord, change_of, rs_name, IsBodyInPlace}
+use Rattle.ds_entry.specs.Change.{ChangeRecord, change_of, IsBodyInPlace}
 use Rattle.ds_entry.specs.Floor.{floor_of}
 use Rattle.ds_entry.specs.declared.body.Value.TheVariants as values
 use Rattle.ds_entry.specs.declared.body.Body.TheVariants.{Put, Gone}
 use Rattle.rs_core.specs.declared.action.Action.{Action}
 use Rattle.rs_core.specs.declared.action.Action.TheVariants.{Kill, Start, Ping, Offer, Sweep}
+use Rattle.ds_names.specs.Name.{rs_name}
+use Rattle.ds_names.specs.Key.{label_key}
 
 -- a copy of the action takes no memory, as none of RS's own does: it would for the offer of a text or of bytes alone
 abbrev pub IsActionInPlace : Action → Type 0
@@ -18,10 +18,6 @@ IsActionInPlace (Kill endpoint) = Unit {0}
 IsActionInPlace (Start label endpoint) = Unit {0}
 IsActionInPlace (Ping endpoint) = Unit {0}
 IsActionInPlace (Sweep floor) = Unit {0}
-
--- the key of a label in the data store
-abbrev pub label_key : List ℕ → Key
-label_key label = record { name = label; kind = Label }
 
 -- the version of an epoch and a number
 abbrev pub version : ℕ → ℕ → Version

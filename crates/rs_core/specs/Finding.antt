@@ -1,6 +1,6 @@
 -- Which service an event means.
-use Rattle.std.specs.Prelude.{ℕ, ◌+◌, ◌-◌, ◌*◌, ◌==◌, Bool, false, ◌&&◌, nat_le, nat_lt, List, ◌∷◌, Option, Some, None, if◌then◌else◌}
-use Rattle.ds_names.specs.Endpoint.{EndpointRecord}
+use Rattle.std.specs.Prelude.{ℕ, ◌+◌, ◌-◌, ◌*◌, Bool, false, ◌&&◌, nat_le, nat_lt, List, ◌∷◌, Option, Some, None, if◌then◌else◌}
+use Rattle.ds_names.specs.Endpoint.{is_same_endpoint}
 use Rattle.rs_settings.specs.Values.{is_same}
 use Rattle.rs_settings.specs.declared.service.Service.{Service}
 use Rattle.rs_core.specs.declared.state.State.{State}
@@ -10,10 +10,6 @@ use Rattle.rs_core.specs.declared.state.Pause.{Pause}
 use Rattle.rs_core.specs.declared.finding.Sought.{Sought}
 use Rattle.rs_core.specs.declared.finding.Sought.TheVariants as sought
 use Rattle.rs_core.specs.State.{RsRecord}
-
--- the same generation and the same slot
-abbrev pub is_same_endpoint : EndpointRecord → EndpointRecord → Bool
-is_same_endpoint a b = a.generation == b.generation && a.slot == b.slot
 
 -- an instance runs and passes the test
 abbrev pub when_up : (Running → Bool) → State → Bool
@@ -39,5 +35,5 @@ first_sought what i (service ∷ services) (state ∷ states) = if is_sought wha
 first_sought what i _ _ = None
 
 -- the index of that service
-abbrev pub place_of : RsRecord → Sought → Option ℕ
-place_of s what = first_sought what 0 s.settings.services s.states
+abbrev pub service_place : RsRecord → Sought → Option ℕ
+service_place s what = first_sought what 0 s.settings.services s.states

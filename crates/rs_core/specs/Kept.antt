@@ -1,6 +1,6 @@
 -- What RS keeps true of its states, slots and generations.
-use Rattle.std.specs.Prelude.{◌≡◌, ◌≢◌, ℕ, ◌+◌, ◌-◌, ◌^◌, ◌<◌, ◌≤◌, List, length, slice_index_or, Some}
-use Rattle.slab.specs.Slab.{Slab, get}
+use Rattle.std.specs.Prelude.{◌≡◌, ◌≢◌, ℕ, ◌+◌, ◌-◌, ◌^◌, ◌<◌, ◌≤◌, Bool, true, false, List, length, slice_index_or, count_by, Some}
+use Rattle.slab.specs.Slab.{Slab, get, slab_len}
 use Rattle.ds_names.specs.Endpoint.{IsEndpoint}
 use Rattle.rs_settings.specs.Settings.{SettingsRecord, IsSettings}
 use Rattle.rs_core.specs.declared.state.State.{State}
@@ -23,7 +23,19 @@ IsState next slots i (Waiting p) = p.failures ≤ 1000
 IsState next slots i Down = Unit {0}
 IsState next slots i GaveUp = Unit {0}
 
--- settings in their ranges, a state for each service, the tick and the next generation in their ranges, and each state so
+-- an instance of the service runs
+abbrev pub is_up : State → Bool
+is_up (Up r) = true
+is_up (Waiting p) = false
+is_up Down = false
+is_up GaveUp = false
+
+-- how many services are up
+abbrev pub up_count : List State → ℕ
+up_count states = count_by is_up states
+
+-- settings in their ranges, a state for each service, the tick and the next generation in their ranges, each state so, and as
+-- many slots taken as services are up: no slot is lost
 pub record IsRs (settings : SettingsRecord) (states : List State) (tick next : ℕ) (slots : Slab ℕ) : Type 0 where
   pub checked : IsSettings settings
   pub count : length states ≡ length settings.services
@@ -31,6 +43,7 @@ pub record IsRs (settings : SettingsRecord) (states : List State) (tick next : �
   pub some : 1 ≤ next
   pub spent : next ≤ 2097152
   pub each : (i : ℕ) → i < length states → IsState next slots i (slice_index_or states i Down)
+  pub taken : slab_len slots ≡ up_count states
 
 -- no instance of the service runs in the slot with the key
 abbrev pub IsNotAt : ℕ → State → Type 0

@@ -19,7 +19,7 @@ use Rattle.rs_core.specs.declared.deed.Plan.{Plan}
 use Rattle.rs_core.specs.Action.{start_actions, stop_actions}
 use Rattle.rs_core.specs.State.{RsRecord, state_at}
 use Rattle.rs_core.specs.Table.{on_up, on_stop, on_refresh, on_restart, on_death}
-use Rattle.rs_core.specs.Finding.{place_of}
+use Rattle.rs_core.specs.Finding.{service_place}
 
 -- ---- what is asked
 
@@ -45,18 +45,18 @@ of_instance deed (Some i) = Ok (Some (plan deed i))
 -- the first of these that is due: a missed heartbeat, which is a death of cause 4; a ping; a start after a wait
 abbrev pub due : RsRecord → ℕ → Option Plan
 due s tick =
-    option_or (option_map (plan (Lose true)) (place_of s (sought.Missed tick)))
-    (option_or (option_map (plan Ping) (place_of s (sought.Silent tick)))
-    (option_map (plan Resume) (place_of s (sought.Rested tick))))
+    option_or (option_map (plan (Lose true)) (service_place s (sought.Missed tick)))
+    (option_or (option_map (plan Ping) (service_place s (sought.Silent tick)))
+    (option_map (plan Resume) (service_place s (sought.Rested tick))))
 
 -- what the event asks: of one service, or nothing, or the fault that the table names
 abbrev pub asked : RsRecord → Event → ℕ → Result (Option Plan) RsFault
-asked s (events.Up label) tick = of_label s on_up (place_of s (sought.Label label))
-asked s (events.Stop label) tick = of_label s on_stop (place_of s (sought.Label label))
-asked s (events.Refresh label) tick = of_label s on_refresh (place_of s (sought.Label label))
-asked s (events.Restart label) tick = of_label s on_restart (place_of s (sought.Label label))
-asked s (events.Death endpoint cause) tick = of_instance (on_death cause) (place_of s (sought.Instance endpoint))
-asked s (events.Beat endpoint) tick = of_instance Hear (place_of s (sought.Instance endpoint))
+asked s (events.Up label) tick = of_label s on_up (service_place s (sought.Label label))
+asked s (events.Stop label) tick = of_label s on_stop (service_place s (sought.Label label))
+asked s (events.Refresh label) tick = of_label s on_refresh (service_place s (sought.Label label))
+asked s (events.Restart label) tick = of_label s on_restart (service_place s (sought.Label label))
+asked s (events.Death endpoint cause) tick = of_instance (on_death cause) (service_place s (sought.Instance endpoint))
+asked s (events.Beat endpoint) tick = of_instance Hear (service_place s (sought.Instance endpoint))
 asked s events.Tick tick = Ok (due s tick)
 
 -- ---- what is done
@@ -90,8 +90,9 @@ same_slot s r = endpoint_of s.next r.endpoint.slot
 
 -- the state of a service that the deed is done to; where the deed is none for its state, which no event asks, it stays
 abbrev pub state_after : RsRecord → ℕ → Service → State → Deed → State
-state_after s tick service state Begin = started_at (new_endpoint s) tick 0
-state_after s tick service state Resume = started_at (new_endpoint s) tick (failures_of state)
+state_after s tick service Down Begin = started_at (new_endpoint s) tick 0
+state_after s tick service GaveUp Begin = started_at (new_endpoint s) tick 0
+state_after s tick service (Waiting p) Resume = started_at (new_endpoint s) tick p.failures
 state_after s tick service (Up r) Replace = started_at (same_slot s r) tick r.failures
 state_after s tick service (Up r) (Lose kill) = failed service.limit tick (r.failures + 1)
 state_after s tick service (Up r) Hear = Up (record r { beat = tick })
@@ -102,8 +103,9 @@ state_after s tick service state _ = state
 
 -- the actions of the deed
 abbrev pub actions_of : RsRecord → Service → State → Deed → List Action
-actions_of s service state Begin = start_actions service.label (new_endpoint s)
-actions_of s service state Resume = start_actions service.label (new_endpoint s)
+actions_of s service Down Begin = start_actions service.label (new_endpoint s)
+actions_of s service GaveUp Begin = start_actions service.label (new_endpoint s)
+actions_of s service (Waiting p) Resume = start_actions service.label (new_endpoint s)
 actions_of s service (Up r) Replace = stop_actions true service.label r.endpoint ++ start_actions service.label (same_slot s r)
 actions_of s service (Up r) (Lose kill) = stop_actions kill service.label r.endpoint
 actions_of s service (Up r) Ping = actions.Ping r.endpoint ∷ []
@@ -112,15 +114,17 @@ actions_of s service state _ = []
 
 -- a start takes the next generation
 abbrev pub next_after : RsRecord → State → Deed → ℕ
-next_after s state Begin = s.next + 1
-next_after s state Resume = s.next + 1
+next_after s Down Begin = s.next + 1
+next_after s GaveUp Begin = s.next + 1
+next_after s (Waiting p) Resume = s.next + 1
 next_after s (Up r) Replace = s.next + 1
 next_after s state _ = s.next
 
 -- the key of the slot that is free next: behind a stop that of the slot which it freed, else the same one; behind a start, any
 abbrev pub IsFreeAfter : RsRecord → State → Deed → ℕ → Type 0
-IsFreeAfter s state Begin key = Unit {0}
-IsFreeAfter s state Resume key = Unit {0}
+IsFreeAfter s Down Begin key = Unit {0}
+IsFreeAfter s GaveUp Begin key = Unit {0}
+IsFreeAfter s (Waiting p) Resume key = Unit {0}
 IsFreeAfter s (Up r) Replace key = Unit {0}
 IsFreeAfter s (Up r) (Lose kill) key = 16 + key ≡ r.endpoint.slot
 IsFreeAfter s (Up r) Halt key = 16 + key ≡ r.endpoint.slot

@@ -8,12 +8,12 @@ use Rattle.rs_core.specs.declared.action.Action.{Action}
 use Rattle.rs_core.specs.declared.action.Action.TheVariants.{Start, Offer}
 use Rattle.rs_core.specs.declared.event.Event.{Event}
 use Rattle.rs_core.specs.State.{RsRecord}
-use Rattle.rs_core.specs.Step.{Step}
+use Rattle.rs_core.specs.Step.{RsStep}
 
 -- steps one after another, each with its actions
-abbrev pub Run : RsRecord → List (List Action) → RsRecord → Type 0
-Run s [] t = s ≡ t
-Run s (actions ∷ rest) t = (event : Event) × (tick : ℕ) × (m : RsRecord) × Step s event tick actions m × Run m rest t
+abbrev pub RsRun : RsRecord → List (List Action) → RsRecord → Type 0
+RsRun s [] t = s ≡ t
+RsRun s (actions ∷ rest) t = (event : Event) × (tick : ℕ) × (m : RsRecord) × RsStep s event tick actions m × RsRun m rest t
 
 -- the endpoint, of a start
 abbrev pub start_of : Action → Option EndpointRecord
@@ -40,8 +40,8 @@ AreRising low (e ∷ es) high = (low ≤ e.generation) × AreRising (e.generatio
 
 -- each start's generation is above those of all earlier ones
 abbrev pub StartsRise : Type 0
-StartsRise = (s t : RsRecord) (steps : List (List Action)) → Run s steps t → AreRising s.next (flat_map starts steps) t.next
+StartsRise = (s t : RsRecord) (steps : List (List Action)) → RsRun s steps t → AreRising s.next (flat_map starts steps) t.next
 
 -- the label changes of a run are single-numbered: no two of them contradict each other
 abbrev pub LabelsAreSingleNumbered : Type 0
-LabelsAreSingleNumbered = (s t : RsRecord) (steps : List (List Action)) → Run s steps t → IsSingleNumbered (flat_map offers steps)
+LabelsAreSingleNumbered = (s t : RsRecord) (steps : List (List Action)) → RsRun s steps t → IsSingleNumbered (flat_map offers steps)

@@ -19,10 +19,10 @@ pub record IsIdle (s : RsRecord) (tick : ℕ) (actions : List Action) (t : RsRec
   pub after : t ≡ record s { tick = tick }
 
 -- what is planned is done, and where nothing is due, nothing
-abbrev pub Follows : RsRecord → ℕ → Option Plan → List Action → RsRecord → Type 0
-Follows s tick None actions t = IsIdle s tick actions t
-Follows s tick (Some p) actions t = IsDone s tick p actions t
+abbrev pub IsCarriedOut : RsRecord → ℕ → Option Plan → List Action → RsRecord → Type 0
+IsCarriedOut s tick None actions t = IsIdle s tick actions t
+IsCarriedOut s tick (Some p) actions t = IsDone s tick p actions t
 
 -- nothing stands against the event, and what it asks is done
-abbrev pub Step : RsRecord → Event → ℕ → List Action → RsRecord → Type 0
-Step s event tick actions t = (p : Option Plan) × (refusal s event tick ≡ None) × (asked s event tick ≡ Ok p) × Follows s tick p actions t
+abbrev pub RsStep : RsRecord → Event → ℕ → List Action → RsRecord → Type 0
+RsStep s event tick actions t = (p : Option Plan) × (refusal s event tick ≡ None) × (asked s event tick ≡ Ok p) × IsCarriedOut s tick p actions t

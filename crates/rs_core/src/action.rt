@@ -2,8 +2,9 @@
 
 ghost use Rattle.std.specs.Prelude.{◌≡◌, ◌<◌, ◌≢◌, ◌++◌, ◌∷◌, [], length, slice_get, OnOk, IfErr, OnErr, IfOk, IsOk};
 ghost use Rattle.std.specs.Option.{option_copied};
-ghost use Rattle.ds_entry.specs.Change.{rs_name, IsChange};
+ghost use Rattle.ds_entry.specs.Change.{IsChange};
 ghost use Rattle.rs_core.specs.Action.{IsActionInPlace, label_put, label_gone, start_actions, stop_actions};
+ghost use Rattle.ds_names.specs.Name.{rs_name};
 
 use ds_entry::{Body, Change, Floor, Value};
 use ds_names::{Endpoint, Generation, Key, Kind, Name, NoRoom, Version};
@@ -116,7 +117,7 @@ fn label_put(label: Name, endpoint: Endpoint) -> Change
         epoch: endpoint.generation(),
         seq: 0,
     };
-    Change::from_parts(key, rs_label(), version, Body::Put(Value::Label(endpoint)))
+    Change::from_parts(key, Name::rs(), version, Body::Put(Value::Label(endpoint)))
 }
 
 // The change that takes it back.
@@ -134,17 +135,7 @@ fn label_gone(label: Name, generation: Generation) -> Change
         epoch: generation,
         seq: 1,
     };
-    Change::from_parts(key, rs_label(), version, Body::Gone)
-}
-
-// RS's own label, which owns all labels.
-fn rs_label() -> Name
-    ensures { result ≡ rs_name }
-{
-    match Name::read(b"rs") {
-        Ok(name) => name,
-        Err(_) => unreachable!(),
-    }
+    Change::from_parts(key, Name::rs(), version, Body::Gone)
 }
 
 // Adds what starts an instance.

@@ -1,7 +1,8 @@
 //! Which service an event means.
 
 ghost use Rattle.std.specs.Prelude.{◌≡◌, ◌<◌, ◌*◌, ◌-◌, nat_le, length, IfSome};
-ghost use Rattle.rs_core.specs.Finding.{is_same_endpoint, when_up, when_waiting, is_sought, first_sought};
+ghost use Rattle.rs_core.specs.Finding.{when_up, when_waiting, is_sought, first_sought};
+ghost use Rattle.ds_names.specs.Endpoint.{is_same_endpoint};
 
 use crate::state::State;
 use ds_names::{Endpoint, Name};

@@ -3,10 +3,10 @@
 ghost use Rattle.std.specs.Prelude.{◌≡◌, ◌≢◌, ℕ, ◌<◌, ◌≤◌, option_map, ◌↔◌, ◌⊎◌, IsErrOf, length, replicate, None, Some, true, IfOk, IfErr, IfSome, OnErr};
 ghost use Rattle.rs_settings.specs.Settings.{IsService, IsSettings};
 ghost use Rattle.rs_core.specs.State.{rs_of, state_at, service_at};
-ghost use Rattle.rs_core.specs.Finding.{place_of};
+ghost use Rattle.rs_core.specs.Finding.{service_place};
 ghost use Rattle.rs_core.specs.Machine.{asked, failures_of};
 ghost use Rattle.rs_core.specs.Judging.{refusal, asks, has_actions};
-ghost use Rattle.rs_core.specs.Step.{Step};
+ghost use Rattle.rs_core.specs.Step.{RsStep};
 ghost use Rattle.rs_core.specs.Kept.{IsNotAt, HaveTwoSlots};
 
 mod asking;
@@ -84,7 +84,7 @@ impl Rs {
     /// NoRoom comes behind every other fault, and only for an event that has actions: not for a heartbeat, the end of a
     /// wait by `Stop`, or a tick at which nothing is due.
     pub fn event(&mut self, event: Event, tick: u64) -> Result<Actions, RsFault>
-        ensures step { IfOk result (λ actions. Step self.old event tick actions self.new) }
+        ensures step { IfOk result (λ actions. RsStep self.old event tick actions self.new) }
         ensures refused { IfErr result (λ fault. fault ≢ RsFault.NoRoom → refusal self.old event tick ≡ Some fault) }
         ensures last { IfErr result (λ fault. fault ≡ RsFault.NoRoom → refusal self.old event tick ≡ None) }
         ensures room { IfErr result (λ fault. fault ≡ RsFault.NoRoom → asks has_actions (asked self.old event tick) ≡ true) }
@@ -99,7 +99,7 @@ impl Rs {
 
     /// What RS knows of the service with the label. `None` where no service has it.
     pub fn state(&self, label: &Name) -> Option<State>
-        ensures { result ≡ option_map (state_at self.now) (place_of self.now (Sought.Label label.now)) }
+        ensures { result ≡ option_map (state_at self.now) (service_place self.now (Sought.Label label.now)) }
     {
         match self.place(Sought::Label(*label)) {
             Some(place) => Some(self.state_at(place)),
@@ -128,7 +128,7 @@ impl Rs {
 
     // The service that is meant.
     fn place(&self, what: Sought) -> Option<usize>
-        ensures value { result ≡ place_of self.now what }
+        ensures value { result ≡ service_place self.now what }
         ensures within { IfSome result (λ i. i < length self.now.states) }
     {
         place_of(&what, self.settings.services(), self.states.as_slice())

@@ -2,7 +2,7 @@
 
 ghost use Rattle.std.specs.Prelude.{◌≡◌, ◌<◌, ◌≤◌, ◌+◌, ◌^◌};
 ghost use Rattle.ds_names.specs.Endpoint.{endpoint_of};
-ghost use Rattle.rs_core.specs.Machine.{failed, failures_of, pause};
+ghost use Rattle.rs_core.specs.Machine.{failed, pause};
 ghost use Rattle.rs_core.specs.Kept.{IsAtRest};
 
 use ds_names::{Endpoint, Generation};
@@ -36,16 +36,6 @@ pub enum State {
     Up(Running),
     Waiting(Pause),
     GaveUp,
-}
-
-pub(crate) fn failures_of(state: State) -> u32
-    ensures { result ≡ failures_of state }
-{
-    match state {
-        State::Up(running) => running.failures,
-        State::Waiting(pause) => pause.failures,
-        State::Down | State::GaveUp => 0,
-    }
 }
 
 // The ticks before the start that answers failure k of a row.

@@ -1,9 +1,9 @@
 -- No fault was found among the services, so any two of them are apart.
-use Rattle.std.proofs.Common.{◌≡◌, ℕ, ◌<◌, ◌||◌, ◌+◌, Bool, true, false, zero, suc, List, [], ◌∷◌, ◌++◌, length, get_or, take, Option, Some, None, refl, sym, ap, subst, ◌∙◌, arith, append_assoc, inl, inr}
+use Rattle.std.proofs.Common.{◌≡◌, ℕ, ◌<◌, ◌||◌, ◌+◌, Bool, true, false, zero, suc, List, [], ◌∷◌, ◌++◌, length, get_or, take, Option, Some, None, refl, sym, subst, ◌∙◌, arith, append_assoc, inl, inr}
 use Rattle.std.specs.List.{list_any}
 use Rattle.std.specs.Option.{option_or, option_map}
-use Rattle.std.proofs.lemmas.Bool.{cases_Bool, false≢true}
-use Rattle.std.proofs.lemmas.List.{get_or-take, length-take-le}
+use Rattle.std.proofs.lemmas.Bool.{cases_Bool, false≢true, or_parts}
+use Rattle.std.proofs.lemmas.List.{get_or-take, length-take-le, append-nil}
 use Rattle.rs_settings.specs.declared.service.Service.{Service}
 use Rattle.rs_settings.specs.declared.fault.SettingsCause.TheVariants.{TwoLabels, TwoUnits, SharedName}
 use Rattle.rs_settings.specs.Fault.{at_service}
@@ -13,23 +13,15 @@ use Rattle.rs_settings.specs.Apart.{AreDistinct, ServicesAreApart}
 use Rattle.rs_settings.proofs.SharedLemmas.{has_name-append}
 use Rattle.rs_settings.proofs.AscendingLemmas.{has_name-same}
 
-or_false : (a b : Bool) → a || b ≡ false → (a ≡ false) × (b ≡ false)
-or_false true b h = absurd (false≢true (sym h))
-or_false false b h = (refl, h)
-
 or_true : (a b : Bool) → b ≡ true → a || b ≡ true
 or_true true b h = refl
 or_true false b h = h
 
-append_nil : {A : Type 0} (xs : List A) → xs ++ [] ≡ xs
-append_nil [] = refl
-append_nil (x ∷ xs) = ap (λ z. x ∷ z) (append_nil xs)
-
 -- what no element passes, at an index
 none_at : (test : Service → Bool) (xs : List Service) (i : ℕ) (d : Service) → list_any test xs ≡ false → i < length xs → test (get_or xs i d) ≡ false
 none_at test [] i d h l = absurd (omega arith)
-none_at test (x ∷ xs) zero d h l = (or_false (test x) (list_any test xs) h).0
-none_at test (x ∷ xs) (suc i) d h l = none_at test xs i d (or_false (test x) (list_any test xs) h).1 (omega arith)
+none_at test (x ∷ xs) zero d h l = (or_parts (test x) (list_any test xs) h).0
+none_at test (x ∷ xs) (suc i) d h l = none_at test xs i d (or_parts (test x) (list_any test xs) h).1 (omega arith)
 
 -- no service shares with one before it
 none_before : (share : Service → Service → Bool) (before ss : List Service) (j : ℕ) (d : Service) → first_clash share before ss ≡ None → j < length ss → list_any (share (get_or ss j d)) (before ++ take j ss) ≡ false
@@ -40,7 +32,7 @@ none_before share before (s ∷ ss) j d h l = elim (cases_Bool (list_any (share 
 ]
   where
     at : (j : ℕ) → j < length (s ∷ ss) → list_any (share s) before ≡ false → ((k : ℕ) → k < length ss → list_any (share (get_or ss k d)) ((before ++ s ∷ []) ++ take k ss) ≡ false) → list_any (share (get_or (s ∷ ss) j d)) (before ++ take j (s ∷ ss)) ≡ false
-    at zero l here later = subst (λ (z : List Service). list_any (share s) z ≡ false) (sym (append_nil before)) here
+    at zero l here later = subst (λ (z : List Service). list_any (share s) z ≡ false) (sym (append-nil before)) here
     at (suc k) l here later = subst (λ (z : List Service). list_any (share (get_or ss k d)) z ≡ false) (append_assoc before (s ∷ []) (take k ss)) (later k (omega arith))
 
 distinct : (share : Service → Service → Bool) (ss : List Service) → first_clash share [] ss ≡ None → AreDistinct share ss
@@ -53,11 +45,11 @@ not_before : (before names : List (List ℕ)) (n : List ℕ) → repeats before 
 not_before before [] n h i = absurd (false≢true i)
 not_before before (m ∷ ms) n h i = elim (cases_Bool (is_same n m)) [
   | inl t ↦ has_name-same before m n t ∙ parts.0
-  | inr f ↦ (or_false (has_name before n) (has_name (m ∷ []) n) (sym (has_name-append before (m ∷ []) n) ∙ not_before (before ++ m ∷ []) ms n parts.1 (rw f at i))).0
+  | inr f ↦ (or_parts (has_name before n) (has_name (m ∷ []) n) (sym (has_name-append before (m ∷ []) n) ∙ not_before (before ++ m ∷ []) ms n parts.1 (rw f at i))).0
 ]
   where
     parts : (has_name before m ≡ false) × (repeats (before ++ m ∷ []) ms ≡ false)
-    parts = or_false (has_name before m) (repeats (before ++ m ∷ []) ms) h
+    parts = or_parts (has_name before m) (repeats (before ++ m ∷ []) ms) h
 
 -- fewer names before repeat no more
 repeats-less : (a b names : List (List ℕ)) → ((n : List ℕ) → has_name a n ≡ true → has_name b n ≡ true) → repeats b names ≡ false → repeats a names ≡ false
@@ -65,7 +57,7 @@ repeats-less a b [] le h = refl
 repeats-less a b (m ∷ ms) le h = rw absent (repeats-less (a ++ m ∷ []) (b ++ m ∷ []) ms more parts.1)
   where
     parts : (has_name b m ≡ false) × (repeats (b ++ m ∷ []) ms ≡ false)
-    parts = or_false (has_name b m) (repeats (b ++ m ∷ []) ms) h
+    parts = or_parts (has_name b m) (repeats (b ++ m ∷ []) ms) h
 
     absent : has_name a m ≡ false
     absent = elim (cases_Bool (has_name a m)) [ inl t ↦ absurd (false≢true (sym parts.0 ∙ le m t)) | inr f ↦ f ]
@@ -82,7 +74,7 @@ abbrev AreNew : List (List ℕ) → List Service → ℕ → Service → Type 0
 AreNew before ss j d = (b : List (List ℕ)) × (repeats (before ++ b) (get_or ss j d).publishes ≡ false) × ((i : ℕ) (n : List ℕ) → i < j → has_name (get_or ss i d).publishes n ≡ true → has_name (before ++ b) n ≡ true)
 
 new_here : (before : List (List ℕ)) (s : Service) (ss : List Service) (d : Service) → repeats before s.publishes ≡ false → AreNew before (s ∷ ss) zero d
-new_here before s ss d f = ([], subst (λ (z : List (List ℕ)). repeats z s.publishes ≡ false) (sym (append_nil before)) f, λ i n below t. absurd (omega arith))
+new_here before s ss d f = ([], subst (λ (z : List (List ℕ)). repeats z s.publishes ≡ false) (sym (append-nil before)) f, λ i n below t. absurd (omega arith))
 
 new_later : (before : List (List ℕ)) (s : Service) (ss : List Service) (m : ℕ) (d : Service) → AreNew (before ++ s.publishes) ss m d → AreNew before (s ∷ ss) (suc m) d
 new_later before s ss m d (b, new, known) = (s.publishes ++ b, subst (λ (z : List (List ℕ)). repeats z (get_or ss m d).publishes ≡ false) (append_assoc before s.publishes b) new, all_before)

@@ -1,25 +1,20 @@
 -- One step of each loop over services and over their names.
 use Rattle.std.proofs.Common.{◌≡◌, ℕ, ◌<◌, ◌≤◌, ◌||◌, ◌+◌, Bool, true, false, cond, List, [], ◌∷◌, ◌++◌, length, get_or, take, drop, map, Some, None, refl, sym, ap, subst, ◌∙◌, arith, append_assoc}
 use Rattle.std.specs.List.{list_any}
-use Rattle.std.proofs.lemmas.List.{drop_more, drop_all, take_more, length-take-le, map-append}
+use Rattle.std.proofs.lemmas.List.{drop_more, drop_all, take_more, length-take-le, map-append, append-nil, length-map}
 use Rattle.toml.specs.declared.value.Value.{Value}
 use Rattle.rs_settings.specs.declared.service.Service.{Service}
 use Rattle.rs_settings.specs.declared.draft.Draft.{Draft}
 use Rattle.rs_settings.specs.Values.{is_same}
 use Rattle.rs_settings.specs.Shared.{has_name, repeats, first_clash, first_repeat}
-use Rattle.rs_settings.specs.Draft.{service_of_draft, text_of}
+use Rattle.rs_settings.specs.Draft.{service_of_draft, text_in_value}
 
 list_any-map : {X Y : Type 0} (test : Y → Bool) (f : X → Y) (xs : List X) → list_any test (map f xs) ≡ list_any (λ x. test (f x)) xs
 list_any-map test f [] = refl
 list_any-map test f (x ∷ xs) = ap (λ b. test (f x) || b) (list_any-map test f xs)
 
--- a map keeps the length
-pub length-map : {X Y : Type 0} (f : X → Y) (xs : List X) → length (map f xs) ≡ length xs
-length-map f [] = refl
-length-map f (x ∷ xs) = grind (arith, length-map f xs)
-
 first_clash-step : (share : Service → Service → Bool) (ds : List Draft) (i : ℕ) (d : Draft) → i < length ds → first_clash share (map service_of_draft (take i ds)) (map service_of_draft (drop i ds)) ≡ cond (list_any (λ e. share (service_of_draft (get_or ds i d)) (service_of_draft e)) (take i ds)) (Some i) (first_clash share (map service_of_draft (take (i + 1) ds)) (map service_of_draft (drop (i + 1) ds)))
-first_clash-step share ds i d h = rw (drop_more ds i d h, take_more ds i d h, map-append service_of_draft (take i ds) (get_or ds i d ∷ []), list_any-map (share (service_of_draft (get_or ds i d))) service_of_draft (take i ds), length-map service_of_draft (take i ds), length-take-le i ds (omega arith))
+first_clash-step share ds i d h = rw (drop_more ds i d h, take_more ds i d h, map-append service_of_draft (take i ds) (get_or ds i d ∷ []), list_any-map (share (service_of_draft (get_or ds i d))) service_of_draft (take i ds), length-map (take i ds) service_of_draft, length-take-le i ds (omega arith))
 
 module _ (share : Service → Service → Bool) (ds : List Draft) (i : ℕ) (d : Draft) (l : i < length ds) (is : d ≡ get_or ds i d)
     (so : first_clash share (map service_of_draft (take i ds)) (map service_of_draft (drop i ds)) ≡ first_clash share [] (map service_of_draft ds)) where
@@ -54,37 +49,37 @@ repeats-alike a b (n ∷ ns) h = rw (h n, repeats-alike (a ++ n ∷ []) (b ++ n 
     both : (m : List ℕ) → has_name (a ++ n ∷ []) m ≡ has_name (b ++ n ∷ []) m
     both m = has_name-append a (n ∷ []) m ∙ ap (λ c. c || has_name (n ∷ []) m) (h m) ∙ sym (has_name-append b (n ∷ []) m)
 
-taken : (vs : List Value) (i : ℕ) (d : Value) → i < length vs → map text_of (take (i + 1) vs) ≡ map text_of (take i vs) ++ text_of (get_or vs i d) ∷ []
-taken vs i d l = ap (map text_of) (take_more vs i d l) ∙ map-append text_of (take i vs) (get_or vs i d ∷ [])
+taken : (vs : List Value) (i : ℕ) (d : Value) → i < length vs → map text_in_value (take (i + 1) vs) ≡ map text_in_value (take i vs) ++ text_in_value (get_or vs i d) ∷ []
+taken vs i d l = ap (map text_in_value) (take_more vs i d l) ∙ map-append text_in_value (take i vs) (get_or vs i d ∷ [])
 
-repeats-step : (before : List (List ℕ)) (vs : List Value) (i : ℕ) (d : Value) → i < length vs → repeats before (map text_of (drop i vs)) ≡ (has_name before (text_of (get_or vs i d)) || repeats (before ++ text_of (get_or vs i d) ∷ []) (map text_of (drop (i + 1) vs)))
+repeats-step : (before : List (List ℕ)) (vs : List Value) (i : ℕ) (d : Value) → i < length vs → repeats before (map text_in_value (drop i vs)) ≡ (has_name before (text_in_value (get_or vs i d)) || repeats (before ++ text_in_value (get_or vs i d) ∷ []) (map text_in_value (drop (i + 1) vs)))
 repeats-step before vs i d l = rw (drop_more vs i d l)
 
 module _ (base seen : List (List ℕ)) (vs : List Value) (i : ℕ) (d : Value) (l : i < length vs)
-    (so : repeats (base ++ map text_of (take i vs)) (map text_of (drop i vs)) ≡ repeats base (map text_of vs))
-    (same : (n : List ℕ) → has_name seen n ≡ has_name (base ++ map text_of (take i vs)) n) where
+    (so : repeats (base ++ map text_in_value (take i vs)) (map text_in_value (drop i vs)) ≡ repeats base (map text_in_value vs))
+    (same : (n : List ℕ) → has_name seen n ≡ has_name (base ++ map text_in_value (take i vs)) n) where
   -- a name that was there
-  pub repeats-here : has_name seen (text_of (get_or vs i d)) ≡ true → repeats base (map text_of vs) ≡ true
-  repeats-here here = sym so ∙ repeats-step (base ++ map text_of (take i vs)) vs i d l ∙ rw (sym (same (text_of (get_or vs i d))) ∙ here) refl
+  pub repeats-here : has_name seen (text_in_value (get_or vs i d)) ≡ true → repeats base (map text_in_value vs) ≡ true
+  repeats-here here = sym so ∙ repeats-step (base ++ map text_in_value (take i vs)) vs i d l ∙ rw (sym (same (text_in_value (get_or vs i d))) ∙ here) refl
 
   -- a name that is new
-  pub repeats-past : has_name seen (text_of (get_or vs i d)) ≡ false → repeats (base ++ map text_of (take (i + 1) vs)) (map text_of (drop (i + 1) vs)) ≡ repeats base (map text_of vs)
-  repeats-past new = rw (taken vs i d l) (ap (λ z. repeats z (map text_of (drop (i + 1) vs))) (sym (append_assoc base (map text_of (take i vs)) (text_of (get_or vs i d) ∷ []))) ∙ sym (rw (sym (same (text_of (get_or vs i d))) ∙ new) at (repeats-step (base ++ map text_of (take i vs)) vs i d l)) ∙ so)
+  pub repeats-past : has_name seen (text_in_value (get_or vs i d)) ≡ false → repeats (base ++ map text_in_value (take (i + 1) vs)) (map text_in_value (drop (i + 1) vs)) ≡ repeats base (map text_in_value vs)
+  repeats-past new = rw (taken vs i d l) (ap (λ z. repeats z (map text_in_value (drop (i + 1) vs))) (sym (append_assoc base (map text_in_value (take i vs)) (text_in_value (get_or vs i d) ∷ []))) ∙ sym (rw (sym (same (text_in_value (get_or vs i d))) ∙ new) at (repeats-step (base ++ map text_in_value (take i vs)) vs i d l)) ∙ so)
 
   or_false : (b : Bool) → b || false ≡ b
   or_false true = refl
   or_false false = refl
 
-  pub same-past : (more : List (List ℕ)) → ((n : List ℕ) → has_name more n ≡ (has_name seen n || is_same n (text_of (get_or vs i d)))) → (n : List ℕ) → has_name more n ≡ has_name (base ++ map text_of (take (i + 1) vs)) n
+  pub same-past : (more : List (List ℕ)) → ((n : List ℕ) → has_name more n ≡ (has_name seen n || is_same n (text_in_value (get_or vs i d)))) → (n : List ℕ) → has_name more n ≡ has_name (base ++ map text_in_value (take (i + 1) vs)) n
   same-past more added n =
-      added n ∙ ap (λ b. b || is_same n (text_of (get_or vs i d))) (same n)
-      ∙ ap (λ b. has_name (base ++ map text_of (take i vs)) n || b) (sym (or_false (is_same n (text_of (get_or vs i d)))))
-      ∙ sym (has_name-append (base ++ map text_of (take i vs)) (text_of (get_or vs i d) ∷ []) n)
-      ∙ ap (λ z. has_name z n) (append_assoc base (map text_of (take i vs)) (text_of (get_or vs i d) ∷ []))
+      added n ∙ ap (λ b. b || is_same n (text_in_value (get_or vs i d))) (same n)
+      ∙ ap (λ b. has_name (base ++ map text_in_value (take i vs)) n || b) (sym (or_false (is_same n (text_in_value (get_or vs i d)))))
+      ∙ sym (has_name-append (base ++ map text_in_value (take i vs)) (text_in_value (get_or vs i d) ∷ []) n)
+      ∙ ap (λ z. has_name z n) (append_assoc base (map text_in_value (take i vs)) (text_in_value (get_or vs i d) ∷ []))
       ∙ ap (λ z. has_name (base ++ z) n) (sym (taken vs i d l))
 
 -- behind the last name
-pub repeats-end : (base : List (List ℕ)) (vs : List Value) (i : ℕ) → length vs ≤ i → repeats (base ++ map text_of (take i vs)) (map text_of (drop i vs)) ≡ repeats base (map text_of vs) → repeats base (map text_of vs) ≡ false
+pub repeats-end : (base : List (List ℕ)) (vs : List Value) (i : ℕ) → length vs ≤ i → repeats (base ++ map text_in_value (take i vs)) (map text_in_value (drop i vs)) ≡ repeats base (map text_in_value vs) → repeats base (map text_in_value vs) ≡ false
 repeats-end base vs i past so = sym so ∙ rw (drop_all i vs past) refl
 
 -- all that these services publish
@@ -96,12 +91,8 @@ published-append : (ds es : List Draft) → published (ds ++ es) ≡ published d
 published-append [] es = refl
 published-append (d ∷ ds) es = ap (λ z. (service_of_draft d).publishes ++ z) (published-append ds es) ∙ sym (append_assoc (service_of_draft d).publishes (published ds) (published es))
 
-append_nil : {A : Type 0} (xs : List A) → xs ++ [] ≡ xs
-append_nil [] = refl
-append_nil (x ∷ xs) = ap (λ z. x ∷ z) (append_nil xs)
-
 pub published-more : (ds : List Draft) (i : ℕ) (d : Draft) → i < length ds → published (take (i + 1) ds) ≡ published (take i ds) ++ (service_of_draft (get_or ds i d)).publishes
-published-more ds i d l = ap published (take_more ds i d l) ∙ published-append (take i ds) (get_or ds i d ∷ []) ∙ ap (λ z. published (take i ds) ++ z) (append_nil (service_of_draft (get_or ds i d)).publishes)
+published-more ds i d l = ap published (take_more ds i d l) ∙ published-append (take i ds) (get_or ds i d ∷ []) ∙ ap (λ z. published (take i ds) ++ z) (append-nil (service_of_draft (get_or ds i d)).publishes)
 
 first_repeat-step : (before : List (List ℕ)) (n : ℕ) (ds : List Draft) (i : ℕ) (d : Draft) → i < length ds → first_repeat before n (map service_of_draft (drop i ds)) ≡ cond (repeats before (service_of_draft (get_or ds i d)).publishes) (Some n) (first_repeat (before ++ (service_of_draft (get_or ds i d)).publishes) (n + 1) (map service_of_draft (drop (i + 1) ds)))
 first_repeat-step before n ds i d l = rw (drop_more ds i d l)

@@ -1,5 +1,5 @@
 -- The tables of a document, one after the other.
-use Rattle.std.proofs.Common.{◌≡◌, ℕ, ◌<◌, ◌≤◌, ◌&&◌, true, false, nat_le, List, [], ◌∷◌, ◌++◌, length, get_or, drop, ◌+◌, map, Some, None, refl, sym, subst, ap, ◌∙◌, arith, inl, inr, zero, suc, length-append}
+use Rattle.std.proofs.Common.{◌≡◌, ◌≢◌, ℕ, ◌<◌, ◌≤◌, ◌&&◌, true, false, nat_le, List, [], ◌∷◌, ◌++◌, length, get_or, drop, ◌+◌, map, Some, None, refl, sym, subst, ap, ◌∙◌, arith, inl, inr, zero, suc, length-append}
 use Rattle.std.specs.List.{All, list_all}
 use Rattle.std.proofs.lemmas.List.Elements.{All-append}
 use Rattle.std.proofs.lemmas.List.{drop_all, map-append}
@@ -9,8 +9,9 @@ use Rattle.std.proofs.lemmas.Bool.Decides.{nat_tests}
 use Rattle.std.proofs.lemmas.Bool.{cases_Bool}
 use Rattle.std.specs.Str.{IsUtf8, is_utf8}
 use Rattle.std.proofs.lemmas.Str.{is_utf8-from_IsUtf8, IsUtf8-from_is_utf8}
-use Rattle.toml.specs.Parse.{parse_document}
-use Rattle.toml.specs.Data.{Data, string, integer, float, boolean, datetime, array, table, Items, item, Members, as_table}
+use Rattle.toml.specs.Parse.{parse_document, lines}
+use Rattle.toml.specs.Errors.{IsBlank}
+use Rattle.toml.specs.Data.{Data, string, integer, float, boolean, datetime, array, table, Items, item, Members, no_members, as_table}
 use Rattle.toml.specs.Text.{are_tables}
 use Rattle.toml.specs.declared.value.Value.{Value}
 use Rattle.toml.specs.View.{view, items_view}
@@ -18,11 +19,11 @@ use Rattle.toml.proofs.Views.{items_view-drop}
 use Rattle.rs_settings.specs.declared.fault.SettingsFault.{SettingsFault}
 use Rattle.rs_settings.specs.declared.service.Service.{Service}
 use Rattle.rs_settings.specs.Values.{item_count}
-use Rattle.rs_settings.specs.Service.{service_at, services_in, go_on}
-use Rattle.rs_settings.specs.Settings.{document}
+use Rattle.rs_settings.specs.Service.{service_from, services_in, go_on}
+use Rattle.rs_settings.specs.Settings.{document, settings_in, TakesMemory}
 use Rattle.rs_settings.proofs.ValueLemmas.{item_count-view}
 
-services_in-step : (before : List Service) (vs : List Value) (i : ℕ) (d : Value) → i < length vs → services_in before (items_view (drop i vs)) ≡ go_on (λ s. services_in (before ++ s ∷ []) (items_view (drop (i + 1) vs))) (service_at (length before) (as_table (view (get_or vs i d))))
+services_in-step : (before : List Service) (vs : List Value) (i : ℕ) (d : Value) → i < length vs → services_in before (items_view (drop i vs)) ≡ go_on (λ s. services_in (before ++ s ∷ []) (items_view (drop (i + 1) vs))) (service_from (length before) (as_table (view (get_or vs i d))))
 services_in-step before vs i d h = rw (items_view-drop vs i d h)
 
 -- behind the last table
@@ -30,11 +31,11 @@ pub services_in-end : (before : List Service) (vs : List Value) (i : ℕ) → le
 services_in-end before vs i h = rw (drop_all i vs h)
 
 -- one more table that is a service
-pub services_in-more : (before : List Service) (vs : List Value) (i : ℕ) (d : Value) (s : Service) (r : Result (List Service) SettingsFault) → i < length vs → services_in before (items_view (drop i vs)) ≡ r → service_at (length before) (as_table (view (get_or vs i d))) ≡ Ok s → services_in (before ++ s ∷ []) (items_view (drop (i + 1) vs)) ≡ r
+pub services_in-more : (before : List Service) (vs : List Value) (i : ℕ) (d : Value) (s : Service) (r : Result (List Service) SettingsFault) → i < length vs → services_in before (items_view (drop i vs)) ≡ r → service_from (length before) (as_table (view (get_or vs i d))) ≡ Ok s → services_in (before ++ s ∷ []) (items_view (drop (i + 1) vs)) ≡ r
 services_in-more before vs i d s r l so e = sym (services_in-step before vs i d l ∙ rw e refl) ∙ so
 
 -- a table that has a fault
-pub services_in-fault : (before : List Service) (vs : List Value) (i : ℕ) (d : Value) (f : SettingsFault) (r : Result (List Service) SettingsFault) → i < length vs → services_in before (items_view (drop i vs)) ≡ r → service_at (length before) (as_table (view (get_or vs i d))) ≡ Err f → r ≡ Err f
+pub services_in-fault : (before : List Service) (vs : List Value) (i : ℕ) (d : Value) (f : SettingsFault) (r : Result (List Service) SettingsFault) → i < length vs → services_in before (items_view (drop i vs)) ≡ r → service_from (length before) (as_table (view (get_or vs i d))) ≡ Err f → r ≡ Err f
 services_in-fault before vs i d f r l so e = sym so ∙ services_in-step before vs i d l ∙ rw e refl
 
 table_first : (d : Data) (ds : Items) → is_some (as_table d) && are_tables ds ≡ are_tables (item d ds)
@@ -90,3 +91,22 @@ pub each-at : {X Y : Type 0} (P : Y → Type 0) (f : X → Y) (xs : List X) (k :
 each-at P f [] k x all l e = absurd (omega arith)
 each-at P f (y ∷ ys) zero x all l e = moved (λ z. P (f z)) y x e (all zero (f x) (omega arith))
 each-at P f (y ∷ ys) (suc k) x all l e = each-at P f ys k x (λ j d m. all (suc j) d (omega arith)) (omega arith) e
+
+-- a list with an element at an index is not empty, nor is what is made of it
+pub some-at : {X : Type 0} (xs : List X) (k : ℕ) → k < length xs → xs ≢ []
+some-at [] k l = absurd (omega arith)
+some-at (x ∷ xs) k l = λ e. cc
+
+pub map-some : {X Y : Type 0} (f : X → Y) (xs : List X) → xs ≢ [] → map f xs ≢ []
+map-some f [] n = absurd (n refl)
+map-some f (x ∷ xs) n = λ e. cc
+
+-- a text of white space and comments alone is a document without fields, which takes no memory
+blank-document : (text : List ℕ) → IsBlank text → parse_document text ≡ Some no_members
+unfolding parse_document lines
+blank-document text blank = rw blank refl
+
+pub not-blank : (text : List ℕ) (doc : Members) → parse_document text ≡ Some doc → TakesMemory (settings_in doc) → ¬ IsBlank text
+not-blank text doc e takes = λ blank.
+    let same : no_members ≡ doc = let k = sym (blank-document text blank) ∙ e in cc in
+    (subst (λ (d : Members). TakesMemory (settings_in d)) (sym same) takes) refl

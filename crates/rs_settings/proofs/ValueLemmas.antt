@@ -10,8 +10,9 @@ use Rattle.toml.specs.declared.value.Value.{Value}
 use Rattle.toml.specs.View.{view, items_view, members_view}
 use Rattle.toml.proofs.Views.{Entry}
 use Rattle.ds_names.specs.Name.{IsName, is_name_byte}
-use Rattle.rs_settings.specs.Values.{keys_pass, item_count, is_name, name_of, name_in, names_of, each_of}
-use Rattle.rs_settings.specs.Draft.{text_of}
+use Rattle.rs_settings.specs.Values.{keys_pass, item_count, is_name, name_read, name_in, names_of, each_of}
+use Rattle.rs_settings.specs.Draft.{text_in_value}
+use Rattle.ds_names.proofs.Tests.{none_from}
 
 -- the keys of a table pass a test where those of its members do
 pub keys_pass-view : (test : List ℕ → Bool) (es : List Entry) → list_all (λ k. test (string_bytes k)) (keys_of es) ≡ keys_pass test (members_view es)
@@ -37,46 +38,42 @@ is_name-IsName bytes h =
     let (low, high) = and_parts (nat_le 1 (length bytes)) (nat_le (length bytes) 64) sizes in
     record { some = grind (arith, nat_tests); limit = grind (arith, nat_tests); allowed = allowed }
 
-pub name_of-name : (bytes : List ℕ) → IsName bytes → name_of bytes ≡ Some bytes
+pub name_of-name : (bytes : List ℕ) → IsName bytes → name_read bytes ≡ Some bytes
 name_of-name bytes h = rw (is_name-true bytes h)
 
-pub name_of-none : (bytes : List ℕ) → (IsName bytes → ⊥) → name_of bytes ≡ None
+pub name_of-none : (bytes : List ℕ) → (IsName bytes → ⊥) → name_read bytes ≡ None
 name_of-none bytes bad = elim (cases_Bool (is_name bytes)) [
   | inl t ↦ absurd (bad (is_name-IsName bytes t))
   | inr f ↦ rw f
 ]
 
 -- what is read of a name's value is its text
-name_of-some : (bytes : List ℕ) → is_some (name_of bytes) ≡ true → (name_of bytes ≡ Some bytes) × IsName bytes
+name_of-some : (bytes : List ℕ) → is_some (name_read bytes) ≡ true → (name_read bytes ≡ Some bytes) × IsName bytes
 name_of-some bytes h = elim (cases_Bool (is_name bytes)) [
   | inl t ↦ (rw t, is_name-IsName bytes t)
   | inr f ↦ (let bad : false ≡ true = rw f at h in absurd (false≢true bad))
 ]
 
-text_of-some : (o : Option (List ℕ)) → is_some (option_and_then name_of o) ≡ true → (option_and_then name_of o ≡ Some (unwrap_or o [])) × IsName (unwrap_or o [])
+text_of-some : (o : Option (List ℕ)) → is_some (option_and_then name_read o) ≡ true → (option_and_then name_read o ≡ Some (unwrap_or o [])) × IsName (unwrap_or o [])
 text_of-some None h = absurd (false≢true h)
 text_of-some (Some s) h = name_of-some s h
 
-pub name_in-text : (v : Value) → is_some (name_in (view v)) ≡ true → (name_in (view v) ≡ Some (text_of v)) × IsName (text_of v)
+pub name_in-text : (v : Value) → is_some (name_in (view v)) ≡ true → (name_in (view v) ≡ Some (text_in_value v)) × IsName (text_in_value v)
 name_in-text v h = text_of-some (as_str (view v)) h
 
-not_some : {A : Type 0} (o : Option A) → is_some o ≡ false → o ≡ None
-not_some None h = refl
-not_some (Some a) h = absurd (false≢true (sym h))
-
 -- the names of values that are all names, and of others
-pub each_of-names : (vs : List Value) → each_of name_in (items_view vs) ≡ cond (list_all (λ v. is_some (name_in (view v))) vs) (Some (map text_of vs)) None
+pub each_of-names : (vs : List Value) → each_of name_in (items_view vs) ≡ cond (list_all (λ v. is_some (name_in (view v))) vs) (Some (map text_in_value vs)) None
 each_of-names [] = refl
 each_of-names (v ∷ vs) = elim (cases_Bool (is_some (name_in (view v)))) [
   | inl t ↦ rw ((name_in-text v t).0, each_of-names vs) (by_rest (list_all (λ w. is_some (name_in (view w))) vs))
-  | inr f ↦ rw (not_some (name_in (view v)) f) refl
+  | inr f ↦ rw (none_from (name_in (view v)) f) refl
 ]
   where
-    by_rest : (b : Bool) → option_map (λ behind. text_of v ∷ behind) (cond b (Some (map text_of vs)) None) ≡ cond b (Some (text_of v ∷ map text_of vs)) None
+    by_rest : (b : Bool) → option_map (λ behind. text_in_value v ∷ behind) (cond b (Some (map text_in_value vs)) None) ≡ cond b (Some (text_in_value v ∷ map text_in_value vs)) None
     by_rest true = refl
     by_rest false = refl
 
-pub all-names : (vs : List Value) → list_all (λ v. is_some (name_in (view v))) vs ≡ true → All IsName (map text_of vs)
+pub all-names : (vs : List Value) → list_all (λ v. is_some (name_in (view v))) vs ≡ true → All IsName (map text_in_value vs)
 all-names [] h k d l = absurd (omega arith)
 all-names (v ∷ vs) h zero d l = (name_in-text v (and_parts (is_some (name_in (view v))) (list_all (λ w. is_some (name_in (view w))) vs) h).0).1
 all-names (v ∷ vs) h (suc k) d l = all-names vs (and_parts (is_some (name_in (view v))) (list_all (λ w. is_some (name_in (view w))) vs) h).1 k d (omega arith)

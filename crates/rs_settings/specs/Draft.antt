@@ -10,12 +10,12 @@ use Rattle.rs_settings.specs.declared.shared.Mark.TheVariants.{Label, Unit}
 use Rattle.rs_settings.specs.Shared.{share_label, share_unit}
 
 -- the bytes of a string, none of another value
-abbrev pub text_of : Value → List ℕ
-text_of value = unwrap_or (as_str (view value)) []
+abbrev pub text_in_value : Value → List ℕ
+text_in_value value = unwrap_or (as_str (view value)) []
 
 -- the service that a draft becomes
 abbrev pub service_of_draft : Draft → Service
-service_of_draft d = record { label = d.label; class = d.class; unit = d.unit; period = d.period; limit = d.limit; publishes = map text_of d.publishes.now }
+service_of_draft d = record { label = d.label; class = d.class; unit = d.unit; period = d.period; limit = d.limit; publishes = map text_in_value d.publishes.now }
 
 -- what the two services may not share
 abbrev pub share_by : Mark → Service → Service → Bool

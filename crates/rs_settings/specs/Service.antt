@@ -7,7 +7,7 @@ use Rattle.rs_settings.specs.declared.fault.SettingsCause.{SettingsCause}
 use Rattle.rs_settings.specs.declared.fault.SettingsCause.TheVariants.{UnknownField, Missing, OutOfRange}
 use Rattle.rs_settings.specs.declared.fault.SettingsFault.{SettingsFault}
 use Rattle.rs_settings.specs.Fault.{at_top, at_service}
-use Rattle.rs_settings.specs.Values.{is_same, keys_pass, number_or, label_in, names_or, class_in, is_server, unit_in}
+use Rattle.rs_settings.specs.Values.{is_same, keys_pass, number_or, label_in_data, names_or, class_in, is_server, unit_in}
 
 -- a field that a service may have
 abbrev pub is_service_field : List ℕ → Bool
@@ -37,7 +37,7 @@ abbrev pub values_in : Members → Option Service
 values_in fields =
     let class = option_and_then class_in (get_member (codes "class") fields) in
     service_of
-    (option_and_then label_in (get_member (codes "label") fields))
+    (option_and_then label_in_data (get_member (codes "label") fields))
     class
     (option_and_then (λ c. unit_in c (get_member (codes "unit") fields)) class)
     (number_or 0 0 1000000 (get_member (codes "period") fields))
@@ -57,9 +57,9 @@ indexed index (Ok service) = Ok service
 indexed index (Err cause) = Err (at_service cause index)
 
 -- the service of an item of the array; that each item is a table is judged at the top
-abbrev pub service_at : ℕ → Option Members → Result Service SettingsFault
-service_at index None = Err (at_top OutOfRange)
-service_at index (Some fields) = indexed index (service_in fields)
+abbrev pub service_from : ℕ → Option Members → Result Service SettingsFault
+service_from index None = Err (at_top OutOfRange)
+service_from index (Some fields) = indexed index (service_in fields)
 
 -- the rest is read only behind a service that has no fault
 abbrev pub go_on : (Service → Result (List Service) SettingsFault) → Result Service SettingsFault → Result (List Service) SettingsFault
@@ -69,4 +69,4 @@ go_on rest (Err fault) = Err fault
 -- the services of these items behind those read before, or the fault of the first that has one
 abbrev pub services_in : List Service → Items → Result (List Service) SettingsFault
 services_in before no_items = Ok before
-services_in before (item value rest) = go_on (λ service. services_in (before ++ service ∷ []) rest) (service_at (length before) (as_table value))
+services_in before (item value rest) = go_on (λ service. services_in (before ++ service ∷ []) rest) (service_from (length before) (as_table value))

@@ -1,15 +1,16 @@
 -- The settings that a text stands for, or its first fault: a function of the document that `toml` reads.
 use Rattle.std.specs.Prelude.{◌≡◌, ◌≢◌, ℕ, ◌≤◌, Bool, true, false, not, ◌&&◌, ◌||◌, nat_le, All, List, [], length, codes, Option, Some, None, option_and_then, Result, Ok, Err, if◌then◌else◌}
-use Rattle.std.specs.Str.{is_utf8}
+use Rattle.std.specs.Str.{IsUtf8, is_utf8}
 use Rattle.toml.specs.Data.{Data, Items, no_items, Members, get_member, as_array}
 use Rattle.toml.specs.Text.{are_tables}
 use Rattle.toml.specs.Parse.{parse_document}
-use Rattle.ds_names.specs.Name.{IsName}
+use Rattle.toml.specs.Errors.{IsBlank}
+use Rattle.ds_names.specs.Name.{IsName, rs_name}
 use Rattle.rs_settings.specs.declared.service.Service.{Service}
 use Rattle.rs_settings.specs.declared.fault.SettingsCause.TheVariants.{BadToml, UnknownField, OutOfRange}
 use Rattle.rs_settings.specs.declared.fault.SettingsFault.{SettingsFault}
 use Rattle.rs_settings.specs.Fault.{at_top}
-use Rattle.rs_settings.specs.Values.{is_same, keys_pass, item_count, number_or, rs_label, is_server}
+use Rattle.rs_settings.specs.Values.{is_same, keys_pass, item_count, number_or, is_server}
 use Rattle.rs_settings.specs.Service.{services_in}
 use Rattle.rs_settings.specs.Shared.{shared_fault}
 
@@ -70,6 +71,21 @@ settings_of_document (Some doc) = settings_in doc
 abbrev pub settings_of : List ℕ → Result SettingsRecord SettingsFault
 settings_of text = settings_of_document (document text)
 
+-- ---- what takes memory
+
+-- the settings take memory for their services, where they have some
+abbrev pub TakesMemory : Result SettingsRecord SettingsFault → Type 0
+TakesMemory (Ok s) = s.services ≢ []
+TakesMemory (Err fault) = ⊥
+
+-- the settings of so many slots and these tables take memory
+abbrev pub TablesTakeMemory : ℕ → Items → Type 0
+TablesTakeMemory slots tables = TakesMemory (with_services slots (services_in [] tables))
+
+-- the text may take memory: it is UTF-8, and has more than white space and comments
+abbrev pub MayTakeMemory : List ℕ → Type 0
+MayTakeMemory text = IsUtf8 text × (¬ IsBlank text)
+
 -- ---- what settings keep
 
 -- a server has no unit, another service one of 0 to 255
@@ -85,7 +101,7 @@ pub record ArePublished (names : List (List ℕ)) : Type 0 where
 -- each part of the service is in its range
 pub record IsService (s : Service) : Type 0 where
   pub label : IsName s.label
-  pub other : s.label ≢ rs_label
+  pub other : s.label ≢ rs_name
   pub unit : HasUnit (is_server s.class) s.unit
   pub period : s.period ≤ 1000000
   pub limit : s.limit ≤ 1000

@@ -3,7 +3,7 @@ use Rattle.std.specs.Prelude.{ℕ, ◌+◌, ◌==◌, Bool, true, false, ◌&&�
 use Rattle.std.specs.List.{list_all}
 use Rattle.std.specs.Cmp.Lexicographic.{pointwise}
 use Rattle.toml.specs.Data.{Data, Items, no_items, item, Members, no_members, member, as_str, as_integer, as_array}
-use Rattle.ds_names.specs.Name.{is_name_byte}
+use Rattle.ds_names.specs.Name.{is_name_byte, rs_name}
 use Rattle.rs_settings.specs.declared.class.Class.{Class}
 use Rattle.rs_settings.specs.declared.class.Class.TheVariants.{Block, Character, Network, Server}
 
@@ -45,20 +45,16 @@ unfoldable pub is_name : List ℕ → Bool
 is_name bytes = (nat_le 1 (length bytes) && nat_le (length bytes) 64) && list_all is_name_byte bytes
 
 -- the name with these bytes
-abbrev pub name_of : List ℕ → Option (List ℕ)
-name_of bytes = if is_name bytes then Some bytes else None
+abbrev pub name_read : List ℕ → Option (List ℕ)
+name_read bytes = if is_name bytes then Some bytes else None
 
 -- a string that is a name
 abbrev pub name_in : Data → Option (List ℕ)
-name_in value = option_and_then name_of (as_str value)
-
--- `rs`, the label of the reincarnation server itself
-abbrev pub rs_label : List ℕ
-rs_label = 114 ∷ 115 ∷ []
+name_in value = option_and_then name_read (as_str value)
 
 -- a name other than `rs`
-abbrev pub label_in : Data → Option (List ℕ)
-label_in value = option_and_then (λ name. if is_same name rs_label then None else Some name) (name_in value)
+abbrev pub label_in_data : Data → Option (List ℕ)
+label_in_data value = option_and_then (λ name. if is_same name rs_name then None else Some name) (name_in value)
 
 -- an array of at most 64 names
 abbrev pub names_of : Items → Option (List (List ℕ))
@@ -70,8 +66,8 @@ names_or None = Some []
 names_or (Some value) = option_and_then names_of (as_array value)
 
 -- the class that the word names
-abbrev pub class_of : List ℕ → Option Class
-class_of word =
+abbrev pub class_named : List ℕ → Option Class
+class_named word =
     if is_same word (codes "block") then Some Block
     else if is_same word (codes "character") then Some Character
     else if is_same word (codes "network") then Some Network
@@ -80,7 +76,7 @@ class_of word =
 
 -- a string that names a class
 abbrev pub class_in : Data → Option Class
-class_in value = option_and_then class_of (as_str value)
+class_in value = option_and_then class_named (as_str value)
 
 -- a server drives no device
 abbrev pub is_server : Class → Bool

@@ -4,9 +4,9 @@ ghost use Rattle.std.specs.Prelude.{◌≡◌, ◌≢◌, ◌≤◌, [], All, ma
 ghost use Rattle.std.specs.Option.{option_and_then};
 ghost use Rattle.toml.specs.Data.{get_member, as_table};
 ghost use Rattle.toml.specs.View.{view, table_view, items_view};
-ghost use Rattle.ds_names.specs.Name.{IsName};
-ghost use Rattle.rs_settings.specs.Values.{class_in, label_in, rs_label};
-ghost use Rattle.rs_settings.specs.Service.{lacks_field, names_server, values_in, service_in, service_at, services_in};
+ghost use Rattle.ds_names.specs.Name.{IsName, rs_name};
+ghost use Rattle.rs_settings.specs.Values.{class_in, label_in_data};
+ghost use Rattle.rs_settings.specs.Service.{lacks_field, names_server, values_in, service_in, service_from, services_in};
 ghost use Rattle.rs_settings.specs.Settings.{IsService};
 ghost use Rattle.rs_settings.specs.Draft.{service_of_draft};
 
@@ -78,9 +78,9 @@ fn class_field(table: &Table) -> Option<Class>
 }
 
 fn label_field(table: &Table) -> Option<Name>
-    ensures value { result ≡ option_and_then label_in (get_member (codes "label") (table_view table.now)) }
+    ensures value { result ≡ option_and_then label_in_data (get_member (codes "label") (table_view table.now)) }
     ensures name { IfSome result IsName }
-    ensures other { IfSome result (λ name. name ≢ rs_label) }
+    ensures other { IfSome result (λ name. name ≢ rs_name) }
 {
     match field(table, "label") {
         Some(value) => label(value),
@@ -130,8 +130,8 @@ fn draft_of(table: &Table) -> Result<Draft<'_>, SettingsCause>
 
 // The service of an item with its index, or its first fault.
 fn draft_at(index: usize, item: &Value) -> Result<Draft<'_>, SettingsFault>
-    ensures read { IfOk result (λ draft. service_at index (as_table (view item.now)) ≡ Ok (service_of_draft draft)) }
-    ensures refused { IfErr result (λ fault. service_at index (as_table (view item.now)) ≡ Err fault) }
+    ensures read { IfOk result (λ draft. service_from index (as_table (view item.now)) ≡ Ok (service_of_draft draft)) }
+    ensures refused { IfErr result (λ fault. service_from index (as_table (view item.now)) ≡ Err fault) }
     ensures other { IfErr result (λ fault. fault.cause ≢ SettingsCause.NoRoom) }
     ensures service { IfOk result (λ draft. IsService (service_of_draft draft)) }
 {

@@ -1,6 +1,6 @@
 //! Settings, and how they are read.
 
-ghost use Rattle.std.specs.Prelude.{◌≡◌, ◌≢◌, ◌≤◌, ◌&&◌, All, IsTrue, IsOk, IfOk, IfErr, IfSome, Ok, Err, [], nat_le, length, map, option_map};
+ghost use Rattle.std.specs.Prelude.{◌≡◌, ◌≢◌, ◌≤◌, ◌&&◌, All, IsTrue, IsOk, IfOk, IfErr, OnErr, IfSome, Ok, Err, [], nat_le, length, map, option_map};
 ghost use Rattle.std.specs.Option.{option_and_then};
 ghost use Rattle.toml.specs.Data.{get_member, as_array};
 ghost use Rattle.toml.specs.View.{view, table_view, array_view, items_view};
@@ -9,8 +9,8 @@ ghost use Rattle.ds_names.specs.Name.{IsName};
 ghost use Rattle.rs_settings.specs.Values.{item_count};
 ghost use Rattle.rs_settings.specs.Service.{services_in};
 ghost use Rattle.rs_settings.specs.Fault.{no_room};
-ghost use Rattle.rs_settings.specs.Settings.{settings_in, settings_of, with_services, tables_of, IsService, IsSettings};
-ghost use Rattle.rs_settings.specs.Draft.{service_of_draft, text_of};
+ghost use Rattle.rs_settings.specs.Settings.{settings_in, settings_of, with_services, tables_of, TakesMemory, TablesTakeMemory, MayTakeMemory, IsService, IsSettings};
+ghost use Rattle.rs_settings.specs.Draft.{service_of_draft, text_in_value};
 
 use crate::draft::{Draft, drafts};
 use crate::fault::{SettingsCause, SettingsFault};
@@ -122,8 +122,8 @@ fn name_of(text: &str) -> Name
 
 // The names that the items are.
 fn names(alloc: Global, items: &[Value]) -> Result<Names, NoRoom>
-    requires { All IsName (map text_of items.now) }
-    ensures { IfOk result (λ names. names ≡ map text_of items.now) }
+    requires { All IsName (map text_in_value items.now) }
+    ensures { IfOk result (λ names. names ≡ map text_in_value items.now) }
 {
     let mut names = Names::new(alloc);
     for item in items {
@@ -149,7 +149,8 @@ fn service(alloc: Global, draft: &Draft<'_>) -> Result<Service, NoRoom>
 
 fn services(alloc: Global, drafts: &[Draft<'_>]) -> Result<Services, NoRoom>
     requires { All IsService (map service_of_draft drafts.now) }
-    ensures { IfOk result (λ services. services ≡ map service_of_draft drafts.now) }
+    ensures all { IfOk result (λ services. services ≡ map service_of_draft drafts.now) }
+    ensures room { OnErr result (drafts.now ≢ []) }
 {
     let mut services = Services::new(alloc);
     for draft in drafts {
@@ -166,6 +167,7 @@ fn of_tables(alloc: Global, slots: u32, tables: &[Value]) -> Result<Settings, Se
     ensures read { IfOk result (λ settings. with_services slots (services_in [] (items_view tables.now)) ≡ Ok settings) }
     ensures refused { IfErr result (λ fault. fault.cause ≢ SettingsCause.NoRoom → with_services slots (services_in [] (items_view tables.now)) ≡ Err fault) }
     ensures last { IfErr result (λ fault. fault.cause ≡ SettingsCause.NoRoom → IsOk (with_services slots (services_in [] (items_view tables.now)))) }
+    ensures memory { IfErr result (λ fault. fault.cause ≡ SettingsCause.NoRoom → TablesTakeMemory slots (items_view tables.now)) }
     ensures room { IfErr result (λ fault. fault.cause ≡ SettingsCause.NoRoom → fault ≡ no_room) }
     ensures settings { IfOk result IsSettings }
 {
@@ -179,11 +181,13 @@ fn of_tables(alloc: Global, slots: u32, tables: &[Value]) -> Result<Settings, Se
     }
 }
 
-/// Reads the settings of a TOML document. NoRoom comes only where the document has no fault, and has no index.
+/// Reads the settings of a TOML document. NoRoom comes only where the document has no fault and some service, and has
+/// no index.
 pub fn read_table(alloc: Global, table: &Table) -> Result<Settings, SettingsFault>
     ensures read { IfOk result (λ settings. settings_in (table_view table.now) ≡ Ok settings) }
     ensures refused { IfErr result (λ fault. fault.cause ≢ SettingsCause.NoRoom → settings_in (table_view table.now) ≡ Err fault) }
     ensures last { IfErr result (λ fault. fault.cause ≡ SettingsCause.NoRoom → IsOk (settings_in (table_view table.now))) }
+    ensures memory { IfErr result (λ fault. fault.cause ≡ SettingsCause.NoRoom → TakesMemory (settings_in (table_view table.now))) }
     ensures room { IfErr result (λ fault. fault.cause ≡ SettingsCause.NoRoom → fault ≡ no_room) }
     ensures settings { IfOk result IsSettings }
 {
@@ -202,18 +206,15 @@ pub fn read_table(alloc: Global, table: &Table) -> Result<Settings, SettingsFaul
     of_tables(alloc, slots, items)
 }
 
-/// Reads the settings of a text, or finds its first fault.
-///
-/// What is read is a function of the text, which has to be one TOML document in UTF-8. NoRoom may come in the place of
-/// BadToml, for want of memory to read the TOML; what the settings take comes last, behind every other fault. NoRoom has
-/// no index.
-pub fn read(alloc: Global, text: &[u8]) -> Result<Settings, SettingsFault>
+// The settings of a text that is UTF-8, or its first fault.
+fn read_text(alloc: Global, text: &str) -> Result<Settings, SettingsFault>
     ensures read { IfOk result (λ settings. settings_of text.now ≡ Ok settings) }
     ensures refused { IfErr result (λ fault. fault.cause ≢ SettingsCause.NoRoom → settings_of text.now ≡ Err fault) }
+    ensures memory { IfErr result (λ fault. fault.cause ≡ SettingsCause.NoRoom → MayTakeMemory text.now) }
     ensures room { IfErr result (λ fault. fault.cause ≡ SettingsCause.NoRoom → fault ≡ no_room) }
     ensures settings { IfOk result IsSettings }
 {
-    match toml::table_from_slice(alloc, text) {
+    match toml::table_from_str(alloc, text) {
         Ok(table) => read_table(alloc, &table),
         Err(fault) => {
             if fault.is_memory() {
@@ -221,5 +222,23 @@ pub fn read(alloc: Global, text: &[u8]) -> Result<Settings, SettingsFault>
             }
             Err(SettingsFault::at_top(SettingsCause::BadToml))
         }
+    }
+}
+
+/// Reads the settings of a text, or finds its first fault.
+///
+/// What is read is a function of the text, which has to be one TOML document in UTF-8. NoRoom may come in the place of
+/// BadToml, for want of memory to read the TOML; what the settings take comes last, behind every other fault. NoRoom has
+/// no index, and never comes for bytes that aren't UTF-8, nor for a text of white space and comments alone.
+pub fn read(alloc: Global, text: &[u8]) -> Result<Settings, SettingsFault>
+    ensures read { IfOk result (λ settings. settings_of text.now ≡ Ok settings) }
+    ensures refused { IfErr result (λ fault. fault.cause ≢ SettingsCause.NoRoom → settings_of text.now ≡ Err fault) }
+    ensures memory { IfErr result (λ fault. fault.cause ≡ SettingsCause.NoRoom → MayTakeMemory text.now) }
+    ensures room { IfErr result (λ fault. fault.cause ≡ SettingsCause.NoRoom → fault ≡ no_room) }
+    ensures settings { IfOk result IsSettings }
+{
+    match std::str::from_utf8(text) {
+        Ok(text) => read_text(alloc, text),
+        Err(_) => Err(SettingsFault::at_top(SettingsCause::BadToml)),
     }
 }

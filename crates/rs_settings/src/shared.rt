@@ -4,7 +4,7 @@ ghost use Rattle.std.specs.Prelude.{◌≡◌, ◌≢◌, ℕ, List, ◌<◌, �
 ghost use Rattle.std.specs.List.{list_any};
 ghost use Rattle.rs_settings.specs.Shared.{is_same_number, has_name, repeats, first_clash, first_repeat, shared_fault};
 ghost use Rattle.rs_settings.specs.Settings.{IsService};
-ghost use Rattle.rs_settings.specs.Draft.{service_of_draft, share_by, text_of};
+ghost use Rattle.rs_settings.specs.Draft.{service_of_draft, share_by, text_in_value};
 
 use crate::draft::Draft;
 use crate::fault::{SettingsCause, SettingsFault};
@@ -64,8 +64,8 @@ impl Mark {
 // Adds the names up to the first that was there, and says whether there is one.
 fn repeats<'a>(seen: &mut Seen<'a>, names: &'a [Value]) -> bool
     requires { length seen.old + length names.now ≤ 4096 }
-    ensures value { result ≡ repeats seen.old (map text_of names.now) }
-    ensures after { (n : List ℕ) → IsFalse result → has_name seen.new n ≡ has_name (seen.old ++ map text_of names.now) n }
+    ensures value { result ≡ repeats seen.old (map text_in_value names.now) }
+    ensures after { (n : List ℕ) → IsFalse result → has_name seen.new n ≡ has_name (seen.old ++ map text_in_value names.now) n }
     ensures len { length seen.new ≤ length seen.old + length names.now }
 {
     for name in names {

@@ -4,11 +4,11 @@ ghost use Rattle.std.specs.Prelude.{◌≡◌, ◌≢◌, ◌≤◌, All, IsTrue
 ghost use Rattle.std.specs.Option.{option_and_then};
 ghost use Rattle.toml.specs.Data.{get_member, as_array};
 ghost use Rattle.toml.specs.View.{view, table_view, items_view, array_view};
-ghost use Rattle.ds_names.specs.Name.{IsName};
-ghost use Rattle.rs_settings.specs.Values.{keys_pass, within, number_in, number_or, name_of, name_in, label_in, each_of, names_of, names_or, class_of, class_in, unit_in, is_server, rs_label};
+ghost use Rattle.ds_names.specs.Name.{IsName, rs_name};
+ghost use Rattle.rs_settings.specs.Values.{keys_pass, within, number_in, number_or, name_read, name_in, label_in_data, each_of, names_of, names_or, class_named, class_in, unit_in, is_server};
 ghost use Rattle.rs_settings.specs.Service.{is_service_field};
 ghost use Rattle.rs_settings.specs.Settings.{is_top_field, HasUnit, ArePublished};
-ghost use Rattle.rs_settings.specs.Draft.{text_of};
+ghost use Rattle.rs_settings.specs.Draft.{text_in_value};
 
 use crate::class::Class;
 use ds_names::Name;
@@ -95,7 +95,7 @@ pub(crate) fn number_field(
 }
 
 fn name_of(text: &str) -> Option<Name>
-    ensures value { result ≡ name_of text.now }
+    ensures value { result ≡ name_read text.now }
     ensures name { IfSome result IsName }
 {
     match Name::read(text.as_bytes()) {
@@ -117,9 +117,9 @@ pub(crate) fn name(value: &Value) -> Option<Name>
 
 // A name other than `rs`.
 pub(crate) fn label(value: &Value) -> Option<Name>
-    ensures value { result ≡ label_in (view value.now) }
+    ensures value { result ≡ label_in_data (view value.now) }
     ensures name { IfSome result IsName }
-    ensures other { IfSome result (λ name. name ≢ rs_label) }
+    ensures other { IfSome result (λ name. name ≢ rs_name) }
 {
     match name(value) {
         Some(name) => {
@@ -135,16 +135,16 @@ pub(crate) fn label(value: &Value) -> Option<Name>
 
 // Whether each item is a name.
 fn are_names(items: &[Value]) -> bool
-    ensures value { each_of name_in (items_view items.now) ≡ (if result then Some (map text_of items.now) else None) }
-    ensures names { IsTrue result → All IsName (map text_of items.now) }
+    ensures value { each_of name_in (items_view items.now) ≡ (if result then Some (map text_in_value items.now) else None) }
+    ensures names { IsTrue result → All IsName (map text_in_value items.now) }
 {
     items.iter().all(|item| name(item).is_some())
 }
 
 // The names of an array of at most 64.
 fn names_of(items: &Array) -> Option<&[Value]>
-    ensures value { option_map (λ names. map text_of names.now) result ≡ names_of (array_view items.now) }
-    ensures names { IfSome result (λ names. ArePublished (map text_of names.now)) }
+    ensures value { option_map (λ names. map text_in_value names.now) result ≡ names_of (array_view items.now) }
+    ensures names { IfSome result (λ names. ArePublished (map text_in_value names.now)) }
 {
     if items.len() > 64 {
         return None;
@@ -158,8 +158,8 @@ fn names_of(items: &Array) -> Option<&[Value]>
 
 // A field with at most 64 names, in place; none of them where it isn't there.
 pub(crate) fn names_field<'a>(table: &'a Table, name: &str) -> Option<&'a [Value]>
-    ensures value { option_map (λ names. map text_of names.now) result ≡ names_or (get_member name.now (table_view table.now)) }
-    ensures names { IfSome result (λ names. ArePublished (map text_of names.now)) }
+    ensures value { option_map (λ names. map text_in_value names.now) result ≡ names_or (get_member name.now (table_view table.now)) }
+    ensures names { IfSome result (λ names. ArePublished (map text_in_value names.now)) }
 {
     match field(table, name) {
         Some(value) => match value.as_array() {
@@ -172,7 +172,7 @@ pub(crate) fn names_field<'a>(table: &'a Table, name: &str) -> Option<&'a [Value
 
 // The text of a string, an empty one of another value.
 pub(crate) fn text_of(value: &Value) -> &str
-    ensures { result.now ≡ text_of value.now }
+    ensures { result.now ≡ text_in_value value.now }
 {
     match value.as_str() {
         Some(text) => text,
@@ -181,7 +181,7 @@ pub(crate) fn text_of(value: &Value) -> &str
 }
 
 fn class_of(word: &str) -> Option<Class>
-    ensures { result ≡ class_of word.now }
+    ensures { result ≡ class_named word.now }
 {
     if word == "block" {
         Some(Class::Block)

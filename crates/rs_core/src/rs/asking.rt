@@ -2,7 +2,7 @@
 
 ghost use Rattle.std.specs.Prelude.{◌≡◌, ◌<◌, ◌≤◌, ◌^◌, length, None, Some, Ok, IfOk, IfErr, IfSome, OnOk};
 ghost use Rattle.rs_core.specs.Table.{on_label};
-ghost use Rattle.rs_core.specs.Finding.{place_of};
+ghost use Rattle.rs_core.specs.Finding.{service_place};
 ghost use Rattle.rs_core.specs.Machine.{of_label, of_instance, due, asked};
 ghost use Rattle.rs_core.specs.Judging.{lack_for, refusal};
 
@@ -38,7 +38,7 @@ impl Rs {
     }
 
     fn of_instance(&self, endpoint: Endpoint, deed: Deed) -> Result<Option<Plan>, RsFault>
-        ensures value { result ≡ of_instance deed (place_of self.now (Sought.Instance endpoint)) }
+        ensures value { result ≡ of_instance deed (service_place self.now (Sought.Instance endpoint)) }
         ensures within { IfOk result (λ p. IfSome p (λ p. p.place < length self.now.states)) }
     {
         match self.place(Sought::Instance(endpoint)) {
@@ -48,7 +48,7 @@ impl Rs {
     }
 
     fn of_label(&self, event: &Event, label: Name) -> Result<Option<Plan>, RsFault>
-        ensures value { result ≡ of_label self.now (on_label event.now) (place_of self.now (Sought.Label label)) }
+        ensures value { result ≡ of_label self.now (on_label event.now) (service_place self.now (Sought.Label label)) }
         ensures within { IfOk result (λ p. IfSome p (λ p. p.place < length self.now.states)) }
     {
         let Some(place) = self.place(Sought::Label(label)) else {

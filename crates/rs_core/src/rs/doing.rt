@@ -1,18 +1,18 @@
 //! What is done, once nothing stands against it.
 
-ghost use Rattle.std.specs.Prelude.{◌≡◌, ◌<◌, ◌≤◌, ◌+◌, ◌^◌, ◌∷◌, ◌++◌, [], true, length, slice_set, None, IfOk, IfErr, OnOk, OnErr};
+ghost use Rattle.std.specs.Prelude.{◌≡◌, ◌<◌, ◌≤◌, ◌+◌, ◌^◌, ◌∷◌, ◌++◌, [], true, false, length, slice_set, None, IfOk, IfErr, OnOk, OnErr};
 ghost use Rattle.rs_core.specs.Action.{start_actions, stop_actions};
 ghost use Rattle.rs_core.specs.State.{rs_of, state_at, service_at};
 ghost use Rattle.rs_core.specs.Machine.{started_at, failed, new_endpoint, same_slot};
 ghost use Rattle.rs_core.specs.Judging.{lack_for, has_actions};
 ghost use Rattle.rs_core.specs.Step.{IsDone};
-ghost use Rattle.rs_core.specs.Kept.{IsAtRest};
+ghost use Rattle.rs_core.specs.Kept.{IsAtRest, is_up};
 
 use crate::action::{Action, Actions, add_start, add_stop};
 use crate::deed::{Deed, Plan};
 use crate::fault::RsFault;
 use crate::rs::Rs;
-use crate::state::{Pause, Running, State, endpoint_at, failed, failures_of};
+use crate::state::{Pause, Running, State, endpoint_at, failed};
 
 impl Rs {
     // Leaves all as it is but the tick.
@@ -37,11 +37,14 @@ impl Rs {
     {
         let place = plan.place;
         match plan.deed {
-            Deed::Begin => self.begin(place, tick, 0),
-            Deed::Resume => {
-                let failures = failures_of(self.state_at(place));
-                self.begin(place, tick, failures)
-            }
+            Deed::Begin => match self.state_at(place) {
+                State::Down | State::GaveUp => self.begin(place, tick, 0),
+                _ => Ok(self.leave(place, tick)),
+            },
+            Deed::Resume => match self.state_at(place) {
+                State::Waiting(pause) => self.begin(place, tick, pause.failures),
+                _ => Ok(self.leave(place, tick)),
+            },
             Deed::Replace => match self.state_at(place) {
                 State::Up(running) => self.replace(place, tick, running),
                 _ => Ok(self.leave(place, tick)),
@@ -76,6 +79,7 @@ impl Rs {
         requires next { self.old.next ≤ 2097151 }
         requires key { self.old.key < self.old.settings.slots }
         requires failures { failures ≤ 1000 }
+        requires rest { is_up (state_at self.old place) ≡ false }
         ensures done { IfOk result (λ actions. actions ≡ start_actions (service_at self.old place).label (new_endpoint self.old)) }
         ensures after { OnOk result (self.new ≡ rs_of self.old.settings (slice_set self.old.states place (started_at (new_endpoint self.old) tick failures)) tick (self.old.next + 1) self.new.key) }
         ensures err { IfErr result (λ fault. fault ≡ RsFault.NoRoom) }

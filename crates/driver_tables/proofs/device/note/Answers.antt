@@ -2,7 +2,7 @@ use Rattle.std.proofs.Common.{◌≡◌, ℕ, List, Some, length, cond, ap, sym,
 use Rattle.std.specs.List.{slice_get}
 use Rattle.indexmap.specs.IndexMap.{set_value_at}
 use Rattle.driver_tables.specs.declared.device.Device.{Device}
-use Rattle.driver_tables.specs.Devices.{noted, with_state}
+use Rattle.driver_tables.specs.Devices.{noted, device_with}
 use Rattle.driver_tables.proofs.ListLemmas.{half, half_get, half_set, half_next, half_all, length-half}
 use Rattle.driver_tables.proofs.device.note.Goals as goal
 use Rattle.driver_tables.proofs.device.note.Goals.{then-eq, else-eq}
@@ -28,10 +28,10 @@ loop-i-preserved c =
     let there : slice_get all i ≡ Some u = sym (half_get f i all) ∙ (ap (λ (l : List (ℕ × Device)). slice_get l i) (sym c.loop-i.invariant) ∙ c.unit_at-device.ensures) in
     elim c.if-eq.branch [
       | then-eq w ↦
-          (let same : f u ≡ (u.0, w.with_state.result) = ap (λ (b : Bool). (u.0, cond b (with_state c.args.state.now u.1) u.1)) (sym c.eq.ensures ∙ w.if-eq.true) ∙ ap (λ (d : Device). (u.0, d)) (sym w.with_state.ensures) in
+          (let same : f u ≡ (u.0, w.with_state.result) = ap (λ (b : Bool). (u.0, cond b (device_with c.args.state.now u.1) u.1)) (sym c.eq.ensures ∙ w.if-eq.true) ∙ ap (λ (d : Device). (u.0, d)) (sym w.with_state.ensures) in
           ap (λ m. m.entries) w.devices-is ∙ (ap (λ (l : List (ℕ × Device)). set_value_at l i w.with_state.result) c.loop-i.invariant ∙ half_set f i all u.0 u.1 w.with_state.result there same))
       | else-eq w ↦
-          (let same : f u ≡ u = ap (λ (b : Bool). (u.0, cond b (with_state c.args.state.now u.1) u.1)) (sym c.eq.ensures ∙ w.if-eq.false) in
+          (let same : f u ≡ u = ap (λ (b : Bool). (u.0, cond b (device_with c.args.state.now u.1) u.1)) (sym c.eq.ensures ∙ w.if-eq.false) in
           ap (λ m. m.entries) w.devices-is ∙ (c.loop-i.invariant ∙ half_next f i all u there same))
     ]
 

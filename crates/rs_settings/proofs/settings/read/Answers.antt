@@ -1,24 +1,9 @@
-use Rattle.std.proofs.Common.{◌≡◌, Option, Ok, Err, IfOk, IfErr, subst, sym, ap, ◌∙◌}
-use Rattle.std.proofs.lemmas.Bool.{false≢true}
+use Rattle.std.proofs.Common.{Err, sym, ap}
 use Rattle.rs_settings.specs.declared.fault.SettingsFault.{SettingsFault}
-use Rattle.toml.specs.Data.{Members}
-use Rattle.toml.specs.View.{table_view}
-use Rattle.rs_settings.specs.Settings.{settings_of_document}
-use Rattle.rs_settings.proofs.TableLemmas.{document-read, document-refused}
-use Rattle.rs_settings.specs.declared.fault.SettingsCause.TheVariants.{NoRoom}
+use Rattle.rs_settings.proofs.TableLemmas.{document-refused}
 use Rattle.rs_settings.proofs.settings.read.Goals as goal
 
-pub returns-in-Ok-clause-read : goal.returns-in-Ok-clause-read
-returns-in-Ok-clause-read c =
-    let e = document-read c.args.text.now (table_view c.in-Ok.table) c.in-Ok.ensures.ok.0 c.in-Ok.ensures.ok.1 in
-    subst (λ (o : Option Members). IfOk c.read_table.result (λ s. settings_of_document o ≡ Ok s)) (sym e) c.read_table.ensures.read
-
-pub returns-in-Ok-clause-refused : goal.returns-in-Ok-clause-refused
-returns-in-Ok-clause-refused c =
-    let e = document-read c.args.text.now (table_view c.in-Ok.table) c.in-Ok.ensures.ok.0 c.in-Ok.ensures.ok.1 in
-    subst (λ (o : Option Members). IfErr c.read_table.result (λ f. (f.cause ≡ NoRoom → ⊥) → settings_of_document o ≡ Err f)) (sym e) c.read_table.ensures.refused
-
-pub returns-else-is_memory-clause-refused : goal.returns-else-is_memory-clause-refused
-returns-else-is_memory-clause-refused c = λ _.
-    let e = document-refused c.args.text.now (c.in-Err.ensures.refused (λ m. false≢true (sym c.if-is_memory.false ∙ c.is_memory.ensures.1 m))) in
-    rw e (ap (λ (f : SettingsFault). Err f) (sym c.at_top-in-Err.ensures))
+pub returns-in-Err-clause-refused : goal.returns-in-Err-clause-refused
+returns-in-Err-clause-refused c = λ _.
+    let e = document-refused c.args.text.now (λ utf8. absurd (c.in-Err.ensures.cases.0 utf8)) in
+    rw e (ap (λ (f : SettingsFault). Err f) (sym c.at_top.ensures))

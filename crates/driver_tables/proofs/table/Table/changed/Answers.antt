@@ -1,10 +1,12 @@
-use Rattle.std.proofs.Common.{◌≡◌, ◌++◌, List, true, false, Ok, refl, ap, sym, ◌∙◌, subst, rules}
+use Rattle.std.proofs.Common.{◌≡◌, ◌≢◌, ◌++◌, [], List, true, false, Ok, refl, ap, sym, ◌∙◌, subst, rules}
 use Rattle.std.specs.List.{filter_map}
 use Rattle.driver_tables.specs.declared.moves.Move.{Move}
-use Rattle.driver_tables.specs.Changed.{changing}
-use Rattle.driver_tables.specs.Stands.{TableRecord, Stands}
+use Rattle.driver_tables.specs.Changed.{changing, all_moves}
+use Rattle.driver_tables.specs.Room.{HasMoves}
+use Rattle.driver_tables.proofs.ListLemmas.{either_part, second_part}
+use Rattle.driver_tables.specs.Stands.{TableRecord, TableStands}
 use Rattle.driver_tables.specs.Value.{table_of}
-use Rattle.driver_tables.specs.Devices.{started_at}
+use Rattle.driver_tables.specs.Devices.{start_move}
 use Rattle.driver_tables.specs.Requests.{settled_in}
 use Rattle.driver_tables.proofs.StandsLemmas.{first_device}
 use Rattle.driver_tables.proofs.ChangeLemmas.{change_nothing, change_judged, not_old, new_state, moves_are, stands_moved, stands_noted}
@@ -13,43 +15,43 @@ use Rattle.driver_tables.proofs.table.Table.changed.Goals as goal
 pub returns-in_default-clause-answer : goal.returns-in_default-clause-answer
 returns-in_default-clause-answer c = λ t s.
     let v = table_of c.self.inside in
-    let here : Stands v t = subst (λ (v : TableRecord). Stands v t) (sym c.self.view_is) s in
+    let here : TableStands v t = subst (λ (v : TableRecord). TableStands v t) (sym c.self.view_is) s in
     ap (λ (l : List Move). Ok l) c.new.ensures ∙ sym (ap (λ p. p.0) (change_nothing v t c.args.label.now c.args.state.now here (sym c.first_of.ensures ∙ c.in_default.is)))
 
 pub returns-in_default-clause-after : goal.returns-in_default-clause-after
 returns-in_default-clause-after c = λ t s.
     let v = table_of c.self.inside in
-    let here : Stands v t = subst (λ (v : TableRecord). Stands v t) (sym c.self.view_is) s in
-    subst (Stands c.args.self.now) (sym (ap (λ p. p.1) (change_nothing v t c.args.label.now c.args.state.now here (sym c.first_of.ensures ∙ c.in_default.is)))) s
+    let here : TableStands v t = subst (λ (v : TableRecord). TableStands v t) (sym c.self.view_is) s in
+    subst (TableStands c.args.self.now) (sym (ap (λ p. p.1) (change_nothing v t c.args.label.now c.args.state.now here (sym c.first_of.ensures ∙ c.in_default.is)))) s
 
 pub returns-then-is_old-clause-answer : goal.returns-then-is_old-clause-answer
 returns-then-is_old-clause-answer c = λ t s.
     let v = table_of c.self.inside in
-    let here : Stands v t = subst (λ (v : TableRecord). Stands v t) (sym c.self.view_is) s in
+    let here : TableStands v t = subst (λ (v : TableRecord). TableStands v t) (sym c.self.view_is) s in
     sym (ap (λ p. p.0) (change_judged v t c.args.label.now c.args.state.now c.in-Some.device true _ here (sym c.first_of.ensures ∙ c.in-Some.is) (sym c.is_old.ensures ∙ c.if-is_old.true) refl))
 
 pub returns-then-is_same_state-clause-answer : goal.returns-then-is_same_state-clause-answer
 returns-then-is_same_state-clause-answer c = λ t s.
     let v = table_of c.self.inside in
-    let here : Stands v t = subst (λ (v : TableRecord). Stands v t) (sym c.self.view_is) s in
+    let here : TableStands v t = subst (λ (v : TableRecord). TableStands v t) (sym c.self.view_is) s in
     ap (λ (l : List Move). Ok l) c.new-moves.ensures
     ∙ sym (ap (λ p. p.0) (change_judged v t c.args.label.now c.args.state.now c.in-Some.device false true here (sym c.first_of.ensures ∙ c.in-Some.is) (sym c.is_old.ensures ∙ c.if-is_old.false) (sym c.is_same_state.ensures ∙ c.if-is_same_state.true)))
 
 pub returns-then-is_same_state-clause-after : goal.returns-then-is_same_state-clause-after
 returns-then-is_same_state-clause-after c = λ t s.
     let v = table_of c.self.inside in
-    let here : Stands v t = subst (λ (v : TableRecord). Stands v t) (sym c.self.view_is) s in
+    let here : TableStands v t = subst (λ (v : TableRecord). TableStands v t) (sym c.self.view_is) s in
     let first = sym c.first_of.ensures ∙ c.in-Some.is in
     let old = sym c.is_old.ensures ∙ c.if-is_old.false in
     let same = sym c.is_same_state.ensures ∙ c.if-is_same_state.true in
-    subst (Stands (record { devices = c.note.new.devices.entries; pending = v.pending; last = v.last })) (sym (ap (λ p. p.1) (change_judged v t c.args.label.now c.args.state.now c.in-Some.device false true here first old same)))
+    subst (TableStands (record { devices = c.note.new.devices.entries; pending = v.pending; last = v.last })) (sym (ap (λ p. p.1) (change_judged v t c.args.label.now c.args.state.now c.in-Some.device false true here first old same)))
     (stands_noted v t c.args.label.now c.args.state.now c.note.new.devices.entries here (first_device v t c.args.label.now c.in-Some.device here first).0 (not_old v t c.args.label.now c.args.state.now c.in-Some.device here first old)
     (new_state v t c.args.label.now c.args.state.now c.in-Some.device true here first same) c.note.ensures)
 
 pub returns-in_err-add_starts-clause-answer : goal.returns-in_err-add_starts-clause-answer
 returns-in_err-add_starts-clause-answer c = λ t s.
     let v = table_of c.self.inside in
-    let here : Stands v t = subst (λ (v : TableRecord). Stands v t) (sym c.self.view_is) s in
+    let here : TableStands v t = subst (λ (v : TableRecord). TableStands v t) (sym c.self.view_is) s in
     let k : (a : List Move) × ((changing t c.args.label.now c.args.state.now).0 ≡ Ok a) =
     (_, ap (λ p. p.0) (change_judged v t c.args.label.now c.args.state.now c.in-Some.device false false here (sym c.first_of.ensures ∙ c.in-Some.is) (sym c.is_old.ensures ∙ c.if-is_old.false) (sym c.is_same_state.ensures ∙ c.if-is_same_state.false))) in
     search rules
@@ -57,27 +59,49 @@ returns-in_err-add_starts-clause-answer c = λ t s.
 pub returns-in_err-add_settled-clause-answer : goal.returns-in_err-add_settled-clause-answer
 returns-in_err-add_settled-clause-answer c = λ t s.
     let v = table_of c.self.inside in
-    let here : Stands v t = subst (λ (v : TableRecord). Stands v t) (sym c.self.view_is) s in
+    let here : TableStands v t = subst (λ (v : TableRecord). TableStands v t) (sym c.self.view_is) s in
     let k : (a : List Move) × ((changing t c.args.label.now c.args.state.now).0 ≡ Ok a) =
     (_, ap (λ p. p.0) (change_judged v t c.args.label.now c.args.state.now c.in-Some.device false false here (sym c.first_of.ensures ∙ c.in-Some.is) (sym c.is_old.ensures ∙ c.if-is_old.false) (sym c.is_same_state.ensures ∙ c.if-is_same_state.false))) in
+    search rules
+
+pub returns-in_err-add_starts-clause-room : goal.returns-in_err-add_starts-clause-room
+returns-in_err-add_starts-clause-room c = λ t s.
+    let v = table_of c.self.inside in
+    let here : TableStands v t = subst (λ (v : TableRecord). TableStands v t) (sym c.self.view_is) s in
+    let starts = filter_map (start_move c.args.label.now c.args.state.now) v.devices in
+    let rest = filter_map (settled_in v.devices c.args.label.now c.args.state.now) v.pending in
+    let some : all_moves t c.args.label.now c.args.state.now ≢ [] = subst (λ (l : List Move). l ≢ []) (moves_are v t c.args.label.now c.args.state.now here) (either_part starts rest c.in_err-add_starts.ensures.room) in
+    let is_so = ap (λ p. p.0) (change_judged v t c.args.label.now c.args.state.now c.in-Some.device false false here (sym c.first_of.ensures ∙ c.in-Some.is) (sym c.is_old.ensures ∙ c.if-is_old.false) (sym c.is_same_state.ensures ∙ c.if-is_same_state.false)) in
+    let takes : HasMoves (changing t c.args.label.now c.args.state.now).0 = subst HasMoves (sym is_so) some in
+    search rules
+
+pub returns-in_err-add_settled-clause-room : goal.returns-in_err-add_settled-clause-room
+returns-in_err-add_settled-clause-room c = λ t s.
+    let v = table_of c.self.inside in
+    let here : TableStands v t = subst (λ (v : TableRecord). TableStands v t) (sym c.self.view_is) s in
+    let starts = filter_map (start_move c.args.label.now c.args.state.now) v.devices in
+    let rest = filter_map (settled_in v.devices c.args.label.now c.args.state.now) v.pending in
+    let some : all_moves t c.args.label.now c.args.state.now ≢ [] = subst (λ (l : List Move). l ≢ []) (moves_are v t c.args.label.now c.args.state.now here) (second_part starts rest c.in_err-add_settled.ensures.room) in
+    let is_so = ap (λ p. p.0) (change_judged v t c.args.label.now c.args.state.now c.in-Some.device false false here (sym c.first_of.ensures ∙ c.in-Some.is) (sym c.is_old.ensures ∙ c.if-is_old.false) (sym c.is_same_state.ensures ∙ c.if-is_same_state.false)) in
+    let takes : HasMoves (changing t c.args.label.now c.args.state.now).0 = subst HasMoves (sym is_so) some in
     search rules
 
 pub returns-clause-answer : goal.returns-clause-answer
 returns-clause-answer c = λ t s.
     let v = table_of c.self.inside in
-    let here : Stands v t = subst (λ (v : TableRecord). Stands v t) (sym c.self.view_is) s in
-    let starts = filter_map (started_at c.args.label.now c.args.state.now) v.devices in
+    let here : TableStands v t = subst (λ (v : TableRecord). TableStands v t) (sym c.self.view_is) s in
+    let starts = filter_map (start_move c.args.label.now c.args.state.now) v.devices in
     let rest = filter_map (settled_in v.devices c.args.label.now c.args.state.now) v.pending in
-    let moves = c.in_ok-add_settled.ensures ∙ (ap (λ (l : List Move). l ++ rest) (c.in_ok-add_starts.ensures ∙ ap (λ (l : List Move). l ++ starts) c.new-moves.ensures) ∙ moves_are v t c.args.label.now c.args.state.now here) in
+    let moves = c.in_ok-add_settled.ensures.added ∙ (ap (λ (l : List Move). l ++ rest) (c.in_ok-add_starts.ensures.added ∙ ap (λ (l : List Move). l ++ starts) c.new-moves.ensures) ∙ moves_are v t c.args.label.now c.args.state.now here) in
     ap (λ (l : List Move). Ok l) moves
     ∙ sym (ap (λ p. p.0) (change_judged v t c.args.label.now c.args.state.now c.in-Some.device false false here (sym c.first_of.ensures ∙ c.in-Some.is) (sym c.is_old.ensures ∙ c.if-is_old.false) (sym c.is_same_state.ensures ∙ c.if-is_same_state.false)))
 
 pub returns-clause-after : goal.returns-clause-after
 returns-clause-after c = λ t s.
     let v = table_of c.self.inside in
-    let here : Stands v t = subst (λ (v : TableRecord). Stands v t) (sym c.self.view_is) s in
+    let here : TableStands v t = subst (λ (v : TableRecord). TableStands v t) (sym c.self.view_is) s in
     let first = sym c.first_of.ensures ∙ c.in-Some.is in
     let old = sym c.is_old.ensures ∙ c.if-is_old.false in
-    subst (Stands (record { devices = c.note-2.new.devices.entries; pending = c.settle.new.pending.items; last = v.last }))
+    subst (TableStands (record { devices = c.note-2.new.devices.entries; pending = c.settle.new.pending.items; last = v.last }))
     (sym (ap (λ p. p.1) (change_judged v t c.args.label.now c.args.state.now c.in-Some.device false false here first old (sym c.is_same_state.ensures ∙ c.if-is_same_state.false))))
     (stands_moved v t c.args.label.now c.args.state.now c.note-2.new.devices.entries c.settle.new.pending.items here (first_device v t c.args.label.now c.in-Some.device here first).0 (not_old v t c.args.label.now c.args.state.now c.in-Some.device here first old) c.note-2.ensures c.settle.ensures)
