@@ -13,7 +13,7 @@ use Rattle.desk_rule.specs.declared.notice.Notice.{Notice}
 use Rattle.desk_rule.specs.declared.view.PassLog.{PassLog}
 use Rattle.desk_rule.specs.declared.view.View.{View}
 use Rattle.desk_rule.specs.History.{count_calls, entry}
-use Rattle.desk_rule.specs.Kinds.{after_turn, LastOwes, Looks, take_of, Takes}
+use Rattle.desk_rule.specs.Kinds.{after_turn, LastOwes, Looks, take_of, TakesBits}
 use Rattle.desk_rule.specs.Notices.{given_by, IsOrder, IsPostAt, OwedIn, OwnNotices, raised_at, raised_by, raised_in, set_by, taken_at, taken_by, taken_in}
 use Rattle.desk_rule.specs.Passes.{add_notice, notices_of, number_of}
 use Rattle.desk_rule.specs.Seat.{HoldsTurn, SeatOf}
@@ -95,17 +95,17 @@ take_raises_nothing n s b is = dite (ℕ_discrete n.server s)
     (λ other. raised_elsewhere s b n other)
 
 module _ {M C R : Type 0} (owes : R → ℕ) where
-  take_passes : (v w : View M C R) (server n : ℕ) → Takes owes v server n w → w.passes ≡ add_notice v.passes (take_of v server n)
+  take_passes : (v w : View M C R) (server n : ℕ) → TakesBits owes v server n w → w.passes ≡ add_notice v.passes (take_of v server n)
   take_passes v w server n h = ap (λ (x : View M C R). x.passes) h.notices.is
 
-  take_grows : (v w : View M C R) (server n : ℕ) → Takes owes v server n w → length v.passes ≡ 1 → (s b : ℕ) → taken_by w.passes s b ≡ taken_by v.passes s b + taken_at s b (take_of v server n)
+  take_grows : (v w : View M C R) (server n : ℕ) → TakesBits owes v server n w → length v.passes ≡ 1 → (s b : ℕ) → taken_by w.passes s b ≡ taken_by v.passes s b + taken_at s b (take_of v server n)
   take_grows v w server n h one s b = ap (λ (l : List (PassLog C R)). taken_by l s b) (take_passes v w server n h) ∙ notice_weighs v.passes (take_of v server n) (taken_at s b) one
 
   -- the rows of the server can be counted on
-  pub take_room : (v w : View M C R) (server n : ℕ) (rows : List ℕ) → server < 16 → Takes owes v server n w → length v.passes ≡ 1 → Tallies rows (taken_by v.passes) → (b : ℕ) → b < 8 → row_at rows server b < 2 ^ 63
+  pub take_room : (v w : View M C R) (server n : ℕ) (rows : List ℕ) → server < 16 → TakesBits owes v server n w → length v.passes ≡ 1 → Tallies rows (taken_by v.passes) → (b : ℕ) → b < 8 → row_at rows server b < 2 ^ 63
   take_room v w server n rows small h one counted b hb = let c = counted server b small hb in let g = take_grows v w server n h one server b in let f = h.few b in omega arith
 
-  pub take_counts : (steps : M → C → R → M → Type 0) (v w x : View M C R) (server n found : ℕ) (holding : Bool) (rows rows' : List ℕ) → Takes owes v server n w → Looks steps w found holding x → length v.passes ≡ 1 → Counts rows server n rows' → Tallies rows (taken_by v.passes) → Tallies rows' (taken_by x.passes)
+  pub take_counts : (steps : M → C → R → M → Type 0) (v w x : View M C R) (server n found : ℕ) (holding : Bool) (rows rows' : List ℕ) → TakesBits owes v server n w → Looks steps w found holding x → length v.passes ≡ 1 → Counts rows server n rows' → Tallies rows (taken_by v.passes) → Tallies rows' (taken_by x.passes)
   take_counts steps v w x server n found holding rows rows' h l one counts counted = tallies_taken w x rows' (λ s b. ap (λ (y : View M C R). taken_by y.passes s b) l.is) (λ s b hs hb. counts s b hs hb ∙ dite (ℕ_discrete s server)
       (λ e.
       let c = counted s b hs hb in let g = take_grows v w server n h one s b in
@@ -116,7 +116,7 @@ module _ {M C R : Type 0} (owes : R → ℕ) where
       let y : cond (s == server) (bit_at n b) 0 ≡ 0 = ap (λ t. cond t (bit_at n b) 0) (ne_eqb s server other) in
       let z = taken_elsewhere s b (take_of v server n) (λ e. other (sym e)) in omega arith))
 
-  pub take_raises : (steps : M → C → R → M → Type 0) (v w x : View M C R) (server n found : ℕ) (holding : Bool) (rows : List ℕ) → Takes owes v server n w → Looks steps w found holding x → length v.passes ≡ 1 → Tallies rows (raised_by v.passes) → Tallies rows (raised_by x.passes)
+  pub take_raises : (steps : M → C → R → M → Type 0) (v w x : View M C R) (server n found : ℕ) (holding : Bool) (rows : List ℕ) → TakesBits owes v server n w → Looks steps w found holding x → length v.passes ≡ 1 → Tallies rows (raised_by v.passes) → Tallies rows (raised_by x.passes)
   take_raises steps v w x server n found holding rows h l one counted s b hs hb =
       let c = counted s b hs hb in
       let looked : raised_by x.passes s b ≡ raised_by w.passes s b = ap (λ (y : View M C R). raised_by y.passes s b) l.is in
@@ -125,6 +125,6 @@ module _ {M C R : Type 0} (owes : R → ℕ) where
       omega arith
 
   -- what owes a bit that was taken is there still
-  pub owed_later : (steps : M → C → R → M → Type 0) (v w x : View M C R) (server n found b : ℕ) (holding : Bool) → Takes owes v server n w → Looks steps w found holding x → bit_at n b ≡ 1 → OwedIn owes server b x.seen
+  pub owed_later : (steps : M → C → R → M → Type 0) (v w x : View M C R) (server n found b : ℕ) (holding : Bool) → TakesBits owes v server n w → Looks steps w found holding x → bit_at n b ≡ 1 → OwedIn owes server b x.seen
   owed_later steps v w x server n found b holding h l set_bit = let k = h.owed b set_bit in
       (k.0, k.1, at_prefix w.seen x.seen k.0 k.1 l.seen (ap (λ (y : View M C R). get_elem? y.seen k.0) h.notices.is ∙ k.2), k.3)

@@ -24,7 +24,7 @@ use Rattle.desk.specs.Pass.{calls, history, notices, number, order, Pass}
 use Rattle.desk.specs.Sight.{rests_of}
 use Rattle.desk.specs.Tally.{Tallies}
 use Rattle.desk.proofs.RowLemmas.{wraps_more}
-use Rattle.desk.proofs.PassLemmas.{own_notices_one, own_one, weigh_one_notices}
+use Rattle.desk.proofs.PassLemmas.{own_notices_one, own_one, weigh_one, weigh_one_notices}
 use Rattle.desk.proofs.SightLemmas.{rests_facts}
 use Rattle.desk.proofs.StateLemmas.{states_run}
 
@@ -41,10 +41,6 @@ all_last P xs ys x e all = let both = all_split P xs (x ∷ []) (subst (λ l. Al
 -- what passes say of rests is what the rule's view says
 abbrev pub Tells : {M C R : Type 0} → Ghosts (View M C R) → Type 0
 Tells {M} {C} {R} G = (v : View M C R) → G.rests v ≡ true → rests_of v ≡ true
-
-module _ {C R : Type 0} where
-  weigh_one : (weigh : Entry C R → ℕ) (l : List (PassLog C R)) → length l ≡ 1 → weigh_all weigh l ≡ total_of weigh (calls_of l)
-  weigh_one weigh l one = let p = only_of l one in subst (λ (k : List (PassLog C R)). weigh_all weigh k ≡ total_of weigh (calls_of k)) (sym p.1) (omega arith)
 
 module _ {M C R : Type 0} {G : Ghosts (View M C R)} where
   pub gathered_last : (l : List (PassLog C R)) (ps : List (Pass M C R G)) (p : Pass M C R G) → gathered l (ps ++ p ∷ []) ≡ gathered (l ++ p.seat.me.0.passes) ps

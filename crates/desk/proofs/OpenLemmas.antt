@@ -73,9 +73,6 @@ module _ {M C R : Type 0} where
   pub new_rests : (opened : M) (first n : ℕ) (v : View M C R) → IsNewView opened first n v → rests_of v ≡ true
   new_rests opened first n v e = rests v e.free (ap length e.pass) (ap is_some e.opening)
 
-  pub new_has_none : (opened : M) (first n : ℕ) (v : View M C R) → IsNewView opened first n v → notices_of v.passes ≡ []
-  new_has_none opened first n v e = ap notices_of e.pass
-
   pub cut_off : (opened : M) (first n : ℕ) (v w : View M C R) → 0 < n → w ≡ one_pass v → LeftOver opened first n v → IsNewView opened first (n - 1) w
   cut_off opened first n v w more e l = record {
     opening = ap (λ (x : View M C R). x.opening) e ∙ l.opening;

@@ -3,7 +3,7 @@ use Rattle.std.proofs.Common.{◌≡◌, ℕ, ◌+◌, List, [], ◌∷◌, ◌+
 use Rattle.desk_rule.specs.declared.entry.Entry.{Entry}
 use Rattle.desk_rule.specs.declared.notice.Notice.{Notice}
 use Rattle.desk_rule.specs.declared.view.PassLog.{PassLog}
-use Rattle.desk_rule.specs.History.{calls_by, OwnCalls, total_of}
+use Rattle.desk_rule.specs.History.{calls_by, OwnCalls, total_of, weigh_all}
 use Rattle.desk_rule.specs.Notices.{notices_by, OwnNotices, weigh_notices}
 use Rattle.desk_rule.specs.Passes.{add_call, add_notice, calls_of, notices_of, number_of}
 use Rattle.desk_rule.proofs.ListLemmas.{only_of}
@@ -19,7 +19,10 @@ module _ {C R : Type 0} where
   own_notices_one order passes one own = let p = only_of passes one in
       subst (λ (l : List (PassLog C R)). notices_by (number_of l) order ≡ notices_of l) (sym p.1) (subst (λ (l : List (PassLog C R)). OwnNotices order l) p.1 own).0
 
-  -- what its notices weigh
+  -- what its calls and its notices weigh
+  pub weigh_one : (weigh : Entry C R → ℕ) (l : List (PassLog C R)) → length l ≡ 1 → weigh_all weigh l ≡ total_of weigh (calls_of l)
+  weigh_one weigh l one = let p = only_of l one in subst (λ (k : List (PassLog C R)). weigh_all weigh k ≡ total_of weigh (calls_of k)) (sym p.1) (omega arith)
+
   pub weigh_one_notices : (weigh : Notice → ℕ) (l : List (PassLog C R)) → length l ≡ 1 → weigh_notices weigh l ≡ total_of weigh (notices_of l)
   weigh_one_notices weigh l one = let p = only_of l one in subst (λ (k : List (PassLog C R)). weigh_notices weigh k ≡ total_of weigh (notices_of k)) (sym p.1) (omega arith)
 
@@ -44,4 +47,4 @@ module _ {C R : Type 0} where
       subst (λ (l : List (PassLog C R)). (length (add_notice l n) ≡ 1) × (number_of (add_notice l n) ≡ number_of l) × (calls_of (add_notice l n) ≡ calls_of l) × (notices_of (add_notice l n) ≡ notices_of l ++ n ∷ [])) (sym p.1) (refl, refl, refl, refl)
 
   pub notice_weighs : (passes : List (PassLog C R)) (n : Notice) (weigh : Notice → ℕ) → length passes ≡ 1 → weigh_notices weigh (add_notice passes n) ≡ weigh_notices weigh passes + weigh n
-  notice_weighs passes n weigh one = let p = only_of passes one in one_notice_more passes p.0 n weigh p.1
+  notice_weighs passes n weigh one = one_notice_more passes n weigh (omega arith)

@@ -11,13 +11,13 @@ use Rattle.desk_rule.specs.declared.notice.Notice.{Notice}
 use Rattle.desk_rule.specs.declared.view.PassLog.{PassLog}
 use Rattle.desk_rule.specs.declared.view.View.{View}
 use Rattle.desk_rule.specs.History.{count_calls, total_of}
-use Rattle.desk_rule.specs.Kinds.{LastOwes, Notices, post_of}
+use Rattle.desk_rule.specs.Kinds.{LastOwes, MakesNotice, post_of}
 use Rattle.desk_rule.specs.Notices.{bits_for, posted_at, raised_at, raised_by}
 use Rattle.desk_rule.specs.Passes.{add_notice, calls_of, notices_of, number_of}
 use Rattle.desk_rule.specs.Seat.{SeatOf}
 use Rattle.desk_rule.proofs.OrderLemmas.{posted_elsewhere, posted_here, raised_elsewhere, raised_here}
 use Rattle.desk_rule.proofs.ListLemmas.{all_append, only_of, prefix_refl, prefix_trans, total_append}
-use Rattle.desk.proofs.PassLemmas.{notice_added, notice_weighs}
+use Rattle.desk.proofs.PassLemmas.{notice_added, notice_weighs, weigh_one}
 use Rattle.desk.specs.Tally.{CanPost, Counts, Posts, row_at, Tallies}
 use Rattle.desk.proofs.TallyLemmas.{fresh_bit}
 
@@ -64,7 +64,7 @@ module _ {M C R : Type 0} where
   }
 
   -- what is owed to the server k is posted
-  posts_more : (v u w : View M C R) (k k' owed found : ℕ) → k' ≡ k + 1 → Notices u (post_of u k (bits_for owed k) found) w → Posts v u k owed → Posts v w k' owed
+  posts_more : (v u w : View M C R) (k k' owed found : ℕ) → k' ≡ k + 1 → MakesNotice u (post_of u k (bits_for owed k) found) w → Posts v u k owed → Posts v w k' owed
   posts_more v u w k k' owed found next n p =
       let bits : ℕ = bits_for owed k in
       let x : Notice = post_of u k bits found in
@@ -91,10 +91,6 @@ module _ {M C R : Type 0} where
         found = n.order;
         own = n.own;
       }
-
-module _ {C R : Type 0} where
-  one_count : (l : List (PassLog C R)) → length l ≡ 1 → count_calls l ≡ total_of (λ _. 1) (calls_of l)
-  one_count l one = let p = only_of l one in subst (λ (k : List (PassLog C R)). count_calls k ≡ total_of (λ _. 1) (calls_of k)) (sym p.1) (omega arith)
 
 -- w is v after posts to the servers below k, with these rows and this mask of what they raised
 pub record Posted {M C R : Type 0} (v w : View M C R) (k owed : ℕ) (rows : List ℕ) (mask : ℕ) : Type 0 where
@@ -138,7 +134,7 @@ module _ {M C R : Type 0} where
     same = λ s b h. p.same s b (omega arith);
   }
 
-  pub posted_more : (v u w : View M C R) (k k' owed found fresh mask mask' : ℕ) (rows rows' : List ℕ) → k < 16 → k' ≡ k + 1 → found < 2 ^ 64 → Notices u (post_of u k (bits_for owed k) found) w
+  pub posted_more : (v u w : View M C R) (k k' owed found fresh mask mask' : ℕ) (rows rows' : List ℕ) → k < 16 → k' ≡ k + 1 → found < 2 ^ 64 → MakesNotice u (post_of u k (bits_for owed k) found) w
       → fresh ≡ bit_and (bits_for owed k) (bit_not w64 found) → Counts rows k fresh rows' → mask' ≡ mask + fresh * 2 ^ (8 * k) % 2 ^ 128 → Posted v u k owed rows mask → Posted v w k' owed rows' mask'
   posted_more v u w k k' owed found fresh mask mask' rows rows' low next wide n fresh_is counts mask_is p =
       let bits : ℕ = bits_for owed k in
@@ -176,7 +172,7 @@ module _ {M C R : Type 0} where
 
   pub few_still : (v w : View M C R) (k owed : ℕ) (rows : List ℕ) (mask : ℕ) → CanPost v → Posted v w k owed rows mask → (b : ℕ) → raised_by w.passes k b < count_calls w.passes
   few_still v w k owed rows mask can p b =
-      let a : count_calls w.passes ≡ count_calls v.passes = one_count w.passes p.posts.one_pass ∙ (ap (total_of (λ _. 1)) p.posts.calls ∙ sym (one_count v.passes can.one_pass)) in let s = p.same k b (omega arith) in let f = can.few k b in omega arith
+      let a : count_calls w.passes ≡ count_calls v.passes = weigh_one (λ _. 1) w.passes p.posts.one_pass ∙ (ap (total_of (λ _. 1)) p.posts.calls ∙ sym (weigh_one (λ _. 1) v.passes can.one_pass)) in let s = p.same k b (omega arith) in let f = can.few k b in omega arith
 
   -- the rows can be counted on
   pub rows_small : (v w : View M C R) (k owed : ℕ) (rows : List ℕ) (mask : ℕ) → CanPost v → k < 16 → Posted v w k owed rows mask → (b : ℕ) → b < 8 → row_at rows k b < 2 ^ 63

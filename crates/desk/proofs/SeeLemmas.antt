@@ -9,7 +9,7 @@ use Rattle.desk_rule.specs.declared.notice.Notice.{Notice}
 use Rattle.desk_rule.specs.History.{calls_by, entry, IsLegal, IsLegalFrom, OwnCalls, Stepped}
 use Rattle.desk_rule.specs.Notices.{IsPostAt, notices_by, pending_after}
 use Rattle.desk_rule.specs.Passes.{add_call, calls_of, notices_of, number_of}
-use Rattle.desk_rule.specs.Kinds.{after_turn, Looks, take_of, Takes}
+use Rattle.desk_rule.specs.Kinds.{after_turn, Looks, take_of, TakesBits}
 use Rattle.desk_rule.proofs.ListLemmas.{all_map, prefix_refl, prefix_trans, some_of}
 use Rattle.desk.specs.declared.pass.Sight.{Ghosts}
 use Rattle.desk.specs.Calls.{Calls, next_place, PostsOwed, SameNotices, Sees, TakesPending}
@@ -53,7 +53,7 @@ module _ {M C R S : Type 0} {G : Ghosts (View M C R)} (stands : M → S → Type
       (sees_looked p q (2 ^ 63) holding l table one, ap (λ (x : View M C R). notices_of x.passes) l.is, omega arith)
 
   -- the pass took what is pending, and then looked
-  pub sees_taken : (owes : R → ℕ) (p q : Pass M C R G) (u : View M C R) (server n found : ℕ) (holding : Bool) → Takes owes p.seat.me.0 server n u → Looks (Stepped stands steps) u found holding q.seat.me.0 → desk_of q ≡ desk_of p → length p.seat.me.0.passes ≡ 1
+  pub sees_taken : (owes : R → ℕ) (p q : Pass M C R G) (u : View M C R) (server n found : ℕ) (holding : Bool) → TakesBits owes p.seat.me.0 server n u → Looks (Stepped stands steps) u found holding q.seat.me.0 → desk_of q ≡ desk_of p → length p.seat.me.0.passes ≡ 1
       → Sees stands steps p q
   sees_taken owes p q u server n found holding h l table one =
       let v : View M C R = p.seat.me.0 in let t = h.notices in
@@ -64,7 +64,7 @@ module _ {M C R S : Type 0} {G : Ghosts (View M C R)} (stands : M → S → Type
       (prefix_trans v.notices t.before u.notices t.seen (take_of v server n ∷ [], sym (ap (λ (x : View M C R). x.notices) t.is)))
       table (ap length passes ∙ added.0)
 
-  pub takes_pending : (owes : R → ℕ) (p q : Pass M C R G) (u : View M C R) (server n bits found : ℕ) (holding : Bool) → Takes owes p.seat.me.0 server n u → Looks (Stepped stands steps) u found holding q.seat.me.0 → length p.seat.me.0.passes ≡ 1 → n ≡ bits
+  pub takes_pending : (owes : R → ℕ) (p q : Pass M C R G) (u : View M C R) (server n bits found : ℕ) (holding : Bool) → TakesBits owes p.seat.me.0 server n u → Looks (Stepped stands steps) u found holding q.seat.me.0 → length p.seat.me.0.passes ≡ 1 → n ≡ bits
       → TakesPending p q server bits
   takes_pending owes p q u server n bits found holding h l one same =
       let v : View M C R = p.seat.me.0 in let t = h.notices in let taken : Notice = take_of v server n in

@@ -5,6 +5,7 @@ use Rattle.std.proofs.lemmas.Nat.Bits.{bit_at_and, bit_at_not, bit_at-lt}
 use mathlib.Core.Logic.{dite}
 use native.Mathlib.Decide.{ℕ_discrete}
 use Rattle.desk.specs.Tally.{Counts, row_at, Tallies}
+use Rattle.desk_rule.proofs.TableLemmas.{zero_at}
 
 -- of one server the bits below k were counted
 pub record CountsBelow (old : List ℕ) (server bits k : ℕ) (new : List ℕ) : Type 0 where
@@ -33,11 +34,6 @@ pub counts_all : (old new : List ℕ) (server bits : ℕ) → CountsBelow old se
 counts_all old new server bits c s b hs hb = dite (ℕ_discrete s server)
     (λ here. ap (λ t. row_at new t b) here ∙ (c.done b hb hb ∙ (ap (λ t. row_at old t b + bit_at bits b) (sym here) ∙ ap (λ t. row_at old s b + cond t (bit_at bits b) 0) (sym (eq-eqb s server here)))))
     (λ other. c.others s b hs hb other ∙ (omega arith ∙ ap (λ t. row_at old s b + cond t (bit_at bits b) 0) (sym (ne_eqb s server other))))
-
-zero_at : (n k : ℕ) → let z : ℕ = 0 in get_or (replicate n z) k z ≡ z
-zero_at zero k = refl
-zero_at (suc n) zero = refl
-zero_at (suc n) (suc k) = zero_at n k
 
 pub no_rows : (k : ℕ) → let z : ℕ = 0 in get_or (replicate 128 z) k z ≡ z
 no_rows k = zero_at 128 k

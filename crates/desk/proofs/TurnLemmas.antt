@@ -10,7 +10,7 @@ use Rattle.desk_rule.specs.declared.table.LastCall.{LastCall}
 use Rattle.desk_rule.specs.declared.notice.Notice.{Notice}
 use Rattle.desk_rule.specs.History.{entry, IsLegal, OwnCalls, Run}
 use Rattle.desk_rule.specs.Passes.{number_of}
-use Rattle.desk_rule.specs.Kinds.{after_look, after_turn, GetsMachine, Looks, Standing}
+use Rattle.desk_rule.specs.Kinds.{after_look, after_turn, GetsMachine, Looks, AtSeat}
 use Rattle.desk_rule.specs.Seat.{EndsTurn, HoldsTurn, SeatOf}
 use Rattle.desk_rule.proofs.ListLemmas.{nil_of, prefix_trans, some_of}
 use Rattle.desk.specs.Sight.{Rests, TurnAt}
@@ -136,14 +136,14 @@ module _ {M C R : Type 0} (steps : M → C → R → M → Type 0) where
       → steps home.machine c r n → said.value ≡ c → told.value ≡ r → q.me ≡ (p.me.0, (0, Some record { machine = n; last = Some record { command = said; reply = told } }) ∷ []) → EndsTurn steps q
   ends p q home n said told c r h run step is_c is_r back =
       let v : View M C R = p.me.0 in
-      let same : q.me.0 ≡ v = ap (λ (x : Standing M C R). x.0) back in
+      let same : q.me.0 ≡ v = ap (λ (x : AtSeat M C R). x.0) back in
       let said_step : steps home.machine said.value told.value n = subst (λ (x : C × R). steps home.machine x.0 x.1 n) (λ i. (sym is_c i, sym is_r i)) step in record {
         holding = ap (λ (x : View M C R). x.holding) same ∙ h.holding;
         one_pass = ap (λ (x : View M C R). length x.passes) same ∙ h.one_pass;
         opened = ap (λ (x : View M C R). is_some x.opening) same ∙ h.opened;
         home = record { machine = n; last = Some record { command = said; reply = told } };
         last = record { command = said; reply = told };
-        back = ap (λ (x : Standing M C R). x.1) back;
+        back = ap (λ (x : AtSeat M C R). x.1) back;
         said = refl;
         machine = λ m from. subst (λ (x : View M C R). Run steps m (x.seen ++ entry (number_of x.passes) said.value told.value ∷ []) n) (sym same)
             (run_push m v.seen home.machine n (number_of v.passes) said.value told.value (run m (sym (ap (λ (x : View M C R). x.opening) same) ∙ from)) said_step);
@@ -153,18 +153,18 @@ module _ {M C R : Type 0} (steps : M → C → R → M → Type 0) where
   pub legal_after : (p q : SeatOf M C R) (home : Home M C R) (n : M) (c : C) (r : R) → ((m : M) → p.me.0.opening ≡ Some m → Run steps m p.me.0.seen home.machine) → steps home.machine c r n
       → q.me ≡ (after_turn p.me.0 c r, []) → (m : M) → p.me.0.opening ≡ Some m → IsLegal steps m q.me.0.seen
   legal_after p q home n c r run step is m from =
-      (n, subst (λ (es : List (Entry C R)). Run steps m es n) (sym (ap (λ (x : Standing M C R). x.0.seen) is)) (run_push m p.me.0.seen home.machine n (number_of p.me.0.passes) c r (run m from) step))
+      (n, subst (λ (es : List (Entry C R)). Run steps m es n) (sym (ap (λ (x : AtSeat M C R). x.0.seen) is)) (run_push m p.me.0.seen home.machine n (number_of p.me.0.passes) c r (run m from) step))
 
 module _ {M C R : Type 0} where
   -- the machine came out and another went back
   pub put_back : (p q q' : SeatOf M C R) (h : Home M C R) → q.me ≡ (p.me.0, (0, None) ∷ []) → q'.me ≡ (q.me.0, (0, Some h) ∷ []) → q'.me ≡ (p.me.0, (0, Some h) ∷ [])
-  put_back p q q' h out back = back ∙ ap (λ (m : Standing M C R). (m.0, (0, Some h) ∷ [])) out
+  put_back p q q' h out back = back ∙ ap (λ (m : AtSeat M C R). (m.0, (0, Some h) ∷ [])) out
 
   -- what the end of the turn left
   pub ended : (p q q' : SeatOf M C R) (n : M) (said : Snapshot C) (told : Snapshot R) (c : C) (r : R) → q.me ≡ (p.me.0, (0, Some record { machine = n; last = Some record { command = said; reply = told } }) ∷ []) → said.value ≡ c → told.value ≡ r
       → ((h : Home M C R) (l : LastCall C R) → q.me.1 ≡ (0, Some h) ∷ [] → h.last ≡ Some l → (q'.me ≡ (after_turn q.me.0 l.command.value l.reply.value, [])) × OwnCalls q'.me.0.seen q'.me.0.passes)
       → (q'.me ≡ (after_turn p.me.0 c r, [])) × OwnCalls q'.me.0.seen q'.me.0.passes
   ended p q q' n said told c r back is_c is_r did =
-      let d = did record { machine = n; last = Some record { command = said; reply = told } } record { command = said; reply = told } (ap (λ (x : Standing M C R). x.1) back) refl in
-      let same : q.me.0 ≡ p.me.0 = ap (λ (x : Standing M C R). x.0) back in
+      let d = did record { machine = n; last = Some record { command = said; reply = told } } record { command = said; reply = told } (ap (λ (x : AtSeat M C R). x.1) back) refl in
+      let same : q.me.0 ≡ p.me.0 = ap (λ (x : AtSeat M C R). x.0) back in
       (d.0 ∙ (λ i. (after_turn (same i) (is_c i) (is_r i), [])), d.1)

@@ -27,8 +27,8 @@ module _ {M C R : Type 0} {G : Ghosts (View M C R)} where
   AreNewPasses id opened first (suc n) (p ∷ others) = IsNewPass id opened first n p × AreNewPasses id opened first n others
 
 -- why a desk of so many passes isn't opened at this place, each cause where none before it stands
-abbrev pub IsOpenFault : DeskFault → ℕ → ℕ → Type 0
-IsOpenFault BadCount passes first = (passes ≡ 0) ⊎ (64 < passes)
-IsOpenFault BadFirst passes first = (0 < passes) × (passes ≤ 64) × (2 ^ 62 < first)
-IsOpenFault NoRoom passes first = (0 < passes) × (passes ≤ 64) × (first ≤ 2 ^ 62)
-IsOpenFault _ passes first = ⊥
+abbrev pub IsDeskFault : DeskFault → ℕ → ℕ → Type 0
+IsDeskFault BadCount passes first = (passes ≡ 0) ⊎ (64 < passes)
+IsDeskFault BadFirst passes first = (0 < passes) × (passes ≤ 64) × (2 ^ 62 < first)
+IsDeskFault NoRoom passes first = (0 < passes) × (passes ≤ 64) × (first ≤ 2 ^ 62)
+IsDeskFault _ passes first = ⊥

@@ -6,7 +6,7 @@ ghost use Rattle.desk_rule.specs.Passes.{notices_of};
 ghost use Rattle.desk_rule.specs.Rule.{opening_view};
 ghost use Rattle.desk_rule.specs.Seat.{IsAtTable};
 ghost use Rattle.desk.specs.Desk.{identity, opened_with, pass_count, first_call};
-ghost use Rattle.desk.specs.Opening.{AreNewPasses, IsOpenFault};
+ghost use Rattle.desk.specs.Opening.{AreNewPasses, IsDeskFault};
 ghost use Rattle.desk.specs.Pass.{desk_of};
 ghost use Rattle.desk.specs.Sight.{rests_of};
 
@@ -79,7 +79,7 @@ impl<M: Machine> Desk<M> {
         ensures passes { IfOk result (λ d. AreNewPasses (identity d.0) (Some machine) first passes d.1 × (length d.1 ≡ passes)) }
         ensures of_desk { IfOk result (λ d. AllByRecursion (λ p. desk_of p ≡ identity d.0) d.1) }
         ensures accepted { OnOk result ((0 < passes) × (passes ≤ 64) × (first ≤ 2 ^ 62)) }
-        ensures refused { IfErr result (λ stop. IsOpenFault stop.fault passes first) }
+        ensures refused { IfErr result (λ stop. IsDeskFault stop.fault passes first) }
         ensures back { IfErr result (λ stop. stop.machine ≡ machine) }
     {
         if passes == 0 || passes > 64 {

@@ -19,10 +19,10 @@ use Rattle.desk_rule.specs.History.{calls_by, count_calls, entry, Run, total_of,
 use Rattle.desk_rule.specs.Notices.{IsActOwed, IsOwed, notices_by, weigh_notices}
 use Rattle.desk_rule.specs.declared.notice.Act.{Act}
 use Rattle.desk_rule.specs.declared.notice.Act.TheVariants.{Post, Take}
-use Rattle.desk_rule.specs.Passes.{add_call, add_notice}
+use Rattle.desk_rule.specs.Passes.{add_call, add_notice, AreDifferent}
 use Rattle.desk_rule.specs.Rule.{notice_weight_of, pass_count, RuleHolds, Seated, turn_bit, weight_of}
 use Rattle.desk_rule.specs.Kinds.{after_look, Looks}
-use Rattle.desk_rule.proofs.ListLemmas.{all_map, at_inside, prefix_nil, prefix_refl, total_append, total_part, total_set}
+use Rattle.desk_rule.proofs.ListLemmas.{all_append, all_map, at_inside, prefix_nil, prefix_refl, total_append, total_part, total_set}
 
 turn_bit_small : (turn : maybe.Option ℕ) → turn_bit turn ≤ 1
 turn_bit_small none = omega arith
@@ -51,12 +51,27 @@ module _ {C R : Type 0} where
   no_notice_more [] e weigh = refl
   no_notice_more (p ∷ others) e weigh = refl
 
-  -- one notice more of the one pass
-  pub one_notice_more : (passes : List (PassLog C R)) (p : PassLog C R) (n : Notice) (weigh : Notice → ℕ) → passes ≡ p ∷ [] → weigh_notices weigh (add_notice passes n) ≡ weigh_notices weigh passes + weigh n
-  one_notice_more passes p n weigh one =
-      let before : weigh_notices weigh passes ≡ total_of weigh p.notices + 0 = ap (weigh_notices weigh) one in
-      let after : weigh_notices weigh (add_notice passes n) ≡ total_of weigh (p.notices ++ n ∷ []) + 0 = ap (λ l. weigh_notices weigh (add_notice l n)) one in
-      let all = total_append weigh p.notices (n ∷ []) in omega arith
+  -- one notice more of the first pass
+  pub one_notice_more : (passes : List (PassLog C R)) (n : Notice) (weigh : Notice → ℕ) → 0 < length passes → weigh_notices weigh (add_notice passes n) ≡ weigh_notices weigh passes + weigh n
+  one_notice_more [] n weigh some_pass = absurd (omega arith)
+  one_notice_more (p ∷ others) n weigh some_pass = let all = total_append weigh p.notices (n ∷ []) in omega arith
+
+  pub same_length : (passes : List (PassLog C R)) (n : Notice) → length (add_notice passes n) ≡ length passes
+  same_length [] n = refl
+  same_length (p ∷ others) n = refl
+
+  -- numbers that differ, with a call or a notice more
+  pub differ_called : (passes : List (PassLog C R)) (e : Entry C R) → AreDifferent passes → AreDifferent (add_call passes e)
+  differ_called [] e d = d
+  differ_called (p ∷ others) e d = d
+
+  pub differ_noticed : (passes : List (PassLog C R)) (n : Notice) → AreDifferent passes → AreDifferent (add_notice passes n)
+  differ_noticed [] n d = d
+  differ_noticed (p ∷ others) n d = d
+
+  pub differ_append : (l m : List (PassLog C R)) → AreDifferent l → AreDifferent m → AllByRecursion (λ (p : PassLog C R). AllByRecursion (λ (q : PassLog C R). q.pass ≢ p.pass) m) l → AreDifferent (l ++ m)
+  differ_append [] m d e apart = e
+  differ_append (p ∷ l) m d e apart = (all_append (λ (q : PassLog C R). q.pass ≢ p.pass) l m d.0 apart.0, differ_append l m d.1 e apart.1)
 
   pub no_call_more : (passes : List (PassLog C R)) (n : Notice) (weigh : Entry C R → ℕ) → weigh_all weigh (add_notice passes n) ≡ weigh_all weigh passes
   no_call_more [] n weigh = refl
@@ -124,6 +139,7 @@ module _ {M C R : Type 0} (steps : M → C → R → M → Type 0) (owes : R →
     notices = prefix_refl order;
     told_notices = prefix_nil order;
     own = f.own;
+    differ = f.differ;
     few = f.few;
   }
 

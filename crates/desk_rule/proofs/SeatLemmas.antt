@@ -1,5 +1,5 @@
 -- Splitting seats and joining them keeps the rule.
-use Rattle.std.proofs.Common.{◌≡◌, ◌≢◌, ⊎_elim, ℕ, zero, suc, ◌+◌, ◌<◌, true, false, true≢false, List, [], ◌∷◌, ◌++◌, length, set, drop, take, refl, ap, sym, ◌∙◌, subst, arith, length-append, length-set, eqb, eq-eqb, ne_eqb, cond, Option, Some, None}
+use Rattle.std.proofs.Common.{◌≡◌, ◌≢◌, ⊎_elim, ℕ, zero, suc, ◌+◌, ◌≤◌, ◌<◌, true, false, true≢false, List, [], ◌∷◌, ◌++◌, length, set, drop, take, refl, ap, sym, ◌∙◌, subst, arith, length-append, length-set, eqb, eq-eqb, ne_eqb, cond, Option, Some, None}
 use Rattle.std.specs.List.{AllByRecursion}
 use mathlib.Core.Option as maybe
 use mathlib.Core.Option.{some}
@@ -13,11 +13,11 @@ use Rattle.desk_rule.specs.declared.table.Home.{Home}
 use Rattle.desk_rule.specs.declared.notice.Notice.{Notice}
 use Rattle.desk_rule.specs.History.{total_of, weigh_all}
 use Rattle.desk_rule.specs.Notices.{raised_at, raised_by, weigh_notices}
-use Rattle.desk_rule.specs.Passes.{fresh, pass_log}
+use Rattle.desk_rule.specs.Passes.{AreDifferent, fresh, pass_log}
 use Rattle.desk_rule.specs.Kinds.{after_note, after_pass, note_view, one_pass, other_passes}
 use Rattle.desk_rule.specs.Rule.{notice_weight_of, pass_count, spent_view, weight_of}
 use Rattle.desk_rule.proofs.ListLemmas.{all_append, all_map, at_inside, at_push, prefix_nil, total_append, total_set}
-use Rattle.desk_rule.proofs.RuleLemmas.{all_views, holder_stays, Own, Rule, Sits}
+use Rattle.desk_rule.proofs.RuleLemmas.{all_views, differ_append, holder_stays, Own, Rule, Sits}
 
 module _ {C R : Type 0} where
   fresh_map : (P Q : PassLog C R → Type 0) (n : ℕ) → ((k : ℕ) → k < n → P (pass_log k [] []) → Q (pass_log k [] [])) → AllByRecursion P (fresh n) → AllByRecursion Q (fresh n)
@@ -35,6 +35,14 @@ weigh_fresh C R weigh (suc n) = let rest = weigh_fresh C R weigh n in omega arit
 pub weigh_fresh_notices : (C R : Type 0) (weigh : Notice → ℕ) (n : ℕ) → weigh_notices weigh (fresh {C = C} {R = R} n) ≡ 0
 weigh_fresh_notices C R weigh zero = refl
 weigh_fresh_notices C R weigh (suc n) = let rest = weigh_fresh_notices C R weigh n in omega arith
+
+fresh_below : (C R : Type 0) (n k : ℕ) → k ≤ n → AllByRecursion (λ (q : PassLog C R). q.pass ≢ n) (fresh k)
+fresh_below C R n zero le = tt
+fresh_below C R n (suc k) le = ((λ e. omega arith), fresh_below C R n k (omega arith))
+
+pub fresh_differ : (C R : Type 0) (n : ℕ) → AreDifferent (fresh {C = C} {R = R} n)
+fresh_differ C R zero = tt
+fresh_differ C R (suc n) = (fresh_below C R n n (omega arith), fresh_differ C R n)
 
 module _ {M C R : Type 0} (steps : M → C → R → M → Type 0) (owes : R → ℕ) (opening : M) (first passes : ℕ) where
   abbrev V : Type 0
@@ -90,6 +98,7 @@ module _ {M C R : Type 0} (steps : M → C → R → M → Type 0) (owes : R →
               notices = g.notices;
               told_notices = g.told_notices;
               own = all_map _ _ (λ b p. (p.0, p.1, others i b.pass other (at_inside s.views x i at_i) p.2, p.3)) x.passes g.own;
+              differ = g.differ;
               few = g.few;
             }) j u was)
             (λ new. subst (λ (y : ℕ × V). Sat r.history r.order r.turn seat_of y.0 y.1) (λ i. (sym (new.0 ∙ length-set s.views id left) i, new.1 i)) sits_right)
@@ -98,7 +107,7 @@ module _ {M C R : Type 0} (steps : M → C → R → M → Type 0) (owes : R →
 
   pub note_splits : (id : ℕ) (v : V) → Splits Holds id v v (note_view v)
   note_splits id v s r at = let f = r.seated id v at in
-      split s r id v v (note_view v) r.seat_of at f (record { opened = f.opened; seen = f.seen; told = prefix_nil r.history; holds = λ no. absurd (true≢false (sym no)); notices = f.notices; told_notices = prefix_nil r.order; own = tt; few = λ s b. omega arith })
+      split s r id v v (note_view v) r.seat_of at f (record { opened = f.opened; seen = f.seen; told = prefix_nil r.history; holds = λ no. absurd (true≢false (sym no)); notices = f.notices; told_notices = prefix_nil r.order; own = tt; differ = tt; few = λ s b. omega arith })
       refl refl (λ _. refl) (omega arith) (λ weigh. omega arith) (λ weigh. omega arith) (λ j k _ _ e. e)
 
   -- the pass n moves to the seat j
@@ -122,6 +131,7 @@ module _ {M C R : Type 0} (steps : M → C → R → M → Type 0) (owes : R →
         holds = λ h. absurd (true≢false (sym h ∙ free));
         own = subst (λ (l : List (PassLog C R)). AllByRecursion (Owns r.history r.order seat_of id) (drop 1 l)) (sym is)
             (fresh_map (Owns r.history r.order r.seat_of id) (Owns r.history r.order seat_of id) n (λ k below p. (p.0, p.1, ap (λ b. cond b j (r.seat_of k)) (ne_eqb k n (λ e. omega arith)) ∙ p.2, p.3)) owns.1);
+        differ = subst (λ (l : List (PassLog C R)). AreDifferent (drop 1 l)) (sym is) (subst AreDifferent is f.differ).1;
         notices = f.notices;
         told_notices = f.told_notices;
         few = λ t b. (let z : raised_by (drop 1 v.passes) t b ≡ raised_by (fresh {C = C} {R = R} n) t b = ap (λ l. raised_by (drop 1 l) t b) is in let none = weigh_fresh_notices C R (raised_at t b) n in omega arith);
@@ -132,6 +142,7 @@ module _ {M C R : Type 0} (steps : M → C → R → M → Type 0) (owes : R →
         told = prefix_nil r.history;
         holds = λ no. absurd (true≢false (sym no));
         own = subst (λ (l : List (PassLog C R)). AllByRecursion (Owns r.history r.order seat_of j) (take 1 l)) (sym is) ((owns.0.0, owns.0.1, here, owns.0.3), tt);
+        differ = subst (λ (l : List (PassLog C R)). AreDifferent (take 1 l)) (sym is) (tt, tt);
         notices = f.notices;
         told_notices = prefix_nil r.order;
         few = λ t b. (let z : raised_by (take 1 v.passes) t b ≡ 0 = ap (λ l. raised_by (take 1 l) t b) is in omega arith);
@@ -174,7 +185,7 @@ module _ {M C R : Type 0} (steps : M → C → R → M → Type 0) (owes : R →
         owed = r.owed;
         eight_bits = r.eight_bits;
         seated = all_views steps owes opening first passes (Sat r.history r.order r.turn seat_of) views other spent_view
-            (record { opened = λ m e. absurd (none_some m e); seen = prefix_nil r.history; told = prefix_nil r.history; holds = λ no. absurd (true≢false (sym no)); notices = prefix_nil r.order; told_notices = prefix_nil r.order; own = tt; few = λ t b. omega arith })
+            (record { opened = λ m e. absurd (none_some m e); seen = prefix_nil r.history; told = prefix_nil r.history; holds = λ no. absurd (true≢false (sym no)); notices = prefix_nil r.order; told_notices = prefix_nil r.order; own = tt; differ = tt; few = λ t b. omega arith })
             (λ j u not_other e. all_views steps owes opening first passes (λ i x. i ≢ other → Sat r.history r.order r.turn seat_of i x) s.views id both (λ _. sits)
             (λ i x not_id at_i not_that. let g = r.seated i x at_i in record {
               opened = g.opened;
@@ -184,6 +195,7 @@ module _ {M C R : Type 0} (steps : M → C → R → M → Type 0) (owes : R →
               notices = g.notices;
               told_notices = g.told_notices;
               own = all_map _ _ (λ b p. (p.0, p.1, others i b.pass not_id not_that p.2, p.3)) x.passes g.own;
+              differ = g.differ;
               few = g.few;
             }) j u e not_other);
       }
@@ -195,7 +207,7 @@ module _ {M C R : Type 0} (steps : M → C → R → M → Type 0) (owes : R →
   note_joins id v other w no_pass free s r at apart at_other =
       let f = r.seated id v at in let g = sat_other s r id other w (after_note v w) apart at_other in
       join s r id v other w (after_note v w) r.seat_of at apart at_other
-      (record { opened = f.opened; seen = f.seen; told = g.seen; holds = f.holds; notices = f.notices; told_notices = g.notices; own = f.own; few = f.few }) free refl
+      (record { opened = f.opened; seen = f.seen; told = g.seen; holds = f.holds; notices = f.notices; told_notices = g.notices; own = f.own; differ = f.differ; few = f.few }) free refl
       (let e : length w.passes ≡ 0 = ap length no_pass in omega arith) (λ weigh. let e : weigh_all weigh w.passes ≡ 0 = ap (weigh_all weigh) no_pass in omega arith)
       (λ weigh. let e : weigh_notices weigh w.passes ≡ 0 = ap (weigh_notices weigh) no_pass in omega arith) (λ j k _ _ e. e)
 
@@ -212,6 +224,7 @@ module _ {M C R : Type 0} (steps : M → C → R → M → Type 0) (owes : R →
         own = all_append (Owns r.history r.order seat_of id) v.passes w.passes
             (all_map _ _ (λ b p. (p.0, p.1, ap (λ t. cond t id (r.seat_of b.pass)) (ne_eqb (r.seat_of b.pass) other (λ e. apart (sym e ∙ p.2))) ∙ p.2, p.3)) v.passes f.own)
             (all_map _ _ (λ b p. (p.0, p.1, ap (λ t. cond t id (r.seat_of b.pass)) (eq-eqb (r.seat_of b.pass) other p.2), p.3)) w.passes g.own);
+        differ = differ_append v.passes w.passes f.differ g.differ (all_map _ _ (λ b p. all_map _ _ (λ c q same. apart (sym q.2 ∙ (ap r.seat_of same ∙ p.2))) w.passes g.own) v.passes f.own);
         notices = f.notices;
         told_notices = g.notices;
         few = λ t b. (let x = f.few t b in let y = g.few t b in let c = total_append (λ (a : PassLog C R). total_of (λ _. 1) a.calls) v.passes w.passes in

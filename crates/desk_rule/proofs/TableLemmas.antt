@@ -23,7 +23,7 @@ use Rattle.desk_rule.specs.Seat.{IsClosed}
 use Rattle.desk_rule.proofs.ListLemmas.{all_map, prefix_nil, total_only, total_part}
 use Rattle.desk_rule.proofs.OrderLemmas.{order_balanced}
 use Rattle.desk_rule.proofs.RuleLemmas.{calls_short, Own, Rule, Sits}
-use Rattle.desk_rule.proofs.SeatLemmas.{length_fresh, weigh_fresh, weigh_fresh_notices}
+use Rattle.desk_rule.proofs.SeatLemmas.{fresh_differ, length_fresh, weigh_fresh, weigh_fresh_notices}
 
 module _ {M C R : Type 0} (steps : M → C → R → M → Type 0) (owes : R → ℕ) (opening : M) (first passes : ℕ) where
   abbrev V : Type 0
@@ -68,7 +68,7 @@ module _ {M C R : Type 0} (steps : M → C → R → M → Type 0) (owes : R →
     owed = tt;
     eight_bits = λ k below. subst (λ n. n < 256) (sym (zeros k below)) (omega arith);
     seated = λ j u e. only_view (opening_view opening first passes) u j (Sits steps owes opening first passes [] [] none (λ _. 0))
-        (record { opened = λ m e. (some_same m e, refl); seen = prefix_nil []; told = prefix_nil []; holds = λ no. absurd (true≢false (sym no)); notices = prefix_nil []; told_notices = prefix_nil []; own = fresh_own passes (omega arith); few = λ t b. (let none = weigh_fresh_notices C R (raised_at t b) passes in omega arith) }) e;
+        (record { opened = λ m e. (some_same m e, refl); seen = prefix_nil []; told = prefix_nil []; holds = λ no. absurd (true≢false (sym no)); notices = prefix_nil []; told_notices = prefix_nil []; own = fresh_own passes (omega arith); differ = fresh_differ C R passes; few = λ t b. (let none = weigh_fresh_notices C R (raised_at t b) passes in omega arith) }) e;
   }
 
   -- the passes of a view that holds the turn
@@ -171,7 +171,7 @@ new_holds {M} {C} {R} steps owes opening m l first passes words slots same is lo
     (sym (is ∙ (λ i. Some record { machine = sym same i; last = l } ∷ [])))
     (holds_at_first steps owes opening first passes l words long word zeros small)
 
-zero_at : (n k : ℕ) → let z : ℕ = 0 in get_or (replicate n z) k z ≡ z
+pub zero_at : (n k : ℕ) → let z : ℕ = 0 in get_or (replicate n z) k z ≡ z
 zero_at zero k = refl
 zero_at (suc n) zero = refl
 zero_at (suc n) (suc k) = zero_at n k

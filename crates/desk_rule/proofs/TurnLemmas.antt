@@ -19,11 +19,11 @@ use Rattle.desk_rule.specs.declared.notice.Notice.{Notice}
 use Rattle.desk_rule.specs.History.{entry, OwnCalls, Run}
 use Rattle.desk_rule.specs.Notices.{raised_at}
 use Rattle.desk_rule.specs.Passes.{add_call, number_of}
-use Rattle.desk_rule.specs.Kinds.{after_look, after_turn, end_of_turn, hold, look, Standing}
+use Rattle.desk_rule.specs.Kinds.{after_look, after_turn, end_of_turn, hold, look, AtSeat}
 use Rattle.desk_rule.specs.Rule.{IsAtHome, notice_weight_of, pass_count, turn_bit, weight_of}
 use Rattle.desk_rule.specs.Seat.{EndsTurn, SeatOf}
 use Rattle.desk_rule.proofs.ListLemmas.{all_map, at_inside, only_of, prefix_append, prefix_nil, prefix_refl, some_of, total_append, total_set}
-use Rattle.desk_rule.proofs.RuleLemmas.{all_views, calls_by_other, calls_by_own, looked, no_notice_more, one_call_more, Own, owed_still, Rule, sits_looked, Sits, stays, word_same, word_small}
+use Rattle.desk_rule.proofs.RuleLemmas.{all_views, calls_by_other, calls_by_own, differ_called, looked, no_notice_more, one_call_more, Own, owed_still, Rule, sits_looked, Sits, stays, word_same, word_small}
 
 -- the word says that the turn is free
 turn_is_free : (turn : maybe.Option ℕ) (n k : ℕ) → 2 * n + turn_bit turn ≡ 2 * k → turn ≡ none
@@ -40,7 +40,7 @@ module _ {M C R : Type 0} (steps : M → C → R → M → Type 0) (owes : R →
   abbrev Holds : State S V → Type 0
   Holds = Rule steps owes opening first passes
 
-  pub look_allowed : (slots id : ℕ) (me : Standing M C R) → Allows Holds slots id me 0 (λ n. n) (look steps (step slots 0 0 0 none) me)
+  pub look_allowed : (slots id : ℕ) (me : AtSeat M C R) → Allows Holds slots id me 0 (λ n. n) (look steps (step slots 0 0 0 none) me)
   look_allowed slots id me s r _ at _ = let v : V = me.0 in let f = r.seated id v at in (
     after_look v v.holding r.history r.order,
     keeps,
@@ -72,11 +72,11 @@ module _ {M C R : Type 0} (steps : M → C → R → M → Type 0) (owes : R →
     owed = r.owed;
     eight_bits = λ k small. subst (λ n. n < 256) (sym (get_or-set_other s.words 0 (k + 1) (word + 1) 0 (λ e. omega arith))) (r.eight_bits k small);
     seated = all_views steps owes opening first passes (Sits steps owes opening first passes r.history r.order (some id) r.seat_of) s.views id w
-        (record { opened = f.opened; seen = prefix_refl r.history; told = prefix_nil r.history; holds = λ _. (refl, refl); notices = prefix_refl r.order; told_notices = prefix_nil r.order; own = f.own; few = f.few })
-        (λ j u _ e. let g = r.seated j u e in record { opened = g.opened; seen = g.seen; told = g.told; holds = λ h. absurd (some-ne-none j (sym (g.holds h).0 ∙ free)); notices = g.notices; told_notices = g.told_notices; own = g.own; few = g.few });
+        (record { opened = f.opened; seen = prefix_refl r.history; told = prefix_nil r.history; holds = λ _. (refl, refl); notices = prefix_refl r.order; told_notices = prefix_nil r.order; own = f.own; differ = f.differ; few = f.few })
+        (λ j u _ e. let g = r.seated j u e in record { opened = g.opened; seen = g.seen; told = g.told; holds = λ h. absurd (some-ne-none j (sym (g.holds h).0 ∙ free)); notices = g.notices; told_notices = g.told_notices; own = g.own; differ = g.differ; few = g.few });
   }
 
-  pub hold_allowed : (slots id : ℕ) (me : Standing M C R) (word new k : ℕ) → word ≡ 2 * k → new ≡ word + 1 → k < 2 ^ 62 → 0 < length me.0.passes
+  pub hold_allowed : (slots id : ℕ) (me : AtSeat M C R) (word new k : ℕ) → word ≡ 2 * k → new ≡ word + 1 → k < 2 ^ 62 → 0 < length me.0.passes
       → Allows Holds slots id me 0 (λ n. either (n == word) new n) (hold steps (step slots 0 word new none) me)
   hold_allowed slots id me word new k even next room some_pass s r _ at _ =
       let v : V = me.0 in let f = r.seated id v at in let n : ℕ = length r.history in let found : ℕ = get_or s.words 0 0 in
@@ -120,7 +120,7 @@ module _ {M C R : Type 0} (steps : M → C → R → M → Type 0) (owes : R →
       subst (λ l. AllByRecursion (Owns (history ++ entry (number_of l) c r ∷ []) order seat_of id) (add_call l (entry (number_of l) c r))) (sym one)
       ((calls_by_own history p.pass c r ∙ ap (λ ys. ys ++ entry p.pass c r ∷ []) own.0, own.1, own.2, own.3), tt)
 
-  pub end_allowed : (slots id : ℕ) (me : Standing M C R) (h : Home M C R) (l : LastCall C R) (c : List (ℕ × S)) (p : PassLog C R) (m : M)
+  pub end_allowed : (slots id : ℕ) (me : AtSeat M C R) (h : Home M C R) (l : LastCall C R) (c : List (ℕ × S)) (p : PassLog C R) (m : M)
       → me.1 ≡ (0, Some h) ∷ c → h.last ≡ Some l → me.0.holding ≡ true → me.0.passes ≡ p ∷ [] → me.0.opening ≡ Some m
       → Run steps m (me.0.seen ++ entry (number_of me.0.passes) l.command.value l.reply.value ∷ []) h.machine
       → Allows Holds slots id me 0 (λ n. (n + 1) % 2 ^ 64) (end_of_turn (step slots 0 1 0 none) me)
@@ -170,6 +170,7 @@ module _ {M C R : Type 0} (steps : M → C → R → M → Type 0) (owes : R →
                 notices = f.notices;
                 told_notices = f.told_notices;
                 own = owns;
+                differ = differ_called v.passes e f.differ;
                 few = λ s b. (let k = f.few s b in let more = one_call_more v.passes p e (λ _. 1) one in let same = no_notice_more v.passes e (raised_at s b) in omega arith);
               })
               (λ j u other at_j. let g = r.seated j u at_j in record {
@@ -180,6 +181,7 @@ module _ {M C R : Type 0} (steps : M → C → R → M → Type 0) (owes : R →
                 notices = g.notices;
                 told_notices = g.told_notices;
                 own = all_map _ _ (λ b k. (calls_by_other r.history n b.pass command reply (λ q. other (sym k.2 ∙ (ap r.seat_of (sym q ∙ number) ∙ own.2))) ∙ k.0, k.1, k.2, k.3)) u.passes g.own;
+                differ = g.differ;
                 few = g.few;
               });
         },

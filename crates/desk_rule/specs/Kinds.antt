@@ -15,8 +15,8 @@ use Rattle.desk_rule.specs.Notices.{IsOrder, notice, OwedIn, OwnNotices, pending
 use Rattle.desk_rule.specs.Passes.{add_call, add_notice, number_of}
 
 -- a seat's view, and the slots that are out with it
-abbrev pub Standing : Type 0 → Type 0 → Type 0 → Type 0
-Standing M C R = Me (Option (Home M C R)) (View M C R)
+abbrev pub AtSeat : Type 0 → Type 0 → Type 0 → Type 0
+AtSeat M C R = Me (Option (Home M C R)) (View M C R)
 
 module _ {M C R : Type 0} where
   -- with this seen of the history and of the order of notices, which have all that it was told
@@ -33,8 +33,8 @@ module _ {M C R : Type 0} where
       record { opening = v.opening; first = v.first; holding = false; seen = v.seen ++ e ∷ []; told = []; notices = v.notices; told_notices = v.told_notices; passes = add_call v.passes e }
 
   -- one notice more, of its first pass, behind these
-  abbrev pub after_notice : View M C R → List Notice → Notice → View M C R
-  after_notice v before n = record { opening = v.opening; first = v.first; holding = v.holding; seen = v.seen; told = v.told; notices = before ++ n ∷ []; told_notices = []; passes = add_notice v.passes n }
+  abbrev pub with_notice : View M C R → List Notice → Notice → View M C R
+  with_notice v before n = record { opening = v.opening; first = v.first; holding = v.holding; seen = v.seen; told = v.told; notices = before ++ n ∷ []; told_notices = []; passes = add_notice v.passes n }
 
   -- a post of the call that ends what it has seen
   abbrev pub post_of : View M C R → ℕ → ℕ → ℕ → Notice
@@ -78,9 +78,9 @@ pub record Looks {M C R : Type 0} (steps : M → C → R → M → Type 0) (v : 
   pub own_notices : OwnNotices w.notices w.passes
 
 -- w is v after a notice, behind all that v saw of the order and was told: it found its word as those before it left it
-pub record Notices {M C R : Type 0} (v : View M C R) (n : Notice) (w : View M C R) : Type 0 where
+pub record MakesNotice {M C R : Type 0} (v : View M C R) (n : Notice) (w : View M C R) : Type 0 where
   pub before : List Notice
-  pub is : w ≡ after_notice v before n
+  pub is : w ≡ with_notice v before n
   pub seen : IsPrefix v.notices before
   pub told : IsPrefix v.told_notices before
   pub found : n.found ≡ pending_after before n.server
@@ -88,11 +88,11 @@ pub record Notices {M C R : Type 0} (v : View M C R) (n : Notice) (w : View M C 
   pub own : OwnNotices w.notices w.passes
 
 -- w is v after it took a pending word, which was found so: the history then has, for each bit, an entry that owes it
-pub record Takes {M C R : Type 0} (owes : R → ℕ) (v : View M C R) (server found : ℕ) (w : View M C R) : Type 0 where
+pub record TakesBits {M C R : Type 0} (owes : R → ℕ) (v : View M C R) (server found : ℕ) (w : View M C R) : Type 0 where
   pub es : List (Entry C R)
   pub seen : IsPrefix v.seen es
   pub told : IsPrefix v.told es
-  pub notices : Notices (with_seen v es) (take_of v server found) w
+  pub notices : MakesNotice (with_seen v es) (take_of v server found) w
   pub eight_bits : found < 256
   pub few : (b : ℕ) → taken_by w.passes server b ≤ 2 ^ 62
   pub owed : (b : ℕ) → bit_at found b ≡ 1 → OwedIn owes server b es
@@ -102,7 +102,7 @@ abbrev pub LastOwes : {M C R : Type 0} → (R → ℕ) → View M C R → ℕ �
 LastOwes {M} {C} {R} owes v owed = (es : List (Entry C R)) × (e : Entry C R) × (v.seen ≡ es ++ e ∷ []) × (e.pass ≡ number_of v.passes) × (owed ≡ owes e.reply)
 
 module _ {M C R : Type 0} (steps : M → C → R → M → Type 0) where
-  abbrev pub look : Step (Option (Home M C R)) → Standing M C R → ℕ → Standing M C R → Type 0
+  abbrev pub look : Step (Option (Home M C R)) → AtSeat M C R → ℕ → AtSeat M C R → Type 0
   look st m r m' = Looks steps m.0 r m.0.holding m'.0 × (m'.1 ≡ m.1) × (r ≤ 2 ^ 63)
 
   -- the machine comes out of the slot, as it is after the history
@@ -110,19 +110,19 @@ module _ {M C R : Type 0} (steps : M → C → R → M → Type 0) where
   GetsMachine v c w c' = (h : Home M C R) × (c' ≡ (0, Some h) ∷ c) × ((m : M) → v.opening ≡ Some m → Run steps m w.seen h.machine)
 
   -- where the word was as expected the turn is held; else it was looked at, and no more
-  abbrev pub hold : Step (Option (Home M C R)) → Standing M C R → ℕ → Standing M C R → Type 0
+  abbrev pub hold : Step (Option (Home M C R)) → AtSeat M C R → ℕ → AtSeat M C R → Type 0
   hold st m r m' =
       (r ≡ st.first → Looks steps m.0 r true m'.0 × GetsMachine m.0 m.1 m'.0 m'.1)
       × (r ≢ st.first → Looks steps m.0 r m.0.holding m'.0 × (m'.1 ≡ m.1))
 
 module _ {M C R : Type 0} where
   -- the call that the slot's last call names ends the history
-  abbrev pub end_of_turn : Step (Option (Home M C R)) → Standing M C R → ℕ → Standing M C R → Type 0
+  abbrev pub end_of_turn : Step (Option (Home M C R)) → AtSeat M C R → ℕ → AtSeat M C R → Type 0
   end_of_turn st m r m' = (h : Home M C R) (l : LastCall C R) (c : List (ℕ × Option (Home M C R))) → m.1 ≡ (0, Some h) ∷ c → h.last ≡ Some l
       → (m' ≡ (after_turn m.0 l.command.value l.reply.value, c)) × OwnCalls m'.0.seen m'.0.passes
 
-  abbrev pub post : Step (Option (Home M C R)) → Standing M C R → ℕ → Standing M C R → Type 0
-  post st m r m' = Notices m.0 (post_of m.0 (st.word - 1) st.first r) m'.0 × (m'.1 ≡ m.1)
+  abbrev pub post : Step (Option (Home M C R)) → AtSeat M C R → ℕ → AtSeat M C R → Type 0
+  post st m r m' = MakesNotice m.0 (post_of m.0 (st.word - 1) st.first r) m'.0 × (m'.1 ≡ m.1)
 
-  abbrev pub take : (R → ℕ) → Step (Option (Home M C R)) → Standing M C R → ℕ → Standing M C R → Type 0
-  take owes st m r m' = Takes owes m.0 (st.word - 1) r m'.0 × (m'.1 ≡ m.1)
+  abbrev pub take : (R → ℕ) → Step (Option (Home M C R)) → AtSeat M C R → ℕ → AtSeat M C R → Type 0
+  take owes st m r m' = TakesBits owes m.0 (st.word - 1) r m'.0 × (m'.1 ≡ m.1)

@@ -1,5 +1,6 @@
 -- What the passes did that sit at one seat.
-use Rattle.std.specs.Prelude.{ℕ, zero, suc, List, [], ◌∷◌, ◌++◌}
+use Rattle.std.specs.Prelude.{◌≢◌, ℕ, zero, suc, List, [], ◌∷◌, ◌++◌}
+use Rattle.std.specs.List.{AllByRecursion}
 use Rattle.desk_rule.specs.declared.entry.Entry.{Entry}
 use Rattle.desk_rule.specs.declared.notice.Notice.{Notice}
 use Rattle.desk_rule.specs.declared.view.PassLog.{PassLog}
@@ -25,6 +26,11 @@ module _ {C R : Type 0} where
   abbrev pub notices_of : List (PassLog C R) → List Notice
   notices_of [] = []
   notices_of (p ∷ others) = p.notices
+
+  -- no two of them have one number
+  abbrev pub AreDifferent : List (PassLog C R) → Type 0
+  AreDifferent [] = Unit {0}
+  AreDifferent (p ∷ others) = AllByRecursion (λ (q : PassLog C R). q.pass ≢ p.pass) others × AreDifferent others
 
   -- one more call, and one more notice, of the first pass
   abbrev pub add_call : List (PassLog C R) → Entry C R → List (PassLog C R)

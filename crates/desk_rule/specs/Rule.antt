@@ -14,7 +14,7 @@ use Rattle.desk_rule.specs.declared.table.Home.{Home}
 use Rattle.desk_rule.specs.declared.table.LastCall.{LastCall}
 use Rattle.desk_rule.specs.History.{calls_by, count_calls, Run, total_of, weigh_all}
 use Rattle.desk_rule.specs.Notices.{IsOrder, IsOwed, notices_by, pending_after, raised_by, weigh_notices}
-use Rattle.desk_rule.specs.Passes.{fresh}
+use Rattle.desk_rule.specs.Passes.{AreDifferent, fresh}
 
 -- the low bit of word 0, by the seat that holds the turn
 abbrev pub turn_bit : maybe.Option ℕ → ℕ
@@ -54,8 +54,9 @@ pub record Seated {M C R : Type 0} (opening : M) (first : ℕ) (history : List (
   -- and of the notices it begins their order
   pub notices : IsPrefix v.notices order
   pub told_notices : IsPrefix v.told_notices order
-  -- each pass that sits here has just its own entries, and its own notices
+  -- each pass that sits here has a number of its own, and just its own entries and notices
   pub own : AllByRecursion (λ (p : PassLog C R). (calls_by p.pass history ≡ p.calls) × (notices_by p.pass order ≡ p.notices) × (seat_of p.pass ≡ j) × (p.pass < passes)) v.passes
+  pub differ : AreDifferent v.passes
   -- no bit was raised here more often than the passes here called
   pub few : (s b : ℕ) → raised_by v.passes s b ≤ count_calls v.passes
 

@@ -2,7 +2,7 @@
 
 ghost use Rattle.std.specs.Prelude.{◌≡◌, ℕ, ◌^◌, ◌<◌, ◌≤◌, true, length, is_some};
 ghost use Rattle.desk_rule.specs.History.{Stepped, count_calls};
-ghost use Rattle.desk_rule.specs.Kinds.{LastOwes, Looks, Notices, Takes, post_of};
+ghost use Rattle.desk_rule.specs.Kinds.{LastOwes, Looks, MakesNotice, TakesBits, post_of};
 ghost use Rattle.desk_rule.specs.Notices.{bits_for, raised_by};
 ghost use Rattle.desk_rule.specs.Seat.{IsAtTable, SameSeat};
 
@@ -32,12 +32,11 @@ pub fn post<M: Machine>(
     requires at { IsAtTable shared.now.table_id seat.old }
     requires server { server < 16 }
     requires opened { is_some seat.old.me.0.opening ≡ true }
-    requires one_pass { length seat.old.me.0.passes ≡ 1 }
     requires owed { (owed : ℕ) × LastOwes M.owes seat.old.me.0 owed × (bits ≡ bits_for owed server) × (bits < 256) }
     requires few { (b : ℕ) → raised_by seat.old.me.0.passes server b < count_calls seat.old.me.0.passes }
     ensures same { SameSeat seat.old seat.new × (seat.new.me.1 ≡ seat.old.me.1) }
     ensures word { result < 2 ^ 64 }
-    ensures posted { Notices seat.old.me.0 (post_of seat.old.me.0 server bits result) seat.new.me.0 }
+    ensures posted { MakesNotice seat.old.me.0 (post_of seat.old.me.0 server bits result) seat.new.me.0 }
 {
     shared.fetch_or::<PostBits>(seat, server + 1, bits)
 }
@@ -47,9 +46,9 @@ pub fn post<M: Machine>(
 pub fn take<M: Machine>(shared: &DeskShared<M>, seat: &mut DeskSeat<M>, server: usize) -> u64
     requires at { IsAtTable shared.now.table_id seat.old }
     requires server { server < 16 }
-    requires one_pass { length seat.old.me.0.passes ≡ 1 }
+    requires some_pass { 0 < length seat.old.me.0.passes }
     ensures same { SameSeat seat.old seat.new × (seat.new.me.1 ≡ seat.old.me.1) }
-    ensures taken { Takes M.owes seat.old.me.0 server result seat.new.me.0 }
+    ensures taken { TakesBits M.owes seat.old.me.0 server result seat.new.me.0 }
 {
     shared.swap::<TakeBits>(seat, server + 1, 0)
 }

@@ -28,7 +28,7 @@ impl SharedStore {
 }
 
 impl Machine for SharedStore {
-    ghost use Rattle.ds_content.specs.Stands.{Stands};
+    ghost use Rattle.ds_content.specs.Stands.{ContentStands};
     ghost use Rattle.ds_machine.specs.Machine.{Step};
     ghost use Rattle.ds_machine.specs.Owed.{owed_by};
     ghost use Rattle.ds_machine.specs.State.{State};
@@ -39,7 +39,7 @@ impl Machine for SharedStore {
 
     ghost State = { State };
 
-    ghost stands = { λ shared s. Stands shared.store.value s };
+    ghost stands = { λ shared s. ContentStands shared.store.value s };
 
     ghost steps = { Step };
 

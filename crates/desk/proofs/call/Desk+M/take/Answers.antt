@@ -22,8 +22,8 @@ returns-clause-sees g c = let small = c.if-server-ge16.false in let t = c.take-b
   sees_taken _ _ _ _ _ c.take-bits.new.seat.me.0 _ _ _ _ t.taken l.looks (l.same.0.0 ∙ t.same.0.0) (rests_facts c.args.pass.now.seat.me.0 c.args.pass.now.resting).1,
 )
 
-pub take-bits-requires-clause-one_pass : goal.take-bits-requires-clause-one_pass
-take-bits-requires-clause-one_pass g c = (rests_facts c.args.pass.now.seat.me.0 c.args.pass.now.resting).1
+pub take-bits-requires-clause-some_pass : goal.take-bits-requires-clause-some_pass
+take-bits-requires-clause-some_pass g c = let one = (rests_facts c.args.pass.now.seat.me.0 c.args.pass.now.resting).1 in omega arith
 
 pub returns-clause-taken : goal.returns-clause-taken
 returns-clause-taken g c = let t = c.take-bits.ensures.taken in let l = c.look-floor.ensures.looks in let low = t.eight_bits in
