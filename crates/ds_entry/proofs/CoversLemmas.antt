@@ -15,20 +15,17 @@ use Rattle.ds_names.proofs.OrderLemmas.{keys_total, exact_keys, versions_total, 
 use Rattle.ds_entry.specs.Change.{ChangeRecord}
 use Rattle.ds_entry.specs.Covers.{covers, is_at_most, change_cmp}
 use Rattle.ds_entry.specs.SingleNumbered.{IsSingleNumbered}
-
-is_eq-equal : (o : Ordering) → is_eq o ≡ true → o ≡ Equal
-is_eq-equal Less e = cc
-is_eq-equal Equal e = refl
-is_eq-equal Greater e = cc
+use Rattle.std.proofs.lemmas.Bool.{and_parts, and_from}
+use Rattle.ds_names.proofs.Tests.{equal_is}
 
 pub same_key : (a b : Key) → eq_by_cmp key_cmp a b ≡ true → a ≡ b
-same_key a b e = exact_keys a b (is_eq-equal (key_cmp a b) e)
+same_key a b e = exact_keys a b (equal_is (key_cmp a b) e)
 
 pub same_key-refl : (a b : Key) → a ≡ b → eq_by_cmp key_cmp a b ≡ true
 same_key-refl a b e = subst (λ (k : Key). eq_by_cmp key_cmp a k ≡ true) e (ap is_eq (tied_itself keys_total a))
 
 pub same_name : (m n : List ℕ) → eq_by_cmp name_cmp m n ≡ true → m ≡ n
-same_name m n e = exact_bytes m n (is_eq-equal (name_cmp m n) e)
+same_name m n e = exact_bytes m n (equal_is (name_cmp m n) e)
 
 pub same_name-refl : (m n : List ℕ) → m ≡ n → eq_by_cmp name_cmp m n ≡ true
 same_name-refl m n e = subst (λ (k : List ℕ). eq_by_cmp name_cmp m k ≡ true) e (ap is_eq (tied_itself nat_list_cmp_total m))
@@ -68,20 +65,13 @@ pub is_at_most-total : (v w : Version) → is_at_most v w ≡ false → is_at_mo
 is_at_most-total v w e = turned (version_cmp v w) (version_cmp w v) (versions_total.antisymm v w) e
 
 -- ---- covers, and its parts
-both : (a b : Bool) → a && b ≡ true → (a ≡ true) × (b ≡ true)
-both true b e = (refl, e)
-both false b e = cc
-
-made : (a b : Bool) → a ≡ true → b ≡ true → a && b ≡ true
-made true b e f = f
-made false b e f = cc
 
 pub covers-key : (d c : ChangeRecord) → covers d c ≡ true → c.key ≡ d.key
-covers-key d c h = same_key c.key d.key (both (eq_by_cmp key_cmp c.key d.key) (eq_by_cmp name_cmp c.owner d.owner && is_at_most c.version d.version) h).0
+covers-key d c h = same_key c.key d.key (and_parts (eq_by_cmp key_cmp c.key d.key) (eq_by_cmp name_cmp c.owner d.owner && is_at_most c.version d.version) h).0
 
 covers-rest : (d c : ChangeRecord) → covers d c ≡ true → (eq_by_cmp name_cmp c.owner d.owner ≡ true) × (is_at_most c.version d.version ≡ true)
 covers-rest d c h =
-    both (eq_by_cmp name_cmp c.owner d.owner) (is_at_most c.version d.version) (both (eq_by_cmp key_cmp c.key d.key) (eq_by_cmp name_cmp c.owner d.owner && is_at_most c.version d.version) h).1
+    and_parts (eq_by_cmp name_cmp c.owner d.owner) (is_at_most c.version d.version) (and_parts (eq_by_cmp key_cmp c.key d.key) (eq_by_cmp name_cmp c.owner d.owner && is_at_most c.version d.version) h).1
 
 pub covers-owner : (d c : ChangeRecord) → covers d c ≡ true → c.owner ≡ d.owner
 covers-owner d c h = same_name c.owner d.owner (covers-rest d c h).0
@@ -91,8 +81,8 @@ covers-version d c h = (covers-rest d c h).1
 
 pub covers-make : (d c : ChangeRecord) → c.key ≡ d.key → c.owner ≡ d.owner → is_at_most c.version d.version ≡ true → covers d c ≡ true
 covers-make d c k o v =
-    made (eq_by_cmp key_cmp c.key d.key) (eq_by_cmp name_cmp c.owner d.owner && is_at_most c.version d.version) (same_key-refl c.key d.key k)
-    (made (eq_by_cmp name_cmp c.owner d.owner) (is_at_most c.version d.version) (same_name-refl c.owner d.owner o) v)
+    and_from (eq_by_cmp key_cmp c.key d.key) (eq_by_cmp name_cmp c.owner d.owner && is_at_most c.version d.version) (same_key-refl c.key d.key k)
+    (and_from (eq_by_cmp name_cmp c.owner d.owner) (is_at_most c.version d.version) (same_name-refl c.owner d.owner o) v)
 
 -- of two changes of one key and one owner, one covers the other
 pub covers-total : (c d : ChangeRecord) → c.key ≡ d.key → c.owner ≡ d.owner → covers d c ≡ false → covers c d ≡ true
@@ -132,4 +122,4 @@ changes_total = on_total (λ (c : ChangeRecord). c.key) keys_total
 
 -- what covers a change stands at its place in the order
 pub covers-tied : (d c : ChangeRecord) → covers d c ≡ true → change_cmp c d ≡ Equal
-covers-tied d c h = is_eq-equal (change_cmp c d) (both (eq_by_cmp key_cmp c.key d.key) (eq_by_cmp name_cmp c.owner d.owner && is_at_most c.version d.version) h).0
+covers-tied d c h = equal_is (change_cmp c d) (and_parts (eq_by_cmp key_cmp c.key d.key) (eq_by_cmp name_cmp c.owner d.owner && is_at_most c.version d.version) h).0

@@ -6,7 +6,7 @@ use Rattle.std.specs.Prelude.{nat_le}
 use Rattle.std.specs.Ordering.{nat_cmp, eq_by_cmp, ordering_then, ordering_reverse, is_le, MatchOrdering}
 use Rattle.std.specs.List.{Contains}
 use Rattle.std.specs.Cmp.{IsTotalOrder}
-use Rattle.std.proofs.lemmas.Bool.{leb-true, le-leb, leb-false}
+use Rattle.std.proofs.lemmas.Bool.{leb-true, le-leb, leb-false, and_parts, and_from}
 use Rattle.std.proofs.lemmas.Cmp.{nat_list_cmp_total, tied_itself, ranked}
 use Rattle.std.proofs.lemmas.Map.Lookups.{exact_bytes}
 use Rattle.ds_names.specs.declared.key.Key.{Key}
@@ -15,7 +15,7 @@ use Rattle.ds_names.specs.Key.{name_cmp}
 use Rattle.ds_entry.specs.Change.{ChangeRecord}
 use Rattle.ds_entry.specs.Covers.{is_at_most}
 use Rattle.ds_entry.specs.Item.{item_cmp}
-use Rattle.ds_entry.specs.Void.{is_label, voids}
+use Rattle.ds_entry.specs.Void.{voids}
 use Rattle.ds_entry.specs.ItemCovers.{covers, AreSingleNumbered}
 use Rattle.ds_entry.specs.CoverLaws.{CoversIsReflexive, CoversIsTransitive, CoversKeepsQueries, CoversIsExact, CoversNoneHeld}
 use Rattle.ds_entry.specs.declared.floor.Floor.{Floor}
@@ -24,24 +24,17 @@ use Rattle.ds_entry.specs.declared.item.Item.TheVariants.{Change as Changed, Flo
 use Rattle.ds_entry.proofs.CoversLemmas as changes
 use Rattle.ds_entry.proofs.CoversLemmas.{same_name, same_name-refl, covers-key, covers-owner, covers-version, is_at_most-antisym, changes_total}
 use Rattle.ds_entry.proofs.OrderedLemmas.{tied_once}
-
-both : (a b : Bool) → a && b ≡ true → (a ≡ true) × (b ≡ true)
-both true b e = (refl, e)
-both false b e = cc
-
-made : (a b : Bool) → a ≡ true → b ≡ true → a && b ≡ true
-made true b e f = f
-made false b e f = cc
+use Rattle.ds_names.specs.Kind.{is_label}
 
 -- ---- of one owner, and not above
 
 pub below : (owner other : List ℕ) (n m : ℕ) → eq_by_cmp name_cmp owner other && nat_le n m ≡ true → (owner ≡ other) × (n ≤ m)
 below owner other n m h =
-    let b = both (eq_by_cmp name_cmp owner other) (nat_le n m) h in
+    let b = and_parts (eq_by_cmp name_cmp owner other) (nat_le n m) h in
     (same_name owner other b.0, leb-true n m b.1)
 
 pub below-make : (owner other : List ℕ) (n m : ℕ) → owner ≡ other → n ≤ m → eq_by_cmp name_cmp owner other && nat_le n m ≡ true
-below-make owner other n m e l = made (eq_by_cmp name_cmp owner other) (nat_le n m) (same_name-refl owner other e) (le-leb n m l)
+below-make owner other n m e l = and_from (eq_by_cmp name_cmp owner other) (nat_le n m) (same_name-refl owner other e) (le-leb n m l)
 
 -- ---- a change that is void
 
@@ -52,13 +45,13 @@ pub record Voids (f : Floor) (c : ChangeRecord) : Type 0 where
 
 pub voids-is : (f : Floor) (c : ChangeRecord) → voids f c ≡ true → Voids f c
 voids-is f c h =
-    let b = both (not (is_label c.key.kind)) (eq_by_cmp name_cmp c.owner f.owner && nat_le c.version.epoch f.generation) h in
+    let b = and_parts (not (is_label c.key.kind)) (eq_by_cmp name_cmp c.owner f.owner && nat_le c.version.epoch f.generation) h in
     let o = below c.owner f.owner c.version.epoch f.generation b.1 in
     record { kind = b.0; owner = o.0; epoch = o.1 }
 
 pub voids-make : (f : Floor) (c : ChangeRecord) → Voids f c → voids f c ≡ true
 voids-make f c v =
-    made (not (is_label c.key.kind)) (eq_by_cmp name_cmp c.owner f.owner && nat_le c.version.epoch f.generation) v.kind
+    and_from (not (is_label c.key.kind)) (eq_by_cmp name_cmp c.owner f.owner && nat_le c.version.epoch f.generation) v.kind
     (below-make c.owner f.owner c.version.epoch f.generation v.owner v.epoch)
 
 epoch_at_most : (v w : Version) → is_at_most v w ≡ true → v.epoch ≤ w.epoch

@@ -8,7 +8,12 @@ use Rattle.std.specs.List.Sorted.{IsStrictlySortedBy}
 use Rattle.std.proofs.lemmas.Cmp.{tied_itself, tied_back}
 use Rattle.ds_entry.proofs.Members.{In, In-from_Contains, Contains-from_In}
 
-from_along : {X : Type 0} (P : X → Type 0) (xs : List X) (x : X) → AllByRecursion P xs → In x xs → P x
+-- what holds of each element holds all along the list
+pub along : {X : Type 0} (P : X → Type 0) (xs : List X) → ((x : X) → In x xs → P x) → AllByRecursion P xs
+along P [] f = tt
+along P (x ∷ xs) f = (f x (inl refl), along P xs (λ y h. f y (inr h)))
+
+pub from_along : {X : Type 0} (P : X → Type 0) (xs : List X) (x : X) → AllByRecursion P xs → In x xs → P x
 from_along P [] x a h = absurd h
 from_along P (y ∷ ys) x a (inl e) = subst P (sym e) a.0
 from_along P (y ∷ ys) x a (inr h) = from_along P ys x a.1 h

@@ -1,6 +1,6 @@
 -- What a change is.
-use Rattle.std.specs.Prelude.{◌≡◌, ◌≢◌, ℕ, ◌<◌, ◌≤◌, ◌^◌, List, [], ◌∷◌}
-use Rattle.ds_names.specs.Name.{IsName}
+use Rattle.std.specs.Prelude.{◌≡◌, ◌≢◌, ℕ, ◌<◌, ◌≤◌, ◌^◌, ◌==◌, Bool, true, false, ◌&&◌, List}
+use Rattle.ds_names.specs.Name.{IsName, rs_name}
 use Rattle.ds_names.specs.Endpoint.{IsEndpoint}
 use Rattle.ds_names.specs.declared.kind.Kind.{Kind}
 use Rattle.ds_names.specs.declared.kind.Kind.TheVariants.{Label, U32, Str, Mem}
@@ -11,6 +11,7 @@ use Rattle.ds_entry.specs.declared.body.Value.{Value}
 use Rattle.ds_entry.specs.declared.body.Value.TheVariants as values
 use Rattle.ds_entry.specs.declared.body.Body.{Body}
 use Rattle.ds_entry.specs.declared.body.Body.TheVariants.{Put, Gone}
+use Rattle.ds_names.specs.Kind.{kind_place}
 
 -- the four parts of a change
 pub record ChangeRecord : Type 0 where
@@ -23,10 +24,6 @@ pub record ChangeRecord : Type 0 where
 abbrev pub change_of : Key → List ℕ → Version → Body → ChangeRecord
 change_of key owner version body = record { key = key; owner = owner; version = version; body = body }
 
--- `rs`, the label of the reincarnation server
-abbrev pub rs_name : List ℕ
-rs_name = 114 ∷ 115 ∷ []
-
 -- the kind of key that a value stands under
 abbrev pub kind_of : Value → Kind
 kind_of (values.Label e) = Label
@@ -38,6 +35,11 @@ kind_of (values.Mem b) = Mem
 abbrev pub IsOfKind : Kind → Body → Type 0
 IsOfKind kind (Put value) = kind_of value ≡ kind
 IsOfKind kind Gone = Unit {0}
+
+-- whether it has
+abbrev pub is_of_kind : Kind → Body → Bool
+is_of_kind kind (Put value) = kind_place (kind_of value) == kind_place kind
+is_of_kind kind Gone = true
 
 -- the value is one that its reader accepts
 abbrev pub IsValue : Value → Type 0
@@ -70,6 +72,12 @@ IsLabelBody version (Put (values.U32 n)) = ⊥
 IsLabelBody version (Put (values.Str t)) = ⊥
 IsLabelBody version (Put (values.Mem b)) = ⊥
 IsLabelBody version Gone = version.seq ≡ 1
+
+-- whether it is
+abbrev pub is_label_body : Version → Body → Bool
+is_label_body version (Put (values.Label e)) = version.seq == 0 && version.epoch == e.generation
+is_label_body version (Put _) = false
+is_label_body version Gone = version.seq == 1
 
 -- RS alone publishes labels, never its own, and each from generation 1 on
 pub record IsLabelChange (c : ChangeRecord) : Type 0 where

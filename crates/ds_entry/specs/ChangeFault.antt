@@ -6,7 +6,7 @@ use Rattle.ds_entry.specs.declared.change.EntryFault.TheVariants.{BadKind, BadLa
 use Rattle.ds_entry.specs.Change.{ChangeRecord, IsOfKind, IsLabelChange, IsBelowSweeps}
 
 -- the fault is the first that the parts have
-abbrev pub IsFaultOf : EntryFault → ChangeRecord → Type 0
-IsFaultOf BadKind c = ¬ IsOfKind c.key.kind c.body
-IsFaultOf BadLabel c = IsOfKind c.key.kind c.body × (c.key.kind ≡ Label) × (¬ IsLabelChange c)
-IsFaultOf BadVersion c = IsOfKind c.key.kind c.body × (c.key.kind ≢ Label) × (¬ IsBelowSweeps c.version c.body)
+abbrev pub IsEntryFault : EntryFault → ChangeRecord → Type 0
+IsEntryFault BadKind c = ¬ IsOfKind c.key.kind c.body
+IsEntryFault BadLabel c = IsOfKind c.key.kind c.body × (c.key.kind ≡ Label) × (¬ IsLabelChange c)
+IsEntryFault BadVersion c = IsOfKind c.key.kind c.body × (c.key.kind ≢ Label) × (¬ IsBelowSweeps c.version c.body)

@@ -7,5 +7,7 @@ pub mod SingleNumbered
 pub mod Floor
 pub mod Item
 pub mod Void
+pub mod Left
+pub mod Under
 pub mod ItemCovers
 pub mod CoverLaws

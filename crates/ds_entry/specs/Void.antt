@@ -1,21 +1,13 @@
 -- When a floor makes a change void.
-use Rattle.std.specs.Prelude.{◌≡◌, Bool, true, false, not, ◌&&◌, nat_le, List, Contains}
+use Rattle.std.specs.Prelude.{◌≡◌, Bool, false, not, ◌&&◌, nat_le, List, Contains}
 use Rattle.std.specs.List.{list_any}
 use Rattle.std.specs.Ordering.{eq_by_cmp}
-use Rattle.ds_names.specs.declared.kind.Kind.{Kind}
-use Rattle.ds_names.specs.declared.kind.Kind.TheVariants.{Label, U32, Str, Mem}
 use Rattle.ds_names.specs.Key.{name_cmp}
 use Rattle.ds_entry.specs.Change.{ChangeRecord}
 use Rattle.ds_entry.specs.declared.floor.Floor.{Floor}
 use Rattle.ds_entry.specs.declared.item.Item.{Item}
 use Rattle.ds_entry.specs.declared.item.Item.TheVariants.{Change as Changed, Floor as Floored}
-
--- the kind is a label's
-abbrev pub is_label : Kind → Bool
-is_label Label = true
-is_label U32 = false
-is_label Str = false
-is_label Mem = false
+use Rattle.ds_names.specs.Kind.{is_label}
 
 -- the change is none of a label, is of the floor's owner, and its epoch isn't above the floor's generation
 abbrev pub voids : Floor → ChangeRecord → Bool

@@ -1,11 +1,13 @@
 //! What a change says of its key.
 
-ghost use Rattle.std.specs.Prelude.{◌≡◌, IfOk, IsOk};
-ghost use Rattle.ds_entry.specs.Change.{kind_of, IsValue, IsInPlace, IsBodyInPlace};
+ghost use Rattle.std.specs.Prelude.{◌≡◌, ◌<◌, ◌^◌, ◌↔◌, IsTrue, IfOk, IsOk};
+ghost use Rattle.ds_entry.specs.Change.{kind_of, is_of_kind, is_label_body, IsOfKind, IsLabelBody, IsValue, IsBody, IsInPlace, IsBodyInPlace};
+ghost use Rattle.ds_entry.specs.Left.{value_in};
+ghost use Rattle.std.specs.Option.{option_copied};
 
 use crate::blob::Blob;
 use crate::text::Text;
-use ds_names::{Endpoint, Kind, NoRoom};
+use ds_names::{Endpoint, Kind, NoRoom, Version};
 use std::alloc::Global;
 
 /// The value of an entry: of a label the endpoint of its service, or a 32-bit unsigned number, a string, or
@@ -66,6 +68,45 @@ impl Value {
 }
 
 impl Body {
+    /// The value that a put leaves; a tombstone leaves none.
+    pub fn value(&self) -> Option<&Value>
+        ensures { option_copied result ≡ value_in self.now }
+    {
+        match self {
+            Body::Put(value) => Some(value),
+            Body::Gone => None,
+        }
+    }
+
+    /// Whether it may stand under a key of the kind: a put has a value of it.
+    pub fn is_of_kind(&self, kind: Kind) -> bool
+        ensures value { result ≡ is_of_kind kind self.now }
+        ensures kind { IsTrue result ↔ IsOfKind kind self.now }
+        ensures valid { IsBody self.now }
+    {
+        match self {
+            Body::Put(value) => value.kind() == kind,
+            Body::Gone => true,
+        }
+    }
+
+    /// Whether a label may have it at the version: it is put with number 0, under its endpoint's generation, and is gone with
+    /// number 1.
+    pub fn fits_label(&self, version: &Version) -> bool
+        ensures value { result ≡ is_label_body version.now self.now }
+        ensures rule { IsTrue result ↔ IsLabelBody version.now self.now }
+        ensures seq { version.now.seq < 2 ^ 32 }
+    {
+        let seq = version.seq;
+        match self {
+            Body::Put(Value::Label(endpoint)) => {
+                seq == 0 && version.epoch == endpoint.generation()
+            }
+            Body::Put(Value::U32(_) | Value::Str(_) | Value::Mem(_)) => false,
+            Body::Gone => seq == 1,
+        }
+    }
+
     /// The same body again. The copy of a tombstone, or of a put of a label or a number, takes no
     /// memory.
     pub fn copy(&self, alloc: Global) -> Result<Body, NoRoom>

@@ -1,11 +1,11 @@
 //! Changes.
 
 ghost use Rattle.std.specs.Prelude.{◌≡◌, ◌<◌, ◌≤◌, ◌^◌, ◌↔◌, IsTrue, IsOk, IfOk, IfErr, MatchOption};
-ghost use Rattle.ds_names.specs.Name.{IsName};
-ghost use Rattle.ds_entry.specs.Change.{ChangeRecord, change_of, rs_name, IsChange, IsLabelChange, IsLabelBody, IsBelowSweeps, IsOfKind, IsBody, IsBodyInPlace};
-ghost use Rattle.ds_entry.specs.ChangeFault.{IsFaultOf};
+ghost use Rattle.ds_names.specs.Name.{IsName, rs_name};
+ghost use Rattle.ds_entry.specs.Change.{ChangeRecord, change_of, IsChange, IsLabelChange, IsLabelBody, IsBelowSweeps, IsOfKind, IsBody, IsBodyInPlace};
+ghost use Rattle.ds_entry.specs.ChangeFault.{IsEntryFault};
 
-use crate::body::{Body, Value};
+use crate::body::Body;
 use ds_names::{Key, Kind, Name, NoRoom, Version};
 use std::alloc::Global;
 use std::marker::Model;
@@ -24,16 +24,6 @@ pub enum EntryFault {
     /// A put of another kind with the sequence number 4294967295, which only tombstones of sweeps have.
     #[error("the sequence number is left to sweeps")]
     BadVersion,
-}
-
-/// The name of the reincarnation server, which owns the labels.
-pub fn rs_name() -> Name
-    ensures { result ≡ rs_name }
-{
-    match Name::read(b"rs") {
-        Ok(name) => name,
-        Err(_) => unreachable!(),
-    }
 }
 
 /// One change of the entry under a key: who owns it, which version it is, and what it leaves there.
@@ -76,7 +66,7 @@ impl Change {
     pub fn make(key: Key, owner: Name, version: Version, body: Body) -> Result<Change, EntryFault>
         ensures made { IfOk result (λ change. change ≡ change_of key owner version body) }
         ensures change { IfOk result IsChange }
-        ensures refused { IfErr result (λ fault. IsFaultOf fault (change_of key owner version body)) }
+        ensures refused { IfErr result (λ fault. IsEntryFault fault (change_of key owner version body)) }
     {
         match fault_of(&key, &owner, &version, &body) {
             Some(fault) => Err(fault),
@@ -134,11 +124,11 @@ impl Change {
 
 // The first cause for which the parts make no change.
 fn fault_of(key: &Key, owner: &Name, version: &Version, body: &Body) -> Option<EntryFault>
-    ensures { MatchOption result (IsChange (change_of key.now owner.now version.now body.now)) (λ fault. IsFaultOf fault (change_of key.now owner.now version.now body.now)) }
+    ensures { MatchOption result (IsChange (change_of key.now owner.now version.now body.now)) (λ fault. IsEntryFault fault (change_of key.now owner.now version.now body.now)) }
 {
     let is_label = is_label_change(key, owner, version, body);
     let is_below = is_below_sweeps(version, body);
-    if !is_of_kind(body, key.kind) {
+    if !body.is_of_kind(key.kind) {
         return Some(EntryFault::BadKind);
     }
     match key.kind {
@@ -146,17 +136,6 @@ fn fault_of(key: &Key, owner: &Name, version: &Version, body: &Body) -> Option<E
         Kind::Label => None,
         Kind::U32 | Kind::Str | Kind::Mem if !is_below => Some(EntryFault::BadVersion),
         Kind::U32 | Kind::Str | Kind::Mem => None,
-    }
-}
-
-// Whether a put has a value of the kind.
-fn is_of_kind(body: &Body, kind: Kind) -> bool
-    ensures kind { IsTrue result ↔ IsOfKind kind body.now }
-    ensures valid { IsBody body.now }
-{
-    match body {
-        Body::Put(value) => value.kind() == kind,
-        Body::Gone => true,
     }
 }
 
@@ -168,25 +147,11 @@ fn is_label_change(key: &Key, owner: &Name, version: &Version, body: &Body) -> b
     ensures epoch { version.now.epoch ≤ 2097151 }
     ensures seq { version.now.seq < 2 ^ 32 }
 {
-    let rs = b"rs".as_slice();
-    let name = key.name.bytes();
-    let owner = owner.bytes();
+    let is_owned = owner.is_rs();
+    let is_rs = key.name.is_rs();
     let epoch = version.epoch.number();
-    let fits = is_label_body(version, body);
-    owner == rs && name != rs && epoch != 0 && fits
-}
-
-// Whether a label may be put, or be gone, at the version.
-fn is_label_body(version: &Version, body: &Body) -> bool
-    ensures rule { IsTrue result ↔ IsLabelBody version.now body.now }
-    ensures seq { version.now.seq < 2 ^ 32 }
-{
-    let seq = version.seq;
-    match body {
-        Body::Put(Value::Label(endpoint)) => seq == 0 && version.epoch == endpoint.generation(),
-        Body::Put(Value::U32(_) | Value::Str(_) | Value::Mem(_)) => false,
-        Body::Gone => seq == 1,
-    }
+    let fits = body.fits_label(version);
+    is_owned && !is_rs && epoch != 0 && fits
 }
 
 // Whether an entry of another kind than label may have the version.

@@ -4,10 +4,10 @@ ghost use Rattle.std.specs.Prelude.{◌≡◌};
 ghost use Rattle.std.specs.Ordering.{eq_by_cmp};
 ghost use Rattle.ds_names.specs.Key.{name_cmp};
 ghost use Rattle.ds_entry.specs.Floor.{IsFloor};
-ghost use Rattle.ds_entry.specs.Void.{is_label, voids};
+ghost use Rattle.ds_entry.specs.Void.{voids};
 
 use crate::change::Change;
-use ds_names::{Generation, Kind, Name};
+use ds_names::{Generation, Name};
 use std::cmp::Ordering;
 
 /// A floor under an owner's entries (of this project): those of the owner's generations up to this one are void,
@@ -30,7 +30,7 @@ impl Floor {
     {
         let epoch = change.version().epoch.number();
         let generation = self.generation.number();
-        !is_label(change.key().kind)
+        !change.key().kind.is_label()
             && is_same_name(change.owner(), &self.owner)
             && epoch <= generation
     }
@@ -43,16 +43,6 @@ impl Floor {
         let _owner = self.owner.bytes();
         let _generation = self.generation.number();
         *self
-    }
-}
-
-// Whether the kind is a label's.
-fn is_label(kind: Kind) -> bool
-    ensures { result ≡ is_label kind }
-{
-    match kind {
-        Kind::Label => true,
-        Kind::U32 | Kind::Str | Kind::Mem => false,
     }
 }
 

@@ -16,7 +16,7 @@ mod text;
 
 pub use blob::{Blob, BlobFault};
 pub use body::{Body, Value};
-pub use change::{Change, EntryFault, rs_name};
+pub use change::{Change, EntryFault};
 pub use floor::Floor;
 pub use item::Item;
 pub use items::Items;

@@ -1,5 +1,5 @@
 -- What took effect in a store.
-use Rattle.std.specs.Prelude.{ℕ, ◌+◌, ◌-◌, ◌^◌, Bool, true, List, [], ◌∷◌, ◌++◌, length, drop}
+use Rattle.std.specs.Prelude.{ℕ, ◌+◌, ◌-◌, Bool, true, List, [], ◌∷◌, ◌++◌, length, drop}
 use Rattle.ds_names.specs.declared.key.Key.{Key}
 use Rattle.ds_entry.specs.declared.item.Item.{Item}
 
@@ -13,17 +13,13 @@ pub record Feed : Type 0 where
   -- by which one run of the store is told from an earlier one
   pub incarnation : ℕ
 
--- the most that positions reach
-abbrev pub last_place : ℕ
-last_place = 2 ^ 62
-
 -- nothing took effect yet
-abbrev pub opening : ℕ → ℕ → ℕ → Feed
-opening incarnation first ring = record { accepted = []; first = first; ring = ring; incarnation = incarnation }
+abbrev pub opening_feed : ℕ → ℕ → ℕ → Feed
+opening_feed incarnation first ring = record { accepted = []; first = first; ring = ring; incarnation = incarnation }
 
 -- the same store, opened again as another incarnation
 abbrev pub restarted : Feed → ℕ → Feed
-restarted f incarnation = opening incarnation f.first f.ring
+restarted f incarnation = opening_feed incarnation f.first f.ring
 
 -- one more item takes effect
 abbrev pub accepts : Feed → Item → Feed

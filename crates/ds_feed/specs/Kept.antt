@@ -4,7 +4,8 @@ use Rattle.ds_entry.specs.declared.item.Item.{Item}
 use Rattle.ds_feed.specs.declared.cursor.Cursor.{Cursor}
 use Rattle.ds_feed.specs.declared.journal.OpenFault.{OpenFault}
 use Rattle.ds_feed.specs.declared.journal.OpenFault.TheVariants.{BadRing, BadFirst, NoRoom}
-use Rattle.ds_feed.specs.Feed.{Feed, position, last_place}
+use Rattle.ds_feed.specs.Feed.{Feed, position}
+use Rattle.ds_names.specs.Limits.{last_place}
 
 -- what contracts see of a journal
 pub record Kept : Type 0 where
@@ -44,7 +45,7 @@ abbrev pub cursor_of : Kept → Cursor
 cursor_of j = record { incarnation = j.incarnation; position = j.position }
 
 -- why no journal is made: first for the ring, then for the first position; memory is wanting only where neither stands
-abbrev pub IsOpenFault : OpenFault → ℕ → ℕ → Type 0
-IsOpenFault BadRing first ring = ¬ IsRing ring
-IsOpenFault BadFirst first ring = IsRing ring × (last_place < first)
-IsOpenFault NoRoom first ring = IsRing ring × (first ≤ last_place)
+abbrev pub IsJournalFault : OpenFault → ℕ → ℕ → Type 0
+IsJournalFault BadRing first ring = ¬ IsRing ring
+IsJournalFault BadFirst first ring = IsRing ring × (last_place < first)
+IsJournalFault NoRoom first ring = IsRing ring × (first ≤ last_place)

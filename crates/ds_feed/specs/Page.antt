@@ -15,10 +15,10 @@ is_floor (Floored f) = true
 
 -- the item is for a page behind this key, or for the first page where there is none: a change whose key is greater;
 -- floors stand before all keys, so they are for the first page alone
-abbrev pub is_behind : Option Key → Item → Bool
-is_behind None i = true
-is_behind (Some after) (Changed c) = is_lt (key_cmp after c.key)
-is_behind (Some after) (Floored f) = false
+abbrev pub is_behind_key : Option Key → Item → Bool
+is_behind_key None i = true
+is_behind_key (Some after) (Changed c) = is_lt (key_cmp after c.key)
+is_behind_key (Some after) (Floored f) = false
 
 -- a snapshot: all that is held and passes the test, and the cursor at that time
 abbrev pub snapshot_of : (Item → Bool) → List Item → Cursor → Snapshot
@@ -26,7 +26,7 @@ snapshot_of test held cursor = record { items = filter test held; cursor = curso
 
 -- what a page behind the key and all further ones have to give
 abbrev pub still_to_come : (Item → Bool) → Option Key → List Item → List Item
-still_to_come test after held = filter (is_behind after) (filter test held)
+still_to_come test after held = filter (is_behind_key after) (filter test held)
 
 abbrev pub floors_of : List Item → List Item
 floors_of items = filter is_floor items

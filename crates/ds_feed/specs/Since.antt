@@ -42,6 +42,6 @@ pub record IsGiven (f : Feed) (test : Item → Bool) (at : Cursor) (max : ℕ) (
   pub given : since ≡ since_of f test at max
 
 -- the fault is the first that stands, or memory was wanting where none does
-abbrev pub IsRefused : Feed → Cursor → SinceFault → Type 0
-IsRefused f at NoRoom = fault_at f at ≡ None
-IsRefused f at fault = fault_at f at ≡ Some fault
+abbrev pub IsSinceRefused : Feed → Cursor → SinceFault → Type 0
+IsSinceRefused f at NoRoom = fault_at f at ≡ None
+IsSinceRefused f at fault = fault_at f at ≡ Some fault

@@ -2,9 +2,10 @@
 
 ghost use Rattle.std.specs.Prelude.{◌≡◌, ◌≤◌, ◌<◌, ◌+◌, ◌++◌, ◌∷◌, [], length, drop, take, filter, IfOk, IfErr, OnOk, Some, None};
 ghost use Rattle.ds_entry.specs.Item.{passes};
-ghost use Rattle.ds_feed.specs.Feed.{Feed, opening, restarted, accepts, last_place, from, all_keys};
-ghost use Rattle.ds_feed.specs.Since.{place_fault, fault_at, IsGiven, IsRefused};
-ghost use Rattle.ds_feed.specs.Kept.{Keeps, IsJournal, cursor_of, IsRing, IsOpenFault};
+ghost use Rattle.ds_feed.specs.Feed.{Feed, opening_feed, restarted, accepts, from, all_keys};
+ghost use Rattle.ds_feed.specs.Since.{place_fault, fault_at, IsGiven, IsSinceRefused};
+ghost use Rattle.ds_feed.specs.Kept.{Keeps, IsJournal, cursor_of, IsRing, IsJournalFault};
+ghost use Rattle.ds_names.specs.Limits.{last_place};
 
 use crate::cursor::Cursor;
 use crate::reading::Since;
@@ -12,12 +13,10 @@ use crate::scope::{AllKeys, KeyScope};
 use circular_buffer::HeapCircularBuffer;
 use ds_entry::{Item, Items};
 use ds_names::NoRoom;
+use ds_names::limits::{LARGEST_RING, LAST_PLACE};
 use std::alloc::Global;
 use std::marker::Model;
 use thiserror::Error;
-
-// The most that positions reach.
-const LAST_PLACE: u64 = 1 << 62;
 
 /// Why no journal is made, in the order in which the causes are judged.
 #[derive(Clone, Copy, Debug, PartialEq, Eq, Error)]
@@ -75,24 +74,24 @@ pub struct Journal {
 
 impl Model for Journal {
     ghost use Rattle.ds_feed.specs.Kept.{Kept};
-    ghost use Rattle.ds_feed.specs.Sound.{kept_of, IsSound};
+    ghost use Rattle.ds_feed.specs.Sound.{kept_of, IsJournalSound};
 
     ghost Value = { Kept };
 
     ghost view = { kept_of };
 
-    ghost invariant = { IsSound };
+    ghost invariant = { IsJournalSound };
 }
 
 impl Journal {
     /// A journal of this incarnation that keeps the last `ring` items, the first of which will have the position
     /// `first`. BadRing unless the ring is 1 to 4096, then BadFirst above 2^62.
     pub fn new(alloc: Global, incarnation: u64, first: u64, ring: u32) -> Result<Journal, OpenFault>
-        ensures opened { IfOk result (λ journal. Keeps journal (opening incarnation first ring)) }
+        ensures opened { IfOk result (λ journal. Keeps journal (opening_feed incarnation first ring)) }
         ensures fits { OnOk result (IsRing ring × (first ≤ last_place)) }
-        ensures refused { IfErr result (λ fault. IsOpenFault fault first ring) }
+        ensures refused { IfErr result (λ fault. IsJournalFault fault first ring) }
     {
-        if ring == 0 || ring > 4096 {
+        if ring == 0 || ring > LARGEST_RING {
             return Err(OpenFault::BadRing);
         }
         if first > LAST_PLACE {
@@ -151,7 +150,7 @@ impl Journal {
     pub fn since(&self, alloc: Global, cursor: Cursor, max: u32) -> Result<Since, SinceFault>
         ensures given { (f : Feed) → Keeps self.now f → IfOk result (IsGiven f (passes all_keys) cursor max) }
         ensures items { (f : Feed) → Keeps self.now f → IfOk result (λ since. since.items ≡ take max (from f cursor.position)) }
-        ensures refused { (f : Feed) → Keeps self.now f → IfErr result (λ fault. IsRefused f cursor fault) }
+        ensures refused { (f : Feed) → Keeps self.now f → IfErr result (λ fault. IsSinceRefused f cursor fault) }
     {
         self.since_under(alloc, &mut AllKeys, cursor, max)
     }
@@ -168,7 +167,7 @@ impl Journal {
         max: u32,
     ) -> Result<Since, SinceFault>
         ensures given { (f : Feed) → Keeps self.now f → IfOk result (IsGiven f (passes (S.keeps scope.old)) cursor max) }
-        ensures refused { (f : Feed) → Keeps self.now f → IfErr result (λ fault. IsRefused f cursor fault) }
+        ensures refused { (f : Feed) → Keeps self.now f → IfErr result (λ fault. IsSinceRefused f cursor fault) }
         ensures scope { S.keeps scope.new ≡ S.keeps scope.old }
     {
         let start = self.start(cursor)?;
@@ -198,7 +197,7 @@ impl Journal {
         ensures found { (f : Feed) → Keeps self.now f → IfOk result (λ i. (fault_at f cursor ≡ None) × (drop i self.now.items ≡ from f cursor.position)) }
         ensures within { IfOk result (λ i. i ≤ length self.now.items) }
         ensures room { IfOk result (λ i. cursor.position + length self.now.items ≤ last_place + i) }
-        ensures refused { (f : Feed) → Keeps self.now f → IfErr result (λ fault. IsRefused f cursor fault) }
+        ensures refused { (f : Feed) → Keeps self.now f → IfErr result (λ fault. IsSinceRefused f cursor fault) }
     {
         place(self.incarnation, self.position, self.items.len(), cursor)
     }

@@ -3,14 +3,7 @@ use Rattle.std.proofs.Common.{◌≡◌, ℕ, zero, suc, List, [], ◌∷◌, dr
 use Rattle.std.specs.List.{find, slice_get}
 use Rattle.std.specs.List.Sorted.{IsPartitionPoint}
 use Rattle.ds_entry.specs.Change.{ChangeRecord}
-
-passes : (b : Bool) → not b ≡ false → b ≡ true
-passes true e = refl
-passes false e = absurd (cc)
-
-fails : (b : Bool) → not b ≡ true → b ≡ false
-fails true e = absurd (cc)
-fails false e = refl
+use Rattle.std.proofs.lemmas.Bool.{not-false, not-true}
 
 -- behind those that fail a test stand all that pass it
 pub all_behind : (p : ChangeRecord → Bool) (xs : List ChangeRecord) (i : ℕ) → IsPartitionPoint (λ y. not (p y) ≡ true) (λ y. not (p y) ≡ false) xs i → drop i xs ≡ filter p xs
@@ -18,10 +11,10 @@ all_behind p [] zero h = refl
 all_behind p [] (suc i) h = refl
 all_behind p (x ∷ xs) zero h =
     ap (λ l. x ∷ l) (all_behind p xs zero (λ k d l w. absurd (omega (arith, w)), λ k d l w. h.1 (suc k) d (omega (arith, l)) (omega (arith, w))))
-    ∙ sym (ap (λ b. cond b (x ∷ filter p xs) (filter p xs)) (passes (p x) (h.1 0 x (omega arith) (omega arith))))
+    ∙ sym (ap (λ b. cond b (x ∷ filter p xs) (filter p xs)) (not-false (p x) (h.1 0 x (omega arith) (omega arith))))
 all_behind p (x ∷ xs) (suc i) h =
     all_behind p xs i (λ k d l w. h.0 (suc k) d (omega (arith, l)) (omega (arith, w)), λ k d l w. h.1 (suc k) d (omega (arith, l)) (omega (arith, w)))
-    ∙ sym (ap (λ b. cond b (x ∷ filter p xs) (filter p xs)) (fails (p x) (h.0 0 x (omega arith) (omega arith))))
+    ∙ sym (ap (λ b. cond b (x ∷ filter p xs) (filter p xs)) (not-true (p x) (h.0 0 x (omega arith) (omega arith))))
 
 -- the first of those that pass a test
 pub first_passes : (p : ChangeRecord → Bool) (xs : List ChangeRecord) → slice_get (filter p xs) 0 ≡ find p xs

@@ -12,7 +12,7 @@ use Rattle.ds_held.specs.Kept.{marks_left}
 none_and : (n : ℕ) → 0 + n ≡ n
 none_and n = omega arith
 
-one_and : (k n : ℕ) → suc k + n ≡ suc (k + n)
+pub one_and : (k n : ℕ) → suc k + n ≡ suc (k + n)
 one_and k n = omega arith
 
 get_back : {X : Type 0} (xs ys : List X) (n : ℕ) (d : X) → get_or (xs ++ ys) (length xs + n) d ≡ get_or ys n d

@@ -1,40 +1,17 @@
 -- Entries in the order of their keys, and the items made of them.
-use Rattle.std.proofs.Common.{◌≡◌, List, [], ◌∷◌, ◌++◌, map, Bool, true, false, cond, ◌&&◌, Some, refl, sym, ap, ◌∙◌, subst, inl, inr, ◌⊎◌}
+use Rattle.std.proofs.Common.{◌≡◌, List, [], ◌∷◌, ◌++◌, map, true, false, cond, Some, refl, sym, ap, ◌∙◌, subst, inl, inr, ◌⊎◌}
 use Rattle.std.proofs.lemmas.Option.{same_Some}
 use Rattle.std.specs.declared.cmp.Ordering.{Ordering}
 use Rattle.std.specs.declared.cmp.Ordering.TheVariants.{Less, Equal, Greater}
 use Rattle.std.specs.Ordering.{is_eq, is_lt, eq_by_cmp}
-use Rattle.std.specs.List.{AllByRecursion}
 use Rattle.std.specs.List.Sorted.{IsStrictlySortedBy}
 use Rattle.std.specs.Cmp.{IsTotalOrder, tied_itself, Equal-is}
 use Rattle.std.specs.FinMap.{find, is_sorted}
 use Rattle.std.specs.FinMap.Entries.{below_all}
 use lib.Dec.{T}
 use Rattle.ds_entry.proofs.Members.{In}
-
-pub both : (a b : Bool) → T (a && b) → T a × T b
-both true b p = (tt, p)
-both false b p = absurd p
-
-pub less_from : (r : Ordering) → T (is_lt r) → r ≡ Less
-less_from Less l = refl
-less_from Equal l = absurd l
-less_from Greater l = absurd l
-
-pub not_both : (r : Ordering) → is_eq r ≡ true → T (is_lt r) → ⊥
-not_both Less e l = absurd (cc)
-not_both Equal e l = l
-not_both Greater e l = l
-
--- what holds of each element holds all along the list
-pub along : {X : Type 0} (P : X → Type 0) (xs : List X) → ((x : X) → In x xs → P x) → AllByRecursion P xs
-along P [] f = tt
-along P (x ∷ xs) f = (f x (inl refl), along P xs (λ y h. f y (inr h)))
-
-pub from_along : {X : Type 0} (P : X → Type 0) (xs : List X) (x : X) → AllByRecursion P xs → In x xs → P x
-from_along P [] x a h = absurd h
-from_along P (y ∷ ys) x a (inl e) = subst P (sym e) a.0
-from_along P (y ∷ ys) x a (inr h) = from_along P ys x a.1 h
+use Rattle.ds_names.proofs.Tests.{less_from, not_both, both}
+use Rattle.ds_entry.proofs.OrderedLemmas.{along, from_along}
 
 pub In-append : {X : Type 0} (xs ys : List X) (x : X) → In x (xs ++ ys) → In x xs ⊎ In x ys
 In-append [] ys x h = inr h

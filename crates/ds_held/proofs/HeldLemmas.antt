@@ -1,10 +1,10 @@
 -- What is held, as items.
-use Rattle.std.proofs.Common.{◌≡◌, ℕ, true, false, List, map, Bool, Some, refl, sym, ap, ◌∙◌, subst, inl, inr, Contains}
+use Rattle.std.proofs.Common.{◌≡◌, ℕ, true, false, List, map, Bool, Some, refl, sym, ap, ◌∙◌, subst, inl, inr, Contains, length}
 use Rattle.std.proofs.lemmas.Cmp.{nat_list_cmp_total}
 use Rattle.std.proofs.lemmas.Map.Lookups.{exact_bytes}
 use Rattle.std.specs.declared.cmp.Ordering.TheVariants.{Less}
 use Rattle.std.specs.List.Sorted.{IsStrictlySortedBy}
-use Rattle.std.specs.FinMap.{entries, entries_sorted, get-entries}
+use Rattle.std.specs.FinMap.{entries, entries_sorted, get-entries, len-entries}
 use Rattle.ds_names.specs.declared.key.Key.{Key}
 use Rattle.ds_names.specs.Key.{name_cmp, key_cmp}
 use Rattle.ds_names.proofs.OrderLemmas.{keys_total, exact_keys}
@@ -18,8 +18,9 @@ use Rattle.ds_entry.specs.declared.item.Item.TheVariants.{Change as Changed, Flo
 use Rattle.ds_entry.proofs.Members.{In, In-from_Contains, Contains-from_In}
 use Rattle.ds_entry.proofs.ItemLemmas.{voids-is}
 use Rattle.ds_join.specs.ItemTop.{IsTop, IsPartOf, CoversAll}
-use Rattle.ds_held.specs.Held.{Holding, held_items, held_changes, held_for, floor_for, floor_item, change_item, is_below, IsSound}
+use Rattle.ds_held.specs.Held.{Holding, held_items, held_changes, held_for, floor_for, floor_item, change_item, is_below, IsSound, held_count}
 use Rattle.ds_held.proofs.EntryLemmas.{In-append, In-left, In-right, In-map, In-from_map, In-from_find, find-from_In, sorted_items, sorted_append, map_twice}
+use Rattle.std.proofs.lemmas.Map.Entries.{length-values_of}
 
 -- an item stands where it is looked for
 abbrev pub IsHeld : Holding → Item → Type 0
@@ -104,3 +105,7 @@ module _ (h : Holding) where
     -- a set is held where all that is held is of it, and covers it
     pub held_is_top : (set : List Item) → IsPartOf (held_items h) set → CoversAll (held_items h) set → IsTop (held_items h) set
     held_is_top set a g = record { in_order = held_in_order; among = a; greatest = g; none_void = held_none_void }
+
+-- the number of held changes
+pub count_is : (h : Holding) → length (held_changes h) ≡ held_count h
+count_is h = length-values_of (entries h.changes) ∙ sym (len-entries h.changes)

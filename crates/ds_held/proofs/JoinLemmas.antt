@@ -1,7 +1,7 @@
 -- Items that come one after the other: what they leave is the join of what was held and of them.
 use Rattle.std.proofs.Common.{◌≡◌, ℕ, zero, suc, ◌+◌, ◌<◌, ◌≤◌, List, [], ◌∷◌, ◌++◌, map, length, get_or, take, Some, Result, Ok, Err, append_assoc, refl, sym, ap, ◌∙◌, subst, inl, inr, arith}
 use Rattle.std.proofs.lemmas.Option.{same_Some}
-use Rattle.std.proofs.lemmas.List.{take_all}
+use Rattle.std.proofs.lemmas.List.{take_all, length-map}
 use Rattle.std.proofs.lemmas.List.Elements.{Contains-append_left, Contains-append_cases}
 use Rattle.std.specs.Result.{OnOk, IfErr}
 use Rattle.std.specs.List.{slice_get}
@@ -15,10 +15,11 @@ use Rattle.ds_join.specs.declared.merge.Stop.{Stop}
 use Rattle.ds_join.specs.ItemTop.{IsTop}
 use Rattle.ds_join.proofs.ItemTopLemmas.{top_of_top}
 use Rattle.ds_held.specs.Held.{Holding, held_items, IsSound}
-use Rattle.ds_held.specs.Join.{ItemAnswer, after_item, IsItemRefused, AreMerged, IsStopped}
+use Rattle.ds_held.specs.Join.{ItemAnswer, after_item, IsItemRefused, AreMerged, IsJoinStopped}
 use Rattle.ds_held.proofs.HeldLemmas.{held_is_top}
 use Rattle.ds_held.proofs.MergeLemmas.{merge_joins}
 use Rattle.ds_held.proofs.RaiseLemmas.{raise_joins}
+use Rattle.ds_held.proofs.DropLemmas.{one_and}
 
 -- ---- one item
 item_sound : (h : Holding) → IsSound h → (i : Item) (m : Merge) → ItemAnswer h i (Ok m) → IsSound (after_item h i (Ok m))
@@ -59,10 +60,6 @@ one_more (suc n) (y ∷ ys) x e =
     let later = one_more n ys x e in
     (omega (arith, later.0), ap (λ l. y ∷ l) later.1)
 
-length_map : {X Y : Type 0} (f : X → Y) (xs : List X) → length (map f xs) ≡ length xs
-length_map f [] = refl
-length_map f (x ∷ xs) = ap suc (length_map f xs)
-
 -- the item at which a walk of a list stands
 next_of : {X : Type 0} (f : X → Item) (xs : List X) (i : ℕ) (x : X) → i < length xs → x ≡ get_or xs i x → slice_get (map f xs) i ≡ Some (f x)
 next_of f [] i x w e = absurd (omega (arith, w))
@@ -81,7 +78,7 @@ module _ {X : Type 0} (f : X → Item) (old : Holding) (xs : List X) (m : Holdin
         one : done + 1 ≡ suc done
         one = omega arith
 
-    pub stops : (new : Holding) (fault : JoinFault) → IsItemRefused m (f x) fault → new ≡ m → IsStopped old (map f xs) new (record { done = done; fault = fault })
+    pub stops : (new : Holding) (fault : JoinFault) → IsItemRefused m (f x) fault → new ≡ m → IsJoinStopped old (map f xs) new (record { done = done; fault = fault })
     stops new fault refused e =
         record {
           merged = subst (λ (h : Holding). AreMerged old (take done (map f xs)) h) (sym e) w;
@@ -89,7 +86,7 @@ module _ {X : Type 0} (f : X → Item) (old : Holding) (xs : List X) (m : Holdin
         }
 
   pub ends : length xs ≤ i → AreMerged old (map f xs) m
-  ends all = subst (λ l. AreMerged old l m) (take_all done (map f xs) (omega (arith, length_map f xs, all, at))) w
+  ends all = subst (λ l. AreMerged old l m) (take_all done (map f xs) (omega (arith, length-map xs f, all, at))) w
 
 -- ---- a stop among the first ones, or among the others
 take_front : {X : Type 0} (n : ℕ) (xs ys : List X) → n < length xs → take n (xs ++ ys) ≡ take n xs
@@ -105,9 +102,6 @@ get_front (suc n) (x ∷ xs) ys w = get_front n xs ys (omega (arith, w))
 none_and : (n : ℕ) → 0 + n ≡ n
 none_and n = omega arith
 
-one_and : (k n : ℕ) → suc k + n ≡ suc (k + n)
-one_and k n = omega arith
-
 take_back : {X : Type 0} (n : ℕ) (xs ys : List X) → take (length xs + n) (xs ++ ys) ≡ xs ++ take n ys
 take_back n [] ys = ap (λ k. take k ys) (none_and n)
 take_back n (x ∷ xs) ys = ap (λ k. take k (x ∷ (xs ++ ys))) (one_and (length xs) n) ∙ ap (λ l. x ∷ l) (take_back n xs ys)
@@ -116,7 +110,7 @@ get_back : {X : Type 0} (n : ℕ) (xs ys : List X) → slice_get (xs ++ ys) (len
 get_back n [] ys = ap (slice_get ys) (none_and n)
 get_back n (x ∷ xs) ys = ap (slice_get (x ∷ (xs ++ ys))) (one_and (length xs) n) ∙ get_back n xs ys
 
-pub stops_first : (old : Holding) (xs ys : List Item) (new : Holding) (stop : Stop) → IsStopped old xs new stop → IsStopped old (xs ++ ys) new stop
+pub stops_first : (old : Holding) (xs ys : List Item) (new : Holding) (stop : Stop) → IsJoinStopped old xs new stop → IsJoinStopped old (xs ++ ys) new stop
 stops_first old xs ys new stop s =
     let within = (one_more stop.done xs s.refused.0 s.refused.1).0 in
     record {
@@ -124,15 +118,15 @@ stops_first old xs ys new stop s =
       refused = (s.refused.0, get_front stop.done xs ys within ∙ s.refused.1, s.refused.2);
     }
 
-pub stops_later : (old : Holding) (xs ys : List Item) (m new : Holding) (n done : ℕ) (fault : JoinFault) → AreMerged old xs m → n ≡ length xs → IsStopped m ys new (record { done = done; fault = fault }) → IsStopped old (xs ++ ys) new (record { done = n + done; fault = fault })
+pub stops_later : (old : Holding) (xs ys : List Item) (m new : Holding) (n done : ℕ) (fault : JoinFault) → AreMerged old xs m → n ≡ length xs → IsJoinStopped m ys new (record { done = done; fault = fault }) → IsJoinStopped old (xs ++ ys) new (record { done = n + done; fault = fault })
 stops_later old xs ys m new n done fault w e s =
-    subst (λ k. IsStopped old (xs ++ ys) new (record { done = k + done; fault = fault })) (sym e) (record {
+    subst (λ k. IsJoinStopped old (xs ++ ys) new (record { done = k + done; fault = fault })) (sym e) (record {
       merged = subst (λ l. AreMerged old l new) (sym (take_back done xs ys)) (merged_both old xs (take done ys) m new w s.merged);
       refused = (s.refused.0, get_back done xs ys ∙ s.refused.1, s.refused.2);
     })
 
 pub length_items : {X : Type 0} (f : X → Item) (xs : List X) → length xs ≡ length (map f xs)
-length_items f xs = sym (length_map f xs)
+length_items f xs = sym (length-map xs f)
 
 -- ---- what a join says of all
 pub merged_behind : {A : Type 0} (r : Result A Stop) (old : Holding) (xs ys : List Item) (m new : Holding) → AreMerged old xs m → OnOk r (AreMerged m ys new) → OnOk r (AreMerged old (xs ++ ys) new)
@@ -143,6 +137,6 @@ pub join_if_ok : {A : Type 0} (r : Result A Stop) (old : Holding) (items : List 
 join_if_ok (Ok a) old items new sound w = all_join old items new sound w
 join_if_ok (Err stop) old items new sound w = tt
 
-pub join_if_stopped : {A : Type 0} (r : Result A Stop) (old : Holding) (items : List Item) (new : Holding) → IsSound old → IfErr r (IsStopped old items new) → IfErr r (λ (stop : Stop). IsTop (held_items new) (held_items old ++ take stop.done items))
+pub join_if_stopped : {A : Type 0} (r : Result A Stop) (old : Holding) (items : List Item) (new : Holding) → IsSound old → IfErr r (IsJoinStopped old items new) → IfErr r (λ (stop : Stop). IsTop (held_items new) (held_items old ++ take stop.done items))
 join_if_stopped (Ok a) old items new sound w = tt
 join_if_stopped (Err stop) old items new sound w = all_join old (take stop.done items) new sound w.merged

@@ -21,9 +21,9 @@ use Rattle.ds_join.specs.declared.merge.JoinFault.{JoinFault}
 use Rattle.ds_join.specs.declared.merge.JoinFault.TheVariants.{NotOwner, Clash, Full, NoRoom}
 use Rattle.ds_held.specs.Limits.{LimitsRecord}
 use Rattle.ds_held.specs.Held.{Holding, held_changes, held_items, held_for, held_count, floor_count, floor_item, change_item, is_void_at, IsSound}
-use Rattle.ds_held.specs.Merge.{AnswersNew, AnswersHeld, AnswersFor, UnlessVoid, MergeAnswer, after_merge, IsRefused}
+use Rattle.ds_held.specs.Merge.{AnswersNew, AnswersHeld, AnswersFor, UnlessVoid, MergeAnswer, after_merge, IsMergeRefused}
 use Rattle.ds_held.specs.Raise.{AnswersFloor, RaiseAnswer, after_raise}
-use Rattle.ds_held.specs.Kept.{floored, owned, keyed, by_owner, by_key, floors_of, changes_of, holding_of, AreOwnersRising, AreKeysRising, IsKept, IsPlace, IsFloorPlace, IsPut, put_at, list_after, left_by}
+use Rattle.ds_held.specs.Kept.{floored, owned, keyed, by_owner, by_key, floors_map, changes_map, holding_of, AreOwnersRising, AreKeysRising, AreKept, IsPlace, IsFloorPlace, IsPut, put_at, list_after, left_by_floor}
 use Rattle.ds_held.proofs.EntryLemmas.{map_twice}
 use Rattle.ds_held.proofs.PlaceLemmas.{entries_are, count, get_there, get_none, still_rising, map_with, rising_filter}
 use Rattle.ds_held.proofs.LeftLemmas.{changes_are_left, few_left}
@@ -31,11 +31,11 @@ use Rattle.ds_held.proofs.MergeLemmas.{merge_joins}
 use Rattle.ds_held.proofs.RaiseLemmas.{raise_joins}
 
 -- what stands at the place of a key is found under it
-pub change_there : (xs : List ChangeRecord) (key : Key) (i : ℕ) → AreKeysRising xs → IsPlace xs key (Ok i) → get (changes_of xs) key ≡ slice_get xs i
+pub change_there : (xs : List ChangeRecord) (key : Key) (i : ℕ) → AreKeysRising xs → IsPlace xs key (Ok i) → get (changes_map xs) key ≡ slice_get xs i
 change_there [] key i s p = absurd (omega (arith, p.0))
 change_there (x ∷ xs) key i s p = get_there key_cmp keys_total exact_keys keyed (x ∷ xs) key i x s p ∙ sym (slice_get-get_or (x ∷ xs) i x p.0)
 
-pub change_none : (xs : List ChangeRecord) (key : Key) (i : ℕ) → IsPlace xs key (Err i) → get (changes_of xs) key ≡ None
+pub change_none : (xs : List ChangeRecord) (key : Key) (i : ℕ) → IsPlace xs key (Err i) → get (changes_map xs) key ≡ None
 change_none xs key i p = get_none key_cmp keys_total exact_keys keyed xs key i p
 
 -- ---- all that is held
@@ -55,13 +55,13 @@ items_are fs xs lim r s =
     ∙ ap (λ l. l ++ map change_item (held_changes (holding_of fs xs lim))) (own_floors fs)
     ∙ ap (λ l. map floored fs ++ map change_item l) (changes_are fs xs lim s)
 
-pub count_changes : (xs : List ChangeRecord) → AreKeysRising xs → len (changes_of xs) ≡ length xs
+pub count_changes : (xs : List ChangeRecord) → AreKeysRising xs → len (changes_map xs) ≡ length xs
 count_changes xs s = count key_cmp keys_total exact_keys keyed xs s
 
-pub count_floors : (fs : List Floor) → AreOwnersRising fs → len (floors_of fs) ≡ length fs
+pub count_floors : (fs : List Floor) → AreOwnersRising fs → len (floors_map fs) ≡ length fs
 count_floors fs s = count name_cmp nat_list_cmp_total exact_bytes owned fs s
 
-pub kept_nothing : (lim : LimitsRecord) → IsKept [] [] lim
+pub kept_nothing : (lim : LimitsRecord) → AreKept [] [] lim
 kept_nothing lim = record {
   owners = tt;
   keys = tt;
@@ -75,7 +75,7 @@ valid_with : (xs : List ChangeRecord) (c : ChangeRecord) (place : Result ℕ ℕ
 valid_with xs c (Ok i) v a = All-set IsChange xs i c v a
 valid_with xs c (Err i) v a = All-append IsChange (take i xs) (c ∷ drop i xs) (All-take IsChange i xs a) (All-cons IsChange c (drop i xs) v (All-drop IsChange i xs a))
 
-pub valid_changes : (fs : List Floor) (xs : List ChangeRecord) (lim : LimitsRecord) → IsKept fs xs lim → All IsChange (held_changes (holding_of fs xs lim))
+pub valid_changes : (fs : List Floor) (xs : List ChangeRecord) (lim : LimitsRecord) → AreKept fs xs lim → All IsChange (held_changes (holding_of fs xs lim))
 valid_changes fs xs lim kept = subst (All IsChange) (sym (changes_are fs xs lim kept.keys)) kept.valid
 
 -- ---- what isn't refused leaves the join
@@ -99,7 +99,7 @@ pub none_more : (void : Bool) (n m : ℕ) (c : ChangeRecord) → AnswersFor None
 none_more true n m c a = absurd (cc)
 none_more false n m c a = a
 
-module _ (fs : List Floor) (xs : List ChangeRecord) (lim : LimitsRecord) (kept : IsKept fs xs lim) (c : ChangeRecord) where
+module _ (fs : List Floor) (xs : List ChangeRecord) (lim : LimitsRecord) (kept : AreKept fs xs lim) (c : ChangeRecord) where
   abbrev old : Holding
   old = holding_of fs xs lim
 
@@ -129,7 +129,7 @@ module _ (fs : List Floor) (xs : List ChangeRecord) (lim : LimitsRecord) (kept :
       subst (λ o. AnswersFor o (is_void_at old c) (held_count old) lim.keys c (Err NoRoom)) (sym none)
       (none_more (is_void_at old c) (held_count old) lim.keys c (subst (λ o. AnswersFor o (is_void_at old c) (held_count old) lim.keys c (Ok Taken)) none a))
 
-  pub put_refused : (place : Result ℕ ℕ) (r : Result Merge JoinFault) → IsPlace xs c.key place → MergeAnswer old c (Ok Taken) → IsPut place r → IfErr r (IsRefused old c)
+  pub put_refused : (place : Result ℕ ℕ) (r : Result Merge JoinFault) → IsPlace xs c.key place → MergeAnswer old c (Ok Taken) → IsPut place r → IfErr r (IsMergeRefused old c)
   put_refused place (Ok m) p a put = tt
   put_refused (Ok i) (Err fault) p a put = absurd put
   put_refused (Err i) (Err NotOwner) p a put = absurd put
@@ -139,7 +139,7 @@ module _ (fs : List Floor) (xs : List ChangeRecord) (lim : LimitsRecord) (kept :
 
   module _ (valid : IsChange c) (place : Result ℕ ℕ) (p : IsPlace xs c.key place) where
     pub merged_after : (r : Result Merge JoinFault) → holding_of fs (list_after xs (put_at xs place c) r) lim ≡ after_merge old c r
-    merged_after (Ok Taken) = let m = map_with key_cmp keys_total exact_keys keyed xs c place kept.keys p in λ i. record { floors = floors_of fs; changes = m i; limits = lim }
+    merged_after (Ok Taken) = let m = map_with key_cmp keys_total exact_keys keyed xs c place kept.keys p in λ i. record { floors = floors_map fs; changes = m i; limits = lim }
     merged_after (Ok Known) = refl
     merged_after (Ok Stale) = refl
     merged_after (Err fault) = refl
@@ -150,7 +150,7 @@ module _ (fs : List Floor) (xs : List ChangeRecord) (lim : LimitsRecord) (kept :
         let more : held_count old < lim.keys = one_more (is_void_at old c) (held_count old) lim.keys c (subst (λ o. AnswersFor o (is_void_at old c) (held_count old) lim.keys c (Ok Taken)) (change_none xs c.key i h) a) in
         omega (arith, length-insert xs i c h.0, count_changes xs kept.keys, more)
 
-    pub merged_kept : (r : Result Merge JoinFault) → MergeAnswer old c r → IsKept fs (list_after xs (put_at xs place c) r) lim
+    pub merged_kept : (r : Result Merge JoinFault) → MergeAnswer old c r → AreKept fs (list_after xs (put_at xs place c) r) lim
     merged_kept (Ok Taken) a = record {
       owners = kept.owners;
       keys = still_rising key_cmp keys_total exact_keys keyed xs c place kept.keys p;
@@ -164,15 +164,15 @@ module _ (fs : List Floor) (xs : List ChangeRecord) (lim : LimitsRecord) (kept :
     merged_kept (Err fault) a = kept
 
 -- ---- a floor
-few_more : (fs : List Floor) (f : Floor) (place : Result ℕ ℕ) (n : ℕ) → length fs ≤ 64 → IsFloorPlace fs f.owner place → (get (floors_of fs) f.owner ≡ None → n < 64) → n ≡ length fs → length (put_at fs place f) ≤ 64
+few_more : (fs : List Floor) (f : Floor) (place : Result ℕ ℕ) (n : ℕ) → length fs ≤ 64 → IsFloorPlace fs f.owner place → (get (floors_map fs) f.owner ≡ None → n < 64) → n ≡ length fs → length (put_at fs place f) ≤ 64
 few_more fs f (Ok i) n few p m e = omega (arith, length-set fs i f, few)
 few_more fs f (Err i) n few p m e =
     let more : n < 64 = m (get_none name_cmp nat_list_cmp_total exact_bytes owned fs f.owner i p) in
     omega (arith, length-insert fs i f p.0, more, e)
 
-module _ (fs : List Floor) (xs : List ChangeRecord) (lim : LimitsRecord) (kept : IsKept fs xs lim) (f : Floor) where
+module _ (fs : List Floor) (xs : List ChangeRecord) (lim : LimitsRecord) (kept : AreKept fs xs lim) (f : Floor) where
   module _ (place : Result ℕ ℕ) (p : IsFloorPlace fs f.owner place) where
-    pub raised_after : (r : Result Merge JoinFault) → holding_of (list_after fs (put_at fs place f) r) (list_after xs (left_by f xs) r) lim ≡ after_raise (holding_of fs xs lim) f r
+    pub raised_after : (r : Result Merge JoinFault) → holding_of (list_after fs (put_at fs place f) r) (list_after xs (left_by_floor f xs) r) lim ≡ after_raise (holding_of fs xs lim) f r
     raised_after (Ok Taken) =
         let m = map_with name_cmp nat_list_cmp_total exact_bytes owned fs f place kept.owners p in
         let l = changes_are_left f xs kept.keys in
@@ -181,7 +181,7 @@ module _ (fs : List Floor) (xs : List ChangeRecord) (lim : LimitsRecord) (kept :
     raised_after (Ok Stale) = refl
     raised_after (Err fault) = refl
 
-    pub raised_kept : (r : Result Merge JoinFault) → RaiseAnswer (holding_of fs xs lim) f r → IsKept (list_after fs (put_at fs place f) r) (list_after xs (left_by f xs) r) lim
+    pub raised_kept : (r : Result Merge JoinFault) → RaiseAnswer (holding_of fs xs lim) f r → AreKept (list_after fs (put_at fs place f) r) (list_after xs (left_by_floor f xs) r) lim
     raised_kept (Ok Taken) a = record {
       owners = still_rising name_cmp nat_list_cmp_total exact_bytes owned fs f place kept.owners p;
       keys = rising_filter key_cmp keys_total exact_keys keyed _ xs kept.keys;

@@ -3,7 +3,7 @@ use Rattle.std.proofs.Common.{Bool, true, false, Err, sym, ◌∙◌, subst, inl
 use Rattle.ds_entry.specs.Change.{ChangeRecord}
 use Rattle.ds_join.specs.declared.merge.JoinFault.TheVariants.{NoRoom}
 use Rattle.ds_held.specs.Held.{held_count, floor_count, is_void_at}
-use Rattle.ds_held.specs.Merge.{AnswersHeld, AnswersFor, TakesMemory}
+use Rattle.ds_held.specs.Merge.{AnswersHeld, AnswersFor, ChangeTakesMemory}
 use Rattle.ds_held.specs.Raise.{AnswersFloor}
 use Rattle.ds_held.specs.Memory.{HeldKeyNeedsNoRoom, CopyInPlaceNeedsNoRoom, HeldOwnerIsNotRefused}
 use Rattle.ds_held.proofs.MergeLemmas.{no_some}
@@ -19,7 +19,7 @@ held_key_needs_none old h c e a = never_room h (is_void_at old c) c (subst (λ o
 pub copy_in_place_needs_none : CopyInPlaceNeedsNoRoom
 copy_in_place_needs_none old h c e b a = by_cause a.1
   where
-    by_cause : TakesMemory old c → ⊥
+    by_cause : ChangeTakesMemory old c → ⊥
     by_cause (inl none) = no_some h (sym none ∙ e)
     by_cause (inr away) = away b
 

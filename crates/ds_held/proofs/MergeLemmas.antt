@@ -28,9 +28,6 @@ use Rattle.ds_held.proofs.HeldLemmas.{IsHeld, is_in, is_held, floor_in, change_i
 pub no_some : {A X : Type 0} (x : X) → None ≡ Some x → A
 no_some x e = absurd (cc)
 
-pub opposed : {A : Type 0} (b : Bool) → b ≡ true → b ≡ false → A
-opposed b t f = let differ : true ≡ false = sym t ∙ f in absurd (cc)
-
 -- ---- an item that is covered changes nothing
 pub covered_joins : (h : Holding) → IsSound h → (i j : Item) → Contains (held_items h) j → covers j i ≡ true → IsTop (held_items h) (held_items h ++ i ∷ [])
 covered_joins h sound i j k c =

@@ -9,7 +9,7 @@ use Rattle.std.specs.FinMap as finite
 use Rattle.std.specs.FinMap.Entries.{below_all, by_order, is_sorted-put, same_entries}
 use lib.Dec.{T}
 use Rattle.ds_held.specs.Kept.{IsPlaceOf, put_at}
-use Rattle.ds_held.proofs.EntryLemmas.{both, less_from}
+use Rattle.ds_names.proofs.Tests.{less_from, both}
 
 pair : (a b : Bool) → T a → T b → T (a && b)
 pair true b h k = k

@@ -10,7 +10,7 @@ use Rattle.std.specs.FinMap.{is_sorted}
 use Rattle.std.specs.FinMap.Entries.{below_all}
 use lib.Dec.{T}
 use Rattle.ds_held.specs.Kept.{IsPlaceOf}
-use Rattle.ds_held.proofs.EntryLemmas.{both, less_from}
+use Rattle.ds_names.proofs.Tests.{less_from, both}
 
 few : (r : Ordering) → ordering_index r ≤ 2
 few Less = omega arith

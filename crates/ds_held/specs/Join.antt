@@ -6,7 +6,7 @@ use Rattle.ds_join.specs.declared.merge.Merge.{Merge}
 use Rattle.ds_join.specs.declared.merge.JoinFault.{JoinFault}
 use Rattle.ds_join.specs.declared.merge.Stop.{Stop}
 use Rattle.ds_held.specs.Held.{Holding}
-use Rattle.ds_held.specs.Merge.{MergeAnswer, after_merge, IsRefused}
+use Rattle.ds_held.specs.Merge.{MergeAnswer, after_merge, IsMergeRefused}
 use Rattle.ds_held.specs.Raise.{RaiseAnswer, after_raise}
 
 -- the answer to an item
@@ -21,7 +21,7 @@ after_item old (Floored f) answer = after_raise old f answer
 
 -- the item, which someone else keeps, is refused by this fault
 abbrev pub IsItemRefused : Holding → Item → JoinFault → Type 0
-IsItemRefused held (Changed c) fault = IsRefused held c fault
+IsItemRefused held (Changed c) fault = IsMergeRefused held c fault
 IsItemRefused held (Floored f) fault = RaiseAnswer held f (Err fault)
 
 -- one after the other the items come to what is held; none is refused, and `new` is held in the end
@@ -30,6 +30,6 @@ AreMerged old [] new = new ≡ old
 AreMerged old (i ∷ items) new = (answer : Merge) × ItemAnswer old i (Ok answer) × AreMerged (after_item old i (Ok answer)) items new
 
 -- the first `done` of the items came to what was held, and the next one is refused
-pub record IsStopped (old : Holding) (items : List Item) (new : Holding) (stop : Stop) : Type 0 where
+pub record IsJoinStopped (old : Holding) (items : List Item) (new : Holding) (stop : Stop) : Type 0 where
   pub merged : AreMerged old (take stop.done items) new
   pub refused : (next : Item) × (slice_get items stop.done ≡ Some next) × IsItemRefused new next stop.fault

@@ -38,15 +38,15 @@ abbrev pub by_key : List ChangeRecord → List (Key × ChangeRecord)
 by_key changes = map keyed changes
 
 -- from each owner its floor's generation, and from each key its change
-abbrev pub floors_of : List Floor → FinMap name_cmp ℕ
-floors_of floors = from_entries (by_owner floors)
+abbrev pub floors_map : List Floor → FinMap name_cmp ℕ
+floors_map floors = from_entries (by_owner floors)
 
-abbrev pub changes_of : List ChangeRecord → FinMap key_cmp ChangeRecord
-changes_of changes = from_entries (by_key changes)
+abbrev pub changes_map : List ChangeRecord → FinMap key_cmp ChangeRecord
+changes_map changes = from_entries (by_key changes)
 
 -- what is held, each floor at its owner and each change at its key
 abbrev pub holding_of : List Floor → List ChangeRecord → LimitsRecord → Holding
-holding_of floors changes limits = record { floors = floors_of floors; changes = changes_of changes; limits = limits }
+holding_of floors changes limits = record { floors = floors_map floors; changes = changes_map changes; limits = limits }
 
 -- the names of owners rise
 abbrev pub AreOwnersRising : List Floor → Type 0
@@ -57,7 +57,7 @@ abbrev pub AreKeysRising : List ChangeRecord → Type 0
 AreKeysRising changes = T (is_sorted key_cmp (by_key changes))
 
 -- what the lists of a holder keep
-pub record IsKept (floors : List Floor) (changes : List ChangeRecord) (limits : LimitsRecord) : Type 0 where
+pub record AreKept (floors : List Floor) (changes : List ChangeRecord) (limits : LimitsRecord) : Type 0 where
   pub owners : AreOwnersRising floors
   pub keys : AreKeysRising changes
   pub few_floors : length floors ≤ 64
@@ -105,8 +105,8 @@ module _ {X : Type 0} where
   list_after old taken (Err fault) = old
 
 -- the changes that the floor doesn't make void
-abbrev pub left_by : Floor → List ChangeRecord → List ChangeRecord
-left_by f changes = filter (λ (c : ChangeRecord). not (voids f c)) changes
+abbrev pub left_by_floor : Floor → List ChangeRecord → List ChangeRecord
+left_by_floor f changes = filter (λ (c : ChangeRecord). not (voids f c)) changes
 
 -- the marks beside the changes that the floor doesn't make void
 module _ {M : Type 0} where

@@ -5,7 +5,7 @@ use Rattle.ds_entry.specs.declared.floor.Floor.{Floor}
 use Rattle.ds_join.specs.declared.merge.JoinFault.{JoinFault}
 use Rattle.ds_join.specs.declared.merge.JoinFault.TheVariants.{NoRoom}
 use Rattle.ds_held.specs.Held.{Holding, held_for, floor_for}
-use Rattle.ds_held.specs.Merge.{MergeAnswer, IsRefused}
+use Rattle.ds_held.specs.Merge.{MergeAnswer, IsMergeRefused}
 use Rattle.ds_held.specs.Raise.{RaiseAnswer}
 
 -- the merge of a change to a held key isn't refused for want of room
@@ -14,7 +14,7 @@ HeldKeyNeedsNoRoom = (old : Holding) (h c : ChangeRecord) → held_for old c.key
 
 -- nor is one that someone else keeps, where its body is held in place
 abbrev pub CopyInPlaceNeedsNoRoom : Type 0
-CopyInPlaceNeedsNoRoom = (old : Holding) (h c : ChangeRecord) → held_for old c.key ≡ Some h → IsBodyInPlace c.body → ¬ IsRefused old c NoRoom
+CopyInPlaceNeedsNoRoom = (old : Holding) (h c : ChangeRecord) → held_for old c.key ≡ Some h → IsBodyInPlace c.body → ¬ IsMergeRefused old c NoRoom
 
 -- the floor of an owner who has one is refused for nothing, so for no want of room either
 abbrev pub HeldOwnerIsNotRefused : Type 0

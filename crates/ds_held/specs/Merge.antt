@@ -56,12 +56,12 @@ after_merge old c (Ok Stale) = old
 after_merge old c (Err fault) = old
 
 -- to take over a change that someone else keeps takes memory: its key isn't held, or its body isn't held in place
-abbrev pub TakesMemory : Holding → ChangeRecord → Type 0
-TakesMemory held c = (held_for held c.key ≡ None) ⊎ (¬ IsBodyInPlace c.body)
+abbrev pub ChangeTakesMemory : Holding → ChangeRecord → Type 0
+ChangeTakesMemory held c = (held_for held c.key ≡ None) ⊎ (¬ IsBodyInPlace c.body)
 
 -- such a change is refused by this fault: for want of room only where it would be taken, and takes memory
-abbrev pub IsRefused : Holding → ChangeRecord → JoinFault → Type 0
-IsRefused held c NotOwner = MergeAnswer held c (Err NotOwner)
-IsRefused held c (Clash v) = MergeAnswer held c (Err (Clash v))
-IsRefused held c Full = MergeAnswer held c (Err Full)
-IsRefused held c NoRoom = MergeAnswer held c (Ok Taken) × TakesMemory held c
+abbrev pub IsMergeRefused : Holding → ChangeRecord → JoinFault → Type 0
+IsMergeRefused held c NotOwner = MergeAnswer held c (Err NotOwner)
+IsMergeRefused held c (Clash v) = MergeAnswer held c (Err (Clash v))
+IsMergeRefused held c Full = MergeAnswer held c (Err Full)
+IsMergeRefused held c NoRoom = MergeAnswer held c (Ok Taken) × ChangeTakesMemory held c

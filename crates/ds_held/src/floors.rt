@@ -5,17 +5,15 @@ ghost use Rattle.std.specs.FinMap.{get, len};
 ghost use Rattle.std.specs.List.{insert};
 ghost use Rattle.ds_names.specs.Key.{name_cmp};
 ghost use Rattle.ds_held.specs.Held.{is_below};
-ghost use Rattle.ds_held.specs.Kept.{AreOwnersRising, IsFloorPlace, floors_of, list_after, put_at};
+ghost use Rattle.ds_held.specs.Kept.{AreOwnersRising, IsFloorPlace, floors_map, list_after, put_at};
 ghost use Rattle.ds_held.specs.Merge.{AnswersNew};
 ghost use Rattle.ds_held.specs.Raise.{AnswersFloor, AnswersHigher};
 
 use ds_entry::{Change, Floor};
 use ds_join::{JoinFault, Merge};
+use ds_names::limits::MOST_FLOORS;
 use ds_names::{Generation, Name};
 use std::cmp::Ordering;
-
-/// The most owners that have floors.
-pub const MOST_FLOORS: usize = 64;
 
 // Where the floor of an owner stands, or else where it would.
 pub(crate) fn place_of(floors: &[Floor], owner: &Name) -> Result<usize, usize>
@@ -35,7 +33,7 @@ pub(crate) fn nth_floor(floors: &[Floor], index: usize) -> Option<Floor>
 // The generation of an owner's floor.
 pub(crate) fn floor_at(floors: &[Floor], owner: &Name) -> Option<Generation>
     requires { AreOwnersRising floors.now }
-    ensures { result ≡ get (floors_of floors.now) owner.now }
+    ensures { result ≡ get (floors_map floors.now) owner.now }
 {
     match place_of(floors, owner) {
         Ok(i) => Some(floors[i].generation),
@@ -46,7 +44,7 @@ pub(crate) fn floor_at(floors: &[Floor], owner: &Name) -> Option<Generation>
 // Whether the floor of its owner makes the change void.
 pub(crate) fn is_void(floors: &[Floor], change: &Change) -> bool
     requires { AreOwnersRising floors.now }
-    ensures { result ≡ is_below (get (floors_of floors.now) change.now.owner) change.now }
+    ensures { result ≡ is_below (get (floors_map floors.now) change.now.owner) change.now }
 {
     let owner = *change.owner();
     match floor_at(floors, &owner) {
@@ -99,7 +97,7 @@ fn add(floors: &mut Vec<Floor>, i: usize, floor: Floor) -> Result<Merge, JoinFau
 pub(crate) fn raise(floors: &mut Vec<Floor>, floor: Floor) -> Result<Merge, JoinFault>
     requires rising { AreOwnersRising floors.old.items }
     requires few { length floors.old.items ≤ 64 }
-    ensures answer { AnswersFloor (get (floors_of floors.old.items) floor.owner) (len (floors_of floors.old.items)) floor.generation result }
+    ensures answer { AnswersFloor (get (floors_map floors.old.items) floor.owner) (len (floors_map floors.old.items)) floor.generation result }
     ensures floors { (place : Result ℕ ℕ) × IsFloorPlace floors.old.items floor.owner place × (floors.new.items ≡ list_after floors.old.items (put_at floors.old.items place floor) result) }
 {
     match place_of(floors, &floor.owner) {

@@ -5,14 +5,15 @@ ghost use Rattle.std.specs.Option.{option_copied};
 ghost use Rattle.std.specs.List.{find};
 ghost use Rattle.ds_entry.specs.Change.{IsChange, IsValue};
 ghost use Rattle.ds_entry.specs.declared.item.Item.TheVariants.{Change as Changed, Floor as Floored};
-ghost use Rattle.ds_join.specs.Reading.{value_of, comes_after};
+ghost use Rattle.ds_join.specs.Reading.{comes_after};
 ghost use Rattle.ds_join.specs.ItemTop.{IsTop};
 ghost use Rattle.ds_join.specs.ItemJoin.{IsJoin};
 ghost use Rattle.ds_held.specs.Held.{held_changes, held_items, held_floors, held_for, held_count, floor_for, floor_count, is_void_at, nothing_held, IsSound};
-ghost use Rattle.ds_held.specs.Join.{AreMerged, IsStopped};
+ghost use Rattle.ds_held.specs.Join.{AreMerged, IsJoinStopped};
 ghost use Rattle.ds_held.specs.Limits.{larger};
-ghost use Rattle.ds_held.specs.Merge.{after_merge, IsRefused, MergeAnswer};
+ghost use Rattle.ds_held.specs.Merge.{after_merge, IsMergeRefused, MergeAnswer};
 ghost use Rattle.ds_held.specs.Raise.{after_raise, RaiseAnswer};
+ghost use Rattle.ds_entry.specs.Left.{value_of};
 
 use crate::floors::{floor_at, is_void, nth_floor};
 use crate::join::join_into;
@@ -59,11 +60,11 @@ impl Model for Held {
 
     ghost coded = { code_by (map.FinMap name_cmp ℕ × (map.FinMap key_cmp ChangeRecord × LimitsRecord)) (coded× (map.code name_row.coded generation_row.coded) (coded× (map.code key_row.coded change_row.coded) limits_row.coded)) (λ h. (h.floors, (h.changes, h.limits))) (λ p. record { floors = p.0; changes = p.1.0; limits = p.1.1 }) (λ h i. h) };
 
-    ghost use Rattle.ds_held.specs.Kept.{holding_of, IsKept};
+    ghost use Rattle.ds_held.specs.Kept.{holding_of, AreKept};
 
     ghost view = { λ h. holding_of h.floors.items h.changes.items h.limits };
 
-    ghost invariant = { λ h. IsKept h.floors.items h.changes.items h.limits };
+    ghost invariant = { λ h. AreKept h.floors.items h.changes.items h.limits };
 }
 
 impl Held {
@@ -215,7 +216,7 @@ impl Held {
     /// change which is known, stale or refused takes no memory.
     pub fn merge_copy(&mut self, alloc: Global, change: &Change) -> Result<Merge, JoinFault>
         ensures answer { OnOk result (MergeAnswer self.old change.now result) }
-        ensures refused { IfErr result (IsRefused self.old change.now) }
+        ensures refused { IfErr result (IsMergeRefused self.old change.now) }
         ensures after { self.new ≡ after_merge self.old change.now result }
         ensures joined { OnOk result (IsTop (held_items self.new) (held_items self.old ++ Changed change.now ∷ [])) }
         ensures sound { IsSound self.new }
@@ -244,7 +245,7 @@ impl Held {
     pub fn join(&mut self, alloc: Global, other: &Held) -> Result<(), Stop>
         ensures joined { OnOk result (IsJoin (held_items self.new) (held_items self.old) (held_items other.now)) }
         ensures each { OnOk result (AreMerged self.old (held_items other.now) self.new) }
-        ensures stopped { IfErr result (IsStopped self.old (held_items other.now) self.new) }
+        ensures stopped { IfErr result (IsJoinStopped self.old (held_items other.now) self.new) }
         ensures kept { IfErr result (λ stop. IsTop (held_items self.new) (held_items self.old ++ take stop.done (held_items other.now))) }
         ensures sound { IsSound self.new }
     {

@@ -3,8 +3,8 @@
 ghost use Rattle.std.specs.Prelude.{◌≡◌, ◌≤◌, ◌<◌, ◌++◌, List, map, length, IfErr, OnOk};
 ghost use Rattle.ds_entry.specs.declared.item.Item.{Item};
 ghost use Rattle.ds_held.specs.Held.{Holding, change_item};
-ghost use Rattle.ds_held.specs.Join.{AreMerged, IsStopped};
-ghost use Rattle.ds_held.specs.Kept.{floored, holding_of, IsKept};
+ghost use Rattle.ds_held.specs.Join.{AreMerged, IsJoinStopped};
+ghost use Rattle.ds_held.specs.Kept.{floored, holding_of, AreKept};
 
 use crate::limits::Limits;
 use crate::list::merge_copy;
@@ -20,10 +20,10 @@ fn raise_all(
     limits: Limits,
     other: &[Floor],
 ) -> Result<(), Stop>
-    requires { IsKept floors.old.items changes.old.items limits }
+    requires { AreKept floors.old.items changes.old.items limits }
     ensures merged { OnOk result (AreMerged (holding_of floors.old.items changes.old.items limits) (map floored other.now) (holding_of floors.new.items changes.new.items limits)) }
-    ensures stopped { IfErr result (IsStopped (holding_of floors.old.items changes.old.items limits) (map floored other.now) (holding_of floors.new.items changes.new.items limits)) }
-    ensures kept { IsKept floors.new.items changes.new.items limits }
+    ensures stopped { IfErr result (IsJoinStopped (holding_of floors.old.items changes.old.items limits) (map floored other.now) (holding_of floors.new.items changes.new.items limits)) }
+    ensures kept { AreKept floors.new.items changes.new.items limits }
 {
     let mut done = 0;
     for floor in other {
@@ -43,11 +43,11 @@ fn merge_all(
     limits: Limits,
     other: &[Change],
 ) -> Result<(), Stop>
-    requires { IsKept floors.now changes.old.items limits }
+    requires { AreKept floors.now changes.old.items limits }
     ensures merged { OnOk result (AreMerged (holding_of floors.now changes.old.items limits) (map change_item other.now) (holding_of floors.now changes.new.items limits)) }
-    ensures stopped { IfErr result (IsStopped (holding_of floors.now changes.old.items limits) (map change_item other.now) (holding_of floors.now changes.new.items limits)) }
+    ensures stopped { IfErr result (IsJoinStopped (holding_of floors.now changes.old.items limits) (map change_item other.now) (holding_of floors.now changes.new.items limits)) }
     ensures within { IfErr result (λ stop. stop.done < length other.now) }
-    ensures kept { IsKept floors.now changes.new.items limits }
+    ensures kept { AreKept floors.now changes.new.items limits }
 {
     let mut done = 0;
     for change in other {
@@ -68,12 +68,12 @@ fn merge_behind(
     before: usize,
     other: &[Change],
 ) -> Result<(), Stop>
-    requires kept { IsKept floors.now changes.old.items limits }
+    requires kept { AreKept floors.now changes.old.items limits }
     requires few_before { before ≤ 64 }
     requires few { length other.now ≤ 4096 }
     ensures merged { OnOk result (AreMerged (holding_of floors.now changes.old.items limits) (map change_item other.now) (holding_of floors.now changes.new.items limits)) }
-    ensures stopped { (old : Holding) (raised : List Item) → AreMerged old raised (holding_of floors.now changes.old.items limits) → before ≡ length raised → IfErr result (IsStopped old (raised ++ map change_item other.now) (holding_of floors.now changes.new.items limits)) }
-    ensures kept { IsKept floors.now changes.new.items limits }
+    ensures stopped { (old : Holding) (raised : List Item) → AreMerged old raised (holding_of floors.now changes.old.items limits) → before ≡ length raised → IfErr result (IsJoinStopped old (raised ++ map change_item other.now) (holding_of floors.now changes.new.items limits)) }
+    ensures kept { AreKept floors.now changes.new.items limits }
 {
     match merge_all(alloc, floors, changes, limits, other) {
         Ok(()) => Ok(()),
@@ -93,12 +93,12 @@ pub(crate) fn join_into(
     other_floors: &[Floor],
     other_changes: &[Change],
 ) -> Result<(), Stop>
-    requires kept { IsKept floors.old.items changes.old.items limits }
+    requires kept { AreKept floors.old.items changes.old.items limits }
     requires few_floors { length other_floors.now ≤ 64 }
     requires few { length other_changes.now ≤ 4096 }
     ensures merged { OnOk result (AreMerged (holding_of floors.old.items changes.old.items limits) (map floored other_floors.now ++ map change_item other_changes.now) (holding_of floors.new.items changes.new.items limits)) }
-    ensures stopped { IfErr result (IsStopped (holding_of floors.old.items changes.old.items limits) (map floored other_floors.now ++ map change_item other_changes.now) (holding_of floors.new.items changes.new.items limits)) }
-    ensures kept { IsKept floors.new.items changes.new.items limits }
+    ensures stopped { IfErr result (IsJoinStopped (holding_of floors.old.items changes.old.items limits) (map floored other_floors.now ++ map change_item other_changes.now) (holding_of floors.new.items changes.new.items limits)) }
+    ensures kept { AreKept floors.new.items changes.new.items limits }
 {
     match raise_all(floors, changes, limits, other_floors) {
         Ok(()) => merge_behind(

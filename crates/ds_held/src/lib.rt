@@ -16,7 +16,6 @@ mod order;
 mod reading;
 mod void;
 
-pub use floors::MOST_FLOORS;
 pub use held::Held;
 pub use laws::held_places_need_no_room;
 pub use limits::Limits;

@@ -2,8 +2,8 @@
 
 ghost use Rattle.std.specs.Prelude.{◌≡◌, ◌≤◌, Ok, IfErr, OnOk, vec_len};
 ghost use Rattle.ds_entry.specs.Change.{IsChange};
-ghost use Rattle.ds_held.specs.Kept.{holding_of, left_by, list_after, put_at, IsKept, IsPlace, IsPut};
-ghost use Rattle.ds_held.specs.Merge.{after_merge, AnswersHeld, AnswersNew, AnswersOwn, IsRefused, MergeAnswer, UnlessVoid};
+ghost use Rattle.ds_held.specs.Kept.{holding_of, left_by_floor, list_after, put_at, AreKept, IsPlace, IsPut};
+ghost use Rattle.ds_held.specs.Merge.{after_merge, AnswersHeld, AnswersNew, AnswersOwn, IsMergeRefused, MergeAnswer, UnlessVoid};
 
 use crate::floors::is_void;
 use crate::limits::Limits;
@@ -65,7 +65,7 @@ pub(crate) fn outlook(
     place: Result<usize, usize>,
     change: &Change,
 ) -> Result<Merge, JoinFault>
-    requires kept { IsKept floors.now changes.now limits }
+    requires kept { AreKept floors.now changes.now limits }
     requires place { IsPlace changes.now change.now.key place }
     ensures { MergeAnswer (holding_of floors.now changes.now limits) change.now result }
 {
@@ -107,10 +107,10 @@ pub(crate) fn merge_into(
     limits: Limits,
     change: Change,
 ) -> Result<Merge, JoinFault>
-    requires { IsKept floors.now changes.old.items limits }
+    requires { AreKept floors.now changes.old.items limits }
     ensures answer { MergeAnswer (holding_of floors.now changes.old.items limits) change result }
     ensures after { holding_of floors.now changes.new.items limits ≡ after_merge (holding_of floors.now changes.old.items limits) change result }
-    ensures kept { IsKept floors.now changes.new.items limits }
+    ensures kept { AreKept floors.now changes.new.items limits }
     ensures change { IsChange change }
 {
     let place = place_of(changes, change.key());
@@ -128,11 +128,11 @@ pub(crate) fn merge_copy(
     limits: Limits,
     change: &Change,
 ) -> Result<Merge, JoinFault>
-    requires { IsKept floors.now changes.old.items limits }
+    requires { AreKept floors.now changes.old.items limits }
     ensures answer { OnOk result (MergeAnswer (holding_of floors.now changes.old.items limits) change.now result) }
-    ensures refused { IfErr result (IsRefused (holding_of floors.now changes.old.items limits) change.now) }
+    ensures refused { IfErr result (IsMergeRefused (holding_of floors.now changes.old.items limits) change.now) }
     ensures after { holding_of floors.now changes.new.items limits ≡ after_merge (holding_of floors.now changes.old.items limits) change.now result }
-    ensures kept { IsKept floors.now changes.new.items limits }
+    ensures kept { AreKept floors.now changes.new.items limits }
 {
     let place = place_of(changes, change.key());
     match outlook(floors, changes, limits, place, change)? {
@@ -146,7 +146,7 @@ pub(crate) fn merge_copy(
 
 // Drops the changes that a floor makes void. It takes no memory.
 pub(crate) fn drop_void(changes: &mut Vec<Change>, floor: &Floor)
-    ensures { changes.new.items ≡ left_by floor.now changes.old.items }
+    ensures { changes.new.items ≡ left_by_floor floor.now changes.old.items }
 {
     changes.retain(|change| !floor.voids(change));
 }

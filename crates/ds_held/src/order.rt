@@ -6,7 +6,7 @@ ghost use Rattle.std.specs.Option.{option_copied};
 ghost use Rattle.std.specs.List.{find};
 ghost use Rattle.ds_entry.specs.Change.{IsChange};
 ghost use Rattle.ds_join.specs.Reading.{comes_after};
-ghost use Rattle.ds_held.specs.Kept.{AreKeysRising, IsPlace, changes_of};
+ghost use Rattle.ds_held.specs.Kept.{AreKeysRising, IsPlace, changes_map};
 
 use ds_entry::Change;
 use ds_names::Key;
@@ -33,7 +33,7 @@ pub(crate) fn nth(changes: &[Change], index: usize) -> Option<&Change>
 // The change of a key.
 pub(crate) fn change_at<'a>(changes: &'a [Change], key: &Key) -> Option<&'a Change>
     requires { AreKeysRising changes.now }
-    ensures value { option_copied result ≡ get (changes_of changes.now) key.now }
+    ensures value { option_copied result ≡ get (changes_map changes.now) key.now }
     ensures change { IfSome (option_copied result) IsChange }
 {
     match place_of(changes, key) {

@@ -2,7 +2,7 @@
 
 ghost use Rattle.std.specs.Prelude.{◌≡◌, ◌<◌, ◌≤◌, ◌+◌, if◌then◌else◌, length, vec_len};
 ghost use Rattle.std.specs.List.{swap};
-ghost use Rattle.ds_held.specs.Kept.{holding_of, left_by, list_after, marks_left, IsKept};
+ghost use Rattle.ds_held.specs.Kept.{holding_of, left_by_floor, list_after, marks_left, AreKept};
 ghost use Rattle.ds_held.specs.Raise.{after_raise, RaiseAnswer};
 
 use crate::floors::raise;
@@ -18,11 +18,11 @@ pub(crate) fn raise_into(
     limits: Limits,
     floor: Floor,
 ) -> Result<Merge, JoinFault>
-    requires { IsKept floors.old.items changes.old.items limits }
+    requires { AreKept floors.old.items changes.old.items limits }
     ensures answer { RaiseAnswer (holding_of floors.old.items changes.old.items limits) floor result }
     ensures after { holding_of floors.new.items changes.new.items limits ≡ after_raise (holding_of floors.old.items changes.old.items limits) floor result }
-    ensures kept { IsKept floors.new.items changes.new.items limits }
-    ensures changes { changes.new.items ≡ list_after changes.old.items (left_by floor changes.old.items) result }
+    ensures kept { AreKept floors.new.items changes.new.items limits }
+    ensures changes { changes.new.items ≡ list_after changes.old.items (left_by_floor floor changes.old.items) result }
 {
     match raise(floors, floor)? {
         Merge::Taken => {
@@ -68,12 +68,12 @@ pub(crate) fn raise_beside<M: Drop>(
     limits: Limits,
     floor: Floor,
 ) -> Result<Merge, JoinFault>
-    requires kept { IsKept floors.old.items changes.old.items limits }
+    requires kept { AreKept floors.old.items changes.old.items limits }
     requires each { length marks.old.items ≡ length changes.old.items }
     ensures answer { RaiseAnswer (holding_of floors.old.items changes.old.items limits) floor result }
     ensures after { holding_of floors.new.items changes.new.items limits ≡ after_raise (holding_of floors.old.items changes.old.items limits) floor result }
-    ensures kept { IsKept floors.new.items changes.new.items limits }
-    ensures changes { changes.new.items ≡ list_after changes.old.items (left_by floor changes.old.items) result }
+    ensures kept { AreKept floors.new.items changes.new.items limits }
+    ensures changes { changes.new.items ≡ list_after changes.old.items (left_by_floor floor changes.old.items) result }
     ensures marks { marks.new.items ≡ list_after marks.old.items (marks_left floor changes.old.items marks.old.items) result }
 {
     match raise(floors, floor)? {

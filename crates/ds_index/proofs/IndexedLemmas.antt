@@ -1,5 +1,5 @@
 -- What is listed of what is held.
-use Rattle.std.proofs.Common.{◌≡◌, ℕ, ◌⊎◌, ◌&&◌, ◌==◌, Bool, true, false, cond, List, [], ◌∷◌, Option, Some, None, refl, sym, ap, ◌∙◌, subst, inl, inr, Contains}
+use Rattle.std.proofs.Common.{◌≡◌, ℕ, ◌⊎◌, ◌==◌, Bool, true, false, cond, List, [], ◌∷◌, Option, Some, None, refl, sym, ap, ◌∙◌, subst, inl, inr, Contains}
 use Rattle.std.specs.declared.cmp.Ordering.{Ordering}
 use Rattle.std.specs.declared.cmp.Ordering.TheVariants.{Less, Equal, Greater}
 use Rattle.std.specs.Ordering.{nat_cmp, is_eq, eq_by_cmp, ordering_then, ordering_reverse}
@@ -11,11 +11,11 @@ use Rattle.std.specs.Option.{option_map}
 use Rattle.std.proofs.lemmas.Option.{same_Some}
 use Rattle.std.proofs.lemmas.Cmp.{nat_list_cmp_total}
 use Rattle.std.proofs.lemmas.Map.Keys.{sorted_head, sorted_tail}
-use Rattle.std.proofs.lemmas.Bool.{eqb-true, eq-eqb}
+use Rattle.std.proofs.lemmas.Bool.{eqb-true, eq-eqb, and_parts, and_from}
 use Rattle.std.proofs.lemmas.List.Elements.{All-contains}
 use Rattle.std.specs.List.{All}
 use Rattle.ds_names.specs.Endpoint.{EndpointRecord}
-use Rattle.ds_names.specs.Key.{name_cmp, key_cmp}
+use Rattle.ds_names.specs.Key.{name_cmp, key_cmp, label_key}
 use Rattle.ds_names.specs.declared.key.Key.{Key}
 use Rattle.ds_names.specs.declared.kind.Kind.{Kind}
 use Rattle.ds_names.specs.declared.kind.Kind.TheVariants.{Label}
@@ -29,13 +29,16 @@ use Rattle.ds_entry.specs.Covers.{change_cmp}
 use Rattle.ds_entry.proofs.Members.{In, In-from_Contains, Contains-from_In, Contains-nil}
 use Rattle.ds_entry.proofs.CoversLemmas.{same_key, same_key-refl}
 use Rattle.ds_join.specs.Label.{names_endpoint, is_label_of}
-use Rattle.ds_join.specs.Reading.{value_of, value_in}
-use Rattle.ds_join.proofs.MapLemmas.{held_in_order, Contains-held, held_at_key, from_along}
+use Rattle.ds_join.proofs.MapLemmas.{held_in_order, Contains-held, held_at_key}
 use Rattle.ds_index.specs.declared.named.Named.{Named}
-use Rattle.ds_index.specs.Named.{named_at, named_cmp, holder_cmp, is_of}
+use Rattle.ds_index.specs.Named.{named_at, named_cmp, holder_cmp, holds_endpoint}
 use Rattle.ds_index.specs.Index.{IsAdded, IsReplaced}
-use Rattle.ds_index.specs.Indexed.{endpoint_of_value, endpoint_in, label_key, holder_for, IsIndexed}
+use Rattle.ds_index.specs.Indexed.{endpoint_left, holder_for, IsIndexed}
 use Rattle.ds_index.proofs.NamedLemmas.{holders_total, same_holder}
+use Rattle.ds_entry.specs.Left.{value_of, endpoint_of_value, endpoint_in}
+use Rattle.std.specs.Prelude.{option_and_then}
+use Rattle.ds_names.proofs.Tests.{equal_is}
+use Rattle.ds_entry.proofs.OrderedLemmas.{from_along}
 
 pub same_pair : {p q : Named} → p.endpoint ≡ q.endpoint → p.name ≡ q.name → p ≡ q
 same_pair a b = λ i. record { endpoint = a i; name = b i }
@@ -52,10 +55,10 @@ module _ (old : FinMap key_cmp ChangeRecord) (c : ChangeRecord) where
   abbrev pub taken : FinMap key_cmp ChangeRecord
   taken = insert old c.key c
 
-  holder_after : (name : List ℕ) (b : Bool) → eq_by_cmp key_cmp (label_key name) c.key ≡ b → holder_for taken name ≡ cond b (Some (endpoint_in c)) (holder_for old name)
-  holder_after name b e = ap (option_map endpoint_in) (get-insert keys_total old c.key c (label_key name) ∙ ap (λ t. cond t (Some c) (get old (label_key name))) e) ∙ by_test b
+  holder_after : (name : List ℕ) (b : Bool) → eq_by_cmp key_cmp (label_key name) c.key ≡ b → holder_for taken name ≡ cond b (Some (endpoint_left c)) (holder_for old name)
+  holder_after name b e = ap (option_map endpoint_left) (get-insert keys_total old c.key c (label_key name) ∙ ap (λ t. cond t (Some c) (get old (label_key name))) e) ∙ by_test b
     where
-      by_test : (b : Bool) → option_map endpoint_in (cond b (Some c) (get old (label_key name))) ≡ cond b (Some (endpoint_in c)) (holder_for old name)
+      by_test : (b : Bool) → option_map endpoint_left (cond b (Some c) (get old (label_key name))) ≡ cond b (Some (endpoint_left c)) (holder_for old name)
       by_test true = refl
       by_test false = refl
 
@@ -73,7 +76,7 @@ module _ (old : FinMap key_cmp ChangeRecord) (c : ChangeRecord) where
           by_test true e = absurd (other (ap (λ (k : Key). k.kind) (sym (same_key (label_key name) c.key e))))
           by_test false e = holder_after name false e
 
-  module _ (names news : List Named) (after : Named) (i : IsIndexed old names) (label : c.key.kind ≡ Label) (is : after ≡ named_at (endpoint_in c) c.key.name) where
+  module _ (names news : List Named) (after : Named) (i : IsIndexed old names) (label : c.key.kind ≡ Label) (is : after ≡ named_at (endpoint_left c) c.key.name) where
     own_key : eq_by_cmp key_cmp (label_key c.key.name) c.key ≡ true
     own_key = same_key-refl (label_key c.key.name) c.key (sym (label_key_is c.key label))
 
@@ -82,7 +85,7 @@ module _ (old : FinMap key_cmp ChangeRecord) (c : ChangeRecord) where
 
     after_listed : (p : Named) → eq_by_cmp key_cmp (label_key p.name) c.key ≡ true → holder_for taken p.name ≡ Some p.endpoint → p ≡ after
     after_listed p e h =
-        same_pair (sym (same_Some (endpoint_in c) p.endpoint (sym (holder_after p.name true e) ∙ h))) (ap (λ (k : Key). k.name) (same_key (label_key p.name) c.key e)) ∙ sym is
+        same_pair (sym (same_Some (endpoint_left c) p.endpoint (sym (holder_after p.name true e) ∙ h))) (ap (λ (k : Key). k.name) (same_key (label_key p.name) c.key e)) ∙ sym is
 
     -- a new label was
     pub new_indexed : get old c.key ≡ None → IsAdded names news after → IsIndexed taken news
@@ -96,13 +99,13 @@ module _ (old : FinMap key_cmp ChangeRecord) (c : ChangeRecord) where
         by_listed p false e h = added.keeps p (i.listed p (sym (holder_after p.name false e) ∙ h))
 
         by_held : (p : Named) (b : Bool) → eq_by_cmp key_cmp (label_key p.name) c.key ≡ b → Contains names p → holder_for taken p.name ≡ Some p.endpoint
-        by_held p true e k = none_is (sym (ap (λ (key : Key). option_map endpoint_in (get old key)) (same_key (label_key p.name) c.key e) ∙ ap (option_map endpoint_in) none) ∙ i.held p k)
+        by_held p true e k = none_is (sym (ap (λ (key : Key). option_map endpoint_left (get old key)) (same_key (label_key p.name) c.key e) ∙ ap (option_map endpoint_left) none) ∙ i.held p k)
         by_held p false e k = holder_after p.name false e ∙ i.held p k
 
     pub not_listed : get old c.key ≡ None → Contains names after → ⊥
     not_listed none h =
         none_is
-        (sym (ap (λ (q : Named). holder_for old q.name) is ∙ ap (λ (key : Key). option_map endpoint_in (get old key)) (sym (label_key_is c.key label)) ∙ ap (option_map endpoint_in) none) ∙ i.held after h)
+        (sym (ap (λ (q : Named). holder_for old q.name) is ∙ ap (λ (key : Key). option_map endpoint_left (get old key)) (sym (label_key_is c.key label)) ∙ ap (option_map endpoint_left) none) ∙ i.held after h)
 
     -- a label took the place of the one that was held
     module _ (before : Named) (name : before.name ≡ c.key.name) (held : holder_for old before.name ≡ Some before.endpoint) where
@@ -131,7 +134,7 @@ module _ (old : FinMap key_cmp ChangeRecord) (c : ChangeRecord) where
 
 pub nothing_indexed : (changes : FinMap key_cmp ChangeRecord) (names : List Named) → changes ≡ empty → names ≡ [] → IsIndexed changes names
 nothing_indexed changes names e f = record {
-  listed = λ p q. none_is (sym (ap (λ (x : FinMap key_cmp ChangeRecord). holder_for x p.name) e ∙ ap (option_map endpoint_in) (get-empty key_cmp (label_key p.name))) ∙ q);
+  listed = λ p q. none_is (sym (ap (λ (x : FinMap key_cmp ChangeRecord). holder_for x p.name) e ∙ ap (option_map endpoint_left) (get-empty key_cmp (label_key p.name))) ∙ q);
   held = λ p k. absurd (Contains-nil p (subst (λ (l : List Named). Contains l p) f k));
 }
 
@@ -173,28 +176,15 @@ module _ {X : Type 0} where
       by_test false q f (inl r) rest = let no : true ≡ false = sym t ∙ ap p r ∙ q in absurd (cc)
       by_test false q f (inr k) rest = rest f k
 
-tied_holder : (o : Ordering) → is_eq o ≡ true → o ≡ Equal
-tied_holder Less q = absurd (cc)
-tied_holder Equal q = refl
-tied_holder Greater q = absurd (cc)
-
 -- one of two names isn't before the other and behind it
 not_both : (a b : List ℕ) → name_cmp a b ≡ Less → name_cmp b a ≡ Less → ⊥
 not_both a b l m = let no : Greater ≡ Less = sym (nat_list_cmp_total.antisymm b a ∙ ap ordering_reverse l) ∙ m in absurd (cc)
 
-both_true : (a b : Bool) → a && b ≡ true → (a ≡ true) × (b ≡ true)
-both_true true b e = (refl, e)
-both_true false b e = absurd (cc)
-
-true_both : (a b : Bool) → a ≡ true → b ≡ true → a && b ≡ true
-true_both true b e f = f
-true_both false b e f = absurd (cc)
-
 -- a value is the endpoint's label just where it holds that one
-value_holds : (e : EndpointRecord) (o : Option Value) → is_label_of e o ≡ true → endpoint_of_value o ≡ Some e
+value_holds : (e : EndpointRecord) (o : Option Value) → is_label_of e o ≡ true → option_and_then endpoint_of_value o ≡ Some e
 value_holds e None h = absurd (cc)
 value_holds e (Some (values.Label d)) h =
-    let same = both_true (d.generation == e.generation) (d.slot == e.slot) h in
+    let same = and_parts (d.generation == e.generation) (d.slot == e.slot) h in
     let generation : d.generation ≡ e.generation = eqb-true d.generation e.generation same.0 in
     let slot : d.slot ≡ e.slot = eqb-true d.slot e.slot same.1 in
     λ i. Some (record { generation = generation i; slot = slot i })
@@ -202,17 +192,17 @@ value_holds e (Some (values.U32 n)) h = absurd (cc)
 value_holds e (Some (values.Str t)) h = absurd (cc)
 value_holds e (Some (values.Mem b)) h = absurd (cc)
 
-holds_value : (e : EndpointRecord) (o : Option Value) → endpoint_of_value o ≡ Some e → is_label_of e o ≡ true
+holds_value : (e : EndpointRecord) (o : Option Value) → option_and_then endpoint_of_value o ≡ Some e → is_label_of e o ≡ true
 holds_value e None h = none_is h
 holds_value e (Some (values.Label d)) h =
     let same : d ≡ e = same_Some d e h in
-    true_both (d.generation == e.generation) (d.slot == e.slot) (eq-eqb d.generation e.generation (ap (λ (x : EndpointRecord). x.generation) same)) (eq-eqb d.slot e.slot (ap (λ (x : EndpointRecord). x.slot) same))
+    and_from (d.generation == e.generation) (d.slot == e.slot) (eq-eqb d.generation e.generation (ap (λ (x : EndpointRecord). x.generation) same)) (eq-eqb d.slot e.slot (ap (λ (x : EndpointRecord). x.slot) same))
 holds_value e (Some (values.U32 n)) h = none_is h
 holds_value e (Some (values.Str t)) h = none_is h
 holds_value e (Some (values.Mem b)) h = none_is h
 
 -- what leaves an endpoint is of a label's kind
-label_kind : (e : EndpointRecord) (kind : Kind) (b : Body) → IsOfKind kind b → endpoint_of_value (value_in b) ≡ Some e → kind ≡ Label
+label_kind : (e : EndpointRecord) (kind : Kind) (b : Body) → IsOfKind kind b → endpoint_in b ≡ Some e → kind ≡ Label
 label_kind e kind (Put (values.Label d)) k h = sym k
 label_kind e kind (Put (values.U32 n)) k h = none_is h
 label_kind e kind (Put (values.Str t)) k h = none_is h
@@ -229,7 +219,7 @@ module _ (changes : FinMap key_cmp ChangeRecord) (own : (key : Key) (c : ChangeR
   held_listed c k t =
       In-from_Contains (named_at (Some e) c.key.name) names
       (i.listed (named_at (Some e) c.key.name)
-      (ap (λ (key : Key). option_map endpoint_in (get changes key)) (sym (held_label c k t)) ∙ ap (option_map endpoint_in) (held_at_key changes own c (Contains-from_In c (values changes) k)) ∙ ap (λ o. Some o) (value_holds e (value_of c) t)))
+      (ap (λ (key : Key). option_map endpoint_left (get changes key)) (sym (held_label c k t)) ∙ ap (option_map endpoint_left) (held_at_key changes own c (Contains-from_In c (values changes) k)) ∙ ap (λ o. Some o) (value_holds e (value_of c) t)))
 
   -- and a listed one of the endpoint is held
   pub record Holder (name : List ℕ) : Type 0 where
@@ -238,20 +228,20 @@ module _ (changes : FinMap key_cmp ChangeRecord) (own : (key : Key) (c : ChangeR
     pub holds : names_endpoint e change ≡ true
     pub key : change.key ≡ label_key name
 
-  of_endpoint : (p : Named) → is_of e p ≡ true → p.endpoint ≡ Some e
-  of_endpoint p t = same_holder p.endpoint (Some e) (tied_holder (holder_cmp p.endpoint (Some e)) t)
+  of_endpoint : (p : Named) → holds_endpoint e p ≡ true → p.endpoint ≡ Some e
+  of_endpoint p t = same_holder p.endpoint (Some e) (equal_is (holder_cmp p.endpoint (Some e)) t)
 
-  listed_held : (p : Named) → In p names → is_of e p ≡ true → Holder p.name
+  listed_held : (p : Named) → In p names → holds_endpoint e p ≡ true → Holder p.name
   listed_held p k t = by_held (get changes (label_key p.name)) refl
     where
       by_held : (o : Option ChangeRecord) → get changes (label_key p.name) ≡ o → Holder p.name
-      by_held None q = none_is (sym (ap (option_map endpoint_in) q) ∙ i.held p (Contains-from_In p names k))
+      by_held None q = none_is (sym (ap (option_map endpoint_left) q) ∙ i.held p (Contains-from_In p names k))
       by_held (Some c) q =
-          let holds : endpoint_in c ≡ Some e =
-          same_Some (endpoint_in c) (Some e) (sym (ap (option_map endpoint_in) q) ∙ i.held p (Contains-from_In p names k) ∙ ap (λ o. Some o) (of_endpoint p t)) in
+          let holds : endpoint_left c ≡ Some e =
+          same_Some (endpoint_left c) (Some e) (sym (ap (option_map endpoint_left) q) ∙ i.held p (Contains-from_In p names k) ∙ ap (λ o. Some o) (of_endpoint p t)) in
           record { change = c; among = In-from_Contains c (values changes) (Contains-held changes (label_key p.name) c q); holds = holds_value e (value_of c) holds; key = own (label_key p.name) c q }
 
-  is_of_itself : (name : List ℕ) → is_of e (named_at (Some e) name) ≡ true
+  is_of_itself : (name : List ℕ) → holds_endpoint e (named_at (Some e) name) ≡ true
   is_of_itself name = ap is_eq (tied_itself holders_total (Some e))
 
   name_before : (a b : List ℕ) → named_cmp (named_at (Some e) a) (named_at (Some e) b) ≡ Less → name_cmp a b ≡ Less
@@ -265,10 +255,10 @@ module _ (changes : FinMap key_cmp ChangeRecord) (own : (key : Key) (c : ChangeR
       by_order Equal m = absurd (let no : Equal ≡ Less = m in cc)
       by_order Greater m = absurd (let no : Greater ≡ Less = m in cc)
 
-  pub name_found : option_map (λ (p : Named). p.name) (find (is_of e) names) ≡ option_map (λ (c : ChangeRecord). c.key.name) (find (names_endpoint e) (values changes))
-  name_found = by_found (find (is_of e) names) refl (find (names_endpoint e) (values changes)) refl
+  pub name_found : option_map (λ (p : Named). p.name) (find (holds_endpoint e) names) ≡ option_map (λ (c : ChangeRecord). c.key.name) (find (names_endpoint e) (values changes))
+  name_found = by_found (find (holds_endpoint e) names) refl (find (names_endpoint e) (values changes)) refl
     where
-      least : (p : Named) (c : ChangeRecord) → find (is_of e) names ≡ Some p → find (names_endpoint e) (values changes) ≡ Some c → (hold : Holder p.name) → In c (values changes) → names_endpoint e c ≡ true → p.endpoint ≡ Some e
+      least : (p : Named) (c : ChangeRecord) → find (holds_endpoint e) names ≡ Some p → find (names_endpoint e) (values changes) ≡ Some c → (hold : Holder p.name) → In c (values changes) → names_endpoint e c ≡ true → p.endpoint ≡ Some e
           → (c ≡ hold.change) ⊎ (change_cmp c hold.change ≡ Less) → (p ≡ named_at (Some e) c.key.name) ⊎ (named_cmp p (named_at (Some e) c.key.name) ≡ Less) → p.name ≡ c.key.name
       least p c f g hold k t at (inl q) r = sym (ap (λ (x : ChangeRecord). x.key.name) q ∙ ap (λ (key : Key). key.name) hold.key)
       least p c f g hold k t at (inr l) (inl q) = ap (λ (x : Named). x.name) q
@@ -277,19 +267,19 @@ module _ (changes : FinMap key_cmp ChangeRecord) (own : (key : Key) (c : ChangeR
           let second : named_cmp (named_at (Some e) p.name) (named_at (Some e) c.key.name) ≡ Less = ap (λ o. named_cmp (named_at o p.name) (named_at (Some e) c.key.name)) (sym at) ∙ m in
           absurd (not_both c.key.name p.name (key_before c.key.name p.name first) (name_before p.name c.key.name second))
 
-      by_found : (o : Option Named) → find (is_of e) names ≡ o → (r : Option ChangeRecord) → find (names_endpoint e) (values changes) ≡ r → option_map (λ (p : Named). p.name) o ≡ option_map (λ (c : ChangeRecord). c.key.name) r
+      by_found : (o : Option Named) → find (holds_endpoint e) names ≡ o → (r : Option ChangeRecord) → find (names_endpoint e) (values changes) ≡ r → option_map (λ (p : Named). p.name) o ≡ option_map (λ (c : ChangeRecord). c.key.name) r
       by_found None f None g = refl
       by_found None f (Some c) g =
           let k = among (names_endpoint e) (values changes) c g in
           let t = passes (names_endpoint e) (values changes) c g in
-          absurd (none_among (is_of e) names (named_at (Some e) c.key.name) f (held_listed c k t) (is_of_itself c.key.name))
+          absurd (none_among (holds_endpoint e) names (named_at (Some e) c.key.name) f (held_listed c k t) (is_of_itself c.key.name))
       by_found (Some p) f None g =
-          let hold = listed_held p (among (is_of e) names p f) (passes (is_of e) names p f) in
+          let hold = listed_held p (among (holds_endpoint e) names p f) (passes (holds_endpoint e) names p f) in
           absurd (none_among (names_endpoint e) (values changes) hold.change g hold.among hold.holds)
       by_found (Some p) f (Some c) g =
-          let hold = listed_held p (among (is_of e) names p f) (passes (is_of e) names p f) in
+          let hold = listed_held p (among (holds_endpoint e) names p f) (passes (holds_endpoint e) names p f) in
           let k = among (names_endpoint e) (values changes) c g in
           let t = passes (names_endpoint e) (values changes) c g in
           ap (λ n. Some n)
-          (least p c f g hold k t (of_endpoint p (passes (is_of e) names p f)) (first_is_least change_cmp (names_endpoint e) (values changes) (held_in_order changes own) c hold.change g hold.among hold.holds)
-          (first_is_least named_cmp (is_of e) names sorted p (named_at (Some e) c.key.name) f (held_listed c k t) (is_of_itself c.key.name)))
+          (least p c f g hold k t (of_endpoint p (passes (holds_endpoint e) names p f)) (first_is_least change_cmp (names_endpoint e) (values changes) (held_in_order changes own) c hold.change g hold.among hold.holds)
+          (first_is_least named_cmp (holds_endpoint e) names sorted p (named_at (Some e) c.key.name) f (held_listed c k t) (is_of_itself c.key.name)))

@@ -5,11 +5,11 @@ use Rattle.std.specs.FinMap.{get, get-retain_keys}
 use Rattle.std.specs.Option.{option_map}
 use Rattle.ds_names.specs.declared.key.Key.{Key}
 use Rattle.ds_names.specs.declared.kind.Kind.TheVariants.{Label}
-use Rattle.ds_names.specs.Key.{name_cmp}
+use Rattle.ds_names.specs.Key.{name_cmp, label_key}
 use Rattle.ds_names.proofs.OrderLemmas.{exact_keys}
 use Rattle.ds_entry.specs.Change.{ChangeRecord}
 use Rattle.ds_entry.specs.Floor.{floor_of}
-use Rattle.ds_entry.specs.Void.{is_label, voids}
+use Rattle.ds_entry.specs.Void.{voids}
 use Rattle.ds_entry.specs.declared.floor.Floor.{Floor}
 use Rattle.ds_join.specs.declared.merge.Merge.{Merge}
 use Rattle.ds_join.specs.declared.merge.Merge.TheVariants.{Taken, Known, Stale}
@@ -19,8 +19,9 @@ use Rattle.ds_held.specs.Held.{Holding, held_for, held_count, floor_for, is_belo
 use Rattle.ds_held.specs.Merge.{AnswersNew, AnswersFor, MergeAnswer, after_merge}
 use Rattle.ds_held.specs.Raise.{stays, after_raise}
 use Rattle.ds_index.specs.declared.named.Named.{Named}
-use Rattle.ds_index.specs.Indexed.{endpoint_in, label_key, holder_for, IsIndexed}
+use Rattle.ds_index.specs.Indexed.{endpoint_left, holder_for, IsIndexed}
 use Rattle.ds_index.proofs.IndexedLemmas.{other_indexed}
+use Rattle.ds_names.specs.Kind.{is_label}
 
 -- no floor makes a label void
 label_stands : (f : Floor) (c : ChangeRecord) → c.key.kind ≡ Label → voids f c ≡ false
@@ -69,7 +70,7 @@ module _ (old : Holding) (sound : IsSound old) (f : Floor) (names : List Named) 
       by_held (Some c) e = ap (λ b. cond (not b) (Some c) None) (label_stands f c (ap (λ (k : Key). k.kind) (sound.own (label_key name) c e)))
 
   same_holder : (name : List ℕ) → holder_for (after_raise old f (Ok Taken)).changes name ≡ holder_for old.changes name
-  same_holder name = ap (option_map endpoint_in) (same_label name)
+  same_holder name = ap (option_map endpoint_left) (same_label name)
 
   pub raised_kept : (r : Result Merge JoinFault) → IsIndexed (after_raise old f r).changes names
   raised_kept (Ok Taken) = record {

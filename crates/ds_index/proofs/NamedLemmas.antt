@@ -7,17 +7,19 @@ use Rattle.std.specs.Cmp.{IsTotalOrder, tied_itself}
 use Rattle.std.specs.List.{find, slice_get, insert, remove, AllByRecursion}
 use Rattle.std.specs.Option.{option_map_or}
 use Rattle.std.specs.List.Sorted.{IsStrictlySortedBy, IsPartitionedBy, IsPartitionPoint}
-use Rattle.std.proofs.lemmas.Bool.Decides.{nat_tests}
 use Rattle.std.proofs.lemmas.Cmp.{on_total, then_total, nat_cmp_total, nat_list_cmp_total}
 use Rattle.std.proofs.lemmas.Map.Lookups.{exact_pairs, exact_unsigned, exact_bytes}
 use Rattle.std.proofs.lemmas.Option.{same_Some, slice_get_within, slice_get_cases, slice_get-get_or, get_or_from_slice_get}
 use Rattle.ds_entry.proofs.Members.{In, In-from_Contains, Contains-from_In}
 use Rattle.ds_names.specs.Endpoint.{EndpointRecord}
 use Rattle.ds_names.specs.Key.{name_cmp}
-use Rattle.ds_join.proofs.MapLemmas.{from_along}
 use Rattle.ds_index.specs.declared.named.Named.{Named}
-use Rattle.ds_index.specs.Named.{slot_of, generation_of, holder_cmp, named_cmp, is_behind, is_behind_in_slot, begins_behind, is_of, inserted}
+use Rattle.ds_index.specs.Named.{slot_of, generation_of, holder_cmp, named_cmp, is_label_behind, is_behind_in_slot, begins_behind, holds_endpoint, inserted_label}
 use Rattle.ds_index.specs.Index.{IsAdded, IsReplaced}
+use Rattle.std.proofs.lemmas.Bool.{eqb-true}
+use Rattle.ds_names.proofs.Tests.{opposed, less_is, turned}
+use Rattle.ds_entry.proofs.OrderedLemmas.{from_along}
+use Rattle.ds_held.proofs.SearchLemmas.{at}
 
 -- ---- the orders are total, and what compares alike is one
 pub holders_total : IsTotalOrder holder_cmp
@@ -44,46 +46,27 @@ same_holder a b h = sym (holder_at-numbers a) ∙ ap holder_at (exact_pairs nat_
 not_itself : (p : Named) → named_cmp p p ≡ Less → ⊥
 not_itself p l = let no : Equal ≡ Less = sym (tied_itself names_total p) ∙ l in absurd (cc)
 
-pub less_is : (o : Ordering) → is_lt o ≡ true → o ≡ Less
-less_is Less e = refl
-less_is Equal e = absurd (cc)
-less_is Greater e = absurd (cc)
-
-pub unset : (b : Bool) → not b ≡ true → b ≡ false
-unset false e = refl
-unset true e = absurd (cc)
-
-opposed : {A : Type 0} (b : Bool) → b ≡ true → b ≡ false → A
-opposed b t f = let no : true ≡ false = sym t ∙ f in absurd (cc)
-
 -- slots that differ tell which label stands behind
 apart_by : (less same : Bool) (x y : Ordering) → same ≡ false → less ≡ is_lt (ordering_then (ordering_then (cond less Less (cond same Equal Greater)) x) y)
 apart_by true same x y e = refl
 apart_by false false x y e = refl
 apart_by false true x y e = absurd (cc)
 
-pub slots_tell : (p q : Named) → (slot_of q.endpoint == slot_of p.endpoint) ≡ false → nat_lt (slot_of q.endpoint) (slot_of p.endpoint) ≡ is_behind p q
+pub slots_tell : (p q : Named) → (slot_of q.endpoint == slot_of p.endpoint) ≡ false → nat_lt (slot_of q.endpoint) (slot_of p.endpoint) ≡ is_label_behind p q
 slots_tell p q e = apart_by (nat_lt (slot_of q.endpoint) (slot_of p.endpoint)) (slot_of q.endpoint == slot_of p.endpoint) (nat_cmp (generation_of q.endpoint) (generation_of p.endpoint)) (name_cmp q.name p.name) e
 
-same_number : (a b : ℕ) → (a == b) ≡ true → a ≡ b
-same_number a b e = grind (arith, nat_tests)
-
 -- where they agree, the generations and names tell it
-pub slots_agree : (p q : Named) → (slot_of q.endpoint == slot_of p.endpoint) ≡ true → is_behind_in_slot p q ≡ is_behind p q
+pub slots_agree : (p q : Named) → (slot_of q.endpoint == slot_of p.endpoint) ≡ true → is_behind_in_slot p q ≡ is_label_behind p q
 slots_agree p q e =
-    let tied : nat_cmp (slot_of q.endpoint) (slot_of p.endpoint) ≡ Equal = ap (λ n. nat_cmp (slot_of q.endpoint) n) (sym (same_number (slot_of q.endpoint) (slot_of p.endpoint) e)) ∙ tied_itself nat_cmp_total (slot_of q.endpoint) in
+    let tied : nat_cmp (slot_of q.endpoint) (slot_of p.endpoint) ≡ Equal = ap (λ n. nat_cmp (slot_of q.endpoint) n) (sym (eqb-true (slot_of q.endpoint) (slot_of p.endpoint) e)) ∙ tied_itself nat_cmp_total (slot_of q.endpoint) in
     ap (λ o. is_lt (ordering_then (ordering_then o (nat_cmp (generation_of q.endpoint) (generation_of p.endpoint))) (name_cmp q.name p.name))) (sym tied)
 
 -- ---- where a label belongs
-at : {X : Type 0} (P : X → Type 0) (xs : List X) (j : ℕ) (d : X) → AllByRecursion P xs → j < length xs → P (get_or xs j d)
-at P [] j d a l = absurd (omega (arith, l))
-at P (x ∷ xs) zero d a l = a.0
-at P (x ∷ xs) (suc j) d a l = at P xs j d a.1 (omega (arith, l))
 
-behind_down : (p x y : Named) → named_cmp x y ≡ Less → is_behind p y ≡ true → is_behind p x ≡ true
+behind_down : (p x y : Named) → named_cmp x y ≡ Less → is_label_behind p y ≡ true → is_label_behind p x ≡ true
 behind_down p x y l u = ap is_lt (names_total.trans x y p l (less_is (named_cmp y p) u))
 
-pub behind_partitioned : (p : Named) (xs : List Named) → IsStrictlySortedBy named_cmp xs → IsPartitionedBy (is_behind p) xs
+pub behind_partitioned : (p : Named) (xs : List Named) → IsStrictlySortedBy named_cmp xs → IsPartitionedBy (is_label_behind p) xs
 unfolding IsStrictlySortedBy
 behind_partitioned p [] s i j d l w h = absurd (omega (arith, w))
 behind_partitioned p (x ∷ xs) s zero zero d l w h = h
@@ -92,7 +75,7 @@ behind_partitioned p (x ∷ xs) s (suc i) zero d l w h = absurd (omega (arith, l
 behind_partitioned p (x ∷ xs) s (suc i) (suc j) d l w h = behind_partitioned p xs s.1 i j d (omega (arith, l)) (omega (arith, w)) h
 
 abbrev pub IsPlaceOf : Named → List Named → ℕ → Type 0
-IsPlaceOf p xs i = IsPartitionPoint (λ q. is_behind p q ≡ true) (λ q. is_behind p q ≡ false) xs i
+IsPlaceOf p xs i = IsPartitionPoint (λ q. is_label_behind p q ≡ true) (λ q. is_label_behind p q ≡ false) xs i
 
 place_within : (p x : Named) (xs : List Named) (i : ℕ) → IsPlaceOf p (x ∷ xs) (suc i) → IsPlaceOf p xs i
 place_within p x xs i h = (λ k d l w. h.0 (suc k) d (omega (arith, l)) (omega (arith, w)), λ k d l w. h.1 (suc k) d (omega (arith, l)) (omega (arith, w)))
@@ -103,9 +86,9 @@ unfolding IsStrictlySortedBy
 place_is b [] i s h p = absurd h
 place_is b (x ∷ xs) zero s (inl e) p = ap (λ y. Some y) (sym e)
 place_is b (x ∷ xs) zero s (inr h) p =
-    opposed (is_behind b x) (ap is_lt (from_along (λ y. named_cmp x y ≡ Less) xs b s.0 h)) (p.1 0 x (omega arith) (omega arith))
+    opposed (is_label_behind b x) (ap is_lt (from_along (λ y. named_cmp x y ≡ Less) xs b s.0 h)) (p.1 0 x (omega arith) (omega arith))
 place_is b (x ∷ xs) (suc i) s (inl e) p =
-    let before : is_behind b x ≡ true = p.0 0 x (omega arith) (omega arith) in
+    let before : is_label_behind b x ≡ true = p.0 0 x (omega arith) (omega arith) in
     absurd (not_itself b (subst (λ (y : Named). named_cmp y b ≡ Less) (sym e) (less_is (named_cmp x b) before)))
 place_is b (x ∷ xs) (suc i) s (inr h) p = place_is b xs i s.1 h (place_within b x xs i p)
 
@@ -118,7 +101,7 @@ stands_within b xs ys i n s h e p long = subst (λ m. i < m) (sym long) (slice_g
 -- ---- a label between those beside an index
 -- what the label does with the one at the index
 abbrev pub behind_nth : Named → List Named → ℕ → Bool
-behind_nth p xs i = option_map_or (is_behind p) (slice_get xs i) false
+behind_nth p xs i = option_map_or (is_label_behind p) (slice_get xs i) false
 
 -- it belongs directly before the one at the index, or directly behind it
 abbrev pub IsNear : Named → List Named → ℕ → Type 0
@@ -126,27 +109,27 @@ IsNear p xs i = (j : ℕ) × IsPlaceOf p xs j × (i ≤ j) × (j ≤ i + 1)
 
 module _ (p : Named) (xs : List Named) (s : IsStrictlySortedBy named_cmp xs) where
   -- behind one label is behind all before it
-  behind_all : (i : ℕ) → behind_nth p xs i ≡ true → (k : ℕ) (d : Named) → k ≤ i → is_behind p (get_or xs k d) ≡ true
+  behind_all : (i : ℕ) → behind_nth p xs i ≡ true → (k : ℕ) (d : Named) → k ≤ i → is_label_behind p (get_or xs k d) ≡ true
   behind_all i b k d l = by_found (slice_get_cases xs i).1
     where
-      by_found : ((x : Named) × (i < length xs) × (slice_get xs i ≡ Some x) × (get_or xs i x ≡ x)) ⊎ ((length xs ≤ i) × (slice_get xs i ≡ None)) → is_behind p (get_or xs k d) ≡ true
+      by_found : ((x : Named) × (i < length xs) × (slice_get xs i ≡ Some x) × (get_or xs i x ≡ x)) ⊎ ((length xs ≤ i) × (slice_get xs i ≡ None)) → is_label_behind p (get_or xs k d) ≡ true
       by_found (inl w) =
           behind_partitioned p xs s k i d l w.1
-          (ap (is_behind p) (get_or_from_slice_get xs i w.0 d w.2) ∙ sym (ap (λ o. option_map_or (is_behind p) o false) w.2) ∙ b)
-      by_found (inr w) = opposed (behind_nth p xs i) b (ap (λ o. option_map_or (is_behind p) o false) w.1)
+          (ap (is_label_behind p) (get_or_from_slice_get xs i w.0 d w.2) ∙ sym (ap (λ o. option_map_or (is_label_behind p) o false) w.2) ∙ b)
+      by_found (inr w) = opposed (behind_nth p xs i) b (ap (λ o. option_map_or (is_label_behind p) o false) w.1)
 
   -- not behind one is behind none from it on
-  behind_none : (i : ℕ) → behind_nth p xs i ≡ false → (k : ℕ) (d : Named) → i ≤ k → k < length xs → is_behind p (get_or xs k d) ≡ false
-  behind_none i b k d l w = by_test (is_behind p (get_or xs k d)) refl
+  behind_none : (i : ℕ) → behind_nth p xs i ≡ false → (k : ℕ) (d : Named) → i ≤ k → k < length xs → is_label_behind p (get_or xs k d) ≡ false
+  behind_none i b k d l w = by_test (is_label_behind p (get_or xs k d)) refl
     where
-      by_test : (t : Bool) → is_behind p (get_or xs k d) ≡ t → t ≡ false
+      by_test : (t : Bool) → is_label_behind p (get_or xs k d) ≡ t → t ≡ false
       by_test false e = refl
       by_test true e =
           let here : i < length xs = omega (arith, l, w) in
-          let first : is_behind p (get_or xs i d) ≡ true = behind_partitioned p xs s i k d l w e in
-          opposed (behind_nth p xs i) (ap (λ o. option_map_or (is_behind p) o false) (slice_get-get_or xs i d here) ∙ first) b
+          let first : is_label_behind p (get_or xs i d) ≡ true = behind_partitioned p xs s i k d l w e in
+          opposed (behind_nth p xs i) (ap (λ o. option_map_or (is_label_behind p) o false) (slice_get-get_or xs i d here) ∙ first) b
 
-  between : (i : ℕ) → ((k : ℕ) (d : Named) → k < i → is_behind p (get_or xs k d) ≡ true) → behind_nth p xs (i + 1) ≡ false → IsNear p xs i
+  between : (i : ℕ) → ((k : ℕ) (d : Named) → k < i → is_label_behind p (get_or xs k d) ≡ true) → behind_nth p xs (i + 1) ≡ false → IsNear p xs i
   between i low high = by_test (behind_nth p xs i) refl
     where
       by_test : (t : Bool) → behind_nth p xs i ≡ t → IsNear p xs i
@@ -160,23 +143,23 @@ module _ (p : Named) (xs : List Named) (s : IsStrictlySortedBy named_cmp xs) whe
   near_next i j e low high = between i (λ k d l. behind_all j low k d (omega (arith, l, e))) high
 
 -- ---- one more label goes to its place
-pub inserted_there : (p : Named) (xs : List Named) (i : ℕ) → i ≤ length xs → IsPlaceOf p xs i → insert xs i p ≡ inserted p xs
+pub inserted_there : (p : Named) (xs : List Named) (i : ℕ) → i ≤ length xs → IsPlaceOf p xs i → insert xs i p ≡ inserted_label p xs
 inserted_there p [] zero w h = refl
 inserted_there p [] (suc i) w h = absurd (omega (arith, w))
-inserted_there p (x ∷ xs) zero w h = sym (ap (λ b. cond b (x ∷ inserted p xs) (p ∷ x ∷ xs)) (h.1 0 x (omega arith) (omega arith)))
+inserted_there p (x ∷ xs) zero w h = sym (ap (λ b. cond b (x ∷ inserted_label p xs) (p ∷ x ∷ xs)) (h.1 0 x (omega arith) (omega arith)))
 inserted_there p (x ∷ xs) (suc i) w h =
     ap (λ l. x ∷ l) (inserted_there p xs i (omega (arith, w)) (place_within p x xs i h))
-    ∙ sym (ap (λ b. cond b (x ∷ inserted p xs) (p ∷ x ∷ xs)) (h.0 0 x (omega arith) (omega arith)))
+    ∙ sym (ap (λ b. cond b (x ∷ inserted_label p xs) (p ∷ x ∷ xs)) (h.0 0 x (omega arith) (omega arith)))
 
 -- a label that belongs where another one stands takes its place
-pub set_there : (a b : Named) (xs : List Named) (i j : ℕ) → slice_get xs i ≡ Some b → IsPlaceOf a xs j → i ≤ j → j ≤ i + 1 → set xs i a ≡ inserted a (remove xs i)
+pub set_there : (a b : Named) (xs : List Named) (i j : ℕ) → slice_get xs i ≡ Some b → IsPlaceOf a xs j → i ≤ j → j ≤ i + 1 → set xs i a ≡ inserted_label a (remove xs i)
 set_there a b [] i j e p l m = absurd (cc)
 set_there a b (x ∷ []) zero j e p l m = refl
-set_there a b (x ∷ y ∷ ys) zero j e p l m = sym (ap (λ t. cond t (y ∷ inserted a ys) (a ∷ y ∷ ys)) (p.1 1 y (omega (arith, m)) (omega arith)))
+set_there a b (x ∷ y ∷ ys) zero j e p l m = sym (ap (λ t. cond t (y ∷ inserted_label a ys) (a ∷ y ∷ ys)) (p.1 1 y (omega (arith, m)) (omega arith)))
 set_there a b (x ∷ xs) (suc i) zero e p l m = absurd (omega (arith, l))
 set_there a b (x ∷ xs) (suc i) (suc j) e p l m =
     ap (λ l. x ∷ l) (set_there a b xs i j e (place_within a x xs j p) (omega (arith, l)) (omega (arith, m)))
-    ∙ sym (ap (λ t. cond t (x ∷ inserted a (remove xs i)) (a ∷ x ∷ remove xs i)) (p.0 0 x (omega arith) (omega arith)))
+    ∙ sym (ap (λ t. cond t (x ∷ inserted_label a (remove xs i)) (a ∷ x ∷ remove xs i)) (p.0 0 x (omega arith) (omega arith)))
 
 -- ---- the order stays
 abbrev IsBelow : Named → List Named → Type 0
@@ -186,22 +169,17 @@ below_further : (x y : Named) (ds : List Named) → named_cmp x y ≡ Less → I
 below_further x y [] h a = tt
 below_further x y (d ∷ ds) h a = (names_total.trans x y d h a.0, below_further x y ds h a.1)
 
-below_inserted : (x c : Named) (xs : List Named) → named_cmp x c ≡ Less → IsBelow x xs → IsBelow x (inserted c xs)
+below_inserted : (x c : Named) (xs : List Named) → named_cmp x c ≡ Less → IsBelow x xs → IsBelow x (inserted_label c xs)
 below_inserted x c [] h a = (h, tt)
 below_inserted x c (d ∷ ds) h a =
-    elim (is_behind c d) as (λ b. IsBelow x (cond b (d ∷ inserted c ds) (c ∷ d ∷ ds))) [ true ↦ (a.0, below_inserted x c ds h a.1) | false ↦ (h, a) ]
+    elim (is_label_behind c d) as (λ b. IsBelow x (cond b (d ∷ inserted_label c ds) (c ∷ d ∷ ds))) [ true ↦ (a.0, below_inserted x c ds h a.1) | false ↦ (h, a) ]
 
-turned : (o : Ordering) → is_lt o ≡ false → (o ≡ Equal → ⊥) → ordering_reverse o ≡ Less
-turned Less e n = absurd (cc)
-turned Equal e n = absurd (n refl)
-turned Greater e n = refl
-
-pub inserted_sorted : (c : Named) (xs : List Named) → IsStrictlySortedBy named_cmp xs → ((d : Named) → In d xs → named_cmp d c ≡ Equal → ⊥) → IsStrictlySortedBy named_cmp (inserted c xs)
+pub inserted_sorted : (c : Named) (xs : List Named) → IsStrictlySortedBy named_cmp xs → ((d : Named) → In d xs → named_cmp d c ≡ Equal → ⊥) → IsStrictlySortedBy named_cmp (inserted_label c xs)
 unfolding IsStrictlySortedBy
 inserted_sorted c [] s n = (tt, tt)
-inserted_sorted c (d ∷ ds) s n = by_test (is_behind c d) refl (inserted_sorted c ds s.1 (λ e h. n e (inr h)))
+inserted_sorted c (d ∷ ds) s n = by_test (is_label_behind c d) refl (inserted_sorted c ds s.1 (λ e h. n e (inr h)))
   where
-    by_test : (b : Bool) → is_behind c d ≡ b → IsStrictlySortedBy named_cmp (inserted c ds) → IsStrictlySortedBy named_cmp (cond b (d ∷ inserted c ds) (c ∷ d ∷ ds))
+    by_test : (b : Bool) → is_label_behind c d ≡ b → IsStrictlySortedBy named_cmp (inserted_label c ds) → IsStrictlySortedBy named_cmp (cond b (d ∷ inserted_label c ds) (c ∷ d ∷ ds))
     by_test true e rest = (below_inserted d c ds (less_is (named_cmp d c) e) s.0, rest)
     by_test false e rest =
         let l : named_cmp c d ≡ Less = names_total.antisymm c d ∙ turned (named_cmp d c) e (n d (inl refl)) in
@@ -221,21 +199,21 @@ removed_sorted (d ∷ ds) zero s = s.1
 removed_sorted (d ∷ ds) (suc i) s = (below_removed d ds i s.0, removed_sorted ds i s.1)
 
 -- ---- what is listed then
-In-inserted : (p : Named) (xs : List Named) → In p (inserted p xs)
+In-inserted : (p : Named) (xs : List Named) → In p (inserted_label p xs)
 In-inserted p [] = inl refl
-In-inserted p (x ∷ xs) = elim (is_behind p x) as (λ b. In p (cond b (x ∷ inserted p xs) (p ∷ x ∷ xs))) [ true ↦ inr (In-inserted p xs) | false ↦ inl refl ]
+In-inserted p (x ∷ xs) = elim (is_label_behind p x) as (λ b. In p (cond b (x ∷ inserted_label p xs) (p ∷ x ∷ xs))) [ true ↦ inr (In-inserted p xs) | false ↦ inl refl ]
 
-In-still : (p q : Named) (xs : List Named) → In q xs → In q (inserted p xs)
+In-still : (p q : Named) (xs : List Named) → In q xs → In q (inserted_label p xs)
 In-still p q [] h = absurd h
-In-still p q (x ∷ xs) (inl e) = elim (is_behind p x) as (λ b. In q (cond b (x ∷ inserted p xs) (p ∷ x ∷ xs))) [ true ↦ inl e | false ↦ inr (inl e) ]
-In-still p q (x ∷ xs) (inr h) = elim (is_behind p x) as (λ b. In q (cond b (x ∷ inserted p xs) (p ∷ x ∷ xs))) [ true ↦ inr (In-still p q xs h) | false ↦ inr (inr h) ]
+In-still p q (x ∷ xs) (inl e) = elim (is_label_behind p x) as (λ b. In q (cond b (x ∷ inserted_label p xs) (p ∷ x ∷ xs))) [ true ↦ inl e | false ↦ inr (inl e) ]
+In-still p q (x ∷ xs) (inr h) = elim (is_label_behind p x) as (λ b. In q (cond b (x ∷ inserted_label p xs) (p ∷ x ∷ xs))) [ true ↦ inr (In-still p q xs h) | false ↦ inr (inr h) ]
 
-In-from_inserted : (p q : Named) (xs : List Named) → In q (inserted p xs) → (q ≡ p) ⊎ In q xs
+In-from_inserted : (p q : Named) (xs : List Named) → In q (inserted_label p xs) → (q ≡ p) ⊎ In q xs
 In-from_inserted p q [] (inl e) = inl e
 In-from_inserted p q [] (inr h) = absurd h
-In-from_inserted p q (x ∷ xs) h = by_test (is_behind p x) h (In-from_inserted p q xs)
+In-from_inserted p q (x ∷ xs) h = by_test (is_label_behind p x) h (In-from_inserted p q xs)
   where
-    by_test : (b : Bool) → In q (cond b (x ∷ inserted p xs) (p ∷ x ∷ xs)) → (In q (inserted p xs) → (q ≡ p) ⊎ In q xs) → (q ≡ p) ⊎ In q (x ∷ xs)
+    by_test : (b : Bool) → In q (cond b (x ∷ inserted_label p xs) (p ∷ x ∷ xs)) → (In q (inserted_label p xs) → (q ≡ p) ⊎ In q xs) → (q ≡ p) ⊎ In q (x ∷ xs)
     by_test true (inl e) rest = inr (inl e)
     by_test true (inr k) rest = elim (rest k) [ inl e ↦ inl e | inr i ↦ inr (inr i) ]
     by_test false (inl e) rest = inl e
@@ -262,11 +240,11 @@ In-from_removed (x ∷ xs) (suc i) b q s e (inl r) =
     (inl r, λ t. not_itself b (subst (λ (y : Named). named_cmp y b ≡ Less) (sym r ∙ t) (from_along (λ y. named_cmp x y ≡ Less) xs b s.0 (In-at xs i b e))))
 In-from_removed (x ∷ xs) (suc i) b q s e (inr h) = let rest = In-from_removed xs i b q s.1 e h in (inr rest.0, rest.1)
 
-pub is_added : (p : Named) (xs : List Named) → IsAdded xs (inserted p xs) p
+pub is_added : (p : Named) (xs : List Named) → IsAdded xs (inserted_label p xs) p
 is_added p xs = record {
-  keeps = λ q h. Contains-from_In q (inserted p xs) (In-still p q xs (In-from_Contains q xs h));
-  here = Contains-from_In p (inserted p xs) (In-inserted p xs);
-  only = λ q h. elim (In-from_inserted p q xs (In-from_Contains q (inserted p xs) h)) [ inl e ↦ inl e | inr i ↦ inr (Contains-from_In q xs i) ];
+  keeps = λ q h. Contains-from_In q (inserted_label p xs) (In-still p q xs (In-from_Contains q xs h));
+  here = Contains-from_In p (inserted_label p xs) (In-inserted p xs);
+  only = λ q h. elim (In-from_inserted p q xs (In-from_Contains q (inserted_label p xs) h)) [ inl e ↦ inl e | inr i ↦ inr (Contains-from_In q xs i) ];
 }
 
 -- nothing that is listed compares alike with a label that isn't
@@ -281,18 +259,18 @@ no_other c xs n d h e = n (Contains-from_In c xs (subst (λ (y : Named). In y xs
         ap (λ (o : Option EndpointRecord). record { endpoint = o; name = a.name }) endpoint ∙ ap (λ (n : List ℕ). record { endpoint = b.endpoint; name = n }) name
 
 module _ (xs : List Named) (i : ℕ) (b a : Named) (s : IsStrictlySortedBy named_cmp xs) (e : slice_get xs i ≡ Some b) where
-  pub is_replaced : IsReplaced xs (inserted a (remove xs i)) b a
+  pub is_replaced : IsReplaced xs (inserted_label a (remove xs i)) b a
   is_replaced = record {
-    keeps = λ q h n. Contains-from_In q (inserted a (remove xs i)) (In-still a q (remove xs i) (In-removed xs i b q e (In-from_Contains q xs h) n));
-    here = Contains-from_In a (inserted a (remove xs i)) (In-inserted a (remove xs i));
+    keeps = λ q h n. Contains-from_In q (inserted_label a (remove xs i)) (In-still a q (remove xs i) (In-removed xs i b q e (In-from_Contains q xs h) n));
+    here = Contains-from_In a (inserted_label a (remove xs i)) (In-inserted a (remove xs i));
     only = λ q h.
-        elim (In-from_inserted a q (remove xs i) (In-from_Contains q (inserted a (remove xs i)) h)) [
+        elim (In-from_inserted a q (remove xs i) (In-from_Contains q (inserted_label a (remove xs i)) h)) [
           | inl r ↦ inl r
           | inr k ↦ (let rest = In-from_removed xs i b q s e k in inr (Contains-from_In q xs rest.0, rest.1))
         ];
   }
 
-  pub replaced_sorted : (Contains xs a → a ≡ b) → IsStrictlySortedBy named_cmp (inserted a (remove xs i))
+  pub replaced_sorted : (Contains xs a → a ≡ b) → IsStrictlySortedBy named_cmp (inserted_label a (remove xs i))
   replaced_sorted lone =
       inserted_sorted a (remove xs i) (removed_sorted xs i s) (no_other a (remove xs i) (λ h.
       (let rest = In-from_removed xs i b a s e (In-from_Contains a (remove xs i) h) in
@@ -309,8 +287,8 @@ begins_down e x y l u = by_order (holder_cmp x.endpoint y.endpoint) refl l
     by_order Greater q l = absurd (cc)
 
 -- and what is behind one above the endpoint isn't of it
-of_up : (e : EndpointRecord) (x y : Named) → named_cmp x y ≡ Less → holder_cmp x.endpoint (Some e) ≡ Greater → is_of e y ≡ false
-of_up e x y l g = by_order (is_of e y) refl
+of_up : (e : EndpointRecord) (x y : Named) → named_cmp x y ≡ Less → holder_cmp x.endpoint (Some e) ≡ Greater → holds_endpoint e y ≡ false
+of_up e x y l g = by_order (holds_endpoint e y) refl
   where
     tied : (o : Ordering) → is_eq o ≡ true → o ≡ Equal
     tied Less q = absurd (cc)
@@ -322,7 +300,7 @@ of_up e x y l g = by_order (is_of e y) refl
     not_greater Equal q l = absurd (cc)
     not_greater Greater q l = absurd (cc)
 
-    by_order : (b : Bool) → is_of e y ≡ b → b ≡ false
+    by_order : (b : Bool) → holds_endpoint e y ≡ b → b ≡ false
     by_order false q = refl
     by_order true q =
         let back : holder_cmp (Some e) y.endpoint ≡ Equal = holders_total.antisymm (Some e) y.endpoint ∙ ap ordering_reverse (tied (holder_cmp y.endpoint (Some e)) q) in
@@ -346,26 +324,26 @@ first_behind p (x ∷ xs) (suc i) h =
     first_behind p xs i (λ k d l w. h.0 (suc k) d (omega (arith, l)) (omega (arith, w)), λ k d l w. h.1 (suc k) d (omega (arith, l)) (omega (arith, w)))
     ∙ sym (ap (λ b. cond (not b) (Some x) (find (λ y. not (p y)) xs)) (h.0 0 x (omega arith) (omega arith)))
 
-none_of : (e : EndpointRecord) (x : Named) (xs : List Named) → IsBelow x xs → holder_cmp x.endpoint (Some e) ≡ Greater → find (is_of e) xs ≡ None
+none_of : (e : EndpointRecord) (x : Named) (xs : List Named) → IsBelow x xs → holder_cmp x.endpoint (Some e) ≡ Greater → find (holds_endpoint e) xs ≡ None
 none_of e x [] a g = refl
-none_of e x (y ∷ ys) a g = ap (λ b. cond b (Some y) (find (is_of e) ys)) (of_up e x y a.0 g) ∙ none_of e x ys a.1 g
+none_of e x (y ∷ ys) a g = ap (λ b. cond b (Some y) (find (holds_endpoint e) ys)) (of_up e x y a.0 g) ∙ none_of e x ys a.1 g
 
 abbrev pub if_of : EndpointRecord → Option Named → Option Named
 if_of e None = None
-if_of e (Some p) = cond (is_of e p) (Some p) None
+if_of e (Some p) = cond (holds_endpoint e p) (Some p) None
 
 -- the first behind which the endpoint's labels don't begin is the first of them, or there is none
-pub first_found : (e : EndpointRecord) (xs : List Named) → IsStrictlySortedBy named_cmp xs → if_of e (find (λ (p : Named). not (begins_behind e p)) xs) ≡ find (is_of e) xs
+pub first_found : (e : EndpointRecord) (xs : List Named) → IsStrictlySortedBy named_cmp xs → if_of e (find (λ (p : Named). not (begins_behind e p)) xs) ≡ find (holds_endpoint e) xs
 unfolding IsStrictlySortedBy
 first_found e [] s = refl
 first_found e (x ∷ xs) s = by_order (holder_cmp x.endpoint (Some e)) refl (first_found e xs s.1)
   where
-    by_order : (o : Ordering) → holder_cmp x.endpoint (Some e) ≡ o → if_of e (find (λ (p : Named). not (begins_behind e p)) xs) ≡ find (is_of e) xs → if_of e (find (λ (p : Named). not (begins_behind e p)) (x ∷ xs)) ≡ find (is_of e) (x ∷ xs)
-    by_order Less q rest = ap (λ o. if_of e (cond (not (is_lt o)) (Some x) (find (λ (p : Named). not (begins_behind e p)) xs))) q ∙ rest ∙ sym (ap (λ o. cond (is_eq o) (Some x) (find (is_of e) xs)) q)
-    by_order Equal q rest = ap (λ o. if_of e (cond (not (is_lt o)) (Some x) (find (λ (p : Named). not (begins_behind e p)) xs))) q ∙ ap (λ o. cond (is_eq o) (Some x) None) q ∙ sym (ap (λ o. cond (is_eq o) (Some x) (find (is_of e) xs)) q)
+    by_order : (o : Ordering) → holder_cmp x.endpoint (Some e) ≡ o → if_of e (find (λ (p : Named). not (begins_behind e p)) xs) ≡ find (holds_endpoint e) xs → if_of e (find (λ (p : Named). not (begins_behind e p)) (x ∷ xs)) ≡ find (holds_endpoint e) (x ∷ xs)
+    by_order Less q rest = ap (λ o. if_of e (cond (not (is_lt o)) (Some x) (find (λ (p : Named). not (begins_behind e p)) xs))) q ∙ rest ∙ sym (ap (λ o. cond (is_eq o) (Some x) (find (holds_endpoint e) xs)) q)
+    by_order Equal q rest = ap (λ o. if_of e (cond (not (is_lt o)) (Some x) (find (λ (p : Named). not (begins_behind e p)) xs))) q ∙ ap (λ o. cond (is_eq o) (Some x) None) q ∙ sym (ap (λ o. cond (is_eq o) (Some x) (find (holds_endpoint e) xs)) q)
     by_order Greater q rest =
         ap (λ o. if_of e (cond (not (is_lt o)) (Some x) (find (λ (p : Named). not (begins_behind e p)) xs))) q ∙ ap (λ o. cond (is_eq o) (Some x) None) q
-        ∙ sym (ap (λ o. cond (is_eq o) (Some x) (find (is_of e) xs)) q ∙ none_of e x xs s.0 q)
+        ∙ sym (ap (λ o. cond (is_eq o) (Some x) (find (holds_endpoint e) xs)) q ∙ none_of e x xs s.0 q)
 
 pub sorted_nil : IsStrictlySortedBy named_cmp []
 unfolding IsStrictlySortedBy

@@ -29,8 +29,8 @@ abbrev pub named_at : Option EndpointRecord → List ℕ → Named
 named_at endpoint name = record { endpoint = endpoint; name = name }
 
 -- the first of the two stands behind the second
-abbrev pub is_behind : Named → Named → Bool
-is_behind p q = is_lt (named_cmp q p)
+abbrev pub is_label_behind : Named → Named → Bool
+is_label_behind p q = is_lt (named_cmp q p)
 
 -- the same by generation, then by name
 abbrev pub is_behind_in_slot : Named → Named → Bool
@@ -41,10 +41,10 @@ abbrev pub begins_behind : EndpointRecord → Named → Bool
 begins_behind e p = is_lt (holder_cmp p.endpoint (Some e))
 
 -- the label holds the endpoint
-abbrev pub is_of : EndpointRecord → Named → Bool
-is_of e p = is_eq (holder_cmp p.endpoint (Some e))
+abbrev pub holds_endpoint : EndpointRecord → Named → Bool
+holds_endpoint e p = is_eq (holder_cmp p.endpoint (Some e))
 
 -- the labels with one more, behind all that stand before it
-abbrev pub inserted : Named → List Named → List Named
-inserted p [] = p ∷ []
-inserted p (q ∷ qs) = cond (is_behind p q) (q ∷ inserted p qs) (p ∷ q ∷ qs)
+abbrev pub inserted_label : Named → List Named → List Named
+inserted_label p [] = p ∷ []
+inserted_label p (q ∷ qs) = cond (is_label_behind p q) (q ∷ inserted_label p qs) (p ∷ q ∷ qs)

@@ -5,7 +5,7 @@ ghost use Rattle.std.specs.Option.{option_copied, option_map, option_map_or};
 ghost use Rattle.std.specs.List.{find, remove};
 ghost use Rattle.std.specs.List.Sorted.{IsStrictlySortedBy, IsPartitionPoint};
 ghost use Rattle.ds_index.specs.declared.named.Named.{Named};
-ghost use Rattle.ds_index.specs.Named.{named_cmp, is_of, begins_behind, is_behind, inserted};
+ghost use Rattle.ds_index.specs.Named.{named_cmp, holds_endpoint, begins_behind, is_label_behind, inserted_label};
 ghost use Rattle.ds_index.specs.Index.{IsAdded, IsReplaced};
 
 use crate::named::{Named, begins_behind, is_behind, is_of};
@@ -51,7 +51,7 @@ fn first_at<'a>(names: &'a [Named], endpoint: Endpoint) -> Option<&'a Named>
 // The first of the endpoint.
 fn first_of<'a>(names: &'a [Named], endpoint: Endpoint) -> Option<&'a Named>
     requires { IsStrictlySortedBy named_cmp names.now }
-    ensures { option_copied result ≡ find (is_of endpoint) names.now }
+    ensures { option_copied result ≡ find (holds_endpoint endpoint) names.now }
 {
     match first_at(names, endpoint) {
         Some(named) => {
@@ -69,7 +69,7 @@ fn first_of<'a>(names: &'a [Named], endpoint: Endpoint) -> Option<&'a Named>
 fn place_of(names: &[Named], named: &Named) -> usize
     requires { IsStrictlySortedBy named_cmp names.now }
     ensures bound { result ≤ length names.now }
-    ensures place { IsPartitionPoint (λ q. is_behind named.now q ≡ true) (λ q. is_behind named.now q ≡ false) names.now result }
+    ensures place { IsPartitionPoint (λ q. is_label_behind named.now q ≡ true) (λ q. is_label_behind named.now q ≡ false) names.now result }
 {
     names.partition_point(|other| is_behind(named, other))
 }
@@ -78,7 +78,7 @@ fn place_of(names: &[Named], named: &Named) -> usize
 fn add(names: &mut Vec<Named>, named: Named)
     requires sorted { IsStrictlySortedBy named_cmp names.old.items }
     requires room { vec_len names.old < vec_capacity names.old }
-    ensures { names.new.items ≡ inserted named names.old.items }
+    ensures { names.new.items ≡ inserted_label named names.old.items }
 {
     let place = place_of(names, &named);
     let _ = names.insert(place, named);
@@ -86,7 +86,7 @@ fn add(names: &mut Vec<Named>, named: Named)
 
 // Whether a label stands behind the one at the index.
 fn is_behind_nth(names: &[Named], index: usize, named: &Named) -> bool
-    ensures { result ≡ option_map_or (is_behind named.now) (slice_get names.now index) false }
+    ensures { result ≡ option_map_or (is_label_behind named.now) (slice_get names.now index) false }
 {
     match nth(names, index) {
         Some(other) => is_behind(named, other),
@@ -98,7 +98,7 @@ fn is_behind_nth(names: &[Named], index: usize, named: &Named) -> bool
 fn stays(names: &[Named], index: usize, named: &Named) -> bool
     requires sorted { IsStrictlySortedBy named_cmp names.now }
     requires within { index < length names.now }
-    ensures { result ≡ true → (place : ℕ) × IsPartitionPoint (λ q. is_behind named.now q ≡ true) (λ q. is_behind named.now q ≡ false) names.now place × (index ≤ place) × (place ≤ index + 1) }
+    ensures { result ≡ true → (place : ℕ) × IsPartitionPoint (λ q. is_label_behind named.now q ≡ true) (λ q. is_label_behind named.now q ≡ false) names.now place × (index ≤ place) × (place ≤ index + 1) }
 {
     if index > 0 && !is_behind_nth(names, index - 1, named) {
         return false;
@@ -110,7 +110,7 @@ fn stays(names: &[Named], index: usize, named: &Named) -> bool
 fn replace(names: &mut Vec<Named>, before: &Named, after: Named)
     requires sorted { IsStrictlySortedBy named_cmp names.old.items }
     requires listed { Contains names.old.items before.now }
-    ensures { (place : ℕ) × (slice_get names.old.items place ≡ Some before.now) × (names.new.items ≡ inserted after (remove names.old.items place)) }
+    ensures { (place : ℕ) × (slice_get names.old.items place ≡ Some before.now) × (names.new.items ≡ inserted_label after (remove names.old.items place)) }
 {
     let old = place_of(names, before);
     if stays(names, old, &after) {
@@ -160,7 +160,7 @@ impl Index {
 
     /// The least name of an endpoint.
     pub(crate) fn name_of(&self, endpoint: Endpoint) -> Option<&Name>
-        ensures first { option_copied result ≡ option_map (λ (p : Named). p.name) (find (is_of endpoint) self.now.names) }
+        ensures first { option_copied result ≡ option_map (λ (p : Named). p.name) (find (holds_endpoint endpoint) self.now.names) }
         ensures in_order { IsStrictlySortedBy named_cmp self.now.names }
     {
         let named = first_of(&self.names, endpoint)?;

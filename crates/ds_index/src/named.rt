@@ -2,11 +2,11 @@
 
 ghost use Rattle.std.specs.Prelude.{◌≡◌, ◌≢◌, true, false};
 ghost use Rattle.ds_names.specs.declared.kind.Kind.{Kind};
-ghost use Rattle.ds_index.specs.Named.{slot_of, generation_of, holder_cmp, is_behind, is_behind_in_slot, begins_behind, is_of};
-ghost use Rattle.ds_index.specs.Indexed.{endpoint_in};
+ghost use Rattle.ds_index.specs.Named.{slot_of, generation_of, holder_cmp, is_label_behind, is_behind_in_slot, begins_behind, holds_endpoint};
+ghost use Rattle.ds_index.specs.Indexed.{endpoint_left};
 
 use ds_entry::{Body, Change, Value};
-use ds_names::{Endpoint, Kind, Name};
+use ds_names::{Endpoint, Name};
 use std::cmp::Ordering;
 
 /// A label's name with the endpoint that it holds, if it is live.
@@ -61,7 +61,7 @@ fn is_behind_in_slot(named: &Named, other: &Named) -> bool
 /// Whether the label stands behind the other one. Most labels have slots of their own, which tell it.
 #[tactic(auto, using(crate::proofs::NamedLemmas::slots_tell, crate::proofs::NamedLemmas::slots_agree))]
 pub(crate) fn is_behind(named: &Named, other: &Named) -> bool
-    ensures { result ≡ is_behind named.now other.now }
+    ensures { result ≡ is_label_behind named.now other.now }
 {
     let slot = slot_of(&named.endpoint);
     let other_slot = slot_of(&other.endpoint);
@@ -83,7 +83,7 @@ pub(crate) fn begins_behind(endpoint: Endpoint, named: &Named) -> bool
 
 /// Whether the label holds the endpoint.
 pub(crate) fn is_of(endpoint: Endpoint, named: &Named) -> bool
-    ensures { result ≡ is_of endpoint named.now }
+    ensures { result ≡ holds_endpoint endpoint named.now }
 {
     matches!(
         compare_endpoints(&named.endpoint, &Some(endpoint)),
@@ -93,21 +93,10 @@ pub(crate) fn is_of(endpoint: Endpoint, named: &Named) -> bool
 
 /// The endpoint that a change leaves.
 pub(crate) fn endpoint_in(change: &Change) -> Option<Endpoint>
-    ensures { result ≡ endpoint_in change.now }
+    ensures { result ≡ endpoint_left change.now }
 {
     match change.body() {
         Body::Put(Value::Label(endpoint)) => Some(*endpoint),
         _ => None,
-    }
-}
-
-/// Whether keys of the kind are labels'.
-pub(crate) fn is_label(kind: Kind) -> bool
-    ensures yes { result ≡ true → kind ≡ Kind.Label }
-    ensures no { result ≡ false → kind ≢ Kind.Label }
-{
-    match kind {
-        Kind::Label => true,
-        Kind::U32 | Kind::Str | Kind::Mem => false,
     }
 }

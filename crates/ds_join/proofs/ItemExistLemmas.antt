@@ -1,9 +1,8 @@
 -- Items whose changes of a key that aren't void have one owner, as they come, have a top: put them into their places one
 -- by one.
 use Rattle.std.proofs.Common.{◌≡◌, Bool, true, false, cond, not, List, [], ◌∷◌, ◌++◌, fold, append_assoc, append-nil, refl, sym, ap, ◌∙◌, subst, inl, inr, ◌⊎◌}
-use Rattle.std.specs.declared.cmp.Ordering.{Ordering}
-use Rattle.std.specs.declared.cmp.Ordering.TheVariants.{Less, Equal, Greater}
-use Rattle.std.specs.Ordering.{ordering_reverse, is_lt}
+use Rattle.std.specs.declared.cmp.Ordering.TheVariants.{Less, Equal}
+use Rattle.std.specs.Ordering.{is_lt}
 use Rattle.std.specs.List.{Contains, AllByRecursion, filter, list_any}
 use Rattle.std.specs.List.Sorted.{IsStrictlySortedBy}
 use Rattle.std.proofs.lemmas.List.Elements.{Contains-push, Contains-push_cases, Contains-append_left, Contains-append_right}
@@ -21,6 +20,8 @@ use Rattle.ds_entry.proofs.ItemLemmas.{items_total, covers-refl, covers-trans, f
 use Rattle.ds_join.specs.ItemTop.{IsTop, IsPartOf, CoversAll, FitsOwners, HasOneOwnerInTurn, inserted, held_after, tops}
 use Rattle.ds_join.specs.ItemTopLaws.{TopsIsTop, TopExists}
 use Rattle.ds_join.proofs.ItemTopLemmas.{top_of_nothing}
+use Rattle.std.proofs.lemmas.Bool.{not-true}
+use Rattle.ds_names.proofs.Tests.{opposed, less_is, turned}
 
 inserted-among : (c : Item) (xs : List Item) (e : Item) → In e (inserted c xs) → (e ≡ c) ⊎ In e xs
 inserted-among c [] e h = h
@@ -57,16 +58,6 @@ below_inserted x c [] h a = (h, tt)
 below_inserted x c (d ∷ ds) h a =
     elim (is_lt (item_cmp c d)) as (λ b. IsBelow x (cond b (c ∷ d ∷ ds) (d ∷ inserted c ds))) [ true ↦ (h, a) | false ↦ (a.0, below_inserted x c ds h a.1) ]
 
-less_is : (o : Ordering) → is_lt o ≡ true → o ≡ Less
-less_is Less e = refl
-less_is Equal e = absurd (cc)
-less_is Greater e = absurd (cc)
-
-turned : (o : Ordering) → is_lt o ≡ false → (o ≡ Equal → ⊥) → ordering_reverse o ≡ Less
-turned Less e n = absurd (cc)
-turned Equal e n = absurd (n refl)
-turned Greater e n = refl
-
 inserted-in_order : (c : Item) (xs : List Item) → IsStrictlySortedBy item_cmp xs → ((d : Item) → In d xs → item_cmp c d ≡ Equal → ⊥) → IsStrictlySortedBy item_cmp (inserted c xs)
 unfolding IsStrictlySortedBy
 inserted-in_order c [] s n = (tt, tt)
@@ -75,13 +66,6 @@ inserted-in_order c (d ∷ ds) s n = by_test (is_lt (item_cmp c d)) refl (insert
     by_test : (b : Bool) → is_lt (item_cmp c d) ≡ b → IsStrictlySortedBy item_cmp (inserted c ds) → IsStrictlySortedBy item_cmp (cond b (c ∷ d ∷ ds) (d ∷ inserted c ds))
     by_test true e rest = let l : item_cmp c d ≡ Less = less_is (item_cmp c d) e in ((l, below_further c d ds l s.0), s)
     by_test false e rest = (below_inserted d c ds (items_total.antisymm d c ∙ turned (item_cmp c d) e (n d (inl refl))) s.0, rest)
-
-not_true : (b : Bool) → not b ≡ true → b ≡ false
-not_true true e = absurd (cc)
-not_true false e = refl
-
-opposed : {A : Type 0} (b : Bool) → b ≡ true → b ≡ false → A
-opposed b t f = let differ : true ≡ false = sym t ∙ f in absurd (cc)
 
 -- where no held floor makes a change void, none of the set does
 not_void : (set held : List Item) → IsTop held set → (c : ChangeRecord) → ((x : Item) → Contains held x → voids_it c x ≡ false) → is_void set c ≡ false
@@ -102,7 +86,7 @@ not_void set held t c none = by_test (is_void set c) refl
 -- ---- one more item, which none that is held covers
 module _ (c : Item) (held set : List Item) (owners : FitsOwners set c) (t : IsTop held set) (e : list_any (λ d. covers d c) held ≡ false) where
   kept_held : (d : Item) → Contains (filter (λ d. not (covers c d)) held) d → Contains held d × (covers c d ≡ false)
-  kept_held d h = let k = Contains-from_filter (λ (d : Item). not (covers c d)) held d h in (k.0, not_true (covers c d) k.1)
+  kept_held d h = let k = Contains-from_filter (λ (d : Item). not (covers c d)) held d h in (k.0, not-true (covers c d) k.1)
 
   in_set : (d : Item) → Contains held d → Contains (set ++ c ∷ []) d
   in_set d h = Contains-append_left set (c ∷ []) d (t.among d h)

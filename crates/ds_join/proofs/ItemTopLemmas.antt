@@ -13,7 +13,7 @@ use Rattle.ds_entry.proofs.Members.{Contains-nil, Contains-single, Contains-head
 use Rattle.ds_entry.proofs.OrderedLemmas.{same_members}
 use Rattle.ds_entry.proofs.ItemLemmas.{below, covers-refl, covers-trans, covers-same, covers-apart, single_part, items_total}
 use Rattle.ds_join.specs.ItemTop.{IsTop, IsPartOf, CoversAll}
-use Rattle.ds_join.specs.ItemTopLaws.{TopIsUnique, HeldIsTop, GreatestFloorIsHeld, NothingVoidIsHeld, TopOfTop, TopOfUnion, TopOfCovered}
+use Rattle.ds_join.specs.ItemTopLaws.{TopIsUnique, HeldIsItsTop, GreatestFloorIsHeld, NothingVoidIsHeld, TopOfTop, TopOfUnion, TopOfCovered}
 use Rattle.ds_join.specs.ItemJoin.{JoinIsCommutative, JoinIsAssociative, JoinIsIdempotent, JoinIsLeast}
 
 -- no held item covers another
@@ -65,7 +65,7 @@ covered_through xs ys zs f g c h =
 covered_union : (xs ys zs : List Item) → CoversAll zs xs → CoversAll zs ys → CoversAll zs (xs ++ ys)
 covered_union xs ys zs f g c h = elim (Contains-append_cases xs ys c h) [ inl k ↦ f c k | inr k ↦ g c k ]
 
-part_union : (xs ys zs : List Item) → IsPartOf xs zs → IsPartOf ys zs → IsPartOf (xs ++ ys) zs
+pub part_union : (xs ys zs : List Item) → IsPartOf xs zs → IsPartOf ys zs → IsPartOf (xs ++ ys) zs
 part_union xs ys zs f g c h = elim (Contains-append_cases xs ys c h) [ inl k ↦ f c k | inr k ↦ g c k ]
 
 swapped : (xs ys : List Item) → IsPartOf (xs ++ ys) (ys ++ xs)
@@ -157,5 +157,5 @@ pub top_of_nothing : IsTop [] []
 unfolding IsStrictlySortedBy
 top_of_nothing = record { in_order = tt; among = λ c h. h; greatest = λ c h. absurd (Contains-nil c h); none_void = λ f c h k. absurd (Contains-nil (Floored f) h) }
 
-pub held_is_top : HeldIsTop
+pub held_is_top : HeldIsItsTop
 held_is_top held set t = record { in_order = t.in_order; among = λ c k. k; greatest = λ c k. (c, k, covers-refl c); none_void = t.none_void }

@@ -1,10 +1,8 @@
 -- A map from keys to their own changes, in the order of the keys.
-use Rattle.std.proofs.Common.{◌≡◌, List, [], ◌∷◌, map, Bool, true, false, cond, ◌&&◌, Some, refl, sym, ap, ◌∙◌, subst, inl, inr, Contains}
+use Rattle.std.proofs.Common.{◌≡◌, List, [], ◌∷◌, map, true, false, cond, Some, refl, sym, ap, ◌∙◌, subst, inl, inr, Contains}
 use Rattle.std.proofs.lemmas.Option.{same_Some}
-use Rattle.std.specs.declared.cmp.Ordering.{Ordering}
 use Rattle.std.specs.declared.cmp.Ordering.TheVariants.{Less, Equal, Greater}
 use Rattle.std.specs.Ordering.{is_eq, is_lt, eq_by_cmp}
-use Rattle.std.specs.List.{AllByRecursion}
 use Rattle.std.specs.List.Sorted.{IsStrictlySortedBy}
 use Rattle.std.specs.Cmp.{tied_itself, alike_right, Equal-is}
 use Rattle.std.specs.FinMap.{FinMap, get, values, find, is_sorted, entries, entries_sorted, get-entries}
@@ -16,26 +14,14 @@ use Rattle.ds_names.proofs.OrderLemmas.{keys_total}
 use Rattle.ds_entry.specs.Change.{ChangeRecord}
 use Rattle.ds_entry.specs.Covers.{change_cmp}
 use Rattle.ds_entry.proofs.Members.{In, In-from_Contains, Contains-from_In}
+use Rattle.ds_names.proofs.Tests.{less_from, not_both, both}
+use Rattle.ds_entry.proofs.OrderedLemmas.{along}
 
 abbrev Entry : Type 0
 Entry = Key × ChangeRecord
 
 abbrev values_of : List Entry → List ChangeRecord
 values_of es = map (λ (e : Entry). e.1) es
-
-pub both : (a b : Bool) → T (a && b) → T a × T b
-both true b p = (tt, p)
-both false b p = absurd p
-
-pub less_from : (r : Ordering) → T (is_lt r) → r ≡ Less
-less_from Less l = refl
-less_from Equal l = absurd l
-less_from Greater l = absurd l
-
-not_both : (r : Ordering) → is_eq r ≡ true → T (is_lt r) → ⊥
-not_both Less e l = absurd (cc)
-not_both Equal e l = l
-not_both Greater e l = l
 
 -- a key that ties with one above another doesn't tie with that other
 unlike : (x q y : Key) → eq_by_cmp key_cmp q y ≡ true → T (is_lt (key_cmp x y)) → eq_by_cmp key_cmp q x ≡ false
@@ -82,16 +68,6 @@ below_found x q v (e ∷ es) below h =
       | true ↦ λ tied s. alike_right keys_total q e.0 x ((Equal-is (key_cmp q e.0)).0 tied) ∙ less_from (key_cmp x e.0) (both _ _ below).0
       | false ↦ λ _ s. below_found x q v es (both _ _ below).1 s
     ] refl h
-
--- what holds of each element holds all along the list
-pub along : {X : Type 0} (P : X → Type 0) (xs : List X) → ((x : X) → In x xs → P x) → AllByRecursion P xs
-along P [] f = tt
-along P (x ∷ xs) f = (f x (inl refl), along P xs (λ y h. f y (inr h)))
-
-pub from_along : {X : Type 0} (P : X → Type 0) (xs : List X) (x : X) → AllByRecursion P xs → In x xs → P x
-from_along P [] x a h = absurd h
-from_along P (y ∷ ys) x a (inl e) = subst P (sym e) a.0
-from_along P (y ∷ ys) x a (inr h) = from_along P ys x a.1 h
 
 sorted_values : (es : List Entry) → T (is_sorted key_cmp es) → ((q : Key) (c : ChangeRecord) → find key_cmp q es ≡ Some c → c.key ≡ q) → IsStrictlySortedBy change_cmp (values_of es)
 unfolding IsStrictlySortedBy

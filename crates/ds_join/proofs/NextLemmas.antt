@@ -1,25 +1,20 @@
 -- One change after the other, in the order of the keys.
-use Rattle.std.proofs.Common.{◌≡◌, ℕ, zero, suc, ◌<◌, ◌≤◌, List, [], ◌∷◌, length, get_or, filter, Bool, true, false, cond, not, Option, Some, None, Result, Ok, Err, refl, sym, ap, ◌∙◌, subst, arith, Contains}
+use Rattle.std.proofs.Common.{◌≡◌, ℕ, zero, suc, ◌<◌, List, [], ◌∷◌, length, get_or, filter, Bool, true, false, cond, not, Option, Some, None, refl, sym, ap, ◌∙◌, subst, arith, Contains}
 use Rattle.std.proofs.lemmas.Option.{same_Some}
-use Rattle.std.specs.declared.cmp.Ordering.{Ordering}
-use Rattle.std.specs.declared.cmp.Ordering.TheVariants.{Less, Equal, Greater}
-use Rattle.std.specs.Ordering.{is_lt, ordering_reverse, ordering_index}
+use Rattle.std.specs.declared.cmp.Ordering.TheVariants.{Less, Greater}
+use Rattle.std.specs.Ordering.{is_lt, ordering_reverse}
 use Rattle.std.specs.Cmp.{tied_itself}
 use Rattle.std.specs.List.{find, slice_get, AllByRecursion}
-use Rattle.std.specs.List.Sorted.{IsStrictlySortedBy, IsPartitionedBy, IsPartitionPoint, IsNonDecreasingBy, IsSearchInRange, IsBinarySearchResult}
+use Rattle.std.specs.List.Sorted.{IsStrictlySortedBy, IsPartitionedBy, IsPartitionPoint}
 use Rattle.ds_names.specs.declared.key.Key.{Key}
 use Rattle.ds_names.specs.Key.{key_cmp}
-use Rattle.ds_names.proofs.OrderLemmas.{keys_total, exact_keys}
+use Rattle.ds_names.proofs.OrderLemmas.{keys_total}
 use Rattle.ds_entry.specs.Change.{ChangeRecord}
 use Rattle.ds_entry.specs.Covers.{change_cmp}
 use Rattle.ds_entry.proofs.Members.{In-from_Contains, Contains-head, Contains-tail}
 use Rattle.ds_join.specs.Reading.{is_after, comes_after}
-use Rattle.ds_join.proofs.MapLemmas.{from_along}
-
-less_is : (r : Ordering) → is_lt r ≡ true → r ≡ Less
-less_is Less e = refl
-less_is Equal e = absurd (cc)
-less_is Greater e = absurd (cc)
+use Rattle.ds_names.proofs.Tests.{opposed, less_is}
+use Rattle.ds_entry.proofs.OrderedLemmas.{from_along}
 
 turned_less : (a b : Key) → key_cmp a b ≡ Less → key_cmp b a ≡ Greater
 turned_less a b h = keys_total.antisymm b a ∙ ap ordering_reverse h
@@ -71,8 +66,6 @@ left_after low (x ∷ xs) c sorted h =
     ] refl h
 
 -- ---- the first that comes after a key
-opposed : {A : Type 0} (b : Bool) → b ≡ true → b ≡ false → A
-opposed b t f = let no : true ≡ false = sym t ∙ f in absurd (cc)
 
 -- what is before a key that doesn't come after another doesn't either
 not_after_down : (low : Option Key) (a b : Key) → key_cmp a b ≡ Less → not (is_after b low) ≡ true → not (is_after a low) ≡ true

@@ -17,8 +17,8 @@ abbrev pub TopIsUnique : Type 0
 TopIsUnique = (set held other : List Item) → AreSingleNumbered set → IsTop held set → IsTop other set → held ≡ other
 
 -- what is held is its own top
-abbrev pub HeldIsTop : Type 0
-HeldIsTop = (held set : List Item) → IsTop held set → IsTop held held
+abbrev pub HeldIsItsTop : Type 0
+HeldIsItsTop = (held set : List Item) → IsTop held set → IsTop held held
 
 -- a floor of the owner is held that isn't below any of the set
 abbrev pub GreatestFloorIsHeld : Type 0

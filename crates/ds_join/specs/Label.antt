@@ -1,14 +1,10 @@
 -- The labels of an endpoint.
-use Rattle.std.specs.Prelude.{Bool, false, ◌&&◌, ◌==◌, Option, Some}
-use Rattle.ds_names.specs.Endpoint.{EndpointRecord}
+use Rattle.std.specs.Prelude.{Bool, false, Option, Some}
+use Rattle.ds_names.specs.Endpoint.{EndpointRecord, is_same_endpoint}
 use Rattle.ds_entry.specs.declared.body.Value.{Value}
 use Rattle.ds_entry.specs.declared.body.Value.TheVariants as values
 use Rattle.ds_entry.specs.Change.{ChangeRecord}
-use Rattle.ds_join.specs.Reading.{value_of}
-
--- the endpoints are one: in generation and in slot
-abbrev pub is_same_endpoint : EndpointRecord → EndpointRecord → Bool
-is_same_endpoint d e = d.generation == e.generation && d.slot == e.slot
+use Rattle.ds_entry.specs.Left.{value_of}
 
 -- the value is the label of the endpoint
 abbrev pub is_label_of : EndpointRecord → Option Value → Bool

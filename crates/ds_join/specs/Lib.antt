@@ -3,3 +3,4 @@ pub mod Label
 pub mod ItemTop
 pub mod ItemTopLaws
 pub mod ItemJoin
+pub mod FloorStands

@@ -1,7 +1,7 @@
 //! The laws of tops and joins of items, over their definitions alone.
 
 ghost use Rattle.ds_join.specs.ItemJoin.{JoinIsCommutative, JoinIsAssociative, JoinIsIdempotent, JoinIsLeast};
-ghost use Rattle.ds_join.specs.ItemTopLaws.{TopExists, TopIsUnique, HeldIsTop, GreatestFloorIsHeld, NothingVoidIsHeld, TopsIsTop, TopOfTop, TopOfUnion, TopOfCovered};
+ghost use Rattle.ds_join.specs.ItemTopLaws.{TopExists, TopIsUnique, HeldIsItsTop, GreatestFloorIsHeld, NothingVoidIsHeld, TopsIsTop, TopOfTop, TopOfUnion, TopOfCovered};
 
 /// The laws of tops of items: a single-numbered set has just one; what is held is its own; each owner's greatest floor
 /// is held, and nothing that a floor of the set makes void; `tops` gives it, where each change has the owner of those of
@@ -10,7 +10,7 @@ ghost use Rattle.ds_join.specs.ItemTopLaws.{TopExists, TopIsUnique, HeldIsTop, G
 pub fn item_top_laws()
     ensures exists { TopExists }
     ensures unique { TopIsUnique }
-    ensures held { HeldIsTop }
+    ensures held { HeldIsItsTop }
     ensures floors { GreatestFloorIsHeld }
     ensures void { NothingVoidIsHeld }
     ensures in_turn { TopsIsTop }

@@ -30,9 +30,6 @@ most_at n m h = grind (arith, nat_tests, h)
 pub is_below : (n m : ℕ) → nat_lt n m ≡ true → n < m
 is_below n m h = grind (arith, nat_tests, h)
 
-pub below : (n m : ℕ) → n < m → nat_lt n m ≡ true
-below n m h = grind (arith, nat_tests, h)
-
 pub is_number : (n m : ℕ) → nat_eq n m ≡ true → n ≡ m
 is_number n m h = eqb-true n m h
 

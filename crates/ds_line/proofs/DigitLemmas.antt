@@ -2,7 +2,7 @@
 use Rattle.std.proofs.Common.{◌≡◌, ℕ, zero, suc, ◌/◌, ◌%◌, ◌<◌, Bool, true, ◌&&◌, inl, inr, List, [], ◌∷◌, slice_index, Result, refl, sym, ap, ◌∙◌, arith}
 use Rattle.std.specs.List.{list_all}
 use Rattle.std.specs.Result.{result_unwrap_or}
-use Rattle.std.proofs.lemmas.Bool.{and_parts, cases_lt}
+use Rattle.std.proofs.lemmas.Bool.{and_parts, cases_lt, and_from}
 use Rattle.hex.specs.Hex.{IsBytes, decode_of, encode_with, encode_lower, lower_digits}
 use Rattle.hex.proofs.HexLemmas.{decode_of-encode_lower}
 use Rattle.ds_line.specs.Part.{is_hex_byte}
@@ -34,17 +34,14 @@ written_at (suc n) d h lt =
 pub first_digit : (d : ℕ) → d < 16 → is_hex_byte (slice_index lower_digits d) ≡ true
 first_digit d lt = written_at 16 d refl lt
 
-both : (p q : Bool) → p ≡ true → q ≡ true → (p && q) ≡ true
-both p q h k = rw (h, k) refl
-
 -- the hex of bytes is a run of digits
 pub hex_run : (bytes : List ℕ) → IsBytes bytes → list_all is_hex_byte (encode_lower bytes) ≡ true
 unfolding encode_with
 hex_run [] h = refl
 hex_run (b ∷ rest) h =
     let fits : b < 256 = h 0 in
-    both (is_written (b / 16)) (list_all is_hex_byte (slice_index lower_digits (b % 16) ∷ encode_lower rest)) (written_at 16 (b / 16) refl (omega (arith, fits)))
-    (both (is_written (b % 16)) (list_all is_hex_byte (encode_lower rest)) (written_at 16 (b % 16) refl (omega arith)) (hex_run rest (λ i. h (suc i))))
+    and_from (is_written (b / 16)) (list_all is_hex_byte (slice_index lower_digits (b % 16) ∷ encode_lower rest)) (written_at 16 (b / 16) refl (omega (arith, fits)))
+    (and_from (is_written (b % 16)) (list_all is_hex_byte (encode_lower rest)) (written_at 16 (b % 16) refl (omega arith)) (hex_run rest (λ i. h (suc i))))
 
 -- two blobs with one hex are one
 pub hex_one : (a b : List ℕ) → IsBytes a → IsBytes b → encode_lower a ≡ encode_lower b → a ≡ b

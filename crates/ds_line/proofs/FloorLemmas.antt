@@ -3,9 +3,8 @@ use Rattle.std.proofs.Common.{◌≡◌, ◌≢◌, ℕ, zero, suc, ◌-◌, ◌
 use Rattle.std.specs.Char.{is_ascii_digit}
 use Rattle.std.specs.Fmt.{decimal}
 use Rattle.std.proofs.lemmas.List.{take_at}
-use Rattle.ds_names.specs.Name.{is_name_byte, IsName}
+use Rattle.ds_names.specs.Name.{is_name_byte, IsName, rs_name}
 use Rattle.ds_names.specs.Run.{Begins}
-use Rattle.ds_entry.specs.Change.{rs_name}
 use Rattle.ds_entry.specs.Floor.{floor_of, IsFloor}
 use Rattle.ds_entry.specs.declared.floor.Floor.{Floor}
 use Rattle.ds_line.specs.Part.{Part, texts}

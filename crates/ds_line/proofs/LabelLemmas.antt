@@ -1,7 +1,7 @@
 -- What labels and the other kinds ask of a change's parts: which parts some change has.
 use Rattle.std.proofs.Common.{◌≡◌, ◌≢◌, ℕ, ◌^◌, ◌<◌, ◌≤◌, ◌⊎◌, inl, inr, List, [], refl, sym, subst, ◌∙◌, arith}
 use Rattle.std.proofs.lemmas.Bool.{cases_eq}
-use Rattle.ds_names.specs.Name.{is_name_byte, IsName}
+use Rattle.ds_names.specs.Name.{is_name_byte, IsName, rs_name}
 use Rattle.ds_names.specs.declared.kind.Kind.{Kind}
 use Rattle.ds_names.specs.declared.kind.Kind.TheVariants.{Label, U32, Str, Mem}
 use Rattle.ds_names.specs.declared.key.Key.{Key}
@@ -10,7 +10,7 @@ use Rattle.ds_entry.specs.declared.body.Value.{Value}
 use Rattle.ds_entry.specs.declared.body.Value.TheVariants as values
 use Rattle.ds_entry.specs.declared.body.Body.{Body}
 use Rattle.ds_entry.specs.declared.body.Body.TheVariants.{Put, Gone}
-use Rattle.ds_entry.specs.Change.{ChangeRecord, change_of, kind_of, IsValue, IsChange, IsLabelChange, IsLabelBody, IsBelowSweeps, KeepsRule, rs_name}
+use Rattle.ds_entry.specs.Change.{ChangeRecord, change_of, kind_of, IsValue, IsChange, IsLabelChange, IsLabelBody, IsBelowSweeps, KeepsRule}
 use Rattle.ds_line.specs.Reading.{HasOwner, HasVersion, HasSeq, HasBody, HasValue}
 
 pub rs_is_name : IsName rs_name

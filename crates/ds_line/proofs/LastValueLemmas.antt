@@ -21,7 +21,7 @@ use Rattle.ds_line.proofs.LabelLemmas.{some_value, some_kind, some_is}
 use Rattle.ds_line.proofs.BodyLemmas.{class_one, value_text}
 use Rattle.ds_line.proofs.PieceLemmas.{part_missing}
 
-some_value_of : (kind : Kind) → IsValueOf kind (some_value kind)
+pub some_value_of : (kind : Kind) → IsValueOf kind (some_value kind)
 some_value_of kind = record { valid = some_is kind; of = some_kind kind }
 
 -- no value of the kind stands here

@@ -9,7 +9,7 @@ use Rattle.ds_entry.specs.Change.{change_of, IsChange}
 use Rattle.ds_line.specs.Part.{Part}
 use Rattle.ds_line.specs.Spelling.{newline, value_part}
 use Rattle.ds_line.specs.FaultPlace.{Stand}
-use Rattle.ds_line.specs.Reading.{HasValue, ChangeStops, up_to_value, Completes, Reads}
+use Rattle.ds_line.specs.Reading.{HasValue, ChangeStops, up_to_value, Completes, ReadsChange}
 use Rattle.ds_line.specs.Piece.{Found, Breaks, IsValueOf, last_value, StopsValue}
 use Rattle.ds_line.specs.declared.part_fault.PartFault.{PartFault}
 use Rattle.ds_line.specs.declared.part_fault.PartFault.TheVariants.{BadPart, NoRoom}
@@ -44,11 +44,11 @@ other_completes key owner version value bytes rest other has f =
     record { change = other_is key owner version value other has f.can; further = value_part value ∷ newline ∷ []; split = refl; text = stand_texts (value_part value ∷ newline ∷ []) bytes rest f.front }
 
 -- no value is read
-pub other_stops : (key : Key) (owner : List ℕ) (version : Version) (bytes : List ℕ) (stop : PartFault) → key.kind ≢ Label → HasValue key owner version → StopsValue key.kind stop bytes → Reads (up_to_value key owner version) bytes (Err stop)
+pub other_stops : (key : Key) (owner : List ℕ) (version : Version) (bytes : List ℕ) (stop : PartFault) → key.kind ≢ Label → HasValue key owner version → StopsValue key.kind stop bytes → ReadsChange (up_to_value key owner version) bytes (Err stop)
 other_stops key owner version bytes (BadPart left) other has s = (s.0, other_breaks key owner version bytes s.0 other has s.1, s.2)
 other_stops key owner version bytes NoRoom other has s = record { put = change_of key owner version (Put s.0); rest = s.1; completes = other_completes key owner version s.0 bytes s.1 other has s.2; value = s.3 }
 
 -- the value and the newline are read
 pub other_whole : (key : Key) (owner : List ℕ) (version : Version) (value : Value) (bytes rest : List ℕ) → key.kind ≢ Label → HasValue key owner version → Found (last_value key.kind) value bytes rest
-    → Reads (up_to_value key owner version) bytes (Ok (change_of key owner version (Put value), length rest))
+    → ReadsChange (up_to_value key owner version) bytes (Ok (change_of key owner version (Put value), length rest))
 other_whole key owner version value bytes rest other has f = (rest, other_completes key owner version value bytes rest other has f, refl)

@@ -12,17 +12,17 @@ use Rattle.ds_line.proofs.ApartLemmas.{AllTexts, Alike, same_parts}
 
 -- ---- parts that stand in a row
 
-stand_wider : (k : ℕ) (xs ys : List Part) (bytes rest : List ℕ) → Stand k xs bytes rest → Stand k (xs ++ ys) bytes rest
+pub stand_wider : (k : ℕ) (xs ys : List Part) (bytes rest : List ℕ) → Stand k xs bytes rest → Stand k (xs ++ ys) bytes rest
 stand_wider zero xs ys bytes rest h = h
 stand_wider (suc k) [] ys bytes rest h = absurd h
 stand_wider (suc k) (x ∷ xs) ys bytes rest h = (h.0, h.1, stand_wider k xs ys h.0 rest h.2)
 
-stand_cut : (k : ℕ) (xs ys : List Part) (bytes rest : List ℕ) → k ≤ length xs → Stand k (xs ++ ys) bytes rest → Stand k xs bytes rest
+pub stand_cut : (k : ℕ) (xs ys : List Part) (bytes rest : List ℕ) → k ≤ length xs → Stand k (xs ++ ys) bytes rest → Stand k xs bytes rest
 stand_cut zero xs ys bytes rest le h = h
 stand_cut (suc k) [] ys bytes rest le h = absurd (omega (arith, le))
 stand_cut (suc k) (x ∷ xs) ys bytes rest le h = (h.0, h.1, stand_cut k xs ys h.0 rest (omega (arith, le)) h.2)
 
-stand_join : (n k : ℕ) (xs ys : List Part) (bytes mid rest : List ℕ) → n ≡ length xs + k → Stand (length xs) xs bytes mid → Stand k ys mid rest → Stand n (xs ++ ys) bytes rest
+pub stand_join : (n k : ℕ) (xs ys : List Part) (bytes mid rest : List ℕ) → n ≡ length xs + k → Stand (length xs) xs bytes mid → Stand k ys mid rest → Stand n (xs ++ ys) bytes rest
 stand_join n k [] ys bytes mid rest eq first second =
     let same : k ≡ n = omega (arith, eq) in
     subst (λ (b : List ℕ). Stand n ys b rest) (sym first) (subst (λ (c : ℕ). Stand c ys mid rest) same second)
@@ -38,7 +38,7 @@ stand_split (suc n) k (x ∷ xs) ys bytes rest eq h =
     let more = stand_split n k xs ys h.0 rest (omega (arith, eq)) h.2 in
     (more.0, (h.0, h.1, more.1), more.2)
 
-count_fits : (k : ℕ) (xs : List Part) (bytes rest : List ℕ) → Stand k xs bytes rest → k ≤ length xs
+pub count_fits : (k : ℕ) (xs : List Part) (bytes rest : List ℕ) → Stand k xs bytes rest → k ≤ length xs
 count_fits zero xs bytes rest h = omega arith
 count_fits (suc k) [] bytes rest h = absurd h
 count_fits (suc k) (x ∷ xs) bytes rest h = omega (arith, count_fits k xs h.0 rest h.2)

@@ -5,7 +5,7 @@ use Rattle.ds_entry.specs.Change.{ChangeRecord, IsChange}
 use Rattle.ds_line.specs.Part.{Class, run_of, Part}
 use Rattle.ds_line.specs.Spelling.{change_parts}
 use Rattle.ds_line.specs.FaultPlace.{Stand}
-use Rattle.ds_line.specs.Reading.{Reads}
+use Rattle.ds_line.specs.Reading.{ReadsChange}
 use Rattle.ds_line.specs.declared.part_fault.PartFault.{PartFault}
 use Rattle.ds_line.specs.declared.part_fault.PartFault.TheVariants.{BadPart, NoRoom}
 use Rattle.ds_line.proofs.PartLemmas.{IsText}
@@ -34,14 +34,14 @@ Misses known bytes = (c : ChangeRecord) (more : List Part) (after : List ℕ) �
 
 -- the next part is missing
 pub missing : (known : List Part) (class : Class) (bytes : List ℕ) (stop : PartFault) (c : ChangeRecord) (further : List Part) → IsChange c → change_parts c ≡ known ++ further → Comes known class → stop ≡ BadPart (length bytes)
-    → Misses known bytes → Reads known bytes (Err stop)
+    → Misses known bytes → ReadsChange known bytes (Err stop)
 missing known class bytes stop c further is split comes at misses =
-    subst (λ (s : PartFault). Reads known bytes (Err s)) (sym at)
+    subst (λ (s : PartFault). ReadsChange known bytes (Err s)) (sym at)
     (bytes, stops_here IsChange change_parts known bytes c further is split misses (λ m more is_m eq. begun_some class more (comes m more is_m eq)), refl)
 
 -- the next part is read
 pub read_on : (known : List Part) (p : Part) (bytes r : List ℕ) (result : Result (ChangeRecord × ℕ) PartFault) → IsText p.class p.text → Comes known p.class → Begins (run_of p.class) bytes p.text r
-    → Reads (known ++ p ∷ []) r result → Reads known bytes result
+    → ReadsChange (known ++ p ∷ []) r result → ReadsChange known bytes result
 read_on known p bytes r (Ok x) text comes begins k = (k.0, completes_behind_part known p x.0 bytes r k.0 begins.parts k.1, k.2)
 read_on known p bytes r (Err (BadPart left)) text comes begins k =
     (k.0, stops_behind_part IsChange change_parts known p bytes r k.0 text (λ m more is eq. begun_opens p.class more (comes m more is eq)) (λ m more is eq. begun_some p.class more (comes m more is eq)) begins k.1, k.2)
@@ -49,5 +49,5 @@ read_on known p bytes r (Err NoRoom) text comes begins k =
     record { put = k.put; rest = k.rest; completes = completes_behind_part known p k.put bytes r k.rest begins.parts k.completes; value = k.value }
 
 -- what a reader gives, where it is known to be this
-pub reads_same : (known : List Part) (bytes : List ℕ) (result given : Result (ChangeRecord × ℕ) PartFault) → result ≡ given → Reads known bytes given → Reads known bytes result
-reads_same known bytes result given is k = subst (Reads known bytes) (sym is) k
+pub reads_same : (known : List Part) (bytes : List ℕ) (result given : Result (ChangeRecord × ℕ) PartFault) → result ≡ given → ReadsChange known bytes given → ReadsChange known bytes result
+reads_same known bytes result given is k = subst (ReadsChange known bytes) (sym is) k

@@ -42,7 +42,7 @@ pub record IsLineFault (bytes : List ℕ) (place : ℕ) : Type 0 where
   pub first : IsFaultPlace IsChange change_parts bytes place
 
 -- the whole line of a put of a text or a blob stands at the front, and its value takes memory
-pub record TakesRoom (bytes : List ℕ) : Type 0 where
+pub record LineTakesRoom (bytes : List ℕ) : Type 0 where
   pub change : ChangeRecord
   pub rest : List ℕ
   pub line : IsChange change
@@ -52,4 +52,4 @@ pub record TakesRoom (bytes : List ℕ) : Type 0 where
 -- what a fault says of the bytes
 abbrev pub IsFaultIn : LineFault → List ℕ → Type 0
 IsFaultIn (BadLine place) bytes = IsLineFault bytes place
-IsFaultIn NoRoom bytes = TakesRoom bytes
+IsFaultIn NoRoom bytes = LineTakesRoom bytes

@@ -82,7 +82,7 @@ pub record CompletesInRoom (known : List Part) (bytes : List ℕ) : Type 0 where
 
 -- What a reader gives behind the known parts: the change, and how many bytes are left behind its line; how many are
 -- left from the first part on that can't be read; or that there is no room for the value.
-abbrev pub Reads : List Part → List ℕ → Result (ChangeRecord × ℕ) PartFault → Type 0
-Reads known bytes (Ok r) = (rest : List ℕ) × Completes known r.0 bytes rest × (length rest ≡ r.1)
-Reads known bytes (Err (BadPart left)) = (rest : List ℕ) × ChangeStops known bytes rest × (length rest ≡ left)
-Reads known bytes (Err NoRoom) = CompletesInRoom known bytes
+abbrev pub ReadsChange : List Part → List ℕ → Result (ChangeRecord × ℕ) PartFault → Type 0
+ReadsChange known bytes (Ok r) = (rest : List ℕ) × Completes known r.0 bytes rest × (length rest ≡ r.1)
+ReadsChange known bytes (Err (BadPart left)) = (rest : List ℕ) × ChangeStops known bytes rest × (length rest ≡ left)
+ReadsChange known bytes (Err NoRoom) = CompletesInRoom known bytes

@@ -8,14 +8,14 @@ ghost use Rattle.ds_entry.specs.declared.body.Body.TheVariants.{Gone};
 ghost use Rattle.ds_line.specs.Part.{byte};
 ghost use Rattle.ds_line.specs.Spelling.{spelling};
 ghost use Rattle.ds_line.specs.FaultPlace.{IsFaultIn};
-ghost use Rattle.ds_line.specs.Reading.{HasOwner, HasVersion, HasBody, HasValue, up_to_kind, up_to_epoch, up_to_mark, up_to_value, Reads};
+ghost use Rattle.ds_line.specs.Reading.{HasOwner, HasVersion, HasBody, HasValue, up_to_kind, up_to_epoch, up_to_mark, up_to_value, ReadsChange};
 
 use crate::expected::Expected;
 use crate::fault::LineFault;
 use crate::last_value::last_value_at;
 use crate::part_fault::{PartFault, stop_at};
 use crate::parts::{behind_name, kind_at, name_at};
-use crate::rules::{has_body, has_owner, has_seq, has_tombstone, has_value, has_version, is_label};
+use crate::rules::{has_body, has_owner, has_seq, has_tombstone, has_value, has_version};
 use ds_entry::{Body, Change, Value};
 use ds_names::{Endpoint, Generation, Key, Name, Version, read_byte, read_decimal, read_endpoint};
 use std::alloc::Global;
@@ -69,7 +69,7 @@ fn change_at(
     bytes: &[u8],
     expected: &mut Expected,
 ) -> Result<(Change, usize), PartFault>
-    ensures { Reads [] bytes.now result }
+    ensures { ReadsChange [] bytes.now result }
 {
     *expected = Expected::Name;
     let Some(name) = name_at(bytes) else {
@@ -99,7 +99,7 @@ fn owner_at(
     expected: &mut Expected,
 ) -> Result<(Change, usize), PartFault>
     requires { HasOwner key.now }
-    ensures { Reads (up_to_kind key.now) bytes.now result }
+    ensures { ReadsChange (up_to_kind key.now) bytes.now result }
 {
     *expected = Expected::Space;
     let Some(at) = read_byte(bytes, b' ') else {
@@ -129,7 +129,7 @@ fn version_at(
     expected: &mut Expected,
 ) -> Result<(Change, usize), PartFault>
     requires { HasVersion key.now owner.now }
-    ensures { Reads (up_to_epoch key.now owner.now) bytes.now result }
+    ensures { ReadsChange (up_to_epoch key.now owner.now) bytes.now result }
 {
     *expected = Expected::Epoch;
     let Some((number, rest)) = read_decimal(bytes, 2097151) else {
@@ -173,7 +173,7 @@ fn body_at(
     expected: &mut Expected,
 ) -> Result<(Change, usize), PartFault>
     requires { HasBody key.now owner.now version }
-    ensures { Reads (up_to_mark key.now owner.now version) bytes.now result }
+    ensures { ReadsChange (up_to_mark key.now owner.now version) bytes.now result }
 {
     *expected = Expected::Mark;
     if has_value(key, owner, &version) {
@@ -198,7 +198,7 @@ fn gone_at(
     expected: &mut Expected,
 ) -> Result<(Change, usize), PartFault>
     requires { IsChange (change_of key.now owner.now version Gone) }
-    ensures { Reads (up_to_mark key.now owner.now version ++ byte 45 ∷ []) bytes.now result }
+    ensures { ReadsChange (up_to_mark key.now owner.now version ++ byte 45 ∷ []) bytes.now result }
 {
     *expected = Expected::End;
     let Some(rest) = read_byte(bytes, b'\n') else {
@@ -217,13 +217,13 @@ fn put_at(
     expected: &mut Expected,
 ) -> Result<(Change, usize), PartFault>
     requires { HasValue key.now owner.now version }
-    ensures { Reads (up_to_mark key.now owner.now version ++ byte 61 ∷ []) bytes.now result }
+    ensures { ReadsChange (up_to_mark key.now owner.now version ++ byte 61 ∷ []) bytes.now result }
 {
     *expected = Expected::Space;
     let Some(rest) = read_byte(bytes, b' ') else {
         return Err(stop_at(bytes));
     };
-    if is_label(key.kind) {
+    if key.kind.is_label() {
         label_at(key, owner, version, rest, expected)
     } else {
         other_at(alloc, key, owner, version, rest, expected)
@@ -240,7 +240,7 @@ fn label_at(
 ) -> Result<(Change, usize), PartFault>
     requires kind { key.now.kind ≡ Label }
     requires value { HasValue key.now owner.now version }
-    ensures { Reads (up_to_value key.now owner.now version) bytes.now result }
+    ensures { ReadsChange (up_to_value key.now owner.now version) bytes.now result }
 {
     *expected = Expected::Value(key.kind);
     let Some((generation, slot, rest)) = read_endpoint(bytes) else {
@@ -270,7 +270,7 @@ fn other_at(
 ) -> Result<(Change, usize), PartFault>
     requires kind { key.now.kind ≢ Label }
     requires value { HasValue key.now owner.now version }
-    ensures { Reads (up_to_value key.now owner.now version) bytes.now result }
+    ensures { ReadsChange (up_to_value key.now owner.now version) bytes.now result }
 {
     match last_value_at(alloc, key.kind, bytes, expected) {
         Ok((value, rest)) => whole(key, owner, version, Body::Put(value), rest),

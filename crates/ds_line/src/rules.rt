@@ -3,38 +3,20 @@
 //! Labels have rules of their own, and the last sequence number is left to the tombstones of sweeps.
 
 ghost use Rattle.std.specs.Prelude.{◌≡◌, ◌≤◌, ◌^◌, ◌<◌, ◌↔◌, IsTrue};
-ghost use Rattle.ds_names.specs.Name.{IsName};
+ghost use Rattle.ds_names.specs.Name.{IsName, rs_name};
 ghost use Rattle.ds_names.specs.declared.kind.Kind.TheVariants.{Label};
 ghost use Rattle.ds_entry.specs.declared.body.Body.TheVariants.{Gone};
-ghost use Rattle.ds_entry.specs.Change.{change_of, IsChange, rs_name};
+ghost use Rattle.ds_entry.specs.Change.{change_of, IsChange};
 ghost use Rattle.ds_line.specs.Reading.{HasOwner, HasVersion, HasSeq, HasBody, HasValue};
 
-use ds_names::{Generation, Key, Kind, Name, Version};
-
-/// Whether the kind is a label's.
-pub fn is_label(kind: Kind) -> bool
-    ensures { IsTrue result ↔ (kind ≡ Label) }
-{
-    match kind {
-        Kind::Label => true,
-        Kind::U32 | Kind::Str | Kind::Mem => false,
-    }
-}
-
-// Whether the name is `rs`.
-fn is_rs(name: &Name) -> bool
-    ensures same { IsTrue result ↔ (name.now ≡ rs_name) }
-    ensures name { IsName name.now }
-{
-    name.bytes() == b"rs".as_slice()
-}
+use ds_names::{Generation, Key, Name, Version};
 
 /// Whether some change has the key.
 pub fn has_owner(key: &Key) -> bool
     ensures { IsTrue result ↔ HasOwner key.now }
 {
-    let is_rs = is_rs(&key.name);
-    if is_label(key.kind) { !is_rs } else { true }
+    let is_rs = key.name.is_rs();
+    if key.kind.is_label() { !is_rs } else { true }
 }
 
 /// Whether some change with the key has the owner.
@@ -42,8 +24,8 @@ pub fn has_version(key: &Key, owner: &Name) -> bool
     requires { HasOwner key.now }
     ensures { IsTrue result ↔ HasVersion key.now owner.now }
 {
-    let is_rs = is_rs(owner);
-    if is_label(key.kind) { is_rs } else { true }
+    let is_rs = owner.is_rs();
+    if key.kind.is_label() { is_rs } else { true }
 }
 
 /// Whether some change with the key and the owner has the epoch.
@@ -52,7 +34,7 @@ pub fn has_seq(key: &Key, owner: &Name, epoch: Generation) -> bool
     ensures { IsTrue result ↔ HasSeq key.now owner.now epoch }
 {
     let number = epoch.number();
-    if is_label(key.kind) {
+    if key.kind.is_label() {
         number != 0
     } else {
         true
@@ -65,7 +47,7 @@ pub fn has_body(key: &Key, owner: &Name, version: &Version) -> bool
     ensures { IsTrue result ↔ HasBody key.now owner.now version.now }
 {
     let seq = version.seq;
-    if is_label(key.kind) { seq <= 1 } else { true }
+    if key.kind.is_label() { seq <= 1 } else { true }
 }
 
 /// Whether some put has the key, the owner and the version.
@@ -73,7 +55,7 @@ pub fn has_value(key: &Key, owner: &Name, version: &Version) -> bool
     requires { HasBody key.now owner.now version.now }
     ensures { IsTrue result ↔ HasValue key.now owner.now version.now }
 {
-    if is_label(key.kind) {
+    if key.kind.is_label() {
         version.seq == 0
     } else {
         version.seq < u32::MAX
@@ -85,7 +67,7 @@ pub fn has_tombstone(key: &Key, owner: &Name, version: &Version) -> bool
     requires { HasBody key.now owner.now version.now }
     ensures { IsTrue result ↔ IsChange (change_of key.now owner.now version.now Gone) }
 {
-    if is_label(key.kind) {
+    if key.kind.is_label() {
         version.seq == 1
     } else {
         true

@@ -20,7 +20,7 @@ use Rattle.ds_held.specs.Limits.{LimitsRecord}
 use Rattle.ds_held.specs.Held.{Holding, held_changes, held_floors, floor_for, floor_count, nothing_held}
 use Rattle.ds_held.specs.Merge.{after_merge}
 use Rattle.ds_held.specs.Raise.{AnswersFloor, RaiseAnswer, after_raise}
-use Rattle.ds_held.specs.Kept.{owned, by_owner, floors_of, AreOwnersRising, IsFloorPlace, IsPut, put_at, list_after}
+use Rattle.ds_held.specs.Kept.{owned, by_owner, floors_map, AreOwnersRising, IsFloorPlace, IsPut, put_at, list_after}
 use Rattle.ds_held.proofs.PlaceLemmas.{put_there, get_none}
 use Rattle.ds_held.proofs.FloorLemmas.{floor_from, owned_back, floors_back, floors_are}
 use Rattle.ds_marked.specs.Marked.{MarkedHolding, nothing_marked, floor_marks_after, floor_remarked}
@@ -36,7 +36,7 @@ module _ (h : Holding) where
   pub rising_floors : AreOwnersRising (held_floors h)
   rising_floors = subst (λ es. T (is_sorted name_cmp es)) (sym own_floors) (entries_sorted h.floors)
 
-  floors_held : floors_of (held_floors h) ≡ h.floors
+  floors_held : floors_map (held_floors h) ≡ h.floors
   floors_held = same_map nat_list_cmp_total exact_bytes _ _ (λ q. get-from_entries nat_list_cmp_total (by_owner (held_floors h)) q ∙ ap (find name_cmp q) own_floors ∙ sym (get-entries h.floors q))
 
   pub floor_missing : (owner : List ℕ) (i : ℕ) → IsFloorPlace (held_floors h) owner (Err i) → floor_for h owner ≡ None

@@ -23,13 +23,14 @@ use Rattle.ds_held.specs.Limits.{LimitsRecord}
 use Rattle.ds_held.specs.Held.{Holding, held_changes, held_for, held_count, nothing_held, is_void_at, IsSound}
 use Rattle.ds_held.specs.Merge.{AnswersFor, MergeAnswer}
 use Rattle.ds_held.specs.Raise.{at_kept_keys}
-use Rattle.ds_held.specs.Kept.{keyed, by_key, changes_of, AreKeysRising, IsPlace, IsPut, put_at, list_after, left_by, marks_left}
-use Rattle.ds_held.proofs.EntryLemmas.{both, unlike}
+use Rattle.ds_held.specs.Kept.{keyed, by_key, changes_map, AreKeysRising, IsPlace, IsPut, put_at, list_after, left_by_floor, marks_left}
+use Rattle.ds_held.proofs.EntryLemmas.{unlike}
 use Rattle.ds_held.proofs.KeptLemmas.{change_there, change_none, changes_are, kept_nothing, none_more}
 use Rattle.ds_marked.specs.Marked.{marks_after, marks_raised, remarked}
 use Rattle.ds_marked.specs.Beside.{marked_keys, marks_beside, IsBeside}
-use Rattle.ds_marked.proofs.RowMarkLemmas.{none_from, place_from_get, find_mark, marked_too, marks_put, each_put, marks_at, marks_past}
+use Rattle.ds_marked.proofs.RowMarkLemmas.{place_from_get, find_mark, marked_too, marks_put, each_put, marks_at, marks_past}
 use Rattle.ds_marked.proofs.LeftMarkLemmas.{marks_are_left, each_left}
+use Rattle.ds_names.proofs.Tests.{none_from, both}
 
 -- ---- what is held, as a list
 find_first : (e : Key × ChangeRecord) (es : List (Key × ChangeRecord)) → find key_cmp e.0 (e ∷ es) ≡ Some e.1
@@ -58,7 +59,7 @@ module _ (h : Holding) (sound : IsSound h) where
   rising_held = subst (λ es. T (is_sorted key_cmp es)) (sym own_entries) (entries_sorted h.changes)
 
   -- what is held is what its list has
-  pub changes_held : changes_of (held_changes h) ≡ h.changes
+  pub changes_held : changes_map (held_changes h) ≡ h.changes
   changes_held = same_map keys_total exact_keys _ _ (λ q. get-from_entries keys_total (by_key (held_changes h)) q ∙ ap (find key_cmp q) own_entries ∙ sym (get-entries h.changes q))
 
   pub held_found : (key : Key) (i : ℕ) → IsPlace (held_changes h) key (Ok i) → held_for h key ≡ slice_get (held_changes h) i
@@ -133,13 +134,13 @@ module _ {M : Type 0} (h : Holding) (ms : List M) (beside : IsBeside h ms) (c : 
 
 -- ---- what a raised floor leaves
 module _ {M : Type 0} (h : Holding) (ms : List M) (beside : IsBeside h ms) (f : Floor) where
-  raised_each : (r : Result Merge JoinFault) → length (list_after ms (marks_left f (held_changes h) ms) r) ≡ length (list_after (held_changes h) (left_by f (held_changes h)) r)
+  raised_each : (r : Result Merge JoinFault) → length (list_after ms (marks_left f (held_changes h) ms) r) ≡ length (list_after (held_changes h) (left_by_floor f (held_changes h)) r)
   raised_each (Ok Taken) = each_left f (held_changes h) ms beside.each
   raised_each (Ok Known) = beside.each
   raised_each (Ok Stale) = beside.each
   raised_each (Err fault) = beside.each
 
-  raised_marks : (r : Result Merge JoinFault) → marks_beside (list_after (held_changes h) (left_by f (held_changes h)) r) (list_after ms (marks_left f (held_changes h) ms) r) ≡ marks_raised h.changes (marks_beside (held_changes h) ms) f r
+  raised_marks : (r : Result Merge JoinFault) → marks_beside (list_after (held_changes h) (left_by_floor f (held_changes h)) r) (list_after ms (marks_left f (held_changes h) ms) r) ≡ marks_raised h.changes (marks_beside (held_changes h) ms) f r
   raised_marks (Ok Taken) =
       marks_are_left f (held_changes h) ms beside.each (rising_held h beside.sound)
       ∙ ap (λ (m : FinMap key_cmp ChangeRecord). at_kept_keys f m (marks_beside (held_changes h) ms)) (changes_held h beside.sound)
@@ -147,12 +148,12 @@ module _ {M : Type 0} (h : Holding) (ms : List M) (beside : IsBeside h ms) (f : 
   raised_marks (Ok Stale) = refl
   raised_marks (Err fault) = refl
 
-  module _ (r : Result Merge JoinFault) (new : Holding) (ns : List M) (sound : IsSound new) (marks : ns ≡ list_after ms (marks_left f (held_changes h) ms) r) (list : held_changes new ≡ list_after (held_changes h) (left_by f (held_changes h)) r) where
+  module _ (r : Result Merge JoinFault) (new : Holding) (ns : List M) (sound : IsSound new) (marks : ns ≡ list_after ms (marks_left f (held_changes h) ms) r) (list : held_changes new ≡ list_after (held_changes h) (left_by_floor f (held_changes h)) r) where
     pub beside_raised : IsBeside new ns
     beside_raised = record { sound = sound; each = ap length marks ∙ raised_each r ∙ sym (ap length list) }
 
     pub marks_kept : marks_beside (held_changes new) ns ≡ marks_raised h.changes (marks_beside (held_changes h) ms) f r
-    marks_kept = ap (λ l. marks_beside l ns) list ∙ ap (marks_beside (list_after (held_changes h) (left_by f (held_changes h)) r)) marks ∙ raised_marks r
+    marks_kept = ap (λ l. marks_beside l ns) list ∙ ap (marks_beside (list_after (held_changes h) (left_by_floor f (held_changes h)) r)) marks ∙ raised_marks r
 
 -- ---- another mark at an index
 module _ {M : Type 0} where

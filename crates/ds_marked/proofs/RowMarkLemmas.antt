@@ -1,5 +1,5 @@
 -- A list of marks beside a list whose keys rise: what is found under a key, and what a write at a place does.
-use Rattle.std.proofs.Common.{◌≡◌, ℕ, zero, suc, ◌<◌, ◌≤◌, List, [], ◌∷◌, length, set, map, cond, true, false, Option, Some, None, is_some, Result, Ok, Err, refl, sym, ap, ◌∙◌, subst, arith, length-set}
+use Rattle.std.proofs.Common.{◌≡◌, ℕ, zero, suc, ◌<◌, ◌≤◌, List, [], ◌∷◌, length, set, map, cond, true, false, Some, None, is_some, Result, Ok, Err, refl, sym, ap, ◌∙◌, subst, arith, length-set}
 use Rattle.std.proofs.lemmas.Option.{same_Some, get_or_from_slice_get}
 use Rattle.std.proofs.lemmas.List.Edits.{length-insert}
 use Rattle.std.specs.List.{slice_get}
@@ -12,9 +12,9 @@ use Rattle.std.specs.FinMap as finite
 use Rattle.std.specs.FinMap.Entries.{by_order, find-put}
 use lib.Dec.{T}
 use Rattle.ds_held.specs.Kept.{IsPlaceOf, put_at}
-use Rattle.ds_held.proofs.EntryLemmas.{both}
 use Rattle.ds_held.proofs.PlaceLemmas.{later, rest_place, rest_gap, before_gap, behind_gap, at_place, tied_place}
 use Rattle.ds_marked.specs.Beside.{marked_rows}
+use Rattle.ds_names.proofs.Tests.{both}
 
 -- ---- what stands at an index
 pub within_from : {X : Type 0} (xs : List X) (i : ℕ) (x : X) → slice_get xs i ≡ Some x → i < length xs
@@ -36,10 +36,6 @@ pub set_past : {X : Type 0} (xs : List X) (i : ℕ) (x : X) → length xs ≤ i 
 set_past [] i x w = refl
 set_past (y ∷ ys) zero x w = absurd (omega (arith, w))
 set_past (y ∷ ys) (suc i) x w = ap (λ l. y ∷ l) (set_past ys i x (omega (arith, w)))
-
-pub none_from : {X : Type 0} (o : Option X) → is_some o ≡ false → o ≡ None
-none_from None e = refl
-none_from (Some x) e = absurd (cc)
 
 -- each element stands in a row under its key, and may have a mark
 module _ {K V X : Type 0} (R : K → K → Ordering) (total : IsTotalOrder R) (exact : (a b : K) → R a b ≡ Equal → a ≡ b) (row : X → K × V) where

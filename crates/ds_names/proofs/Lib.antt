@@ -2,3 +2,4 @@ pub mod NameBlockLemmas
 pub mod DecimalLemmas
 pub mod OrderLemmas
 pub mod WordLemmas
+pub mod Tests

@@ -11,7 +11,7 @@ use Rattle.std.proofs.lemmas.Bool.{cases_lt, and_parts}
 use Rattle.std.proofs.lemmas.Bool.Decides.{nat_tests}
 use Rattle.std.proofs.lemmas.List.{take-append-drop, length-take-le, length-drop, drop-drop}
 use Rattle.ds_names.specs.Name.{is_name_byte}
-use Rattle.ds_names.specs.NameBlock.{name_of, KeepsName}
+use Rattle.ds_names.specs.NameBlock.{name_in_block, KeepsName}
 use Rattle.ds_names.specs.declared.name.Name.TheInside.{Inside}
 
 -- ---- one byte
@@ -161,14 +161,14 @@ padded (u ∷ x) (v ∷ y) k m all_x all_y e =
     let more_y = (and_parts (is_name_byte v) (list_all is_name_byte y) all_y).1 in
     ap (ordering_then (nat_cmp u v)) (padded x y k m more_x more_y (omega (arith, e)))
 
-whole_of : (b : Inside) → KeepsName b → b.block ≡ name_of b ++ replicate (64 - b.len) 0
+whole_of : (b : Inside) → KeepsName b → b.block ≡ name_in_block b ++ replicate (64 - b.len) 0
 whole_of b kept = sym (take-append-drop b.len b.block) ∙ ap (λ (z : List ℕ). take b.len b.block ++ z) kept.zeros
 
 -- blocks stand to one another as the names that they keep
-pub names_order : (b c : Inside) → KeepsName b → KeepsName c → slice_cmp nat_cmp b.block c.block ≡ slice_cmp nat_cmp (name_of b) (name_of c)
+pub names_order : (b c : Inside) → KeepsName b → KeepsName c → slice_cmp nat_cmp b.block c.block ≡ slice_cmp nat_cmp (name_in_block b) (name_in_block c)
 names_order b c kept_b kept_c =
     let len_b = length-take-le b.len b.block (omega (arith, kept_b.whole, kept_b.fits)) in
     let len_c = length-take-le c.len c.block (omega (arith, kept_c.whole, kept_c.fits)) in
     ap (λ (t : List ℕ). slice_cmp nat_cmp t c.block) (whole_of b kept_b)
-    ∙ ap (λ (t : List ℕ). slice_cmp nat_cmp (name_of b ++ replicate (64 - b.len) 0) t) (whole_of c kept_c)
-    ∙ padded (name_of b) (name_of c) (64 - b.len) (64 - c.len) kept_b.name.allowed kept_c.name.allowed (omega (arith, len_b, len_c, kept_b.fits, kept_c.fits))
+    ∙ ap (λ (t : List ℕ). slice_cmp nat_cmp (name_in_block b ++ replicate (64 - b.len) 0) t) (whole_of c kept_c)
+    ∙ padded (name_in_block b) (name_in_block c) (64 - b.len) (64 - c.len) kept_b.name.allowed kept_c.name.allowed (omega (arith, len_b, len_c, kept_b.fits, kept_c.fits))

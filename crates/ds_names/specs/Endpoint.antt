@@ -1,5 +1,5 @@
 -- What an endpoint is, and its text.
-use Rattle.std.specs.Prelude.{ℕ, ◌≤◌, List, ◌∷◌, ◌++◌}
+use Rattle.std.specs.Prelude.{ℕ, ◌≤◌, ◌==◌, ◌&&◌, Bool, List, ◌∷◌, ◌++◌}
 use Rattle.std.specs.Fmt.{decimal}
 
 -- a process slot, and how often a process was started before this one
@@ -10,6 +10,14 @@ pub record EndpointRecord : Type 0 where
 -- the endpoint of these numbers
 abbrev pub endpoint_of : ℕ → ℕ → EndpointRecord
 endpoint_of g s = record { generation = g; slot = s }
+
+-- the endpoints are one: in generation and in slot
+abbrev pub is_same_endpoint : EndpointRecord → EndpointRecord → Bool
+is_same_endpoint d e = d.generation == e.generation && d.slot == e.slot
+
+-- the endpoint is that of RS, `0/2`
+abbrev pub is_rs : EndpointRecord → Bool
+is_rs e = is_same_endpoint e (endpoint_of 0 2)
 
 -- both numbers are in their ranges
 pub record IsEndpoint (e : EndpointRecord) : Type 0 where

@@ -5,6 +5,7 @@ use Rattle.std.specs.Ordering.{nat_cmp, ordering_then}
 use Rattle.std.specs.Cmp.Lexicographic.{slice_cmp}
 use Rattle.ds_names.specs.Kind.{kind_place}
 use Rattle.ds_names.specs.declared.key.Key.{Key}
+use Rattle.ds_names.specs.declared.kind.Kind.TheVariants.{Label}
 
 -- byte by byte, and a name before each longer one that it begins
 abbrev pub name_cmp : List ℕ → List ℕ → Ordering
@@ -13,3 +14,7 @@ name_cmp = slice_cmp nat_cmp
 -- by name, then by kind
 abbrev pub key_cmp : Key → Key → Ordering
 key_cmp a b = ordering_then (name_cmp a.name b.name) (nat_cmp (kind_place a.kind) (kind_place b.kind))
+
+-- the key of the label of a name
+abbrev pub label_key : List ℕ → Key
+label_key name = record { name = name; kind = Label }

@@ -1,5 +1,5 @@
 -- The order of kinds, and the kinds that a mask names.
-use Rattle.std.specs.Prelude.{ℕ, ◌/◌, ◌%◌, ◌==◌, Bool}
+use Rattle.std.specs.Prelude.{ℕ, ◌/◌, ◌%◌, ◌==◌, Bool, true, false}
 use Rattle.ds_names.specs.declared.kind.Kind.{Kind}
 use Rattle.ds_names.specs.declared.kind.Kind.TheVariants.{Label, U32, Str, Mem}
 
@@ -9,6 +9,13 @@ kind_place Label = 0
 kind_place U32 = 1
 kind_place Str = 2
 kind_place Mem = 3
+
+-- the kind is a label's
+abbrev pub is_label : Kind → Bool
+is_label Label = true
+is_label U32 = false
+is_label Str = false
+is_label Mem = false
 
 -- the mask has the kind's bit: 1 for label, 2 for u32, 4 for str, 8 for mem
 abbrev pub names_kind : ℕ → Kind → Bool

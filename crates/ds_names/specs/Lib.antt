@@ -5,3 +5,4 @@ pub mod Key
 pub mod Version
 pub mod Endpoint
 pub mod Run
+pub mod Limits

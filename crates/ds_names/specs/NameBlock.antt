@@ -6,8 +6,8 @@ use Rattle.ds_names.specs.declared.name.Name.TheInside.{Inside}
 use Rattle.ds_names.specs.Name.{IsName}
 
 -- the bytes of the name that a block keeps
-abbrev pub name_of : Inside → List ℕ
-name_of n = take n.len n.block
+abbrev pub name_in_block : Inside → List ℕ
+name_in_block n = take n.len n.block
 
 -- the first so many bytes in a block, and zeros behind them
 abbrev pub filled : List ℕ → ℕ → List ℕ
@@ -25,7 +25,7 @@ abbrev pub block_of : List ℕ → Inside
 block_of bytes = record { block = bytes ++ replicate (64 - length bytes) 0; len = length bytes }
 
 -- a name gives its block back
-pub block_of-name_of : (n : Inside) → KeepsName n → block_of (name_of n) ≡ n
+pub block_of-name_of : (n : Inside) → KeepsName n → block_of (name_in_block n) ≡ n
 block_of-name_of n kept =
     let len : length (take n.len n.block) ≡ n.len = length-take-le n.len n.block (omega (arith, kept.whole, kept.fits)) in
     let block : take n.len n.block ++ replicate (64 - n.len) 0 ≡ n.block = ap (λ (z : List ℕ). take n.len n.block ++ z) (sym kept.zeros) ∙ take-append-drop n.len n.block in

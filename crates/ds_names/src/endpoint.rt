@@ -3,7 +3,7 @@
 ghost use Rattle.std.specs.Prelude.{◌≡◌, ℕ, ◌<◌, ◌≤◌, List, ◌≢◌, OnErr, IfSome, IfNone, IfOk, string_bytes};
 ghost use Rattle.std.specs.Option.{SomeIff};
 ghost use Rattle.std.specs.Char.{is_ascii_digit};
-ghost use Rattle.ds_names.specs.Endpoint.{EndpointRecord, IsEndpoint, endpoint_text, endpoint_of};
+ghost use Rattle.ds_names.specs.Endpoint.{EndpointRecord, IsEndpoint, endpoint_text, endpoint_of, is_rs};
 ghost use Rattle.ds_names.specs.Run.{Begins};
 
 use crate::decimal::{read_byte, read_decimal};
@@ -100,6 +100,13 @@ impl Endpoint {
             generation: Generation { number: 0 },
             slot: 2,
         }
+    }
+
+    /// Whether it is that of RS.
+    pub fn is_rs(self) -> bool
+        ensures { result ≡ is_rs self }
+    {
+        self == Endpoint::rs()
     }
 
     /// Its generation.

@@ -1,14 +1,15 @@
 //! Kinds of entries, and sets of them.
 
-ghost use Rattle.std.specs.Prelude.{◌≡◌, ℕ, ◌<◌, ◌≤◌, length};
+ghost use Rattle.std.specs.Prelude.{◌≡◌, ℕ, ◌<◌, ◌≤◌, ◌↔◌, IsTrue, length};
 ghost use Rattle.std.specs.Bool.{◌==◌};
 ghost use Rattle.std.proofs.Common.{rules};
 ghost use Rattle.std.proofs.lemmas.Cmp.{nat_cmp_total, nat_eq_equiv, on_total, on_equiv};
 ghost use Rattle.std.specs.Cmp.{partial_order_from_own_ties, partial_equiv_from_equiv};
 ghost use Rattle.std.specs.Cmp.Rules.{comparing};
 ghost use Rattle.std.specs.Ordering.{nat_cmp, on, as_partial_cmp};
-ghost use Rattle.ds_names.specs.Kind.{names_kind, kind_place};
+ghost use Rattle.ds_names.specs.Kind.{is_label, names_kind, kind_place};
 ghost use Rattle.std.specs.Option.{SomeIff};
+ghost use Rattle.ds_names.specs.declared.kind.Kind.{Kind};
 
 use std::cmp::Ordering;
 use std::marker::Model;
@@ -25,6 +26,17 @@ pub enum Kind {
 }
 
 impl Kind {
+    /// Whether it is that of labels.
+    pub fn is_label(self) -> bool
+        ensures value { result ≡ is_label self }
+        ensures label { IsTrue result ↔ (self ≡ Kind.Label) }
+    {
+        match self {
+            Kind::Label => true,
+            Kind::U32 | Kind::Str | Kind::Mem => false,
+        }
+    }
+
     // Its place in the order of kinds.
     fn place(self) -> u8
         ensures { result ≡ kind_place self }

@@ -9,6 +9,7 @@ mod decimal;
 mod endpoint;
 mod key;
 mod kind;
+pub mod limits;
 mod name;
 mod room;
 mod version;

@@ -12,7 +12,7 @@ ghost use Rattle.std.specs.Cmp.{partial_order_from_own_ties, partial_equiv_from_
 ghost use Rattle.std.specs.Cmp.Rules.{comparing};
 ghost use Rattle.std.specs.Cmp.Lexicographic.{pointwise, slice_cmp};
 ghost use Rattle.std.specs.Ordering.{nat_cmp, as_partial_cmp};
-ghost use Rattle.ds_names.specs.Name.{is_name_byte, IsName};
+ghost use Rattle.ds_names.specs.Name.{is_name_byte, is_same_name, rs_name, IsName};
 ghost use Rattle.ds_names.specs.NameBlock.{filled};
 ghost use Rattle.ds_names.specs.Run.{Begins};
 
@@ -43,9 +43,9 @@ impl Model for Name {
 
     ghost Value = { List ℕ };
 
-    ghost use Rattle.ds_names.specs.NameBlock.{name_of, KeepsName, block_of, block_of-name_of};
+    ghost use Rattle.ds_names.specs.NameBlock.{name_in_block, KeepsName, block_of, block_of-name_of};
 
-    ghost view = { name_of };
+    ghost view = { name_in_block };
 
     ghost invariant = { KeepsName };
 
@@ -99,6 +99,25 @@ impl Name {
             block,
             len: len as u8,
         })
+    }
+
+    /// `rs`, the label of RS, the reincarnation server.
+    pub fn rs() -> Name
+        ensures { result ≡ rs_name }
+    {
+        match Name::read(b"rs") {
+            Ok(name) => name,
+            Err(_) => unreachable!(),
+        }
+    }
+
+    /// Whether it is RS's.
+    pub fn is_rs(&self) -> bool
+        ensures value { result ≡ is_same_name self.now rs_name }
+        ensures same { IsTrue result ↔ (self.now ≡ rs_name) }
+        ensures name { IsName self.now }
+    {
+        self.bytes() == b"rs".as_slice()
     }
 
     /// The bytes of the name, 1 to 64 of them.

@@ -1,25 +1,20 @@
 -- The puts of what is held, one after the other.
-use Rattle.std.proofs.Common.{◌≡◌, ℕ, ◌+◌, true, false, cond, List, [], ◌∷◌, ◌++◌, map, take, length, Some, refl, sym, ap, ◌∙◌, append-nil}
+use Rattle.std.proofs.Common.{◌≡◌, ℕ, ◌+◌, true, false, cond, List, [], ◌∷◌, ◌++◌, map, take, Some, refl, sym, ap, ◌∙◌, append-nil}
 use Rattle.std.proofs.lemmas.List.{take_more}
 use Rattle.std.proofs.lemmas.List.Elements.{filter-append}
-use Rattle.std.proofs.lemmas.Map.Entries.{length-values_of}
 use Rattle.std.proofs.lemmas.Option.{get_or_from_slice_get, slice_get_within}
-use Rattle.std.specs.FinMap.{entries, len-entries}
+use Rattle.std.specs.FinMap.{entries}
 use Rattle.std.specs.List.{slice_get}
 use Rattle.ds_entry.specs.Change.{ChangeRecord}
 use Rattle.ds_entry.specs.declared.item.Item.{Item}
 use Rattle.ds_entry.specs.declared.item.Item.TheVariants.{Change as Changed}
-use Rattle.ds_held.specs.Held.{Holding, change_item, floor_item, held_changes, held_count, held_items}
-use Rattle.ds_submap.specs.Map.{entries_of, is_put}
-use Rattle.ds_join.specs.Reading.{leaves_value}
+use Rattle.ds_held.specs.Held.{Holding, change_item, floor_item, held_changes, held_items}
+use Rattle.ds_entry.specs.Left.{leaves_value, is_put}
+use Rattle.ds_entry.specs.Under.{entries_of}
 
 -- the puts of changes, as items
 abbrev pub puts_of : List ChangeRecord → List Item
 puts_of changes = entries_of (map change_item changes)
-
--- the number of held changes
-pub count_is : (h : Holding) → length (held_changes h) ≡ held_count h
-count_is h = length-values_of (entries h.changes) ∙ sym (len-entries h.changes)
 
 -- floors are no puts
 no_puts : (fs : List (List ℕ × ℕ)) → entries_of (map floor_item fs) ≡ []

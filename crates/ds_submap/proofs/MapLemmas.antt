@@ -22,9 +22,13 @@ use Rattle.ds_held.proofs.JoinLemmas.{all_join}
 use Rattle.ds_held.proofs.KeptLemmas.{kept_nothing}
 use Rattle.ds_pattern.specs.declared.query.Query.{Query}
 use Rattle.ds_submap.specs.declared.count.Count.{Count}
-use Rattle.ds_submap.specs.Floors.{AreSwept, FloorsStand}
-use Rattle.ds_submap.specs.Map.{IsMap, empty_map, entries_of, is_item_under, is_put, map_of, under}
+use Rattle.ds_submap.specs.Floors.{AreSwept, EachFloorStands}
+use Rattle.ds_submap.specs.Map.{IsMap, empty_map, map_of}
 use Rattle.ds_submap.specs.Take.{AreAnswered, AreCounted, IsTakeStopped, done_items}
+use Rattle.ds_entry.specs.Under.{entries_of, under}
+use Rattle.ds_entry.specs.Left.{is_put}
+use Rattle.ds_pattern.specs.Under.{is_under}
+use Rattle.ds_entry.specs.Item.{passes}
 
 -- what isn't refused was merged, or raised
 merged_so : (old : Holding) (items : List Item) (rs : List Merge) (new : Holding) → AreAnswered old items rs new → AreMerged old items new
@@ -53,13 +57,13 @@ pub empty_is_map : (q : Query) → IsMap (empty_map q)
 empty_is_map q = record {
   limits = refl;
   sound = sound;
-  under = All-weaker (Contains (held_items (nothing_held larger))) (λ i. IsTrue (is_item_under q i)) (λ i k. none i (is_held (nothing_held larger) sound i k)) (held_items (nothing_held larger)) (All-contains_itself (held_items (nothing_held larger)));
+  under = All-weaker (Contains (held_items (nothing_held larger))) (λ i. IsTrue (passes (is_under q) i)) (λ i k. none i (is_held (nothing_held larger) sound i k)) (held_items (nothing_held larger)) (All-contains_itself (held_items (nothing_held larger)));
 }
   where
     sound : IsSound (nothing_held larger)
     sound = (kept_nothing larger).sound
 
-    none : (i : Item) → IsHeld (nothing_held larger) i → IsTrue (is_item_under q i)
+    none : (i : Item) → IsHeld (nothing_held larger) i → IsTrue (passes (is_under q) i)
     none (Changed c) h = absurd (none-some c (sym (get-empty key_cmp c.key) ∙ h))
     none (Floored f) h = refl
 
@@ -73,47 +77,47 @@ entries_swept h sound f k c m = void_isnt_held (held_items h) (held_items h) f c
 module _ (q : Query) (old : Holding) (items : List Item) (new : Holding) where
   -- what was taken
   pub record TookAll (result : Result Count Stop) : Type 0 where
-    pub joined : IsTop (held_items new) (held_items old ++ under q (done_items result items))
+    pub joined : IsTop (held_items new) (held_items old ++ under (is_under q) (done_items result items))
     pub limits : new.limits ≡ old.limits
 
   took : IsSound old → (result : Result Count Stop) → IfOk result (AreCounted q old items new) → IfErr result (IsTakeStopped q old items new) → TookAll result
   took sound (Ok n) t s = record {
-    joined = all_join old (under q items) new sound (merged_so old (under q items) t.all.answers new t.all.answered);
-    limits = limits_stay old (under q items) t.all.answers new t.all.answered;
+    joined = all_join old (under (is_under q) items) new sound (merged_so old (under (is_under q) items) t.all.answers new t.all.answered);
+    limits = limits_stay old (under (is_under q) items) t.all.answers new t.all.answered;
   }
   took sound (Err stop) t s = record {
-    joined = all_join old (under q (take stop.done items)) new sound (merged_so old (under q (take stop.done items)) s.front.answers new s.front.answered);
-    limits = limits_stay old (under q (take stop.done items)) s.front.answers new s.front.answered;
+    joined = all_join old (under (is_under q) (take stop.done items)) new sound (merged_so old (under (is_under q) (take stop.done items)) s.front.answers new s.front.answered);
+    limits = limits_stay old (under (is_under q) (take stop.done items)) s.front.answers new s.front.answered;
   }
 
   -- floors among what was held or came stand
-  floors_stand : (came : List Item) → IsTop (held_items new) (held_items old ++ under q came) → FloorsStand (held_items old ++ came) (held_items new)
+  floors_stand : (came : List Item) → IsTop (held_items new) (held_items old ++ under (is_under q) came) → EachFloorStands (held_items old ++ came) (held_items new)
   floors_stand came top f k =
       record {
-        kept = greatest_floor (held_items old ++ under q came) (held_items new) f top among;
-        dropped = λ c m. void_isnt_held (held_items old ++ under q came) (held_items new) f c top among m;
+        kept = greatest_floor (held_items old ++ under (is_under q) came) (held_items new) f top among;
+        dropped = λ c m. void_isnt_held (held_items old ++ under (is_under q) came) (held_items new) f c top among m;
       }
     where
-      among : Contains (held_items old ++ under q came) (Floored f)
+      among : Contains (held_items old ++ under (is_under q) came) (Floored f)
       among = elim (Contains-append_cases (held_items old) came (Floored f) k) [
-        | inl h ↦ Contains-append_left (held_items old) (under q came) (Floored f) h
-        | inr h ↦ Contains-append_right (held_items old) (under q came) (Floored f) (Contains-filter (is_item_under q) came (Floored f) h refl)
+        | inl h ↦ Contains-append_left (held_items old) (under (is_under q) came) (Floored f) h
+        | inr h ↦ Contains-append_right (held_items old) (under (is_under q) came) (Floored f) (Contains-filter (passes (is_under q)) came (Floored f) h refl)
       ]
 
   -- what is held after a take is under the query
-  still_under : (came : List Item) → All (λ i. IsTrue (is_item_under q i)) (held_items old) → IsTop (held_items new) (held_items old ++ under q came) → All (λ i. IsTrue (is_item_under q i)) (held_items new)
-  still_under came before top = All-weaker (Contains (held_items new)) (λ i. IsTrue (is_item_under q i)) each (held_items new) (All-contains_itself (held_items new))
+  still_under : (came : List Item) → All (λ i. IsTrue (passes (is_under q) i)) (held_items old) → IsTop (held_items new) (held_items old ++ under (is_under q) came) → All (λ i. IsTrue (passes (is_under q) i)) (held_items new)
+  still_under came before top = All-weaker (Contains (held_items new)) (λ i. IsTrue (passes (is_under q) i)) each (held_items new) (All-contains_itself (held_items new))
     where
-      each : (i : Item) → Contains (held_items new) i → IsTrue (is_item_under q i)
-      each i k = elim (Contains-append_cases (held_items old) (under q came) i (top.among i k)) [
-        | inl h ↦ All-contains (λ j. IsTrue (is_item_under q j)) (held_items old) i before h
-        | inr h ↦ (Contains-from_filter (is_item_under q) came i h).1
+      each : (i : Item) → Contains (held_items new) i → IsTrue (passes (is_under q) i)
+      each i k = elim (Contains-append_cases (held_items old) (under (is_under q) came) i (top.among i k)) [
+        | inl h ↦ All-contains (λ j. IsTrue (passes (is_under q) j)) (held_items old) i before h
+        | inr h ↦ (Contains-from_filter (passes (is_under q)) came i h).1
       ]
 
   -- what a take says of the map
   pub record Took (result : Result Count Stop) : Type 0 where
-    pub joined : IsTop (held_items new) (held_items old ++ under q (done_items result items))
-    pub floors : FloorsStand (held_items old ++ done_items result items) (held_items new)
+    pub joined : IsTop (held_items new) (held_items old ++ under (is_under q) (done_items result items))
+    pub floors : EachFloorStands (held_items old ++ done_items result items) (held_items new)
     pub map : IsMap (map_of q new)
 
   pub take_leaves : (result : Result Count Stop) → IsMap (map_of q old) → IsSound new → IfOk result (AreCounted q old items new) → IfErr result (IsTakeStopped q old items new) → Took result

@@ -14,9 +14,11 @@ use Rattle.ds_held.specs.Held.{Holding, IsSound}
 use Rattle.ds_held.specs.Join.{ItemAnswer, after_item}
 use Rattle.ds_pattern.specs.declared.query.Query.{Query}
 use Rattle.ds_submap.specs.declared.count.Count.{Count}
-use Rattle.ds_submap.specs.Map.{is_item_under, under}
 use Rattle.ds_submap.specs.Count.{counted, none_counted}
-use Rattle.ds_submap.specs.Take.{AreAnswered, AreCounted, IsFloorOrOther, IsFrontTaken, IsItemTaken, IsRefusedUnder, IsTakeStopped, IsUnasked, is_asked, is_stale, is_taken}
+use Rattle.ds_submap.specs.Take.{AreAnswered, AreCounted, IsFloorOrOther, IsFrontTaken, IsItemTaken, IsRefusedUnder, IsTakeStopped, IsUnasked, needs_query, is_stale, is_taken}
+use Rattle.ds_pattern.specs.Under.{is_under}
+use Rattle.ds_entry.specs.Item.{passes}
+use Rattle.ds_entry.specs.Under.{under}
 
 -- one more item
 answered_push : (old mid : Holding) (items : List Item) (rs : List Merge) (i : Item) (r : Merge) (new : Holding) → AreAnswered old items rs mid → ItemAnswer mid i (Ok r) → new ≡ after_item mid i (Ok r) → AreAnswered old (items ++ i ∷ []) (rs ++ r ∷ []) new
@@ -25,11 +27,11 @@ answered_push old mid [] (q ∷ rs) i r new m a n = absurd m
 answered_push old mid (j ∷ items) [] i r new m a n = absurd m
 answered_push old mid (j ∷ items) (q ∷ rs) i r new m a n = (m.0, answered_push (after_item old j (Ok q)) mid items rs i r new m.1 a n)
 
-under_push : (q : Query) (items : List Item) (i : Item) (b : Bool) → is_item_under q i ≡ b → under q (items ++ i ∷ []) ≡ under q items ++ cond b (i ∷ []) []
-under_push q items i b e = filter-append (is_item_under q) items (i ∷ []) ∙ ap (λ t. under q items ++ cond t (i ∷ []) []) e
+under_push : (q : Query) (items : List Item) (i : Item) (b : Bool) → passes (is_under q) i ≡ b → under (is_under q) (items ++ i ∷ []) ≡ under (is_under q) items ++ cond b (i ∷ []) []
+under_push q items i b e = filter-append (passes (is_under q)) items (i ∷ []) ∙ ap (λ t. under (is_under q) items ++ cond t (i ∷ []) []) e
 
 -- what the query isn't asked about is a floor, or isn't under it
-pub unasked_other : (q : Query) (i : Item) → IsFalse (is_asked q i) → IsFloorOrOther q i
+pub unasked_other : (q : Query) (i : Item) → IsFalse (needs_query q i) → IsFloorOrOther q i
 unasked_other q (Changed c) other = rw other refl
 unasked_other q (Floored f) other = tt
 
@@ -45,14 +47,14 @@ one_more p rs r = ap length (filter-append p rs (r ∷ [])) ∙ length-append (f
 taken_push : (q : Query) (old mid new : Holding) (items : List Item) (i : Item) (n : Count) (answer : Option Merge) → AreCounted q old items mid n → IsItemTaken q mid i answer new → AreCounted q old (items ++ i ∷ []) new (counted n answer)
 taken_push q old mid new items i n None t h =
     record {
-      all = record { answers = t.all.answers; answered = rw (under_push q items i false h.0 ∙ append-nil (under q items)) (subst (λ (m : Holding). AreAnswered old (under q items) t.all.answers m) (sym h.1) t.all.answered) };
+      all = record { answers = t.all.answers; answered = rw (under_push q items i false h.0 ∙ append-nil (under (is_under q) items)) (subst (λ (m : Holding). AreAnswered old (under (is_under q) items) t.all.answers m) (sym h.1) t.all.answered) };
       done = omega (arith, length-append items (i ∷ []), t.done);
       taken = t.taken;
       stale = t.stale;
     }
 taken_push q old mid new items i n (Some r) t h =
     record {
-      all = record { answers = t.all.answers ++ r ∷ []; answered = rw (under_push q items i true h.0) (answered_push old mid (under q items) t.all.answers i r new t.all.answered h.1 h.2) };
+      all = record { answers = t.all.answers ++ r ∷ []; answered = rw (under_push q items i true h.0) (answered_push old mid (under (is_under q) items) t.all.answers i r new t.all.answered h.1 h.2) };
       done = done r;
       taken = taken r;
       stale = stale r;
@@ -120,14 +122,14 @@ module _ (q : Query) (old : Holding) (items : List Item) where
     taking_stops fault e refused = rw (e, t.done) (record { front = t.counted_so.all; refused = (x, at, refused) })
 
     -- one more that the query isn't asked about
-    pub unasked_more : All (λ j. IsFalse (is_asked q j)) (take i items) → IsFalse (is_asked q x) → All (λ j. IsFalse (is_asked q j)) (take (i + 1) items)
-    unasked_more before this = rw (front (slice_get_within items i x at)) (All-push (λ j. IsFalse (is_asked q j)) (take i items) x before this)
+    pub unasked_more : All (λ j. IsFalse (needs_query q j)) (take i items) → IsFalse (needs_query q x) → All (λ j. IsFalse (needs_query q j)) (take (i + 1) items)
+    unasked_more before this = rw (front (slice_get_within items i x at)) (All-push (λ j. IsFalse (needs_query q j)) (take i items) x before this)
 
   pub taking_ends : (i : ℕ) (mid : Holding) (n : Count) → Taking q old items i mid n → length items ≤ i → AreCounted q old items mid n
   taking_ends i mid n t l = subst (λ xs. AreCounted q old xs mid n) (take_all i items l) t.counted_so
 
   -- ---- the items in front
-  pub front_taken : (i : ℕ) (mid : Holding) (n : Count) → Taking q old items i mid n → i ≤ length items → All (λ j. IsFalse (is_asked q j)) (take i items) → (i < length items → (x : Item) × (slice_get items i ≡ Some x) × IsTrue (is_asked q x)) → IsFrontTaken q old items mid n
+  pub front_taken : (i : ℕ) (mid : Holding) (n : Count) → Taking q old items i mid n → i ≤ length items → All (λ j. IsFalse (needs_query q j)) (take i items) → (i < length items → (x : Item) × (slice_get items i ≡ Some x) × IsTrue (needs_query q x)) → IsFrontTaken q old items mid n
   front_taken i mid n t few unasked next =
       record {
         counted = subst (λ k. AreCounted q old (take k items) mid n) (sym t.done) t.counted_so;
@@ -135,8 +137,8 @@ module _ (q : Query) (old : Holding) (items : List Item) where
         within = omega (arith, t.done, few);
         taken = t.taken;
         stale = t.stale;
-        unasked = subst (λ k. All (λ j. IsFalse (is_asked q j)) (take k items)) (sym t.done) unasked;
-        next = subst (λ k. k < length items → (x : Item) × (slice_get items k ≡ Some x) × IsTrue (is_asked q x)) (sym t.done) next;
+        unasked = subst (λ k. All (λ j. IsFalse (needs_query q j)) (take k items)) (sym t.done) unasked;
+        next = subst (λ k. k < length items → (x : Item) × (slice_get items k ≡ Some x) × IsTrue (needs_query q x)) (sym t.done) next;
       }
 
   pub taking_front : (mid : Holding) (n : Count) → IsFrontTaken q old items mid n → Taking q old items n.done mid n

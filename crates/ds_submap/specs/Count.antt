@@ -18,7 +18,7 @@ counted n (Some Known) = record { done = n.done + 1; taken = n.taken; stale = n.
 counted n None = record { done = n.done + 1; taken = n.taken; stale = n.stale }
 
 -- no more were taken, or stale, than are done, and one more can be counted
-pub record HasRoom (n : Count) : Type 0 where
+pub record CanCountOne (n : Count) : Type 0 where
   pub taken : n.taken ≤ n.done
   pub stale : n.stale ≤ n.done
   pub done : n.done + 1 < 2 ^ 64

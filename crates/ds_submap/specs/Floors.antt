@@ -1,28 +1,13 @@
 -- What a floor keeps out of a map.
-use Rattle.std.specs.Prelude.{◌≡◌, ◌≤◌, false, List, Contains}
-use Rattle.ds_entry.specs.Change.{ChangeRecord}
-use Rattle.ds_entry.specs.Void.{voids}
+use Rattle.std.specs.Prelude.{List, Contains}
 use Rattle.ds_entry.specs.declared.floor.Floor.{Floor}
 use Rattle.ds_entry.specs.declared.item.Item.{Item}
-use Rattle.ds_entry.specs.declared.item.Item.TheVariants.{Change as Changed, Floor as Floored}
-
--- a floor of the owner is held that isn't below this one
-abbrev pub IsFloorKept : List Item → Floor → Type 0
-IsFloorKept held f = (g : Floor) × Contains held (Floored g) × (g.owner ≡ f.owner) × (f.generation ≤ g.generation)
-
--- no change is among the items that the floor makes void: none of the owner, of another kind than label, with an epoch up to
--- the floor's generation
-abbrev pub IsDropped : List Item → Floor → Type 0
-IsDropped items f = (c : ChangeRecord) → Contains items (Changed c) → voids f c ≡ false
-
--- the floor, or a higher one of its owner, is held, and nothing that it makes void is
-pub record FloorStands (held : List Item) (f : Floor) : Type 0 where
-  pub kept : IsFloorKept held f
-  pub dropped : IsDropped held f
+use Rattle.ds_entry.specs.declared.item.Item.TheVariants.{Floor as Floored}
+use Rattle.ds_join.specs.FloorStands.{IsDropped, FloorStands}
 
 -- each floor among what came stands
-abbrev pub FloorsStand : List Item → List Item → Type 0
-FloorsStand came held = (f : Floor) → Contains came (Floored f) → FloorStands held f
+abbrev pub EachFloorStands : List Item → List Item → Type 0
+EachFloorStands came held = (f : Floor) → Contains came (Floored f) → FloorStands held f
 
 -- nothing is among the items that a held floor makes void
 abbrev pub AreSwept : List Item → List Item → Type 0

@@ -13,7 +13,8 @@ use Rattle.ds_held.specs.Join.{ItemAnswer, after_item, IsItemRefused}
 use Rattle.ds_pattern.specs.declared.query.Query.{Query}
 use Rattle.ds_pattern.specs.Under.{is_under}
 use Rattle.ds_submap.specs.declared.count.Count.{Count}
-use Rattle.ds_submap.specs.Map.{is_item_under, under}
+use Rattle.ds_entry.specs.Item.{passes}
+use Rattle.ds_entry.specs.Under.{under}
 
 -- one after the other the items come to `old`: they get these answers, none of them a refusal, and leave `new`
 abbrev pub AreAnswered : Holding → List Item → List Merge → Holding → Type 0
@@ -37,7 +38,7 @@ is_stale Stale = true
 -- the items under the query were merged or raised in turn, and the others were passed over
 pub record AreTaken (q : Query) (old : Holding) (items : List Item) (new : Holding) : Type 0 where
   pub answers : List Merge
-  pub answered : AreAnswered old (under q items) answers new
+  pub answered : AreAnswered old (under (is_under q) items) answers new
 
 -- all items were taken so, and the answers are counted
 pub record AreCounted (q : Query) (old : Holding) (items : List Item) (new : Holding) (count : Count) : Type 0 where
@@ -48,13 +49,13 @@ pub record AreCounted (q : Query) (old : Holding) (items : List Item) (new : Hol
 
 -- one item was taken: it was merged or raised, with this answer, if it is under the query, and passed over if not
 abbrev pub IsItemTaken : Query → Holding → Item → Option Merge → Holding → Type 0
-IsItemTaken q old i (Some r) new = IsTrue (is_item_under q i) × ItemAnswer old i (Ok r) × (new ≡ after_item old i (Ok r))
-IsItemTaken q old i None new = IsFalse (is_item_under q i) × (new ≡ old)
+IsItemTaken q old i (Some r) new = IsTrue (passes (is_under q) i) × ItemAnswer old i (Ok r) × (new ≡ after_item old i (Ok r))
+IsItemTaken q old i None new = IsFalse (passes (is_under q) i) × (new ≡ old)
 
 -- the query has to be asked about the item: it is a change of a kind that the query names
-abbrev pub is_asked : Query → Item → Bool
-is_asked q (Changed c) = names_kind q.kinds c.key.kind
-is_asked q (Floored f) = false
+abbrev pub needs_query : Query → Item → Bool
+needs_query q (Changed c) = names_kind q.kinds c.key.kind
+needs_query q (Floored f) = false
 
 -- the item is a floor, or a change that isn't under the query
 abbrev pub IsFloorOrOther : Query → Item → Type 0
@@ -63,13 +64,13 @@ IsFloorOrOther q (Floored f) = Unit {0}
 
 -- the item is under the query, and refused by this fault as its merge, or the raising of its floor, is
 abbrev pub IsRefusedUnder : Query → Holding → Item → JoinFault → Type 0
-IsRefusedUnder q held i fault = IsTrue (is_item_under q i) × IsItemRefused held i fault
+IsRefusedUnder q held i fault = IsTrue (passes (is_under q) i) × IsItemRefused held i fault
 
 -- there is no memory to ask the query: it is taken at the first item that it has to be asked about
 pub record IsUnasked (q : Query) (front : List Item) (i : Item) (fault : JoinFault) : Type 0 where
   pub noroom : fault ≡ NoRoom
-  pub none_before : All (λ j. IsFalse (is_asked q j)) front
-  pub asked : IsTrue (is_asked q i)
+  pub none_before : All (λ j. IsFalse (needs_query q j)) front
+  pub asked : IsTrue (needs_query q i)
 
 -- the first `done` of the items were taken, and the next one is refused
 pub record IsTakeStopped (q : Query) (old : Holding) (items : List Item) (new : Holding) (stop : Stop) : Type 0 where
@@ -88,5 +89,5 @@ pub record IsFrontTaken (q : Query) (old : Holding) (items : List Item) (new : H
   pub within : count.done ≤ length items
   pub taken : count.taken ≤ count.done
   pub stale : count.stale ≤ count.done
-  pub unasked : All (λ j. IsFalse (is_asked q j)) (take count.done items)
-  pub next : count.done < length items → (i : Item) × (slice_get items count.done ≡ Some i) × IsTrue (is_asked q i)
+  pub unasked : All (λ j. IsFalse (needs_query q j)) (take count.done items)
+  pub next : count.done < length items → (i : Item) × (slice_get items count.done ≡ Some i) × IsTrue (needs_query q i)

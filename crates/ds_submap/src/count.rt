@@ -1,7 +1,7 @@
 //! How items that came are counted.
 
 ghost use Rattle.std.specs.Prelude.{◌≡◌};
-ghost use Rattle.ds_submap.specs.Count.{counted, none_counted, stop_behind, HasRoom};
+ghost use Rattle.ds_submap.specs.Count.{counted, none_counted, stop_behind, CanCountOne};
 
 use ds_join::{JoinFault, Merge, Stop};
 
@@ -32,7 +32,7 @@ impl Count {
 
     // Counts one more item, by the answer to it where it was merged or raised.
     pub(crate) fn add(&mut self, answer: Option<Merge>)
-        requires { HasRoom self.old }
+        requires { CanCountOne self.old }
         ensures { self.new ≡ counted self.old answer }
     {
         self.done += 1;

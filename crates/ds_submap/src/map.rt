@@ -4,13 +4,15 @@ ghost use Rattle.std.specs.Prelude.{◌≡◌, ◌++◌, All, IfOk, IfErr, IfSom
 ghost use Rattle.std.specs.Option.{option_copied};
 ghost use Rattle.ds_names.specs.Endpoint.{IsEndpoint};
 ghost use Rattle.ds_entry.specs.Change.{IsChange};
-ghost use Rattle.ds_entry.specs.Item.{IsItem};
+ghost use Rattle.ds_entry.specs.Item.{IsItem, passes};
 ghost use Rattle.ds_join.specs.ItemTop.{IsTop};
 ghost use Rattle.ds_held.specs.Held.{held_for, held_items};
 ghost use Rattle.ds_pattern.specs.Patterns.{IsPattern, IsPatternFault};
-ghost use Rattle.ds_submap.specs.Map.{empty_map, entries_of, under, endpoint_of_label, IsMap};
+ghost use Rattle.ds_submap.specs.Map.{empty_map, endpoint_of_label, IsMap};
 ghost use Rattle.ds_submap.specs.Take.{done_items, AreCounted, IsTakeStopped};
-ghost use Rattle.ds_submap.specs.Floors.{AreSwept, FloorsStand};
+ghost use Rattle.ds_submap.specs.Floors.{AreSwept, EachFloorStands};
+ghost use Rattle.ds_entry.specs.Under.{entries_of, under};
+ghost use Rattle.ds_pattern.specs.Under.{is_under};
 
 use crate::count::Count;
 use crate::take::take_items;
@@ -70,10 +72,10 @@ impl SubMap {
     /// names it takes memory to ask for names; a floor needs none of that. A change is copied only where it is taken. It stops
     /// at the first item that is refused, and those before it stand.
     pub fn take(&mut self, alloc: Global, items: &Items) -> Result<Count, Stop>
-        ensures joined { IsTop (held_items self.new.held) (held_items self.old.held ++ under self.old.query (done_items result items.now)) }
+        ensures joined { IsTop (held_items self.new.held) (held_items self.old.held ++ under (is_under self.old.query) (done_items result items.now)) }
         ensures counted { IfOk result (AreCounted self.old.query self.old.held items.now self.new.held) }
         ensures stopped { IfErr result (IsTakeStopped self.old.query self.old.held items.now self.new.held) }
-        ensures floors { FloorsStand (held_items self.old.held ++ done_items result items.now) (held_items self.new.held) }
+        ensures floors { EachFloorStands (held_items self.old.held ++ done_items result items.now) (held_items self.new.held) }
         ensures query { self.new.query ≡ self.old.query }
     {
         self.take_slice(alloc, items.as_slice())
@@ -81,10 +83,10 @@ impl SubMap {
 
     /// Takes items of a slice as `take` does those of a list, as where a part of a list is lent.
     pub fn take_slice(&mut self, alloc: Global, items: &[Item]) -> Result<Count, Stop>
-        ensures joined { IsTop (held_items self.new.held) (held_items self.old.held ++ under self.old.query (done_items result items.now)) }
+        ensures joined { IsTop (held_items self.new.held) (held_items self.old.held ++ under (is_under self.old.query) (done_items result items.now)) }
         ensures counted { IfOk result (AreCounted self.old.query self.old.held items.now self.new.held) }
         ensures stopped { IfErr result (IsTakeStopped self.old.query self.old.held items.now self.new.held) }
-        ensures floors { FloorsStand (held_items self.old.held ++ done_items result items.now) (held_items self.new.held) }
+        ensures floors { EachFloorStands (held_items self.old.held ++ done_items result items.now) (held_items self.new.held) }
         ensures query { self.new.query ≡ self.old.query }
     {
         take_items(alloc, &self.filter, &mut self.held, items)

@@ -3,7 +3,7 @@
 ghost use Rattle.std.specs.Prelude.{◌≡◌, IfErr, IfOk, IsFalse, OnErr};
 ghost use Rattle.ds_held.specs.Held.{IsSound};
 ghost use Rattle.ds_pattern.specs.declared.query.Query.{Query};
-ghost use Rattle.ds_submap.specs.Take.{AreCounted, IsFloorOrOther, IsFrontTaken, IsItemTaken, IsRefusedUnder, IsTakeStopped, is_asked};
+ghost use Rattle.ds_submap.specs.Take.{AreCounted, IsFloorOrOther, IsFrontTaken, IsItemTaken, IsRefusedUnder, IsTakeStopped, needs_query};
 
 use crate::count::Count;
 use ds_entry::Item;
@@ -63,7 +63,7 @@ fn take_front(filter: &Filter, held: &mut Held, items: &[Item]) -> Result<Count,
 
 // Whether the query has to be asked about an item: about a change of a kind that it names. A floor is under every query.
 fn is_asked(filter: &Filter, item: &Item) -> bool
-    ensures { result ≡ is_asked filter.now item.now }
+    ensures { result ≡ needs_query filter.now item.now }
 {
     match item {
         Item::Change(change) => filter.names(change.key().kind),

@@ -15,11 +15,11 @@ use Rattle.ds_whole.specs.Sent.{given, stood_for}
 use Rattle.ds_whole.specs.Front.{IsFront}
 use Rattle.ds_whole.specs.Whole.{before}
 use Rattle.ds_whole.specs.Accepting.{AreNew, OneByOneIsNew}
-use Rattle.ds_whole.specs.Under.{under}
-use Rattle.ds_whole.specs.Checked.{unseen, CheckTurn, IsCheckTurn, AreChecks, check_items}
+use Rattle.ds_whole.specs.Checked.{unseen_by, CheckTurn, IsCheckTurn, AreChecks, check_items}
 use Rattle.ds_whole.specs.CheckLaws.{ChecksAreWhole, ChecksGoOn}
 use Rattle.ds_whole.proofs.SentLemmas.{Contains-under, Contains-from_under, given_stands, stood_left, stood_right}
 use Rattle.ds_whole.proofs.JournalLemmas.{front_is}
+use Rattle.ds_entry.specs.Under.{under}
 
 -- ---- what is new
 
@@ -99,7 +99,7 @@ one_by_one_is_new = record { none = none_is_new; one_more = new_after; one_befor
 -- what a check gives was held
 given_held : (early f : Feed) (query : Key → Bool) (shown : List Item) (t : CheckTurn) → IsCheckTurn early f query shown t → IsPartOf t.items t.held
 given_held early f query shown t s i h =
-    let k = Contains-from_take t.max (unseen query shown t.held) i (subst (λ (l : List Item). Contains l i) s.given h) in
+    let k = Contains-from_take t.max (unseen_by query shown t.held) i (subst (λ (l : List Item). Contains l i) s.given h) in
     (Contains-from_filter (λ (j : Item). passes query j && not (list_any (λ k. covers k j) shown)) t.held i k).0
 
 all_given : (xs ys : List Item) (max : ℕ) → xs ≡ take max ys → length xs < max → xs ≡ ys
@@ -120,8 +120,8 @@ last_stands early f query shown t s l i h q = let d = s.top.greatest i h in by_t
     by_test d k c false e =
         let p : passes query d ≡ true = covers-query query d i c q in
         let test : passes query d && not (list_any (λ j. covers j d) shown) ≡ true = rw (p, e) refl in
-        let there : Contains (unseen query shown t.held) d = Contains-filter (λ (j : Item). passes query j && not (list_any (λ k. covers k j) shown)) t.held d k test in
-        let here : Contains t.items d = subst (λ (xs : List Item). Contains xs d) (sym (all_given t.items (unseen query shown t.held) t.max s.given l)) there in
+        let there : Contains (unseen_by query shown t.held) d = Contains-filter (λ (j : Item). passes query j && not (list_any (λ k. covers k j) shown)) t.held d k test in
+        let here : Contains t.items d = subst (λ (xs : List Item). Contains xs d) (sym (all_given t.items (unseen_by query shown t.held) t.max s.given l)) there in
         inl (given_stands t.known t.items i d here (s.knows i h) c)
 
 -- checks up to such a one do so together

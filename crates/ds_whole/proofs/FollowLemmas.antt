@@ -9,7 +9,6 @@ use Rattle.ds_feed.specs.Feed.{Feed, position}
 use Rattle.ds_feed.specs.Page.{snapshot_of}
 use Rattle.ds_whole.specs.Sent.{Sent, given}
 use Rattle.ds_whole.specs.Front.{end_of}
-use Rattle.ds_whole.specs.Under.{under}
 use Rattle.ds_whole.specs.Whole.{IsWhole}
 use Rattle.ds_whole.specs.Journaled.{since_items, cursor_after}
 use Rattle.ds_whole.specs.Paged.{page_items, last_cursor}
@@ -18,6 +17,7 @@ use Rattle.ds_whole.proofs.WholeLemmas.{snapshot_is_whole, more_is_whole, earlie
 use Rattle.ds_whole.proofs.JournalLemmas.{sinces_extend}
 use Rattle.ds_whole.proofs.HolderLemmas.{holds_the_stores}
 use Rattle.ds_whole.proofs.PageLemmas.{pages_are_whole, pages_end}
+use Rattle.ds_entry.specs.Under.{under}
 
 -- whoever has taken items that are whole up to the store's position or further
 holds : (f : Feed) (query : Key → Bool) (stored held : List Item) (items taken : List Sent) (r : ℕ) → IsTop stored f.accepted → HasTaken query stored held items taken → position f ≤ r → IsWhole f query items r → held ≡ under query stored

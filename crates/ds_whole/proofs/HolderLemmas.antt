@@ -13,13 +13,13 @@ use Rattle.ds_entry.proofs.ItemLemmas.{covers-trans, covers-query}
 use Rattle.ds_join.specs.ItemTop.{IsTop, IsPartOf, CoversAll}
 use Rattle.ds_join.proofs.ItemTopLemmas.{held_apart, top_is_unique, top_of_same, top_of_top, join_is_commutative}
 use Rattle.ds_feed.specs.Feed.{Feed, position}
-use Rattle.ds_whole.specs.Under.{under, entries_of}
 use Rattle.ds_whole.specs.Sent.{Sent, IsSent, learnt}
 use Rattle.ds_whole.specs.Whole.{IsWhole}
-use Rattle.ds_whole.specs.CatchUp.{IsMap, HoldsTheStores, HoldsAlike, HoldsATop, HoldsAtLeast, AnyHolderHoldsTheStores, MapHoldsItsQuery}
+use Rattle.ds_whole.specs.CatchUp.{MapHolds, HoldsTheStores, HoldsAlike, HoldsATop, HoldsAtLeast, AnyHolderHoldsTheStores, MapHoldsItsQuery}
 use Rattle.ds_whole.specs.Agreement.{HoldersAgree, TopUnderQuery, JoinOfHolders, JoinUnderQuery, MoreIsHeld}
 use Rattle.ds_whole.proofs.SentLemmas.{Contains-under, Contains-from_under, under-all, stood, from_stood, sent_covers, learnt_of}
 use Rattle.ds_whole.proofs.JournalLemmas.{all_before}
+use Rattle.ds_entry.specs.Under.{under, entries_of}
 
 -- ---- agreement
 
@@ -106,12 +106,12 @@ any_holder f query known stored held s t all only n =
 -- ---- maps
 
 -- a map knows all that is under its query and stood for, so all that was accepted under it
-map_knows : (f : Feed) (query : Key → Bool) (items : List Sent) (held : List Item) → IsMap query items held → IsWhole f query items (position f) → IsPartOf (under query f.accepted) (learnt query items)
+map_knows : (f : Feed) (query : Key → Bool) (items : List Sent) (held : List Item) → MapHolds query items held → IsWhole f query items (position f) → IsPartOf (under query f.accepted) (learnt query items)
 map_knows f query items held m w i h =
     learnt_of query items m.sent i (Contains-from_under query f.accepted i h).1
     (w i (subst (λ (l : List Item). Contains (under query l) i) (sym (all_before f)) h))
 
-map_passes : (query : Key → Bool) (items : List Sent) (held : List Item) → IsMap query items held → (i : Item) → Contains held i → passes query i ≡ true
+map_passes : (query : Key → Bool) (items : List Sent) (held : List Item) → MapHolds query items held → (i : Item) → Contains held i → passes query i ≡ true
 map_passes query items held m i h =
     let s = from_stood (filter (λ (t : Sent). passes query t.item) items) i (m.top.among i h) in
     let k = Contains-from_filter (λ (t : Sent). passes query t.item) items s.0 s.1 in

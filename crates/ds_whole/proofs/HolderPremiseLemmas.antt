@@ -1,12 +1,12 @@
 -- Examples in which one premise of a law of catching up, of agreement, of labels or of checks fails.
-use Rattle.std.proofs.Common.{◌≡◌, ℕ, ◌≤◌, Bool, true, false, List, [], ◌∷◌, ◌++◌, take, refl, ap, sym, ◌∙◌, subst, inl, inr, arith}
+use Rattle.std.proofs.Common.{◌≡◌, ℕ, ◌≤◌, Bool, true, false, List, [], ◌∷◌, ◌++◌, take, refl, ap, sym, ◌∙◌, subst, inl, inr, arith, is_some}
 use Rattle.std.specs.Ordering.{eq_by_cmp}
 use Rattle.std.specs.List.{Contains, list_any}
 use Rattle.ds_names.specs.Key.{key_cmp}
-use Rattle.ds_names.specs.Name.{IsName, is_name_byte}
+use Rattle.ds_names.specs.Name.{IsName, is_name_byte, rs_name}
 use Rattle.ds_names.specs.declared.key.Key.{Key}
 use Rattle.ds_names.specs.declared.kind.Kind.TheVariants.{Label, U32}
-use Rattle.ds_entry.specs.Change.{ChangeRecord, IsChange, rs_name}
+use Rattle.ds_entry.specs.Change.{ChangeRecord, IsChange}
 use Rattle.ds_entry.specs.Item.{IsItem}
 use Rattle.ds_entry.specs.ItemCovers.{covers, AreSingleNumbered}
 use Rattle.ds_entry.specs.declared.body.Value.TheVariants as values
@@ -16,15 +16,16 @@ use Rattle.ds_entry.specs.declared.item.Item.TheVariants.{Change as Changed}
 use Rattle.ds_entry.proofs.Members.{Contains-nil, Contains-single, Contains-cons, Contains-head, Contains-tail}
 use Rattle.ds_join.specs.ItemTop.{IsTop, CoversAll, tops}
 use Rattle.ds_join.proofs.ItemTopLemmas.{join_is_commutative}
-use Rattle.ds_whole.specs.Under.{leaves_value, is_put}
 use Rattle.ds_whole.specs.Sent.{Sent, IsSent}
-use Rattle.ds_whole.specs.CatchUp.{IsMap}
+use Rattle.ds_whole.specs.CatchUp.{MapHolds}
 use Rattle.ds_whole.specs.Accepting.{AreNew}
-use Rattle.ds_whole.specs.Checked.{unseen, CheckTurn, IsCheckTurn}
+use Rattle.ds_whole.specs.Checked.{unseen_by, CheckTurn, IsCheckTurn}
 use Rattle.ds_whole.specs.HolderPremises.{CatchUpNeeds, AgreementNeeds, LabelsNeed}
 use Rattle.ds_whole.specs.CheckPremises.{ChecksNeed}
 use Rattle.ds_whole.proofs.CheckLemmas.{one_by_one_is_new}
 use Rattle.ds_whole.proofs.Samples.{record_of, a1, a1', a2, b1, c1, floor1, feed_of, all, key_of, not_among, top_of_one, top_by, one_single}
+use Rattle.ds_entry.specs.Left.{is_put, value_in}
+use Rattle.ds_entry.specs.declared.body.Body.{Body}
 
 -- lists that a test tells apart aren't one
 differ : (test : Item → Bool) (xs ys : List Item) → list_any test xs ≡ true → list_any test ys ≡ false → xs ≡ ys → ⊥
@@ -43,7 +44,7 @@ is_sent i stands_for t s h = subst IsSent (sym (Contains-single (sent_for i stan
 one : IsTop (a1 ∷ []) (a1 ∷ [])
 one = top_by (a1 ∷ []) (refl, tt)
 
-map_of_one : IsMap all (sent_for a1 (a1 ∷ []) ∷ []) (a1 ∷ [])
+map_of_one : MapHolds all (sent_for a1 (a1 ∷ []) ∷ []) (a1 ∷ [])
 map_of_one = record { sent = is_sent a1 (a1 ∷ []) one; top = one }
 
 covers_one : (j i : Item) → covers j i ≡ true → CoversAll (j ∷ []) (i ∷ [])
@@ -136,14 +137,14 @@ labels_need = record {
       let known : List Item = Changed (labelled 1) ∷ [] in
       let gone = law (λ key. false) known known (97 ∷ []) (λ i h. subst IsItem (sym (Contains-single (Changed (labelled 1)) i h)) label_is_change) (label_top 1) (labelled 1) (Contains-head (Changed (labelled 1)) []) refl in
       let same : Changed gone.0 ≡ Changed (labelled 1) = Contains-single (Changed (labelled 1)) (Changed gone.0) gone.1 in
-      let puts : true ≡ false = sym (ap is_put same) ∙ ap leaves_value gone.3 in
+      let puts : true ≡ false = sym (ap is_put same) ∙ ap (λ (b : Body). is_some (value_in b)) gone.3 in
       cc;
 }
 
 -- ---- checks
 
 abbrev check_by : List Item → ℕ → List Item → CheckTurn
-check_by shown max accepted = record { feed = feed_of accepted; known = accepted; held = tops accepted; max = max; items = take max (unseen all shown (tops accepted)) }
+check_by shown max accepted = record { feed = feed_of accepted; known = accepted; held = tops accepted; max = max; items = take max (unseen_by all shown (tops accepted)) }
 
 check_is : (shown accepted more : List Item) (max : ℕ) → IsTop (tops accepted) accepted → IsCheckTurn (feed_of []) (feed_of (accepted ++ more)) all shown (check_by shown max accepted)
 check_is shown accepted more max t = record { later = record { incarnation = refl; first = refl; grown = (accepted, refl) }; front = record { incarnation = refl; first = refl; grown = (more, refl) }; knows = λ i h. h; top = t; given = refl }

@@ -6,7 +6,7 @@ use Rattle.std.specs.Ordering.{nat_cmp, eq_by_cmp, ordering_then, is_le, MatchOr
 use Rattle.std.proofs.lemmas.Cmp.{ranked, tied_itself}
 use Rattle.std.specs.List.{Contains}
 use Rattle.ds_names.specs.Endpoint.{EndpointRecord}
-use Rattle.ds_names.specs.Key.{key_cmp}
+use Rattle.ds_names.specs.Key.{key_cmp, label_key}
 use Rattle.ds_names.specs.declared.key.Key.{Key}
 use Rattle.ds_names.specs.declared.kind.Kind.{Kind}
 use Rattle.ds_names.specs.declared.kind.Kind.TheVariants as kinds
@@ -16,7 +16,7 @@ use Rattle.ds_entry.specs.Change.{ChangeRecord, IsChange, IsLabelBody, IsLabelCh
 use Rattle.ds_entry.specs.Covers.{is_at_most}
 use Rattle.ds_entry.specs.Item.{item_cmp, IsItem}
 use Rattle.ds_entry.specs.ItemCovers.{covers}
-use Rattle.ds_entry.specs.Void.{is_label, voids_it, is_void}
+use Rattle.ds_entry.specs.Void.{voids_it, is_void}
 use Rattle.ds_entry.specs.declared.body.Value.{Value}
 use Rattle.ds_entry.specs.declared.body.Value.TheVariants as values
 use Rattle.ds_entry.specs.declared.body.Body.{Body}
@@ -29,10 +29,12 @@ use Rattle.ds_entry.proofs.CoversLemmas.{same_key, same_key-refl, covers-key, co
 use Rattle.ds_entry.proofs.OrderedLemmas.{tied_once}
 use Rattle.ds_entry.proofs.ItemLemmas.{items_total, voids-is}
 use Rattle.ds_join.specs.ItemTop.{IsTop}
-use Rattle.ds_whole.specs.Under.{under}
-use Rattle.ds_whole.specs.Labels.{NothingOlderIsHeld, NoOlderLabelIsHeld, label_key, endpoint_in, label_in, IsLive, IsGone, IsNewest, LabelsAreNewest}
+use Rattle.ds_whole.specs.Labels.{NothingOlderIsHeld, NoOlderLabelIsHeld, label_in, IsLive, IsGone, IsNewest, LabelsAreNewest}
 use Rattle.ds_whole.proofs.SentLemmas.{Contains-under, Contains-from_under}
 use Rattle.ds_whole.proofs.HolderLemmas.{top_under_query}
+use Rattle.ds_names.specs.Kind.{is_label}
+use Rattle.ds_entry.specs.Under.{under}
+use Rattle.ds_entry.specs.Left.{endpoint_in}
 
 -- ---- nothing older is held
 

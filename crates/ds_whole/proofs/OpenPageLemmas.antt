@@ -11,7 +11,7 @@ use Rattle.ds_feed.specs.declared.cursor.Cursor.{Cursor}
 use Rattle.ds_feed.specs.declared.reading.Page.{Page}
 use Rattle.ds_feed.specs.Feed.{Feed}
 use Rattle.ds_feed.specs.Page.{still_to_come, floors_of, changes_of}
-use Rattle.ds_whole.specs.Under.{Keeps}
+use Rattle.ds_whole.specs.Under.{KeepsQuery}
 use Rattle.ds_whole.specs.Sent.{Sent, given}
 use Rattle.ds_whole.specs.Front.{IsFront}
 use Rattle.ds_whole.specs.Whole.{IsWhole}
@@ -22,7 +22,8 @@ use Rattle.ds_whole.specs.Gathered.{journaled, paged}
 use Rattle.ds_whole.specs.TurnLaws.{since_knowing, page_knowing, PagesGrow, PagedIsWhole}
 use Rattle.ds_whole.proofs.WholeLemmas.{feeds_grow}
 use Rattle.ds_whole.proofs.PageLemmas.{pages_are_whole}
-use Rattle.ds_whole.proofs.TurnLemmas.{part_of_both, part_of_later, part_of_nothing, given_both, sinces_knowing, sinces_known, cursor_known}
+use Rattle.ds_whole.proofs.TurnLemmas.{part_of_later, part_of_nothing, given_both, sinces_knowing, sinces_known, cursor_known}
+use Rattle.ds_join.proofs.ItemTopLemmas.{part_union}
 
 -- ---- pages none of which is the last
 pages_later : (f late : Feed) (scope : Key → Bool) (after : Option Key) (p : ℕ) (turns : List PageTurn) → IsFront f late → AreOpenPages f scope after p turns → AreOpenPages late scope after p turns
@@ -75,11 +76,11 @@ page_among f scope after t h =
     let part : IsPartOf left t.feed.accepted = λ i k. h.top.among i (Contains-from_filter (passes scope) t.held i (Contains-from_filter _ _ i k).0).0 in
     part_of_later t.page.items t.feed f h.front
     (subst (λ (x : Page). IsPartOf x.items t.feed.accepted) (sym h.given)
-    (part_of_both (floors_of left) (take t.max (changes_of left)) t.feed.accepted (λ i k. part i (Contains-from_filter _ left i k).0) (λ i k. part i (Contains-from_filter _ left i (Contains-from_take t.max (changes_of left) i k)).0)))
+    (part_union (floors_of left) (take t.max (changes_of left)) t.feed.accepted (λ i k. part i (Contains-from_filter _ left i k).0) (λ i k. part i (Contains-from_filter _ left i (Contains-from_take t.max (changes_of left) i k)).0)))
 
 pages_among : (f : Feed) (scope : Key → Bool) (after : Option Key) (p : ℕ) (turns : List PageTurn) → AreOpenPages f scope after p turns → IsPartOf (paged turns) f.accepted
 pages_among f scope after p [] h = part_of_nothing f.accepted
-pages_among f scope after p (t ∷ ts) h = part_of_both t.page.items (paged ts) f.accepted (page_among f scope after t h.0) (pages_among f scope (last_key after t.page.items) t.page.cursor.position ts h.3)
+pages_among f scope after p (t ∷ ts) h = part_union t.page.items (paged ts) f.accepted (page_among f scope after t h.0) (pages_among f scope (last_key after t.page.items) t.page.cursor.position ts h.3)
 
 -- ---- knowing more
 either_way : (b : Bool) (P Q R S : Type 0) → (P → R) → (Q → S) → MatchBool b P Q → MatchBool b R S
@@ -136,7 +137,7 @@ first_of_all : (turns : List PageTurn) (t : PageTurn) → FirstOf turns t
 first_of_all [] t = record { first = t; pages = []; all = refl; from_is = refl; last_is = refl }
 first_of_all (u ∷ us) t = record { first = u; pages = us ++ t ∷ []; all = refl; from_is = refl; last_is = last_more us u.page.cursor t }
 
-module _ (f : Feed) (scope other query : Key → Bool) (keep : Keeps scope query) (keeps : Keeps other query) where
+module _ (f : Feed) (scope other query : Key → Bool) (keep : KeepsQuery scope query) (keeps : KeepsQuery other query) where
   by_law : (first : PageTurn) (pages : List PageTurn) (turns : List SinceTurn) → ArePages f scope None 0 (first ∷ pages) → AreSince f other first.page.cursor turns
       → (last_cursor first.page.cursor pages).position ≤ (cursor_after first.page.cursor turns).position → IsWhole f query (given f.accepted (paged (first ∷ pages) ++ journaled turns)) (cursor_after first.page.cursor turns).position
   by_law first pages turns are since l =

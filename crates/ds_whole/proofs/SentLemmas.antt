@@ -11,9 +11,10 @@ use Rattle.ds_entry.proofs.Members.{Contains-single, Contains-head, Contains-tai
 use Rattle.ds_entry.proofs.ItemLemmas.{covers-query}
 use Rattle.ds_join.specs.ItemTop.{IsPartOf}
 use Rattle.ds_join.proofs.ItemTopLemmas.{top_of_covered}
-use Rattle.ds_whole.specs.Under.{under, Keeps}
+use Rattle.ds_whole.specs.Under.{KeepsQuery}
 use Rattle.ds_whole.specs.Sent.{Sent, IsSent, sent_by, given, stood_for, learnt}
 use Rattle.ds_whole.specs.CatchUp.{GivenIsSent}
+use Rattle.ds_entry.specs.Under.{under}
 
 -- ---- under a query
 
@@ -24,7 +25,7 @@ pub Contains-from_under : (query : Key → Bool) (items : List Item) (i : Item) 
 Contains-from_under query items i h = Contains-from_filter (passes query) items i h
 
 -- a scope that keeps all keys of a query keeps all its items
-pub kept : (scope query : Key → Bool) → Keeps scope query → (i : Item) → passes query i ≡ true → passes scope i ≡ true
+pub kept : (scope query : Key → Bool) → KeepsQuery scope query → (i : Item) → passes query i ≡ true → passes scope i ≡ true
 kept scope query k (Changed c) e = k c.key e
 kept scope query k (Floored f) e = refl
 

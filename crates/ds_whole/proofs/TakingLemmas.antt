@@ -11,7 +11,7 @@ use Rattle.ds_entry.proofs.ItemLemmas.{covers-refl}
 use Rattle.ds_join.specs.ItemTop.{IsPartOf, CoversAll}
 use Rattle.ds_join.proofs.ItemTopLemmas.{top_of_nothing, top_of_same, top_of_top, top_of_whole}
 use Rattle.ds_whole.specs.Sent.{Sent, IsSent, stood_for, learnt}
-use Rattle.ds_whole.specs.Taking.{items_of, sent_under, HolderTakes, NewMapIsMap, MapTakes}
+use Rattle.ds_whole.specs.Taking.{items_of, sent_under, HolderTakes, NewMapIsMap, MapsTake}
 use Rattle.ds_whole.proofs.SentLemmas.{stood, from_stood, stood_wider, sent_covers}
 
 module _ (more : List Sent) (sent : (s : Sent) → Contains more s → IsSent s) where
@@ -67,7 +67,7 @@ module _ (query : Key → Bool) (items more : List Sent) where
         | inr k ↦ Contains-append_right (learnt query items) (stood_for (sent_under query more)) i (stood (sent_under query more) s.0 i (Contains-filter is_under more s.0 k f.1) s.2)
       ]
 
-pub map_takes : MapTakes
+pub map_takes : MapsTake
 map_takes query items more held new sent m u = record {
   sent = λ s h. elim (Contains-append_cases items more s h) [ inl k ↦ m.sent s k | inr k ↦ sent s k ];
   top =

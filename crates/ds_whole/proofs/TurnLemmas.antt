@@ -1,8 +1,8 @@
 -- How checks and replies of the journal grow, turn by turn.
-use Rattle.std.proofs.Common.{◌≡◌, Bool, List, [], ◌∷◌, ◌++◌, map, take, refl, ap, sym, ◌∙◌, subst, inl, inr, append_assoc, append-nil}
+use Rattle.std.proofs.Common.{◌≡◌, Bool, List, [], ◌∷◌, ◌++◌, map, take, refl, ap, sym, ◌∙◌, subst, append_assoc, append-nil}
 use Rattle.std.specs.List.{Contains}
 use Rattle.std.proofs.lemmas.List.{map-append}
-use Rattle.std.proofs.lemmas.List.Elements.{Contains-append_left, Contains-append_cases}
+use Rattle.std.proofs.lemmas.List.Elements.{Contains-append_left}
 use Rattle.ds_names.specs.declared.key.Key.{Key}
 use Rattle.ds_entry.specs.Item.{passes}
 use Rattle.ds_entry.specs.declared.item.Item.{Item}
@@ -13,17 +13,16 @@ use Rattle.ds_feed.specs.Feed.{Feed, position}
 use Rattle.ds_whole.specs.Sent.{Sent, given, sent_by}
 use Rattle.ds_whole.specs.Front.{IsFront}
 use Rattle.ds_whole.specs.Whole.{IsWhole}
-use Rattle.ds_whole.specs.Checked.{CheckTurn, IsCheckTurn, AreChecks, check_items, unseen}
+use Rattle.ds_whole.specs.Checked.{CheckTurn, IsCheckTurn, AreChecks, check_items, unseen_by}
 use Rattle.ds_whole.specs.Journaled.{SinceTurn, IsSinceTurn, AreSince, since_items, cursor_after}
 use Rattle.ds_whole.specs.Gathered.{checked, journaled}
 use Rattle.ds_whole.specs.TurnLaws.{check_knowing, since_knowing, ChecksGrow, SincesGrow, CheckedIsWhole}
 use Rattle.ds_whole.proofs.WholeLemmas.{feeds_grow}
 use Rattle.ds_whole.proofs.JournalLemmas.{given_accepted}
 use Rattle.ds_whole.proofs.CheckLemmas.{checks_are_whole}
+use Rattle.ds_join.proofs.ItemTopLemmas.{part_union}
 
 -- ---- what is among what was accepted
-pub part_of_both : (xs ys all : List Item) → IsPartOf xs all → IsPartOf ys all → IsPartOf (xs ++ ys) all
-part_of_both xs ys all f g i h = elim (Contains-append_cases xs ys i h) [ inl k ↦ f i k | inr k ↦ g i k ]
 
 pub part_of_later : (xs : List Item) (f late : Feed) → IsFront f late → IsPartOf xs f.accepted → IsPartOf xs late.accepted
 part_of_later xs f late front p i h = subst (λ (l : List Item). Contains l i) (sym front.grown.1) (Contains-append_left f.accepted front.grown.0 i (p i h))
@@ -52,12 +51,12 @@ checked_more (u ∷ us) t = ap (λ (l : List Item). u.items ++ l) (checked_more 
 check_among : (early f : Feed) (query : Key → Bool) (shown : List Item) (t : CheckTurn) → IsCheckTurn early f query shown t → IsPartOf t.items f.accepted
 check_among early f query shown t h =
     part_of_later t.items t.feed f h.front (λ i k.
-    (let u : Contains (take t.max (unseen query shown t.held)) i = subst (λ (l : List Item). Contains l i) h.given k in
-    h.top.among i (Contains-from_filter _ t.held i (Contains-from_take t.max (unseen query shown t.held) i u)).0))
+    (let u : Contains (take t.max (unseen_by query shown t.held)) i = subst (λ (l : List Item). Contains l i) h.given k in
+    h.top.among i (Contains-from_filter _ t.held i (Contains-from_take t.max (unseen_by query shown t.held) i u)).0))
 
 checks_among : (early f : Feed) (query : Key → Bool) (shown : List Item) (turns : List CheckTurn) → AreChecks early f query shown turns → IsPartOf (checked turns) f.accepted
 checks_among early f query shown [] h = part_of_nothing f.accepted
-checks_among early f query shown (t ∷ ts) h = part_of_both t.items (checked ts) f.accepted (check_among early f query shown t h.0) (checks_among early f query (shown ++ t.items) ts h.1)
+checks_among early f query shown (t ∷ ts) h = part_union t.items (checked ts) f.accepted (check_among early f query shown t h.0) (checks_among early f query (shown ++ t.items) ts h.1)
 
 checks_knowing : (early f : Feed) (query : Key → Bool) (shown known : List Item) (turns : List CheckTurn) → IsPartOf f.accepted known → AreChecks early f query shown turns → AreChecks early f query shown (map (check_knowing known) turns)
 checks_knowing early f query shown known [] p h = tt
@@ -103,7 +102,7 @@ cursor_more at (u ∷ us) t = cursor_more u.since.cursor us t
 sinces_among : (f : Feed) (scope : Key → Bool) (at : Cursor) (turns : List SinceTurn) → AreSince f scope at turns → IsPartOf (journaled turns) f.accepted
 sinces_among f scope at [] h = part_of_nothing f.accepted
 sinces_among f scope at (t ∷ ts) h =
-    part_of_both t.since.items (journaled ts) f.accepted (part_of_later t.since.items t.feed f h.0.front (given_accepted t.feed (passes scope) at t.max t.since h.0.given)) (sinces_among f scope t.since.cursor ts h.1)
+    part_union t.since.items (journaled ts) f.accepted (part_of_later t.since.items t.feed f h.0.front (given_accepted t.feed (passes scope) at t.max t.since h.0.given)) (sinces_among f scope t.since.cursor ts h.1)
 
 pub sinces_knowing : (f : Feed) (scope : Key → Bool) (at : Cursor) (known : List Item) (turns : List SinceTurn) → IsPartOf f.accepted known → AreSince f scope at turns → AreSince f scope at (map (since_knowing known) turns)
 sinces_knowing f scope at known [] p h = tt

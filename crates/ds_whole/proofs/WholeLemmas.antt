@@ -7,11 +7,11 @@ use Rattle.ds_entry.proofs.Members.{Contains-nil, Contains-from_take}
 use Rattle.ds_entry.proofs.ItemLemmas.{covers-query}
 use Rattle.ds_join.specs.ItemTop.{IsPartOf}
 use Rattle.ds_feed.specs.Feed.{Feed, position}
-use Rattle.ds_whole.specs.Under.{under}
 use Rattle.ds_whole.specs.Front.{IsFront}
 use Rattle.ds_whole.specs.Whole.{before}
 use Rattle.ds_whole.specs.WholeLaws.{SnapshotIsWhole, NothingIsWhole, MoreIsWhole, EarlierIsWhole, NarrowerIsWhole, WholeStays, FeedsGrow}
 use Rattle.ds_whole.proofs.SentLemmas.{Contains-under, Contains-from_under, kept, given_stands, stood_wider}
+use Rattle.ds_entry.specs.Under.{under}
 
 pub snapshot_is_whole : SnapshotIsWhole
 snapshot_is_whole f known held scope query top knows keep i h =

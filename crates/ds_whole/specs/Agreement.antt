@@ -5,7 +5,7 @@ use Rattle.ds_entry.specs.ItemCovers.{AreSingleNumbered}
 use Rattle.ds_entry.specs.declared.item.Item.{Item}
 use Rattle.ds_join.specs.ItemTop.{IsTop, IsPartOf, CoversAll}
 use Rattle.ds_join.specs.ItemJoin.{IsJoin}
-use Rattle.ds_whole.specs.Under.{under, entries_of}
+use Rattle.ds_entry.specs.Under.{under, entries_of}
 
 -- the two know the same items under the query
 pub record KnowSame (query : Key → Bool) (known other : List Item) : Type 0 where

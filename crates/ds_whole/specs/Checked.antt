@@ -11,8 +11,8 @@ use Rattle.ds_whole.specs.Sent.{Sent, given}
 use Rattle.ds_whole.specs.Front.{IsFront}
 
 -- of what is held, what is under the query and covered by nothing that was shown
-abbrev pub unseen : (Key → Bool) → List Item → List Item → List Item
-unseen query shown held = filter (λ i. passes query i && not (list_any (λ j. covers j i) shown)) held
+abbrev pub unseen_by : (Key → Bool) → List Item → List Item → List Item
+unseen_by query shown held = filter (λ i. passes query i && not (list_any (λ j. covers j i) shown)) held
 
 -- a check: the store at that time, what it knew and held, how many items were asked for, and those that were given
 pub record CheckTurn : Type 0 where
@@ -28,7 +28,7 @@ pub record IsCheckTurn (early f : Feed) (query : Key → Bool) (shown : List Ite
   pub front : IsFront t.feed f
   pub knows : IsPartOf t.feed.accepted t.known
   pub top : IsTop t.held t.feed.accepted
-  pub given : t.items ≡ take t.max (unseen query shown t.held)
+  pub given : t.items ≡ take t.max (unseen_by query shown t.held)
 
 -- checks one after the other: what each gave is shown from then on
 abbrev pub AreChecks : Feed → Feed → (Key → Bool) → List Item → List CheckTurn → Type 0

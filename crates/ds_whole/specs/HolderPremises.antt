@@ -8,28 +8,29 @@ use Rattle.ds_entry.specs.declared.item.Item.{Item}
 use Rattle.ds_entry.specs.declared.item.Item.TheVariants.{Change as Changed}
 use Rattle.ds_join.specs.ItemTop.{IsTop, CoversAll}
 use Rattle.ds_feed.specs.Feed.{Feed, position}
-use Rattle.ds_whole.specs.Under.{under}
 use Rattle.ds_whole.specs.Sent.{Sent, IsSent, learnt}
 use Rattle.ds_whole.specs.Whole.{IsWhole}
-use Rattle.ds_whole.specs.CatchUp.{IsMap}
+use Rattle.ds_whole.specs.CatchUp.{MapHolds}
 use Rattle.ds_whole.specs.Agreement.{KnowSame}
-use Rattle.ds_whole.specs.Labels.{HoldsNoOlder, label_key, label_in, IsNewest}
+use Rattle.ds_whole.specs.Labels.{HoldsNoOlder, label_in, IsNewest}
+use Rattle.ds_names.specs.Key.{label_key}
+use Rattle.ds_entry.specs.Under.{under}
 
 -- what a map has taken is to be whole, to tell it nothing else, and not to contradict itself; each item of it is to be the
 -- top of what it stands for; and what the map holds is to be the top of what it learnt, what the store holds of what it
 -- accepted
 pub record CatchUpNeeds : Type 0 where
-  pub whole : ¬ ((f : Feed) (query : Key → Bool) (items : List Sent) (stored held : List Item) → IsTop stored f.accepted → IsMap query items held →
+  pub whole : ¬ ((f : Feed) (query : Key → Bool) (items : List Sent) (stored held : List Item) → IsTop stored f.accepted → MapHolds query items held →
       CoversAll stored (under query (learnt query items)) → AreSingleNumbered (under query (learnt query items)) → held ≡ under query stored)
-  pub nothing_else : ¬ ((f : Feed) (query : Key → Bool) (items : List Sent) (stored held : List Item) → IsTop stored f.accepted → IsMap query items held →
+  pub nothing_else : ¬ ((f : Feed) (query : Key → Bool) (items : List Sent) (stored held : List Item) → IsTop stored f.accepted → MapHolds query items held →
       IsWhole f query items (position f) → AreSingleNumbered (under query (learnt query items)) → held ≡ under query stored)
-  pub numbers : ¬ ((f : Feed) (query : Key → Bool) (items : List Sent) (stored held : List Item) → IsTop stored f.accepted → IsMap query items held →
+  pub numbers : ¬ ((f : Feed) (query : Key → Bool) (items : List Sent) (stored held : List Item) → IsTop stored f.accepted → MapHolds query items held →
       IsWhole f query items (position f) → CoversAll stored (under query (learnt query items)) → held ≡ under query stored)
   pub sent : ¬ ((f : Feed) (query : Key → Bool) (items : List Sent) (stored held : List Item) → IsTop stored f.accepted → IsTop held (learnt query items) →
       IsWhole f query items (position f) → CoversAll stored (under query (learnt query items)) → AreSingleNumbered (under query (learnt query items)) → held ≡ under query stored)
   pub held : ¬ ((f : Feed) (query : Key → Bool) (items : List Sent) (stored held : List Item) → IsTop stored f.accepted → ((s : Sent) → Contains items s → IsSent s) →
       IsWhole f query items (position f) → CoversAll stored (under query (learnt query items)) → AreSingleNumbered (under query (learnt query items)) → held ≡ under query stored)
-  pub stored : ¬ ((f : Feed) (query : Key → Bool) (items : List Sent) (stored held : List Item) → IsMap query items held →
+  pub stored : ¬ ((f : Feed) (query : Key → Bool) (items : List Sent) (stored held : List Item) → MapHolds query items held →
       IsWhole f query items (position f) → CoversAll stored (under query (learnt query items)) → AreSingleNumbered (under query (learnt query items)) → held ≡ under query stored)
 
 -- two holders are to know the same, which doesn't contradict itself

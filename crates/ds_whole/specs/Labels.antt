@@ -2,7 +2,7 @@
 use Rattle.std.specs.Prelude.{◌≡◌, ℕ, ◌<◌, ◌≤◌, if◌then◌else◌, Bool, true, false, List, [], ◌∷◌, Option, Some, None, Contains}
 use Rattle.std.specs.Ordering.{eq_by_cmp}
 use Rattle.ds_names.specs.Endpoint.{EndpointRecord}
-use Rattle.ds_names.specs.Key.{key_cmp}
+use Rattle.ds_names.specs.Key.{key_cmp, label_key}
 use Rattle.ds_names.specs.declared.key.Key.{Key}
 use Rattle.ds_names.specs.declared.kind.Kind.TheVariants as kinds
 use Rattle.ds_entry.specs.Change.{ChangeRecord}
@@ -10,12 +10,12 @@ use Rattle.ds_entry.specs.Covers.{is_at_most}
 use Rattle.ds_entry.specs.Item.{IsItem}
 use Rattle.ds_entry.specs.Void.{is_void}
 use Rattle.ds_entry.specs.declared.body.Value.TheVariants as values
-use Rattle.ds_entry.specs.declared.body.Body.{Body}
 use Rattle.ds_entry.specs.declared.body.Body.TheVariants.{Put, Gone}
 use Rattle.ds_entry.specs.declared.item.Item.{Item}
 use Rattle.ds_entry.specs.declared.item.Item.TheVariants.{Change as Changed, Floor as Floored}
 use Rattle.ds_join.specs.ItemTop.{IsTop}
-use Rattle.ds_whole.specs.Under.{under}
+use Rattle.ds_entry.specs.Under.{under}
+use Rattle.ds_entry.specs.Left.{endpoint_in}
 
 -- one change of the key is held, in at least this version
 pub record HoldsNoOlder (held : List Item) (c : ChangeRecord) : Type 0 where
@@ -29,14 +29,6 @@ NothingOlderIsHeld = (known held : List Item) (c : ChangeRecord) → IsTop held 
 -- no floor makes a label void, so nothing older is held of any label that is known
 abbrev pub NoOlderLabelIsHeld : Type 0
 NoOlderLabelIsHeld = (known held : List Item) (c : ChangeRecord) → IsTop held known → Contains known (Changed c) → c.key.kind ≡ kinds.Label → HoldsNoOlder held c
-
-abbrev pub label_key : List ℕ → Key
-label_key name = record { name = name; kind = kinds.Label }
-
--- the endpoint that a put of a label leaves
-abbrev pub endpoint_in : Body → Option EndpointRecord
-endpoint_in (Put (values.Label e)) = Some e
-endpoint_in _ = None
 
 -- the endpoint of the name's label among what is held
 abbrev pub label_in : List Item → List ℕ → Option EndpointRecord

@@ -2,7 +2,7 @@
 use Rattle.std.specs.Prelude.{◌≤◌, Bool, List, ◌∷◌, ◌++◌, None}
 use Rattle.ds_names.specs.declared.key.Key.{Key}
 use Rattle.ds_feed.specs.Feed.{Feed}
-use Rattle.ds_whole.specs.Under.{Keeps}
+use Rattle.ds_whole.specs.Under.{KeepsQuery}
 use Rattle.ds_whole.specs.Whole.{IsWhole}
 use Rattle.ds_whole.specs.Journaled.{SinceTurn, AreSince, since_items, cursor_after}
 use Rattle.ds_whole.specs.Paged.{PageTurn, ArePages, page_items, last_cursor}
@@ -12,7 +12,7 @@ use Rattle.ds_whole.specs.Paged.{PageTurn, ArePages, page_items, last_cursor}
 -- journal may be asked under two scopes that both keep all of the query, and at any times of the incarnation
 abbrev pub PagesAreWhole : Type 0
 PagesAreWhole =
-    (f : Feed) (scope other query : Key → Bool) (first : PageTurn) (pages : List PageTurn) (turns : List SinceTurn) → Keeps scope query → Keeps other query →
+    (f : Feed) (scope other query : Key → Bool) (first : PageTurn) (pages : List PageTurn) (turns : List SinceTurn) → KeepsQuery scope query → KeepsQuery other query →
     let from = first.page.cursor in
     let to = cursor_after first.page.cursor turns in
     ArePages f scope None 0 (first ∷ pages) → AreSince f other from turns → (last_cursor from pages).position ≤ to.position → IsWhole f query (page_items (first ∷ pages) ++ since_items turns) to.position

@@ -5,7 +5,7 @@ use Rattle.ds_entry.specs.Item.{passes}
 use Rattle.ds_entry.specs.declared.item.Item.{Item}
 use Rattle.ds_join.specs.ItemTop.{IsTop}
 use Rattle.ds_whole.specs.Sent.{Sent, IsSent, stood_for}
-use Rattle.ds_whole.specs.CatchUp.{IsMap}
+use Rattle.ds_whole.specs.CatchUp.{MapHolds}
 
 -- the items alone, without what they stand for
 abbrev pub items_of : List Sent → List Item
@@ -22,10 +22,10 @@ HolderTakes =
 
 -- a new map has taken nothing
 abbrev pub NewMapIsMap : Type 0
-NewMapIsMap = (query : Key → Bool) → IsMap query [] []
+NewMapIsMap = (query : Key → Bool) → MapHolds query [] []
 
 -- a map that merges those of some items that are under its query has taken these items, too
-abbrev pub MapTakes : Type 0
-MapTakes =
-    (query : Key → Bool) (items more : List Sent) (held new : List Item) → ((s : Sent) → Contains more s → IsSent s) → IsMap query items held →
-    IsTop new (held ++ items_of (sent_under query more)) → IsMap query (items ++ more) new
+abbrev pub MapsTake : Type 0
+MapsTake =
+    (query : Key → Bool) (items more : List Sent) (held new : List Item) → ((s : Sent) → Contains more s → IsSent s) → MapHolds query items held →
+    IsTop new (held ++ items_of (sent_under query more)) → MapHolds query (items ++ more) new

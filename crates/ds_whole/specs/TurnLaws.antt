@@ -7,7 +7,7 @@ use Rattle.ds_entry.specs.declared.item.Item.{Item}
 use Rattle.ds_join.specs.ItemTop.{IsPartOf}
 use Rattle.ds_feed.specs.declared.cursor.Cursor.{Cursor}
 use Rattle.ds_feed.specs.Feed.{Feed, position}
-use Rattle.ds_whole.specs.Under.{Keeps}
+use Rattle.ds_whole.specs.Under.{KeepsQuery}
 use Rattle.ds_whole.specs.Sent.{given}
 use Rattle.ds_whole.specs.Front.{IsFront}
 use Rattle.ds_whole.specs.Whole.{IsWhole}
@@ -74,7 +74,7 @@ CheckedIsWhole =
 -- and so are the items of the pages so far, of the last page, and of the journal from the first page's cursor on
 abbrev pub PagedIsWhole : Type 0
 PagedIsWhole =
-    (f : Feed) (scope other query : Key → Bool) (pages : List PageTurn) (last : PageTurn) (turns : List SinceTurn) → Keeps scope query → Keeps other query →
+    (f : Feed) (scope other query : Key → Bool) (pages : List PageTurn) (last : PageTurn) (turns : List SinceTurn) → KeepsQuery scope query → KeepsQuery other query →
     AreOpenPages f scope None 0 pages → IsPageTurn f scope (key_after None pages) last → position_after 0 pages ≤ last.page.cursor.position → last.page.last ≡ true →
     let from = unwrap_or (first_cursor pages) last.page.cursor in
     let to = cursor_after from turns in

@@ -4,8 +4,8 @@ use Rattle.ds_names.specs.declared.key.Key.{Key}
 use Rattle.ds_entry.specs.declared.item.Item.{Item}
 use Rattle.ds_join.specs.ItemTop.{IsPartOf}
 use Rattle.ds_feed.specs.Feed.{Feed}
-use Rattle.ds_whole.specs.Under.{under}
 use Rattle.ds_whole.specs.Sent.{Sent, stood_for}
+use Rattle.ds_entry.specs.Under.{under}
 
 -- what took effect at the positions below this one
 abbrev pub before : Feed → ℕ → List Item

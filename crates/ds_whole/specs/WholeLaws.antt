@@ -9,7 +9,7 @@ use Rattle.ds_feed.specs.declared.reading.Since.{Since}
 use Rattle.ds_feed.specs.Feed.{Feed, position, accepts}
 use Rattle.ds_feed.specs.Since.{IsGiven}
 use Rattle.ds_feed.specs.Page.{snapshot_of}
-use Rattle.ds_whole.specs.Under.{Keeps}
+use Rattle.ds_whole.specs.Under.{KeepsQuery}
 use Rattle.ds_whole.specs.Sent.{Sent, given}
 use Rattle.ds_whole.specs.Front.{IsFront, end_of}
 use Rattle.ds_whole.specs.Whole.{IsWhole}
@@ -18,20 +18,20 @@ use Rattle.ds_whole.specs.Journaled.{SinceTurn, AreSince, since_items, cursor_af
 -- a snapshot's items, under a scope that keeps all of the query, are whole up to its cursor
 abbrev pub SnapshotIsWhole : Type 0
 SnapshotIsWhole =
-    (f : Feed) (known held : List Item) (scope query : Key → Bool) → IsTop held f.accepted → IsPartOf f.accepted known → Keeps scope query → let taken = snapshot_of (passes scope) held (end_of f) in
+    (f : Feed) (known held : List Item) (scope query : Key → Bool) → IsTop held f.accepted → IsPartOf f.accepted known → KeepsQuery scope query → let taken = snapshot_of (passes scope) held (end_of f) in
     IsWhole f query (given known taken.items) taken.cursor.position
 
 -- items that are whole up to a cursor, with those that the journal gives from there under such a scope, are whole up to
 -- the cursor that it gives
 abbrev pub SinceExtends : Type 0
 SinceExtends =
-    (f : Feed) (known : List Item) (scope query : Key → Bool) (items : List Sent) (at : Cursor) (max : ℕ) (since : Since) → IsPartOf f.accepted known → Keeps scope query → IsGiven f (passes scope) at max since →
+    (f : Feed) (known : List Item) (scope query : Key → Bool) (items : List Sent) (at : Cursor) (max : ℕ) (since : Since) → IsPartOf f.accepted known → KeepsQuery scope query → IsGiven f (passes scope) at max since →
     IsWhole f query items at.position → IsWhole f query (items ++ given known since.items) since.cursor.position
 
 -- and so with any number of such replies, whatever took effect between them
 abbrev pub SincesExtend : Type 0
 SincesExtend =
-    (f : Feed) (scope query : Key → Bool) (items : List Sent) (at : Cursor) (turns : List SinceTurn) → Keeps scope query → AreSince f scope at turns →
+    (f : Feed) (scope query : Key → Bool) (items : List Sent) (at : Cursor) (turns : List SinceTurn) → KeepsQuery scope query → AreSince f scope at turns →
     IsWhole f query items at.position → IsWhole f query (items ++ since_items turns) (cursor_after at turns).position
 
 -- up to the first position any items are whole, none too
@@ -48,7 +48,7 @@ EarlierIsWhole = (f : Feed) (query : Key → Bool) (items : List Sent) (p r : �
 
 -- and for each query that the query keeps all of
 abbrev pub NarrowerIsWhole : Type 0
-NarrowerIsWhole = (f : Feed) (query narrow : Key → Bool) (items : List Sent) (r : ℕ) → Keeps query narrow → IsWhole f query items r → IsWhole f narrow items r
+NarrowerIsWhole = (f : Feed) (query narrow : Key → Bool) (items : List Sent) (r : ℕ) → KeepsQuery query narrow → IsWhole f query items r → IsWhole f narrow items r
 
 -- what is whole stays whole, whatever takes effect later
 abbrev pub WholeStays : Type 0

@@ -9,25 +9,25 @@ use Rattle.ds_feed.specs.declared.reading.Since.{Since}
 use Rattle.ds_feed.specs.Feed.{Feed, position}
 use Rattle.ds_feed.specs.Since.{IsGiven}
 use Rattle.ds_feed.specs.Page.{snapshot_of}
-use Rattle.ds_whole.specs.Under.{Keeps}
+use Rattle.ds_whole.specs.Under.{KeepsQuery}
 use Rattle.ds_whole.specs.Sent.{Sent, given}
 use Rattle.ds_whole.specs.Front.{IsFront, end_of}
 use Rattle.ds_whole.specs.Whole.{IsWhole}
 
 -- a snapshot is to be one of the top of what was accepted, of a store that knows it, under a scope that keeps the query
 pub record SnapshotNeeds : Type 0 where
-  pub top : ¬ ((f : Feed) (known held : List Item) (scope query : Key → Bool) → IsPartOf f.accepted known → Keeps scope query → IsWhole f query (given known (snapshot_of (passes scope) held (end_of f)).items) (position f))
-  pub knows : ¬ ((f : Feed) (known held : List Item) (scope query : Key → Bool) → IsTop held f.accepted → Keeps scope query → IsWhole f query (given known (snapshot_of (passes scope) held (end_of f)).items) (position f))
+  pub top : ¬ ((f : Feed) (known held : List Item) (scope query : Key → Bool) → IsPartOf f.accepted known → KeepsQuery scope query → IsWhole f query (given known (snapshot_of (passes scope) held (end_of f)).items) (position f))
+  pub knows : ¬ ((f : Feed) (known held : List Item) (scope query : Key → Bool) → IsTop held f.accepted → KeepsQuery scope query → IsWhole f query (given known (snapshot_of (passes scope) held (end_of f)).items) (position f))
   pub scope : ¬ ((f : Feed) (known held : List Item) (scope query : Key → Bool) → IsTop held f.accepted → IsPartOf f.accepted known → IsWhole f query (given known (snapshot_of (passes scope) held (end_of f)).items) (position f))
 
 -- what the journal gives is to come from a store that knows it, under such a scope, from a cursor up to which the items
 -- before it are whole, and no later one
 pub record SinceNeeds : Type 0 where
-  pub knows : ¬ ((f : Feed) (known : List Item) (scope query : Key → Bool) (items : List Sent) (at : Cursor) (max : ℕ) (since : Since) → Keeps scope query → IsGiven f (passes scope) at max since →
+  pub knows : ¬ ((f : Feed) (known : List Item) (scope query : Key → Bool) (items : List Sent) (at : Cursor) (max : ℕ) (since : Since) → KeepsQuery scope query → IsGiven f (passes scope) at max since →
       IsWhole f query items at.position → IsWhole f query (items ++ given known since.items) since.cursor.position)
   pub scope : ¬ ((f : Feed) (known : List Item) (scope query : Key → Bool) (items : List Sent) (at : Cursor) (max : ℕ) (since : Since) → IsPartOf f.accepted known → IsGiven f (passes scope) at max since →
       IsWhole f query items at.position → IsWhole f query (items ++ given known since.items) since.cursor.position)
-  pub whole : ¬ ((f : Feed) (known : List Item) (scope query : Key → Bool) (items : List Sent) (at : Cursor) (max : ℕ) (since : Since) → IsPartOf f.accepted known → Keeps scope query → IsGiven f (passes scope) at max since →
+  pub whole : ¬ ((f : Feed) (known : List Item) (scope query : Key → Bool) (items : List Sent) (at : Cursor) (max : ℕ) (since : Since) → IsPartOf f.accepted known → KeepsQuery scope query → IsGiven f (passes scope) at max since →
       IsWhole f query (items ++ given known since.items) since.cursor.position)
 
 -- what is whole is whole of this incarnation, up to this position and no further one, and for no wider query

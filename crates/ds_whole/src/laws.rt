@@ -3,7 +3,7 @@
 ghost use Rattle.ds_whole.specs.WholeLaws.{SnapshotIsWhole, SinceExtends, SincesExtend, NothingIsWhole, MoreIsWhole, EarlierIsWhole, NarrowerIsWhole, WholeStays, FeedsGrow};
 ghost use Rattle.ds_whole.specs.PageLaws.{PagesAreWhole};
 ghost use Rattle.ds_whole.specs.CatchUp.{HoldsTheStores, HoldsAlike, HoldsATop, HoldsAtLeast, AnyHolderHoldsTheStores, MapHoldsItsQuery, GivenIsSent};
-ghost use Rattle.ds_whole.specs.Taking.{HolderTakes, NewMapIsMap, MapTakes};
+ghost use Rattle.ds_whole.specs.Taking.{HolderTakes, NewMapIsMap, MapsTake};
 ghost use Rattle.ds_whole.specs.Following.{FollowsFromSnapshot, FollowsFromPages};
 ghost use Rattle.ds_whole.specs.Agreement.{HoldersAgree, TopUnderQuery, JoinOfHolders, JoinUnderQuery, MoreIsHeld};
 ghost use Rattle.ds_whole.specs.Labels.{NothingOlderIsHeld, NoOlderLabelIsHeld, LabelsAreNewest};
@@ -36,7 +36,7 @@ pub fn page_laws()
 pub fn taking_laws()
     ensures holder { HolderTakes }
     ensures new_map { NewMapIsMap }
-    ensures map { MapTakes }
+    ensures map { MapsTake }
 {}
 
 /// The laws of catching up: a map that has taken all that a store accepted, and nothing that what the store holds

@@ -4,7 +4,7 @@ ghost use Rattle.std.specs.Prelude.{◌≡◌, length, Ok};
 ghost use Rattle.ds_entry.specs.Change.{IsChange};
 ghost use Rattle.ds_join.specs.declared.merge.Merge.TheVariants.{Taken};
 ghost use Rattle.ds_held.specs.Held.{held_changes, held_floors, IsSound};
-ghost use Rattle.ds_held.specs.Kept.{left_by, list_after, marks_left, put_at, IsFloorPlace, IsPlace, IsPut};
+ghost use Rattle.ds_held.specs.Kept.{left_by_floor, list_after, marks_left, put_at, IsFloorPlace, IsPlace, IsPut};
 ghost use Rattle.ds_held.specs.Merge.{after_merge, MergeAnswer};
 ghost use Rattle.ds_held.specs.Raise.{after_raise, RaiseAnswer};
 
@@ -70,7 +70,7 @@ impl Held {
         requires { length marks.old.items ≡ length (held_changes self.old) }
         ensures answer { RaiseAnswer self.old floor result }
         ensures after { self.new ≡ after_raise self.old floor result }
-        ensures list { held_changes self.new ≡ list_after (held_changes self.old) (left_by floor (held_changes self.old)) result }
+        ensures list { held_changes self.new ≡ list_after (held_changes self.old) (left_by_floor floor (held_changes self.old)) result }
         ensures marks { marks.new.items ≡ list_after marks.old.items (marks_left floor (held_changes self.old) marks.old.items) result }
         ensures sound { IsSound self.new }
     {

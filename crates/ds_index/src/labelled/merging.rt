@@ -11,10 +11,11 @@ ghost use Rattle.ds_held.specs.Kept.{IsPlace};
 ghost use Rattle.ds_held.specs.Merge.{MergeAnswer, after_merge};
 ghost use Rattle.ds_marked.specs.Marked.{marks_after};
 ghost use Rattle.ds_index.specs.Named.{named_at};
-ghost use Rattle.ds_index.specs.Indexed.{endpoint_in, label_key, IsIndexed};
+ghost use Rattle.ds_index.specs.Indexed.{endpoint_left, IsIndexed};
+ghost use Rattle.ds_names.specs.Key.{label_key};
 
 use crate::index::Index;
-use crate::named::{Named, endpoint_in, is_label};
+use crate::named::{Named, endpoint_in};
 use ds_entry::Change;
 use ds_join::{JoinFault, Merge};
 use ds_marked::Marked;
@@ -32,7 +33,7 @@ fn merge_over<M: Drop>(
     requires indexed { IsIndexed held.old.held.changes index.old.names }
     requires place { IsPlace (held_changes held.old.held) change.key place }
     requires label { change.key ≡ label_key before.now.name }
-    requires before { option_map endpoint_in (held_for held.old.held change.key) ≡ Some before.now.endpoint }
+    requires before { option_map endpoint_left (held_for held.old.held change.key) ≡ Some before.now.endpoint }
     ensures answer { MergeAnswer held.old.held change result }
     ensures held { held.new.held ≡ after_merge held.old.held change result }
     ensures marks { held.new.marks ≡ marks_after held.old.marks change.key mark result }
@@ -102,7 +103,7 @@ fn merge_new<M: Drop>(
 // What is listed of a label that is held, where its place is told.
 fn listed_at<M: Drop>(held: &Marked<M>, place: Result<usize, usize>, key: &Key) -> Option<Named>
     requires { IsPlace (held_changes held.now.held) key.now place }
-    ensures { result ≡ option_map (λ (c : ChangeRecord). named_at (endpoint_in c) key.now.name) (held_for held.now.held key.now) }
+    ensures { result ≡ option_map (λ (c : ChangeRecord). named_at (endpoint_left c) key.now.name) (held_for held.now.held key.now) }
 {
     let (change, _) = held.get_at(place)?;
     Some(Named {
@@ -130,7 +131,7 @@ pub(super) fn merge_labelled<M: Drop>(
     ensures change { IsChange change }
     ensures indexed { IsIndexed held.new.held.changes index.new.names }
 {
-    if !is_label(change.key().kind) {
+    if !change.key().kind.is_label() {
         return held.merge_at(place, change, mark);
     }
     match listed_at(held, place, change.key()) {

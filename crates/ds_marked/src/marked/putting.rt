@@ -12,8 +12,9 @@ ghost use Rattle.ds_marked.specs.Beside.{marks_beside, marks_beside_floors, IsBe
 ghost use Rattle.ds_marked.specs.Marked.{marks_after, marks_raised, floor_marks_after};
 
 use ds_entry::{Change, Floor};
-use ds_held::{Held, MOST_FLOORS};
+use ds_held::Held;
 use ds_join::{JoinFault, Merge};
+use ds_names::limits::MOST_FLOORS;
 
 // Makes room for a mark at a place.
 fn make_room<M>(marks: &mut Vec<M>, place: Result<usize, usize>) -> bool

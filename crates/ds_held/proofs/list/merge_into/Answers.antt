@@ -1,7 +1,7 @@
 use Rattle.std.proofs.Common.{Ok, sym, ap, ◌∙◌, subst}
 use Rattle.ds_names.specs.declared.key.Key.{Key}
 use Rattle.ds_join.specs.declared.merge.Merge.{Merge}
-use Rattle.ds_held.specs.Kept.{holding_of, IsKept, IsPlace}
+use Rattle.ds_held.specs.Kept.{holding_of, AreKept, IsPlace}
 use Rattle.ds_held.specs.Merge.{MergeAnswer}
 use Rattle.ds_held.proofs.KeptLemmas.{put_answer, merged_after, merged_kept}
 use Rattle.ds_held.proofs.list.merge_into.Goals as goal
@@ -24,6 +24,6 @@ returns-in-Taken-clause-kept c =
     let xs = c.args.changes.now.items in
     let at : IsPlace c.args.changes.now.items c.args.change.key c.place_of-place.result = (subst (λ (k : Key). IsPlace c.args.changes.now.items k c.place_of-place.result) c.key.ensures.value (subst (λ l. IsPlace l c.key.result.now c.place_of-place.result) c.deref.ensures.value c.place_of-place.ensures)) in
     let taken = subst (λ (m : Merge). MergeAnswer (holding_of c.args.floors.now c.args.changes.now.items c.args.limits) c.args.change (Ok m)) c.in-Taken.is (subst (λ l. MergeAnswer (holding_of c.args.floors.now l c.args.limits) c.args.change (Ok c.in_ok-other.other)) c.deref-2.ensures.value c.in_ok-other.ensures) in
-    subst (λ l. IsKept c.args.floors.now l c.args.limits) (sym c.put.ensures.changes)
+    subst (λ l. AreKept c.args.floors.now l c.args.limits) (sym c.put.ensures.changes)
     (merged_kept c.args.floors.now xs c.args.limits c.requires c.args.change c.put.ensures.change c.place_of-place.result at c.put.result
     (put_answer c.args.floors.now xs c.args.limits c.requires c.args.change c.place_of-place.result c.put.result at taken c.put.ensures.answer))

@@ -2,7 +2,7 @@ use Rattle.std.proofs.Common.{◌≡◌, List, length, ap, sym, ◌∙◌, subst
 use Rattle.std.specs.List.{remove}
 use Rattle.std.specs.List.Sorted.{IsStrictlySortedBy}
 use Rattle.ds_index.specs.declared.named.Named.{Named}
-use Rattle.ds_index.specs.Named.{named_cmp, inserted}
+use Rattle.ds_index.specs.Named.{named_cmp, inserted_label}
 use Rattle.ds_index.proofs.NamedLemmas.{IsNear, stands_at, stands_within, set_there, removed_sorted}
 use Rattle.ds_index.proofs.index.replace.Goals as goal
 
@@ -37,5 +37,5 @@ returns-else-stays c =
     let left : c.remove.new.self.items ≡ remove c.args.names.now.items c.place_of-old.result = search rules in (
       c.place_of-old.result,
       stands_at c.args.before.now c.args.names.now.items c.deref.result.now c.place_of-old.result c.requires.sorted c.requires.listed c.deref.ensures.value c.place_of-old.ensures.place,
-      c.add.ensures ∙ ap (inserted c.args.after) left,
+      c.add.ensures ∙ ap (inserted_label c.args.after) left,
     )

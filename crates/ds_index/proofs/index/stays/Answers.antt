@@ -1,13 +1,14 @@
 use Rattle.std.proofs.Common.{◌≡◌, ◌+◌, ◌-◌, false, true, sym, ◌∙◌, ap, subst, arith}
-use Rattle.ds_index.proofs.NamedLemmas.{behind_nth, IsNear, near_first, near_next, unset}
+use Rattle.ds_index.proofs.NamedLemmas.{behind_nth, IsNear, near_first, near_next}
 use Rattle.ds_index.proofs.index.stays.Goals as goal
 use Rattle.ds_index.proofs.index.stays.Goals.{else-index-gt0-via-then-index-gt0+else-not-is_behind_nth, else-index-gt0-via-else-index-gt0}
+use Rattle.std.proofs.lemmas.Bool.{not-true}
 
 pub returns : goal.returns
 returns c = λ e.
     let p = c.args.named.now in
     let xs = c.args.names.now in
-    let high : behind_nth p xs (c.args.index + 1) ≡ false = sym c.is_behind_nth-2.ensures ∙ unset c.is_behind_nth-2.result e in
+    let high : behind_nth p xs (c.args.index + 1) ≡ false = sym c.is_behind_nth-2.ensures ∙ not-true c.is_behind_nth-2.result e in
     elim c.else-index-gt0.branch [
       | else-index-gt0-via-then-index-gt0+else-not-is_behind_nth w ↦
           (let low : behind_nth p xs (c.args.index - 1) ≡ true = sym w.is_behind_nth.ensures ∙ w.if-not-is_behind_nth.false in

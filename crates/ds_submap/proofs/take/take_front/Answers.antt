@@ -3,14 +3,14 @@ use Rattle.std.specs.List.{slice_get}
 use Rattle.std.proofs.lemmas.List.Elements.{All-nil}
 use Rattle.std.proofs.lemmas.Option.{slice_get-get_or}
 use Rattle.ds_entry.specs.declared.item.Item.{Item}
-use Rattle.ds_submap.specs.Take.{is_asked}
+use Rattle.ds_submap.specs.Take.{needs_query}
 use Rattle.ds_submap.proofs.TakeLemmas.{taking_begins, taking_goes_on, unasked_more, unasked_other}
 use Rattle.ds_submap.proofs.take.take_front.Goals as goal
 
 pub loop-item-init : goal.loop-item-init
 loop-item-init c = record {
   taking = taking_begins c.args.filter.now c.args.held.now c.args.items.now c.none-count.result c.requires c.none-count.ensures;
-  unasked = All-nil (λ j. IsFalse (is_asked c.args.filter.now j));
+  unasked = All-nil (λ j. IsFalse (needs_query c.args.filter.now j));
 }
 
 pub loop-item-preserved : goal.loop-item-preserved
@@ -21,7 +21,7 @@ loop-item-preserved c =
     let i = c.loop-item.item-index in
     let item = c.item-item.result in
     let t = c.loop-item.invariant.taking in
-    let other : is_asked q item ≡ false = sym c.is_asked.ensures ∙ c.if-is_asked.false in
+    let other : needs_query q item ≡ false = sym c.is_asked.ensures ∙ c.if-is_asked.false in
     let there : slice_get items i ≡ Some item = slice_get-get_or items i item c.loop-item-test.true ∙ ap (λ (x : Item). Some x) (sym c.item-item.is) in
     record {
       taking = taking_goes_on q old items i c.loop-item.held c.loop-item.count item c.raise_or_pass.new.held t there c.in-Ok.answer c.add.new.self (c.in-Ok.ensures.taken q (unasked_other q item other)) c.in-Ok.ensures.sound c.add.ensures;

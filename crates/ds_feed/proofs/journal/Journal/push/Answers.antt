@@ -1,9 +1,10 @@
 use Rattle.std.proofs.Common.{rules, arith, sym, subst, ◌<◌}
-use Rattle.ds_feed.specs.Feed.{accepts, last_place}
+use Rattle.ds_feed.specs.Feed.{accepts}
 use Rattle.ds_feed.specs.Kept.{Kept, Keeps}
 use Rattle.ds_feed.specs.Sound.{kept_of}
 use Rattle.ds_feed.proofs.FeedLemmas.{keeps_pushed}
 use Rattle.ds_feed.proofs.journal.Journal.push.Goals as goal
+use Rattle.ds_names.specs.Limits.{last_place}
 
 pub invariant_of-self : goal.invariant_of-self
 invariant_of-self c =

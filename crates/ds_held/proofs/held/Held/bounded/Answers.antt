@@ -1,8 +1,8 @@
 use Rattle.std.proofs.Common.{[], sym, subst}
-use Rattle.ds_held.specs.Kept.{IsKept}
+use Rattle.ds_held.specs.Kept.{AreKept}
 use Rattle.ds_held.proofs.KeptLemmas.{kept_nothing}
 use Rattle.ds_held.proofs.held.Held.bounded.Goals as goal
 
 pub invariant_of-result : goal.invariant_of-result
 invariant_of-result c =
-    subst (λ l. IsKept l c.new-2.result.items c.args.limits) (sym c.new.ensures.items) (subst (λ l. IsKept [] l c.args.limits) (sym c.new-2.ensures.items) (kept_nothing c.args.limits))
+    subst (λ l. AreKept l c.new-2.result.items c.args.limits) (sym c.new.ensures.items) (subst (λ l. AreKept [] l c.args.limits) (sym c.new-2.ensures.items) (kept_nothing c.args.limits))

@@ -7,14 +7,16 @@ use Rattle.std.proofs.lemmas.Option.{slice_get_cases}
 use Rattle.ds_entry.specs.declared.body.Body.{Body}
 use Rattle.ds_entry.specs.declared.item.Item.TheVariants.{Change as Changed}
 use Rattle.ds_entry.specs.Item.{IsItem}
-use Rattle.ds_join.specs.Reading.{value_in, leaves_value}
 use Rattle.ds_held.specs.Held.{held_changes, held_items, IsSound}
 use Rattle.ds_submap.specs.Floors.{AreSwept}
-use Rattle.ds_submap.specs.Map.{SubMapRecord, entries_of}
-use Rattle.ds_submap.proofs.EntryLemmas.{count_is, held_puts, put_added, puts_of, tombstone_passed}
+use Rattle.ds_submap.specs.Map.{SubMapRecord}
+use Rattle.ds_submap.proofs.EntryLemmas.{held_puts, put_added, puts_of, tombstone_passed}
 use Rattle.ds_submap.proofs.MapLemmas.{entries_swept}
 use Rattle.ds_submap.proofs.map.SubMap.entries.Goals as goal
 use Rattle.ds_submap.proofs.map.SubMap.entries.Goals.{After-loop-index, In-Some, in-Put+in_ok-copy+in_ok-push, in_default-body}
+use Rattle.ds_entry.specs.Left.{value_in, leaves_value}
+use Rattle.ds_entry.specs.Under.{entries_of}
+use Rattle.ds_held.proofs.HeldLemmas.{count_is}
 
 -- a change stands at each index below the number of keys
 pub unreachable-requires : goal.unreachable-requires

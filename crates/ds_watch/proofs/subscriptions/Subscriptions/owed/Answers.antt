@@ -1,4 +1,4 @@
-use Rattle.std.proofs.Common.{List, Bool, Option, None, false, map, length, replicate, get_or, ap, ◌∙◌, arith}
+use Rattle.std.proofs.Common.{List, Bool, Option, None, false, map, length, get_or, ap, ◌∙◌, arith}
 use Rattle.std.proofs.lemmas.List.{length-replicate}
 use Rattle.ds_watch.specs.Mask.{padded}
 use Rattle.ds_watch.specs.Watching.{Watching, watches}

@@ -1,4 +1,4 @@
-use Rattle.std.proofs.Common.{◌<◌, List, Option, Some, None, length, get_or, set, ap, subst, sym, refl, ◌∙◌}
+use Rattle.std.proofs.Common.{◌<◌, List, Option, Some, None, length, get_or, set, ap, subst, sym, ◌∙◌}
 use Rattle.std.specs.Option.{option_map}
 use Rattle.ds_watch.specs.Watching.{Watching, stamped}
 use Rattle.ds_watch.specs.contracts.subscriptions.Subscriptions.{the_view}

@@ -1,7 +1,6 @@
 use Rattle.std.proofs.Common.{lit<, lit≤, refl}
-use Rattle.ds_names.specs.Name.{is_name_byte, IsName}
-use Rattle.ds_entry.specs.Change.{rs_name}
-use Rattle.ds_entry.proofs.change.rs_name.Goals as goal
+use Rattle.ds_names.specs.Name.{is_name_byte, IsName, rs_name}
+use Rattle.ds_names.proofs.name.Name.rs.Goals as goal
 
 rs_is_name : IsName rs_name
 unfolding is_name_byte
