@@ -26,12 +26,12 @@ use Rattle.ds_held.specs.Held.{Holding, held_items, held_changes, held_floors, h
 use Rattle.ds_held.specs.Kept.{floored}
 use Rattle.ds_held.specs.Merge.{MergeAnswer, AnswersFor}
 use Rattle.ds_held.specs.Raise.{RaiseAnswer, AnswersFloor}
-use Rattle.ds_held.proofs.HeldLemmas.{is_held, change_in, floor_in, held_is_top}
+use Rattle.ds_held.proofs.HeldLemmas.{is_held, change_in, floor_in, held_is_top, count_is}
 use Rattle.ds_machine.specs.Parts.{changes_in, floors_in, held_at, floor_at}
-use Rattle.ds_machine.specs.Standing.{HasRoom}
+use Rattle.ds_machine.specs.Standing.{HasRoom, HasFloorRoom}
 use Rattle.ds_machine.proofs.PartLemmas.{key_found, key_missing, owner_found, owner_missing}
-use Rattle.ds_content.specs.Free.{IsHigher}
 use Rattle.ds_content.specs.Taken.{IsTakenOrNoRoom}
+use Rattle.std.proofs.lemmas.List.{length-map}
 
 -- ---- the changes and the floors
 changes_alone : (cs : List ChangeRecord) → changes_in (map change_item cs) ≡ cs
@@ -56,18 +56,11 @@ changes_are h = changes_behind (entries h.floors) (held_changes h)
 pub floors_are : (h : Holding) → floors_in (held_items h) ≡ held_floors h
 floors_are h = floors_before (entries h.floors) (held_changes h)
 
-length_map : {X Y : Type 0} (f : X → Y) (xs : List X) → length (map f xs) ≡ length xs
-length_map f [] = refl
-length_map f (x ∷ xs) = ap suc (length_map f xs)
-
-pub count_changes : (h : Holding) → length (held_changes h) ≡ held_count h
-count_changes h = omega (arith, length_map (λ (e : Key × ChangeRecord). e.1) (entries h.changes), len-entries h.changes)
-
 pub count_floors : (h : Holding) → length (held_floors h) ≡ floor_count h
-count_floors h = omega (arith, length_map (λ (e : List ℕ × ℕ). floor_of e.0 e.1) (entries h.floors), len-entries h.floors)
+count_floors h = omega (arith, length-map (entries h.floors) (λ (e : List ℕ × ℕ). floor_of e.0 e.1), len-entries h.floors)
 
 pub changes_counted : (h : Holding) → length (changes_in (held_items h)) ≡ held_count h
-changes_counted h = ap (λ (l : List ChangeRecord). length l) (changes_are h) ∙ count_changes h
+changes_counted h = ap (λ (l : List ChangeRecord). length l) (changes_are h) ∙ count_is h
 
 pub floors_counted : (h : Holding) → length (floors_in (held_items h)) ≡ floor_count h
 floors_counted h = ap (λ (l : List Floor). length l) (floors_are h) ∙ count_floors h
@@ -166,7 +159,7 @@ change_new h sound c kept answer =
     let void : is_void_at h c ≡ false = sym (void-is h sound c) ∙ kept in
     held_at-is h sound c.key ∙ no_room_by (held_for h c.key) (held_count h) h.limits.keys c (subst (λ b. AnswersFor (held_for h c.key) b (held_count h) h.limits.keys c (Err NoRoom)) void answer)
 
-raised_by : (o : Option ℕ) (count : ℕ) (f : Floor) (r : Result Merge JoinFault) → IsHigher (option_map (floor_of f.owner) o) count f → AnswersFloor o count f.generation r → IsTakenOrNoRoom r
+raised_by : (o : Option ℕ) (count : ℕ) (f : Floor) (r : Result Merge JoinFault) → HasFloorRoom (option_map (floor_of f.owner) o) count f → AnswersFloor o count f.generation r → IsTakenOrNoRoom r
 raised_by None count f (Ok Taken) room a = tt
 raised_by None count f (Ok Known) room a = a
 raised_by None count f (Ok Stale) room a = a
@@ -179,10 +172,10 @@ raised_by (Some g) count f (Ok Known) room a = let l : g < f.generation = room i
 raised_by (Some g) count f (Ok Stale) room a = let l : g < f.generation = room in let e : f.generation < g = a in absurd (omega (arith, l, e))
 raised_by (Some g) count f (Err fault) room a = absurd a
 
-pub floor_taken : (h : Holding) (sound : IsSound h) (f : Floor) (r : Result Merge JoinFault) → IsHigher (floor_at (held_items h) f.owner) (length (floors_in (held_items h))) f → RaiseAnswer h f r → IsTakenOrNoRoom r
+pub floor_taken : (h : Holding) (sound : IsSound h) (f : Floor) (r : Result Merge JoinFault) → HasFloorRoom (floor_at (held_items h) f.owner) (length (floors_in (held_items h))) f → RaiseAnswer h f r → IsTakenOrNoRoom r
 floor_taken h sound f r room answer =
     raised_by (floor_for h f.owner) (floor_count h) f r
-    (subst (λ n. IsHigher (option_map (floor_of f.owner) (floor_for h f.owner)) n f) (floors_counted h) (subst (λ o. IsHigher o (length (floors_in (held_items h))) f) (floor_at-is h sound f.owner) room)) answer
+    (subst (λ n. HasFloorRoom (option_map (floor_of f.owner) (floor_for h f.owner)) n f) (floors_counted h) (subst (λ o. HasFloorRoom o (length (floors_in (held_items h))) f) (floor_at-is h sound f.owner) room)) answer
 
 raise_no_room : (o : Option ℕ) (count generation : ℕ) → AnswersFloor o count generation (Err NoRoom) → o ≡ None
 raise_no_room None count generation a = refl

@@ -1,5 +1,5 @@
 -- What stands beside the item at an index, and whether it is under a query.
-use Rattle.std.proofs.Common.{◌≡◌, ℕ, suc, ◌∷◌, map, inl, inr, length-append, ◌+◌, ◌<◌, ◌≤◌, Bool, true, false, List, [], length, get_or, Option, Some, None, is_some, refl, ap, sym, ◌∙◌, subst, arith, Contains}
+use Rattle.std.proofs.Common.{◌≡◌, ℕ, map, inl, inr, length-append, ◌+◌, ◌<◌, ◌≤◌, Bool, true, false, List, [], length, get_or, Option, Some, None, is_some, refl, ap, sym, ◌∙◌, subst, arith, Contains}
 use Rattle.std.specs.Prelude.{slice_get}
 use Rattle.std.specs.Option.{option_map, option_map_or}
 use Rattle.std.proofs.lemmas.Option.{same_Some}
@@ -10,18 +10,19 @@ use Rattle.ds_entry.specs.declared.item.Item.TheVariants.{Change as Changed, Flo
 use Rattle.ds_held.specs.Held.{Holding, held_items, held_changes, held_floors, held_count, floor_count, change_item, IsSound}
 use Rattle.ds_held.specs.Kept.{floored}
 use Rattle.ds_held.specs.Limits.{LimitsRecord, IsLimits}
-use Rattle.ds_held.proofs.HeldLemmas.{is_held}
+use Rattle.ds_held.proofs.HeldLemmas.{is_held, count_is}
 use Rattle.ds_marked.specs.Marked.{MarkedHolding, mark_for, floor_mark_for, HasMarks}
 use Rattle.ds_pattern.specs.declared.query.Query.{Query}
 use Rattle.ds_pattern.specs.Under.{is_under}
 use Rattle.ds_watch.specs.declared.masks.Masks.{Masks}
-use Rattle.ds_machine.specs.Scope.{is_item_under}
 use Rattle.ds_content.specs.Kept.{masks_at}
 use Rattle.ds_content.specs.Shown.{is_to_show}
 use Rattle.ds_content.proofs.FlagLemmas.{past_end, index_among}
-use Rattle.ds_content.proofs.HoldingLemmas.{count_floors, count_changes, items_floored, floor_item_at, change_item_at}
+use Rattle.ds_content.proofs.HoldingLemmas.{count_floors, items_floored, floor_item_at, change_item_at}
+use Rattle.ds_entry.specs.Item.{passes}
+use Rattle.std.proofs.lemmas.List.{length-map}
 
-none_mapped : {X Y : Type 0} (f : X → Y) (o : Option X) → option_map f o ≡ None → o ≡ None
+pub none_mapped : {X Y : Type 0} (f : X → Y) (o : Option X) → option_map f o ≡ None → o ≡ None
 none_mapped f None e = refl
 none_mapped f (Some x) e = absurd (cc)
 
@@ -56,21 +57,18 @@ floor_there h index low = by_found (slice_get (held_floors h) index) refl
     by_found (Some f) e = (f, e)
     by_found None e = let past = past_end (held_floors h) index e in let n = count_floors h in absurd (omega (arith, past, n, low))
 
-pub floor_under : (h : Holding) (index : ℕ) (q : Query) → index < floor_count h → Some true ≡ option_map (is_item_under q) (slice_get (held_items h) index)
+pub floor_under : (h : Holding) (index : ℕ) (q : Query) → index < floor_count h → Some true ≡ option_map (passes (is_under q)) (slice_get (held_items h) index)
 floor_under h index q low =
     let r = floor_there h index low in
-    sym (ap (option_map (is_item_under q)) (floor_item_at h index low ∙ ap (option_map (λ f. Floored f)) r.1))
+    sym (ap (option_map (passes (is_under q))) (floor_item_at h index low ∙ ap (option_map (λ f. Floored f)) r.1))
 
-pub change_under : (h : Holding) (index j : ℕ) (q : Query) (o : Option ChangeRecord) → index ≡ floor_count h + j → o ≡ slice_get (held_changes h) j → option_map (λ (c : ChangeRecord). is_under q c.key) o ≡ option_map (is_item_under q) (slice_get (held_items h) index)
-change_under h index j q None e is = sym (ap (option_map (is_item_under q)) (change_item_at h index j e ∙ ap (option_map (λ c. Changed c)) (sym is)))
-change_under h index j q (Some c) e is = sym (ap (option_map (is_item_under q)) (change_item_at h index j e ∙ ap (option_map (λ c. Changed c)) (sym is)))
+pub change_under : (h : Holding) (index j : ℕ) (q : Query) (o : Option ChangeRecord) → index ≡ floor_count h + j → o ≡ slice_get (held_changes h) j → option_map (λ (c : ChangeRecord). is_under q c.key) o ≡ option_map (passes (is_under q)) (slice_get (held_items h) index)
+change_under h index j q None e is = sym (ap (option_map (passes (is_under q))) (change_item_at h index j e ∙ ap (option_map (λ c. Changed c)) (sym is)))
+change_under h index j q (Some c) e is = sym (ap (option_map (passes (is_under q))) (change_item_at h index j e ∙ ap (option_map (λ c. Changed c)) (sym is)))
 
-pub none_there : {X Y : Type 0} (f : X → Y) (o : Option X) → option_map f o ≡ None → o ≡ None
-none_there f o e = none_mapped f o e
-
-pub flag_there : (q : Query) (o : Option Item) (b : Bool) → Some b ≡ option_map (is_item_under q) o → (i : Item) × (o ≡ Some i) × (b ≡ is_item_under q i)
+pub flag_there : (q : Query) (o : Option Item) (b : Bool) → Some b ≡ option_map (passes (is_under q)) o → (i : Item) × (o ≡ Some i) × (b ≡ passes (is_under q) i)
 flag_there q None b e = absurd (cc)
-flag_there q (Some i) b e = (i, refl, same_Some b (is_item_under q i) e)
+flag_there q (Some i) b e = (i, refl, same_Some b (passes (is_under q) i) e)
 
 -- ---- a copy of the item
 module _ (h : Holding) (index : ℕ) where
@@ -116,9 +114,6 @@ pub same_item : (o : Option Item) (i j : Item) → o ≡ Some i → Some j ≡ o
 same_item o i j e f = same_Some j i (f ∙ e)
 
 -- ---- how many items are held
-length_mapped : {X Y : Type 0} (f : X → Y) (xs : List X) → length (map f xs) ≡ length xs
-length_mapped f [] = refl
-length_mapped f (x ∷ xs) = ap suc (length_mapped f xs)
 
 few_keys : (l : LimitsRecord) → IsLimits l → l.keys ≤ 4096
 few_keys l (inl e) = subst (λ (x : LimitsRecord). x.keys ≤ 4096) (sym e) (omega arith)
@@ -130,10 +125,10 @@ few_items h l count floors e is c low f few =
     let keys : l.keys ≡ h.limits.keys = ap (λ (x : LimitsRecord). x.keys) e in
     let both = ap (λ (l : List Item). length l) (items_floored h) in
     let sum = length-append (map floored (held_floors h)) (map change_item (held_changes h)) in
-    let m = length_mapped floored (held_floors h) in
-    let n = length_mapped change_item (held_changes h) in
+    let m = length-map (held_floors h) floored in
+    let n = length-map (held_changes h) change_item in
     let fs = count_floors h in
-    let cs = count_changes h in
+    let cs = count_is h in
     omega (arith, bound, keys, both, sum, m, n, fs, cs, c, low, f, few)
 
 pub none_is : {X : Type 0} (o : Option X) → false ≡ is_some o → o ≡ None

@@ -27,14 +27,14 @@ use Rattle.ds_watch.specs.Masks.{fresh}
 use Rattle.ds_watch.specs.Watching.{Watching}
 use Rattle.ds_watch.specs.Watching as keys
 use Rattle.ds_watch.specs.declared.masks.Masks.{Masks}
-use Rattle.ds_content.specs.Followed.{watches}
+use Rattle.ds_content.specs.Followed.{watches_item}
 use Rattle.ds_content.specs.Kept.{AreMarked, masks_at, under_at, unseen_at}
 use Rattle.ds_content.proofs.OwedLemmas.{key_watches, padded_flag, padded_long}
 
 -- ---- an item that took effect, and has its fresh masks, where what else is held has those that it had
 module _ (old new : MarkedHolding Masks) (i : Item) (owed : List Bool) (top : IsTop (held_items new.held) (held_items old.held ++ i ∷ [])) (here : masks_at new i ≡ Some (fresh owed))
-    (kept : (y : Item) → Contains (held_items new.held) y → Contains (held_items old.held) y → masks_at new y ≡ masks_at old y) (ws : List (Option Watching)) (owes : owed ≡ padded (map (watches i) ws)) where
-  pub fresh_flag : (k : ℕ) → get_or (unseen_at new i) k false ≡ watches i (get_or ws k None)
+    (kept : (y : Item) → Contains (held_items new.held) y → Contains (held_items old.held) y → masks_at new y ≡ masks_at old y) (ws : List (Option Watching)) (owes : owed ≡ padded (map (watches_item i) ws)) where
+  pub fresh_flag : (k : ℕ) → get_or (unseen_at new i) k false ≡ watches_item i (get_or ws k None)
   fresh_flag k = ap (λ (o : Option Masks). get_or (option_map_or (λ (m : Masks). m.unseen) o []) k false) here ∙ ap (λ (fs : List Bool). get_or fs k false) owes ∙ padded_flag ws i k
 
   pub other_flags : (y : Item) → Contains (held_items new.held) y → Contains (held_items old.held) y → unseen_at new y ≡ unseen_at old y
@@ -42,13 +42,13 @@ module _ (old new : MarkedHolding Masks) (i : Item) (owed : List Bool) (top : Is
 
   module _ (few : length ws ≤ 128) (are : AreMarked old ws) where
     here_long : length owed ≡ 128
-    here_long = ap (λ (fs : List Bool). length fs) owes ∙ padded_long (map (watches i) ws) (subst (λ n. n ≤ 128) (sym (length-map ws (watches i))) few)
+    here_long = ap (λ (fs : List Bool). length fs) owes ∙ padded_long (map (watches_item i) ws) (subst (λ n. n ≤ 128) (sym (length-map ws (watches_item i))) few)
 
     pub marked_more : AreMarked new ws
     marked_more = record {
       under = λ y h. elim (Contains-push_cases (held_items old.held) i y (top.among y h)) [
         | inl k ↦ ap (λ (o : Option Masks). option_map_or (λ (m : Masks). m.under) o []) (kept y h k) ∙ are.under y k
-        | inr q ↦ subst (λ (z : Item). under_at new z ≡ padded (map (watches z) ws)) q (ap (λ (o : Option Masks). option_map_or (λ (m : Masks). m.under) o []) here ∙ owes)
+        | inr q ↦ subst (λ (z : Item). under_at new z ≡ padded (map (watches_item z) ws)) q (ap (λ (o : Option Masks). option_map_or (λ (m : Masks). m.under) o []) here ∙ owes)
       ];
       long = λ y h. elim (Contains-push_cases (held_items old.held) i y (top.among y h)) [
         | inl k ↦ ap (λ (fs : List Bool). length fs) (other_flags y h k) ∙ are.long y k

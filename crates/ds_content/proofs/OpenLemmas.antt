@@ -1,5 +1,5 @@
 -- What a content stands for where it begins, and small facts of what it gives.
-use Rattle.std.proofs.Common.{◌≡◌, ℕ, zero, suc, ◌≤◌, Bool, List, [], ◌∷◌, ◌++◌, map, length, get_or, replicate, Option, Some, None, Result, Ok, Err, IfOk, refl, ap, ap₂, sym, ◌∙◌, subst, arith, Contains}
+use Rattle.std.proofs.Common.{◌≡◌, ℕ, zero, suc, ◌≤◌, Bool, List, [], ◌∷◌, ◌++◌, map, length, replicate, Option, Some, None, Result, Ok, Err, IfOk, refl, ap, ap₂, sym, ◌∙◌, subst, arith, Contains}
 use Rattle.std.proofs.lemmas.List.{length-replicate}
 use Rattle.std.specs.FinMap.{entries, len, len-entries, len-empty}
 use Rattle.std.specs.Option.{option_map}
@@ -18,14 +18,13 @@ use Rattle.ds_held.specs.Limits.{LimitsRecord, IsLimits}
 use Rattle.ds_marked.specs.Marked.{MarkedHolding, nothing_marked}
 use Rattle.ds_watch.specs.Watching.{Watching}
 use Rattle.ds_watch.specs.declared.masks.Masks.{Masks}
-use Rattle.ds_machine.specs.Limits.{last_place}
 use Rattle.ds_machine.specs.State.{State, cursor, opening}
 use Rattle.ds_machine.proofs.WithinLemmas.{opening_is_within}
-use Rattle.ds_machine.specs.Reached.{IsReached}
-use Rattle.ds_machine.specs.Subscription.{Subscription}
 use Rattle.ds_content.specs.Followed.{followed_of, followed_from}
 use Rattle.ds_content.specs.Kept.{AreMarked, unseen_at}
-use Rattle.ds_content.specs.Stands.{Stands}
+use Rattle.ds_content.specs.Stands.{ContentStands}
+use Rattle.ds_names.specs.Limits.{last_place}
+use Rattle.ds_machine.proofs.ReachedLemmas.{opening_is_reached}
 
 no_length : {X : Type 0} (xs : List X) → length xs ≡ 0 → xs ≡ []
 no_length [] e = refl
@@ -43,26 +42,6 @@ nothing_is_held limits =
     ap₂ (λ (fs : List (List ℕ × ℕ)) (es : List (Key × ChangeRecord)). map floor_item fs ++ map change_item (map (λ (e : Key × ChangeRecord). e.1) es)) (no_floors h (len-empty name_cmp ℕ)) (no_changes h (len-empty key_cmp ChangeRecord))
 
 -- ---- the opening state
-not_nothing : {X : Type 0} (front back : List X) (x : X) → [] ≡ front ++ x ∷ back → ⊥
-not_nothing [] back x e = cc
-not_nothing (y ∷ front) back x e = cc
-
-none_at : (n k : ℕ) → get_or (replicate {A = Option Subscription} n None) k None ≡ None
-none_at zero k = refl
-none_at (suc n) zero = refl
-none_at (suc n) (suc k) = none_at n k
-
-no_seer : (n k : ℕ) (seer : Subscription) → get_or (replicate n None) k None ≡ Some seer → ⊥
-no_seer n k seer e = let no : None ≡ Some seer = sym (none_at n k) ∙ e in cc
-
-opening_is_reached : (incarnation first ring : ℕ) (limits : LimitsRecord) → IsLimits limits → IsReached (opening incarnation first ring limits)
-opening_is_reached incarnation first ring limits bounds = record {
-  limits = bounds;
-  places = length-replicate {A = Option Subscription} limits.subs None;
-  owners = λ front back i e. absurd (not_nothing front back i e);
-  exact = λ i j h. absurd (Contains-nil i h);
-  served = λ k seer e. absurd (no_seer limits.subs k seer e);
-}
 
 none_from : (hs gs : List Item) (u : Item → List Bool) (place n : ℕ) → followed_from hs u place (replicate n None) ≡ map (option_map (followed_of gs)) (replicate n None)
 none_from hs gs u place zero = refl
@@ -85,8 +64,8 @@ module _ (h : MarkedHolding Masks) (ws : List (Option Watching)) (limits : Limit
     long = λ i k. absurd (Contains-nil i (subst (λ (l : List Item). Contains l i) nothing_here k));
   }
 
-  pub stands_opening : (journal : Kept) (incarnation first ring stamp : ℕ) → Keeps journal (feeds.opening incarnation first ring) → stamp ≡ first → IsLimits limits → first ≤ last_place
-      → Stands (record { held = held_items h.held; journal = journal; limits = h.held.limits; stamp = stamp; subscriptions = followed_from (held_items h.held) (unseen_at h) 0 ws }) (opening incarnation first ring limits)
+  pub stands_opening : (journal : Kept) (incarnation first ring stamp : ℕ) → Keeps journal (feeds.opening_feed incarnation first ring) → stamp ≡ first → IsLimits limits → first ≤ last_place
+      → ContentStands (record { held = held_items h.held; journal = journal; limits = h.held.limits; stamp = stamp; subscriptions = followed_from (held_items h.held) (unseen_at h) 0 ws }) (opening incarnation first ring limits)
   stands_opening journal incarnation first ring stamp keeps is bounds low = record {
     held = nothing_here;
     journal = keeps;

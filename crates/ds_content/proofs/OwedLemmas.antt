@@ -15,16 +15,17 @@ use Rattle.ds_watch.specs.Watching as keys
 use Rattle.ds_machine.specs.Subscription.{Subscription, is_owed}
 use Rattle.ds_machine.specs.State.{State, held}
 use Rattle.ds_content.specs.Content.{ContentRecord}
-use Rattle.ds_content.specs.Followed.{followed_of, followed_from, watches}
-use Rattle.ds_content.specs.Stands.{Stands}
+use Rattle.ds_content.specs.Followed.{followed_of, followed_from, watches_item}
+use Rattle.ds_content.specs.Stands.{ContentStands}
+use Rattle.ds_watch.proofs.PaddedLemmas.{no_flag}
 
 -- ---- of what is kept
-pub key_watches : (c : ChangeRecord) (ws : List (Option Watching)) → map (watches (Changed c)) ws ≡ map (keys.watches c.key) ws
+pub key_watches : (c : ChangeRecord) (ws : List (Option Watching)) → map (watches_item (Changed c)) ws ≡ map (keys.watches c.key) ws
 key_watches c [] = refl
 key_watches c (None ∷ ws) = ap (λ l. false ∷ l) (key_watches c ws)
 key_watches c (Some w ∷ ws) = ap (λ l. is_under w.query c.key ∷ l) (key_watches c ws)
 
-pub floor_watches : (f : Floor) (ws : List (Option Watching)) → map (watches (Floored f)) ws ≡ map is_some ws
+pub floor_watches : (f : Floor) (ws : List (Option Watching)) → map (watches_item (Floored f)) ws ≡ map is_some ws
 floor_watches f [] = refl
 floor_watches f (None ∷ ws) = ap (λ l. false ∷ l) (floor_watches f ws)
 floor_watches f (Some w ∷ ws) = ap (λ l. true ∷ l) (floor_watches f ws)
@@ -54,25 +55,21 @@ floor_owed f hs [] = refl
 floor_owed f hs (None ∷ subs) = ap (λ l. false ∷ l) (floor_owed f hs subs)
 floor_owed f hs (Some sub ∷ subs) = ap (λ l. true ∷ l) (floor_owed f hs subs)
 
-pub key_owed_as : (v : ContentRecord) (s : State) (c : ChangeRecord) → Stands v s → owed_for c.key v.subscriptions ≡ map (is_owed (Changed c ∷ [])) s.subscriptions
+pub key_owed_as : (v : ContentRecord) (s : State) (c : ChangeRecord) → ContentStands v s → owed_for c.key v.subscriptions ≡ map (is_owed (Changed c ∷ [])) s.subscriptions
 key_owed_as v s c stands = ap (owed_for c.key) stands.subscriptions ∙ key_owed c (held s) s.subscriptions
 
-pub floor_owed_as : (v : ContentRecord) (s : State) (f : Floor) → Stands v s → map is_some v.subscriptions ≡ map (is_owed (Floored f ∷ [])) s.subscriptions
+pub floor_owed_as : (v : ContentRecord) (s : State) (f : Floor) → ContentStands v s → map is_some v.subscriptions ≡ map (is_owed (Floored f ∷ [])) s.subscriptions
 floor_owed_as v s f stands = ap (λ (l : List (Option Followed)). map is_some l) stands.subscriptions ∙ floor_owed f (held s) s.subscriptions
 
 -- ---- the flags of a mask
-no_flag : (n k : ℕ) → get_or (replicate n false) k false ≡ false
-no_flag zero k = refl
-no_flag (suc n) zero = refl
-no_flag (suc n) (suc k) = no_flag n k
 
-behind : (ws : List (Option Watching)) (i : Item) (n k : ℕ) → get_or (map (watches i) ws ++ replicate n false) k false ≡ watches i (get_or ws k None)
+behind : (ws : List (Option Watching)) (i : Item) (n k : ℕ) → get_or (map (watches_item i) ws ++ replicate n false) k false ≡ watches_item i (get_or ws k None)
 behind [] i n k = no_flag n k
 behind (w ∷ ws) i n zero = refl
 behind (w ∷ ws) i n (suc k) = behind ws i n k
 
-pub padded_flag : (ws : List (Option Watching)) (i : Item) (k : ℕ) → get_or (padded (map (watches i) ws)) k false ≡ watches i (get_or ws k None)
-padded_flag ws i k = behind ws i (128 - length (map (watches i) ws)) k
+pub padded_flag : (ws : List (Option Watching)) (i : Item) (k : ℕ) → get_or (padded (map (watches_item i) ws)) k false ≡ watches_item i (get_or ws k None)
+padded_flag ws i k = behind ws i (128 - length (map (watches_item i) ws)) k
 
 pub padded_long : (fs : List Bool) → length fs ≤ 128 → length (padded fs) ≡ 128
 padded_long fs few = let n = length-append fs (replicate (128 - length fs) false) in let m = length-replicate {A = Bool} (128 - length fs) false in omega (arith, n, m, few)

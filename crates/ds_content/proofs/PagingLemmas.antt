@@ -1,6 +1,6 @@
 -- Pages of what is held.
 use Rattle.std.proofs.Common.{◌≡◌, ℕ, zero, suc, ◌+◌, ◌-◌, ◌<◌, ◌≤◌, ◌==◌, nat_le, Bool, true, false, not, cond, List, [], ◌∷◌, ◌++◌, map, filter, take, drop, length, Option, Some, None, is_none, refl, ap, ap₂, sym, ◌∙◌, arith, append_assoc, append-nil, length-append, eqb-true}
-use Rattle.std.proofs.lemmas.Bool.{leb-true, leb-false, eqb-false}
+use Rattle.std.proofs.lemmas.Bool.{eqb-false, le-leb, lt-leb}
 use Rattle.std.proofs.lemmas.Option.{same_Some}
 use Rattle.std.proofs.lemmas.List.{map-append, take-append-drop}
 use Rattle.std.proofs.lemmas.List.Elements.{filter-append}
@@ -11,13 +11,13 @@ use Rattle.ds_entry.specs.Item.{passes}
 use Rattle.ds_entry.specs.declared.floor.Floor.{Floor}
 use Rattle.ds_entry.specs.declared.item.Item.{Item}
 use Rattle.ds_entry.specs.declared.item.Item.TheVariants.{Change as Changed, Floor as Floored}
-use Rattle.ds_feed.specs.Page.{is_behind, still_to_come, floors_of, changes_of, page_of}
+use Rattle.ds_feed.specs.Page.{is_behind_key, still_to_come, floors_of, changes_of, page_of}
 use Rattle.ds_feed.specs.declared.cursor.Cursor.{Cursor}
 use Rattle.ds_feed.specs.declared.reading.Page.{Page}
 use Rattle.ds_held.specs.Held.{Holding, held_items, held_changes, held_floors, change_item}
 use Rattle.ds_held.specs.Kept.{floored}
 use Rattle.ds_join.specs.Reading.{comes_after}
-use Rattle.ds_content.specs.Paging.{admitted, to_come, more_after, given, ArePaged}
+use Rattle.ds_content.specs.Paging.{admitted, to_come, more_after, given_change, ChangesArePaged}
 use Rattle.ds_content.proofs.FlagLemmas.{few_taken, past_end}
 use Rattle.ds_content.proofs.HoldingLemmas.{items_floored}
 
@@ -26,20 +26,6 @@ front : (xs ys : List ChangeRecord) → take (length xs) (xs ++ ys) ≡ xs
 front [] [] = refl
 front [] (y ∷ ys) = refl
 front (x ∷ xs) ys = ap (λ l. x ∷ l) (front xs ys)
-
-le_false : (m n : ℕ) → n < m → nat_le m n ≡ false
-le_false m n l = by_test (nat_le m n) refl
-  where
-    by_test : (b : Bool) → nat_le m n ≡ b → b ≡ false
-    by_test false q = refl
-    by_test true q = let few = leb-true m n q in absurd (omega (arith, few, l))
-
-le_true : (m n : ℕ) → m ≤ n → nat_le m n ≡ true
-le_true m n l = by_test (nat_le m n) refl
-  where
-    by_test : (b : Bool) → nat_le m n ≡ b → b ≡ true
-    by_test true e = refl
-    by_test false e = let more = leb-false m n e in absurd (omega (arith, more, l))
 
 -- ---- one change after the other
 split : (i : ℕ) (cs : List ChangeRecord) (c : ChangeRecord) → slice_get cs i ≡ Some c → (take (i + 1) cs ≡ take i cs ++ c ∷ []) × (drop i cs ≡ c ∷ drop (i + 1) cs)
@@ -53,7 +39,7 @@ split (suc i) (d ∷ cs) c e =
     )
 
 -- where no more may be given, none is
-none_given : (b : Bool) (left : ℕ) (c : ChangeRecord) → None ≡ more_after b left → given b left c ≡ []
+none_given : (b : Bool) (left : ℕ) (c : ChangeRecord) → None ≡ more_after b left → given_change b left c ≡ []
 none_given false left c m = absurd (cc)
 none_given true left c m = by_left (left == 0) m
   where
@@ -62,10 +48,10 @@ none_given true left c m = by_left (left == 0) m
     by_left false m = absurd (cc)
 
 module _ (keep : Key → Bool) (cs : List ChangeRecord) (max : ℕ) (start : List Item) where
-  pub paged_starts : ArePaged keep cs 0 max max start start
+  pub paged_starts : ChangesArePaged keep cs 0 max max start start
   paged_starts = record { items_are = sym (append-nil start); count = omega arith }
 
-  module _ (seen left : ℕ) (items : List Item) (p : ArePaged keep cs seen max left start items) where
+  module _ (seen left : ℕ) (items : List Item) (p : ChangesArePaged keep cs seen max left start items) where
     abbrev done : List ChangeRecord
     done = admitted keep (take seen cs)
 
@@ -75,7 +61,7 @@ module _ (keep : Key → Bool) (cs : List ChangeRecord) (max : ℕ) (start : Lis
         let whole : done ≡ admitted keep cs = ap (admitted keep) (few_taken seen cs all) in
         let few : length (admitted keep cs) ≤ max = omega (arith, ap (λ (l : List ChangeRecord). length l) whole, p.count) in (
           p.items_are ∙ ap (λ l. start ++ map change_item l) (whole ∙ sym (few_taken max (admitted keep cs) few)),
-          le_true (length (admitted keep cs)) max few,
+          le-leb (length (admitted keep cs)) max few,
         )
 
     module _ (c : ChangeRecord) (found : slice_get cs seen ≡ Some c) where
@@ -97,18 +83,18 @@ module _ (keep : Key → Bool) (cs : List ChangeRecord) (max : ℕ) (start : Lis
               let more : length (admitted keep cs) ≡ length done + length (c ∷ tail) = ap (λ (l : List ChangeRecord). length l) (sym all) ∙ length-append done (c ∷ tail) in
               let over : max < length (admitted keep cs) = omega (arith, more, long) in (
                 p.items_are ∙ ap (λ l. start ++ map change_item l) (sym (ap₂ (λ n (l : List ChangeRecord). take n l) (sym long) (sym all) ∙ front done (c ∷ tail))),
-                le_false (length (admitted keep cs)) max over,
+                lt-leb (length (admitted keep cs)) max over,
               )
 
       -- then it isn't added
-      pub paged_stops : (b : Bool) → keep c.key ≡ b → None ≡ more_after b left → (added : List Item) → added ≡ items ++ map change_item (given b left c) → added ≡ start ++ map change_item (take max (admitted keep cs))
+      pub paged_stops : (b : Bool) → keep c.key ≡ b → None ≡ more_after b left → (added : List Item) → added ≡ items ++ map change_item (given_change b left c) → added ≡ start ++ map change_item (take max (admitted keep cs))
       paged_stops b e m added is = is ∙ ap (λ l. items ++ map change_item l) (none_given b left c m) ∙ append-nil items ∙ (paged_full b e m).0
 
       -- it is passed, or given
       next_is : (b : Bool) → keep c.key ≡ b → admitted keep (take (seen + 1) cs) ≡ done ++ cond b (c ∷ []) []
       next_is b e = ap (admitted keep) (split seen cs c found).0 ∙ filter-append (λ (x : ChangeRecord). keep x.key) (take seen cs) (c ∷ []) ∙ ap (λ x. done ++ cond x (c ∷ []) []) e
 
-      pub paged_more : (b : Bool) → keep c.key ≡ b → (more : ℕ) → Some more ≡ more_after b left → (added : List Item) → added ≡ items ++ map change_item (given b left c) → ArePaged keep cs (seen + 1) max more start added
+      pub paged_more : (b : Bool) → keep c.key ≡ b → (more : ℕ) → Some more ≡ more_after b left → (added : List Item) → added ≡ items ++ map change_item (given_change b left c) → ChangesArePaged keep cs (seen + 1) max more start added
       paged_more false e more m added is =
           let next : admitted keep (take (seen + 1) cs) ≡ done = next_is false e ∙ append-nil done in
           record {
@@ -117,7 +103,7 @@ module _ (keep : Key → Bool) (cs : List ChangeRecord) (max : ℕ) (start : Lis
           }
       paged_more true e more m added is = by_left (left == 0) refl m is
         where
-          by_left : (z : Bool) → (left == 0) ≡ z → Some more ≡ cond z None (Some (left - 1)) → added ≡ items ++ map change_item (cond (not z) (c ∷ []) []) → ArePaged keep cs (seen + 1) max more start added
+          by_left : (z : Bool) → (left == 0) ≡ z → Some more ≡ cond z None (Some (left - 1)) → added ≡ items ++ map change_item (cond (not z) (c ∷ []) []) → ChangesArePaged keep cs (seen + 1) max more start added
           by_left true q m is = absurd (cc)
           by_left false q m is =
               let same : more ≡ left - 1 = cc in
@@ -131,17 +117,17 @@ module _ (keep : Key → Bool) (cs : List ChangeRecord) (max : ℕ) (start : Lis
 
 -- ---- the page
 module _ (keep : Key → Bool) where
-  behind_is : (after : Option Key) (c : ChangeRecord) → is_behind after (Changed c) ≡ comes_after after c
+  behind_is : (after : Option Key) (c : ChangeRecord) → is_behind_key after (Changed c) ≡ comes_after after c
   behind_is None c = refl
   behind_is (Some a) c = refl
 
   -- of the changes
   changes_to_come : (after : Option Key) (cs : List ChangeRecord) → still_to_come (passes keep) after (map change_item cs) ≡ map change_item (to_come keep after cs)
   changes_to_come after [] = refl
-  changes_to_come after (c ∷ cs) = by_test (changes_to_come after cs) (keep c.key) (is_behind after (Changed c)) (comes_after after c) refl refl (behind_is after c)
+  changes_to_come after (c ∷ cs) = by_test (changes_to_come after cs) (keep c.key) (is_behind_key after (Changed c)) (comes_after after c) refl refl (behind_is after c)
     where
-      by_test : still_to_come (passes keep) after (map change_item cs) ≡ map change_item (to_come keep after cs) → (k b d : Bool) → keep c.key ≡ k → is_behind after (Changed c) ≡ b → b ≡ d
-          → filter (is_behind after) (cond k (Changed c ∷ filter (passes keep) (map change_item cs)) (filter (passes keep) (map change_item cs))) ≡ map change_item (filter (λ (x : ChangeRecord). keep x.key) (cond d (c ∷ filter (comes_after after) cs) (filter (comes_after after) cs)))
+      by_test : still_to_come (passes keep) after (map change_item cs) ≡ map change_item (to_come keep after cs) → (k b d : Bool) → keep c.key ≡ k → is_behind_key after (Changed c) ≡ b → b ≡ d
+          → filter (is_behind_key after) (cond k (Changed c ∷ filter (passes keep) (map change_item cs)) (filter (passes keep) (map change_item cs))) ≡ map change_item (filter (λ (x : ChangeRecord). keep x.key) (cond d (c ∷ filter (comes_after after) cs) (filter (comes_after after) cs)))
       by_test rest k true false e f g = absurd (cc)
       by_test rest k false true e f g = absurd (cc)
       by_test rest true true true e f g = rw (e, f) (ap (λ l. Changed c ∷ l) rest)

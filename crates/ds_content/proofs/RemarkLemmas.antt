@@ -23,12 +23,13 @@ use Rattle.ds_watch.specs.Mask.{padded}
 use Rattle.ds_watch.specs.Masks.{shown_to, made_at}
 use Rattle.ds_watch.specs.Watching.{Watching, watching}
 use Rattle.ds_watch.specs.declared.masks.Masks.{Masks}
-use Rattle.ds_machine.specs.Scope.{is_item_under}
-use Rattle.ds_content.specs.Followed.{watches}
+use Rattle.ds_content.specs.Followed.{watches_item}
 use Rattle.ds_content.specs.Kept.{AreMarked, masks_at, under_at, unseen_at}
 use Rattle.ds_content.specs.Marking.{IsSet, IsRemarked, AreRemarked}
 use Rattle.ds_content.proofs.FlagLemmas.{apart, index_of, index_among, cleared, below_or_not, below_or_at}
 use Rattle.ds_content.proofs.HoldingLemmas.{floor_item_at, change_item_at, top_itself}
+use Rattle.ds_pattern.specs.Under.{is_under}
+use Rattle.ds_entry.specs.Item.{passes}
 
 -- ---- other masks for one item
 module _ (old new : MarkedHolding Masks) (sound : IsSound old.held) (index : ℕ) (m : Masks) (held : new.held ≡ old.held) where
@@ -169,11 +170,11 @@ made_others sub k u i None n = refl
 made_others sub k u i (Some m) n = get_or-set_other m.unseen sub k (u && i) false n
 
 -- another stamp leaves the items that are asked for
-same_watches : (i : Item) (ws : List (Option Watching)) (sub : ℕ) (w : Watching) (stamp : ℕ) → get_or ws sub None ≡ Some w → map (watches i) (set ws sub (Some (watching w.query stamp))) ≡ map (watches i) ws
+same_watches : (i : Item) (ws : List (Option Watching)) (sub : ℕ) (w : Watching) (stamp : ℕ) → get_or ws sub None ≡ Some w → map (watches_item i) (set ws sub (Some (watching w.query stamp))) ≡ map (watches_item i) ws
 same_watches i [] zero w stamp e = refl
 same_watches i [] (suc sub) w stamp e = refl
-same_watches i (x ∷ ws) zero w stamp e = ap (λ o. watches i o ∷ map (watches i) ws) (sym e)
-same_watches i (x ∷ ws) (suc sub) w stamp e = ap (λ l. watches i x ∷ l) (same_watches i ws sub w stamp e)
+same_watches i (x ∷ ws) zero w stamp e = ap (λ o. watches_item i o ∷ map (watches_item i) ws) (sym e)
+same_watches i (x ∷ ws) (suc sub) w stamp e = ap (λ l. watches_item i x ∷ l) (same_watches i ws sub w stamp e)
 
 -- ---- after something was shown
 module _ (old new : MarkedHolding Masks) (count sub : ℕ) (all : AreRemarked old new count (λ k. shown_to sub)) where
@@ -223,38 +224,38 @@ padded_set : (fs : List Bool) (sub : ℕ) (b : Bool) → sub < length fs → set
 padded_set fs sub b l =
     set_padded fs (replicate (128 - length fs) false) sub b l ∙ ap (λ n. set fs sub b ++ replicate (128 - n) false) (sym (length-set fs sub b))
 
-module _ (old new : MarkedHolding Masks) (sub : ℕ) (place : sub < 128) (q : Query) (initial : Bool) (flags : List Bool) (is : flags ≡ map (is_item_under q) (held_items old.held))
+module _ (old new : MarkedHolding Masks) (sub : ℕ) (place : sub < 128) (q : Query) (initial : Bool) (flags : List Bool) (is : flags ≡ map (passes (is_under q)) (held_items old.held))
     (all : AreRemarked old new (length flags) (λ k. made_at sub (get_or flags k false) initial)) where
   -- each held item has the masks after it was made
-  made_each : (i : Item) → Contains (held_items old.held) i → masks_at new i ≡ option_map (made_at sub (is_item_under q i) initial) (masks_at old i)
+  made_each : (i : Item) → Contains (held_items old.held) i → masks_at new i ≡ option_map (made_at sub (passes (is_under q) i) initial) (masks_at old i)
   made_each i h =
       let at = index_of (held_items old.held) i h in
       let within : at.0 < length (held_items old.held) = slice_get_within (held_items old.held) at.0 i at.1 in
-      let long : length flags ≡ length (held_items old.held) = ap (λ (fs : List Bool). length fs) is ∙ length-map (held_items old.held) (is_item_under q) in
-      let flag : get_or flags at.0 false ≡ is_item_under q i =
-      ap (λ (fs : List Bool). get_or fs at.0 false) is ∙ get_or-map (is_item_under q) (held_items old.held) at.0 i false within
-      ∙ ap (is_item_under q) (get_or_from_slice_get (held_items old.held) at.0 i i at.1) in
+      let long : length flags ≡ length (held_items old.held) = ap (λ (fs : List Bool). length fs) is ∙ length-map (held_items old.held) (passes (is_under q)) in
+      let flag : get_or flags at.0 false ≡ passes (is_under q) i =
+      ap (λ (fs : List Bool). get_or fs at.0 false) is ∙ get_or-map (passes (is_under q)) (held_items old.held) at.0 i false within
+      ∙ ap (passes (is_under q)) (get_or_from_slice_get (held_items old.held) at.0 i i at.1) in
       all.first at.0 i at.1 (omega (arith, within, long)) ∙ ap (λ b. option_map (made_at sub b initial) (masks_at old i)) flag
 
   here_too : (i : Item) → Contains (held_items new.held) i → Contains (held_items old.held) i
   here_too i h = subst (λ (x : Holding). Contains (held_items x) i) all.held h
 
-  pub made_flag : (i : Item) → Contains (held_items old.held) i → length (unseen_at old i) ≡ 128 → get_or (unseen_at new i) sub false ≡ is_item_under q i && initial
+  pub made_flag : (i : Item) → Contains (held_items old.held) i → length (unseen_at old i) ≡ 128 → get_or (unseen_at new i) sub false ≡ passes (is_under q) i && initial
   made_flag i h long =
-      ap (λ (o : Option Masks). get_or (option_map_or (λ (m : Masks). m.unseen) o []) sub false) (made_each i h) ∙ made_here sub (is_item_under q i) initial (masks_at old i) place long
+      ap (λ (o : Option Masks). get_or (option_map_or (λ (m : Masks). m.unseen) o []) sub false) (made_each i h) ∙ made_here sub (passes (is_under q) i) initial (masks_at old i) place long
 
   pub made_other : (i : Item) → Contains (held_items old.held) i → (k : ℕ) → (k ≡ sub → ⊥) → get_or (unseen_at new i) k false ≡ get_or (unseen_at old i) k false
   made_other i h k n =
-      ap (λ (o : Option Masks). get_or (option_map_or (λ (m : Masks). m.unseen) o []) k false) (made_each i h) ∙ made_others sub k (is_item_under q i) initial (masks_at old i) n
+      ap (λ (o : Option Masks). get_or (option_map_or (λ (m : Masks). m.unseen) o []) k false) (made_each i h) ∙ made_others sub k (passes (is_under q) i) initial (masks_at old i) n
 
   -- and the content is marked by its subscriptions
   pub made_marked : (ws : List (Option Watching)) (w : Watching) → sub < length ws → w.query ≡ q → AreMarked old ws → AreMarked new (set ws sub (Some w))
   made_marked ws w within same are = record {
     under = λ i h.
         (let k = here_too i h in
-        let few : sub < length (map (watches i) ws) = subst (λ n. sub < n) (sym (length-map ws (watches i))) within in
-        ap (λ (o : Option Masks). option_map_or (λ (m : Masks). m.under) o []) (made_each i k) ∙ made_under sub (is_item_under q i) initial (masks_at old i) (are.long i k)
-        ∙ ap₂ (λ fs b. set fs sub b) (are.under i k) (ap (λ (x : Query). is_item_under x i) (sym same)) ∙ padded_set (map (watches i) ws) sub (is_item_under w.query i) few
-        ∙ ap padded (sym (map-set (watches i) ws sub (Some w))));
-    long = λ i h. ap (λ (o : Option Masks). length (option_map_or (λ (m : Masks). m.unseen) o [])) (made_each i (here_too i h)) ∙ made_long sub (is_item_under q i) initial (masks_at old i) ∙ are.long i (here_too i h);
+        let few : sub < length (map (watches_item i) ws) = subst (λ n. sub < n) (sym (length-map ws (watches_item i))) within in
+        ap (λ (o : Option Masks). option_map_or (λ (m : Masks). m.under) o []) (made_each i k) ∙ made_under sub (passes (is_under q) i) initial (masks_at old i) (are.long i k)
+        ∙ ap₂ (λ fs b. set fs sub b) (are.under i k) (ap (λ (x : Query). passes (is_under x) i) (sym same)) ∙ padded_set (map (watches_item i) ws) sub (passes (is_under w.query) i) few
+        ∙ ap padded (sym (map-set (watches_item i) ws sub (Some w))));
+    long = λ i h. ap (λ (o : Option Masks). length (option_map_or (λ (m : Masks). m.unseen) o [])) (made_each i (here_too i h)) ∙ made_long sub (passes (is_under q) i) initial (masks_at old i) ∙ are.long i (here_too i h);
   }

@@ -15,17 +15,18 @@ use Rattle.ds_join.proofs.ItemTopLemmas.{held_apart}
 use Rattle.ds_pattern.specs.declared.query.Query.{Query}
 use Rattle.ds_watch.specs.Followed.{Followed}
 use Rattle.ds_watch.specs.Watching.{Watching, watching}
-use Rattle.ds_machine.specs.Limits.{last_place}
-use Rattle.ds_machine.specs.Scope.{is_item_under}
 use Rattle.ds_machine.specs.Subscription.{Subscription, is_unseen}
 use Rattle.ds_machine.specs.State.{State, held, subscription_at, subscribes}
 use Rattle.ds_machine.specs.Watching.{shown_at_first}
 use Rattle.ds_machine.proofs.ReachedLemmas.{held_is_top, reached_served}
 use Rattle.ds_content.specs.Content.{ContentRecord}
 use Rattle.ds_content.specs.Followed.{followed_of, followed_by, followed_from}
-use Rattle.ds_content.specs.Stands.{Stands}
+use Rattle.ds_content.specs.Stands.{ContentStands}
 use Rattle.ds_content.proofs.FlagLemmas.{tests_at, flags_same, filter_same, index_of, index_among, index_in_take, among_take, apart, at_map, below_or_not}
 use Rattle.ds_content.proofs.MarkLemmas.{followed_same, and_true, none_more}
+use Rattle.ds_names.specs.Limits.{last_place}
+use Rattle.ds_pattern.specs.Under.{is_under}
+use Rattle.ds_entry.specs.Item.{passes}
 
 and_false : (b : Bool) → b && false ≡ false
 and_false true = refl
@@ -63,13 +64,13 @@ module _ (hs : List Item) (u v : Item → List Bool) (target : ℕ) (others : (x
 
 -- ---- a subscription that is made
 -- all that is held under the query is to be shown at first, and nothing where all that is held was shown
-first_flag : (q : Query) (initial : Bool) (hs : List Item) (x : Item) → Contains hs x → is_item_under q x && initial ≡ is_unseen q (shown_at_first hs initial) x
+first_flag : (q : Query) (initial : Bool) (hs : List Item) (x : Item) → Contains hs x → passes (is_under q) x && initial ≡ is_unseen q (shown_at_first hs initial) x
 first_flag q true hs x h = refl
 first_flag q false hs x h =
     let shown_it = list_any-from_Contains (λ (j : Item). covers j x) hs x h (covers-refl x) in
-    sym (ap (λ b. is_item_under q x && not b) shown_it)
+    sym (ap (λ b. passes (is_under q) x && not b) shown_it)
 
-pub made_so : (q : Query) (stamp : ℕ) (initial : Bool) (hs : List Item) (v : Item → List Bool) (sub : ℕ) → ((x : Item) → Contains hs x → get_or (v x) sub false ≡ is_item_under q x && initial)
+pub made_so : (q : Query) (stamp : ℕ) (initial : Bool) (hs : List Item) (v : Item → List Bool) (sub : ℕ) → ((x : Item) → Contains hs x → get_or (v x) sub false ≡ passes (is_under q) x && initial)
     → followed_by hs v sub (watching q stamp) ≡ followed_of hs (record { query = q; stamp = stamp; shown = shown_at_first hs initial })
 made_so q stamp initial hs v sub here =
     followed_same refl refl (flags_same (λ (x : Item). get_or (v x) sub false) (is_unseen q (shown_at_first hs initial)) hs (λ x h. here x h ∙ first_flag q initial hs x h))
@@ -133,8 +134,8 @@ module _ (hs set_of : List Item) (top : IsTop hs set_of) (u : Item → List Bool
       where
         split : is_unseen sub.query (sub.shown ++ items) x ≡ is_unseen sub.query sub.shown x && not (list_any (λ j. covers j x) items)
         split =
-            ap (λ b. is_item_under sub.query x && not b) (list_any-append (λ (j : Item). covers j x) sub.shown items)
-            ∙ not_either (is_item_under sub.query x) (list_any (λ j. covers j x) sub.shown) (list_any (λ j. covers j x) items)
+            ap (λ b. passes (is_under sub.query) x && not b) (list_any-append (λ (j : Item). covers j x) sub.shown items)
+            ∙ not_either (passes (is_under sub.query) x) (list_any (λ j. covers j x) sub.shown) (list_any (λ j. covers j x) items)
 
         by_place : (k : ℕ) → slice_get hs k ≡ Some x → (k < n) ⊎ (n ≤ k) → get_or (v x) place false ≡ is_unseen sub.query sub.shown x && not (list_any (λ j. covers j x) items)
         by_place k at (inl l) = first k x at l ∙ sym (shown_first k x at l)
@@ -147,10 +148,10 @@ module _ (hs set_of : List Item) (top : IsTop hs set_of) (u : Item → List Bool
         (flags_same (λ (x : Item). get_or (v x) place false) (is_unseen sub.query (sub.shown ++ items)) hs shown_flag)
 
 -- ---- the state with a subscription made or shown something, where only the flags of its place became others
-pub stands_subscribed : (x : ContentRecord) (s : State) (sub : ℕ) (query : Query) (seen : List Item) (u v : Item → List Bool) (ws : List (Option Watching)) (w : Watching) → Stands x s → x.subscriptions ≡ followed_from x.held u 0 ws
+pub stands_subscribed : (x : ContentRecord) (s : State) (sub : ℕ) (query : Query) (seen : List Item) (u v : Item → List Bool) (ws : List (Option Watching)) (w : Watching) → ContentStands x s → x.subscriptions ≡ followed_from x.held u 0 ws
     → ((i : Item) → Contains x.held i → (k : ℕ) → (k ≡ sub → ⊥) → get_or (v i) k false ≡ get_or (u i) k false)
     → followed_by x.held v sub w ≡ followed_of x.held (record { query = query; stamp = x.stamp + 1; shown = seen }) → IsPartOf seen s.feed.accepted → sub < x.limits.subs → x.stamp < last_place
-    → Stands (record x { stamp = x.stamp + 1; subscriptions = followed_from x.held v 0 (set ws sub (Some w)) }) (subscribes s sub query seen)
+    → ContentStands (record x { stamp = x.stamp + 1; subscriptions = followed_from x.held v 0 (set ws sub (Some w)) }) (subscribes s sub query seen)
 stands_subscribed x s sub query seen u v ws w stands is others same part place room =
     let made : Subscription = record { query = query; stamp = s.stamp + 1; shown = seen } in
     let after : followed_by x.held v sub w ≡ followed_of (held s) made =
@@ -171,7 +172,7 @@ stands_subscribed x s sub query seen u v ws w stands is others same part place r
     }
 
 -- what a new subscription begins with had been accepted
-pub first_part : (x : ContentRecord) (s : State) → Stands x s → (initial : Bool) → IsPartOf (shown_at_first x.held initial) s.feed.accepted
+pub first_part : (x : ContentRecord) (s : State) → ContentStands x s → (initial : Bool) → IsPartOf (shown_at_first x.held initial) s.feed.accepted
 first_part x s stands true i h = absurd (Contains-nil i h)
 first_part x s stands false i h = (held_is_top s stands.reached).among i (subst (λ (hs : List Item). Contains hs i) stands.held h)
 
@@ -181,10 +182,10 @@ pub record Twin (v : ContentRecord) (s : State) (sub : ℕ) (u : Item → List B
   pub here : subscription_at s sub ≡ Some seer
   pub same : followed_by v.held u sub w ≡ followed_of v.held seer
 
-pub place_of : (v : ContentRecord) (s : State) → Stands v s → (sub : ℕ) → get_or v.subscriptions sub None ≡ option_map (followed_of (held s)) (subscription_at s sub)
+pub place_of : (v : ContentRecord) (s : State) → ContentStands v s → (sub : ℕ) → get_or v.subscriptions sub None ≡ option_map (followed_of (held s)) (subscription_at s sub)
 place_of v s stands sub = ap (λ (l : List (Option Followed)). get_or l sub None) stands.subscriptions ∙ at_map (followed_of (held s)) s.subscriptions sub
 
-pub twin : (v : ContentRecord) (s : State) (sub : ℕ) (u : Item → List Bool) (ws : List (Option Watching)) (w : Watching) → Stands v s → v.subscriptions ≡ followed_from v.held u 0 ws → get_or ws sub None ≡ Some w → Twin v s sub u w
+pub twin : (v : ContentRecord) (s : State) (sub : ℕ) (u : Item → List Bool) (ws : List (Option Watching)) (w : Watching) → ContentStands v s → v.subscriptions ≡ followed_from v.held u 0 ws → get_or ws sub None ≡ Some w → Twin v s sub u w
 twin v s sub u ws w stands is at = by_place (subscription_at s sub) refl
   where
     there : Some (followed_by v.held u sub w) ≡ option_map (followed_of (held s)) (subscription_at s sub)
@@ -199,7 +200,7 @@ twin v s sub u ws w stands is at = by_place (subscription_at s sub) refl
         record { seer = seer; here = e; same = one ∙ ap (λ hs. followed_of hs seer) (sym stands.held) }
 
 -- what it was shown, with more of what is held, had been accepted
-pub shown_part : (v : ContentRecord) (s : State) (sub : ℕ) (seer : Subscription) (items : List Item) → Stands v s → subscription_at s sub ≡ Some seer → IsPartOf items v.held → IsPartOf (seer.shown ++ items) s.feed.accepted
+pub shown_part : (v : ContentRecord) (s : State) (sub : ℕ) (seer : Subscription) (items : List Item) → ContentStands v s → subscription_at s sub ≡ Some seer → IsPartOf items v.held → IsPartOf (seer.shown ++ items) s.feed.accepted
 shown_part v s sub seer items stands at part i h = elim (Contains-append_cases seer.shown items i h) [
   | inl k ↦ (stands.reached.served sub seer at).shown i k
   | inr k ↦ (held_is_top s stands.reached).among i (subst (λ (hs : List Item). Contains hs i) stands.held (part i k))

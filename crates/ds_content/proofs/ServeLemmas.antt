@@ -14,8 +14,6 @@ use Rattle.ds_watch.specs.Followed.{Followed}
 use Rattle.ds_watch.specs.Masks.{shown_to, made_at}
 use Rattle.ds_watch.specs.Watching.{Watching, watching}
 use Rattle.ds_watch.specs.declared.masks.Masks.{Masks}
-use Rattle.ds_machine.specs.Limits.{last_place}
-use Rattle.ds_machine.specs.Scope.{is_item_under}
 use Rattle.ds_machine.specs.Subscription.{Subscription, is_unseen}
 use Rattle.ds_machine.specs.State.{State, held, unseen, subscription_at, subscribes}
 use Rattle.ds_machine.specs.Watching.{shown_at_first, has_unseen}
@@ -24,13 +22,16 @@ use Rattle.ds_content.specs.Followed.{followed_of, followed_by, followed_from}
 use Rattle.ds_content.specs.Kept.{AreMarked, unseen_at}
 use Rattle.ds_content.specs.Marking.{AreRemarked}
 use Rattle.ds_content.specs.Shown.{flagged, AreUnseen, AreFirst, is_to_show}
-use Rattle.ds_content.specs.Stands.{Stands}
+use Rattle.ds_content.specs.Stands.{ContentStands}
 use Rattle.ds_content.proofs.EnterLemmas.{value_of, few_places}
 use Rattle.ds_content.proofs.FlagLemmas.{taken_first, all_taken, few_taken}
 use Rattle.ds_content.proofs.HoldingLemmas.{top_itself}
 use Rattle.ds_content.proofs.MarkLemmas.{none_more}
 use Rattle.ds_content.proofs.RemarkLemmas.{check_others, check_first, check_rest, made_flag, made_other}
 use Rattle.ds_content.proofs.SeenLemmas.{at_from, made_so, to_show_is, shown_so, stands_subscribed, first_part, place_of, twin, shown_part}
+use Rattle.ds_names.specs.Limits.{last_place}
+use Rattle.ds_pattern.specs.Under.{is_under}
+use Rattle.ds_entry.specs.Item.{passes}
 
 -- ---- flags
 flagged_none : (fs : List Bool) → flagged fs [] ≡ []
@@ -99,7 +100,7 @@ module _ (h : MarkedHolding Masks) (ws : List (Option Watching)) (sub : ℕ) whe
           is ∙ sym (flagged_are (is_to_show h sub) passed (held_items h.held)) ∙ ap (λ (x : Followed). flagged x.unseen (take passed (held_items h.held))) same
 
   -- ---- what the masks say is what the state says
-  module _ (sound : IsSound h.held) (journal : Kept) (stamp : ℕ) (s : State) (stands : Stands (value_of h journal stamp ws) s) (seer : Subscription) (here : subscription_at s sub ≡ Some seer) where
+  module _ (sound : IsSound h.held) (journal : Kept) (stamp : ℕ) (s : State) (stands : ContentStands (value_of h journal stamp ws) s) (seer : Subscription) (here : subscription_at s sub ≡ Some seer) where
     kept_place : (o : Option Watching) → get_or ws sub None ≡ o → (w : Watching) × (get_or ws sub None ≡ Some w)
     kept_place (Some w) q = (w, q)
     kept_place None q =
@@ -130,14 +131,14 @@ module _ (old new : MarkedHolding Masks) (journal : Kept) (stamp : ℕ) (ws : Li
   seat = omega (arith, within, places)
 
   moved : (s : State) (t : State) (w : Watching) → new.held ≡ old.held
-      → Stands (record { held = held_items old.held; journal = journal; limits = old.held.limits; stamp = stamp + 1; subscriptions = followed_from (held_items old.held) (unseen_at new) 0 (set ws sub (Some w)) }) t → Stands (value_of new journal (stamp + 1) (set ws sub (Some w))) t
+      → ContentStands (record { held = held_items old.held; journal = journal; limits = old.held.limits; stamp = stamp + 1; subscriptions = followed_from (held_items old.held) (unseen_at new) 0 (set ws sub (Some w)) }) t → ContentStands (value_of new journal (stamp + 1) (set ws sub (Some w))) t
   moved s t w e stood =
-      subst (λ (h : Holding). Stands (record { held = held_items h; journal = journal; limits = h.limits; stamp = stamp + 1; subscriptions = followed_from (held_items h) (unseen_at new) 0 (set ws sub (Some w)) }) t) (sym e) stood
+      subst (λ (h : Holding). ContentStands (record { held = held_items h; journal = journal; limits = h.limits; stamp = stamp + 1; subscriptions = followed_from (held_items h) (unseen_at new) 0 (set ws sub (Some w)) }) t) (sym e) stood
 
   -- made anew
-  module _ (q : Query) (initial : Bool) (flags : List Bool) (is : flags ≡ map (is_item_under q) (held_items old.held)) (place : sub < 128)
+  module _ (q : Query) (initial : Bool) (flags : List Bool) (is : flags ≡ map (passes (is_under q)) (held_items old.held)) (place : sub < 128)
       (all : AreRemarked old new (length flags) (λ k. made_at sub (get_or flags k false) initial)) (are : AreMarked old ws) where
-    pub made_stands : (s : State) → Stands (value_of old journal stamp ws) s → Stands (value_of new journal (stamp + 1) (set ws sub (Some (watching q (stamp + 1))))) (subscribes s sub q (shown_at_first (held_items old.held) initial))
+    pub made_stands : (s : State) → ContentStands (value_of old journal stamp ws) s → ContentStands (value_of new journal (stamp + 1) (set ws sub (Some (watching q (stamp + 1))))) (subscribes s sub q (shown_at_first (held_items old.held) initial))
     made_stands s stands =
         moved s (subscribes s sub q (shown_at_first (held_items old.held) initial)) (watching q (stamp + 1)) all.held
         (stands_subscribed (value_of old journal stamp ws) s sub q (shown_at_first (held_items old.held) initial) (unseen_at old) (unseen_at new) ws (watching q (stamp + 1)) stands refl
@@ -147,8 +148,8 @@ module _ (old new : MarkedHolding Masks) (journal : Kept) (stamp : ℕ) (ws : Li
 
   -- shown something
   module _ (sound : IsSound old.held) (passed : ℕ) (all : AreRemarked old new passed (λ k. shown_to sub)) where
-    pub shown_stands : (s : State) (seer : Subscription) (w : Watching) (items : List Item) → Stands (value_of old journal stamp ws) s → subscription_at s sub ≡ Some seer → get_or ws sub None ≡ Some w → items ≡ filter (is_to_show old sub) (take passed (held_items old.held))
-        → Stands (value_of new journal (stamp + 1) (set ws sub (Some (watching w.query (stamp + 1))))) (subscribes s sub seer.query (seer.shown ++ items))
+    pub shown_stands : (s : State) (seer : Subscription) (w : Watching) (items : List Item) → ContentStands (value_of old journal stamp ws) s → subscription_at s sub ≡ Some seer → get_or ws sub None ≡ Some w → items ≡ filter (is_to_show old sub) (take passed (held_items old.held))
+        → ContentStands (value_of new journal (stamp + 1) (set ws sub (Some (watching w.query (stamp + 1))))) (subscribes s sub seer.query (seer.shown ++ items))
     shown_stands s seer w items stands here at is =
         let t = twin (value_of old journal stamp ws) s sub (unseen_at old) ws w stands refl at in
         let one : t.seer ≡ seer = same_Some t.seer seer (sym t.here ∙ here) in
@@ -162,7 +163,7 @@ module _ (old new : MarkedHolding Masks) (journal : Kept) (stamp : ℕ) (ws : Li
         (shown_part (value_of old journal stamp ws) s sub seer items stands here part) seat room)
 
 -- ---- a place that is below the limit
-pub seat_here : (h : MarkedHolding Masks) (journal : Kept) (stamp : ℕ) (ws : List (Option Watching)) (v : ContentRecord) → value_of h journal stamp ws ≡ v → (s : State) → Stands (value_of h journal stamp ws) s → length ws ≡ h.held.limits.subs → (sub : ℕ) → sub < v.limits.subs → (sub < length ws) × (sub < 128)
+pub seat_here : (h : MarkedHolding Masks) (journal : Kept) (stamp : ℕ) (ws : List (Option Watching)) (v : ContentRecord) → value_of h journal stamp ws ≡ v → (s : State) → ContentStands (value_of h journal stamp ws) s → length ws ≡ h.held.limits.subs → (sub : ℕ) → sub < v.limits.subs → (sub < length ws) × (sub < 128)
 seat_here h journal stamp ws v is s stands places sub below =
     let same : h.held.limits.subs ≡ v.limits.subs = ap (λ (x : ContentRecord). x.limits.subs) is in
     let few = few_places (value_of h journal stamp ws) s (length ws) stands places in
@@ -174,12 +175,12 @@ any_flags f [] = refl
 any_flags f (x ∷ hs) = ap (λ b. f x || b) (any_flags f hs)
 
 -- a place that has a subscription
-pub few_seats : (h : MarkedHolding Masks) (journal : Kept) (stamp : ℕ) (ws : List (Option Watching)) (s : State) → Stands (value_of h journal stamp ws) s → length ws ≡ h.held.limits.subs → (sub : ℕ) (w : Watching) → get_or ws sub None ≡ Some w → sub < 128
+pub few_seats : (h : MarkedHolding Masks) (journal : Kept) (stamp : ℕ) (ws : List (Option Watching)) (s : State) → ContentStands (value_of h journal stamp ws) s → length ws ≡ h.held.limits.subs → (sub : ℕ) (w : Watching) → get_or ws sub None ≡ Some w → sub < 128
 few_seats h journal stamp ws s stands places sub w at =
     let few = few_places (value_of h journal stamp ws) s (length ws) stands places in
     let within = within_places ws sub w at in
     omega (arith, few, within)
 
 -- the state has a subscription where the content has one
-pub twin_of : (h : MarkedHolding Masks) (ws : List (Option Watching)) (sub : ℕ) (journal : Kept) (stamp : ℕ) (s : State) → Stands (value_of h journal stamp ws) s → (w : Watching) → get_or ws sub None ≡ Some w → (seer : Subscription) × (subscription_at s sub ≡ Some seer)
+pub twin_of : (h : MarkedHolding Masks) (ws : List (Option Watching)) (sub : ℕ) (journal : Kept) (stamp : ℕ) (s : State) → ContentStands (value_of h journal stamp ws) s → (w : Watching) → get_or ws sub None ≡ Some w → (seer : Subscription) × (subscription_at s sub ≡ Some seer)
 twin_of h ws sub journal stamp s stands w at = let t = twin (value_of h journal stamp ws) s sub (unseen_at h) ws w stands refl at in (t.seer, t.here)

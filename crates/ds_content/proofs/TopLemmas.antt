@@ -10,7 +10,7 @@ use Rattle.ds_entry.proofs.OrderedLemmas.{same_members}
 use Rattle.ds_entry.proofs.ItemLemmas.{covers-refl, covers-trans, items_total}
 use Rattle.ds_join.specs.ItemTop.{IsTop, IsPartOf, tops}
 use Rattle.ds_join.proofs.ItemTopLemmas.{held_apart, top_of_top}
-use Rattle.ds_machine.specs.State.{State, held, accepts}
+use Rattle.ds_machine.specs.State.{State, held, takes_effect}
 use Rattle.ds_machine.specs.Reached.{IsReached, AreExact}
 use Rattle.ds_machine.specs.Effect.{IsNews}
 use Rattle.ds_machine.proofs.ReachedLemmas.{held_is_top, reached_more}
@@ -29,12 +29,12 @@ top_is_one set top other exact t u = same_members item_cmp items_total top other
 
 -- ---- one more item
 -- what a merge or a raise leaves is what the state holds then
-pub held_more : (s : State) (i : Item) (new : List Item) → IsReached s → IsNews s.feed.accepted i → IsTop new (held s ++ i ∷ []) → new ≡ held (accepts s (i ∷ []))
+pub held_more : (s : State) (i : Item) (new : List Item) → IsReached s → IsNews s.feed.accepted i → IsTop new (held s ++ i ∷ []) → new ≡ held (takes_effect s (i ∷ []))
 held_more s i new r news t =
     let after = reached_more s i r news in
     top_is_one (s.feed.accepted ++ i ∷ []) new (tops (s.feed.accepted ++ i ∷ [])) after.exact
     (top_of_top s.feed.accepted (i ∷ []) (held s) new (held_is_top s r) t)
-    (held_is_top (accepts s (i ∷ [])) after)
+    (held_is_top (takes_effect s (i ∷ [])) after)
 
 -- an item that is news isn't held
 pub not_held : (s : State) (i : Item) → IsReached s → IsNews s.feed.accepted i → Contains (held s) i → ⊥

@@ -4,17 +4,18 @@ use Rattle.std.specs.Option.{option_map}
 use Rattle.ds_entry.specs.declared.item.Item.{Item}
 use Rattle.ds_watch.specs.Followed.{Followed}
 use Rattle.ds_watch.specs.Watching.{Watching}
-use Rattle.ds_machine.specs.Scope.{is_item_under}
 use Rattle.ds_machine.specs.Subscription.{Subscription, is_unseen}
+use Rattle.ds_pattern.specs.Under.{is_under}
+use Rattle.ds_entry.specs.Item.{passes}
 
 -- what is to be shown to the subscription of what is held
 abbrev pub followed_of : List Item → Subscription → Followed
 followed_of held sub = record { query = sub.query; stamp = sub.stamp; unseen = map (is_unseen sub.query sub.shown) held }
 
 -- there is a subscription, and the item is under its query
-abbrev pub watches : Item → Option Watching → Bool
-watches i None = false
-watches i (Some w) = is_item_under w.query i
+abbrev pub watches_item : Item → Option Watching → Bool
+watches_item i None = false
+watches_item i (Some w) = passes (is_under w.query) i
 
 -- ---- what is shown of them, where `unseen` has for each held item the flags of those that it is to be shown to
 

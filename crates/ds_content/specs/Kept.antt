@@ -10,8 +10,8 @@ use Rattle.ds_watch.specs.Watching.{Watching}
 use Rattle.ds_watch.specs.declared.masks.Masks.{Masks}
 use Rattle.ds_machine.specs.State.{State}
 use Rattle.ds_content.specs.Content.{ContentRecord}
-use Rattle.ds_content.specs.Followed.{watches, followed_from}
-use Rattle.ds_content.specs.Stands.{Stands}
+use Rattle.ds_content.specs.Followed.{watches_item, followed_from}
+use Rattle.ds_content.specs.Stands.{ContentStands}
 use Rattle.ds_content.specs.declared.content.Content.TheInside.{Inside}
 
 -- the masks beside an item
@@ -38,11 +38,11 @@ content_of s = record {
 
 -- beside each held item stand the flags of those under whose query it is, and the flags of those that it is to be shown to
 pub record AreMarked (h : MarkedHolding Masks) (ws : List (Option Watching)) : Type 0 where
-  pub under : (i : Item) → Contains (held_items h.held) i → under_at h i ≡ padded (map (watches i) ws)
+  pub under : (i : Item) → Contains (held_items h.held) i → under_at h i ≡ padded (map (watches_item i) ws)
   pub long : (i : Item) → Contains (held_items h.held) i → length (unseen_at h i) ≡ 128
 
 -- each subscription has its place, by which what is held is marked, and the content stands for some state
-pub record IsSound (s : Inside) : Type 0 where
+pub record IsContentSound (s : Inside) : Type 0 where
   pub places : length s.subscriptions ≡ s.held.held.limits.subs
   pub marked : AreMarked s.held s.subscriptions
-  pub stood : (state : State) × Stands (content_of s) state
+  pub stood : (state : State) × ContentStands (content_of s) state

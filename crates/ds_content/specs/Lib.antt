@@ -1,7 +1,7 @@
 pub mod Content
 pub mod Followed
 pub mod Stands
-pub mod Free
+pub mod Standing
 pub mod Taken
 pub mod Kept
 pub mod Marking

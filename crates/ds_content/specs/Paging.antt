@@ -19,10 +19,10 @@ abbrev pub more_after : Bool → ℕ → Option ℕ
 more_after keep left = cond keep (cond (left == 0) None (Some (left - 1))) (Some left)
 
 -- the change, where it is given
-abbrev pub given : Bool → ℕ → ChangeRecord → List ChangeRecord
-given keep left c = cond (keep && not (left == 0)) (c ∷ []) []
+abbrev pub given_change : Bool → ℕ → ChangeRecord → List ChangeRecord
+given_change keep left c = cond (keep && not (left == 0)) (c ∷ []) []
 
 -- of so many changes those under the scope were added to the items
-pub record ArePaged (keep : Key → Bool) (changes : List ChangeRecord) (seen max left : ℕ) (start items : List Item) : Type 0 where
+pub record ChangesArePaged (keep : Key → Bool) (changes : List ChangeRecord) (seen max left : ℕ) (start items : List Item) : Type 0 where
   pub items_are : items ≡ start ++ map change_item (admitted keep (take seen changes))
   pub count : length (admitted keep (take seen changes)) + left ≡ max

@@ -9,7 +9,7 @@ use Rattle.ds_content.specs.Content.{ContentRecord}
 use Rattle.ds_content.specs.Followed.{followed_of}
 
 -- the content is the state's, of which all but the items that no longer count can be read
-pub record Stands (content : ContentRecord) (state : State) : Type 0 where
+pub record ContentStands (content : ContentRecord) (state : State) : Type 0 where
   pub held : content.held ≡ held_in state
   pub journal : Keeps content.journal state.feed
   pub limits : content.limits ≡ state.limits

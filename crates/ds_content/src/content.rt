@@ -6,14 +6,14 @@ ghost use Rattle.ds_names.specs.declared.key.Key.{Key};
 ghost use Rattle.ds_entry.specs.Change.{ChangeRecord, IsChange};
 ghost use Rattle.ds_entry.specs.Void.{is_void};
 ghost use Rattle.ds_entry.specs.declared.floor.Floor.{Floor};
-ghost use Rattle.ds_feed.specs.Kept.{cursor_of, IsRing, IsOpenFault};
+ghost use Rattle.ds_feed.specs.Kept.{cursor_of, IsRing, IsJournalFault};
 ghost use Rattle.ds_held.specs.Held.{held_items, IsSound};
 ghost use Rattle.ds_held.specs.Kept.{IsPlace};
-ghost use Rattle.ds_machine.specs.Limits.{last_place};
 ghost use Rattle.ds_machine.specs.Parts.{changes_in, floors_in, held_at, floor_at};
 ghost use Rattle.ds_machine.specs.State.{State, opening};
 ghost use Rattle.ds_watch.specs.Followed.{Followed};
-ghost use Rattle.ds_content.specs.Stands.{Stands};
+ghost use Rattle.ds_content.specs.Stands.{ContentStands};
+ghost use Rattle.ds_names.specs.Limits.{last_place};
 
 use ds_entry::Change;
 use ds_feed::{Cursor, Journal, OpenFault};
@@ -51,13 +51,13 @@ pub struct Content {
 
 impl Model for Content {
     ghost use Rattle.ds_content.specs.Content.{ContentRecord};
-    ghost use Rattle.ds_content.specs.Kept.{content_of, IsSound};
+    ghost use Rattle.ds_content.specs.Kept.{content_of, IsContentSound};
 
     ghost Value = { ContentRecord };
 
     ghost view = { content_of };
 
-    ghost invariant = { IsSound };
+    ghost invariant = { IsContentSound };
 }
 
 impl Content {
@@ -70,9 +70,9 @@ impl Content {
         ring: u32,
         limits: Limits,
     ) -> Result<Content, OpenFault>
-        ensures opened { IfOk result (λ content. Stands content (opening incarnation first ring limits)) }
+        ensures opened { IfOk result (λ content. ContentStands content (opening incarnation first ring limits)) }
         ensures fits { OnOk result (IsRing ring × (first ≤ last_place)) }
-        ensures refused { IfErr result (λ fault. IsOpenFault fault first ring) }
+        ensures refused { IfErr result (λ fault. IsJournalFault fault first ring) }
     {
         let subs = limits.subs();
         let journal = Journal::new(alloc, incarnation, first, ring)?;
@@ -88,7 +88,7 @@ impl Content {
     /// Begins again as another incarnation, with nothing held, no subscriptions, and the first position, the ring and the
     /// limits that it had. It takes no memory.
     pub fn restart(&mut self, incarnation: u64)
-        ensures { (s : State) → Stands self.old s → Stands self.new (opening incarnation s.feed.first s.feed.ring s.limits) }
+        ensures { (s : State) → ContentStands self.old s → ContentStands self.new (opening incarnation s.feed.first s.feed.ring s.limits) }
     {
         let limits = self.held.held().limits();
         let _cursor = self.journal.cursor();
@@ -103,7 +103,7 @@ impl Content {
         ensures items { held_items result.now ≡ self.now.held }
         ensures limits { result.now.limits ≡ self.now.limits }
         ensures sound { IsSound result.now }
-        ensures stood { (s : State) × Stands self.now s }
+        ensures stood { (s : State) × ContentStands self.now s }
     {
         self.held.held()
     }
@@ -176,7 +176,7 @@ impl Content {
     pub fn cursor(&self) -> Cursor
         ensures value { result ≡ cursor_of self.now.journal }
         ensures limit { result.position ≤ last_place }
-        ensures stood { (s : State) × Stands self.now s }
+        ensures stood { (s : State) × ContentStands self.now s }
     {
         self.journal.cursor()
     }

@@ -6,43 +6,30 @@ use Rattle.std.specs.Cmp.Lexicographic.{other_text}
 use Rattle.ds_names.specs.declared.kind.Kind.{Kind}
 use Rattle.ds_names.specs.declared.kind.Kind.TheVariants.{Label, U32, Str, Mem}
 use Rattle.ds_names.specs.declared.version.Version.{Version}
-use Rattle.ds_names.specs.Kind.{kind_place}
+use Rattle.ds_names.specs.Kind.{kind_place, is_label}
 use Rattle.ds_entry.specs.declared.body.Value.TheVariants as values
 use Rattle.ds_entry.specs.declared.body.Body.{Body}
 use Rattle.ds_entry.specs.declared.body.Body.TheVariants.{Put, Gone}
 use Rattle.ds_entry.specs.declared.change.EntryFault.{EntryFault}
 use Rattle.ds_entry.specs.declared.change.EntryFault.TheVariants as faults
-use Rattle.ds_entry.specs.Change.{ChangeRecord, kind_of, rs_name, IsOfKind, IsLabelBody, IsBelowSweeps}
-use Rattle.ds_entry.specs.ChangeFault.{IsFaultOf}
-use Rattle.ds_entry.specs.Void.{is_label}
+use Rattle.ds_entry.specs.Change.{ChangeRecord, kind_of, IsOfKind, IsLabelBody, IsBelowSweeps, is_of_kind, is_label_body}
+use Rattle.ds_entry.specs.ChangeFault.{IsEntryFault}
 use Rattle.ds_machine.specs.Order.{first_cause, by_command, by_version, by_room}
-use Rattle.ds_machine.specs.Standing.{Standing, is_same_name}
-use Rattle.ds_machine.specs.Asking.{Request, against_asked, change_asked, is_of_kind, is_label_body, is_label_change, is_callers_version, is_rs}
+use Rattle.ds_machine.specs.Standing.{Standing}
+use Rattle.ds_machine.specs.Asking.{AskedChange, against_asked, change_asked, is_label_change, is_callers_version}
 use Rattle.ds_machine.specs.declared.refusal.Cause.{Cause}
 use Rattle.ds_machine.specs.declared.refusal.Cause.TheVariants as causes
 use Rattle.ds_machine.specs.declared.refusal.Refusal.TheVariants as refusals
 use Rattle.ds_machine.proofs.PartLemmas.{missing}
 use Rattle.ds_entry.proofs.CoversLemmas.{same_name-refl}
-use Rattle.ds_judge.specs.Asked.{is_void_under, NamesRs, IsMade}
-
-both : (a b : Bool) → a && b ≡ true → (a ≡ true) × (b ≡ true)
-both true b e = (refl, e)
-both false b e = absurd (cc)
-
-negated : (b : Bool) → not b ≡ false → b ≡ true
-negated true e = refl
-negated false e = absurd (cc)
-
-refuted : (b : Bool) → not b ≡ true → b ≡ false
-refuted true e = absurd (cc)
-refuted false e = refl
+use Rattle.ds_judge.specs.Asked.{is_void_under, NamesRs, MakesChange}
+use Rattle.ds_names.specs.Endpoint.{is_rs}
+use Rattle.ds_names.specs.Name.{is_same_name, rs_name}
+use Rattle.std.proofs.lemmas.Bool.{and_parts, eqb-true, not-false, not-true}
 
 excluded : (a b : Bool) → a && not b ≡ false → a ≡ true → b ≡ true
-excluded true b e t = negated b e
+excluded true b e t = not-false b e
 excluded false b e t = absurd (cc)
-
-same_number : (a b : ℕ) → (a == b) ≡ true → a ≡ b
-same_number a b e = grind (arith, nat_tests)
 
 positive : (n : ℕ) → not (n == 0) ≡ true → 0 < n
 positive n e = grind (arith, nat_tests)
@@ -73,11 +60,11 @@ of_kind kind (Put value) e = same_kind (kind_of value) kind e
 of_kind kind Gone e = tt
 
 label_body : (version : Version) (body : Body) → is_label_body version body ≡ true → IsLabelBody version body
-label_body version (Put (values.Label e)) t = let b = both (version.seq == 0) (version.epoch == e.generation) t in (same_number version.seq 0 b.0, same_number version.epoch e.generation b.1)
+label_body version (Put (values.Label e)) t = let b = and_parts (version.seq == 0) (version.epoch == e.generation) t in (eqb-true version.seq 0 b.0, eqb-true version.epoch e.generation b.1)
 label_body version (Put (values.U32 n)) t = absurd (cc)
 label_body version (Put (values.Str s)) t = absurd (cc)
 label_body version (Put (values.Mem s)) t = absurd (cc)
-label_body version Gone t = same_number version.seq 1 t
+label_body version Gone t = eqb-true version.seq 1 t
 
 no_label : (kind : Kind) → kind ≢ Label → not (is_label kind) ≡ true
 no_label Label n = absurd (n refl)
@@ -93,8 +80,8 @@ below_sweeps version Gone l = tt
 abbrev order : Version → List Cause
 order v = map causes.Refused by_command ++ by_version (Some v) ++ map causes.Refused by_room
 
-module _ (t : Standing) (caller : Option (List ℕ)) (a : Request) (body : Body) (named : NamesRs caller a.caller) where
-  no_fault : first_cause (Some a.version) (against_asked t caller a body) ≡ None → IsMade (change_asked caller a body)
+module _ (t : Standing) (caller : Option (List ℕ)) (a : AskedChange) (body : Body) (named : NamesRs caller a.caller) where
+  no_fault : first_cause (Some a.version) (against_asked t caller a body) ≡ None → MakesChange (change_asked caller a body)
   no_fault e fault is = by_fault fault is
       (free (causes.Refused refusals.BadKind) (4, omega arith, refl)) (free (causes.Refused refusals.BadLabel) (5, omega arith, refl))
       (free (causes.Refused refusals.BadVersion) (6, omega arith, refl)) (free (causes.Refused refusals.NotAllowed) (8, omega arith, refl))
@@ -102,27 +89,27 @@ module _ (t : Standing) (caller : Option (List ℕ)) (a : Request) (body : Body)
       free : (cause : Cause) → Contains (order a.version) cause → against_asked t caller a body cause ≡ false
       free cause h = missing (against_asked t caller a body) (order a.version) cause e h
 
-      by_fault : (fault : EntryFault) → IsFaultOf fault (change_asked caller a body) → not (is_of_kind a.key.kind body) ≡ false → is_label a.key.kind && not (is_label_change a body) ≡ false
+      by_fault : (fault : EntryFault) → IsEntryFault fault (change_asked caller a body) → not (is_of_kind a.key.kind body) ≡ false → is_label a.key.kind && not (is_label_change a body) ≡ false
           → not (is_label a.key.kind) && not (is_callers_version a) ≡ false → is_label a.key.kind && not (is_rs a.caller) ≡ false → ⊥
-      by_fault faults.BadKind is k l v r = is (of_kind a.key.kind body (negated (is_of_kind a.key.kind body) k))
+      by_fault faults.BadKind is k l v r = is (of_kind a.key.kind body (not-false (is_of_kind a.key.kind body) k))
       by_fault faults.BadLabel is k l v r =
           let labels : is_label a.key.kind ≡ true = ap is_label is.1 in
           let change = excluded (is_label a.key.kind) (is_label_change a body) l labels in
           let from_rs = excluded (is_label a.key.kind) (is_rs a.caller) r labels in
-          let name = both (not (is_same_name a.key.name rs_name)) (not (a.version.epoch == 0) && is_label_body a.version body) change in
-          let rest = both (not (a.version.epoch == 0)) (is_label_body a.version body) name.1 in
+          let name = and_parts (not (is_same_name a.key.name rs_name)) (not (a.version.epoch == 0) && is_label_body a.version body) change in
+          let rest = and_parts (not (a.version.epoch == 0)) (is_label_body a.version body) name.1 in
           is.2 (record {
             owner = ap (λ (o : Option (List ℕ)). unwrap_or o rs_name) (named from_rs);
-            name = other_text a.key.name rs_name (sym (refuted (is_same_name a.key.name rs_name) name.0));
+            name = other_text a.key.name rs_name (sym (not-true (is_same_name a.key.name rs_name) name.0));
             epoch = positive a.version.epoch rest.0;
             body = label_body a.version body rest.1;
           })
       by_fault faults.BadVersion is k l v r =
           let version = excluded (not (is_label a.key.kind)) (is_callers_version a) v (no_label a.key.kind is.1) in
-          let number = both (a.version.epoch == a.caller.generation) (not (nat_le 4294967295 a.version.seq)) version in
+          let number = and_parts (a.version.epoch == a.caller.generation) (not (nat_le 4294967295 a.version.seq)) version in
           is.2 (below_sweeps a.version body (below a.version.seq number.1))
 
-pub made_asked : (r : Option Cause) (t : Standing) (caller : Option (List ℕ)) (a : Request) (body : Body) → r ≡ first_cause (Some a.version) (against_asked t caller a body) → IfNone r (NamesRs caller a.caller → IsMade (change_asked caller a body))
+pub made_asked : (r : Option Cause) (t : Standing) (caller : Option (List ℕ)) (a : AskedChange) (body : Body) → r ≡ first_cause (Some a.version) (against_asked t caller a body) → IfNone r (NamesRs caller a.caller → MakesChange (change_asked caller a body))
 made_asked None t caller a body e = λ named. no_fault t caller a body named (let back : first_cause (Some a.version) (against_asked t caller a body) ≡ None = cc in back)
 made_asked (Some cause) t caller a body e = tt
 

@@ -8,7 +8,7 @@ use Rattle.ds_entry.specs.declared.body.Body.{Body}
 use Rattle.ds_entry.specs.Change.{ChangeRecord, change_of}
 use Rattle.ds_machine.specs.Order.{first_cause, by_version, by_room}
 use Rattle.ds_machine.specs.Standing.{Standing, against_change}
-use Rattle.ds_machine.specs.Asking.{Request, is_live, against_asked}
+use Rattle.ds_machine.specs.Asking.{AskedChange, is_live, against_asked}
 use Rattle.ds_machine.specs.declared.refusal.Cause.{Cause}
 use Rattle.ds_machine.specs.declared.refusal.Cause.TheVariants as causes
 use Rattle.ds_machine.specs.declared.refusal.Refusal.TheVariants as refusals
@@ -44,7 +44,7 @@ needs_first false true rest = refl
 needs_first false false rest = refl
 
 module _ (t : Standing) (owner : List ℕ) (x : Asked) (body : Body) where
-  abbrev a : Request
+  abbrev a : AskedChange
   a = request_of x
 
   pub asked_stands : (r : Option Cause) (cause : Cause) → r ≡ find (against_change t (change_of a.key owner a.version body)) (by_version (Some a.version)) → r ≡ Some cause → Some cause ≡ find (against_asked t (Some owner) a body) (by_held a.version)

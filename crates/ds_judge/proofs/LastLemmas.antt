@@ -12,7 +12,7 @@ use Rattle.ds_machine.specs.State.{State, held, unseen, subscription_at, owed}
 use Rattle.ds_machine.specs.Subscription.{Subscription}
 use Rattle.ds_machine.specs.Order.{first_refusal}
 use Rattle.ds_machine.specs.Standing.{standing_of, floor_standing_of}
-use Rattle.ds_machine.specs.Asking.{Request, published, deleted, name_of, asked_in, against_asked, cause_against, against_sweep, sweep_cause}
+use Rattle.ds_machine.specs.Asking.{AskedChange, published, deleted, name_of, asked_in, against_asked, cause_against, against_sweep, sweep_cause}
 use Rattle.ds_machine.specs.Calling.{against_subscribe, against_check, against_scope, against_since, against_page, against_merge}
 use Rattle.ds_machine.specs.Merging.{Course, course, merge_reply}
 use Rattle.ds_machine.specs.Watching.{subscribe_case, check_case, shows}
@@ -64,7 +64,7 @@ or_refused : (s : State) (command : Command) (o : Option Refusal) → o ≢ Some
 or_refused s command None n other last = last
 or_refused s command (Some r) n other last = refused s command r (some_refusal r n)
 
-asked : (s : State) (command : Command) (a : Request) (body : Body) → IsLast s command (asking s a body).0
+asked : (s : State) (command : Command) (a : AskedChange) (body : Body) → IsLast s command (asking s a body).0
 asked s command a body = by_cause (cause_against s a body) (no_cause (Some a.version) (against_asked (standing_of s (asked_in s a body)) (name_of (held s) a.caller) a body)) _ _
   where
     by_cause : (o : Option Cause) → o ≢ Some (causes.Refused refusals.NoRoom) → (other : ℕ) (t : State) → IsLast s command (option_map_or {U = Reply × State} (λ (cause : Cause). (answer_for cause, s)) o (replies.Changed other, t)).0

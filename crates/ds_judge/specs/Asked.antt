@@ -1,20 +1,21 @@
 -- What a caller asks, as the machine has it.
 use Rattle.std.specs.Prelude.{◌≡◌, ℕ, Bool, true, false, not, ◌&&◌, cond, List, ◌++◌, map, Option, Some, None}
 use Rattle.ds_names.specs.declared.version.Version.{Version}
-use Rattle.ds_names.specs.Endpoint.{EndpointRecord}
-use Rattle.ds_entry.specs.Change.{ChangeRecord, rs_name}
-use Rattle.ds_entry.specs.ChangeFault.{IsFaultOf}
+use Rattle.ds_names.specs.Endpoint.{EndpointRecord, is_rs}
+use Rattle.ds_entry.specs.Change.{ChangeRecord}
+use Rattle.ds_entry.specs.ChangeFault.{IsEntryFault}
 use Rattle.ds_entry.specs.Floor.{floor_of}
 use Rattle.ds_entry.specs.Void.{voids}
 use Rattle.ds_entry.specs.declared.change.EntryFault.{EntryFault}
 use Rattle.ds_machine.specs.Order.{by_version, by_room}
-use Rattle.ds_machine.specs.Asking.{Request, is_rs}
+use Rattle.ds_machine.specs.Asking.{AskedChange}
 use Rattle.ds_machine.specs.declared.refusal.Cause.{Cause}
 use Rattle.ds_machine.specs.declared.refusal.Cause.TheVariants.{Refused}
 use Rattle.ds_machine.specs.declared.refusal.Refusal.TheVariants.{Exists, NotFound}
 use Rattle.ds_judge.specs.declared.asked.Asked.{Asked}
 use Rattle.ds_judge.specs.declared.asked.Need.{Need}
 use Rattle.ds_judge.specs.declared.asked.Need.TheVariants.{NotLive, Any, Live}
+use Rattle.ds_names.specs.Name.{rs_name}
 
 -- a change may come where an entry is live
 abbrev pub over_live : Need → Bool
@@ -29,7 +30,7 @@ over_none Any = true
 over_none Live = false
 
 -- the caller, the key and the version, and whether the change may come over a live entry and over none
-abbrev pub request_of : Asked → Request
+abbrev pub request_of : Asked → AskedChange
 request_of a = record { caller = a.caller; key = a.key; version = a.version; over_live = over_live a.need; over_none = over_none a.need }
 
 -- the cause where an entry is live and mustn't be, or isn't and must
@@ -50,5 +51,5 @@ abbrev pub NamesRs : Option (List ℕ) → EndpointRecord → Type 0
 NamesRs name caller = is_rs caller ≡ true → name ≡ Some rs_name
 
 -- the parts make a change
-abbrev pub IsMade : ChangeRecord → Type 0
-IsMade c = (fault : EntryFault) → ¬ IsFaultOf fault c
+abbrev pub MakesChange : ChangeRecord → Type 0
+MakesChange c = (fault : EntryFault) → ¬ IsEntryFault fault c

@@ -1,12 +1,12 @@
 -- What a Subscribe and a Check meet, as the machine has it.
 use Rattle.std.specs.Prelude.{◌≡◌, ℕ, ◌<◌, ◌≤◌, Bool, true, ◌&&◌, cond, nat_le, Option, Some, None}
 use Rattle.ds_pattern.specs.declared.query.Query.{Query}
-use Rattle.ds_machine.specs.Limits.{most_items, last_place}
 use Rattle.ds_machine.specs.Calling as machine
 use Rattle.ds_machine.specs.declared.refusal.Refusal.{Refusal}
 use Rattle.ds_machine.specs.declared.refusal.Refusal.TheVariants.{Worn}
 use Rattle.ds_judge.specs.declared.subscribe.SubscribeCase.{SubscribeCase}
 use Rattle.ds_judge.specs.declared.check.CheckCase.{CheckCase}
+use Rattle.ds_names.specs.Limits.{most_items, last_place}
 
 -- a Subscribe with its query
 abbrev pub machine_subscribe : SubscribeCase → Query → machine.SubscribeCase

@@ -14,7 +14,7 @@ use Rattle.ds_machine.specs.Parts.{held_at, floor_at}
 use Rattle.ds_machine.specs.State.{State, held, subscription_at}
 use Rattle.ds_machine.specs.Order.{first_cause, first_refusal}
 use Rattle.ds_machine.specs.Standing.{cause_of}
-use Rattle.ds_machine.specs.Asking.{Request, asked_in, published, deleted, cause_against, sweep_cause}
+use Rattle.ds_machine.specs.Asking.{AskedChange, asked_in, published, deleted, cause_against, sweep_cause}
 use Rattle.ds_machine.specs.Calling.{against_subscribe, against_check, against_scope, against_since, against_page}
 use Rattle.ds_machine.specs.Merging.{course}
 use Rattle.ds_machine.specs.Watching.{subscribe_case, check_case}
@@ -54,25 +54,25 @@ IsKindInPlace Mem = ⊥
 
 -- an item that takes effect takes memory: a change where its key isn't held, or for the copy of a text or a blob; a floor where
 -- its owner has none
-abbrev pub TakesMemory : State → Item → Type 0
-TakesMemory s (Changed c) = (held_at (held s) c.key ≡ None) ⊎ (¬ IsBodyInPlace c.body)
-TakesMemory s (Floored f) = floor_at (held s) f.owner ≡ None
+abbrev pub MergeTakesMemory : State → Item → Type 0
+MergeTakesMemory s (Changed c) = (held_at (held s) c.key ≡ None) ⊎ (¬ IsBodyInPlace c.body)
+MergeTakesMemory s (Floored f) = floor_at (held s) f.owner ≡ None
 
 -- what a caller asks for would take effect, since no cause stands against it, and that takes memory
-abbrev pub MayLackAsked : State → Request → Body → Type 0
-MayLackAsked s a body = (cause_against s a body ≡ None) × TakesMemory s (Changed (asked_in s a body))
+abbrev pub MayLackAsked : State → AskedChange → Body → Type 0
+MayLackAsked s a body = (cause_against s a body ≡ None) × MergeTakesMemory s (Changed (asked_in s a body))
 
 -- an item that another holder gave would take effect, since no cause stands against it and it isn't known or stale, and that
 -- takes memory
 abbrev pub MayLackItem : State → Item → Type 0
-MayLackItem s i = (cause_of s i ≡ None) × TakesMemory s i
+MayLackItem s i = (cause_of s i ≡ None) × MergeTakesMemory s i
 
 -- where a command may be refused for want of memory: no cause stands against it, or, where it has a pattern, none that is
 -- judged before the pattern; and it takes memory (a Merge never is: it is stopped at an item)
 abbrev pub MayLackRoom : State → Command → Type 0
 MayLackRoom s (Publish caller key version value overwrite) = MayLackAsked s (published caller key version overwrite) (Put value)
 MayLackRoom s (Delete caller key version) = MayLackAsked s (deleted caller key version) Gone
-MayLackRoom s (Sweep caller owner generation) = let f = floor_of owner generation in (sweep_cause s caller f ≡ None) × TakesMemory s (Floored f)
+MayLackRoom s (Sweep caller owner generation) = let f = floor_of owner generation in (sweep_cause s caller f ≡ None) × MergeTakesMemory s (Floored f)
 MayLackRoom s (Retrieve key) = (is_some (live_at s key) ≡ true) × (¬ IsKindInPlace key.kind)
 MayLackRoom s (NameOf endpoint) = ⊥
 MayLackRoom s (Subscribe sub query initial overwrite) = find (against_subscribe (subscribe_case s sub query overwrite)) before_patterns ≡ None

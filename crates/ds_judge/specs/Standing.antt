@@ -1,9 +1,7 @@
 -- What the judge is told of what is there, as the machine has it.
-use Rattle.std.specs.Prelude.{◌≡◌, ℕ, ◌<◌, ◌&&◌, false, cond, is_none, nat_le, List, Option, Some, None}
+use Rattle.std.specs.Prelude.{ℕ, ◌&&◌, cond, is_none, nat_le, List, Option, Some, None}
 use Rattle.std.specs.Option.{option_copied, option_map}
-use Rattle.ds_entry.specs.Change.{ChangeRecord}
 use Rattle.ds_entry.specs.Floor.{floor_of}
-use Rattle.ds_machine.specs.Limits.{most_floors, last_place}
 use Rattle.ds_machine.specs.Standing as machine
 use Rattle.ds_machine.specs.Standing.{HasRoom}
 use Rattle.ds_machine.specs.declared.refusal.Cause.{Cause}
@@ -11,6 +9,7 @@ use Rattle.ds_machine.specs.declared.refusal.Cause.TheVariants.{Refused}
 use Rattle.ds_machine.specs.declared.refusal.Refusal.TheVariants.{Full, Worn}
 use Rattle.ds_judge.specs.declared.standing.Standing.{Standing}
 use Rattle.ds_judge.specs.declared.standing.FloorStanding.{FloorStanding}
+use Rattle.ds_names.specs.Limits.{last_place}
 
 -- what is there before a change, by value
 abbrev pub machine_standing : Standing → machine.Standing
@@ -23,20 +22,3 @@ machine_floor_standing owner t = record { held = option_map (floor_of owner) t.h
 -- the first cause by the room that is left: no free key, or no position
 abbrev pub cause_by_room : machine.Standing → Option Cause
 cause_by_room t = cond (is_none t.held && nat_le t.most t.count) (Some (Refused Full)) (cond (nat_le last_place t.position) (Some (Refused Worn)) None)
-
--- nothing stands against a change of its key: there is room for the key, or it takes the place of what is held there, no
--- floor makes it void, and a position is left
-pub record IsFree (t : machine.Standing) (c : ChangeRecord) : Type 0 where
-  pub room : HasRoom t.held t.count t.most c
-  pub valid : t.void ≡ false
-  pub left : t.position < last_place
-
--- the generation is above that of the floor that is held, or there is room for one more floor
-abbrev pub HasFloorRoom : Option ℕ → ℕ → ℕ → Type 0
-HasFloorRoom None count generation = count < most_floors
-HasFloorRoom (Some held) count generation = held < generation
-
--- nothing stands against a floor of this generation
-pub record IsFreeFloor (t : FloorStanding) (generation : ℕ) : Type 0 where
-  pub room : HasFloorRoom t.held t.count generation
-  pub left : t.position < last_place

@@ -3,19 +3,22 @@
 ghost use Rattle.std.specs.Prelude.{◌≡◌, ℕ, List, Option, Some, None, IfNone};
 ghost use Rattle.std.specs.Option.{option_copied};
 ghost use Rattle.std.specs.List.{find};
-ghost use Rattle.ds_entry.specs.Void.{is_label};
 ghost use Rattle.ds_entry.specs.declared.body.Body.{Body};
 ghost use Rattle.ds_machine.specs.Order.{first_cause};
-ghost use Rattle.ds_machine.specs.Asking.{published, deleted, is_rs, is_of_kind, is_label_body, is_label_change, is_callers_version, is_live, change_asked, against_asked};
-ghost use Rattle.ds_judge.specs.Asked.{request_of, cause_by_need, by_held, is_void_under, NamesRs, IsMade};
-ghost use Rattle.ds_judge.specs.Standing.{machine_standing, IsFree};
+ghost use Rattle.ds_machine.specs.Asking.{published, deleted, is_label_change, is_callers_version, is_live, change_asked, against_asked};
+ghost use Rattle.ds_judge.specs.Asked.{request_of, cause_by_need, by_held, is_void_under, NamesRs, MakesChange};
+ghost use Rattle.ds_judge.specs.Standing.{machine_standing};
+ghost use Rattle.ds_names.specs.Kind.{is_label};
+ghost use Rattle.ds_names.specs.Endpoint.{is_rs};
+ghost use Rattle.ds_entry.specs.Change.{is_of_kind, is_label_body};
+ghost use Rattle.ds_machine.specs.Standing.{IsFree};
 
 use crate::change::{cause_by_room, cause_by_version};
-use crate::limits::LAST_SEQ;
 use crate::standing::Standing;
-use ds_entry::{Body, Change, Value, rs_name};
+use ds_entry::{Body, Change};
 use ds_machine::{Cause, Refusal};
-use ds_names::{Endpoint, Generation, Key, Kind, Name, Version};
+use ds_names::limits::LAST_SEQ;
+use ds_names::{Endpoint, Generation, Key, Name, Version};
 
 /// What the entry has to be before a change: not live, anything, or live.
 #[derive(Clone, Copy, Debug)]
@@ -58,20 +61,13 @@ pub fn deleted(caller: Endpoint, key: Key, version: Version) -> Asked
     }
 }
 
-/// Whether the endpoint is that of RS.
-pub(crate) fn is_rs(endpoint: Endpoint) -> bool
-    ensures { result ≡ is_rs endpoint }
-{
-    endpoint == Endpoint::rs()
-}
-
 /// Whether a floor of the caller's at this generation makes the change void that is asked for, where there is one.
 pub fn is_void_under(floor: Option<Generation>, asked: &Asked) -> bool
     ensures { (caller : List ℕ) (body : Body) → result ≡ is_void_under floor (change_asked (Some caller) (request_of asked.now) body) }
 {
     match floor {
         Some(floor) => {
-            !is_label(asked.key.kind) && asked.version.epoch.number() <= floor.number()
+            !asked.key.kind.is_label() && asked.version.epoch.number() <= floor.number()
         }
         None => false,
     }
@@ -80,12 +76,12 @@ pub fn is_void_under(floor: Option<Generation>, asked: &Asked) -> bool
 /// The change that is asked for, in the name of the caller. That no cause stands against it says that its parts make a
 /// change.
 pub fn change_asked(asked: &Asked, body: Body, caller: Option<Name>) -> Change
-    requires { IsMade (change_asked caller (request_of asked.now) body) }
+    requires { MakesChange (change_asked caller (request_of asked.now) body) }
     ensures { result ≡ change_asked caller (request_of asked.now) body }
 {
     let owner = match caller {
         Some(name) => name,
-        None => rs_name(),
+        None => Name::rs(),
     };
     match Change::make(asked.key, owner, asked.version, body) {
         Ok(change) => change,
@@ -93,47 +89,12 @@ pub fn change_asked(asked: &Asked, body: Body, caller: Option<Name>) -> Change
     }
 }
 
-// Whether the kind is a label's.
-fn is_label(kind: Kind) -> bool
-    ensures { result ≡ is_label kind }
-{
-    match kind {
-        Kind::Label => true,
-        Kind::U32 | Kind::Str | Kind::Mem => false,
-    }
-}
-
-// Whether a put has a value of the kind.
-fn is_of_kind(kind: Kind, body: &Body) -> bool
-    ensures { result ≡ is_of_kind kind body.now }
-{
-    match body {
-        Body::Put(value) => value.kind() == kind,
-        Body::Gone => true,
-    }
-}
-
-// Whether a label may be put, or be gone, at the version.
-fn is_label_body(version: &Version, body: &Body) -> bool
-    ensures { result ≡ is_label_body version.now body.now }
-{
-    match body {
-        Body::Put(Value::Label(endpoint)) => {
-            version.seq == 0 && version.epoch == endpoint.generation()
-        }
-        Body::Put(_) => false,
-        Body::Gone => version.seq == 1,
-    }
-}
-
 // Whether what is asked for keeps the rule of labels.
 fn is_label_change(asked: &Asked, body: &Body) -> bool
     ensures { result ≡ is_label_change (request_of asked.now) body.now }
 {
-    let rs = b"rs".as_slice();
-    let name = asked.key.name.bytes();
     let epoch = asked.version.epoch.number();
-    name != rs && epoch != 0 && is_label_body(&asked.version, body)
+    !asked.key.name.is_rs() && epoch != 0 && body.fits_label(&asked.version)
 }
 
 // Whether the version is one that the caller gives.
@@ -148,10 +109,7 @@ fn is_live(held: Option<&Change>) -> bool
     ensures { result ≡ is_live (option_copied held.entry) }
 {
     match held {
-        Some(change) => match change.body() {
-            Body::Put(_) => true,
-            Body::Gone => false,
-        },
+        Some(change) => change.body().value().is_some(),
         None => false,
     }
 }
@@ -189,8 +147,8 @@ fn first_cause_of(
 ) -> Option<Cause>
     ensures { result ≡ first_cause (Some asked.now.version) (against_asked (machine_standing standing.now) caller (request_of asked.now) body.now) }
 {
-    let is_label = is_label(asked.key.kind);
-    if !is_of_kind(asked.key.kind, body) {
+    let is_label = asked.key.kind.is_label();
+    if !body.is_of_kind(asked.key.kind) {
         return Some(Cause::Refused(Refusal::BadKind));
     }
     if is_label && !is_label_change(asked, body) {
@@ -202,7 +160,7 @@ fn first_cause_of(
     let Some(owner) = caller else {
         return Some(Cause::Refused(Refusal::NoCaller));
     };
-    if is_label && !is_rs(asked.caller) {
+    if is_label && !asked.caller.is_rs() {
         return Some(Cause::Refused(Refusal::NotAllowed));
     }
     cause_by_held(standing, &owner, asked, body)
@@ -220,7 +178,7 @@ pub fn cause_of_asked(
 ) -> Option<Cause>
     ensures first { result ≡ first_cause (Some asked.now.version) (against_asked (machine_standing standing.now) caller (request_of asked.now) body.now) }
     ensures free { IfNone result (IsFree (machine_standing standing.now) (change_asked caller (request_of asked.now) body.now)) }
-    ensures made { IfNone result (NamesRs caller asked.now.caller → IsMade (change_asked caller (request_of asked.now) body.now)) }
+    ensures made { IfNone result (NamesRs caller asked.now.caller → MakesChange (change_asked caller (request_of asked.now) body.now)) }
 {
     first_cause_of(standing, caller, asked, body)
 }

@@ -5,13 +5,13 @@ ghost use Rattle.std.specs.List.{find};
 ghost use Rattle.ds_names.specs.declared.key.Key.{Key};
 ghost use Rattle.ds_entry.specs.Change.{change_of};
 ghost use Rattle.ds_machine.specs.Order.{first_cause, by_version};
-ghost use Rattle.ds_machine.specs.Standing.{against_change};
-ghost use Rattle.ds_judge.specs.Standing.{machine_standing, cause_by_room, IsFree};
+ghost use Rattle.ds_machine.specs.Standing.{against_change, IsFree};
+ghost use Rattle.ds_judge.specs.Standing.{machine_standing, cause_by_room};
 
-use crate::limits::LAST_PLACE;
 use crate::standing::Standing;
 use ds_entry::{Body, Change};
 use ds_machine::{Cause, Refusal};
+use ds_names::limits::LAST_PLACE;
 use ds_names::{Name, Version};
 use std::cmp::Ordering;
 

@@ -2,13 +2,13 @@
 
 ghost use Rattle.std.specs.Prelude.{◌≡◌, ℕ, ◌<◌, Bool, true, None, IfNone};
 ghost use Rattle.std.specs.Option.{option_or};
-ghost use Rattle.ds_machine.specs.Limits.{last_place};
 ghost use Rattle.ds_machine.specs.Order.{first_refusal};
 ghost use Rattle.ds_machine.specs.Calling.{against_check, is_no_max};
 ghost use Rattle.ds_judge.specs.Cases.{machine_check, refusal_of_showing, IsCheckable};
+ghost use Rattle.ds_names.specs.Limits.{last_place};
 
-use crate::limits::{LAST_PLACE, MOST_ITEMS};
 use ds_machine::Refusal;
+use ds_names::limits::{LAST_PLACE, MOST_ITEMS};
 
 /// A Check, with what it meets.
 #[derive(Clone, Copy, Debug)]

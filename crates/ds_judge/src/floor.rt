@@ -2,23 +2,22 @@
 
 ghost use Rattle.std.specs.Prelude.{◌≡◌, None, IfNone};
 ghost use Rattle.ds_machine.specs.Order.{first_cause};
-ghost use Rattle.ds_machine.specs.Standing.{against_floor};
+ghost use Rattle.ds_machine.specs.Standing.{against_floor, IsFloorFree};
 ghost use Rattle.ds_machine.specs.Asking.{against_sweep};
-ghost use Rattle.ds_judge.specs.Standing.{machine_floor_standing, IsFreeFloor};
+ghost use Rattle.ds_judge.specs.Standing.{machine_floor_standing};
 
-use crate::asked::is_rs;
-use crate::limits::{LAST_PLACE, MOST_FLOORS};
 use crate::standing::FloorStanding;
 use ds_entry::Floor;
 use ds_machine::{Cause, Refusal};
 use ds_names::Endpoint;
+use ds_names::limits::{LAST_PLACE, MOST_FLOORS};
 
 /// The first cause against a floor that another holder gave: Stale below the one that is held of its owner, Known at it,
 /// Full where none is held and 64 of other owners are, Worn. Where there is none, it is above the one that is held or there
 /// is room for it, and the position is below 2^62.
 pub fn cause_of_floor(standing: &FloorStanding, floor: &Floor) -> Option<Cause>
     ensures first { result ≡ first_cause None (against_floor (machine_floor_standing floor.now.owner standing.now) floor.now) }
-    ensures free { IfNone result (IsFreeFloor standing.now floor.now.generation) }
+    ensures free { IfNone result (IsFloorFree (machine_floor_standing floor.now.owner standing.now) floor.now) }
 {
     let generation = floor.generation.number();
     match standing.held {
@@ -33,9 +32,9 @@ pub fn cause_of_floor(standing: &FloorStanding, floor: &Floor) -> Option<Cause>
 /// The first cause against a Sweep: NotAllowed from all but RS, and then as against its floor.
 pub fn cause_of_sweep(standing: &FloorStanding, caller: Endpoint, floor: &Floor) -> Option<Cause>
     ensures first { result ≡ first_cause None (against_sweep (machine_floor_standing floor.now.owner standing.now) caller floor.now) }
-    ensures free { IfNone result (IsFreeFloor standing.now floor.now.generation) }
+    ensures free { IfNone result (IsFloorFree (machine_floor_standing floor.now.owner standing.now) floor.now) }
 {
-    if !is_rs(caller) {
+    if !caller.is_rs() {
         return Some(Cause::Refused(Refusal::NotAllowed));
     }
     cause_of_floor(standing, floor)

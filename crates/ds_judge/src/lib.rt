@@ -13,7 +13,6 @@ mod change;
 mod check;
 mod floor;
 mod laws;
-mod limits;
 mod reading;
 mod scope;
 mod standing;

@@ -5,18 +5,18 @@ ghost use Rattle.std.specs.Option.{option_map};
 ghost use Rattle.ds_feed.specs.declared.cursor.Cursor.{Cursor};
 ghost use Rattle.ds_feed.specs.Feed.{Feed};
 ghost use Rattle.ds_feed.specs.Since.{fault_at};
-ghost use Rattle.ds_machine.specs.Limits.{most_items};
 ghost use Rattle.ds_machine.specs.Order.{first_refusal};
 ghost use Rattle.ds_machine.specs.Calling.{against_since, against_page, against_merge};
 ghost use Rattle.ds_judge.specs.Refused.{IsRefusedFor, refusal_of_journal};
 ghost use Rattle.ds_judge.specs.Scopes.{scope_of};
 ghost use Rattle.ds_judge.specs.Last.{ReadsPattern};
+ghost use Rattle.ds_names.specs.Limits.{most_items};
 
 use crate::check::is_no_max;
-use crate::limits::MOST_ITEMS;
 use crate::scope::ScopeFilter;
 use ds_feed::SinceFault;
 use ds_machine::{Refusal, Scope};
+use ds_names::limits::MOST_ITEMS;
 use std::alloc::Global;
 
 /// The refusal of a cursor.

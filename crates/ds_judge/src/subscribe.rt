@@ -2,15 +2,15 @@
 
 ghost use Rattle.std.specs.Prelude.{◌≡◌, ◌<◌, None, Err, IfOk, IfErr, OnOk};
 ghost use Rattle.std.specs.List.{find};
-ghost use Rattle.ds_machine.specs.Limits.{last_place};
 ghost use Rattle.ds_machine.specs.Order.{first_refusal};
 ghost use Rattle.ds_machine.specs.Calling.{against_subscribe};
 ghost use Rattle.ds_judge.specs.Refused.{IsRefusedFor, refusal_of_pattern};
 ghost use Rattle.ds_judge.specs.Cases.{machine_subscribe};
 ghost use Rattle.ds_judge.specs.Last.{before_patterns};
+ghost use Rattle.ds_names.specs.Limits.{last_place};
 
-use crate::limits::LAST_PLACE;
 use ds_machine::Refusal;
+use ds_names::limits::LAST_PLACE;
 use ds_pattern::{Filter, PatternFault, Query};
 use std::alloc::Global;
 

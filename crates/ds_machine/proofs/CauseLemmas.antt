@@ -1,7 +1,7 @@
 -- What the first cause against a change or a floor says.
 use Rattle.std.proofs.Common.{◌≡◌, ℕ, ◌<◌, ◌≤◌, Bool, true, false, not, ◌&&◌, ◌||◌, ◌==◌, nat_le, nat_lt, List, [], ◌∷◌, ◌++◌, map, Option, Some, None, is_none, refl, ap, sym, ◌∙◌, inl, inr, ◌⊎◌, arith, Contains, eqb-true}
 use Rattle.std.proofs.lemmas.Bool.Decides.{nat_tests}
-use Rattle.std.proofs.lemmas.Bool.{eqb-false, ltb-true}
+use Rattle.std.proofs.lemmas.Bool.{eqb-false, ltb-true, or_parts, not-false, leb-false}
 use Rattle.std.specs.Cmp.Lexicographic.{same_text}
 use Rattle.std.specs.declared.cmp.Ordering.{Ordering}
 use Rattle.std.specs.declared.cmp.Ordering.TheVariants.{Less, Equal, Greater}
@@ -21,17 +21,18 @@ use Rattle.ds_entry.specs.declared.item.Item.TheVariants.{Change as Changed, Flo
 use Rattle.ds_entry.proofs.Members.{Contains-from_list_any}
 use Rattle.ds_entry.proofs.CoversLemmas.{covers-make}
 use Rattle.ds_entry.proofs.ItemLemmas.{below-make}
-use Rattle.ds_machine.specs.Limits.{most_floors, last_place}
 use Rattle.ds_machine.specs.Parts.{held_at, floor_at}
 use Rattle.ds_machine.specs.State.{State, held}
 use Rattle.ds_machine.specs.Order.{first_cause, by_command, by_version, by_room}
-use Rattle.ds_machine.specs.Standing.{Standing, standing_of, on_held, against_change, HasRoom, is_same_name, is_same_body, FloorStanding, floor_standing_of, on_floor, against_floor, cause_of}
-use Rattle.ds_machine.specs.Asking.{Request, against_asked, change_asked, against_sweep}
+use Rattle.ds_machine.specs.Standing.{Standing, standing_of, on_held, against_change, HasRoom, is_same_body, FloorStanding, floor_standing_of, on_floor, against_floor, cause_of, IsFree, HasFloorRoom, IsFloorFree}
+use Rattle.ds_machine.specs.Asking.{AskedChange, against_asked, change_asked, against_sweep}
 use Rattle.ds_machine.specs.declared.refusal.Cause.{Cause}
 use Rattle.ds_machine.specs.declared.refusal.Cause.TheVariants as causes
 use Rattle.ds_machine.specs.declared.refusal.Refusal.TheVariants as refusals
 use Rattle.ds_machine.proofs.PartLemmas.{found, missing, passed, key_found, owner_found}
 use Rattle.ds_machine.proofs.NewsLemmas.{IsAbove}
+use Rattle.ds_names.specs.Limits.{most_floors, last_place}
+use Rattle.ds_names.specs.Name.{is_same_name}
 
 -- all causes in their order
 abbrev change_order : Version → List Cause
@@ -48,22 +49,12 @@ floor_free : (stands : Cause → Bool) → first_cause None stands ≡ None → 
 floor_free stands e cause h = missing stands floor_order cause e h
 
 -- ---- a change that takes effect
-negated : (b : Bool) → not b ≡ false → b ≡ true
-negated true e = refl
-negated false e = absurd (cc)
-
-neither : (a b : Bool) → a || b ≡ false → (a ≡ false) × (b ≡ false)
-neither true b e = absurd (cc)
-neither false b e = (refl, e)
 
 is_below : (r : Ordering) (b : Bool) → is_eq r && not b ≡ false → is_gt r ≡ false → is_eq r && b ≡ false → r ≡ Less
 is_below Less b p q r = refl
 is_below Equal true p q r = absurd (cc)
 is_below Equal false p q r = absurd (cc)
 is_below Greater b p q r = absurd (cc)
-
-below_most : (most count : ℕ) → nat_le most count ≡ false → count < most
-below_most most count e = grind (arith, nat_tests)
 
 has_room : (o : Option ChangeRecord) (count most : ℕ) (c : ChangeRecord)
     → on_held o (λ h. not (is_same_name h.owner c.owner)) ≡ false
@@ -72,15 +63,9 @@ has_room : (o : Option ChangeRecord) (count most : ℕ) (c : ChangeRecord)
     → on_held o (λ h. is_eq (version_cmp h.version c.version) && is_same_body h.body c.body) ≡ false
     → is_none o && nat_le most count ≡ false
     → HasRoom o count most c
-has_room None count most c a b d e f = below_most most count f
+has_room None count most c a b d e f = leb-false most count f
 has_room (Some h) count most c a b d e f =
-    (same_text h.owner c.owner (sym (negated (is_same_name h.owner c.owner) a)), is_below (version_cmp h.version c.version) (is_same_body h.body c.body) b d e)
-
--- nothing that is held stands against the change, and a position is left
-pub record IsFree (t : Standing) (c : ChangeRecord) : Type 0 where
-  pub room : HasRoom t.held t.count t.most c
-  pub void : t.void ≡ false
-  pub left : nat_le last_place t.position ≡ false
+    (same_text h.owner c.owner (sym (not-false (is_same_name h.owner c.owner) a)), is_below (version_cmp h.version c.version) (is_same_body h.body c.body) b d e)
 
 free_by : (t : Standing) (c : ChangeRecord) (stands : Cause → Bool) → first_cause (Some c.version) stands ≡ None
     → stands (causes.Refused refusals.NotOwner) ≡ against_change t c (causes.Refused refusals.NotOwner)
@@ -92,7 +77,7 @@ free_by : (t : Standing) (c : ChangeRecord) (stands : Cause → Bool) → first_
     → IsFree t c
 free_by t c stands e owner clash stale known full worn =
     let no = free c.version stands e in
-    let old = neither (on_held t.held (λ h. is_gt (version_cmp h.version c.version))) t.void (sym stale ∙ no (causes.Refused refusals.Stale) (11, omega arith, refl)) in
+    let old = or_parts (on_held t.held (λ h. is_gt (version_cmp h.version c.version))) t.void (sym stale ∙ no (causes.Refused refusals.Stale) (11, omega arith, refl)) in
     record {
       room = has_room t.held t.count t.most c
           (sym owner ∙ no (causes.Refused refusals.NotOwner) (9, omega arith, refl))
@@ -100,48 +85,44 @@ free_by t c stands e owner clash stale known full worn =
           old.0
           (sym known ∙ no causes.Known (12, omega arith, refl))
           (sym full ∙ no (causes.Refused refusals.Full) (18, omega arith, refl));
-      void = old.1;
-      left = sym worn ∙ no (causes.Refused refusals.Worn) (19, omega arith, refl);
+      valid = old.1;
+      left = leb-false last_place t.position (sym worn ∙ no (causes.Refused refusals.Worn) (19, omega arith, refl));
     }
 
 pub change_free : (t : Standing) (c : ChangeRecord) → first_cause (Some c.version) (against_change t c) ≡ None → IsFree t c
 change_free t c e = free_by t c (against_change t c) e refl refl refl refl refl refl
 
-pub asked_free : (t : Standing) (caller : Option (List ℕ)) (a : Request) (body : Body) → first_cause (Some a.version) (against_asked t caller a body) ≡ None → IsFree t (change_asked caller a body)
+pub asked_free : (t : Standing) (caller : Option (List ℕ)) (a : AskedChange) (body : Body) → first_cause (Some a.version) (against_asked t caller a body) ≡ None → IsFree t (change_asked caller a body)
 asked_free t caller a body e = free_by t (change_asked caller a body) (against_asked t caller a body) e refl refl refl refl refl refl
 
 -- ---- a floor that takes effect
-is_above : (o : Option Floor) (f : Floor) → on_floor o (λ g. nat_lt f.generation g) ≡ false → on_floor o (λ g. g == f.generation) ≡ false → IsAbove o f
-is_above None f a b = tt
-is_above (Some g) f a b =
+floor_room : (o : Option Floor) (count : ℕ) (f : Floor) → on_floor o (λ g. nat_lt f.generation g) ≡ false → on_floor o (λ g. g == f.generation) ≡ false → is_none o && nat_le most_floors count ≡ false → HasFloorRoom o count f
+floor_room None count f a b c = leb-false most_floors count c
+floor_room (Some g) count f a b c =
     let differ : g.generation ≡ f.generation → ⊥ = eqb-false g.generation f.generation b in
     not_below f.generation g.generation a differ
   where
     not_below : (m n : ℕ) → nat_lt m n ≡ false → (n ≡ m → ⊥) → n < m
     not_below m n e d = grind (arith, nat_tests)
 
--- no greater floor of its owner is held, and none as great
-pub record IsFloorFree (t : FloorStanding) (f : Floor) : Type 0 where
-  pub above : IsAbove t.held f
-  pub room : is_none t.held && nat_le most_floors t.count ≡ false
-  pub left : nat_le last_place t.position ≡ false
+pub room_above : (o : Option Floor) (count : ℕ) (f : Floor) → HasFloorRoom o count f → IsAbove o f
+room_above None count f h = tt
+room_above (Some g) count f h = h
 
 pub floor_is_free : (t : FloorStanding) (f : Floor) → first_cause None (against_floor t f) ≡ None → IsFloorFree t f
 floor_is_free t f e =
     let no = floor_free (against_floor t f) e in
     record {
-      above = is_above t.held f (no (causes.Refused refusals.Stale) (10, omega arith, refl)) (no causes.Known (11, omega arith, refl));
-      room = no (causes.Refused refusals.Full) (17, omega arith, refl);
-      left = no (causes.Refused refusals.Worn) (18, omega arith, refl);
+      room = floor_room t.held t.count f (no (causes.Refused refusals.Stale) (10, omega arith, refl)) (no causes.Known (11, omega arith, refl)) (no (causes.Refused refusals.Full) (17, omega arith, refl));
+      left = leb-false last_place t.position (no (causes.Refused refusals.Worn) (18, omega arith, refl));
     }
 
 pub sweep_is_free : (t : FloorStanding) (caller : EndpointRecord) (f : Floor) → first_cause None (against_sweep t caller f) ≡ None → IsFloorFree t f
 sweep_is_free t caller f e =
     let no = floor_free (against_sweep t caller f) e in
     record {
-      above = is_above t.held f (no (causes.Refused refusals.Stale) (10, omega arith, refl)) (no causes.Known (11, omega arith, refl));
-      room = no (causes.Refused refusals.Full) (17, omega arith, refl);
-      left = no (causes.Refused refusals.Worn) (18, omega arith, refl);
+      room = floor_room t.held t.count f (no (causes.Refused refusals.Stale) (10, omega arith, refl)) (no causes.Known (11, omega arith, refl)) (no (causes.Refused refusals.Full) (17, omega arith, refl));
+      left = leb-false last_place t.position (no (causes.Refused refusals.Worn) (18, omega arith, refl));
     }
 
 -- ---- what is passed over is covered by what is held
@@ -182,7 +163,7 @@ above v w e = by_order (version_cmp v w) e (versions_total.antisymm w v)
     by_order Equal p q = absurd (cc)
     by_order Greater p q = ap is_le q
 
-left_of : (a b : Bool) → a && b ≡ true → a ≡ true
+pub left_of : (a b : Bool) → a && b ≡ true → a ≡ true
 left_of true b e = refl
 left_of false b e = absurd (cc)
 
@@ -200,7 +181,7 @@ module _ (s : State) (c : ChangeRecord) where
       by_held None e a b = absurd (let n : false ≡ true = b in cc)
       by_held (Some h) e a b =
           let at = key_found (held s) c.key h e in
-          let same : h.owner ≡ c.owner = same_text h.owner c.owner (sym (negated (is_same_name h.owner c.owner) a)) in
+          let same : h.owner ≡ c.owner = same_text h.owner c.owner (sym (not-false (is_same_name h.owner c.owner) a)) in
           (Changed h, at.0, covers-make h c at.1 (sym same) (most h b))
 
   -- by a floor
@@ -229,7 +210,7 @@ module _ (s : State) (c : ChangeRecord) where
   pub change_covered : (cause : Cause) → first_cause (Some c.version) (against_change (standing_of s c) c) ≡ Some cause → IsPassed cause → IsCoveredIn (held s) (Changed c)
   change_covered cause e k = over_by (against_change (standing_of s c) c) cause e k refl refl refl
 
-pub asked_covered : (s : State) (caller : Option (List ℕ)) (a : Request) (body : Body) (cause : Cause) → first_cause (Some a.version) (against_asked (standing_of s (change_asked caller a body)) caller a body) ≡ Some cause → IsPassed cause → IsCoveredIn (held s) (Changed (change_asked caller a body))
+pub asked_covered : (s : State) (caller : Option (List ℕ)) (a : AskedChange) (body : Body) (cause : Cause) → first_cause (Some a.version) (against_asked (standing_of s (change_asked caller a body)) caller a body) ≡ Some cause → IsPassed cause → IsCoveredIn (held s) (Changed (change_asked caller a body))
 asked_covered s caller a body cause e k = over_by s (change_asked caller a body) (against_asked (standing_of s (change_asked caller a body)) caller a body) cause e k refl refl refl
 
 module _ (s : State) (f : Floor) where

@@ -9,8 +9,8 @@ use Rattle.ds_entry.specs.declared.item.Item.TheVariants.{Change as Changed, Flo
 use Rattle.ds_entry.proofs.Members.{Contains-nil, Contains-head, Contains-tail, Contains-cons}
 use Rattle.ds_entry.proofs.ItemLemmas.{covers-trans}
 use Rattle.ds_join.specs.ItemTop.{IsPartOf, CoversAll}
-use Rattle.ds_machine.specs.Parts.{changes_in}
-use Rattle.ds_machine.specs.State.{State, held, accepts}
+use Rattle.ds_machine.specs.Parts.{changes_in, floor_at, floors_in}
+use Rattle.ds_machine.specs.State.{State, held, takes_effect}
 use Rattle.ds_machine.specs.Standing.{cause_of, standing_of, floor_standing_of}
 use Rattle.ds_machine.specs.Merging.{Course, item_merged, item_judged}
 use Rattle.ds_machine.specs.Reached.{IsReached}
@@ -20,14 +20,14 @@ use Rattle.ds_machine.specs.declared.refusal.Cause.TheVariants as causes
 use Rattle.ds_machine.specs.declared.refusal.Refusal.{Refusal}
 use Rattle.ds_machine.specs.declared.refusal.Refusal.TheVariants as refusals
 use Rattle.ds_machine.proofs.NewsLemmas.{news_change, news_floor}
-use Rattle.ds_machine.proofs.CauseLemmas.{IsCoveredIn, change_free, floor_is_free, item_covered}
+use Rattle.ds_machine.proofs.CauseLemmas.{IsCoveredIn, change_free, floor_is_free, item_covered, room_above}
 use Rattle.ds_machine.proofs.ReachedLemmas.{held_is_top, reached_more, reached_all, with_accepted}
 
 -- ---- what grows
 pub grows_none : (s t : State) (learnt : List Item) → t ≡ s → Grows s learnt t
 grows_none s t learnt e = record { items = []; news = tt; part = λ i h. absurd (Contains-nil i h); state_is = e ∙ ap (with_accepted s) (sym (append-nil s.feed.accepted)) }
 
-pub grows_one : (s t : State) (i : Item) (learnt : List Item) → IsNews s.feed.accepted i → Contains learnt i → Grows (accepts s (i ∷ [])) learnt t → Grows s learnt t
+pub grows_one : (s t : State) (i : Item) (learnt : List Item) → IsNews s.feed.accepted i → Contains learnt i → Grows (takes_effect s (i ∷ [])) learnt t → Grows s learnt t
 grows_one s t i learnt n h g =
     record {
       items = i ∷ g.items;
@@ -67,8 +67,8 @@ covers_nothing held x h = absurd (Contains-nil x h)
 pub item_news : (s : State) (i : Item) → IsReached s → cause_of s i ≡ None → IsNews s.feed.accepted i
 item_news s (Changed c) r e =
     let free = change_free (standing_of s c) c e in
-    news_change s.feed.accepted r.owners c free.void (length (changes_in (held s))) s.limits.keys free.room
-item_news s (Floored f) r e = news_floor s.feed.accepted r.owners f (floor_is_free (floor_standing_of s f) f e).above
+    news_change s.feed.accepted r.owners c free.valid (length (changes_in (held s))) s.limits.keys free.room
+item_news s (Floored f) r e = news_floor s.feed.accepted r.owners f (room_above (floor_at (held s) f.owner) (length (floors_in (held s))) f (floor_is_free (floor_standing_of s f) f e).room)
 
 -- ---- a merge
 -- from one point of a merge to a later one: so many items were done, all of them where nothing stopped it
@@ -82,7 +82,7 @@ pub record Went (k : Course) (items : List Item) (end : Course) : Type 0 where
   pub grows : Grows k.state (take count items) end.state
   pub holds : CoversAll (held end.state) (take count items)
 
-fold_stopped : (items : List Item) (k : Course) (r : Refusal) → k.stop ≡ Some r → fold item_merged k items ≡ k
+pub fold_stopped : (items : List Item) (k : Course) (r : Refusal) → k.stop ≡ Some r → fold item_merged k items ≡ k
 fold_stopped [] k r e = refl
 fold_stopped (i ∷ items) k r e =
     let same : item_merged k i ≡ k = ap (λ o. option_map_or {U = Course} (λ (x : Refusal). k) o (item_judged k i (cause_of k.state i))) e in
@@ -106,9 +106,9 @@ module _ (i : Item) (items : List Item) (k : Course) (r : IsReached k.state) (e 
   went_taken : cause_of k.state i ≡ None → (end : Course) → Went (item_judged k i None) items end → Went k (i ∷ items) end
   went_taken q end w =
       let fresh = item_news k.state i r q in
-      let then : IsReached (accepts k.state (i ∷ [])) = reached_more k.state i r fresh in
-      let last : IsReached end.state = reached_grown (accepts k.state (i ∷ [])) end.state (take w.count items) then w.grows in
-      let here : Contains end.state.feed.accepted i = grown_part (accepts k.state (i ∷ [])) end.state (take w.count items) w.grows i (Contains-push k.state.feed.accepted i) in
+      let then : IsReached (takes_effect k.state (i ∷ [])) = reached_more k.state i r fresh in
+      let last : IsReached end.state = reached_grown (takes_effect k.state (i ∷ [])) end.state (take w.count items) then w.grows in
+      let here : Contains end.state.feed.accepted i = grown_part (takes_effect k.state (i ∷ [])) end.state (take w.count items) w.grows i (Contains-push k.state.feed.accepted i) in
       record {
         count = suc w.count;
         done = omega (arith, w.done);
@@ -116,7 +116,7 @@ module _ (i : Item) (items : List Item) (k : Course) (r : IsReached k.state) (e 
         whole = λ z. ap suc (w.whole z);
         some_left = λ x z. omega (arith, w.some_left x z);
         counted = omega (arith, w.counted, length-append k.taken (i ∷ []));
-        grows = grows_one k.state end.state i (i ∷ take w.count items) fresh (Contains-head i (take w.count items)) (grows_wider (accepts k.state (i ∷ [])) end.state (take w.count items) (i ∷ take w.count items) (λ x h. Contains-tail i (take w.count items) x h) w.grows);
+        grows = grows_one k.state end.state i (i ∷ take w.count items) fresh (Contains-head i (take w.count items)) (grows_wider (takes_effect k.state (i ∷ [])) end.state (take w.count items) (i ∷ take w.count items) (λ x h. Contains-tail i (take w.count items) x h) w.grows);
         holds = covers_first i (take w.count items) (held end.state) (covered_accepted end.state last i here) w.holds;
       }
 

@@ -1,5 +1,5 @@
 -- What one step does to its state, and what a run of them does.
-use Rattle.std.proofs.Common.{◌≡◌, ℕ, zero, suc, ◌+◌, ◌<◌, Bool, true, false, nat_le, List, [], ◌∷◌, ◌++◌, length, take, Option, Some, None, refl, sym, subst, inl, inr, ◌⊎◌, arith, Contains, eq-eqb}
+use Rattle.std.proofs.Common.{◌≡◌, ℕ, zero, suc, ◌+◌, ◌<◌, Bool, true, false, List, [], ◌∷◌, ◌++◌, length, take, Option, Some, None, refl, sym, subst, inl, inr, ◌⊎◌, arith, Contains, eq-eqb}
 use Rattle.std.proofs.lemmas.Bool.{leb-false}
 use Rattle.std.proofs.lemmas.List.Elements.{Contains-push, Contains-append_cases}
 use Rattle.std.specs.Option.{option_map_or}
@@ -13,12 +13,12 @@ use Rattle.ds_entry.specs.Floor.{floor_of}
 use Rattle.ds_entry.proofs.Members.{Contains-nil, Contains-head, Contains-from_filter, Contains-from_take}
 use Rattle.ds_join.specs.ItemTop.{IsPartOf, CoversAll}
 use Rattle.ds_pattern.specs.declared.query.Query.{Query}
-use Rattle.ds_machine.specs.Parts.{changes_in}
+use Rattle.ds_machine.specs.Parts.{changes_in, floor_at, floors_in}
 use Rattle.ds_machine.specs.Subscription.{Subscription, is_unseen}
-use Rattle.ds_machine.specs.State.{State, held, accepts, owed, unseen, subscribes, subscription_at}
+use Rattle.ds_machine.specs.State.{State, held, takes_effect, owed, unseen, subscribes, subscription_at}
 use Rattle.ds_machine.specs.Order.{first_refusal, by_command, by_room}
 use Rattle.ds_machine.specs.Standing.{standing_of, floor_standing_of}
-use Rattle.ds_machine.specs.Asking.{Request, published, deleted, name_of, asked_in, cause_against, sweep_cause}
+use Rattle.ds_machine.specs.Asking.{AskedChange, published, deleted, name_of, asked_in, cause_against, sweep_cause}
 use Rattle.ds_machine.specs.Calling.{SubscribeCase, against_subscribe, against_check, against_merge}
 use Rattle.ds_machine.specs.Merging.{Course, begun, course, merging}
 use Rattle.ds_machine.specs.Watching.{subscribing, subscribe_case, owed_at_first, shown_at_first, shows, check_case, checking, checking_at}
@@ -35,7 +35,7 @@ use Rattle.ds_machine.specs.declared.reply.Reply.{Reply}
 use Rattle.ds_machine.specs.declared.reply.Reply.TheVariants.{Changed as Accepted, Known, Swept, Subscribed, Merged, MergeStopped, Refused}
 use Rattle.ds_machine.proofs.PartLemmas.{missing, take_whole}
 use Rattle.ds_machine.proofs.NewsLemmas.{news_change, news_floor}
-use Rattle.ds_machine.proofs.CauseLemmas.{IsCoveredIn, asked_free, asked_covered, sweep_is_free, sweep_covered}
+use Rattle.ds_machine.proofs.CauseLemmas.{IsCoveredIn, asked_free, asked_covered, sweep_is_free, sweep_covered, room_above}
 use Rattle.ds_machine.proofs.ReachedLemmas.{held_is_top}
 use Rattle.ds_machine.proofs.CourseLemmas.{Went, went, grows_none, grows_one, reached_grown, covered_accepted, covers_first, covers_nothing}
 
@@ -52,22 +52,22 @@ learns_known : (s t : State) (i : Item) → t ≡ s → IsCoveredIn (held s) i �
 learns_known s t i e over = record { grows = grows_none s t (i ∷ []) e; holds = subst (λ (x : State). CoversAll (held x) (i ∷ [])) (sym e) (covers_first i [] (held s) over (covers_nothing (held s))) }
 
 -- it took effect
-learns_news : (s t : State) (i : Item) → IsReached s → IsNews s.feed.accepted i → t ≡ accepts s (i ∷ []) → Learns s (i ∷ []) t
+learns_news : (s t : State) (i : Item) → IsReached s → IsNews s.feed.accepted i → t ≡ takes_effect s (i ∷ []) → Learns s (i ∷ []) t
 learns_news s t i r n e =
-    let grows : Grows s (i ∷ []) t = grows_one s t i (i ∷ []) n (Contains-head i []) (grows_none (accepts s (i ∷ [])) t (i ∷ []) e) in
+    let grows : Grows s (i ∷ []) t = grows_one s t i (i ∷ []) n (Contains-head i []) (grows_none (takes_effect s (i ∷ [])) t (i ∷ []) e) in
     let here : Contains t.feed.accepted i = subst (λ (x : State). Contains x.feed.accepted i) (sym e) (Contains-push s.feed.accepted i) in
     record { grows = grows; holds = covers_first i [] (held t) (covered_accepted t (reached_grown s t (i ∷ []) r grows) i here) (covers_nothing (held t)) }
 
 -- ---- a Publish, a Delete and a Sweep
 module _ (s t : State) (r : IsReached s) (reply : Reply) where
-  asked_learns : (a : Request) (body : Body) → reply ≡ (asking s a body).0 → t ≡ (asking s a body).1 → Learns s (known_after reply (Changed (asked_in s a body) ∷ [])) t
+  asked_learns : (a : AskedChange) (body : Body) → reply ≡ (asking s a body).0 → t ≡ (asking s a body).1 → Learns s (known_after reply (Changed (asked_in s a body) ∷ [])) t
   asked_learns a body e f = by_cause (cause_against s a body) refl e f
     where
       i : Item
       i = Changed (asked_in s a body)
 
       out : Option Cause → Reply × State
-      out o = option_map_or {U = Reply × State} (λ cause. (answer_for cause, s)) o (Accepted (owed s (i ∷ [])), accepts s (i ∷ []))
+      out o = option_map_or {U = Reply × State} (λ cause. (answer_for cause, s)) o (Accepted (owed s (i ∷ [])), takes_effect s (i ∷ []))
 
       told : (other : Reply) → reply ≡ other → Learns s (known_after other (i ∷ [])) t → Learns s (known_after reply (i ∷ [])) t
       told other q l = subst (λ (x : Reply). Learns s (known_after x (i ∷ [])) t) (sym q) l
@@ -77,7 +77,7 @@ module _ (s t : State) (r : IsReached s) (reply : Reply) where
       by_cause (Some (causes.Refused refusal)) q g h = told (Refused refusal) g (learns_none s t h)
       by_cause None q g h =
           let free = asked_free (standing_of s (asked_in s a body)) (name_of (held s) a.caller) a body q in
-          let n = news_change s.feed.accepted r.owners (asked_in s a body) free.void (length (changes_in (held s))) s.limits.keys free.room in
+          let n = news_change s.feed.accepted r.owners (asked_in s a body) free.valid (length (changes_in (held s))) s.limits.keys free.room in
           told (Accepted (owed s (i ∷ []))) g (learns_news s t i r n h)
 
   swept_learns : (caller : EndpointRecord) (f : Floor) → reply ≡ (sweeping s caller f).0 → t ≡ (sweeping s caller f).1 → Learns s (known_after reply (Floored f ∷ [])) t
@@ -87,7 +87,7 @@ module _ (s t : State) (r : IsReached s) (reply : Reply) where
       i = Floored f
 
       out : Option Cause → Reply × State
-      out o = option_map_or {U = Reply × State} (λ cause. (sweep_answer cause, s)) o (Swept (length (dropped (held s) f)) (owed s (i ∷ [])), accepts s (i ∷ []))
+      out o = option_map_or {U = Reply × State} (λ cause. (sweep_answer cause, s)) o (Swept (length (dropped (held s) f)) (owed s (i ∷ [])), takes_effect s (i ∷ []))
 
       told : (other : Reply) → reply ≡ other → Learns s (known_after other (i ∷ [])) t → Learns s (known_after reply (i ∷ [])) t
       told other q l = subst (λ (x : Reply). Learns s (known_after x (i ∷ [])) t) (sym q) l
@@ -96,7 +96,7 @@ module _ (s t : State) (r : IsReached s) (reply : Reply) where
       by_cause (Some causes.Known) q g h = told (Swept 0 0) g (learns_known s t i h (sweep_covered s f caller causes.Known q (inl refl)))
       by_cause (Some (causes.Refused refusals.Stale)) q g h = told (Swept 0 0) g (learns_known s t i h (sweep_covered s f caller (causes.Refused refusals.Stale) q (inr refl)))
       by_cause (Some (causes.Refused refusal)) q g h = told (Refused refusal) g (learns_none s t h)
-      by_cause None q g h = told (Swept (length (dropped (held s) f)) (owed s (i ∷ []))) g (learns_news s t i r (news_floor s.feed.accepted r.owners f (sweep_is_free (floor_standing_of s f) caller f q).above) h)
+      by_cause None q g h = told (Swept (length (dropped (held s) f)) (owed s (i ∷ []))) g (learns_news s t i r (news_floor s.feed.accepted r.owners f (room_above (floor_at (held s) f.owner) (length (floors_in (held s))) f (sweep_is_free (floor_standing_of s f) caller f q).room)) h)
 
 -- ---- a Merge
 pub begun_went : (s : State) (items : List Item) → IsReached s → Went (begun s) items (course s items)
@@ -138,8 +138,6 @@ wanting_learns s t items reply r w =
     subst (λ (x : Reply). Learns s (known_after x items) t) (sym w.1.reply_is) (subst (λ (x : State). Learns s (take w.0 items) x) (sym w.1.state_is) l)
 
 -- ---- a Subscribe and a Check
-pub below_place : (places n : ℕ) → nat_le places n ≡ false → n < places
-below_place places n e = leb-false places n e
 
 module _ (s t : State) (r : IsReached s) where
   subscribe_effect : (sub : ℕ) (query : Query) (initial overwrite : Bool) (learnt : List Item) → t ≡ (subscribing s sub query initial overwrite).1 → Grows s learnt t ⊎ Serves s (Subscribe sub query initial overwrite) t
@@ -160,7 +158,7 @@ module _ (s t : State) (r : IsReached s) where
         sub = sub;
         query = query;
         shown = shown_at_first (held s) initial;
-        place = below_place s.limits.subs sub (missing (against_subscribe x) (by_command ++ by_room) refusals.BadSub q (0, omega arith, refl));
+        place = leb-false s.limits.subs sub (missing (against_subscribe x) (by_command ++ by_room) refusals.BadSub q (0, omega arith, refl));
         used = eq-eqb sub sub refl;
         part = part initial;
         state_is = f;
@@ -189,7 +187,7 @@ module _ (s t : State) (r : IsReached s) where
       by_cause o here (Some refusal) q f = inl (grows_none s t learnt f)
       by_cause None here None q f = inl (grows_none s t learnt f)
       by_cause (Some seer) here None q f =
-          by_items seer here (below_place s.limits.subs sub (missing (against_check (check_case s sub max (Some seer))) (by_command ++ by_room) refusals.BadSub q (0, omega arith, refl)))
+          by_items seer here (leb-false s.limits.subs sub (missing (against_check (check_case s sub max (Some seer))) (by_command ++ by_room) refusals.BadSub q (0, omega arith, refl)))
           (take max (unseen s seer)) (λ c h. (Contains-from_filter (is_unseen seer.query seer.shown) (held s) c (Contains-from_take max (unseen s seer) c h)).0) f
 
       by_seer : (o : Option Subscription) → subscription_at s sub ≡ o → t ≡ (checking_at s sub max o).1 → Grows s learnt t ⊎ Serves s (Check sub max) t

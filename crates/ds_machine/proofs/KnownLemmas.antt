@@ -101,7 +101,7 @@ pub learnt_is_held : LearntIsHeld
 learnt_is_held s t command reply r step = (does s t command reply r step).holds
 
 -- what took effect was learnt
-accepted_cases : (s t : State) (command : Command) (reply : Reply) → Effect s command reply t → (x : Item) → Contains t.feed.accepted x → Contains s.feed.accepted x ⊎ Contains (learnt_by s command reply) x
+pub accepted_cases : (s t : State) (command : Command) (reply : Reply) → Effect s command reply t → (x : Item) → Contains t.feed.accepted x → Contains s.feed.accepted x ⊎ Contains (learnt_by s command reply) x
 accepted_cases s t command reply (inl g) x h = elim (Contains-append_cases s.feed.accepted g.items x (subst (λ (y : State). Contains y.feed.accepted x) g.state_is h)) [ inl k ↦ inl k | inr k ↦ inr (g.part x k) ]
 accepted_cases s t command reply (inr w) x h = inl (subst (λ (y : State). Contains y.feed.accepted x) w.state_is h)
 

@@ -1,5 +1,5 @@
 -- What leaves a subscription as it is, and what a Subscribe and a Check leave of it.
-use Rattle.std.proofs.Common.{◌≡◌, ℕ, ◌+◌, ◌<◌, ◌≤◌, Bool, true, false, ◌||◌, List, [], ◌∷◌, ◌++◌, length, take, Option, Some, None, refl, ap, sym, ◌∙◌, subst, inl, inr, ◌⊎◌, arith, get_or-set_same, get_or-set_other}
+use Rattle.std.proofs.Common.{◌≡◌, ℕ, ◌+◌, ◌<◌, ◌≤◌, true, false, List, [], ◌∷◌, ◌++◌, length, take, Option, Some, None, refl, ap, sym, ◌∙◌, subst, inl, inr, ◌⊎◌, arith, get_or-set_same, get_or-set_other}
 use Rattle.std.specs.List.{list_any}
 use Rattle.std.specs.Option.{option_map_or}
 use Rattle.std.proofs.lemmas.List.{append-nil}
@@ -20,8 +20,9 @@ use Rattle.ds_machine.specs.declared.reply.Reply.{Reply}
 use Rattle.ds_machine.specs.declared.reply.Reply.TheVariants.{Subscribed, Checked, Refused}
 use Rattle.ds_machine.proofs.PartLemmas.{missing}
 use Rattle.ds_machine.proofs.ReachedLemmas.{at_place}
-use Rattle.ds_machine.proofs.EffectLemmas.{step_has_effect, below_place}
+use Rattle.ds_machine.proofs.EffectLemmas.{step_has_effect}
 use Rattle.ds_machine.proofs.KnownLemmas.{steps_stay_reached, steps_go_on}
+use Rattle.std.proofs.lemmas.Bool.{or_parts, leb-false}
 
 -- ---- what leaves it as it is
 pub step_keeps : StepKeepsSubscription
@@ -34,16 +35,12 @@ step_keeps s t command reply sub r step e = by_effect (step_has_effect s t comma
         ∙ get_or-set_other s.subscriptions v.sub sub (Some (record { query = v.query; stamp = s.stamp + 1; shown = v.shown })) None
         (λ q. let n : true ≡ false = sym v.used ∙ (ap (λ (j : ℕ). uses j command) (sym q) ∙ e) in cc)
 
-neither : (a b : Bool) → a || b ≡ false → (a ≡ false) × (b ≡ false)
-neither true b e = absurd (let n : true ≡ false = e in cc)
-neither false b e = (refl, e)
-
 pub run_keeps : RunKeepsSubscription
 run_keeps s t [] [] sub r run e = ap (λ (x : State). subscription_at x sub) run
 run_keeps s t [] (q ∷ replies) sub r run e = absurd run
 run_keeps s t (c ∷ commands) [] sub r run e = absurd run
 run_keeps s t (c ∷ commands) (q ∷ replies) sub r run e =
-    let n = neither (uses sub c) (list_any (uses sub) commands) e in
+    let n = or_parts (uses sub c) (list_any (uses sub) commands) e in
     run_keeps run.0 t commands replies sub (steps_stay_reached s run.0 c q r run.1) run.2 n.1 ∙ step_keeps s run.0 c q sub r run.1 n.0
 
 -- ---- what its stamp tells
@@ -111,7 +108,7 @@ subscribed_leaves s t sub query initial overwrite stamp owed r (inl (inl is)) = 
         → t ≡ (option_map_or {U = Reply × State} (λ refusal. (Refused refusal, s)) o made).1 → IsPlaced s sub (record { query = query; stamp = stamp; shown = shown_at_first (held s) initial }) t
     by_cause (Some refusal) q e f = absurd (cc)
     by_cause None q e f =
-        let place = below_place s.limits.subs sub (missing (against_subscribe x) (by_command ++ by_room) refusals.BadSub q (0, omega arith, refl)) in
+        let place = leb-false s.limits.subs sub (missing (against_subscribe x) (by_command ++ by_room) refusals.BadSub q (0, omega arith, refl)) in
         let next : stamp ≡ s.stamp + 1 = cc in
         subst (λ (n : ℕ). IsPlaced s sub (record { query = query; stamp = n; shown = shown_at_first (held s) initial }) t) (sym next) (written s t sub query (shown_at_first (held s) initial) r place f)
 subscribed_leaves s t sub query initial overwrite stamp owed r (inl (inr w)) = absurd (let e : Subscribed stamp owed ≡ Refused _ = w.reply_is in cc)
@@ -147,7 +144,7 @@ module _ (s t : State) (sub max : ℕ) (seer : Subscription) (given : List Item)
   by_cause : (o : Option Refusal) → first_refusal (against_check (check_case s sub max (Some seer))) ≡ o → Checked given before after ≡ (out o).0 → t ≡ (out o).1 → IsCheckedOn s sub max seer given before after t
   by_cause (Some refusal) q e f = absurd (cc)
   by_cause None q e f =
-      by_items (below_place s.limits.subs sub (missing (against_check (check_case s sub max (Some seer))) (by_command ++ by_room) refusals.BadSub q (0, omega arith, refl))) (take max (unseen s seer)) refl e f
+      by_items (leb-false s.limits.subs sub (missing (against_check (check_case s sub max (Some seer))) (by_command ++ by_room) refusals.BadSub q (0, omega arith, refl))) (take max (unseen s seer)) refl e f
 
 pub checked_leaves : CheckedLeaves
 checked_leaves s t sub max seer items before after r here (inl (inl is)) =

@@ -1,7 +1,7 @@
 -- What every reached state has, after more was accepted and after a subscription was written.
-use Rattle.std.proofs.Common.{◌≡◌, ℕ, ◌+◌, ◌<◌, ◌==◌, Bool, true, false, List, [], ◌∷◌, ◌++◌, length, set, get_or, Some, None, refl, ap, sym, ◌∙◌, subst, inl, inr, ◌⊎◌, arith, Contains, append_assoc, length-set, get_or-set_same, get_or-set_other, eqb-true}
+use Rattle.std.proofs.Common.{◌≡◌, ℕ, ◌+◌, ◌<◌, ◌==◌, Bool, true, false, List, [], ◌∷◌, ◌++◌, length, set, get_or, Some, None, refl, ap, sym, ◌∙◌, subst, inl, inr, ◌⊎◌, arith, Contains, append_assoc, length-set, get_or-set_same, get_or-set_other, eqb-true, replicate, suc, zero}
 use Rattle.std.proofs.lemmas.Bool.{eqb-false}
-use Rattle.std.proofs.lemmas.List.{append-nil}
+use Rattle.std.proofs.lemmas.List.{append-nil, length-replicate}
 use Rattle.std.proofs.lemmas.List.Elements.{Contains-push_cases, Contains-append_left}
 use Rattle.std.proofs.lemmas.Option.{same_Some}
 use Rattle.ds_entry.specs.ItemCovers.{covers}
@@ -10,9 +10,11 @@ use Rattle.ds_join.specs.ItemTop.{IsPartOf, FitsOwners, HasOneOwnerInTurn}
 use Rattle.ds_join.proofs.ItemExistLemmas.{tops_is_top}
 use Rattle.ds_pattern.specs.declared.query.Query.{Query}
 use Rattle.ds_machine.specs.Subscription.{Subscription}
-use Rattle.ds_machine.specs.State.{State, accepts, subscribes, subscription_at}
+use Rattle.ds_machine.specs.State.{State, takes_effect, subscribes, subscription_at, opening}
 use Rattle.ds_machine.specs.Reached.{IsReached, IsServed, AreExact}
 use Rattle.ds_machine.specs.Effect.{IsNews, AreNews, HeldIsTop}
+use Rattle.ds_entry.proofs.Members.{Contains-nil}
+use Rattle.ds_held.specs.Limits.{LimitsRecord, IsLimits}
 
 pub held_is_top : HeldIsTop
 held_is_top s r = tops_is_top s.feed.accepted r.owners
@@ -26,7 +28,7 @@ abbrev tail_of : {X : Type 0} → List X → List X
 tail_of [] = []
 tail_of (x ∷ xs) = xs
 
-not_nothing : {X : Type 0} (front back : List X) (x : X) → [] ≡ front ++ x ∷ back → ⊥
+pub not_nothing : {X : Type 0} (front back : List X) (x : X) → [] ≡ front ++ x ∷ back → ⊥
 not_nothing [] back x e = cc
 not_nothing (y ∷ front) back x e = cc
 
@@ -60,7 +62,7 @@ exact_more accepted i exact newer x y h k over under = by_cases (Contains-push_c
     by_cases (inr p) (inl b) = absurd (never y b (subst (λ (z : Item). covers y z ≡ true) (sym p) over))
     by_cases (inr p) (inr q) = sym p ∙ q
 
-pub reached_more : (s : State) (i : Item) → IsReached s → IsNews s.feed.accepted i → IsReached (accepts s (i ∷ []))
+pub reached_more : (s : State) (i : Item) → IsReached s → IsNews s.feed.accepted i → IsReached (takes_effect s (i ∷ []))
 reached_more s i r news =
     record {
       limits = r.limits;
@@ -76,10 +78,10 @@ reached_more s i r news =
 abbrev pub with_accepted : State → List Item → State
 with_accepted s l = record s { feed = record s.feed { accepted = l } }
 
-pub reached_all : (s : State) (items : List Item) → IsReached s → AreNews s.feed.accepted items → IsReached (accepts s items)
+pub reached_all : (s : State) (items : List Item) → IsReached s → AreNews s.feed.accepted items → IsReached (takes_effect s items)
 reached_all s [] r news = subst IsReached (ap (with_accepted s) (sym (append-nil s.feed.accepted))) r
 reached_all s (i ∷ items) r news =
-    subst IsReached (ap (with_accepted s) (append_assoc s.feed.accepted (i ∷ []) items)) (reached_all (accepts s (i ∷ [])) items (reached_more s i r news.0) news.1)
+    subst IsReached (ap (with_accepted s) (append_assoc s.feed.accepted (i ∷ []) items)) (reached_all (takes_effect s (i ∷ [])) items (reached_more s i r news.0) news.1)
 
 -- ---- a subscription was written
 pub at_place : (s : State) (sub k : ℕ) (query : Query) (shown : List Item) → sub < length s.subscriptions
@@ -113,3 +115,19 @@ reached_served s sub query shown r place part =
       | inl at ↦ subst (λ (x : Subscription). IsServed (subscribes s sub query shown) x) (same_Some _ _ (sym at.1 ∙ e)) (record { shown = part; stamp = omega arith })
       | inr at ↦ (let was = r.served k seer (sym at ∙ e) in record { shown = was.shown; stamp = omega (arith, was.stamp) })
     ]
+
+-- ---- a store that was just opened
+no_seer : (n k : ℕ) (seer : Subscription) → get_or (replicate n None) k None ≡ Some seer → ⊥
+no_seer zero k seer e = cc
+no_seer (suc n) zero seer e = cc
+no_seer (suc n) (suc k) seer e = no_seer n k seer e
+
+pub opening_is_reached : (incarnation first ring : ℕ) (limits : LimitsRecord) → IsLimits limits → IsReached (opening incarnation first ring limits)
+opening_is_reached incarnation first ring limits l =
+    record {
+      limits = l;
+      places = length-replicate limits.subs None;
+      owners = λ front back i e. absurd (not_nothing front back i e);
+      exact = λ i j h k. absurd (Contains-nil i h);
+      served = λ k seer e. absurd (no_seer limits.subs k seer e);
+    }

@@ -14,9 +14,9 @@ use Rattle.ds_machine.specs.Scope.{is_kept}
 use Rattle.ds_watch.specs.Mask.{mask}
 use Rattle.ds_watch.specs.MaskBits.{mask_small, mask_bit}
 use Rattle.ds_machine.specs.Subscription.{Subscription, is_owed}
-use Rattle.ds_machine.specs.State.{State, held, cursor, accepts, subscribes, owed, unseen, subscription_at}
+use Rattle.ds_machine.specs.State.{State, held, cursor, takes_effect, subscribes, owed, unseen, subscription_at}
 use Rattle.ds_machine.specs.Order.{first_refusal}
-use Rattle.ds_machine.specs.Asking.{Request, published, deleted, asked_in, name_of, cause_against, sweep_cause}
+use Rattle.ds_machine.specs.Asking.{AskedChange, published, deleted, asked_in, name_of, cause_against, sweep_cause}
 use Rattle.ds_machine.specs.Calling.{against_subscribe, against_check, against_since, against_scope, against_page, against_merge}
 use Rattle.ds_machine.specs.Merging.{Course, course, begun, merging}
 use Rattle.ds_machine.specs.Watching.{shows, subscribe_case, owed_at_first, shown_at_first, check_case, checking_at}
@@ -79,16 +79,16 @@ module _ (s t : State) (refusal : Refusal) where
   by_outcome : (command : Command) → IsOutcome (outcome s command) (Refused refusal) t → t ≡ s
   unfolding is_refused
   by_outcome (Publish caller key version value overwrite) is =
-      let a : Request = published caller key version overwrite in
+      let a : AskedChange = published caller key version overwrite in
       let i : Item = Changed (asked_in s a (Put value)) in
-      stays_unless (cause_against s a (Put value)) answer_for (Accepted (owed s (i ∷ []))) (accepts s (i ∷ [])) is.reply_is is.state_is refl
+      stays_unless (cause_against s a (Put value)) answer_for (Accepted (owed s (i ∷ []))) (takes_effect s (i ∷ [])) is.reply_is is.state_is refl
   by_outcome (Delete caller key version) is =
-      let a : Request = deleted caller key version in
+      let a : AskedChange = deleted caller key version in
       let i : Item = Changed (asked_in s a Gone) in
-      stays_unless (cause_against s a Gone) answer_for (Accepted (owed s (i ∷ []))) (accepts s (i ∷ [])) is.reply_is is.state_is refl
+      stays_unless (cause_against s a Gone) answer_for (Accepted (owed s (i ∷ []))) (takes_effect s (i ∷ [])) is.reply_is is.state_is refl
   by_outcome (Sweep caller owner generation) is =
       let f : Floor = floor_of owner generation in
-      stays_unless (sweep_cause s caller f) sweep_answer (Swept (length (dropped (held s) f)) (owed s (Floored f ∷ []))) (accepts s (Floored f ∷ [])) is.reply_is is.state_is refl
+      stays_unless (sweep_cause s caller f) sweep_answer (Swept (length (dropped (held s) f)) (owed s (Floored f ∷ []))) (takes_effect s (Floored f ∷ [])) is.reply_is is.state_is refl
   by_outcome (Retrieve key) is = is.state_is
   by_outcome (NameOf endpoint) is = is.state_is
   by_outcome (Subscribe sub query initial overwrite) is =
@@ -200,14 +200,14 @@ owed_tells s items k =
     ap (λ n. n == 1) (mask_bit flags k) ∙ flag_of (get_or flags k false) ∙ owed_at items s.subscriptions k
 
 -- ---- what took effect, what is live, and whose name it is
-asked_says : (s t : State) (a : Request) (body : Body) (mask : ℕ) → Accepted mask ≡ (asking s a body).0 → t ≡ (asking s a body).1 → IsTaken s (Changed (asked_in s a body) ∷ []) mask t
+asked_says : (s t : State) (a : AskedChange) (body : Body) (mask : ℕ) → Accepted mask ≡ (asking s a body).0 → t ≡ (asking s a body).1 → IsTaken s (Changed (asked_in s a body) ∷ []) mask t
 asked_says s t a body mask e f = by_cause (cause_against s a body) e f
   where
     items : List Item
     items = Changed (asked_in s a body) ∷ []
 
     out : Option Cause → Reply × State
-    out o = option_map_or {U = Reply × State} (λ cause. (answer_for cause, s)) o (Accepted (owed s items), accepts s items)
+    out o = option_map_or {U = Reply × State} (λ cause. (answer_for cause, s)) o (Accepted (owed s items), takes_effect s items)
 
     by_cause : (o : Option Cause) → Accepted mask ≡ (out o).0 → t ≡ (out o).1 → IsTaken s items mask t
     by_cause (Some causes.Known) g h = absurd (cc)

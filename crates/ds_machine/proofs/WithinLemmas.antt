@@ -1,6 +1,6 @@
 -- Every state stays within the limits.
-use Rattle.std.proofs.Common.{◌≡◌, ℕ, ◌+◌, ◌<◌, ◌≤◌, Bool, true, false, not, ◌&&◌, nat_le, is_none, List, [], ◌∷◌, ◌++◌, length, take, fold, filter, Option, Some, None, refl, ap, sym, subst, inl, inr, arith, Contains, length-append}
-use Rattle.std.proofs.lemmas.Bool.{leb-false}
+use Rattle.std.proofs.Common.{◌≡◌, ℕ, ◌+◌, ◌<◌, ◌≤◌, Bool, true, false, not, ◌&&◌, nat_le, List, [], ◌∷◌, ◌++◌, length, take, fold, filter, Option, Some, None, refl, ap, sym, subst, inl, inr, arith, Contains, length-append}
+use Rattle.std.proofs.lemmas.Bool.{leb-false, not_from_true}
 use Rattle.std.specs.Ordering.{is_le}
 use Rattle.std.specs.Option.{option_map_or}
 use Rattle.ds_names.specs.Endpoint.{EndpointRecord}
@@ -17,13 +17,12 @@ use Rattle.ds_entry.proofs.CoversLemmas.{covers-make}
 use Rattle.ds_entry.proofs.ItemLemmas.{below-make}
 use Rattle.ds_join.specs.ItemTop.{held_after}
 use Rattle.ds_pattern.specs.declared.query.Query.{Query}
-use Rattle.ds_machine.specs.Limits.{most_floors, last_place}
 use Rattle.ds_machine.specs.Parts.{changes_in, floors_in, held_at, floor_at}
 use Rattle.ds_machine.specs.Subscription.{Subscription, is_unseen}
-use Rattle.ds_machine.specs.State.{State, held, position, accepts, owed, unseen, subscribes, subscription_at}
+use Rattle.ds_machine.specs.State.{State, held, next_position, takes_effect, owed, unseen, subscribes, subscription_at}
 use Rattle.ds_machine.specs.Order.{first_refusal, by_command, by_room}
-use Rattle.ds_machine.specs.Standing.{standing_of, floor_standing_of, HasRoom, cause_of}
-use Rattle.ds_machine.specs.Asking.{Request, published, deleted, name_of, asked_in, cause_against, sweep_cause}
+use Rattle.ds_machine.specs.Standing.{standing_of, floor_standing_of, HasRoom, cause_of, IsFree, IsFloorFree, HasFloorRoom}
+use Rattle.ds_machine.specs.Asking.{AskedChange, published, deleted, name_of, asked_in, cause_against, sweep_cause}
 use Rattle.ds_machine.specs.Calling.{SubscribeCase, against_subscribe, against_check, against_merge}
 use Rattle.ds_machine.specs.Merging.{Course, begun, item_merged, item_judged, merging}
 use Rattle.ds_machine.specs.Watching.{subscribing, subscribe_case, owed_at_first, shown_at_first, shows, has_unseen, check_case, checking, checking_at}
@@ -38,19 +37,15 @@ use Rattle.ds_machine.specs.declared.command.Command.TheVariants.{Publish, Delet
 use Rattle.ds_machine.specs.declared.reply.Reply.{Reply}
 use Rattle.ds_machine.specs.declared.reply.Reply.TheVariants.{Changed as Accepted, Swept, Subscribed, Refused}
 use Rattle.ds_machine.proofs.PartLemmas.{missing, key_found, owner_found}
-use Rattle.ds_machine.proofs.NewsLemmas.{IsAbove}
-use Rattle.ds_machine.proofs.CauseLemmas.{IsFree, IsFloorFree, change_free, asked_free, floor_is_free, sweep_is_free}
+use Rattle.ds_machine.proofs.CauseLemmas.{change_free, asked_free, floor_is_free, sweep_is_free}
 use Rattle.ds_machine.proofs.CountLemmas.{total, change_weight, floor_weight, changes_total, floors_total, total_filter, total_dropped, most_after, fold_push}
+use Rattle.ds_names.specs.Limits.{most_floors, last_place}
 
 -- ---- one more item takes effect
 -- nothing stands against the item
-pub HasPlace : State → Item → Type 0
+abbrev pub HasPlace : State → Item → Type 0
 HasPlace s (Changed c) = IsFree (standing_of s c) c
 HasPlace s (Floored f) = IsFloorFree (floor_standing_of s f) f
-
-covered_false : (b : Bool) → b ≡ true → not b ≡ false
-covered_false true e = refl
-covered_false false e = absurd (cc)
 
 module _ (s : State) (w : IsWithin s) where
   few_changes : total change_weight (held s) ≤ s.limits.keys
@@ -71,45 +66,44 @@ module _ (s : State) (w : IsWithin s) where
   change_room c (Some h) e room =
       let at = key_found (held s) c.key h e in
       let over : covers (Changed c) (Changed h) ≡ true = covers-make c h (sym at.1) room.0 (ap is_le room.1) in
-      let less : total change_weight (filter (λ j. not (covers (Changed c) j)) (held s)) + 1 ≤ total change_weight (held s) = total_dropped change_weight (λ j. not (covers (Changed c) j)) (held s) (Changed h) at.0 (covered_false (covers (Changed c) (Changed h)) over) in
+      let less : total change_weight (filter (λ j. not (covers (Changed c) j)) (held s)) + 1 ≤ total change_weight (held s) = total_dropped change_weight (λ j. not (covers (Changed c) j)) (held s) (Changed h) at.0 (not_from_true (covers (Changed c) (Changed h)) over) in
       omega (arith, less, few_changes)
 
-  floor_room : (f : Floor) (o : Option Floor) → floor_at (held s) f.owner ≡ o → IsAbove o f → is_none o && nat_le most_floors (length (floors_in (held s))) ≡ false
+  floor_room : (f : Floor) (o : Option Floor) → floor_at (held s) f.owner ≡ o → HasFloorRoom o (length (floors_in (held s))) f
       → 1 + total floor_weight (filter (λ j. not (covers (Floored f) j)) (held s)) ≤ most_floors
   unfolding floor_weight
-  floor_room f None e a room =
+  floor_room f None e room =
       let less = total_filter floor_weight (λ j. not (covers (Floored f) j)) (held s) in
       let n = floors_total (held s) in
-      let l : length (floors_in (held s)) < most_floors = leb-false most_floors (length (floors_in (held s))) room in
+      let l : length (floors_in (held s)) < most_floors = room in
       omega (arith, less, n, l)
-  floor_room f (Some g) e a room =
+  floor_room f (Some g) e room =
       let at = owner_found (held s) f.owner g e in
-      let low : g.generation < f.generation = a in
+      let low : g.generation < f.generation = room in
       let over : covers (Floored f) (Floored g) ≡ true = below-make g.owner f.owner g.generation f.generation (sym at.1) (omega (arith, low)) in
-      let less : total floor_weight (filter (λ j. not (covers (Floored f) j)) (held s)) + 1 ≤ total floor_weight (held s) = total_dropped floor_weight (λ j. not (covers (Floored f) j)) (held s) (Floored g) at.0 (covered_false (covers (Floored f) (Floored g)) over) in
+      let less : total floor_weight (filter (λ j. not (covers (Floored f) j)) (held s)) + 1 ≤ total floor_weight (held s) = total_dropped floor_weight (λ j. not (covers (Floored f) j)) (held s) (Floored g) at.0 (not_from_true (covers (Floored f) (Floored g)) over) in
       omega (arith, less, few_floors)
 
   -- the position after one more
-  next_position : (i : Item) → nat_le last_place (position s) ≡ false → position (accepts s (i ∷ [])) ≤ last_place
-  next_position i e =
-      let l : position s < last_place = leb-false last_place (position s) e in
+  position_more : (i : Item) → next_position s < last_place → next_position (takes_effect s (i ∷ [])) ≤ last_place
+  position_more i l =
       let n = length-append s.feed.accepted (i ∷ []) in
       omega (arith, l, n)
 
-  within_by : (i : Item) → total change_weight (held_after (held s) i) ≤ s.limits.keys → total floor_weight (held_after (held s) i) ≤ most_floors → nat_le last_place (position s) ≡ false → IsWithin (accepts s (i ∷ []))
+  within_by : (i : Item) → total change_weight (held_after (held s) i) ≤ s.limits.keys → total floor_weight (held_after (held s) i) ≤ most_floors → next_position s < last_place → IsWithin (takes_effect s (i ∷ []))
   within_by i few low left =
-      let now : held (accepts s (i ∷ [])) ≡ held_after (held s) i = fold_push held_after [] s.feed.accepted i in
+      let now : held (takes_effect s (i ∷ [])) ≡ held_after (held s) i = fold_push held_after [] s.feed.accepted i in
       let n = changes_total (held_after (held s) i) in
       let m = floors_total (held_after (held s) i) in
       record {
         keys = subst (λ l. length (changes_in l) ≤ s.limits.keys) (sym now) (omega (arith, n, few));
         floors = subst (λ l. length (floors_in l) ≤ most_floors) (sym now) (omega (arith, m, low));
-        position = next_position i left;
+        position = position_more i left;
         stamp = w.stamp;
       }
 
-  pub within_more : (i : Item) → HasPlace s i → IsWithin (accepts s (i ∷ []))
-  unfolding HasPlace change_weight floor_weight
+  pub within_more : (i : Item) → HasPlace s i → IsWithin (takes_effect s (i ∷ []))
+  unfolding change_weight floor_weight
   within_more (Changed c) free =
       let less = total_filter floor_weight (λ j. not (covers (Changed c) j)) (held s) in
       within_by (Changed c)
@@ -119,23 +113,20 @@ module _ (s : State) (w : IsWithin s) where
       let less = total_filter change_weight (λ j. not (covers (Floored f) j)) (held s) in
       within_by (Floored f)
       (most_after change_weight (held s) (Floored f) s.limits.keys few_changes (omega (arith, less, few_changes)))
-      (most_after floor_weight (held s) (Floored f) most_floors few_floors (floor_room f (floor_at (held s) f.owner) refl free.above free.room)) free.left
+      (most_after floor_weight (held s) (Floored f) most_floors few_floors (floor_room f (floor_at (held s) f.owner) refl free.room)) free.left
 
   -- ---- a subscription was written
   within_served : (sub : ℕ) (query : Query) (shown : List Item) → nat_le last_place s.stamp ≡ false → IsWithin (subscribes s sub query shown)
   within_served sub query shown e = let l : s.stamp < last_place = leb-false last_place s.stamp e in record { keys = w.keys; floors = w.floors; position = w.position; stamp = omega (arith, l) }
 
 item_place : (s : State) (i : Item) → cause_of s i ≡ None → HasPlace s i
-unfolding HasPlace
 item_place s (Changed c) e = change_free (standing_of s c) c e
 item_place s (Floored f) e = floor_is_free (floor_standing_of s f) f e
 
-asked_place : (s : State) (a : Request) (body : Body) → cause_against s a body ≡ None → HasPlace s (Changed (asked_in s a body))
-unfolding HasPlace
+asked_place : (s : State) (a : AskedChange) (body : Body) → cause_against s a body ≡ None → HasPlace s (Changed (asked_in s a body))
 asked_place s a body q = asked_free (standing_of s (asked_in s a body)) (name_of (held s) a.caller) a body q
 
 swept_place : (s : State) (caller : EndpointRecord) (f : Floor) → sweep_cause s caller f ≡ None → HasPlace s (Floored f)
-unfolding HasPlace
 swept_place s caller f q = sweep_is_free (floor_standing_of s f) caller f q
 
 -- ---- a merge
@@ -161,20 +152,20 @@ module _ (s t : State) (w : IsWithin s) where
   same : t ≡ s → IsWithin t
   same e = subst IsWithin (sym e) w
 
-  asked_within : (a : Request) (body : Body) → t ≡ (asking s a body).1 → IsWithin t
+  asked_within : (a : AskedChange) (body : Body) → t ≡ (asking s a body).1 → IsWithin t
   asked_within a body e = by_cause (cause_against s a body) refl e
     where
       i : Item
       i = Changed (asked_in s a body)
 
-      by_cause : (o : Option Cause) → cause_against s a body ≡ o → t ≡ (option_map_or {U = Reply × State} (λ cause. (answer_for cause, s)) o (Accepted (owed s (i ∷ [])), accepts s (i ∷ []))).1 → IsWithin t
+      by_cause : (o : Option Cause) → cause_against s a body ≡ o → t ≡ (option_map_or {U = Reply × State} (λ cause. (answer_for cause, s)) o (Accepted (owed s (i ∷ [])), takes_effect s (i ∷ []))).1 → IsWithin t
       by_cause (Some cause) q f = same f
       by_cause None q f = subst IsWithin (sym f) (within_more s w i (asked_place s a body q))
 
   swept_within : (caller : EndpointRecord) (f : Floor) → t ≡ (sweeping s caller f).1 → IsWithin t
   swept_within caller f e = by_cause (sweep_cause s caller f) refl e
     where
-      by_cause : (o : Option Cause) → sweep_cause s caller f ≡ o → t ≡ (option_map_or {U = Reply × State} (λ cause. (sweep_answer cause, s)) o (Swept (length (dropped (held s) f)) (owed s (Floored f ∷ [])), accepts s (Floored f ∷ []))).1 → IsWithin t
+      by_cause : (o : Option Cause) → sweep_cause s caller f ≡ o → t ≡ (option_map_or {U = Reply × State} (λ cause. (sweep_answer cause, s)) o (Swept (length (dropped (held s) f)) (owed s (Floored f ∷ [])), takes_effect s (Floored f ∷ []))).1 → IsWithin t
       by_cause (Some cause) q g = same g
       by_cause None q g = subst IsWithin (sym g) (within_more s w (Floored f) (swept_place s caller f q))
 

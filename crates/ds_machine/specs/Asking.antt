@@ -2,33 +2,30 @@
 use Rattle.std.specs.Prelude.{ℕ, Bool, true, false, not, ◌&&◌, ◌==◌, nat_le, List, Option, Some, None, is_some, is_none, cond}
 use Rattle.std.specs.List.{find}
 use Rattle.std.specs.Option.{option_map, unwrap_or}
-use Rattle.ds_names.specs.declared.kind.Kind.{Kind}
 use Rattle.ds_names.specs.declared.key.Key.{Key}
-use Rattle.ds_names.specs.Kind.{kind_place}
+use Rattle.ds_names.specs.Kind.{is_label}
 use Rattle.ds_names.specs.declared.version.Version.{Version}
-use Rattle.ds_names.specs.Endpoint.{EndpointRecord, endpoint_of}
-use Rattle.ds_entry.specs.declared.body.Value.TheVariants as values
+use Rattle.ds_names.specs.Endpoint.{EndpointRecord, is_rs}
 use Rattle.ds_entry.specs.declared.body.Body.{Body}
-use Rattle.ds_entry.specs.declared.body.Body.TheVariants.{Put, Gone}
 use Rattle.ds_entry.specs.declared.floor.Floor.{Floor}
 use Rattle.ds_entry.specs.declared.item.Item.{Item}
-use Rattle.ds_entry.specs.Change.{ChangeRecord, change_of, rs_name, kind_of}
-use Rattle.ds_entry.specs.Void.{is_label}
-use Rattle.ds_join.specs.Label.{is_same_endpoint, names_endpoint}
-use Rattle.ds_join.specs.Reading.{value_of}
-use Rattle.ds_machine.specs.Limits.{last_seq}
+use Rattle.ds_entry.specs.Change.{ChangeRecord, change_of, is_of_kind, is_label_body}
+use Rattle.ds_join.specs.Label.{names_endpoint}
 use Rattle.ds_machine.specs.Parts.{changes_in}
 use Rattle.ds_machine.specs.State.{State, held}
 use Rattle.ds_machine.specs.Order.{first_cause}
-use Rattle.ds_machine.specs.Standing.{Standing, standing_of, on_held, against_change, FloorStanding, floor_standing_of, against_floor, is_same_name}
+use Rattle.ds_machine.specs.Standing.{Standing, standing_of, on_held, against_change, FloorStanding, floor_standing_of, against_floor}
 use Rattle.ds_machine.specs.declared.refusal.Cause.{Cause}
 use Rattle.ds_machine.specs.declared.refusal.Cause.TheVariants.{Refused}
 use Rattle.ds_machine.specs.declared.refusal.Refusal.TheVariants.{BadKind, BadLabel, BadVersion, NoCaller, NotAllowed, Exists, NotFound}
+use Rattle.ds_names.specs.Limits.{last_seq}
+use Rattle.ds_names.specs.Name.{is_same_name, rs_name}
+use Rattle.ds_entry.specs.Left.{value_of}
 
 -- ---- a Publish or a Delete
 
 -- what a caller asks, beside the body of the change, and whether it may come where an entry is live, and where none is
-pub record Request : Type 0 where
+pub record AskedChange : Type 0 where
   pub caller : EndpointRecord
   pub key : Key
   pub version : Version
@@ -36,41 +33,27 @@ pub record Request : Type 0 where
   pub over_none : Bool
 
 -- what a Publish asks, beside its put: without overwrite only where nothing is live
-abbrev pub published : EndpointRecord → Key → Version → Bool → Request
+abbrev pub published : EndpointRecord → Key → Version → Bool → AskedChange
 published caller key version overwrite = record { caller = caller; key = key; version = version; over_live = overwrite; over_none = true }
 
 -- what a Delete asks, beside its tombstone: only of what is live
-abbrev pub deleted : EndpointRecord → Key → Version → Request
+abbrev pub deleted : EndpointRecord → Key → Version → AskedChange
 deleted caller key version = record { caller = caller; key = key; version = version; over_live = true; over_none = false }
-
-abbrev pub is_rs : EndpointRecord → Bool
-is_rs e = is_same_endpoint e (endpoint_of 0 2)
 
 -- the name of an endpoint: RS is `rs`, another one the least name whose live label holds it
 abbrev pub name_of : List Item → EndpointRecord → Option (List ℕ)
 name_of held e = cond (is_rs e) (Some rs_name) (option_map (λ (c : ChangeRecord). c.key.name) (find (names_endpoint e) (changes_in held)))
 
--- a put has a value of the kind
-abbrev pub is_of_kind : Kind → Body → Bool
-is_of_kind kind (Put value) = kind_place (kind_of value) == kind_place kind
-is_of_kind kind Gone = true
-
--- a label is put with number 0, under its endpoint's generation, and is gone with number 1
-abbrev pub is_label_body : Version → Body → Bool
-is_label_body version (Put (values.Label e)) = version.seq == 0 && version.epoch == e.generation
-is_label_body version (Put _) = false
-is_label_body version Gone = version.seq == 1
-
 -- a label isn't called `rs`, and its epoch isn't 0
-abbrev pub is_label_change : Request → Body → Bool
+abbrev pub is_label_change : AskedChange → Body → Bool
 is_label_change a body = not (is_same_name a.key.name rs_name) && (not (a.version.epoch == 0) && is_label_body a.version body)
 
 -- a caller numbers its own entries in its own generation, below the last number
-abbrev pub is_callers_version : Request → Bool
+abbrev pub is_callers_version : AskedChange → Bool
 is_callers_version a = a.version.epoch == a.caller.generation && not (nat_le last_seq a.version.seq)
 
 -- the change that is asked for, in the name of the caller
-abbrev pub change_asked : Option (List ℕ) → Request → Body → ChangeRecord
+abbrev pub change_asked : Option (List ℕ) → AskedChange → Body → ChangeRecord
 change_asked caller a body = change_of a.key (unwrap_or caller rs_name) a.version body
 
 -- the held change leaves a value
@@ -78,7 +61,7 @@ abbrev pub is_live : Option ChangeRecord → Bool
 is_live held = on_held held (λ h. is_some (value_of h))
 
 -- what stands against a Publish or a Delete, `caller` being the caller's name
-abbrev pub against_asked : Standing → Option (List ℕ) → Request → Body → Cause → Bool
+abbrev pub against_asked : Standing → Option (List ℕ) → AskedChange → Body → Cause → Bool
 against_asked t caller a body (Refused BadKind) = not (is_of_kind a.key.kind body)
 against_asked t caller a body (Refused BadLabel) = is_label a.key.kind && not (is_label_change a body)
 against_asked t caller a body (Refused BadVersion) = not (is_label a.key.kind) && not (is_callers_version a)
@@ -89,10 +72,10 @@ against_asked t caller a body (Refused NotFound) = not (is_live t.held) && not a
 against_asked t caller a body cause = against_change t (change_asked caller a body) cause
 
 -- the change that the caller asks for in this state
-abbrev pub asked_in : State → Request → Body → ChangeRecord
+abbrev pub asked_in : State → AskedChange → Body → ChangeRecord
 asked_in s a body = change_asked (name_of (held s) a.caller) a body
 
-abbrev pub cause_against : State → Request → Body → Option Cause
+abbrev pub cause_against : State → AskedChange → Body → Option Cause
 cause_against s a body = first_cause (Some a.version) (against_asked (standing_of s (asked_in s a body)) (name_of (held s) a.caller) a body)
 
 -- ---- a Sweep

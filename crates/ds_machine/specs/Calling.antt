@@ -4,11 +4,11 @@ use Rattle.ds_feed.specs.Feed.{Feed, position}
 use Rattle.ds_feed.specs.declared.cursor.Cursor.{Cursor}
 use Rattle.ds_pattern.specs.declared.query.Query.{Query}
 use Rattle.ds_pattern.specs.Patterns.{is_pattern}
-use Rattle.ds_machine.specs.Limits.{most_items, longest_pattern, last_place}
 use Rattle.ds_machine.specs.declared.command.Scope.{Scope}
 use Rattle.ds_machine.specs.declared.command.Scope.TheVariants.{All, Under}
 use Rattle.ds_machine.specs.declared.refusal.Refusal.{Refusal}
 use Rattle.ds_machine.specs.declared.refusal.Refusal.TheVariants.{BadSub, TooMany, TooLong, BadPattern, Exists, NotFound, OldCursor, Ahead, Behind, Worn}
+use Rattle.ds_names.specs.Limits.{most_items, longest_pattern, last_place}
 
 -- not 1 to 256
 abbrev pub is_no_max : ℕ → Bool

@@ -8,7 +8,7 @@ use Rattle.ds_entry.specs.Floor.{floor_of}
 use Rattle.ds_held.specs.Limits.{LimitsRecord, IsLimits}
 use Rattle.ds_join.specs.ItemTop.{IsTop, IsPartOf, CoversAll, FitsOwners}
 use Rattle.ds_pattern.specs.declared.query.Query.{Query}
-use Rattle.ds_machine.specs.State.{State, held, accepts, subscribes, opening}
+use Rattle.ds_machine.specs.State.{State, held, takes_effect, subscribes, opening}
 use Rattle.ds_machine.specs.Asking.{published, deleted, asked_in}
 use Rattle.ds_machine.specs.Machine.{Step, Run}
 use Rattle.ds_machine.specs.Reached.{IsReached}
@@ -53,7 +53,7 @@ pub record Grows (old : State) (learnt : List Item) (new : State) : Type 0 where
   pub items : List Item
   pub news : AreNews old.feed.accepted items
   pub part : IsPartOf items learnt
-  pub state_is : new ≡ accepts old items
+  pub state_is : new ≡ takes_effect old items
 
 -- the command may change the subscription at the place
 abbrev pub uses : ℕ → Command → Bool

@@ -8,7 +8,7 @@ use Rattle.ds_entry.specs.declared.body.Value.TheVariants.{Label, U32}
 use Rattle.ds_entry.specs.declared.body.Body.TheVariants.{Put, Gone}
 use Rattle.ds_entry.specs.declared.item.Item.{Item}
 use Rattle.ds_entry.specs.declared.item.Item.TheVariants.{Change as Changed, Floor as Floored}
-use Rattle.ds_entry.specs.Change.{change_of, rs_name}
+use Rattle.ds_entry.specs.Change.{change_of}
 use Rattle.ds_entry.specs.Floor.{floor_of}
 use Rattle.ds_feed.specs.declared.cursor.Cursor.{Cursor}
 use Rattle.ds_held.specs.Limits.{larger}
@@ -20,6 +20,7 @@ use Rattle.ds_machine.specs.declared.command.Command.{Command}
 use Rattle.ds_machine.specs.declared.command.Command.TheVariants.{Publish, Delete, Sweep, Retrieve, NameOf, Since, Snapshot, Page, Merge}
 use Rattle.ds_machine.specs.declared.reply.Reply.{Reply}
 use Rattle.ds_machine.specs.declared.reply.Reply.TheVariants.{Changed as Accepted, Known, Swept, Found, Named, Journaled, Snapped, Paged, Merged, MergeStopped, Refused}
+use Rattle.ds_names.specs.Name.{rs_name}
 
 -- the answers to the commands, one after the other
 abbrev pub replies_from : State → List Command → List Reply
@@ -46,12 +47,12 @@ abbrev put : List ℕ → List ℕ → Version → ℕ → Item
 put name owner version value = Changed (change_of (number name) owner version (Put (U32 value)))
 
 -- a label, as an item
-abbrev driver : List ℕ → ℕ → ℕ → Item
-driver name generation slot = Changed (change_of (label name) rs_name (at generation 0) (Put (Label (endpoint_of generation slot))))
+abbrev driver_item : List ℕ → ℕ → ℕ → Item
+driver_item name generation slot = Changed (change_of (label name) rs_name (at generation 0) (Put (Label (endpoint_of generation slot))))
 
 -- two drivers, of which one publishes its MTU
-abbrev started : List Command
-started =
+abbrev two_drivers : List Command
+two_drivers =
     Publish rs (label (codes "eth0")) (at 3 0) (Label (endpoint_of 3 17)) false ∷
     Publish rs (label (codes "tty")) (at 4 0) (Label (endpoint_of 4 18)) false ∷
     Publish (endpoint_of 3 17) (number (codes "mtu")) (at 3 0) (U32 1500) false ∷ []
@@ -59,7 +60,7 @@ started =
 -- refusals of further publishes, in their order
 abbrev pub PublishRow : Type 0
 PublishRow =
-    replies_from (opening 1 0 256 larger) (started ++
+    replies_from (opening 1 0 256 larger) (two_drivers ++
     Publish (endpoint_of 4 18) (number (codes "mtu")) (at 4 0) (U32 9000) true ∷
     Publish (endpoint_of 3 17) (number (codes "mtu")) (at 3 1) (U32 1400) false ∷
     Publish (endpoint_of 3 17) (number (codes "mtu")) (at 3 0) (U32 1500) false ∷
@@ -78,7 +79,7 @@ PublishRow =
 -- a floor under what a dead driver left: late changes are stale, and the key is free for another owner
 abbrev pub SweepRow : Type 0
 SweepRow =
-    replies_from (opening 1 0 256 larger) (started ++
+    replies_from (opening 1 0 256 larger) (two_drivers ++
     Sweep (endpoint_of 3 17) (codes "eth0") 3 ∷
     Sweep rs (codes "eth0") 3 ∷
     Sweep rs (codes "eth0") 3 ∷
@@ -92,9 +93,9 @@ SweepRow =
     Snapshot All ∷ [])
     ≡ Accepted 0 ∷ Accepted 0 ∷ Accepted 0 ∷
     Refused NotAllowed ∷ Swept 1 0 ∷ Swept 0 0 ∷ Swept 0 0 ∷ Merged 3 0 2 0 ∷ Refused Stale ∷ Refused Stale ∷
-    Snapped (record { items = Floored (floor_of (codes "eth0") 3) ∷ driver (codes "eth0") 3 17 ∷ driver (codes "tty") 4 18 ∷ []; cursor = cursor_at 1 4 }) ∷
+    Snapped (record { items = Floored (floor_of (codes "eth0") 3) ∷ driver_item (codes "eth0") 3 17 ∷ driver_item (codes "tty") 4 18 ∷ []; cursor = cursor_at 1 4 }) ∷
     Accepted 0 ∷ Merged 2 2 0 0 ∷
-    Snapped (record { items = Floored (floor_of (codes "eth0") 3) ∷ Floored (floor_of (codes "tty") 4) ∷ driver (codes "eth0") 3 17 ∷ put (codes "mtu") (codes "eth0") (at 4 0) 7 ∷ driver (codes "tty") 4 18 ∷ []; cursor = cursor_at 1 7 }) ∷ []
+    Snapped (record { items = Floored (floor_of (codes "eth0") 3) ∷ Floored (floor_of (codes "tty") 4) ∷ driver_item (codes "eth0") 3 17 ∷ put (codes "mtu") (codes "eth0") (at 4 0) 7 ∷ driver_item (codes "tty") 4 18 ∷ []; cursor = cursor_at 1 7 }) ∷ []
 
 -- a ring of two, and cursors that it doesn't reach
 abbrev pub RingRow : Type 0
@@ -119,15 +120,15 @@ RingRow =
 -- pages: all floors on the first, and the last one where no change is left
 abbrev pub PageRow : Type 0
 PageRow =
-    replies_from (opening 1 0 256 larger) (started ++
+    replies_from (opening 1 0 256 larger) (two_drivers ++
     Sweep rs (codes "eth0") 3 ∷
     Page All None 1 ∷
     Page All (Some (label (codes "eth0"))) 1 ∷
     Page All (Some (label (codes "tty"))) 1 ∷
     Page All None 0 ∷ [])
     ≡ Accepted 0 ∷ Accepted 0 ∷ Accepted 0 ∷ Swept 1 0 ∷
-    Paged (record { items = Floored (floor_of (codes "eth0") 3) ∷ driver (codes "eth0") 3 17 ∷ []; last = false; cursor = cursor_at 1 4 }) ∷
-    Paged (record { items = driver (codes "tty") 4 18 ∷ []; last = true; cursor = cursor_at 1 4 }) ∷
+    Paged (record { items = Floored (floor_of (codes "eth0") 3) ∷ driver_item (codes "eth0") 3 17 ∷ []; last = false; cursor = cursor_at 1 4 }) ∷
+    Paged (record { items = driver_item (codes "tty") 4 18 ∷ []; last = true; cursor = cursor_at 1 4 }) ∷
     Paged (record { items = []; last = true; cursor = cursor_at 1 4 }) ∷
     Refused TooMany ∷ []
 

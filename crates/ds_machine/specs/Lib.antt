@@ -1,4 +1,3 @@
-pub mod Limits
 pub mod Scope
 pub mod Parts
 pub mod Subscription

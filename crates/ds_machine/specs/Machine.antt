@@ -12,16 +12,14 @@ use Rattle.ds_entry.specs.declared.item.Item.TheVariants.{Change as Changed, Flo
 use Rattle.ds_entry.specs.Change.{ChangeRecord}
 use Rattle.ds_entry.specs.Floor.{floor_of}
 use Rattle.ds_entry.specs.Void.{voids}
-use Rattle.ds_join.specs.Reading.{value_of}
 use Rattle.ds_feed.specs.declared.cursor.Cursor.{Cursor}
 use Rattle.ds_feed.specs.Since.{since_of}
 use Rattle.ds_feed.specs.Page.{snapshot_of, page_of}
-use Rattle.ds_machine.specs.Limits.{most_items}
 use Rattle.ds_machine.specs.Scope.{is_kept}
 use Rattle.ds_machine.specs.Parts.{changes_in, held_at}
-use Rattle.ds_machine.specs.State.{State, held, cursor, accepts, owed}
+use Rattle.ds_machine.specs.State.{State, held, cursor, takes_effect, owed}
 use Rattle.ds_machine.specs.Order.{first_refusal}
-use Rattle.ds_machine.specs.Asking.{Request, published, deleted, name_of, asked_in, cause_against, sweep_cause}
+use Rattle.ds_machine.specs.Asking.{AskedChange, published, deleted, name_of, asked_in, cause_against, sweep_cause}
 use Rattle.ds_machine.specs.Calling.{against_scope, against_since, against_page, against_merge}
 use Rattle.ds_machine.specs.Merging.{course, merging}
 use Rattle.ds_machine.specs.Watching.{subscribing, checking}
@@ -33,6 +31,8 @@ use Rattle.ds_machine.specs.declared.command.Command.{Command}
 use Rattle.ds_machine.specs.declared.command.Command.TheVariants.{Publish, Delete, Sweep, Retrieve, NameOf, Subscribe, Check, Since, Snapshot, Page, Merge}
 use Rattle.ds_machine.specs.declared.reply.Reply.{Reply}
 use Rattle.ds_machine.specs.declared.reply.Reply.TheVariants.{Changed as Accepted, Known, Swept, Found, Named, Journaled, Snapped, Paged, MergeStopped, Refused}
+use Rattle.ds_names.specs.Limits.{most_items}
+use Rattle.ds_entry.specs.Left.{value_of}
 
 -- ---- a Publish or a Delete
 
@@ -42,10 +42,10 @@ answer_for causes.Known = Known
 answer_for (causes.Refused refusal) = Refused refusal
 
 -- it takes effect unless a cause stands against it
-abbrev pub asking : State → Request → Body → Reply × State
+abbrev pub asking : State → AskedChange → Body → Reply × State
 asking s a body =
     option_map_or (λ cause. (answer_for cause, s)) (cause_against s a body)
-    (Accepted (owed s (Changed (asked_in s a body) ∷ [])), accepts s (Changed (asked_in s a body) ∷ []))
+    (Accepted (owed s (Changed (asked_in s a body) ∷ [])), takes_effect s (Changed (asked_in s a body) ∷ []))
 
 -- ---- a Sweep
 
@@ -63,7 +63,7 @@ dropped held f = filter (λ (c : ChangeRecord). voids f c && is_some (value_of c
 abbrev pub sweeping : State → EndpointRecord → Floor → Reply × State
 sweeping s caller f =
     option_map_or (λ cause. (sweep_answer cause, s)) (sweep_cause s caller f)
-    (Swept (length (dropped (held s) f)) (owed s (Floored f ∷ [])), accepts s (Floored f ∷ []))
+    (Swept (length (dropped (held s) f)) (owed s (Floored f ∷ [])), takes_effect s (Floored f ∷ []))
 
 -- ---- a Retrieve and a NameOf
 

@@ -2,7 +2,7 @@
 use Rattle.std.specs.Prelude.{ℕ, ◌+◌, List, [], ◌∷◌, ◌++◌, length, fold, Option, Some, None}
 use Rattle.std.specs.Option.{option_map_or}
 use Rattle.ds_entry.specs.declared.item.Item.{Item}
-use Rattle.ds_machine.specs.State.{State, accepts, owed}
+use Rattle.ds_machine.specs.State.{State, takes_effect, owed}
 use Rattle.ds_machine.specs.Standing.{cause_of}
 use Rattle.ds_machine.specs.declared.refusal.Cause.{Cause}
 use Rattle.ds_machine.specs.declared.refusal.Cause.TheVariants as causes
@@ -24,7 +24,7 @@ begun s = record { state = s; done = 0; taken = []; stale = 0; stop = None }
 
 -- an item takes effect, is known or stale, or stops the merge
 abbrev pub item_judged : Course → Item → Option Cause → Course
-item_judged k i None = record k { state = accepts k.state (i ∷ []); done = k.done + 1; taken = k.taken ++ i ∷ [] }
+item_judged k i None = record k { state = takes_effect k.state (i ∷ []); done = k.done + 1; taken = k.taken ++ i ∷ [] }
 item_judged k i (Some causes.Known) = record k { done = k.done + 1 }
 item_judged k i (Some (causes.Refused refusals.Stale)) = record k { done = k.done + 1; stale = k.stale + 1 }
 item_judged k i (Some (causes.Refused refusal)) = record k { stop = Some refusal }

@@ -17,7 +17,7 @@ use Rattle.ds_pattern.specs.declared.query.Query.{Query}
 use Rattle.ds_machine.specs.Scope.{is_kept}
 use Rattle.ds_watch.specs.Mask.{has_bit}
 use Rattle.ds_machine.specs.Subscription.{Subscription, is_owed}
-use Rattle.ds_machine.specs.State.{State, held, cursor, unseen, accepts, owed, subscribes, subscription_at}
+use Rattle.ds_machine.specs.State.{State, held, cursor, unseen, takes_effect, owed, subscribes, subscription_at}
 use Rattle.ds_entry.specs.declared.body.Value.{Value}
 use Rattle.ds_machine.specs.Asking.{name_of}
 use Rattle.ds_machine.specs.Machine.{Step, dropped, live_at}
@@ -38,7 +38,7 @@ RefusedSays = (s t : State) (command : Command) (refusal : Refusal) → Step s c
 -- the change that was asked for took effect, and is owed to those under whose query it is
 pub record IsTaken (s : State) (items : List Item) (owed_mask : ℕ) (t : State) : Type 0 where
   pub owed_is : owed_mask ≡ owed s items
-  pub state_is : t ≡ accepts s items
+  pub state_is : t ≡ takes_effect s items
 
 abbrev pub ChangedSays : Type 0
 ChangedSays = (s t : State) (command : Command) (owed_mask : ℕ) → Step s command (Accepted owed_mask) t → IsTaken s (brought_by s command) owed_mask t
@@ -53,7 +53,7 @@ NamedSays = (s t : State) (endpoint : EndpointRecord) (name : List ℕ) → Step
 
 -- a floor that was swept took effect, or nothing changed; either way it is held then, or what covers it (LearntIsHeld)
 pub record IsSwept (s : State) (f : Floor) (count owed_mask : ℕ) (t : State) : Type 0 where
-  pub raised : ((count ≡ length (dropped (held s) f)) × (owed_mask ≡ owed s (Floored f ∷ [])) × (t ≡ accepts s (Floored f ∷ []))) ⊎ ((count ≡ 0) × (owed_mask ≡ 0) × (t ≡ s))
+  pub raised : ((count ≡ length (dropped (held s) f)) × (owed_mask ≡ owed s (Floored f ∷ [])) × (t ≡ takes_effect s (Floored f ∷ []))) ⊎ ((count ≡ 0) × (owed_mask ≡ 0) × (t ≡ s))
 
 abbrev pub SweptSays : Type 0
 SweptSays = (s t : State) (caller : EndpointRecord) (owner : List ℕ) (generation count owed_mask : ℕ) → Step s (Sweep caller owner generation) (Swept count owed_mask) t → IsSwept s (floor_of owner generation) count owed_mask t
@@ -104,12 +104,12 @@ abbrev pub MergedSays : Type 0
 MergedSays = (s t : State) (items : List Item) (done taken stale owed : ℕ) → IsReached s → Step s (Merge items) (Merged done taken stale owed) t → IsMerged items done taken stale t
 
 -- a merge that was stopped has done the first ones
-pub record IsStopped (items : List Item) (done : ℕ) (t : State) : Type 0 where
+pub record IsMergeStopped (items : List Item) (done : ℕ) (t : State) : Type 0 where
   pub holds : CoversAll (held t) (take done items)
   pub some_left : done < length items
 
 abbrev pub MergeStoppedSays : Type 0
-MergeStoppedSays = (s t : State) (items : List Item) (done : ℕ) (fault : Refusal) (owed : ℕ) → IsReached s → Step s (Merge items) (MergeStopped done fault owed) t → IsStopped items done t
+MergeStoppedSays = (s t : State) (items : List Item) (done : ℕ) (fault : Refusal) (owed : ℕ) → IsReached s → Step s (Merge items) (MergeStopped done fault owed) t → IsMergeStopped items done t
 
 -- a mask of subscriptions fits their places
 abbrev pub OwedFits : Type 0

@@ -4,7 +4,6 @@ use Rattle.ds_names.specs.declared.key.Key.{Key}
 use Rattle.ds_entry.specs.Item.{passes}
 use Rattle.ds_entry.specs.declared.item.Item.{Item}
 use Rattle.ds_feed.specs.Feed.{all_keys}
-use Rattle.ds_pattern.specs.declared.query.Query.{Query}
 use Rattle.ds_pattern.specs.Under.{is_under}
 use Rattle.ds_machine.specs.declared.command.Scope.{Scope}
 use Rattle.ds_machine.specs.declared.command.Scope.TheVariants.{All, Under}
@@ -17,7 +16,3 @@ keeps (Under query) key = is_under query key
 -- the item is under the scope; a floor is under each
 abbrev pub is_kept : Scope → Item → Bool
 is_kept scope i = passes (keeps scope) i
-
--- the item is under the query; a floor is under each
-abbrev pub is_item_under : Query → Item → Bool
-is_item_under query i = passes (is_under query) i

@@ -1,5 +1,5 @@
 -- What stands against a change or a floor that is to take effect.
-use Rattle.std.specs.Prelude.{◌≡◌, ℕ, ◌<◌, Bool, true, false, not, ◌&&◌, ◌||◌, ◌==◌, nat_le, nat_lt, List, length, Option, Some, None, is_none}
+use Rattle.std.specs.Prelude.{◌≡◌, ℕ, ◌<◌, Bool, true, false, not, ◌&&◌, ◌||◌, ◌==◌, nat_le, nat_lt, length, Option, Some, None, is_none}
 use Rattle.std.specs.declared.cmp.Ordering.TheVariants.{Less}
 use Rattle.std.specs.Ordering.{is_eq, is_gt}
 use Rattle.std.specs.Cmp.Lexicographic.{pointwise}
@@ -13,18 +13,15 @@ use Rattle.ds_entry.specs.declared.item.Item.{Item}
 use Rattle.ds_entry.specs.declared.item.Item.TheVariants.{Change as Changed, Floor as Floored}
 use Rattle.ds_entry.specs.Change.{ChangeRecord}
 use Rattle.ds_entry.specs.Void.{is_void}
-use Rattle.ds_join.specs.Label.{is_same_endpoint}
-use Rattle.ds_machine.specs.Limits.{most_floors, last_place}
 use Rattle.ds_machine.specs.Parts.{changes_in, floors_in, held_at, floor_at}
-use Rattle.ds_machine.specs.State.{State, held, position}
+use Rattle.ds_machine.specs.State.{State, held, next_position}
 use Rattle.ds_machine.specs.Order.{first_cause}
 use Rattle.ds_machine.specs.declared.refusal.Cause.{Cause}
 use Rattle.ds_machine.specs.declared.refusal.Cause.TheVariants.{Known, Refused}
 use Rattle.ds_machine.specs.declared.refusal.Refusal.TheVariants.{NotOwner, Clash, Stale, Full, Worn}
-
--- the names are one, byte by byte
-abbrev pub is_same_name : List ℕ → List ℕ → Bool
-is_same_name = pointwise ◌==◌
+use Rattle.ds_names.specs.Limits.{most_floors, last_place}
+use Rattle.ds_names.specs.Endpoint.{is_same_endpoint}
+use Rattle.ds_names.specs.Name.{is_same_name}
 
 abbrev pub is_same_value : Value → Value → Bool
 is_same_value (values.Label d) (values.Label e) = is_same_endpoint d e
@@ -50,7 +47,7 @@ pub record Standing : Type 0 where
   pub position : ℕ
 
 abbrev pub standing_of : State → ChangeRecord → Standing
-standing_of s c = record { held = held_at (held s) c.key; void = is_void (held s) c; count = length (changes_in (held s)); most = s.limits.keys; position = position s }
+standing_of s c = record { held = held_at (held s) c.key; void = is_void (held s) c; count = length (changes_in (held s)); most = s.limits.keys; position = next_position s }
 
 -- there is a held change, and it passes the test
 abbrev pub on_held : Option ChangeRecord → (ChangeRecord → Bool) → Bool
@@ -77,6 +74,13 @@ abbrev pub HasRoom : Option ChangeRecord → ℕ → ℕ → ChangeRecord → Ty
 HasRoom None count most c = count < most
 HasRoom (Some h) count most c = TakesPlace h c
 
+-- nothing stands against the change: there is room for its key, or it takes the place of what is held there, no floor makes
+-- it void, and a position is left
+pub record IsFree (t : Standing) (c : ChangeRecord) : Type 0 where
+  pub room : HasRoom t.held t.count t.most c
+  pub valid : t.void ≡ false
+  pub left : t.position < last_place
+
 -- ---- a floor
 
 -- what is there before it: the floor that is held of its owner, how many floors are held, and the position
@@ -86,7 +90,7 @@ pub record FloorStanding : Type 0 where
   pub position : ℕ
 
 abbrev pub floor_standing_of : State → Floor → FloorStanding
-floor_standing_of s f = record { held = floor_at (held s) f.owner; count = length (floors_in (held s)); position = position s }
+floor_standing_of s f = record { held = floor_at (held s) f.owner; count = length (floors_in (held s)); position = next_position s }
 
 -- there is a floor, and its generation passes the test
 abbrev pub on_floor : Option Floor → (ℕ → Bool) → Bool
@@ -100,6 +104,16 @@ against_floor t f Known = on_floor t.held (λ g. g == f.generation)
 against_floor t f (Refused Full) = is_none t.held && nat_le most_floors t.count
 against_floor t f (Refused Worn) = nat_le last_place t.position
 against_floor t f _ = false
+
+-- there is room for one more floor, or it is above the one that is held of its owner
+abbrev pub HasFloorRoom : Option Floor → ℕ → Floor → Type 0
+HasFloorRoom None count f = count < most_floors
+HasFloorRoom (Some g) count f = g.generation < f.generation
+
+-- nothing stands against the floor: there is room for it, and a position is left
+pub record IsFloorFree (t : FloorStanding) (f : Floor) : Type 0 where
+  pub room : HasFloorRoom t.held t.count f
+  pub left : t.position < last_place
 
 -- ---- an item
 

@@ -24,16 +24,16 @@ abbrev pub held : State → List Item
 held s = tops s.feed.accepted
 
 -- the position of the next item
-abbrev pub position : State → ℕ
-position s = feeds.position s.feed
+abbrev pub next_position : State → ℕ
+next_position s = feeds.position s.feed
 
 -- the cursor behind all that took effect
 abbrev pub cursor : State → Cursor
-cursor s = record { incarnation = s.feed.incarnation; position = position s }
+cursor s = record { incarnation = s.feed.incarnation; position = next_position s }
 
 -- the items take effect, one after the other
-abbrev pub accepts : State → List Item → State
-accepts s items = record s { feed = record s.feed { accepted = s.feed.accepted ++ items } }
+abbrev pub takes_effect : State → List Item → State
+takes_effect s items = record s { feed = record s.feed { accepted = s.feed.accepted ++ items } }
 
 -- what is still to be shown to the subscription: what is held and unseen, floors first, then in key order, tombstones too
 abbrev pub unseen : State → Subscription → List Item
@@ -57,7 +57,7 @@ owed s items = mask (map (is_owed items) s.subscriptions)
 -- the state of a store that was just opened
 abbrev pub opening : ℕ → ℕ → ℕ → LimitsRecord → State
 opening incarnation first ring limits = record {
-  feed = feeds.opening incarnation first ring;
+  feed = feeds.opening_feed incarnation first ring;
   limits = limits;
   stamp = first;
   subscriptions = replicate limits.subs None;

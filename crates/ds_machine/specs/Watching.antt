@@ -4,7 +4,6 @@ use Rattle.std.specs.List.{list_any}
 use Rattle.std.specs.Option.{option_map_or}
 use Rattle.ds_entry.specs.declared.item.Item.{Item}
 use Rattle.ds_pattern.specs.declared.query.Query.{Query}
-use Rattle.ds_machine.specs.Scope.{is_item_under}
 use Rattle.ds_machine.specs.Subscription.{Subscription, is_unseen}
 use Rattle.ds_machine.specs.State.{State, held, unseen, subscription_at, subscribes}
 use Rattle.ds_machine.specs.Order.{first_refusal}
@@ -12,10 +11,12 @@ use Rattle.ds_machine.specs.Calling.{SubscribeCase, CheckCase, against_subscribe
 use Rattle.ds_machine.specs.declared.refusal.Refusal.TheVariants as refusals
 use Rattle.ds_machine.specs.declared.reply.Reply.{Reply}
 use Rattle.ds_machine.specs.declared.reply.Reply.TheVariants.{Subscribed, Checked, Refused}
+use Rattle.ds_pattern.specs.Under.{is_under}
+use Rattle.ds_entry.specs.Item.{passes}
 
 -- the bit of the subscription, where with INITIAL something held is under the query: a key, of a tombstone too, or a floor
 abbrev pub owed_at_first : List Item → ℕ → Query → Bool → ℕ
-owed_at_first held sub query initial = cond (initial && list_any (is_item_under query) held) (2 ^ sub) 0
+owed_at_first held sub query initial = cond (initial && list_any (passes (is_under query)) held) (2 ^ sub) 0
 
 -- with INITIAL nothing was shown yet, without it all that is held
 abbrev pub shown_at_first : List Item → Bool → List Item

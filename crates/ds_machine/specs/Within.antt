@@ -1,18 +1,18 @@
 -- The limits within which every state stays.
 use Rattle.std.specs.Prelude.{ℕ, ◌≤◌, List, length}
 use Rattle.ds_held.specs.Limits.{LimitsRecord}
-use Rattle.ds_machine.specs.Limits.{most_floors, last_place}
 use Rattle.ds_machine.specs.Parts.{changes_in, floors_in}
-use Rattle.ds_machine.specs.State.{State, held, position, opening}
+use Rattle.ds_machine.specs.State.{State, held, next_position, opening}
 use Rattle.ds_machine.specs.Machine.{Step, Run}
 use Rattle.ds_machine.specs.declared.command.Command.{Command}
 use Rattle.ds_machine.specs.declared.reply.Reply.{Reply}
+use Rattle.ds_names.specs.Limits.{most_floors, last_place}
 
 -- no more keys and floors are held than may be, and no position or stamp passes the last one
 pub record IsWithin (s : State) : Type 0 where
   pub keys : length (changes_in (held s)) ≤ s.limits.keys
   pub floors : length (floors_in (held s)) ≤ most_floors
-  pub position : position s ≤ last_place
+  pub position : next_position s ≤ last_place
   pub stamp : s.stamp ≤ last_place
 
 abbrev pub OpeningIsWithin : Type 0

@@ -5,15 +5,14 @@ use Rattle.std.specs.Option.{option_map, option_map_or, unwrap_or}
 use Rattle.std.specs.Cmp.Lexicographic.{pointwise}
 use Rattle.std.proofs.lemmas.Bool.Decides.{eqb_tells, nat_tests}
 use Rattle.std.proofs.lemmas.List.Elements.{Contains-append_left, Contains-append_cases}
-use Rattle.ds_names.specs.Name.{IsName, is_name_byte}
-use Rattle.ds_names.specs.Kind.{kind_place}
+use Rattle.ds_names.specs.Name.{IsName, is_name_byte, is_same_name, rs_name}
+use Rattle.ds_names.specs.Kind.{kind_place, is_label}
 use Rattle.ds_names.specs.declared.kind.Kind.{Kind}
 use Rattle.ds_names.specs.declared.kind.Kind.TheVariants as kinds
 use Rattle.ds_names.specs.declared.version.Version.{Version}
-use Rattle.ds_entry.specs.Change.{ChangeRecord, rs_name, kind_of, IsOfKind, IsChange, IsLabelChange, IsLabelBody, IsBelowSweeps, KeepsRule}
+use Rattle.ds_entry.specs.Change.{ChangeRecord, kind_of, IsOfKind, IsChange, IsLabelChange, IsLabelBody, IsBelowSweeps, KeepsRule, is_of_kind, is_label_body}
 use Rattle.ds_entry.specs.Floor.{floor_of}
 use Rattle.ds_entry.specs.Item.{IsItem}
-use Rattle.ds_entry.specs.Void.{is_label}
 use Rattle.ds_entry.specs.declared.body.Value.TheVariants as values
 use Rattle.ds_entry.specs.declared.body.Body.{Body}
 use Rattle.ds_entry.specs.declared.body.Body.TheVariants.{Put, Gone}
@@ -22,12 +21,11 @@ use Rattle.ds_entry.specs.declared.item.Item.TheVariants.{Change as Changed, Flo
 use Rattle.ds_entry.proofs.Members.{Contains-nil, Contains-head, Contains-tail, Contains-single, Contains-map, Contains-from_take}
 use Rattle.ds_join.specs.Label.{names_endpoint}
 use Rattle.ds_whole.specs.Sent.{Sent}
-use Rattle.ds_machine.specs.Limits.{last_seq}
 use Rattle.ds_machine.specs.Parts.{changes_in}
-use Rattle.ds_machine.specs.State.{State, held, accepts, owed}
+use Rattle.ds_machine.specs.State.{State, held, takes_effect, owed}
 use Rattle.ds_machine.specs.Order.{by_command, by_version, by_room}
-use Rattle.ds_machine.specs.Standing.{standing_of, is_same_name}
-use Rattle.ds_machine.specs.Asking.{Request, published, deleted, is_rs, name_of, is_of_kind, is_label_body, is_label_change, is_callers_version, against_asked, asked_in, cause_against}
+use Rattle.ds_machine.specs.Standing.{standing_of}
+use Rattle.ds_machine.specs.Asking.{AskedChange, published, deleted, name_of, is_label_change, is_callers_version, against_asked, asked_in, cause_against}
 use Rattle.ds_machine.specs.Machine.{answer_for, Step}
 use Rattle.ds_machine.specs.Effect.{known_after, learnt_by}
 use Rattle.ds_machine.specs.declared.refusal.Cause.{Cause}
@@ -56,15 +54,12 @@ use Rattle.ds_replica.specs.Bringing.{AreParts, IsProper, IsProperEvent, EventsB
 use Rattle.ds_replica.proofs.FitLemmas.{store_fits, own_fits}
 use Rattle.ds_replica.proofs.GivenLemmas.{given_reply}
 use Rattle.ds_replica.proofs.EventLemmas.{event_fits}
+use Rattle.ds_names.specs.Limits.{last_seq}
+use Rattle.ds_names.specs.Endpoint.{is_rs}
+use Rattle.std.proofs.lemmas.Bool.{not-false}
+use Rattle.ds_machine.proofs.CauseLemmas.{left_of}
 
 -- ---- tests
-not_true : (b : Bool) → not b ≡ false → b ≡ true
-not_true true e = refl
-not_true false e = absurd (let n : true ≡ false = e in cc)
-
-left_true : (a b : Bool) → a && b ≡ true → a ≡ true
-left_true true b e = refl
-left_true false b e = absurd (let n : false ≡ true = e in cc)
 
 right_true : (a b : Bool) → a && b ≡ true → b ≡ true
 right_true true b e = e
@@ -72,7 +67,7 @@ right_true false b e = absurd (let n : false ≡ true = e in cc)
 
 -- what a label's test says, where it is a label's, and where it isn't
 where_label : (b : Bool) → true && not b ≡ false → b ≡ true
-where_label b e = not_true b e
+where_label b e = not-false b e
 
 equal_numbers : (m n : ℕ) → (m == n) ≡ true → m ≡ n
 equal_numbers m n e = elim (eqb_tells m n) [ inl y ↦ y.1 | inr d ↦ absurd (let q : true ≡ false = sym e ∙ d.0 in cc) ]
@@ -97,7 +92,7 @@ kind_is kinds.U32 _ e = absurd (let n : false ≡ true = e in cc)
 kind_is kinds.Str _ e = absurd (let n : false ≡ true = e in cc)
 kind_is kinds.Mem _ e = absurd (let n : false ≡ true = e in cc)
 
-text_is : (xs : List ℕ) → pointwise ◌==◌ xs xs ≡ true
+pub text_is : (xs : List ℕ) → pointwise ◌==◌ xs xs ≡ true
 text_is [] = refl
 text_is (x ∷ xs) = both (x == x) (pointwise ◌==◌ xs xs) (elim (eqb_tells x x) [ inl y ↦ y.0 | inr d ↦ absurd (d.1 refl) ]) (text_is xs)
   where
@@ -111,12 +106,12 @@ rs_is_name = record { some = omega arith; limit = omega arith; allowed = refl }
 
 -- ---- a change that a caller asks for
 -- the causes that stand by the command and its caller don't
-abbrev pub IsJudged : State → Request → Body → Type 0
+abbrev pub IsJudged : State → AskedChange → Body → Type 0
 IsJudged s a body = (r : Refusal) → Contains by_command r → against_asked (standing_of s (asked_in s a body)) (name_of (held s) a.caller) a body (causes.Refused r) ≡ false
 
-module _ (s : State) (a : Request) (body : Body) (items : AreItems (held s)) (parts : AreParts a.key a.version body) (free : IsJudged s a body) where
+module _ (s : State) (a : AskedChange) (body : Body) (items : AreItems (held s)) (parts : AreParts a.key a.version body) (free : IsJudged s a body) where
   right_kind : is_of_kind a.key.kind body ≡ true
-  right_kind = not_true (is_of_kind a.key.kind body) (free refusals.BadKind (4, omega arith, refl))
+  right_kind = not-false (is_of_kind a.key.kind body) (free refusals.BadKind (4, omega arith, refl))
 
   of_kind : (b : Body) → is_of_kind a.key.kind b ≡ true → IsOfKind a.key.kind b
   of_kind (Put value) e = kind_is (kind_of value) a.key.kind e
@@ -135,7 +130,7 @@ module _ (s : State) (a : Request) (body : Body) (items : AreItems (held s)) (pa
 
   label_body : (version : Version) (b : Body) → is_label_body version b ≡ true → IsLabelBody version b
   label_body version (Put (values.Label e)) t =
-      (equal_numbers version.seq 0 (left_true (version.seq == 0) (version.epoch == e.generation) t), equal_numbers version.epoch e.generation (right_true (version.seq == 0) (version.epoch == e.generation) t))
+      (equal_numbers version.seq 0 (left_of (version.seq == 0) (version.epoch == e.generation) t), equal_numbers version.epoch e.generation (right_true (version.seq == 0) (version.epoch == e.generation) t))
   label_body version (Put (values.U32 n)) t = let n : false ≡ true = t in cc
   label_body version (Put (values.Str n)) t = let n : false ≡ true = t in cc
   label_body version (Put (values.Mem n)) t = let n : false ≡ true = t in cc
@@ -147,10 +142,10 @@ module _ (s : State) (a : Request) (body : Body) (items : AreItems (held s)) (pa
       let allowed = free refusals.NotAllowed (8, omega arith, refl) in
       let test = where_label (is_label_change a body) (subst (λ (x : Kind). is_label x && not (is_label_change a body) ≡ false) k bad) in
       let rest = right_true (not (is_same_name a.key.name rs_name)) (not (a.version.epoch == 0) && is_label_body a.version body) test in
-      let epoch = not_equal a.version.epoch 0 (left_true (not (a.version.epoch == 0)) (is_label_body a.version body) rest) in
+      let epoch = not_equal a.version.epoch 0 (left_of (not (a.version.epoch == 0)) (is_label_body a.version body) rest) in
       record {
         owner = owner_of_rs (where_label (is_rs a.caller) (subst (λ (x : Kind). is_label x && not (is_rs a.caller) ≡ false) k allowed));
-        name = λ e. (let q : false ≡ true = sym (ap not (subst (λ (x : List ℕ). is_same_name a.key.name x ≡ true) e (text_is a.key.name))) ∙ left_true (not (is_same_name a.key.name rs_name)) (not (a.version.epoch == 0) && is_label_body a.version body) test in cc);
+        name = λ e. (let q : false ≡ true = sym (ap not (subst (λ (x : List ℕ). is_same_name a.key.name x ≡ true) e (text_is a.key.name))) ∙ left_of (not (is_same_name a.key.name rs_name)) (not (a.version.epoch == 0) && is_label_body a.version body) test in cc);
         epoch = positive a.version.epoch epoch;
         body = label_body a.version body (right_true (not (a.version.epoch == 0)) (is_label_body a.version body) rest);
       }
@@ -192,12 +187,12 @@ is_known : Cause → Bool
 is_known causes.Known = true
 is_known (causes.Refused r) = false
 
-judged_free : (s : State) (a : Request) (body : Body) → cause_against s a body ≡ None → IsJudged s a body
+judged_free : (s : State) (a : AskedChange) (body : Body) → cause_against s a body ≡ None → IsJudged s a body
 judged_free s a body e r h =
     missing (against_asked (standing_of s (asked_in s a body)) (name_of (held s) a.caller) a body) (map causes.Refused by_command ++ by_version (Some a.version) ++ map causes.Refused by_room) (causes.Refused r) e
     (Contains-append_left (map causes.Refused by_command) (by_version (Some a.version) ++ map causes.Refused by_room) (causes.Refused r) (Contains-map causes.Refused by_command r h))
 
-judged_known : (s : State) (a : Request) (body : Body) → cause_against s a body ≡ Some causes.Known → IsJudged s a body
+judged_known : (s : State) (a : AskedChange) (body : Body) → cause_against s a body ≡ Some causes.Known → IsJudged s a body
 unfolding is_known
 judged_known s a body e r h =
     passed (against_asked (standing_of s (asked_in s a body)) (name_of (held s) a.caller) a body) is_known (map causes.Refused by_command) (by_version (Some a.version) ++ map causes.Refused by_room) (causes.Refused r) causes.Known e refl refl
@@ -209,8 +204,8 @@ one_item i f j h = subst IsItem (sym (Contains-single i j h)) f
 no_items : AreItems []
 no_items i h = absurd (Contains-nil i h)
 
-asking_items : (s : State) (a : Request) (body : Body) (reply : Reply) → AreItems (held s) → AreParts a.key a.version body → (o : Option Cause) → cause_against s a body ≡ o
-    → reply ≡ (option_map_or {U = Reply × State} (λ (cause : Cause). (answer_for cause, s)) o (Accepted (owed s (Changed (asked_in s a body) ∷ [])), accepts s (Changed (asked_in s a body) ∷ []))).0 → AreItems (known_after reply (Changed (asked_in s a body) ∷ []))
+asking_items : (s : State) (a : AskedChange) (body : Body) (reply : Reply) → AreItems (held s) → AreParts a.key a.version body → (o : Option Cause) → cause_against s a body ≡ o
+    → reply ≡ (option_map_or {U = Reply × State} (λ (cause : Cause). (answer_for cause, s)) o (Accepted (owed s (Changed (asked_in s a body) ∷ [])), takes_effect s (Changed (asked_in s a body) ∷ []))).0 → AreItems (known_after reply (Changed (asked_in s a body) ∷ []))
 asking_items s a body reply items parts None q e =
     subst (λ (x : Reply). AreItems (known_after x (Changed (asked_in s a body) ∷ []))) (sym e) (one_item (Changed (asked_in s a body)) (asked_change s a body items parts (judged_free s a body q)))
 asking_items s a body reply items parts (Some causes.Known) q e =
@@ -230,10 +225,10 @@ refused_items : (reply : Reply) (refusal : Refusal) (items : List Item) → repl
 refused_items reply refusal items e = subst (λ (x : Reply). AreItems (known_after x items)) (sym e) no_items
 
 pub learnt_items : (s t : State) (command : Command) (reply : Reply) → AreItems (held s) → IsProper command → Step s command reply t → AreItems (learnt_by s command reply)
-learnt_items s t (Publish caller key version value overwrite) reply items p (inl (inl is)) = let a : Request = published caller key version overwrite in asking_items s a (Put value) reply items p (cause_against s a (Put value)) refl is.reply_is
+learnt_items s t (Publish caller key version value overwrite) reply items p (inl (inl is)) = let a : AskedChange = published caller key version overwrite in asking_items s a (Put value) reply items p (cause_against s a (Put value)) refl is.reply_is
 learnt_items s t (Publish caller key version value overwrite) reply items p (inl (inr w)) = refused_items reply refusals.NoRoom _ w.reply_is
 learnt_items s t (Publish caller key version value overwrite) reply items p (inr w) = absurd w
-learnt_items s t (Delete caller key version) reply items p (inl (inl is)) = let a : Request = deleted caller key version in asking_items s a Gone reply items p (cause_against s a Gone) refl is.reply_is
+learnt_items s t (Delete caller key version) reply items p (inl (inl is)) = let a : AskedChange = deleted caller key version in asking_items s a Gone reply items p (cause_against s a Gone) refl is.reply_is
 learnt_items s t (Delete caller key version) reply items p (inl (inr w)) = refused_items reply refusals.NoRoom _ w.reply_is
 learnt_items s t (Delete caller key version) reply items p (inr w) = absurd w
 learnt_items s t (Sweep caller owner generation) reply items p step = known_part reply (Floored (floor_of owner generation) ∷ []) (one_item (Floored (floor_of owner generation)) p)

@@ -34,15 +34,16 @@ use Rattle.ds_replica.specs.Known.{Account, store_of, message_items, extended, e
 use Rattle.ds_replica.specs.Fits.{Fits}
 use Rattle.ds_replica.specs.Turns.{is_side, empties_by, empties, Stays}
 use Rattle.ds_replica.specs.Messages.{IsAsked, feed_of, IsMessage}
-use Rattle.ds_replica.specs.Checks.{subscribes_by, subscribes, sent_in, check_sent, checked, ChecksAreWhole}
+use Rattle.ds_replica.specs.Checks.{subscribes_by, is_subscribing, sent_in, check_sent, checks_sent, ChecksAreWholeInWorlds}
 use Rattle.ds_replica.proofs.GivenLemmas.{check_given}
 use Rattle.ds_replica.proofs.FitLemmas.{store_fits, own_fits, items_given_back}
 use Rattle.ds_replica.proofs.EventLemmas.{event_fits, events_fit}
-use Rattle.ds_replica.proofs.TurnLemmas.{neither, items_store, goes_on, front_of}
+use Rattle.ds_replica.proofs.TurnLemmas.{items_store, goes_on, front_of}
 use Rattle.ds_machine.proofs.ReachedLemmas.{held_is_top}
 use Rattle.ds_replica.proofs.MessageLemmas.{gave, front}
-use Rattle.ds_replica.proofs.SeerLemmas.{Shows, same_seer, begins_shown, side_itself, one_side, store_put, itself, and_false, and_true}
+use Rattle.ds_replica.proofs.SeerLemmas.{Shows, same_seer, begins_shown, side_itself, one_side, store_put, itself, and_false}
 use Rattle.ds_replica.proofs.ShowLemmas.{check_none, event_shows}
+use Rattle.std.proofs.lemmas.Bool.{or_parts, and_from}
 
 -- ---- checks, one after the other
 -- the event is a Check of the subscription that made a message, or gave it nothing
@@ -65,9 +66,9 @@ items_append (x ∷ xs) ys = ap (λ (l : List Item). x.item ∷ l) (items_append
 pub record Rounds (account : Account) (side : Side) (sub : ℕ) (query : Query) (early f : Feed) (shown : List Item) (events : List (Event × Outcome)) : Type 0 where
   pub turns : List CheckTurn
   pub are : AreChecks early f (is_under query) shown turns
-  pub sent_are : check_items turns ≡ checked side sub account events
-  pub last : (t : CheckTurn) → IsCheckTurn early f (is_under query) (shown ++ items_of (checked side sub account events)) t → AreChecks early f (is_under query) shown (turns ++ t ∷ [])
-  pub shows : Shows (store_of (extended_all account events) side).state sub query (shown ++ items_of (checked side sub account events))
+  pub sent_are : check_items turns ≡ checks_sent side sub account events
+  pub last : (t : CheckTurn) → IsCheckTurn early f (is_under query) (shown ++ items_of (checks_sent side sub account events)) t → AreChecks early f (is_under query) shown (turns ++ t ∷ [])
+  pub shows : Shows (store_of (extended_all account events) side).state sub query (shown ++ items_of (checks_sent side sub account events))
 
 -- a check of the subscription, as a turn
 turn_at : (account : Account) (w late : World) (side : Side) (sub : ℕ) (query : Query) (max k : ℕ) (events : List (Event × Outcome)) (early f : Feed) (shown : List Item) → IsAsked account w side (Check sub max) k events late
@@ -87,7 +88,7 @@ turn_at account w late side sub query max k events early f shown asked h earlier
     let all : g.items ≡ l = sym c.2 ∙ ap (λ (x : Subscription). take max (unseen a.state x)) seer in
     let each : one.items ≡ l = sym d.2 ∙ ap (λ (x : Subscription). take max (unseen a.state x)) other in
     let t : CheckTurn = record { feed = a.state.feed; known = a.known; held = held a.state; max = max; items = l } in
-    let test = and_true (is_side side side) (sub == sub) (side_itself side) (itself sub) in
+    let test = and_from (is_side side side) (sub == sub) (side_itself side) (itself sub) in
     let turn : IsCheckTurn early f (is_under h.seer.query) h.seer.shown t = record { later = earlier; front = front_later a.state.feed (feed_of (extended_all account ((Ask side (Check sub max), Made k) ∷ events)) side) f (front account w late side (Check sub max) k events asked) later; knows = own.accepted; top = held_is_top a.state own.reached; given = refl } in (
       t,
       subst (λ (x : List Item). IsCheckTurn early f (is_under query) x t) h.shown_is (subst (λ (x : Query). IsCheckTurn early f (is_under x) h.seer.shown t) h.query_is turn),
@@ -111,7 +112,7 @@ module _ (side : Side) (sub : ℕ) (query : Query) (early f : Feed) where
     by_other : (event : Event) (out : Outcome) → check_sent side sub account event out ≡ [] → Rounds (extended account event out) side sub query early f (shown ++ items_of (check_sent side sub account event out)) es → Rounds account side sub query early f shown ((event, out) ∷ es)
     by_other event out e r =
         let cs = check_sent side sub account event out in
-        let rs = checked side sub (extended account event out) es in
+        let rs = checks_sent side sub (extended account event out) es in
         let same : shown ++ items_of cs ≡ shown = ap (λ (l : List Sent). shown ++ items_of l) e ∙ append-nil shown in
         record {
           turns = r.turns;
@@ -126,7 +127,7 @@ module _ (side : Side) (sub : ℕ) (query : Query) (early f : Feed) where
         → Rounds (extended account (Ask side (Check sub max)) (Made k)) side sub query early f (shown ++ items_of (check_sent side sub account (Ask side (Check sub max)) (Made k))) es → Rounds account side sub query early f shown ((Ask side (Check sub max), Made k) ∷ es)
     by_check max k a later r =
         let cs = check_sent side sub account (Ask side (Check sub max)) (Made k) in
-        let rs = checked side sub (extended account (Ask side (Check sub max)) (Made k)) es in
+        let rs = checks_sent side sub (extended account (Ask side (Check sub max)) (Made k)) es in
         let t = turn_at account w late side sub query max k es early f shown (record { fits = fits; happen = (mid, a, happen); stays = stays }) h earlier later in
         let same : items_of cs ≡ t.0.items = ap items_of t.4 ∙ items_given_back t.0.known t.0.items in
         record {
@@ -149,7 +150,7 @@ module _ (side : Side) (sub : ℕ) (query : Query) (early f : Feed) where
         (sym c.3) (λ x y z. by_check c.0 c.1 x y z))
         a later r
 
-  rounds : (events : List (Event × Outcome)) (account : Account) (w late : World) (shown : List Item) → Fits account w → HappenAll w events late → Stays (Store side) events → list_any (subscribes side sub) events ≡ false
+  rounds : (events : List (Event × Outcome)) (account : Account) (w late : World) (shown : List Item) → Fits account w → HappenAll w events late → Stays (Store side) events → list_any (is_subscribing side sub) events ≡ false
       → Shows (store_of account side).state sub query shown → IsFront early (feed_of account side) → IsFront (feed_of (extended_all account events) side) f → Rounds account side sub query early f shown events
   rounds [] account w late shown fits happen stays none h earlier later =
       record {
@@ -160,8 +161,8 @@ module _ (side : Side) (sub : ℕ) (query : Query) (early f : Feed) where
         shows = subst (Shows (store_of account side).state sub query) (sym (append-nil shown)) h;
       }
   rounds ((event, out) ∷ es) account w late shown fits happen stays none h earlier later =
-      let n = neither (empties_by (Store side) event out) (list_any (empties (Store side)) es) stays in
-      let m = neither (subscribes_by side sub event out) (list_any (subscribes side sub) es) none in
+      let n = or_parts (empties_by (Store side) event out) (list_any (empties (Store side)) es) stays in
+      let m = or_parts (subscribes_by side sub event out) (list_any (is_subscribing side sub) es) none in
       let mid = happen.0 in
       let next = event_fits account w mid event out fits happen.1 in
       let here = subst (λ (s : State). Shows s sub query shown) (store_fits account w side fits).state_is h in
@@ -174,7 +175,7 @@ module _ (side : Side) (sub : ℕ) (query : Query) (early f : Feed) where
       (rounds es (extended account event out) mid late (shown ++ items_of cs) next happen.2 n.1 m.1 shows front later)
 
 -- ---- from the Subscribe to the last Check
-happen_last : (events : List (Event × Outcome)) (w mid late : World) (event : Event) (out : Outcome) → HappenAll w events mid → Happens mid event out late → HappenAll w (events ++ (event, out) ∷ []) late
+pub happen_last : (events : List (Event × Outcome)) (w mid late : World) (event : Event) (out : Outcome) → HappenAll w events mid → Happens mid event out late → HappenAll w (events ++ (event, out) ∷ []) late
 happen_last [] w mid late event out h a = (late, subst (λ (x : World). Happens x event out late) h a, refl)
 happen_last (e ∷ events) w mid late event out h a = (h.0, h.1, happen_last events h.0 mid late event out h.2 a)
 
@@ -185,7 +186,7 @@ extended_last (e ∷ events) account event out = extended_last events (extended 
 stays_last : (h : Holder) (events : List (Event × Outcome)) (event : Event) (out : Outcome) → Stays h events → empties_by h event out ≡ false → Stays h (events ++ (event, out) ∷ [])
 stays_last h [] event out e q = or_none (empties_by h event out) q
 stays_last h (x ∷ events) event out e q =
-    let n = neither (empties h x) (list_any (empties h) events) e in
+    let n = or_parts (empties h x) (list_any (empties h) events) e in
     ap (λ (b : Bool). b || list_any (empties h) (events ++ (event, out) ∷ [])) n.0 ∙ stays_last h events event out n.1 q
 
 pub news_new : NewsAreNew
@@ -204,7 +205,7 @@ told_subscribed : (w : World) (reply : Reply) (stamp owed : ℕ) (o : Option (Li
 told_subscribed w reply stamp owed None e = let n : Subscribed stamp owed ≡ reply = cc in sym n
 told_subscribed w reply stamp owed (Some items) e = absurd (let n : Replied (Subscribed stamp owed) ≡ Made (length w.messages) = e in cc)
 
-pub checks_are_whole : ChecksAreWhole
+pub checks_are_whole : ChecksAreWholeInWorlds
 checks_are_whole account w begun before late side sub query overwrite stamp owed events max k fits b h stays none e few =
     let first = extended account (Ask side (Subscribe sub query true overwrite)) (Replied (Subscribed stamp owed)) in
     let mid = extended_all first events in
@@ -223,10 +224,10 @@ checks_are_whole account w begun before late side sub query overwrite stamp owed
     let last = front_of (store_of mid side).state (store_of now side).state (goes_on mid before late side ((Ask side (Check sub max), Made k) ∷ []) fits2 (late, e, refl) refl) in
     let middle = front_of (store_of first side).state (store_of mid side).state (goes_on first begun before side events fits1 h stays) in
     let r = rounds side sub query early f events first begun before [] fits1 h stays none shows (front_same early) last in
-    let t = turn_at mid before late side sub query max k [] early f (items_of (checked side sub first events)) (record { fits = fits2; happen = (late, e, refl); stays = refl }) r.shows middle (front_same f) in
+    let t = turn_at mid before late side sub query max k [] early f (items_of (checks_sent side sub first events)) (record { fits = fits2; happen = (late, e, refl); stays = refl }) r.shows middle (front_same f) in
     let sent : sent_in now k ≡ given t.0.known t.0.items = ap message_items t.5 in
     let long : length (sent_in now k) ≡ length t.0.items = ap length sent ∙ given_long t.0.known t.0.items in
     let less : length t.0.items < t.0.max = omega (arith, long, few, t.2) in
     let whole = wholes.checks_are_whole early f (is_under query) goes.grown.0 r.turns t.0 goes.grown.2 (news_new early.accepted goes.grown.0 goes.grown.1) (r.last t.0 t.1) less in
-    subst (λ (l : List Sent). IsWhole f (is_under query) l (position (feed_of mid side))) (checks_last r.turns t.0 ∙ (ap (λ (l : List Sent). l ++ given t.0.known t.0.items) r.sent_are ∙ ap (λ (l : List Sent). checked side sub first events ++ l) (sym sent)))
+    subst (λ (l : List Sent). IsWhole f (is_under query) l (position (feed_of mid side))) (checks_last r.turns t.0 ∙ (ap (λ (l : List Sent). l ++ given t.0.known t.0.items) r.sent_are ∙ ap (λ (l : List Sent). checks_sent side sub first events ++ l) (sym sent)))
     (subst (λ (x : Feed). IsWhole f (is_under query) (check_items (r.turns ++ t.0 ∷ [])) (position x)) t.3 whole)

@@ -1,11 +1,10 @@
 -- No delivery is stopped by an item that contradicts what is held.
-use Rattle.std.proofs.Common.{◌≡◌, ◌==◌, ℕ, zero, suc, Bool, true, false, not, ◌&&◌, List, [], ◌∷◌, ◌++◌, length, take, map, Option, Some, None, refl, ap, sym, ◌∙◌, subst, inl, inr, Contains}
+use Rattle.std.proofs.Common.{◌≡◌, ◌==◌, ℕ, zero, suc, true, false, not, ◌&&◌, List, [], ◌∷◌, ◌++◌, length, take, map, Option, Some, None, refl, ap, sym, ◌∙◌, subst, inl, inr, Contains}
 use Rattle.std.specs.List.{flat_map, slice_get}
 use Rattle.std.specs.Option.{option_map_or}
 use Rattle.std.specs.declared.cmp.Ordering.{Ordering}
 use Rattle.std.specs.declared.cmp.Ordering.TheVariants.{Less, Equal, Greater}
 use Rattle.std.specs.Ordering.{is_eq}
-use Rattle.std.specs.Cmp.Lexicographic.{pointwise}
 use Rattle.std.proofs.lemmas.List.Elements.{Contains-append_left, Contains-append_right, Contains-append_cases}
 use Rattle.std.proofs.lemmas.Bool.Decides.{eqb_tells}
 use Rattle.ds_names.specs.declared.version.Version.{Version}
@@ -24,7 +23,7 @@ use Rattle.ds_pattern.specs.Under.{is_under}
 use Rattle.ds_whole.proofs.SentLemmas.{Contains-from_under}
 use Rattle.ds_machine.specs.Parts.{held_at}
 use Rattle.ds_machine.specs.State.{State, held, owed}
-use Rattle.ds_machine.specs.Standing.{standing_of, floor_standing_of, on_held, against_change, against_floor, cause_of, is_same_name, is_same_body}
+use Rattle.ds_machine.specs.Standing.{standing_of, floor_standing_of, on_held, against_change, against_floor, cause_of, is_same_body}
 use Rattle.ds_machine.specs.Order.{by_command, by_version, by_room, first_refusal}
 use Rattle.ds_machine.specs.Calling.{against_merge}
 use Rattle.ds_machine.specs.Merging.{Course, begun, course, merging}
@@ -45,44 +44,32 @@ use Rattle.ds_replica.specs.declared.event.Holder.{Holder}
 use Rattle.ds_replica.specs.declared.event.Holder.TheVariants.{Store, Map}
 use Rattle.ds_replica.specs.declared.outcome.Outcome.TheVariants.{Stopped}
 use Rattle.ds_replica.specs.World.{MapState, World, store_at, map_held}
-use Rattle.ds_replica.specs.Delivery.{Tally, Follows, AreMerged, Ends, StandsAgainst}
-use Rattle.ds_replica.specs.Happens.{tally_outcome, IsTaken, Delivers, count_of}
+use Rattle.ds_replica.specs.Delivery.{Tally, OthersFollow, GroupsAreMerged, DeliveryEnds, StandsAgainst}
+use Rattle.ds_replica.specs.Happens.{tally_outcome, IsDelivered, Delivers, count_of}
 use Rattle.ds_replica.specs.Known.{Account}
 use Rattle.ds_replica.specs.Fits.{FitsMessage, Fits}
-use Rattle.ds_replica.specs.Headline.{IsContradiction, NothingStops}
+use Rattle.ds_replica.specs.Headline.{IsContradiction, NothingStopsInWorlds}
 use Rattle.ds_replica.proofs.ZipLemmas.{AllZip-at}
 use Rattle.ds_replica.proofs.LeftLemmas.{took}
 use Rattle.ds_replica.proofs.GoneLemmas.{step_accepts}
 use Rattle.ds_replica.proofs.FitLemmas.{store_fits}
 use Rattle.ds_replica.proofs.HolderLemmas.{held_within, message_within}
+use Rattle.ds_names.specs.Name.{is_same_name}
+use Rattle.std.proofs.lemmas.Bool.{and_parts, and_from}
+use Rattle.ds_replica.proofs.BringLemmas.{text_is}
+use Rattle.ds_feed.proofs.PageLemmas.{contains_at}
+use Rattle.ds_names.proofs.Tests.{equal_is}
 
 -- ---- what is one and the same
 eq_itself : (n : ℕ) → (n == n) ≡ true
 eq_itself n = elim (eqb_tells n n) [ inl y ↦ y.0 | inr d ↦ absurd (d.1 refl) ]
 
-both_true : (a b : Bool) → a ≡ true → b ≡ true → a && b ≡ true
-both_true true b e f = f
-both_true false b e f = e
-
-both_parts : (a b : Bool) → a && b ≡ true → (a ≡ true) × (b ≡ true)
-both_parts true b e = (refl, e)
-both_parts false b e = absurd (let n : false ≡ true = e in cc)
-
-text_itself : (xs : List ℕ) → pointwise ◌==◌ xs xs ≡ true
-text_itself [] = refl
-text_itself (x ∷ xs) = both_true (x == x) (pointwise ◌==◌ xs xs) (eq_itself x) (text_itself xs)
-
 body_itself : (b : Body) → is_same_body b b ≡ true
 body_itself Gone = refl
-body_itself (Put (values.Label e)) = both_true (e.generation == e.generation) (e.slot == e.slot) (eq_itself e.generation) (eq_itself e.slot)
+body_itself (Put (values.Label e)) = and_from (e.generation == e.generation) (e.slot == e.slot) (eq_itself e.generation) (eq_itself e.slot)
 body_itself (Put (values.U32 n)) = eq_itself n
-body_itself (Put (values.Str t)) = text_itself t
-body_itself (Put (values.Mem t)) = text_itself t
-
-equal_of : (r : Ordering) → is_eq r ≡ true → r ≡ Equal
-equal_of Less e = absurd (let n : false ≡ true = e in cc)
-equal_of Equal e = refl
-equal_of Greater e = absurd (let n : false ≡ true = e in cc)
+body_itself (Put (values.Str t)) = text_is t
+body_itself (Put (values.Mem t)) = text_is t
 
 -- the order in which causes are judged
 abbrev causes_of : Option Version → List Cause
@@ -99,14 +86,14 @@ module _ (brought : List Item) (n : AreSingleNumbered brought) where
     against_owner c b (Some h) e t =
         let k = key_found held c.key h e in
         let same = n.one_owner h c (part (Changed h) k.0) b (sym k.1) in
-        not_false (sym (ap not (subst (λ (x : List ℕ). is_same_name h.owner x ≡ true) same (text_itself h.owner))) ∙ t)
+        not_false (sym (ap not (subst (λ (x : List ℕ). is_same_name h.owner x ≡ true) same (text_is h.owner))) ∙ t)
 
     against_body : (c : ChangeRecord) → Contains brought (Changed c) → (o : Option ChangeRecord) → held_at held c.key ≡ o → on_held o (λ h. is_eq (version_cmp h.version c.version) && not (is_same_body h.body c.body)) ≡ true → ⊥
     against_body c b None e t = not_false t
     against_body c b (Some h) e t =
         let k = key_found held c.key h e in
-        let p = both_parts (is_eq (version_cmp h.version c.version)) (not (is_same_body h.body c.body)) t in
-        let same = n.one_change h c (part (Changed h) k.0) b (sym k.1) (exact_versions h.version c.version (equal_of (version_cmp h.version c.version) p.0)) in
+        let p = and_parts (is_eq (version_cmp h.version c.version)) (not (is_same_body h.body c.body)) t in
+        let same = n.one_change h c (part (Changed h) k.0) b (sym k.1) (exact_versions h.version c.version (equal_is (version_cmp h.version c.version) p.0)) in
         not_false (sym (ap not (subst (λ (x : ChangeRecord). is_same_body h.body x.body ≡ true) same (body_itself h.body))) ∙ p.1)
 
     stands_not : (i : Item) → Contains brought i → (fault : Refusal) → StandsAgainst held i fault → IsContradiction fault → ⊥
@@ -182,7 +169,7 @@ module _ (brought : List Item) (n : AreSingleNumbered brought) where
 
     follows_not : (new : State) (Others : Tally → State → Type 0) (reply : Reply) (tally : Tally) (fault : Refusal)
         → ((later : Tally) → IsReached mid → IsPartOf mid.feed.accepted brought → Others later new → later.stop ≡ Some fault → IsContradiction fault → ⊥)
-        → Step s (Merge group) reply mid → Follows reply mid Others tally new → tally.stop ≡ Some fault → IsContradiction fault → ⊥
+        → Step s (Merge group) reply mid → OthersFollow reply mid Others tally new → tally.stop ≡ Some fault → IsContradiction fault → ⊥
     follows_not new Others (Merged done taken stale owes) tally fault others step f e t =
         others f.0 (steps_stay_reached s mid (Merge group) (Merged done taken stale owes) r step) (accepted_on (Merged done taken stale owes) step b) f.1 (sym (ap (λ (x : Tally). x.stop) f.2) ∙ e) t
     follows_not new Others (MergeStopped done stop owes) tally fault others step f e t =
@@ -196,23 +183,18 @@ module _ (brought : List Item) (n : AreSingleNumbered brought) where
     follows_not new Others _ tally fault others step f e t = f
 
   -- ---- a delivery
-  merges_not : (groups : List (List Item)) (s new : State) (tally : Tally) (fault : Refusal) → IsReached s → IsPartOf s.feed.accepted brought → IsPartOf (flat_map (λ group. group) groups) brought → AreMerged s groups tally new → tally.stop ≡ Some fault → IsContradiction fault → ⊥
+  merges_not : (groups : List (List Item)) (s new : State) (tally : Tally) (fault : Refusal) → IsReached s → IsPartOf s.feed.accepted brought → IsPartOf (flat_map (λ group. group) groups) brought → GroupsAreMerged s groups tally new → tally.stop ≡ Some fault → IsContradiction fault → ⊥
   merges_not [] s new tally fault r a b m e t = let q : None ≡ Some fault = sym (ap (λ (x : Tally). x.stop) m.0) ∙ e in cc
   merges_not (group ∷ groups) s new tally fault r a b m e t =
-      follows_not s m.1 group r a (λ i h. b i (Contains-append_left group (flat_map (λ g. g) groups) i h)) new (λ x y. AreMerged m.1 groups x y) m.0 tally fault
+      follows_not s m.1 group r a (λ i h. b i (Contains-append_left group (flat_map (λ g. g) groups) i h)) new (λ x y. GroupsAreMerged m.1 groups x y) m.0 tally fault
       (λ later q c others. merges_not groups m.1 new later fault q c (λ i h. b i (Contains-append_right group (flat_map (λ g. g) groups) i h)) others) m.2 m.3 e t
 
-get_contains : (items : List Item) (k : ℕ) (i : Item) → slice_get items k ≡ Some i → Contains items i
-get_contains [] k i e = absurd (cc)
-get_contains (x ∷ items) zero i e = let same : x ≡ i = cc in subst (Contains (x ∷ items)) same (Contains-head x items)
-get_contains (x ∷ items) (suc k) i e = Contains-tail x items i (get_contains items k i e)
-
 module _ (account : Account) (w new : World) (f : Fits account w) (n : AreSingleNumbered account.brought) where
-  taken_not : (holder : Holder) (items : List Item) (tally : Tally) (fault : Refusal) → IsPartOf items account.brought → IsTaken w holder items tally new → tally.stop ≡ Some fault → IsContradiction fault → ⊥
+  taken_not : (holder : Holder) (items : List Item) (tally : Tally) (fault : Refusal) → IsPartOf items account.brought → IsDelivered w holder items tally new → tally.stop ≡ Some fault → IsContradiction fault → ⊥
   taken_not (Store side) items tally fault b h e t =
       let s = store_fits account w side f in
       merges_not account.brought n h.takes.groups (store_at w side) h.after tally fault s.reached (λ i k. s.within i (s.accepted i k)) (subst (λ l. IsPartOf l account.brought) (sym h.takes.all) b) h.takes.merged e t
-  taken_not (Map j) items tally fault b h e t = ends_not (subst (Ends h.after items tally.done) e h.takes.ends)
+  taken_not (Map j) items tally fault b h e t = ends_not (subst (DeliveryEnds h.after items tally.done) e h.takes.ends)
     where
       old_within : IsPartOf h.old.held account.brought
       old_within i k = held_within account w f (Map j) i (subst (λ (o : Option MapState). Contains (map_held o) i) (sym h.there) k)
@@ -223,8 +205,8 @@ module _ (account : Account) (w new : World) (f : Fits account w) (n : AreSingle
         | inr a ↦ b i (Contains-from_take tally.done items i (Contains-from_under (is_under h.old.query) (take tally.done items) i a).0)
       ]
 
-      ends_not : Ends h.after items tally.done (Some fault) → ⊥
-      ends_not x = stands_not account.brought n h.after.held new_within x.0 (b x.0 (get_contains items tally.done x.0 x.1)) fault x.3 t
+      ends_not : DeliveryEnds h.after items tally.done (Some fault) → ⊥
+      ends_not x = stands_not account.brought n h.after.held new_within x.0 (b x.0 (contains_at items tally.done x.0 x.1)) fault x.3 t
 
   stop_is : (tally : Tally) (o : Option Refusal) (done : ℕ) (fault : Refusal) (owes : ℕ) → Stopped done fault owes ≡ tally_outcome tally o → o ≡ Some fault
   stop_is tally None done fault owes e = absurd (cc)
@@ -236,5 +218,5 @@ module _ (account : Account) (w new : World) (f : Fits account w) (n : AreSingle
       taken_not holder (take (count_of count h.items) h.items) h.tally fault (λ i x. message_within account w f at.0 h.items at.2 i (Contains-from_take (count_of count h.items) h.items i x)) h.taken
       (stop_is h.tally h.tally.stop done fault owes h.outcome_is) t
 
-pub nothing_stops : NothingStops
+pub nothing_stops : NothingStopsInWorlds
 nothing_stops account w new k holder count done fault owes f n h t = delivery_not account w new f n k holder count done fault owes h.1 t

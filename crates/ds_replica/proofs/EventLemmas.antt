@@ -8,7 +8,6 @@ use Rattle.ds_entry.proofs.Members.{Contains-nil, Contains-from_take}
 use Rattle.ds_join.specs.ItemTop.{IsTop}
 use Rattle.ds_pattern.specs.declared.query.Query.{Query}
 use Rattle.ds_pattern.specs.Under.{is_under}
-use Rattle.ds_whole.specs.Under.{under}
 use Rattle.ds_whole.specs.Sent.{Sent, IsSent}
 use Rattle.ds_whole.specs.Taking.{items_of}
 use Rattle.ds_whole.proofs.TakingLemmas.{new_map_is_map}
@@ -26,16 +25,18 @@ use Rattle.ds_replica.specs.declared.event.Event.TheVariants.{Ask, NewMap, Deliv
 use Rattle.ds_replica.specs.declared.outcome.Outcome.{Outcome}
 use Rattle.ds_replica.specs.declared.outcome.Outcome.TheVariants.{Refused}
 use Rattle.ds_replica.specs.World.{MapState, World, store_at, with_state, with_items}
-use Rattle.ds_replica.specs.Delivery.{Tally, Ends}
-use Rattle.ds_replica.specs.Happens.{items_given, ask_outcome, Asks, new_map, MakesMap, tally_outcome, count_of, IsTaken, TakenByStore, TakenByMap, Delivers, ClearsMap, reopened, Restarts, Happens}
-use Rattle.ds_replica.specs.Known.{StoreAccount, MapAccount, Account, store_of, with_reply, with_account, asked, took, opened, message_items, map_took, map_cleared, delivered, sent_first, extended}
+use Rattle.ds_replica.specs.Delivery.{Tally, DeliveryEnds}
+use Rattle.ds_replica.specs.Happens.{items_given, ask_outcome, Asks, new_map, MakesMap, tally_outcome, count_of, IsDelivered, TakenByStore, TakenByMap, Delivers, ClearsMap, reopened, Restarts, Happens}
+use Rattle.ds_replica.specs.Known.{StoreAccount, MapAccount, Account, store_of, with_reply, with_account, store_asked, took, opened, message_items, map_took, map_cleared, delivered, sent_first, extended}
 use Rattle.ds_replica.specs.Fits.{AreWithin, FitsStore, FitsMap, FitsMessage, Fits}
 use Rattle.ds_replica.specs.Headline.{EventsFit}
 use Rattle.ds_replica.proofs.ZipLemmas.{AllZip-last, AllZip-at, AllZip-both_set}
-use Rattle.ds_replica.proofs.StartLemmas.{opened_fits, opening_reached}
+use Rattle.ds_replica.proofs.StartLemmas.{opened_fits}
 use Rattle.ds_replica.proofs.GoneLemmas.{Gone, store_went}
 use Rattle.ds_replica.proofs.GivenLemmas.{given_reply, given_part}
 use Rattle.ds_replica.proofs.FitLemmas.{store_fits, own_fits, put_fits, asked_fits, asked_store, message_given, first_sent, took_store, took_map}
+use Rattle.ds_entry.specs.Under.{under}
+use Rattle.ds_machine.proofs.ReachedLemmas.{opening_is_reached}
 
 module _ (account : Account) (w new : World) (f : Fits account w) where
   -- ---- a store was asked
@@ -53,7 +54,7 @@ module _ (account : Account) (w new : World) (f : Fits account w) where
       a = store_of account side
 
       asked_by : Reply → StoreAccount
-      asked_by reply = asked (store_of account side) command reply
+      asked_by reply = store_asked (store_of account side) command reply
 
       own : FitsStore account.brought (store_of account side) (store_of account side).state
       own = own_fits account w side f
@@ -98,7 +99,7 @@ module _ (account : Account) (w new : World) (f : Fits account w) where
         (put_fits account w side (took (store_of account side) (take tally.done sent)) h.after f
         (took_store account.brought (take tally.done sent) (first_are tally.done) (first_within tally.done) (store_of account side) h.after (own_fits account w side f) own))
 
-    done_within : (after : MapState) (some : List Item) (done : ℕ) (o : Option Refusal) → Ends after some done o → done ≤ length some
+    done_within : (after : MapState) (some : List Item) (done : ℕ) (o : Option Refusal) → DeliveryEnds after some done o → done ≤ length some
     done_within after some done None e = omega (arith, e)
     done_within after some done (Some fault) e = let l = slice_get_within some done e.0 e.1 in omega (arith, l)
 
@@ -118,7 +119,7 @@ module _ (account : Account) (w new : World) (f : Fits account w) where
           messages = f.messages;
         })
 
-    to_holder : (holder : Holder) (tally : Tally) → IsTaken w holder (take c items) tally new → Fits (delivered account holder (take tally.done sent)) new
+    to_holder : (holder : Holder) (tally : Tally) → IsDelivered w holder (take c items) tally new → Fits (delivered account holder (take tally.done sent)) new
     to_holder (Store side) tally h = to_store side tally h
     to_holder (Map j) tally h = to_map j tally h
 
@@ -156,7 +157,7 @@ module _ (account : Account) (w new : World) (f : Fits account w) where
       subst (λ (o : Outcome). Fits (extended account (RestartStore side incarnation) o) new) (sym h.outcome_is)
       (subst (Fits (with_account account side (opened (reopened s incarnation)))) same
       (put_fits account w side (opened (reopened s incarnation)) (reopened s incarnation) f
-      (opened_fits account.brought incarnation s.feed.first s.feed.ring s.limits (opening_reached incarnation s.feed.first s.feed.ring s.limits own.reached.limits))))
+      (opened_fits account.brought incarnation s.feed.first s.feed.ring s.limits (opening_is_reached incarnation s.feed.first s.feed.ring s.limits own.reached.limits))))
 
 -- ---- every event
 pub event_fits : (account : Account) (w new : World) (event : Event) (out : Outcome) → Fits account w → Happens w event out new → Fits (extended account event out) new

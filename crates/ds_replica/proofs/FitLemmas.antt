@@ -12,7 +12,6 @@ use Rattle.ds_join.specs.ItemTop.{IsTop, IsPartOf}
 use Rattle.ds_join.proofs.ItemTopLemmas.{held_is_top}
 use Rattle.ds_pattern.specs.declared.query.Query.{Query}
 use Rattle.ds_pattern.specs.Under.{is_under}
-use Rattle.ds_whole.specs.Under.{under}
 use Rattle.ds_whole.specs.Sent.{Sent, IsSent, sent_by, given, stood_for}
 use Rattle.ds_whole.specs.Taking.{items_of, sent_under}
 use Rattle.ds_whole.proofs.SentLemmas.{from_stood, stood, given_is_sent}
@@ -26,11 +25,12 @@ use Rattle.ds_machine.proofs.KnownLemmas.{steps_stay_reached, known_stays_held}
 use Rattle.ds_replica.specs.declared.event.Side.{Side}
 use Rattle.ds_replica.specs.declared.event.Side.TheVariants.{A, B}
 use Rattle.ds_replica.specs.World.{MapState, World, store_at, with_state, with_items}
-use Rattle.ds_replica.specs.Known.{StoreAccount, MapAccount, Account, store_of, asked, took, with_account, with_sent}
+use Rattle.ds_replica.specs.Known.{StoreAccount, MapAccount, Account, store_of, store_asked, took, with_account, with_sent}
 use Rattle.ds_replica.specs.Fits.{AreWithin, FitsStore, FitsMap, FitsMessage, Fits}
 use Rattle.ds_replica.proofs.ZipLemmas.{AllZip-last, AllZip-weaker}
 use Rattle.ds_replica.proofs.LeftLemmas.{step_left}
 use Rattle.ds_replica.proofs.GoneLemmas.{step_accepts, Gone}
+use Rattle.ds_entry.specs.Under.{under}
 
 -- ---- with more brought in
 module _ (brought wider : List Item) (more : IsPartOf brought wider) where
@@ -100,7 +100,7 @@ message_given brought known items part within = record {
 }
 
 -- ---- a store that was asked
-pub asked_store : (brought : List Item) (a : StoreAccount) (t : State) (command : Command) (reply : Reply) → FitsStore brought a a.state → Step a.state command reply t → FitsStore (brought ++ learnt_by a.state command reply) (asked a command reply) t
+pub asked_store : (brought : List Item) (a : StoreAccount) (t : State) (command : Command) (reply : Reply) → FitsStore brought a a.state → Step a.state command reply t → FitsStore (brought ++ learnt_by a.state command reply) (store_asked a command reply) t
 asked_store brought a t command reply f step =
     let learnt = learnt_by a.state command reply in
     record {

@@ -13,7 +13,7 @@ use Rattle.ds_feed.specs.declared.reading.Snapshot.{Snapshot as Snap}
 use Rattle.ds_feed.specs.declared.reading.Page.{Page as Leaf}
 use Rattle.ds_feed.specs.Feed.{from}
 use Rattle.ds_feed.specs.Since.{prefix, piece, since_of}
-use Rattle.ds_feed.specs.Page.{is_floor, is_behind, still_to_come, floors_of, changes_of, snapshot_of, page_of}
+use Rattle.ds_feed.specs.Page.{is_floor, is_behind_key, still_to_come, floors_of, changes_of, snapshot_of, page_of}
 use Rattle.ds_machine.specs.Scope.{is_kept}
 use Rattle.ds_machine.specs.Subscription.{Subscription, is_unseen}
 use Rattle.ds_machine.specs.State.{State, held, cursor, unseen, subscription_at}
@@ -34,9 +34,7 @@ use Rattle.ds_machine.proofs.ReachedLemmas.{held_is_top}
 use Rattle.ds_machine.proofs.FitLemmas.{replies_fit}
 use Rattle.ds_replica.specs.Happens.{items_given}
 use Rattle.ds_replica.proofs.LeftLemmas.{plain_or_merge}
-
-some_same : (xs ys : List Item) → Some xs ≡ Some ys → xs ≡ ys
-some_same xs ys e = cc
+use Rattle.ds_replica.proofs.SeerLemmas.{same_items}
 
 -- ---- a reply with items is the machine's
 pub given_reply : (s t : State) (command : Command) (reply : Reply) (items : List Item) → Step s command reply t → items_given reply ≡ Some items → reply ≡ (outcome s command).0
@@ -78,7 +76,7 @@ module _ (s : State) (r : IsReached s) where
       by_case : (o : Option Subscription) → subscription_at s sub ≡ o → (p : Option Refusal) → items_given (out o p).0 ≡ Some items → (seer : Subscription) × (subscription_at s sub ≡ Some seer) × (take max (unseen s seer) ≡ items)
       by_case o h (Some f) q = absurd (let n : None ≡ Some items = q in cc)
       by_case None h None q = absurd (let n : None ≡ Some items = q in cc)
-      by_case (Some seer) h None q = (seer, h, some_same (take max (unseen s seer)) items (sym (shown_given seer (take max (unseen s seer))) ∙ q))
+      by_case (Some seer) h None q = (seer, h, same_items (take max (unseen s seer)) items (sym (shown_given seer (take max (unseen s seer))) ∙ q))
 
   check_part : (sub max : ℕ) (items : List Item) → items_given (checking s sub max).0 ≡ Some items → IsPartOf items s.feed.accepted
   check_part sub max items e x h =
@@ -96,7 +94,7 @@ module _ (s : State) (r : IsReached s) where
   -- a reader of some items, unless something stands against it
   pub given_unless : (o : Option Refusal) (reply : Reply) (l items : List Item) → items_given reply ≡ Some l → items_given (option_map_or {U = Reply × State} (λ f. (Refused f, s)) o (reply, s)).0 ≡ Some items → l ≡ items
   given_unless (Some f) reply l items g q = absurd (let n : None ≡ Some items = q in cc)
-  given_unless None reply l items g q = some_same l items (sym g ∙ q)
+  given_unless None reply l items g q = same_items l items (sym g ∙ q)
 
   since_part : (scope : Scope) (at : Cursor) (max : ℕ) (items : List Item) → items_given (journaling s scope at max).0 ≡ Some items → IsPartOf items s.feed.accepted
   since_part scope at max items e x h =
@@ -110,7 +108,7 @@ module _ (s : State) (r : IsReached s) where
       held_accepted x (Contains-from_filter (is_kept scope) (held s) x (subst (λ (l : List Item). Contains l x) (sym same) h)).0
 
   still_part : (test : Item → Bool) (after : Option Key) → IsPartOf (still_to_come test after (held s)) (held s)
-  still_part test after x h = (Contains-from_filter test (held s) x (Contains-from_filter (is_behind after) (filter test (held s)) x h).0).0
+  still_part test after x h = (Contains-from_filter test (held s) x (Contains-from_filter (is_behind_key after) (filter test (held s)) x h).0).0
 
   page_part : (scope : Scope) (after : Option Key) (max : ℕ) (items : List Item) → items_given (paging s scope after max).0 ≡ Some items → IsPartOf items s.feed.accepted
   page_part scope after max items e x h =

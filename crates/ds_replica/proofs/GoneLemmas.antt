@@ -3,32 +3,27 @@ use Rattle.std.proofs.Common.{◌≡◌, ℕ, ◌+◌, ◌<◌, ◌≤◌, List,
 use Rattle.std.specs.List.{flat_map}
 use Rattle.std.proofs.lemmas.List.{append-nil, take-append-le}
 use Rattle.std.proofs.Math.Seq.{take-append-add}
-use Rattle.std.proofs.lemmas.List.Elements.{Contains-append_left, Contains-append_right, Contains-append_cases}
+use Rattle.std.proofs.lemmas.List.Elements.{Contains-append_left, Contains-append_right}
 use Rattle.ds_entry.specs.declared.item.Item.{Item}
 use Rattle.ds_join.specs.ItemTop.{IsTop}
 use Rattle.ds_machine.specs.State.{State, held}
 use Rattle.ds_machine.specs.Machine.{Step}
 use Rattle.ds_machine.specs.Reached.{IsReached}
-use Rattle.ds_machine.specs.Effect.{Effect, learnt_by, known_after}
+use Rattle.ds_machine.specs.Effect.{learnt_by, known_after}
 use Rattle.ds_machine.specs.declared.command.Command.{Command}
 use Rattle.ds_machine.specs.declared.command.Command.TheVariants.{Merge}
 use Rattle.ds_machine.specs.declared.refusal.Refusal.{Refusal}
 use Rattle.ds_machine.specs.declared.reply.Reply.{Reply}
 use Rattle.ds_machine.specs.declared.reply.Reply.TheVariants.{Merged, MergeStopped, Refused}
 use Rattle.ds_machine.proofs.EffectLemmas.{step_has_effect}
-use Rattle.ds_machine.proofs.KnownLemmas.{steps_stay_reached, known_stays_held}
+use Rattle.ds_machine.proofs.KnownLemmas.{steps_stay_reached, known_stays_held, accepted_cases}
 use Rattle.ds_machine.proofs.SaysLemmas.{refused_says, merged_says, merge_stopped_says}
-use Rattle.ds_replica.specs.Delivery.{Tally, Follows, AreMerged, StoreTakes}
+use Rattle.ds_replica.specs.Delivery.{Tally, OthersFollow, GroupsAreMerged, StoreTakes}
 use Rattle.ds_replica.specs.Known.{took_one, took_all}
 use Rattle.ds_replica.proofs.LeftLemmas.{step_left}
 
--- all that took effect by a step had taken effect before, or was learnt
-by_effect : (s t : State) (command : Command) (reply : Reply) → Effect s command reply t → (x : Item) → Contains t.feed.accepted x → Contains s.feed.accepted x ⊎ Contains (learnt_by s command reply) x
-by_effect s t command reply (inl g) x h = elim (Contains-append_cases s.feed.accepted g.items x (subst (λ (y : State). Contains y.feed.accepted x) g.state_is h)) [ inl k ↦ inl k | inr k ↦ inr (g.part x k) ]
-by_effect s t command reply (inr w) x h = inl (subst (λ (y : State). Contains y.feed.accepted x) w.state_is h)
-
 pub step_accepts : (s t : State) (command : Command) (reply : Reply) → IsReached s → Step s command reply t → (x : Item) → Contains t.feed.accepted x → Contains s.feed.accepted x ⊎ Contains (learnt_by s command reply) x
-step_accepts s t command reply r step = by_effect s t command reply (step_has_effect s t command reply r step)
+step_accepts s t command reply r step = accepted_cases s t command reply (step_has_effect s t command reply r step)
 
 -- the store `t` is the store `s` after these items came one by one
 pub record Gone (s : State) (items : List Item) (t : State) : Type 0 where
@@ -87,7 +82,7 @@ pub record Went (s : State) (items : List Item) (tally : Tally) (new : State) : 
   pub within : tally.done ≤ length items
 
 module _ (s mid new : State) (group rest : List Item) (r : IsReached s) (Others : Tally → State → Type 0) where
-  went_on : (reply : Reply) (tally : Tally) → ((later : Tally) → IsReached mid → Others later new → Went mid rest later new) → Step s (Merge group) reply mid → Follows reply mid Others tally new → Went s (group ++ rest) tally new
+  went_on : (reply : Reply) (tally : Tally) → ((later : Tally) → IsReached mid → Others later new → Went mid rest later new) → Step s (Merge group) reply mid → OthersFollow reply mid Others tally new → Went s (group ++ rest) tally new
   went_on (Merged done taken stale owed) tally others step f =
       let g = gone_merged s mid group r done taken stale owed step in
       let w = others f.0 g.reached f.1 in
@@ -116,12 +111,12 @@ module _ (s mid new : State) (group rest : List Item) (r : IsReached s) (Others 
       }
   went_on _ tally others step f = absurd f
 
-pub merges_went : (groups : List (List Item)) (s new : State) (tally : Tally) → IsReached s → AreMerged s groups tally new → Went s (flat_map (λ group. group) groups) tally new
+pub merges_went : (groups : List (List Item)) (s new : State) (tally : Tally) → IsReached s → GroupsAreMerged s groups tally new → Went s (flat_map (λ group. group) groups) tally new
 merges_went [] s new tally r m =
     let count : tally.done ≡ 0 = ap (λ (t : Tally). t.done) m.0 in
     record { gone = subst (λ n. Gone s (take n []) new) (sym count) (gone_nothing s new r m.1); within = omega (arith, count) }
 merges_went (group ∷ groups) s new tally r m =
-    went_on s m.1 new group (flat_map (λ group. group) groups) r (λ t n. AreMerged m.1 groups t n) m.0 tally (λ later q a. merges_went groups m.1 new later q a) m.2 m.3
+    went_on s m.1 new group (flat_map (λ group. group) groups) r (λ t n. GroupsAreMerged m.1 groups t n) m.0 tally (λ later q a. merges_went groups m.1 new later q a) m.2 m.3
 
 pub store_went : (s new : State) (items : List Item) (tally : Tally) → IsReached s → StoreTakes s items tally new → Went s items tally new
 store_went s new items tally r t = subst (λ l. Went s l tally new) t.all (merges_went t.groups s new tally r t.merged)

@@ -12,7 +12,6 @@ use Rattle.ds_join.specs.ItemTop.{IsTop, IsPartOf, CoversAll}
 use Rattle.ds_join.proofs.ItemTopLemmas.{top_of_nothing, void_isnt_held}
 use Rattle.ds_feed.specs.Feed.{position}
 use Rattle.ds_pattern.specs.Under.{is_under}
-use Rattle.ds_whole.specs.Under.{under, entries_of}
 use Rattle.ds_whole.specs.Sent.{Sent}
 use Rattle.ds_whole.proofs.SentLemmas.{from_stood, Contains-under, Contains-from_under}
 use Rattle.ds_whole.proofs.HolderLemmas.{holders_agree}
@@ -24,24 +23,25 @@ use Rattle.ds_machine.proofs.ReachedLemmas.{held_is_top}
 use Rattle.ds_replica.specs.declared.event.Side.{Side}
 use Rattle.ds_replica.specs.declared.event.Holder.{Holder}
 use Rattle.ds_replica.specs.declared.event.Holder.TheVariants.{Store, Map}
-use Rattle.ds_replica.specs.World.{MapState, World, store_at, map_held, held_at}
+use Rattle.ds_replica.specs.World.{MapState, World, store_at, map_held, held_by}
 use Rattle.ds_replica.specs.Known.{MapAccount, Account, store_of, known_by, map_known, known_at}
 use Rattle.ds_replica.specs.Fits.{FitsMap, FitsMessage, Fits}
-use Rattle.ds_replica.specs.Headline.{EqualWhereKnown, EqualOverEvents, IsAbout, NothingClashes}
-use Rattle.ds_replica.specs.CaughtUp.{HasAll, WholeIsAll, HoldsTheStores, HoldsAtLeast, LabelsAreNewest}
-use Rattle.ds_replica.specs.Turns.{NothingBelowFloors}
+use Rattle.ds_replica.specs.Headline.{EqualWhereKnown, EqualOverEvents, IsAbout, NothingClashesInWorlds}
+use Rattle.ds_replica.specs.CaughtUp.{HasAll, WholeIsAll, HoldsTheStoresInWorlds, HoldsAtLeastInWorlds, LabelsAreNewestInWorlds}
+use Rattle.ds_replica.specs.Turns.{NothingBelowFloorsInWorlds}
 use Rattle.ds_replica.proofs.ZipLemmas.{Contains-at, AllZip-at, AllZip-at_left, AllZip-none}
 use Rattle.ds_replica.proofs.FitLemmas.{store_fits, own_fits}
 use Rattle.ds_replica.proofs.StartLemmas.{account_fits_at_start}
 use Rattle.ds_replica.proofs.EventLemmas.{events_fit}
+use Rattle.ds_entry.specs.Under.{under, entries_of}
 
 module _ (account : Account) (w : World) (f : Fits account w) where
   -- each holder holds the top of what it knows
-  pub top_at : (h : Holder) → IsTop (held_at w h) (known_at account h)
+  pub top_at : (h : Holder) → IsTop (held_by w h) (known_at account h)
   top_at (Store side) = (store_fits account w side f).top
   top_at (Map j) = by_map (slice_get account.maps j) refl
     where
-      by_map : (o : Option MapAccount) → slice_get account.maps j ≡ o → IsTop (held_at w (Map j)) (known_at account (Map j))
+      by_map : (o : Option MapAccount) → slice_get account.maps j ≡ o → IsTop (held_by w (Map j)) (known_at account (Map j))
       by_map None e =
           subst (λ (x : Option MapState). IsTop (map_held x) (known_at account (Map j))) (sym (AllZip-none (FitsMap account.brought) account.maps w.maps j f.maps e))
           (subst (λ (x : Option MapAccount). IsTop [] (map_known x)) (sym e) top_of_nothing)
@@ -66,7 +66,7 @@ module _ (account : Account) (w : World) (f : Fits account w) where
           let m = AllZip-at_left (FitsMap account.brought) account.maps w.maps j a f.maps e in
           map_within a m.0 m.2 i (subst (λ (x : Option MapAccount). Contains (map_known x) i) e h)
 
-  pub held_within : (h : Holder) → IsPartOf (held_at w h) account.brought
+  pub held_within : (h : Holder) → IsPartOf (held_by w h) account.brought
   held_within h i k = known_within h i ((top_at h).among i k)
 
   -- each item of a message was brought in
@@ -88,7 +88,7 @@ single_under query known brought p n = single_part (under query known) brought (
 -- ---- agreement
 pub equal_where_known : EqualWhereKnown
 equal_where_known account w query h i f n same =
-    holders_agree query (known_at account h) (known_at account i) (held_at w h) (held_at w i) (top_at account w f h) (top_at account w f i)
+    holders_agree query (known_at account h) (known_at account i) (held_by w h) (held_by w i) (top_at account w f h) (top_at account w f i)
     (single_under query (known_at account h) account.brought (known_within account w f h) n) same
 
 pub equal_over_events : EqualOverEvents
@@ -103,7 +103,7 @@ about_within account w f i (inr m) =
     let s = AllZip-at (FitsMessage account.brought) account.messages w.messages k.0 m.0 f.messages k.1 in
     message_within account w f s.0 m.0 s.2 i m.2
 
-pub nothing_clashes : NothingClashes
+pub nothing_clashes : NothingClashesInWorlds
 nothing_clashes account w c d f n h k e =
     let x = about_within account w f (Changed c) h in
     let y = about_within account w f (Changed d) k in
@@ -120,10 +120,10 @@ module _ (account : Account) (w : World) (j : ℕ) (m : MapAccount) (side : Side
   at : (x : MapState) × (slice_get w.maps j ≡ Some x) × FitsMap account.brought m x
   at = AllZip-at_left (FitsMap account.brought) account.maps w.maps j m f.maps all.there
 
-  map_is : held_at w (Map j) ≡ at.0.held
+  map_is : held_by w (Map j) ≡ at.0.held
   map_is = ap map_held at.1
 
-  pub exact : AreSingleNumbered account.brought → IsPartOf (under (is_under m.query) (known_by m)) (store_of account side).known → held_at w (Map j) ≡ under (is_under m.query) (held_at w (Store side))
+  pub exact : AreSingleNumbered account.brought → IsPartOf (under (is_under m.query) (known_by m)) (store_of account side).known → held_by w (Map j) ≡ under (is_under m.query) (held_by w (Store side))
   exact n part =
       let own = own_fits account w side f in
       let equal = (wholes.holds_the_stores s.feed (is_under m.query) m.taken (held s) at.0.held (held_is_top s own.reached) at.2.map all.whole
@@ -131,15 +131,15 @@ module _ (account : Account) (w : World) (j : ℕ) (m : MapAccount) (side : Side
       (single_under (is_under m.query) (known_by m) account.brought (map_within account w f m at.0 at.2) n)).0 in
       map_is ∙ (equal ∙ ap (λ (x : State). under (is_under m.query) (held x)) same)
 
-  pub least : CoversAll (held_at w (Map j)) (under (is_under m.query) (held_at w (Store side)))
+  pub least : CoversAll (held_by w (Map j)) (under (is_under m.query) (held_by w (Store side)))
   least =
       let own = own_fits account w side f in
       let covers = wholes.holds_at_least s.feed (is_under m.query) m.taken (held s) at.0.held (held_is_top s own.reached) at.2.map all.whole in
-      subst (λ (x : State). CoversAll (held_at w (Map j)) (under (is_under m.query) (held x))) same
+      subst (λ (x : State). CoversAll (held_by w (Map j)) (under (is_under m.query) (held x))) same
       (subst (λ l. CoversAll l (under (is_under m.query) (held s))) (sym map_is) covers)
 
   -- what the map holds is under its query
-  held_passes : (i : Item) → Contains (held_at w (Map j)) i → passes (is_under m.query) i ≡ true
+  held_passes : (i : Item) → Contains (held_by w (Map j)) i → passes (is_under m.query) i ≡ true
   held_passes i h =
       let own : Contains (under (is_under m.query) at.0.held) i = subst (λ l. Contains l i) (map_is ∙ sym (wholes.map_holds_its_query (is_under m.query) m.taken at.0.held at.2.map)) h in
       (Contains-from_under (is_under m.query) at.0.held i own).1
@@ -150,26 +150,26 @@ module _ (account : Account) (w : World) (j : ℕ) (m : MapAccount) (side : Side
   abbrev known : List Item
   known = (store_of account side).known
 
-  map_top : IsTop (held_at w (Map j)) (known_by m)
+  map_top : IsTop (held_by w (Map j)) (known_by m)
   map_top = subst (λ l. IsTop l (known_by m)) (sym map_is) at.2.map.top
 
   -- if the map was told nothing else, it is a top of what the store knows under the query
-  top_of_known : IsPartOf (under query (known_by m)) known → IsTop (held_at w (Map j)) (under query known)
+  top_of_known : IsPartOf (under query (known_by m)) known → IsTop (held_by w (Map j)) (under query known)
   top_of_known part = record {
     in_order = map_top.in_order;
     among = λ i h. Contains-under query known i (part i (Contains-under query (known_by m) i (map_top.among i h) (held_passes i h))) (held_passes i h);
     greatest = λ i h.
         let k = Contains-from_under query known i h in
         let d = (store_fits account w side f).top.greatest i k.0 in
-        let c = least d.0 (Contains-under query (held_at w (Store side)) d.0 d.1 (covers-query query d.0 i d.2 k.1)) in
+        let c = least d.0 (Contains-under query (held_by w (Store side)) d.0 d.1 (covers-query query d.0 i d.2 k.1)) in
         (c.0, c.1, covers-trans c.0 d.0 i c.2 d.2);
     none_void = map_top.none_void;
   }
 
-pub holds_the_stores : HoldsTheStores
+pub holds_the_stores : HoldsTheStoresInWorlds
 holds_the_stores account w j m side f n all part = let e = exact account w j m side f all n part in (e, ap entries_of e)
 
-pub holds_at_least : HoldsAtLeast
+pub holds_at_least : HoldsAtLeastInWorlds
 holds_at_least account w j m side f all = least account w j m side f all
 
 pub whole_is_all : WholeIsAll
@@ -178,10 +178,10 @@ whole_is_all account j m side items r there part whole l =
     record { there = there; whole = more_is_whole f (is_under m.query) items m.taken (position f) part (earlier_is_whole f (is_under m.query) items (position f) r l whole) }
 
 -- ---- labels
-pub labels_are_newest : LabelsAreNewest
+pub labels_are_newest : LabelsAreNewestInWorlds
 labels_are_newest account w j m side name f items all part q =
-    labels.labels_of_a_top (is_under m.query) (store_of account side).known (held_at w (Map j)) name (λ i h. items i (known_within account w f (Store side) i h)) (top_of_known account w j m side f all part) q
+    labels.labels_of_a_top (is_under m.query) (store_of account side).known (held_by w (Map j)) name (λ i h. items i (known_within account w f (Store side) i h)) (top_of_known account w j m side f all part) q
 
 -- ---- floors
-pub nothing_below_floors : NothingBelowFloors
-nothing_below_floors account w h f c fits k l = void_isnt_held (known_at account h) (held_at w h) f c (top_at account w fits h) k l
+pub nothing_below_floors : NothingBelowFloorsInWorlds
+nothing_below_floors account w h f c fits k l = void_isnt_held (known_at account h) (held_by w h) f c (top_at account w fits h) k l

@@ -3,7 +3,7 @@ use Rattle.std.proofs.Common.{◌≡◌, ℕ, suc, ◌+◌, List, [], ◌∷◌,
 use Rattle.std.specs.Option.{option_map_or}
 use Rattle.ds_entry.specs.declared.item.Item.{Item}
 use Rattle.ds_entry.proofs.Members.{Contains-head, Contains-tail}
-use Rattle.ds_machine.specs.State.{State, accepts, owed}
+use Rattle.ds_machine.specs.State.{State, takes_effect, owed}
 use Rattle.ds_machine.specs.Standing.{cause_of}
 use Rattle.ds_machine.specs.Merging.{Course, begun, item_merged, item_judged, course, merging}
 use Rattle.ds_machine.specs.Machine.{outcome, IsOutcome, Step, MergeWantsRoom}
@@ -23,7 +23,8 @@ use Rattle.ds_machine.proofs.PartLemmas.{take_whole}
 use Rattle.ds_machine.proofs.EffectLemmas.{begun_went}
 use Rattle.ds_machine.proofs.FitLemmas.{replies_fit}
 use Rattle.ds_machine.proofs.SaysLemmas.{refused_says}
-use Rattle.ds_replica.specs.Known.{took_one, took_all, left_by}
+use Rattle.ds_replica.specs.Known.{took_one, took_all, state_left_by}
+use Rattle.ds_machine.proofs.CourseLemmas.{fold_stopped}
 
 -- ---- a merge goes one item at a time
 -- from one point of a merge to a later one: so many items were done, and what stopped it stands against some item
@@ -32,12 +33,6 @@ pub record Took (k : Course) (items : List Item) (end : Course) : Type 0 where
   pub done : end.done ≡ k.done + count
   pub state_is : end.state ≡ took_all k.state (take count items)
   pub stopped : (fault : Refusal) → end.stop ≡ Some fault → (next : Item) × Contains items next × (cause_of end.state next ≡ Some (causes.Refused fault))
-
-stays_stopped : (items : List Item) (k : Course) (r : Refusal) → k.stop ≡ Some r → fold item_merged k items ≡ k
-stays_stopped [] k r e = refl
-stays_stopped (i ∷ items) k r e =
-    let same : item_merged k i ≡ k = ap (λ o. option_map_or {U = Course} (λ (x : Refusal). k) o (item_judged k i (cause_of k.state i))) e in
-    ap (λ (x : Course). fold item_merged x items) same ∙ stays_stopped items k r e
 
 -- after an item that was done the others follow
 took_more : (i : Item) (items : List Item) (k x end : Course) → x.done ≡ k.done + 1 → x.state ≡ took_one k.state i → Took x items end → Took k (i ∷ items) end
@@ -65,8 +60,8 @@ took (i ∷ items) k e = subst (λ (x : Course). Took k (i ∷ items) (fold item
     same : item_merged k i ≡ item_judged k i (cause_of k.state i)
     same = ap (λ o. option_map_or {U = Course} (λ stop. k) o (item_judged k i (cause_of k.state i))) e
 
-    one : (o : Option Cause) → cause_of k.state i ≡ o → option_map_or {U = State} (λ (x : Cause). k.state) o (accepts k.state (i ∷ [])) ≡ took_one k.state i
-    one o q = ap (λ (p : Option Cause). option_map_or {U = State} (λ (x : Cause). k.state) p (accepts k.state (i ∷ []))) (sym q)
+    one : (o : Option Cause) → cause_of k.state i ≡ o → option_map_or {U = State} (λ (x : Cause). k.state) o (takes_effect k.state (i ∷ [])) ≡ took_one k.state i
+    one o q = ap (λ (p : Option Cause). option_map_or {U = State} (λ (x : Cause). k.state) p (takes_effect k.state (i ∷ []))) (sym q)
 
     by_cause : ((x : Course) → x.stop ≡ None → Took x items (fold item_merged x items)) → (o : Option Cause) → cause_of k.state i ≡ o → Took k (i ∷ items) (fold item_merged (item_judged k i o) items)
     by_cause more None q = let x : Course = item_judged k i None in took_more i items k x (fold item_merged x items) refl (one None q) (more x e)
@@ -75,7 +70,7 @@ took (i ∷ items) k e = subst (λ (x : Course). Took k (i ∷ items) (fold item
     by_cause more (Some (causes.Refused refusals.Stale)) q =
         let x : Course = record k { done = k.done + 1; stale = k.stale + 1 } in took_more i items k x (fold item_merged x items) refl (one (Some (causes.Refused refusals.Stale)) q) (more x e)
     by_cause more (Some (causes.Refused fault)) q =
-        subst (Took k (i ∷ items)) (sym (stays_stopped items (record k { stop = Some fault }) fault refl)) (took_stopped i items k fault q)
+        subst (Took k (i ∷ items)) (sym (fold_stopped items (record k { stop = Some fault }) fault refl)) (took_stopped i items k fault q)
 
 -- ---- the state after a merge
 -- as many were done as the count says
@@ -92,19 +87,19 @@ course_all s items r e =
     course_left s items (length items) all ∙ ap (took_all s) (take_whole items)
 
 module _ (s t : State) (items : List Item) (r : IsReached s) where
-  merge_left : (reply : Reply) (o : Option Refusal) → reply ≡ (merging s items o).0 → t ≡ (merging s items o).1 → t ≡ left_by s (Merge items) reply
-  merge_left reply (Some refusal) e f = f ∙ ap (left_by s (Merge items)) (sym e)
+  merge_left : (reply : Reply) (o : Option Refusal) → reply ≡ (merging s items o).0 → t ≡ (merging s items o).1 → t ≡ state_left_by s (Merge items) reply
+  merge_left reply (Some refusal) e f = f ∙ ap (state_left_by s (Merge items)) (sym e)
   merge_left reply None e f = by_stop (course s items).stop refl e
     where
       k : Course
       k = course s items
 
-      by_stop : (o : Option Refusal) → k.stop ≡ o → reply ≡ option_map_or {U = Reply} (λ fault. MergeStopped k.done fault (owed s k.taken)) o (Merged k.done (length k.taken) k.stale (owed s k.taken)) → t ≡ left_by s (Merge items) reply
-      by_stop (Some fault) q g = f ∙ course_left s items k.done refl ∙ ap (left_by s (Merge items)) (sym g)
-      by_stop None q g = f ∙ course_all s items r q ∙ ap (left_by s (Merge items)) (sym g)
+      by_stop : (o : Option Refusal) → k.stop ≡ o → reply ≡ option_map_or {U = Reply} (λ fault. MergeStopped k.done fault (owed s k.taken)) o (Merged k.done (length k.taken) k.stale (owed s k.taken)) → t ≡ state_left_by s (Merge items) reply
+      by_stop (Some fault) q g = f ∙ course_left s items k.done refl ∙ ap (state_left_by s (Merge items)) (sym g)
+      by_stop None q g = f ∙ course_all s items r q ∙ ap (state_left_by s (Merge items)) (sym g)
 
-  room_left : (reply : Reply) → MergeWantsRoom s (Merge items) reply t → t ≡ left_by s (Merge items) reply
-  room_left reply w = w.1.state_is ∙ course_all s (take w.0 items) r w.1.not_refused ∙ ap (left_by s (Merge items)) (sym w.1.reply_is)
+  room_left : (reply : Reply) → MergeWantsRoom s (Merge items) reply t → t ≡ state_left_by s (Merge items) reply
+  room_left reply w = w.1.state_is ∙ course_all s (take w.0 items) r w.1.not_refused ∙ ap (state_left_by s (Merge items)) (sym w.1.reply_is)
 
 -- ---- every step
 -- the command is no Merge: it gets none of a Merge's replies, and doesn't stop for want of memory
@@ -127,25 +122,25 @@ plain_or_merge (Page scope after max) = inl (record { merged = λ d n m o h. h; 
 plain_or_merge (Merge items) = inr (items, refl)
 
 module _ (s t : State) where
-  by_reply : (command : Command) (reply : Reply) → IsPlain command → Step s command reply t → IsOutcome (outcome s command) reply t → t ≡ left_by s command reply
+  by_reply : (command : Command) (reply : Reply) → IsPlain command → Step s command reply t → IsOutcome (outcome s command) reply t → t ≡ state_left_by s command reply
   by_reply command (Refused refusal) p step is = refused_says s t command refusal step
   by_reply command (Merged done taken stale owed) p step is = absurd (p.merged done taken stale owed (replies_fit s t command (Merged done taken stale owed) step))
   by_reply command (MergeStopped done fault owed) p step is = absurd (p.stopped done fault owed (replies_fit s t command (MergeStopped done fault owed) step))
   by_reply command _ p step is = is.state_is
 
-  plain_left : (command : Command) (reply : Reply) → IsPlain command → Step s command reply t → t ≡ left_by s command reply
+  plain_left : (command : Command) (reply : Reply) → IsPlain command → Step s command reply t → t ≡ state_left_by s command reply
   plain_left command reply p (inl (inl is)) = by_reply command reply p (inl (inl is)) is
-  plain_left command reply p (inl (inr w)) = w.state_is ∙ ap (left_by s command) (sym w.reply_is)
+  plain_left command reply p (inl (inr w)) = w.state_is ∙ ap (state_left_by s command) (sym w.reply_is)
   plain_left command reply p (inr w) = absurd (p.room s t reply w)
 
-  merge_step_left : (items : List Item) (reply : Reply) → IsReached s → Step s (Merge items) reply t → t ≡ left_by s (Merge items) reply
+  merge_step_left : (items : List Item) (reply : Reply) → IsReached s → Step s (Merge items) reply t → t ≡ state_left_by s (Merge items) reply
   merge_step_left items reply r (inl (inl is)) = merge_left s t items r reply (first_refusal (against_merge (length items))) is.reply_is is.state_is
-  merge_step_left items reply r (inl (inr w)) = w.state_is ∙ ap (left_by s (Merge items)) (sym w.reply_is)
+  merge_step_left items reply r (inl (inr w)) = w.state_is ∙ ap (state_left_by s (Merge items)) (sym w.reply_is)
   merge_step_left items reply r (inr w) = room_left s t items r reply w
 
-pub step_left : (s t : State) (command : Command) (reply : Reply) → IsReached s → Step s command reply t → t ≡ left_by s command reply
+pub step_left : (s t : State) (command : Command) (reply : Reply) → IsReached s → Step s command reply t → t ≡ state_left_by s command reply
 step_left s t command reply r step =
     elim (plain_or_merge command) [
       | inl p ↦ plain_left s t command reply p step
-      | inr m ↦ subst (λ (c : Command). t ≡ left_by s c reply) (sym m.1) (merge_step_left s t m.0 reply r (subst (λ (c : Command). Step s c reply t) m.1 step))
+      | inr m ↦ subst (λ (c : Command). t ≡ state_left_by s c reply) (sym m.1) (merge_step_left s t m.0 reply r (subst (λ (c : Command). Step s c reply t) m.1 step))
     ]

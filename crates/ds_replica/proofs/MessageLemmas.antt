@@ -46,7 +46,7 @@ use Rattle.ds_replica.specs.World.{World}
 use Rattle.ds_replica.specs.Happens.{items_given, ask_outcome, Asks}
 use Rattle.ds_replica.specs.Known.{StoreAccount, Account, store_of, with_account, with_sent, delivered, sent_first, extended, extended_all}
 use Rattle.ds_replica.specs.Fits.{FitsStore, FitsMessage}
-use Rattle.ds_replica.specs.Messages.{IsAsked, after, feed_of, IsMessage, SnapshotIsWhole, SinceIsTurn, PageIsTurn, SinceExtends, CheckIsTurn}
+use Rattle.ds_replica.specs.Messages.{IsAsked, account_after, feed_of, IsMessage, SnapshotIsWholeInWorlds, SinceIsTurn, PageIsTurn, SinceExtendsInWorlds, CheckIsTurn}
 use Rattle.ds_replica.proofs.FitLemmas.{store_fits, own_fits}
 use Rattle.ds_replica.proofs.GivenLemmas.{given_reply, given_unless, check_given}
 use Rattle.ds_replica.proofs.TurnLemmas.{goes_on, front_of}
@@ -96,14 +96,14 @@ messages_stay account k sent (x ∷ events) e = messages_stay (extended account 
 pub record GaveItems (account : Account) (side : Side) (command : Command) (k : ℕ) (events : List (Event × Outcome)) : Type 0 where
   pub items : List Item
   pub given_is : items_given (outcome (store_of account side).state command).0 ≡ Some items
-  pub message : IsMessage (after account side command k events) k (given (store_of account side).known items)
+  pub message : IsMessage (account_after account side command k events) k (given (store_of account side).known items)
 
 module _ (account : Account) (w late : World) (side : Side) (command : Command) (k : ℕ) (events : List (Event × Outcome)) (h : IsAsked account w side command k events late) where
   own : FitsStore account.brought (store_of account side) (store_of account side).state
   own = own_fits account w side h.fits
 
-  pub front : IsFront (feed_of account side) (feed_of (after account side command k events) side)
-  front = front_of (store_of account side).state (store_of (after account side command k events) side).state (goes_on account w late side ((Ask side command, Made k) ∷ events) h.fits h.happen h.stays)
+  pub front : IsFront (feed_of account side) (feed_of (account_after account side command k events) side)
+  front = front_of (store_of account side).state (store_of (account_after account side command k events) side).state (goes_on account w late side ((Ask side command, Made k) ∷ events) h.fits h.happen h.stays)
 
   gave_at : (asks : Asks w side command (Made k) h.happen.0) (o : Option (List Item)) → items_given asks.reply ≡ o → Made k ≡ ask_outcome w asks.reply o → GaveItems account side command k events
   gave_at asks None e q = absurd (let n : Made k ≡ Replied asks.reply = q in cc)
@@ -125,7 +125,7 @@ module _ (account : Account) (w late : World) (side : Side) (command : Command) 
   gave = let asks = h.happen.1.1 in gave_at asks (items_given asks.reply) refl asks.outcome_is
 
 -- ---- snapshots
-pub snapshot_is_whole : SnapshotIsWhole
+pub snapshot_is_whole : SnapshotIsWholeInWorlds
 snapshot_is_whole account w late side scope query k events h keep =
     let a = store_of account side in
     let own = own_fits account w side h.fits in
@@ -134,7 +134,7 @@ snapshot_is_whole account w late side scope query k events h keep =
     let whole = wholes.snapshot_is_whole a.state.feed a.known (held a.state) (keeps scope) query (held_is_top a.state own.reached) own.accepted keep in (
       given a.known g.items,
       g.message,
-      wholes.whole_stays a.state.feed (feed_of (after account side (Snapshot scope) k events) side) query (given a.known g.items) (position a.state.feed) (front account w late side (Snapshot scope) k events h) (omega arith)
+      wholes.whole_stays a.state.feed (feed_of (account_after account side (Snapshot scope) k events) side) query (given a.known g.items) (position a.state.feed) (front account w late side (Snapshot scope) k events h) (omega arith)
           (subst (λ (l : List Item). IsWhole a.state.feed query (given a.known l) (position a.state.feed)) same whole),
     )
 
@@ -167,12 +167,12 @@ since_is_turn account w late side scope at max k events h =
       since_turn account side scope at max,
       refl,
       record { front = front account w late side (Since scope at max) k events h; knows = own.accepted; given = record { reached = reached_at a.state.feed scope at max none; given = refl } },
-      subst (λ (l : List Item). IsMessage (after account side (Since scope at max) k events) k (given a.known l)) (sym same) g.message,
+      subst (λ (l : List Item). IsMessage (account_after account side (Since scope at max) k events) k (given a.known l)) (sym same) g.message,
     )
 
-pub since_extends : SinceExtends
+pub since_extends : SinceExtendsInWorlds
 since_extends account w late side scope query at max k events items h keep whole =
-    let now = feed_of (after account side (Since scope at max) k events) side in
+    let now = feed_of (account_after account side (Since scope at max) k events) side in
     let t = since_is_turn account w late side scope at max k events h in (
       t.0,
       t.2,
@@ -203,7 +203,7 @@ page_is_turn account w late side scope behind max k events h =
       refl,
       refl,
       record { front = front account w late side (Page scope behind max) k events h; knows = own.accepted; top = held_is_top a.state own.reached; given = refl },
-      subst (λ (l : List Item). IsMessage (after account side (Page scope behind max) k events) k (given a.known l)) (sym same) g.message,
+      subst (λ (l : List Item). IsMessage (account_after account side (Page scope behind max) k events) k (given a.known l)) (sym same) g.message,
     )
 
 -- ---- checks
@@ -228,5 +228,5 @@ check_is_turn account w late side sub max k events early h earlier =
       check_turn account side c.0 max,
       refl,
       record { later = earlier; front = front account w late side (Check sub max) k events h; knows = own.accepted; top = held_is_top a.state own.reached; given = refl },
-      subst (λ (l : List Item). IsMessage (after account side (Check sub max) k events) k (given a.known l)) (sym c.2) g.message,
+      subst (λ (l : List Item). IsMessage (account_after account side (Check sub max) k events) k (given a.known l)) (sym c.2) g.message,
     )

@@ -1,8 +1,8 @@
 -- The worked rows.
 use Rattle.std.proofs.Common.{◌≡◌, ℕ, ◌≤◌, List, [], ◌∷◌, ◌++◌, length, filter, Some, None, refl, ap, sym, ◌∙◌, subst, inl, inr, arith, codes, Contains}
 use Rattle.ds_names.specs.Endpoint.{endpoint_of}
-use Rattle.ds_names.specs.Name.{is_name_byte}
-use Rattle.ds_entry.specs.Change.{ChangeRecord, rs_name}
+use Rattle.ds_names.specs.Name.{is_name_byte, rs_name}
+use Rattle.ds_entry.specs.Change.{ChangeRecord}
 use Rattle.ds_entry.specs.Item.{IsItem, passes}
 use Rattle.ds_entry.specs.ItemCovers.{AreSingleNumbered}
 use Rattle.ds_entry.specs.declared.body.Value.TheVariants.{Label, U32 as Number}
@@ -15,13 +15,10 @@ use Rattle.ds_join.specs.ItemTop.{IsTop}
 use Rattle.ds_held.specs.Limits.{larger}
 use Rattle.ds_pattern.specs.declared.query.Query.{Query}
 use Rattle.ds_pattern.specs.Under.{is_under}
-use Rattle.ds_whole.specs.Under.{under}
-use Rattle.ds_whole.specs.Labels.{label_key}
 use Rattle.ds_join.proofs.ItemTopLemmas.{top_of_covered}
 use Rattle.ds_whole.proofs.Samples.{top_of_one}
 use Rattle.ds_whole.proofs.SentLemmas.{Contains-from_under, stood_wider}
-use Rattle.ds_machine.specs.Limits.{most_items}
-use Rattle.ds_machine.specs.State.{State, accepts, opening}
+use Rattle.ds_machine.specs.State.{State, takes_effect, opening}
 use Rattle.ds_machine.specs.Machine.{Step, outcome}
 use Rattle.ds_machine.specs.declared.command.Command.{Command}
 use Rattle.ds_machine.specs.declared.command.Command.TheVariants.{Merge}
@@ -40,7 +37,10 @@ use Rattle.ds_replica.specs.Happens.{Asks, ask_outcome, items_given, HappenAll}
 use Rattle.ds_replica.specs.Delivery.{Tally, StoreTakes, MapTakes}
 use Rattle.ds_replica.specs.Known.{known_by}
 use Rattle.ds_replica.specs.CaughtUp.{AreItems}
-use Rattle.ds_replica.specs.Rows.{fresh, driver, floor, irq, one, other, later, contradicted, with_both, with_other, AsksFor, ReplicasConverge, ReplicasDiffer, MapCatchesUp, MapLags, MapLeads, MapsCatchUp, MapsLag, MapsLead, ReplicasClash, MapClashes, MapsClash}
+use Rattle.ds_replica.specs.Rows.{fresh_world, driver_label, floor, irq, one, other, later, contradicted, with_both, with_other, AsksFor, ReplicasConverge, ReplicasDiffer, MapCatchesUp, MapLags, MapLeads, MapsCatchUp, MapsLag, MapsLead, ReplicasClash, MapClashes, MapsClash}
+use Rattle.ds_names.specs.Limits.{most_items}
+use Rattle.ds_names.specs.Key.{label_key}
+use Rattle.ds_entry.specs.Under.{under}
 
 -- ---- what takes part
 one_change : (c : ChangeRecord) → AreSingleNumbered (Changed c ∷ [])
@@ -64,12 +64,12 @@ few_there : (i : Item) (group : List Item) → Contains ((i ∷ []) ∷ []) grou
 few_there i group h = subst (λ (l : List Item). length l ≤ most_items) (sym (Contains-single (i ∷ []) group h)) (omega arith)
 
 -- one item goes to a store, as a Merge of its own
-stored : (s : State) (i : Item) → Step s (Merge (i ∷ [])) (AllMerged 1 1 0 0) (accepts s (i ∷ [])) → StoreTakes s (i ∷ []) (done 1 1) (accepts s (i ∷ []))
+stored : (s : State) (i : Item) → Step s (Merge (i ∷ [])) (AllMerged 1 1 0 0) (takes_effect s (i ∷ [])) → StoreTakes s (i ∷ []) (done 1 1) (takes_effect s (i ∷ []))
 stored s i step = record {
   groups = (i ∷ []) ∷ [];
   all = refl;
   few = few_there i;
-  merged = (AllMerged 1 1 0 0, accepts s (i ∷ []), step, (done 0 0, (refl, refl), refl));
+  merged = (AllMerged 1 1 0 0, takes_effect s (i ∷ []), step, (done 0 0, (refl, refl), refl));
 }
 
 -- a store that is asked makes a step
@@ -86,35 +86,35 @@ does w side command = record {
 
 -- ---- two replicas
 after_publish : State
-after_publish = accepts (opening 1 0 4 larger) (driver ∷ [])
+after_publish = takes_effect (opening 1 0 4 larger) (driver_label ∷ [])
 
 pub replicas_differ : ReplicasDiffer
 unfolding after_publish
 replicas_differ = record {
-  world = record fresh { a = after_publish };
-  happen = (record fresh { a = after_publish }, (refl, does _ _ _), refl);
+  world = record fresh_world { a = after_publish };
+  happen = (record fresh_world { a = after_publish }, (refl, does _ _ _), refl);
   numbers = one_change _;
-  differ = λ e. (let n : driver ∷ [] ≡ [] = e in cc);
+  differ = λ e. (let n : driver_label ∷ [] ≡ [] = e in cc);
 }
 
 delivered : World
-delivered = record fresh { a = after_publish; b = accepts (opening 2 0 4 larger) (driver ∷ []); messages = (driver ∷ []) ∷ [] }
+delivered = record fresh_world { a = after_publish; b = takes_effect (opening 2 0 4 larger) (driver_label ∷ []); messages = (driver_label ∷ []) ∷ [] }
 
 pub replicas_converge : ReplicasConverge
 unfolding after_publish delivered
 replicas_converge = record {
   world = delivered;
   happen = (
-    record fresh { a = after_publish },
+    record fresh_world { a = after_publish },
     (refl, does _ _ _),
     (
-      record fresh { a = after_publish; messages = (driver ∷ []) ∷ [] },
+      record fresh_world { a = after_publish; messages = (driver_label ∷ []) ∷ [] },
       (refl, does _ _ _),
       (
         delivered,
         (
           refl,
-          record { items = driver ∷ []; there = refl; tally = done 1 1; taken = record { after = accepts (opening 2 0 4 larger) (driver ∷ []); takes = stored (opening 2 0 4 larger) driver (inl (inl (record { reply_is = refl; state_is = refl }))); world_is = refl }; outcome_is = refl },
+          record { items = driver_label ∷ []; there = refl; tally = done 1 1; taken = record { after = takes_effect (opening 2 0 4 larger) (driver_label ∷ []); takes = stored (opening 2 0 4 larger) driver_label (inl (inl (record { reply_is = refl; state_is = refl }))); world_is = refl }; outcome_is = refl },
         ),
         refl,
       ),
@@ -127,14 +127,14 @@ replicas_converge = record {
 
 -- ---- a map
 both : List Item
-both = floor ∷ driver ∷ []
+both = floor ∷ driver_label ∷ []
 
 -- what was brought in keeps the rules
 floor_is : IsItem floor
 unfolding is_name_byte
 floor_is = record { owner = record { some = omega arith; limit = omega arith; allowed = refl }; generation = omega arith }
 
-driver_is : IsItem driver
+driver_is : IsItem driver_label
 unfolding is_name_byte
 driver_is = record {
   name = record { some = omega arith; limit = omega arith; allowed = refl };
@@ -148,19 +148,19 @@ driver_is = record {
 
 both_are : AreItems both
 unfolding both
-both_are i h = elim (Contains-cons floor (driver ∷ []) i h) [ inl e ↦ subst IsItem (sym e) floor_is | inr k ↦ subst IsItem (sym (Contains-single driver i k)) driver_is ]
+both_are i h = elim (Contains-cons floor (driver_label ∷ []) i h) [ inl e ↦ subst IsItem (sym e) floor_is | inr k ↦ subst IsItem (sym (Contains-single driver_label i k)) driver_is ]
 
 -- they are the top of themselves
 itself : IsTop both both
 unfolding both
-itself = top_of_one rs_name (floor ∷ driver ∷ []) (tt, (refl, tt))
+itself = top_of_one rs_name (floor ∷ driver_label ∷ []) (tt, (refl, tt))
 
 -- none of them is gone
-still_put : {P Q : ChangeRecord → Type 0} → ((d : ChangeRecord) × Contains (floor ∷ driver ∷ []) (Changed d) × P d × (d.body ≡ Gone) × Q d) → ⊥
+still_put : {P Q : ChangeRecord → Type 0} → ((d : ChangeRecord) × Contains (floor ∷ driver_label ∷ []) (Changed d) × P d × (d.body ≡ Gone) × Q d) → ⊥
 still_put {P} {Q} g =
-    elim (Contains-cons floor (driver ∷ []) (Changed g.0) g.1) [
+    elim (Contains-cons floor (driver_label ∷ []) (Changed g.0) g.1) [
       | inl e ↦ (let q : Changed g.0 ≡ floor = e in cc)
-      | inr k ↦ (let b : g.0.body ≡ Put (Label (endpoint_of 3 17)) = ap (λ (c : ChangeRecord). c.body) (changed_same g.0 _ (Contains-single driver (Changed g.0) k)) in let n : Gone ≡ Put (Label (endpoint_of 3 17)) = sym g.3 ∙ b in cc)
+      | inr k ↦ (let b : g.0.body ≡ Put (Label (endpoint_of 3 17)) = ap (λ (c : ChangeRecord). c.body) (changed_same g.0 _ (Contains-single driver_label (Changed g.0) k)) in let n : Gone ≡ Put (Label (endpoint_of 3 17)) = sym g.3 ∙ b in cc)
     ]
 
 module _ (query : Query) (asks : AsksFor query (label_key (codes "eth0"))) where
@@ -168,13 +168,13 @@ module _ (query : Query) (asks : AsksFor query (label_key (codes "eth0"))) where
   map_with held = record { query = query; held = held }
 
   abbrev told_at : ℕ → State
-  told_at incarnation = accepts (opening incarnation 0 4 larger) (floor ∷ driver ∷ [])
+  told_at incarnation = takes_effect (opening incarnation 0 4 larger) (floor ∷ driver_label ∷ [])
 
   abbrev swept_at : ℕ → State
-  swept_at incarnation = accepts (opening incarnation 0 4 larger) (floor ∷ [])
+  swept_at incarnation = takes_effect (opening incarnation 0 4 larger) (floor ∷ [])
 
   abbrev made : World
-  made = record fresh { maps = map_with [] ∷ [] }
+  made = record fresh_world { maps = map_with [] ∷ [] }
 
   abbrev at_a : World
   at_a = record made { a = told_at 1 }
@@ -183,20 +183,20 @@ module _ (query : Query) (asks : AsksFor query (label_key (codes "eth0"))) where
   at_b = record made { b = told_at 2 }
 
   abbrev sends : World → World
-  sends w = record w { messages = (floor ∷ driver ∷ []) ∷ [] }
+  sends w = record w { messages = (floor ∷ driver_label ∷ []) ∷ [] }
 
   abbrev arrived : World → World
-  arrived w = record w { maps = map_with (floor ∷ driver ∷ []) ∷ [] }
+  arrived w = record w { maps = map_with (floor ∷ driver_label ∷ []) ∷ [] }
 
   -- all of both is under the query
-  under_it : under (is_under query) (floor ∷ driver ∷ []) ≡ floor ∷ driver ∷ []
+  under_it : under (is_under query) (floor ∷ driver_label ∷ []) ≡ floor ∷ driver_label ∷ []
   under_it = simp asks.asked
 
-  taken_top : IsTop (floor ∷ driver ∷ []) (under (is_under query) (floor ∷ driver ∷ []))
+  taken_top : IsTop (floor ∷ driver_label ∷ []) (under (is_under query) (floor ∷ driver_label ∷ []))
   unfolding both
-  taken_top = subst (IsTop (floor ∷ driver ∷ [])) (sym under_it) itself
+  taken_top = subst (IsTop (floor ∷ driver_label ∷ [])) (sym under_it) itself
 
-  takes : MapTakes (map_with []) (floor ∷ driver ∷ []) (done 2 2) (map_with (floor ∷ driver ∷ []))
+  takes : MapTakes (map_with []) (floor ∷ driver_label ∷ []) (done 2 2) (map_with (floor ∷ driver_label ∷ []))
   takes = record { query = refl; top = taken_top; counted = omega arith; owed = refl; ends = refl }
 
   lags : MapLags query
@@ -215,8 +215,8 @@ module _ (query : Query) (asks : AsksFor query (label_key (codes "eth0"))) where
     numbers = beside _ _;
     items = both_are;
     nothing_else = λ i h. absurd (Contains-nil i h);
-    differ = λ q. (let n : [] ≡ under (is_under query) (floor ∷ driver ∷ []) = q in cc under_it);
-    older = λ g. still_put (g _ (Contains-tail floor (driver ∷ []) driver (Contains-head driver [])) refl);
+    differ = λ q. (let n : [] ≡ under (is_under query) (floor ∷ driver_label ∷ []) = q in cc under_it);
+    older = λ g. still_put (g _ (Contains-tail floor (driver_label ∷ []) driver_label (Contains-head driver_label [])) refl);
   }
 
   catches_up : MapCatchesUp query
@@ -237,7 +237,7 @@ module _ (query : Query) (asks : AsksFor query (label_key (codes "eth0"))) where
             (refl, does _ _ _),
             (
               arrived (sends at_a),
-              (refl, record { items = floor ∷ driver ∷ []; there = refl; tally = done 2 2; taken = record { old = map_with []; there = refl; after = map_with (floor ∷ driver ∷ []); takes = takes; world_is = refl }; outcome_is = refl }),
+              (refl, record { items = floor ∷ driver_label ∷ []; there = refl; tally = done 2 2; taken = record { old = map_with []; there = refl; after = map_with (floor ∷ driver_label ∷ []); takes = takes; world_is = refl }; outcome_is = refl }),
               refl,
             ),
           ),
@@ -246,7 +246,7 @@ module _ (query : Query) (asks : AsksFor query (label_key (codes "eth0"))) where
     );
     numbers = beside _ _;
     items = both_are;
-    all = record { there = refl; whole = λ i h. (Contains-from_under (is_under query) (floor ∷ driver ∷ []) i h).0 };
+    all = record { there = refl; whole = λ i h. (Contains-from_under (is_under query) (floor ∷ driver_label ∷ []) i h).0 };
     nothing_else = λ i h. stood_wider (filter (λ s. passes (is_under query) s.item) (with_both query).taken) (with_both query).taken (λ s k. (Contains-from_filter (λ s. passes (is_under query) s.item) (with_both query).taken s k).0) i (Contains-from_under (is_under query) (known_by (with_both query)) i h).0;
     held = refl;
     named = refl;
@@ -270,7 +270,7 @@ module _ (query : Query) (asks : AsksFor query (label_key (codes "eth0"))) where
             (refl, does _ _ _),
             (
               arrived (sends at_b),
-              (refl, record { items = floor ∷ driver ∷ []; there = refl; tally = done 2 2; taken = record { old = map_with []; there = refl; after = map_with (floor ∷ driver ∷ []); takes = takes; world_is = refl }; outcome_is = refl }),
+              (refl, record { items = floor ∷ driver_label ∷ []; there = refl; tally = done 2 2; taken = record { old = map_with []; there = refl; after = map_with (floor ∷ driver_label ∷ []); takes = takes; world_is = refl }; outcome_is = refl }),
               refl,
             ),
           ),
@@ -280,7 +280,7 @@ module _ (query : Query) (asks : AsksFor query (label_key (codes "eth0"))) where
     numbers = beside _ _;
     items = both_are;
     all = record { there = refl; whole = λ i h. absurd (Contains-nil i h) };
-    differ = λ q. (let n : floor ∷ driver ∷ [] ≡ [] = q in cc);
+    differ = λ q. (let n : floor ∷ driver_label ∷ [] ≡ [] = q in cc);
     older = λ l. Contains-nil _ l.put.1;
   }
 
@@ -318,33 +318,33 @@ stopped s i step = record {
 }
 
 abbrev clashing : World
-clashing = record fresh { a = accepts (opening 3 0 4 larger) (one ∷ []); b = accepts (opening 4 0 4 larger) (other ∷ []); messages = (one ∷ []) ∷ (other ∷ []) ∷ [] }
+clashing = record fresh_world { a = takes_effect (opening 3 0 4 larger) (one ∷ []); b = takes_effect (opening 4 0 4 larger) (other ∷ []); messages = (one ∷ []) ∷ (other ∷ []) ∷ [] }
 
-contradicted_happen : HappenAll fresh contradicted clashing
+contradicted_happen : HappenAll fresh_world contradicted clashing
 contradicted_happen = (
-  record fresh { a = accepts (opening 1 0 4 larger) (one ∷ later ∷ []) },
+  record fresh_world { a = takes_effect (opening 1 0 4 larger) (one ∷ later ∷ []) },
   (refl, does _ _ _),
   (
-    record fresh { a = accepts (opening 1 0 4 larger) (one ∷ later ∷ []); messages = (one ∷ []) ∷ [] },
+    record fresh_world { a = takes_effect (opening 1 0 4 larger) (one ∷ later ∷ []); messages = (one ∷ []) ∷ [] },
     (refl, does _ _ _),
     (
-      record fresh { a = opening 3 0 4 larger; messages = (one ∷ []) ∷ [] },
+      record fresh_world { a = opening 3 0 4 larger; messages = (one ∷ []) ∷ [] },
       (refl, record { outcome_is = refl; world_is = refl }),
       (
-        record fresh { a = opening 3 0 4 larger; b = accepts (opening 2 0 4 larger) (other ∷ later ∷ []); messages = (one ∷ []) ∷ [] },
+        record fresh_world { a = opening 3 0 4 larger; b = takes_effect (opening 2 0 4 larger) (other ∷ later ∷ []); messages = (one ∷ []) ∷ [] },
         (refl, does _ _ _),
         (
-          record fresh { a = opening 3 0 4 larger; b = accepts (opening 2 0 4 larger) (other ∷ later ∷ []); messages = (one ∷ []) ∷ (other ∷ []) ∷ [] },
+          record fresh_world { a = opening 3 0 4 larger; b = takes_effect (opening 2 0 4 larger) (other ∷ later ∷ []); messages = (one ∷ []) ∷ (other ∷ []) ∷ [] },
           (refl, does _ _ _),
           (
-            record fresh { a = opening 3 0 4 larger; b = opening 4 0 4 larger; messages = (one ∷ []) ∷ (other ∷ []) ∷ [] },
+            record fresh_world { a = opening 3 0 4 larger; b = opening 4 0 4 larger; messages = (one ∷ []) ∷ (other ∷ []) ∷ [] },
             (refl, record { outcome_is = refl; world_is = refl }),
             (
-              record fresh { a = accepts (opening 3 0 4 larger) (one ∷ []); b = opening 4 0 4 larger; messages = (one ∷ []) ∷ (other ∷ []) ∷ [] },
-              (refl, record { items = one ∷ []; there = refl; tally = done 1 1; taken = record { after = accepts (opening 3 0 4 larger) (one ∷ []); takes = stored (opening 3 0 4 larger) one (inl (inl (record { reply_is = refl; state_is = refl }))); world_is = refl }; outcome_is = refl }),
+              record fresh_world { a = takes_effect (opening 3 0 4 larger) (one ∷ []); b = opening 4 0 4 larger; messages = (one ∷ []) ∷ (other ∷ []) ∷ [] },
+              (refl, record { items = one ∷ []; there = refl; tally = done 1 1; taken = record { after = takes_effect (opening 3 0 4 larger) (one ∷ []); takes = stored (opening 3 0 4 larger) one (inl (inl (record { reply_is = refl; state_is = refl }))); world_is = refl }; outcome_is = refl }),
               (
-                record fresh { a = accepts (opening 3 0 4 larger) (one ∷ []); b = accepts (opening 4 0 4 larger) (other ∷ []); messages = (one ∷ []) ∷ (other ∷ []) ∷ [] },
-                (refl, record { items = other ∷ []; there = refl; tally = done 1 1; taken = record { after = accepts (opening 4 0 4 larger) (other ∷ []); takes = stored (opening 4 0 4 larger) other (inl (inl (record { reply_is = refl; state_is = refl }))); world_is = refl }; outcome_is = refl }),
+                record fresh_world { a = takes_effect (opening 3 0 4 larger) (one ∷ []); b = takes_effect (opening 4 0 4 larger) (other ∷ []); messages = (one ∷ []) ∷ (other ∷ []) ∷ [] },
+                (refl, record { items = other ∷ []; there = refl; tally = done 1 1; taken = record { after = takes_effect (opening 4 0 4 larger) (other ∷ []); takes = stored (opening 4 0 4 larger) other (inl (inl (record { reply_is = refl; state_is = refl }))); world_is = refl }; outcome_is = refl }),
                 refl,
               ),
             ),
@@ -361,7 +361,7 @@ replicas_clash = record {
   happen = contradicted_happen;
   same = record { there = swapped one other; here = swapped other one };
   differ = λ q. apart (sym q);
-  stops = (refl, record { items = other ∷ []; there = refl; tally = clashed; taken = record { after = accepts (opening 3 0 4 larger) (one ∷ []); takes = stopped (accepts (opening 3 0 4 larger) (one ∷ [])) other (inl (inl (record { reply_is = refl; state_is = refl }))); world_is = refl }; outcome_is = refl });
+  stops = (refl, record { items = other ∷ []; there = refl; tally = clashed; taken = record { after = takes_effect (opening 3 0 4 larger) (one ∷ []); takes = stopped (takes_effect (opening 3 0 4 larger) (one ∷ [])) other (inl (inl (record { reply_is = refl; state_is = refl }))); world_is = refl }; outcome_is = refl });
 }
 
 -- and then these events happen
@@ -386,7 +386,7 @@ module _ (query : Query) (asks : AsksFor query irq) where
   clashes : MapClashes query
   clashes = record {
     world = record clashing { maps = map_of (other ∷ []) ∷ [] };
-    happen = happen_then contradicted ((NewMap query, MapMade 0) ∷ (Deliver 1 (Map 0) None, Merged 1 1 0 0) ∷ []) fresh clashing (record clashing { maps = map_of (other ∷ []) ∷ [] }) contradicted_happen (
+    happen = happen_then contradicted ((NewMap query, MapMade 0) ∷ (Deliver 1 (Map 0) None, Merged 1 1 0 0) ∷ []) fresh_world clashing (record clashing { maps = map_of (other ∷ []) ∷ [] }) contradicted_happen (
       record clashing { maps = map_of [] ∷ [] },
       (asks.read, record { outcome_is = refl; world_is = refl }),
       (

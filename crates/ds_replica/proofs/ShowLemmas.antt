@@ -23,8 +23,8 @@ use Rattle.ds_replica.specs.declared.outcome.Outcome.{Outcome}
 use Rattle.ds_replica.specs.declared.outcome.Outcome.TheVariants.{Replied, Made, Refused as Refusing}
 use Rattle.ds_replica.specs.declared.outcome.EventFault.{EventFault}
 use Rattle.ds_replica.specs.World.{MapState, World, store_at, with_state}
-use Rattle.ds_replica.specs.Delivery.{Tally, Follows, AreMerged}
-use Rattle.ds_replica.specs.Happens.{items_given, event_fault, ask_outcome, Asks, IsTaken, reopened, Happens}
+use Rattle.ds_replica.specs.Delivery.{Tally, OthersFollow, GroupsAreMerged}
+use Rattle.ds_replica.specs.Happens.{items_given, event_fault, ask_outcome, Asks, IsDelivered, reopened, Happens}
 use Rattle.ds_replica.specs.Known.{Account, store_of, message_items, extended}
 use Rattle.ds_replica.specs.Fits.{Fits}
 use Rattle.ds_replica.specs.Turns.{is_side, empties_by}
@@ -34,7 +34,8 @@ use Rattle.ds_replica.proofs.GivenLemmas.{given_reply}
 use Rattle.ds_replica.proofs.FitLemmas.{store_fits, items_given_back}
 use Rattle.ds_replica.proofs.TurnLemmas.{items_store, maps_store}
 use Rattle.ds_replica.proofs.MessageLemmas.{gave}
-use Rattle.ds_replica.proofs.SeerLemmas.{Shows, still_shows, same_items, place_kept, check_shows, unchecked, unmade, side_itself, one_side, store_put, store_other, itself, and_false, and_true}
+use Rattle.ds_replica.proofs.SeerLemmas.{Shows, still_shows, same_items, place_kept, check_shows, unchecked, unmade, side_itself, one_side, store_put, store_other, itself, and_false}
+use Rattle.std.proofs.lemmas.Bool.{and_from}
 
 -- ---- one event
 -- what isn't asked of the subscription at this side gave it nothing
@@ -76,7 +77,7 @@ module _ (account : Account) (w new : World) (side : Side) (sub : ℕ) (query : 
       not_made : (stamp owed : ℕ) → a.reply ≡ Subscribed stamp owed → ⊥
       not_made stamp owed is =
           let told : out ≡ Replied (Subscribed stamp owed) = a.outcome_is ∙ ap (λ (x : Reply). ask_outcome w x (items_given x)) is in
-          let yes : is_side side side && (sub == sub) ≡ true = and_true (is_side side side) (sub == sub) (side_itself side) (itself sub) in
+          let yes : is_side side side && (sub == sub) ≡ true = and_from (is_side side side) (sub == sub) (side_itself side) (itself sub) in
           let n : true ≡ false = sym yes ∙ (sym (ap (subscribes_by side sub (Ask side (Subscribe sub q initial overwrite))) told) ∙ e) in
           cc
 
@@ -97,7 +98,7 @@ module _ (account : Account) (w new : World) (side : Side) (sub : ℕ) (query : 
           let step = subst (λ (s : State). Step s (Check sub max) a.reply a.after) (sym (store_fits account w side f).state_is) a.step in
           let reply = given_reply (store_of account side).state a.after (Check sub max) a.reply items step e in
           let same : g.items ≡ items = same_items g.items items (sym g.given_is ∙ (sym (ap items_given reply) ∙ e)) in
-          let test = and_true (is_side side side) (sub == sub) (side_itself side) (itself sub) in
+          let test = and_from (is_side side side) (sub == sub) (side_itself side) (itself sub) in
           let sent : check_sent side sub account (Ask side (Check sub max)) out ≡ given (store_of account side).known g.items =
           ap (check_sent side sub account (Ask side (Check sub max))) q
           ∙ (ap (λ (b : Bool). cond b (sent_in (extended account (Ask side (Check sub max)) (Made k)) k) []) test ∙ ap message_items g.message) in
@@ -134,17 +135,17 @@ module _ (account : Account) (w new : World) (side : Side) (sub : ℕ) (query : 
 
 -- ---- every event
 pub followed_kept : (sub : ℕ) (s mid new : State) (group : List Item) (Others : Tally → State → Type 0) (reply : Reply) (tally : Tally) → IsReached s
-    → ((later : Tally) → IsReached mid → Others later new → subscription_at new sub ≡ subscription_at mid sub) → Step s (Merge group) reply mid → Follows reply mid Others tally new → subscription_at new sub ≡ subscription_at s sub
+    → ((later : Tally) → IsReached mid → Others later new → subscription_at new sub ≡ subscription_at mid sub) → Step s (Merge group) reply mid → OthersFollow reply mid Others tally new → subscription_at new sub ≡ subscription_at s sub
 followed_kept sub s mid new group Others (Merged done taken stale owed) tally r others step f =
     others f.0 (steps_stay_reached s mid (Merge group) (Merged done taken stale owed) r step) f.1 ∙ place_kept s mid sub (Merge group) (Merged done taken stale owed) r step refl
 followed_kept sub s mid new group Others (MergeStopped done fault owed) tally r others step f = ap (λ (x : State). subscription_at x sub) f.1 ∙ place_kept s mid sub (Merge group) (MergeStopped done fault owed) r step refl
 followed_kept sub s mid new group Others (Refused fault) tally r others step f = ap (λ (x : State). subscription_at x sub) f.1 ∙ place_kept s mid sub (Merge group) (Refused fault) r step refl
 followed_kept sub s mid new group Others _ tally r others step f = absurd f
 
-pub merges_kept : (sub : ℕ) (groups : List (List Item)) (s new : State) (tally : Tally) → IsReached s → AreMerged s groups tally new → subscription_at new sub ≡ subscription_at s sub
+pub merges_kept : (sub : ℕ) (groups : List (List Item)) (s new : State) (tally : Tally) → IsReached s → GroupsAreMerged s groups tally new → subscription_at new sub ≡ subscription_at s sub
 merges_kept sub [] s new tally r m = ap (λ (x : State). subscription_at x sub) m.1
 merges_kept sub (group ∷ groups) s new tally r m =
-    followed_kept sub s m.1 new group (λ t n. AreMerged m.1 groups t n) m.0 tally r (λ later q a. merges_kept sub groups m.1 new later q a) m.2 m.3
+    followed_kept sub s m.1 new group (λ t n. GroupsAreMerged m.1 groups t n) m.0 tally r (λ later q a. merges_kept sub groups m.1 new later q a) m.2 m.3
 
 pub refused_none : (side : Side) (sub : ℕ) (account : Account) (s : Side) (command : Command) (fault : EventFault) → check_sent side sub account (Ask s command) (Refusing fault) ≡ []
 refused_none side sub account s (Check n max) fault = refl
@@ -157,7 +158,7 @@ module _ (account : Account) (w new : World) (side : Side) (sub : ℕ) (query : 
   pub maps_shows : (maps : List MapState) → new ≡ record w { maps = maps } → Shows (store_at new side) sub query (shown ++ [])
   maps_shows maps e = unchanged (ap (λ (x : World). store_at x side) e ∙ maps_store w maps side)
 
-  pub taken_shows : (holder : Holder) (items : List Item) (tally : Tally) → IsTaken w holder items tally new → Shows (store_at new side) sub query (shown ++ [])
+  pub taken_shows : (holder : Holder) (items : List Item) (tally : Tally) → IsDelivered w holder items tally new → Shows (store_at new side) sub query (shown ++ [])
   taken_shows (Map j) items tally t = maps_shows _ t.world_is
   taken_shows (Store s) items tally t = by_side (is_side s side) refl
     where

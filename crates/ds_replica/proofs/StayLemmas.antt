@@ -1,7 +1,7 @@
 -- What a holder knows it keeps, until it is emptied.
 use Rattle.std.proofs.Common.{◌≡◌, ◌==◌, ℕ, zero, suc, true, false, List, [], ◌∷◌, ◌++◌, Option, Some, None, refl, ap, subst, Contains}
 use Rattle.std.specs.List.{list_any, slice_get, slice_set}
-use Rattle.std.proofs.lemmas.Bool.{eqb-false}
+use Rattle.std.proofs.lemmas.Bool.{eqb-false, or_parts}
 use Rattle.std.proofs.lemmas.List.Elements.{Contains-append_left}
 use Rattle.ds_entry.specs.Item.{passes}
 use Rattle.ds_entry.specs.declared.item.Item.{Item}
@@ -24,8 +24,7 @@ use Rattle.ds_replica.specs.declared.outcome.Outcome.{Outcome}
 use Rattle.ds_replica.specs.declared.outcome.Outcome.TheVariants.{Replied, Made, MapMade, Merged, Stopped, Cleared, Restarted}
 use Rattle.ds_replica.specs.Happens.{reopened}
 use Rattle.ds_replica.specs.Known.{MapAccount, Account, StoreAccount, store_of, known_by, map_known, known_at, with_account, with_reply, opened, map_took, map_cleared, delivered, sent_first, extended, extended_all}
-use Rattle.ds_replica.specs.Turns.{empties_by, empties, KnownStays, FloorsStand}
-use Rattle.ds_replica.proofs.TurnLemmas.{neither}
+use Rattle.ds_replica.specs.Turns.{empties_by, empties, KnownStays, FloorsStandInWorlds}
 use Rattle.ds_replica.proofs.HolderLemmas.{nothing_below_floors}
 use Rattle.ds_replica.proofs.EventLemmas.{events_fit}
 
@@ -128,9 +127,9 @@ module _ (account : Account) where
 pub known_stays : KnownStays
 known_stays account h [] e i k = k
 known_stays account h (x ∷ events) e i k =
-    let n = neither (empties h x) (list_any (empties h) events) e in
+    let n = or_parts (empties h x) (list_any (empties h) events) e in
     known_stays (extended account x.0 x.1) h events n.1 i (event_known account h x.0 x.1 n.0 i k)
 
-pub floors_stand : FloorsStand
+pub floors_stand : FloorsStandInWorlds
 floors_stand account old new h events f c fits happen e k l =
     nothing_below_floors (extended_all account events) new h f c (events_fit account old new events fits happen) (known_stays account h events e _ k) l

@@ -1,5 +1,5 @@
 -- A store's turns in a list of events.
-use Rattle.std.proofs.Common.{◌≡◌, ℕ, ◌||◌, Bool, true, false, List, [], ◌∷◌, ◌++◌, Option, Some, None, refl, ap, sym, ◌∙◌, subst}
+use Rattle.std.proofs.Common.{◌≡◌, ℕ, true, false, List, [], ◌∷◌, ◌++◌, Option, Some, None, refl, ap, sym, ◌∙◌, subst}
 use Rattle.std.specs.List.{list_any}
 use Rattle.ds_entry.specs.declared.item.Item.{Item}
 use Rattle.ds_whole.proofs.WholeLemmas as wholes
@@ -21,13 +21,14 @@ use Rattle.ds_replica.specs.declared.event.Event.TheVariants.{Ask, NewMap, Deliv
 use Rattle.ds_replica.specs.declared.outcome.Outcome.{Outcome}
 use Rattle.ds_replica.specs.declared.outcome.Outcome.TheVariants.{Refused, Restarted}
 use Rattle.ds_replica.specs.World.{World, MapState, store_at, with_state, with_items}
-use Rattle.ds_replica.specs.Delivery.{Tally, Follows, AreMerged}
-use Rattle.ds_replica.specs.Happens.{Asks, IsTaken, reopened, Happens, HappenAll}
+use Rattle.ds_replica.specs.Delivery.{Tally, OthersFollow, GroupsAreMerged}
+use Rattle.ds_replica.specs.Happens.{Asks, IsDelivered, reopened, Happens, HappenAll}
 use Rattle.ds_replica.specs.Known.{Account, store_of, extended_all}
 use Rattle.ds_replica.specs.Fits.{Fits}
-use Rattle.ds_replica.specs.Turns.{is_side, empties_by, empties, Stays, TurnsAreRun, WholeStays}
+use Rattle.ds_replica.specs.Turns.{is_side, empties_by, empties, Stays, TurnsAreRunInWorlds, WholeStaysInWorlds}
 use Rattle.ds_replica.proofs.FitLemmas.{store_fits}
 use Rattle.ds_replica.proofs.EventLemmas.{events_fit}
+use Rattle.std.proofs.lemmas.Bool.{or_parts}
 
 -- ---- runs
 -- some run leads from one state to the other
@@ -50,15 +51,15 @@ ran_on : (s m t : State) → Ran s m → Ran m t → Ran s t
 ran_on s m t h k = (h.0 ++ k.0, h.1 ++ k.1, run_append s m t h.0 h.1 k.0 k.1 h.2 k.2)
 
 -- ---- Merges of groups
-followed : (s mid new : State) (group : List Item) (Others : Tally → State → Type 0) (reply : Reply) (tally : Tally) → ((later : Tally) → Others later new → Ran mid new) → Step s (Merge group) reply mid → Follows reply mid Others tally new → Ran s new
+followed : (s mid new : State) (group : List Item) (Others : Tally → State → Type 0) (reply : Reply) (tally : Tally) → ((later : Tally) → Others later new → Ran mid new) → Step s (Merge group) reply mid → OthersFollow reply mid Others tally new → Ran s new
 followed s mid new group Others (Merged done taken stale owed) tally others step f = ran_on s mid new (ran_one s mid (Merge group) (Merged done taken stale owed) step) (others f.0 f.1)
 followed s mid new group Others (MergeStopped done fault owed) tally others step f = ran_on s mid new (ran_one s mid (Merge group) (MergeStopped done fault owed) step) (ran_same mid new f.1)
 followed s mid new group Others (Refusing fault) tally others step f = ran_on s mid new (ran_one s mid (Merge group) (Refusing fault) step) (ran_same mid new f.1)
 followed s mid new group Others _ tally others step f = absurd f
 
-merges_ran : (groups : List (List Item)) (s new : State) (tally : Tally) → AreMerged s groups tally new → Ran s new
+merges_ran : (groups : List (List Item)) (s new : State) (tally : Tally) → GroupsAreMerged s groups tally new → Ran s new
 merges_ran [] s new tally m = ran_same s new m.1
-merges_ran (group ∷ groups) s new tally m = followed s m.1 new group (λ t n. AreMerged m.1 groups t n) m.0 tally (λ later a. merges_ran groups m.1 new later a) m.2 m.3
+merges_ran (group ∷ groups) s new tally m = followed s m.1 new group (λ t n. GroupsAreMerged m.1 groups t n) m.0 tally (λ later a. merges_ran groups m.1 new later a) m.2 m.3
 
 -- ---- events
 pub items_store : (w : World) (o : Option (List Item)) (side : Side) → store_at (with_items w o) side ≡ store_at w side
@@ -88,7 +89,7 @@ module _ (w new : World) (side : Side) where
       subst (Ran (store_at w side)) (sym (ap (λ (x : World). store_at x side) h.world_is ∙ items_store (with_state w s h.after) _ side))
       (put_ran w s side h.after (ran_one (store_at w s) h.after command h.reply h.step))
 
-  taken_ran : (holder : Holder) (items : List Item) (tally : Tally) → IsTaken w holder items tally new → Ran (store_at w side) (store_at new side)
+  taken_ran : (holder : Holder) (items : List Item) (tally : Tally) → IsDelivered w holder items tally new → Ran (store_at w side) (store_at new side)
   taken_ran (Store s) items tally h =
       subst (Ran (store_at w side)) (sym (ap (λ (x : World). store_at x side) h.world_is))
       (put_ran w s side h.after (merges_ran h.takes.groups (store_at w s) h.after tally h.takes.merged))
@@ -118,14 +119,10 @@ event_ran w new side (ClearMap j) out h e = maps_still w new side _ h.1.world_is
 event_ran w new side (RestartStore s incarnation) (Refused fault) h e = still w new side h.1
 event_ran w new side (RestartStore s incarnation) out h e = restarts_ran w new side s incarnation (restart_stays side s incarnation out h.1.outcome_is e) h.1.world_is
 
-pub neither : (a b : Bool) → a || b ≡ false → (a ≡ false) × (b ≡ false)
-neither true b e = absurd (let n : true ≡ false = e in cc)
-neither false b e = (refl, e)
-
-pub turns_are_run : TurnsAreRun
+pub turns_are_run : TurnsAreRunInWorlds
 turns_are_run old new side [] h e = ran_same (store_at old side) (store_at new side) (ap (λ (x : World). store_at x side) h)
 turns_are_run old new side (x ∷ events) h e =
-    let n = neither (empties (Store side) x) (list_any (empties (Store side)) events) e in
+    let n = or_parts (empties (Store side) x) (list_any (empties (Store side)) events) e in
     ran_on (store_at old side) (store_at h.0 side) (store_at new side) (event_ran old h.0 side x.0 x.1 h.1 n.0) (turns_are_run h.0 new side events h.2 n.1)
 
 -- ---- what stays
@@ -142,7 +139,7 @@ goes_on account old new side events f h e =
 pub front_of : LaterIsFront
 front_of s t g = record { incarnation = g.incarnation; first = g.first; grown = (g.grown.0, g.grown.2) }
 
-pub whole_stays : WholeStays
+pub whole_stays : WholeStaysInWorlds
 whole_stays account old new side events query items r f h e l whole =
     wholes.whole_stays (store_of account side).state.feed (store_of (extended_all account events) side).state.feed query items r
     (front_of (store_of account side).state (store_of (extended_all account events) side).state (goes_on account old new side events f h e)) l whole

@@ -7,15 +7,16 @@ use Rattle.ds_entry.specs.declared.item.Item.{Item}
 use Rattle.ds_join.specs.ItemTop.{IsPartOf, CoversAll}
 use Rattle.ds_feed.specs.Feed.{position}
 use Rattle.ds_pattern.specs.Under.{is_under}
-use Rattle.ds_whole.specs.Under.{under, entries_of}
 use Rattle.ds_whole.specs.Sent.{Sent}
 use Rattle.ds_whole.specs.Whole.{IsWhole}
-use Rattle.ds_whole.specs.Labels.{label_key, label_in, IsNewest}
+use Rattle.ds_whole.specs.Labels.{label_in, IsNewest}
 use Rattle.ds_replica.specs.declared.event.Side.{Side}
 use Rattle.ds_replica.specs.declared.event.Holder.TheVariants.{Store, Map}
-use Rattle.ds_replica.specs.World.{World, held_at}
+use Rattle.ds_replica.specs.World.{World, held_by}
 use Rattle.ds_replica.specs.Known.{MapAccount, Account, store_of, known_by}
 use Rattle.ds_replica.specs.Fits.{Fits}
+use Rattle.ds_names.specs.Key.{label_key}
+use Rattle.ds_entry.specs.Under.{under, entries_of}
 
 -- this is the map's account, and what it was given is whole for the store up to the store's position now
 pub record HasAll (account : Account) (j : ℕ) (m : MapAccount) (side : Side) : Type 0 where
@@ -33,15 +34,15 @@ abbrev pub HasNothingElse : Account → MapAccount → Side → Type 0
 HasNothingElse account m side = IsPartOf (under (is_under m.query) (known_by m)) (store_of account side).known
 
 -- a map that has all, and nothing else, holds just what the store holds under its query, and so the store's entries
-abbrev pub HoldsTheStores : Type 0
-HoldsTheStores =
+abbrev pub HoldsTheStoresInWorlds : Type 0
+HoldsTheStoresInWorlds =
     (account : Account) (w : World) (j : ℕ) (m : MapAccount) (side : Side) → Fits account w → AreSingleNumbered account.brought → HasAll account j m side → HasNothingElse account m side →
-    (held_at w (Map j) ≡ under (is_under m.query) (held_at w (Store side))) × (entries_of (held_at w (Map j)) ≡ entries_of (under (is_under m.query) (held_at w (Store side))))
+    (held_by w (Map j) ≡ under (is_under m.query) (held_by w (Store side))) × (entries_of (held_by w (Map j)) ≡ entries_of (under (is_under m.query) (held_by w (Store side))))
 
 -- told more, as by the other store, it holds for each key under its query at least the store's version
-abbrev pub HoldsAtLeast : Type 0
-HoldsAtLeast =
-    (account : Account) (w : World) (j : ℕ) (m : MapAccount) (side : Side) → Fits account w → HasAll account j m side → CoversAll (held_at w (Map j)) (under (is_under m.query) (held_at w (Store side)))
+abbrev pub HoldsAtLeastInWorlds : Type 0
+HoldsAtLeastInWorlds =
+    (account : Account) (w : World) (j : ℕ) (m : MapAccount) (side : Side) → Fits account w → HasAll account j m side → CoversAll (held_by w (Map j)) (under (is_under m.query) (held_by w (Store side)))
 
 -- all of them keep the rules of changes and of floors
 abbrev pub AreItems : List Item → Type 0
@@ -50,7 +51,7 @@ AreItems items = (i : Item) → Contains items i → IsItem i
 -- where the name's label is under the query of a map that has all, and nothing else, the map names the endpoint of the
 -- greatest generation that the store knows for the name, or none where that one is gone or the store knows none; whether or not
 -- what was brought in is single-numbered
-abbrev pub LabelsAreNewest : Type 0
-LabelsAreNewest =
+abbrev pub LabelsAreNewestInWorlds : Type 0
+LabelsAreNewestInWorlds =
     (account : Account) (w : World) (j : ℕ) (m : MapAccount) (side : Side) (name : List ℕ) → Fits account w → AreItems account.brought → HasAll account j m side → HasNothingElse account m side →
-    is_under m.query (label_key name) ≡ true → IsNewest (store_of account side).known name (label_in (held_at w (Map j)) name)
+    is_under m.query (label_key name) ≡ true → IsNewest (store_of account side).known name (label_in (held_by w (Map j)) name)

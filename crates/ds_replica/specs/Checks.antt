@@ -26,8 +26,8 @@ abbrev pub subscribes_by : Side → ℕ → Event → Outcome → Bool
 subscribes_by side sub (Ask s (Subscribe n query initial overwrite)) (Replied (Subscribed stamp owed)) = is_side s side && n == sub
 subscribes_by side sub _ _ = false
 
-abbrev pub subscribes : Side → ℕ → Event × Outcome → Bool
-subscribes side sub e = subscribes_by side sub e.0 e.1
+abbrev pub is_subscribing : Side → ℕ → Event × Outcome → Bool
+is_subscribing side sub e = subscribes_by side sub e.0 e.1
 
 -- the items of a message
 abbrev pub sent_in : Account → ℕ → List Sent
@@ -39,18 +39,18 @@ check_sent side sub account (Ask s (Check n max)) (Made k) = if is_side s side &
 check_sent side sub account _ _ = []
 
 -- those of all such messages that the events made
-abbrev pub checked : Side → ℕ → Account → List (Event × Outcome) → List Sent
-checked side sub account [] = []
-checked side sub account (e ∷ es) = check_sent side sub account e.0 e.1 ++ checked side sub (extended account e.0 e.1) es
+abbrev pub checks_sent : Side → ℕ → Account → List (Event × Outcome) → List Sent
+checks_sent side sub account [] = []
+checks_sent side sub account (e ∷ es) = check_sent side sub account e.0 e.1 ++ checks_sent side sub (extended account e.0 e.1) es
 
 -- the items of all checks since a subscription to the query was made with INITIAL are whole up to the last check, if that one
 -- gave fewer than its max, and meanwhile the subscription wasn't made again and the store not restarted
-abbrev pub ChecksAreWhole : Type 0
-ChecksAreWhole =
+abbrev pub ChecksAreWholeInWorlds : Type 0
+ChecksAreWholeInWorlds =
     (account : Account) (w begun before late : World) (side : Side) (sub : ℕ) (query : Query) (overwrite : Bool) (stamp owed : ℕ) (events : List (Event × Outcome)) (max k : ℕ) → Fits account w →
-    Happens w (Ask side (Subscribe sub query true overwrite)) (Replied (Subscribed stamp owed)) begun → HappenAll begun events before → Stays (Store side) events → list_any (subscribes side sub) events ≡ false →
+    Happens w (Ask side (Subscribe sub query true overwrite)) (Replied (Subscribed stamp owed)) begun → HappenAll begun events before → Stays (Store side) events → list_any (is_subscribing side sub) events ≡ false →
     Happens before (Ask side (Check sub max)) (Made k) late →
     let first = extended account (Ask side (Subscribe sub query true overwrite)) (Replied (Subscribed stamp owed)) in
     let mid = extended_all first events in
     let now = extended mid (Ask side (Check sub max)) (Made k) in
-    length (sent_in now k) < max → IsWhole (feed_of now side) (is_under query) (checked side sub first events ++ sent_in now k) (position (feed_of mid side))
+    length (sent_in now k) < max → IsWhole (feed_of now side) (is_under query) (checks_sent side sub first events ++ sent_in now k) (position (feed_of mid side))

@@ -8,8 +8,6 @@ use Rattle.ds_entry.specs.declared.item.Item.{Item}
 use Rattle.ds_entry.specs.declared.item.Item.TheVariants.{Change as Changed}
 use Rattle.ds_join.specs.ItemTop.{IsTop}
 use Rattle.ds_pattern.specs.Under.{is_under}
-use Rattle.ds_whole.specs.Under.{under}
-use Rattle.ds_machine.specs.Limits.{most_items}
 use Rattle.ds_machine.specs.State.{State}
 use Rattle.ds_machine.specs.Machine.{Step}
 use Rattle.ds_machine.specs.declared.command.Command.TheVariants.{Merge}
@@ -18,6 +16,8 @@ use Rattle.ds_machine.specs.declared.refusal.Refusal.TheVariants.{NotOwner, Clas
 use Rattle.ds_machine.specs.declared.reply.Reply.{Reply}
 use Rattle.ds_machine.specs.declared.reply.Reply.TheVariants.{Merged, MergeStopped, Refused}
 use Rattle.ds_replica.specs.World.{MapState}
+use Rattle.ds_names.specs.Limits.{most_items}
+use Rattle.ds_entry.specs.Under.{under}
 
 -- how many items of a delivery were done, taken and stale, to which subscriptions something is owed, and what stopped it
 pub record Tally : Type 0 where
@@ -36,23 +36,23 @@ abbrev pub added : ℕ → ℕ → ℕ → ℕ → Tally → Tally
 added done taken stale owed later = record { done = done + later.done; taken = taken + later.taken; stale = stale + later.stale; owed = bit_or owed later.owed; stop = later.stop }
 
 -- after a Merge that wasn't stopped the others follow, and after one that was stopped or refused nothing more is asked
-abbrev pub Follows : Reply → State → (Tally → State → Type 0) → Tally → State → Type 0
-Follows (Merged done taken stale owed) mid Others tally new = (later : Tally) × Others later new × (tally ≡ added done taken stale owed later)
-Follows (MergeStopped done fault owed) mid Others tally new = (tally ≡ ended done owed (Some fault)) × (new ≡ mid)
-Follows (Refused fault) mid Others tally new = (tally ≡ ended 0 0 (Some fault)) × (new ≡ mid)
-Follows _ mid Others tally new = ⊥
+abbrev pub OthersFollow : Reply → State → (Tally → State → Type 0) → Tally → State → Type 0
+OthersFollow (Merged done taken stale owed) mid Others tally new = (later : Tally) × Others later new × (tally ≡ added done taken stale owed later)
+OthersFollow (MergeStopped done fault owed) mid Others tally new = (tally ≡ ended done owed (Some fault)) × (new ≡ mid)
+OthersFollow (Refused fault) mid Others tally new = (tally ≡ ended 0 0 (Some fault)) × (new ≡ mid)
+OthersFollow _ mid Others tally new = ⊥
 
 -- the groups of items go to a store as one Merge each, one after the other
-abbrev pub AreMerged : State → List (List Item) → Tally → State → Type 0
-AreMerged s [] tally new = (tally ≡ ended 0 0 None) × (new ≡ s)
-AreMerged s (group ∷ groups) tally new = (reply : Reply) × (mid : State) × Step s (Merge group) reply mid × Follows reply mid (λ t n. AreMerged mid groups t n) tally new
+abbrev pub GroupsAreMerged : State → List (List Item) → Tally → State → Type 0
+GroupsAreMerged s [] tally new = (tally ≡ ended 0 0 None) × (new ≡ s)
+GroupsAreMerged s (group ∷ groups) tally new = (reply : Reply) × (mid : State) × Step s (Merge group) reply mid × OthersFollow reply mid (λ t n. GroupsAreMerged mid groups t n) tally new
 
 -- the items go to a store, as Merges of at most 256
 pub record StoreTakes (s : State) (items : List Item) (tally : Tally) (new : State) : Type 0 where
   pub groups : List (List Item)
   pub all : flat_map (λ group. group) groups ≡ items
   pub few : (group : List Item) → Contains groups group → length group ≤ most_items
-  pub merged : AreMerged s groups tally new
+  pub merged : GroupsAreMerged s groups tally new
 
 -- what is held stands against a change by this fault: another owner of its key, another body at its version, or no room;
 -- against a floor only that there is no room
@@ -65,9 +65,9 @@ StandsAgainst held i _ = ⊥
 
 -- all items were done, or the next one is under the query, and something stands against it; memory may be wanting also to ask
 -- whether it is
-abbrev pub Ends : MapState → List Item → ℕ → Option Refusal → Type 0
-Ends m items done None = done ≡ length items
-Ends m items done (Some fault) = (next : Item) × (slice_get items done ≡ Some next) × ((passes (is_under m.query) next ≡ true) ⊎ (fault ≡ NoRoom)) × StandsAgainst m.held next fault
+abbrev pub DeliveryEnds : MapState → List Item → ℕ → Option Refusal → Type 0
+DeliveryEnds m items done None = done ≡ length items
+DeliveryEnds m items done (Some fault) = (next : Item) × (slice_get items done ≡ Some next) × ((passes (is_under m.query) next ≡ true) ⊎ (fault ≡ NoRoom)) × StandsAgainst m.held next fault
 
 -- the items go to a map: it holds the top of what it held and of those that were done and are under its query
 pub record MapTakes (m : MapState) (items : List Item) (tally : Tally) (new : MapState) : Type 0 where
@@ -75,4 +75,4 @@ pub record MapTakes (m : MapState) (items : List Item) (tally : Tally) (new : Ma
   pub top : IsTop new.held (m.held ++ under (is_under m.query) (take tally.done items))
   pub counted : tally.taken + tally.stale ≤ tally.done
   pub owed : tally.owed ≡ 0
-  pub ends : Ends new items tally.done tally.stop
+  pub ends : DeliveryEnds new items tally.done tally.stop

@@ -6,7 +6,7 @@ use Rattle.ds_join.specs.ItemTop.{IsTop, IsPartOf}
 use Rattle.ds_pattern.specs.Under.{is_under}
 use Rattle.ds_whole.specs.Sent.{Sent, IsSent}
 use Rattle.ds_whole.specs.Taking.{items_of}
-use Rattle.ds_whole.specs.CatchUp.{IsMap}
+use Rattle.ds_whole.specs.CatchUp.{MapHolds}
 use Rattle.ds_machine.specs.State.{State, held}
 use Rattle.ds_machine.specs.Reached.{IsReached}
 use Rattle.ds_replica.specs.World.{MapState, World}
@@ -28,7 +28,7 @@ pub record FitsStore (brought : List Item) (account : StoreAccount) (s : State) 
 -- the map has the account's query, and holds the top of what it knows
 pub record FitsMap (brought : List Item) (account : MapAccount) (m : MapState) : Type 0 where
   pub query_is : account.query ≡ m.query
-  pub map : IsMap (is_under account.query) account.taken m.held
+  pub map : MapHolds (is_under account.query) account.taken m.held
   pub within : AreWithin brought account.taken
 
 -- the message has the account's items, each of which is the top of what it stands for

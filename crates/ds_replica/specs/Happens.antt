@@ -78,9 +78,9 @@ takes_room _ = false
 
 -- the event is refused by the first fault that stands, or for want of memory where none stands, or none but that the text
 -- is no pattern, to read which takes memory
-abbrev pub IsRefused : World → Event → EventFault → Type 0
-IsRefused w event NoRoom = (takes_room event ≡ true) × ((event_fault w event ≡ None) ⊎ (event_fault w event ≡ Some BadPattern))
-IsRefused w event fault = event_fault w event ≡ Some fault
+abbrev pub IsEventRefused : World → Event → EventFault → Type 0
+IsEventRefused w event NoRoom = (takes_room event ≡ true) × ((event_fault w event ≡ None) ⊎ (event_fault w event ≡ Some BadPattern))
+IsEventRefused w event fault = event_fault w event ≡ Some fault
 
 -- ---- what an event does that isn't refused
 
@@ -131,16 +131,16 @@ pub record TakenByMap (w : World) (j : ℕ) (items : List Item) (tally : Tally) 
   pub takes : MapTakes old items tally after
   pub world_is : new ≡ record w { maps = slice_set w.maps j after }
 
-abbrev pub IsTaken : World → Holder → List Item → Tally → World → Type 0
-IsTaken w (Store side) items tally new = TakenByStore w side items tally new
-IsTaken w (Map j) items tally new = TakenByMap w j items tally new
+abbrev pub IsDelivered : World → Holder → List Item → Tally → World → Type 0
+IsDelivered w (Store side) items tally new = TakenByStore w side items tally new
+IsDelivered w (Map j) items tally new = TakenByMap w j items tally new
 
 -- the first items of a message went to a holder
 pub record Delivers (w : World) (k : ℕ) (holder : Holder) (count : Option ℕ) (outcome : Outcome) (new : World) : Type 0 where
   pub items : List Item
   pub there : slice_get w.messages k ≡ Some items
   pub tally : Tally
-  pub taken : IsTaken w holder (take (count_of count items) items) tally new
+  pub taken : IsDelivered w holder (take (count_of count items) items) tally new
   pub outcome_is : outcome ≡ tally_outcome tally tally.stop
 
 -- a map holds nothing any more
@@ -169,7 +169,7 @@ Does w (RestartStore side incarnation) outcome new = Restarts w side incarnation
 
 -- the event has this outcome: it is refused and changes nothing, or nothing stands against it
 abbrev pub Happens : World → Event → Outcome → World → Type 0
-Happens w event (Refused fault) new = IsRefused w event fault × (new ≡ w)
+Happens w event (Refused fault) new = IsEventRefused w event fault × (new ≡ w)
 Happens w event outcome new = (event_fault w event ≡ None) × Does w event outcome new
 
 -- these events had these outcomes, one after the other

@@ -6,7 +6,6 @@ use Rattle.ds_entry.specs.ItemCovers.{AreSingleNumbered}
 use Rattle.ds_entry.specs.declared.item.Item.{Item}
 use Rattle.ds_entry.specs.declared.item.Item.TheVariants.{Change as Changed}
 use Rattle.ds_held.specs.Limits.{LimitsRecord, IsLimits}
-use Rattle.ds_whole.specs.Under.{under, entries_of}
 use Rattle.ds_whole.specs.Agreement.{KnowSame}
 use Rattle.ds_machine.specs.declared.refusal.Refusal.{Refusal}
 use Rattle.ds_machine.specs.declared.refusal.Refusal.TheVariants.{NotOwner, Clash}
@@ -16,10 +15,11 @@ use Rattle.ds_replica.specs.declared.event.Event.{Event}
 use Rattle.ds_replica.specs.declared.event.Event.TheVariants.{Deliver}
 use Rattle.ds_replica.specs.declared.outcome.Outcome.{Outcome}
 use Rattle.ds_replica.specs.declared.outcome.Outcome.TheVariants.{Stopped}
-use Rattle.ds_replica.specs.World.{World, held_at, new_world}
+use Rattle.ds_replica.specs.World.{World, held_by, new_world}
 use Rattle.ds_replica.specs.Happens.{Happens, HappenAll}
 use Rattle.ds_replica.specs.Known.{Account, known_at, new_account, extended_all}
 use Rattle.ds_replica.specs.Fits.{Fits}
+use Rattle.ds_entry.specs.Under.{under, entries_of}
 
 -- an account in which nobody knows anything fits a world that was just made
 abbrev pub AccountFitsAtStart : Type 0
@@ -31,7 +31,7 @@ EventsFit = (account : Account) (old new : World) (events : List (Event × Outco
 
 -- the two hold the same under the query, tombstones, versions and floors too, and so equal entries
 abbrev pub HoldSame : World → (Key → Bool) → Holder → Holder → Type 0
-HoldSame w query h i = (under query (held_at w h) ≡ under query (held_at w i)) × (entries_of (under query (held_at w h)) ≡ entries_of (under query (held_at w i)))
+HoldSame w query h i = (under query (held_by w h) ≡ under query (held_by w i)) × (entries_of (under query (held_by w h)) ≡ entries_of (under query (held_by w i)))
 
 -- holders that know the same under a query hold the same under it, if all that Asks brought in is single-numbered
 abbrev pub EqualWhereKnown : Type 0
@@ -47,11 +47,11 @@ EqualOverEvents =
 
 -- the item is held somewhere, or is one of a message
 abbrev pub IsAbout : World → Item → Type 0
-IsAbout w i = ((h : Holder) × Contains (held_at w h) i) ⊎ ((items : List Item) × Contains w.messages items × Contains items i)
+IsAbout w i = ((h : Holder) × Contains (held_by w h) i) ⊎ ((items : List Item) × Contains w.messages items × Contains items i)
 
 -- no two changes of a key that are held, or can be delivered, have two owners, or two bodies at one version
-abbrev pub NothingClashes : Type 0
-NothingClashes =
+abbrev pub NothingClashesInWorlds : Type 0
+NothingClashesInWorlds =
     (account : Account) (w : World) (c d : ChangeRecord) → Fits account w → AreSingleNumbered account.brought → IsAbout w (Changed c) → IsAbout w (Changed d) → c.key ≡ d.key →
     (c.owner ≡ d.owner) × (c.version ≡ d.version → c ≡ d)
 
@@ -62,7 +62,7 @@ IsContradiction (Clash v) = Unit {0}
 IsContradiction _ = ⊥
 
 -- so no delivery is stopped by such a fault
-abbrev pub NothingStops : Type 0
-NothingStops =
+abbrev pub NothingStopsInWorlds : Type 0
+NothingStopsInWorlds =
     (account : Account) (w new : World) (k : ℕ) (holder : Holder) (count : Option ℕ) (done : ℕ) (fault : Refusal) (owed : ℕ) → Fits account w → AreSingleNumbered account.brought →
     Happens w (Deliver k holder count) (Stopped done fault owed) new → ¬ IsContradiction fault

@@ -8,7 +8,7 @@ use Rattle.ds_pattern.specs.declared.query.Query.{Query}
 use Rattle.ds_pattern.specs.Under.{is_under}
 use Rattle.ds_whole.specs.Sent.{Sent, given, stood_for, learnt}
 use Rattle.ds_whole.specs.Taking.{items_of}
-use Rattle.ds_machine.specs.State.{State, accepts, opening}
+use Rattle.ds_machine.specs.State.{State, takes_effect, opening}
 use Rattle.ds_machine.specs.Standing.{cause_of}
 use Rattle.ds_machine.specs.Machine.{outcome}
 use Rattle.ds_machine.specs.Effect.{brought_by, learnt_by}
@@ -65,21 +65,21 @@ known_at account (Map j) = map_known (slice_get account.maps j)
 
 -- the state after one more item came: it takes effect, unless something stands against it
 abbrev pub took_one : State → Item → State
-took_one s i = option_map_or (λ cause. s) (cause_of s i) (accepts s (i ∷ []))
+took_one s i = option_map_or (λ cause. s) (cause_of s i) (takes_effect s (i ∷ []))
 
 abbrev pub took_all : State → List Item → State
 took_all s items = fold took_one s items
 
 -- the state that a step leaves, told by its reply
-abbrev pub left_by : State → Command → Reply → State
-left_by s command (Refusing refusal) = s
-left_by s command (AllMerged done taken stale owed) = took_all s (brought_by s command)
-left_by s command (MergeStopped done fault owed) = took_all s (take done (brought_by s command))
-left_by s command _ = (outcome s command).1
+abbrev pub state_left_by : State → Command → Reply → State
+state_left_by s command (Refusing refusal) = s
+state_left_by s command (AllMerged done taken stale owed) = took_all s (brought_by s command)
+state_left_by s command (MergeStopped done fault owed) = took_all s (take done (brought_by s command))
+state_left_by s command _ = (outcome s command).1
 
 -- a store that was asked learns what the command brought
-abbrev pub asked : StoreAccount → Command → Reply → StoreAccount
-asked a command reply = record { state = left_by a.state command reply; known = a.known ++ learnt_by a.state command reply }
+abbrev pub store_asked : StoreAccount → Command → Reply → StoreAccount
+store_asked a command reply = record { state = state_left_by a.state command reply; known = a.known ++ learnt_by a.state command reply }
 
 -- a store to which items were delivered learns all that they stand for
 abbrev pub took : StoreAccount → List Sent → StoreAccount
@@ -102,7 +102,7 @@ with_sent messages known (Some items) = messages ++ given known items ∷ []
 
 -- a store was asked, and replied
 abbrev pub with_reply : Account → Side → Command → Reply → Account
-with_reply account side command reply = record (with_account account side (asked (store_of account side) command reply)) {
+with_reply account side command reply = record (with_account account side (store_asked (store_of account side) command reply)) {
   messages = with_sent account.messages (store_of account side).known (items_given reply);
   brought = account.brought ++ learnt_by (store_of account side).state command reply;
 }

@@ -5,7 +5,7 @@ use Rattle.ds_names.specs.declared.key.Key.{Key}
 use Rattle.ds_feed.specs.declared.cursor.Cursor.{Cursor}
 use Rattle.ds_feed.specs.Feed.{Feed, position}
 use Rattle.ds_pattern.specs.Under.{is_under}
-use Rattle.ds_whole.specs.Under.{Keeps}
+use Rattle.ds_whole.specs.Under.{KeepsQuery}
 use Rattle.ds_whole.specs.Sent.{Sent, given}
 use Rattle.ds_whole.specs.Front.{IsFront}
 use Rattle.ds_whole.specs.Whole.{IsWhole}
@@ -37,8 +37,8 @@ pub record IsAsked (account : Account) (w : World) (side : Side) (command : Comm
   pub stays : Stays (Store side) events
 
 -- the account after that
-abbrev pub after : Account → Side → Command → ℕ → List (Event × Outcome) → Account
-after account side command k events = extended_all account ((Ask side command, Made k) ∷ events)
+abbrev pub account_after : Account → Side → Command → ℕ → List (Event × Outcome) → Account
+account_after account side command k events = extended_all account ((Ask side command, Made k) ∷ events)
 
 -- what the store has accepted
 abbrev pub feed_of : Account → Side → Feed
@@ -49,33 +49,33 @@ abbrev pub IsMessage : Account → ℕ → List Sent → Type 0
 IsMessage account k sent = slice_get account.messages k ≡ Some sent
 
 -- a message with a snapshot, under a scope that keeps all of the query, is whole up to the position at which it was asked for
-abbrev pub SnapshotIsWhole : Type 0
-SnapshotIsWhole =
-    (account : Account) (w late : World) (side : Side) (scope : Scope) (query : Key → Bool) (k : ℕ) (events : List (Event × Outcome)) → IsAsked account w side (Snapshot scope) k events late → Keeps (keeps scope) query →
-    let now = after account side (Snapshot scope) k events in
+abbrev pub SnapshotIsWholeInWorlds : Type 0
+SnapshotIsWholeInWorlds =
+    (account : Account) (w late : World) (side : Side) (scope : Scope) (query : Key → Bool) (k : ℕ) (events : List (Event × Outcome)) → IsAsked account w side (Snapshot scope) k events late → KeepsQuery (keeps scope) query →
+    let now = account_after account side (Snapshot scope) k events in
     (sent : List Sent) × IsMessage now k sent × IsWhole (feed_of now side) query sent (position (feed_of account side))
 
 -- a message of the journal is a turn of the store, of which the laws of wholeness and of pages speak
 abbrev pub SinceIsTurn : Type 0
 SinceIsTurn =
     (account : Account) (w late : World) (side : Side) (scope : Scope) (at : Cursor) (max k : ℕ) (events : List (Event × Outcome)) → IsAsked account w side (Since scope at max) k events late →
-    let now = after account side (Since scope at max) k events in
+    let now = account_after account side (Since scope at max) k events in
     (t : SinceTurn) × (t.max ≡ max) × IsSinceTurn (feed_of now side) (keeps scope) at t × IsMessage now k (given t.known t.since.items)
 
 -- and so is a page, of the store as it was when it was asked
 abbrev pub PageIsTurn : Type 0
 PageIsTurn =
     (account : Account) (w late : World) (side : Side) (scope : Scope) (behind : Option Key) (max k : ℕ) (events : List (Event × Outcome)) → IsAsked account w side (Page scope behind max) k events late →
-    let now = after account side (Page scope behind max) k events in
+    let now = account_after account side (Page scope behind max) k events in
     (t : PageTurn) × (t.max ≡ max) × (t.feed ≡ feed_of account side) × IsPageTurn (feed_of now side) (keeps scope) behind t × IsMessage now k (given t.known t.page.items)
 
 -- items that are whole up to a cursor, with those of a message of the journal from there, under a scope that keeps all of
 -- the query, are whole up to the cursor that came with the message
-abbrev pub SinceExtends : Type 0
-SinceExtends =
+abbrev pub SinceExtendsInWorlds : Type 0
+SinceExtendsInWorlds =
     (account : Account) (w late : World) (side : Side) (scope : Scope) (query : Key → Bool) (at : Cursor) (max k : ℕ) (events : List (Event × Outcome)) (items : List Sent) →
-    IsAsked account w side (Since scope at max) k events late → Keeps (keeps scope) query →
-    let now = after account side (Since scope at max) k events in
+    IsAsked account w side (Since scope at max) k events late → KeepsQuery (keeps scope) query →
+    let now = account_after account side (Since scope at max) k events in
     IsWhole (feed_of now side) query items at.position →
     (t : SinceTurn) × IsSinceTurn (feed_of now side) (keeps scope) at t × IsMessage now k (given t.known t.since.items) × IsWhole (feed_of now side) query (items ++ given t.known t.since.items) t.since.cursor.position
 
@@ -83,6 +83,6 @@ SinceExtends =
 abbrev pub CheckIsTurn : Type 0
 CheckIsTurn =
     (account : Account) (w late : World) (side : Side) (sub max k : ℕ) (events : List (Event × Outcome)) (early : Feed) → IsAsked account w side (Check sub max) k events late → IsFront early (feed_of account side) →
-    let now = after account side (Check sub max) k events in
+    let now = account_after account side (Check sub max) k events in
     (seer : Subscription) × (subscription_at (store_of account side).state sub ≡ Some seer) × (t : CheckTurn) × (t.max ≡ max) × IsCheckTurn early (feed_of now side) (is_under seer.query) seer.shown t
     × IsMessage now k (given t.known t.items)

@@ -1,10 +1,10 @@
 -- Worked rows: lists of events of a new world that meet what the statements ask for, and some that leave one thing out.
-use Rattle.std.specs.Prelude.{◌≡◌, ◌≢◌, ℕ, ◌+◌, Bool, true, List, [], ◌∷◌, ◌++◌, Some, None, codes}
+use Rattle.std.specs.Prelude.{◌≡◌, ◌≢◌, ℕ, ◌+◌, true, List, [], ◌∷◌, ◌++◌, Some, None, codes}
 use Rattle.ds_names.specs.declared.key.Key.{Key}
 use Rattle.ds_names.specs.declared.kind.Kind.TheVariants.{U32}
 use Rattle.ds_names.specs.declared.version.Version.{Version}
 use Rattle.ds_names.specs.Endpoint.{endpoint_of}
-use Rattle.ds_entry.specs.Change.{change_of, rs_name}
+use Rattle.ds_entry.specs.Change.{change_of}
 use Rattle.ds_entry.specs.Floor.{floor_of}
 use Rattle.ds_entry.specs.ItemCovers.{AreSingleNumbered}
 use Rattle.ds_entry.specs.declared.body.Value.TheVariants.{Label, U32 as Number}
@@ -14,9 +14,8 @@ use Rattle.ds_entry.specs.declared.item.Item.TheVariants.{Change as Changed, Flo
 use Rattle.ds_held.specs.Limits.{larger}
 use Rattle.ds_pattern.specs.declared.query.Query.{Query}
 use Rattle.ds_pattern.specs.Under.{is_under}
-use Rattle.ds_whole.specs.Under.{under}
 use Rattle.ds_whole.specs.Agreement.{KnowSame}
-use Rattle.ds_whole.specs.Labels.{label_key, label_in, IsNewest}
+use Rattle.ds_whole.specs.Labels.{label_in, IsNewest}
 use Rattle.ds_machine.specs.declared.command.Scope.TheVariants.{All}
 use Rattle.ds_machine.specs.declared.command.Command.{Command}
 use Rattle.ds_machine.specs.declared.command.Command.TheVariants.{Publish, Sweep, Snapshot, Merge, Since}
@@ -30,33 +29,37 @@ use Rattle.ds_replica.specs.declared.event.Event.{Event}
 use Rattle.ds_replica.specs.declared.event.Event.TheVariants.{Ask, NewMap, Deliver, RestartStore}
 use Rattle.ds_replica.specs.declared.outcome.Outcome.{Outcome}
 use Rattle.ds_replica.specs.declared.outcome.Outcome.TheVariants.{Replied, Made, MapMade, Merged, Stopped, Restarted}
-use Rattle.ds_replica.specs.World.{World, held_at, new_world}
+use Rattle.ds_replica.specs.World.{World, held_by, new_world}
 use Rattle.ds_replica.specs.Happens.{pattern_fault, Happens, HappenAll}
 use Rattle.ds_replica.specs.Known.{Account, MapAccount, store_of, known_at, new_account, extended_all}
 use Rattle.ds_replica.specs.CaughtUp.{HasAll, HasNothingElse, AreItems}
+use Rattle.ds_names.specs.Name.{rs_name}
+use Rattle.ds_names.specs.Key.{label_key}
+use Rattle.ds_entry.specs.Under.{under}
+use Rattle.ds_feed.specs.Feed.{all_keys}
 
-abbrev seed : ℕ → Seed
-seed incarnation = record { incarnation = incarnation; first = 0; ring = 4 }
+abbrev example_seed : ℕ → Seed
+example_seed incarnation = record { incarnation = incarnation; first = 0; ring = 4 }
 
-abbrev pub fresh : World
-fresh = new_world (seed 1) (seed 2) larger
+abbrev pub fresh_world : World
+fresh_world = new_world (example_seed 1) (example_seed 2) larger
 
 -- the account of a new world after these events
 abbrev pub account_of : List (Event × Outcome) → Account
-account_of events = extended_all (new_account (seed 1) (seed 2) larger) events
+account_of events = extended_all (new_account (example_seed 1) (example_seed 2) larger) events
 
 abbrev first_version : Version
 first_version = record { epoch = 3; seq = 0 }
 
 -- the label of a driver, and a floor under what an earlier generation of it published
-abbrev pub driver : Item
-driver = Changed (change_of (label_key (codes "eth0")) rs_name first_version (Put (Label (endpoint_of 3 17))))
+abbrev pub driver_label : Item
+driver_label = Changed (change_of (label_key (codes "eth0")) rs_name first_version (Put (Label (endpoint_of 3 17))))
 
 abbrev pub floor : Item
 floor = Floored (floor_of (codes "eth0") 2)
 
-abbrev published : Command
-published = Publish (endpoint_of 0 2) (label_key (codes "eth0")) first_version (Label (endpoint_of 3 17)) true
+abbrev first_publish : Command
+first_publish = Publish (endpoint_of 0 2) (label_key (codes "eth0")) first_version (Label (endpoint_of 3 17)) true
 
 abbrev swept : Command
 swept = Sweep (endpoint_of 0 2) (codes "eth0") 2
@@ -67,32 +70,29 @@ snapshot side = (Ask side (Snapshot All), Made 0)
 
 -- a label is published at one store, and a snapshot goes to the other
 abbrev pub only_published : List (Event × Outcome)
-only_published = (Ask A published, Replied (Accepted 0)) ∷ []
+only_published = (Ask A first_publish, Replied (Accepted 0)) ∷ []
 
 abbrev pub exchanged : List (Event × Outcome)
 exchanged = only_published ++ snapshot A ∷ (Deliver 0 (Store B) None, Merged 1 1 0 0) ∷ []
 
-abbrev pub all_keys : Key → Bool
-all_keys key = true
-
 -- then both know the same, without contradictions, and hold it
 pub record ReplicasConverge : Type 0 where
   pub world : World
-  pub happen : HappenAll fresh exchanged world
+  pub happen : HappenAll fresh_world exchanged world
   pub numbers : AreSingleNumbered (account_of exchanged).brought
   pub same : KnowSame all_keys (known_at (account_of exchanged) (Store A)) (known_at (account_of exchanged) (Store B))
-  pub held : held_at world (Store B) ≡ driver ∷ []
+  pub held : held_by world (Store B) ≡ driver_label ∷ []
 
 -- before the delivery they don't know the same, and don't hold the same
 pub record ReplicasDiffer : Type 0 where
   pub world : World
-  pub happen : HappenAll fresh only_published world
+  pub happen : HappenAll fresh_world only_published world
   pub numbers : AreSingleNumbered (account_of only_published).brought
-  pub differ : under all_keys (held_at world (Store A)) ≢ under all_keys (held_at world (Store B))
+  pub differ : under all_keys (held_by world (Store A)) ≢ under all_keys (held_by world (Store B))
 
 -- a map is made, and a store is told a floor and a label
 abbrev pub only_told : Query → Side → List (Event × Outcome)
-only_told query side = (NewMap query, MapMade 0) ∷ (Ask side swept, Replied (Swept 0 0)) ∷ (Ask side published, Replied (Accepted 0)) ∷ []
+only_told query side = (NewMap query, MapMade 0) ∷ (Ask side swept, Replied (Swept 0 0)) ∷ (Ask side first_publish, Replied (Accepted 0)) ∷ []
 
 -- and a snapshot of it goes to the map
 abbrev pub sent : Query → Side → List (Event × Outcome)
@@ -100,38 +100,38 @@ sent query side = only_told query side ++ snapshot side ∷ (Deliver 0 (Map 0) N
 
 -- what the map was given then
 abbrev pub with_both : Query → MapAccount
-with_both query = record { query = query; taken = record { item = floor; stands_for = floor ∷ [] } ∷ record { item = driver; stands_for = driver ∷ [] } ∷ [] }
+with_both query = record { query = query; taken = record { item = floor; stands_for = floor ∷ [] } ∷ record { item = driver_label; stands_for = driver_label ∷ [] } ∷ [] }
 
 -- then the map has all of that store, and nothing else, and holds it, the label too
 pub record MapCatchesUp (query : Query) : Type 0 where
   pub world : World
-  pub happen : HappenAll fresh (sent query A) world
+  pub happen : HappenAll fresh_world (sent query A) world
   pub numbers : AreSingleNumbered (account_of (sent query A)).brought
   pub items : AreItems (account_of (sent query A)).brought
   pub all : HasAll (account_of (sent query A)) 0 (with_both query) A
   pub nothing_else : HasNothingElse (account_of (sent query A)) (with_both query) A
-  pub held : held_at world (Map 0) ≡ floor ∷ driver ∷ []
-  pub named : label_in (held_at world (Map 0)) (codes "eth0") ≡ Some (endpoint_of 3 17)
+  pub held : held_by world (Map 0) ≡ floor ∷ driver_label ∷ []
+  pub named : label_in (held_by world (Map 0)) (codes "eth0") ≡ Some (endpoint_of 3 17)
 
 -- before that it hasn't all, and doesn't hold what the store holds, nor name what the store knows as newest
 pub record MapLags (query : Query) : Type 0 where
   pub world : World
-  pub happen : HappenAll fresh (only_told query A) world
+  pub happen : HappenAll fresh_world (only_told query A) world
   pub numbers : AreSingleNumbered (account_of (only_told query A)).brought
   pub items : AreItems (account_of (only_told query A)).brought
   pub nothing_else : HasNothingElse (account_of (only_told query A)) (record { query = query; taken = [] }) A
-  pub differ : held_at world (Map 0) ≢ under (is_under query) (held_at world (Store A))
-  pub older : ¬ IsNewest (store_of (account_of (only_told query A)) A).known (codes "eth0") (label_in (held_at world (Map 0)) (codes "eth0"))
+  pub differ : held_by world (Map 0) ≢ under (is_under query) (held_by world (Store A))
+  pub older : ¬ IsNewest (store_of (account_of (only_told query A)) A).known (codes "eth0") (label_in (held_by world (Map 0)) (codes "eth0"))
 
 -- and where the other store told it, it has all of this one, but more, and holds and names what this one doesn't know
 pub record MapLeads (query : Query) : Type 0 where
   pub world : World
-  pub happen : HappenAll fresh (sent query B) world
+  pub happen : HappenAll fresh_world (sent query B) world
   pub numbers : AreSingleNumbered (account_of (sent query B)).brought
   pub items : AreItems (account_of (sent query B)).brought
   pub all : HasAll (account_of (sent query B)) 0 (with_both query) A
-  pub differ : held_at world (Map 0) ≢ under (is_under query) (held_at world (Store A))
-  pub older : ¬ IsNewest (store_of (account_of (sent query B)) A).known (codes "eth0") (label_in (held_at world (Map 0)) (codes "eth0"))
+  pub differ : held_by world (Map 0) ≢ under (is_under query) (held_by world (Store A))
+  pub older : ¬ IsNewest (store_of (account_of (sent query B)) A).known (codes "eth0") (label_in (held_by world (Map 0)) (codes "eth0"))
 
 -- a map is made of the query, and the key is under it
 pub record AsksFor (query : Query) (key : Key) : Type 0 where
@@ -183,9 +183,9 @@ contradicted =
 -- then both know the same, but don't hold the same, and the message of the one stops at the other by a clash
 pub record ReplicasClash : Type 0 where
   pub world : World
-  pub happen : HappenAll fresh contradicted world
+  pub happen : HappenAll fresh_world contradicted world
   pub same : KnowSame all_keys (known_at (account_of contradicted) (Store A)) (known_at (account_of contradicted) (Store B))
-  pub differ : under all_keys (held_at world (Store A)) ≢ under all_keys (held_at world (Store B))
+  pub differ : under all_keys (held_by world (Store A)) ≢ under all_keys (held_by world (Store B))
   pub stops : Happens world (Deliver 1 (Store A) None) (Stopped 0 (Clash first_version) 0) world
 
 -- and a map is made, and given the message of the other store
@@ -199,10 +199,10 @@ with_other query = record { query = query; taken = record { item = other; stands
 -- then it has all of the first store, and nothing else, but doesn't hold what that one holds
 pub record MapClashes (query : Query) : Type 0 where
   pub world : World
-  pub happen : HappenAll fresh (and_a_map query) world
+  pub happen : HappenAll fresh_world (and_a_map query) world
   pub all : HasAll (account_of (and_a_map query)) 0 (with_other query) A
   pub nothing_else : HasNothingElse (account_of (and_a_map query)) (with_other query) A
-  pub differ : held_at world (Map 0) ≢ under (is_under query) (held_at world (Store A))
+  pub differ : held_by world (Map 0) ≢ under (is_under query) (held_by world (Store A))
 
 -- for every query that their key is under
 abbrev pub MapsClash : Type 0

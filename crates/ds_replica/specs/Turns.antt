@@ -21,7 +21,7 @@ use Rattle.ds_replica.specs.declared.event.Event.{Event}
 use Rattle.ds_replica.specs.declared.event.Event.TheVariants.{ClearMap, RestartStore}
 use Rattle.ds_replica.specs.declared.outcome.Outcome.{Outcome}
 use Rattle.ds_replica.specs.declared.outcome.Outcome.TheVariants.{Cleared, Restarted}
-use Rattle.ds_replica.specs.World.{World, store_at, held_at}
+use Rattle.ds_replica.specs.World.{World, store_at, held_by}
 use Rattle.ds_replica.specs.Happens.{HappenAll}
 use Rattle.ds_replica.specs.Known.{Account, store_of, known_at, extended_all}
 use Rattle.ds_replica.specs.Fits.{Fits}
@@ -45,14 +45,14 @@ abbrev pub Stays : Holder → List (Event × Outcome) → Type 0
 Stays h events = list_any (empties h) events ≡ false
 
 -- while a store isn't restarted, its turns in a list of events are a run of its machine
-abbrev pub TurnsAreRun : Type 0
-TurnsAreRun =
+abbrev pub TurnsAreRunInWorlds : Type 0
+TurnsAreRunInWorlds =
     (old new : World) (side : Side) (events : List (Event × Outcome)) → HappenAll old events new → Stays (Store side) events →
     (commands : List Command) × (replies : List Reply) × Run (store_at old side) commands replies (store_at new side)
 
 -- what is whole for a store stays so over every list of events, until the store is restarted
-abbrev pub WholeStays : Type 0
-WholeStays =
+abbrev pub WholeStaysInWorlds : Type 0
+WholeStaysInWorlds =
     (account : Account) (old new : World) (side : Side) (events : List (Event × Outcome)) (query : Key → Bool) (items : List Sent) (r : ℕ) → Fits account old → HappenAll old events new → Stays (Store side) events →
     r ≤ position (store_of account side).state.feed → IsWhole (store_of account side).state.feed query items r → IsWhole (store_of (extended_all account events) side).state.feed query items r
 
@@ -62,11 +62,11 @@ KnownStays = (account : Account) (h : Holder) (events : List (Event × Outcome))
 
 -- where a holder knows a floor, it holds nothing that the floor makes void: no change of the owner, of another kind than
 -- label, with an epoch up to the floor's generation
-abbrev pub NothingBelowFloors : Type 0
-NothingBelowFloors = (account : Account) (w : World) (h : Holder) (f : Floor) (c : ChangeRecord) → Fits account w → Contains (known_at account h) (Floored f) → Contains (held_at w h) (Changed c) → voids f c ≡ false
+abbrev pub NothingBelowFloorsInWorlds : Type 0
+NothingBelowFloorsInWorlds = (account : Account) (w : World) (h : Holder) (f : Floor) (c : ChangeRecord) → Fits account w → Contains (known_at account h) (Floored f) → Contains (held_by w h) (Changed c) → voids f c ≡ false
 
 -- and no event brings such a change, until the holder is emptied
-abbrev pub FloorsStand : Type 0
-FloorsStand =
+abbrev pub FloorsStandInWorlds : Type 0
+FloorsStandInWorlds =
     (account : Account) (old new : World) (h : Holder) (events : List (Event × Outcome)) (f : Floor) (c : ChangeRecord) → Fits account old → HappenAll old events new → Stays h events →
-    Contains (known_at account h) (Floored f) → Contains (held_at new h) (Changed c) → voids f c ≡ false
+    Contains (known_at account h) (Floored f) → Contains (held_by new h) (Changed c) → voids f c ≡ false

@@ -33,9 +33,9 @@ map_held None = []
 map_held (Some m) = m.held
 
 -- what a holder holds
-abbrev pub held_at : World → Holder → List Item
-held_at w (Store side) = held (store_at w side)
-held_at w (Map j) = map_held (slice_get w.maps j)
+abbrev pub held_by : World → Holder → List Item
+held_by w (Store side) = held (store_at w side)
+held_by w (Map j) = map_held (slice_get w.maps j)
 
 -- the world with another state of a store
 abbrev pub with_state : World → Side → State → World

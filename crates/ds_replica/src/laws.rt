@@ -1,13 +1,13 @@
 //! Laws over every list of events of a world, over definitions alone.
 
 ghost use Rattle.ds_replica.specs.Bringing.{EventsBringItems};
-ghost use Rattle.ds_replica.specs.CaughtUp.{WholeIsAll, HoldsTheStores, HoldsAtLeast, LabelsAreNewest};
-ghost use Rattle.ds_replica.specs.Checks.{ChecksAreWhole};
+ghost use Rattle.ds_replica.specs.CaughtUp.{WholeIsAll, HoldsTheStoresInWorlds, HoldsAtLeastInWorlds, LabelsAreNewestInWorlds};
+ghost use Rattle.ds_replica.specs.Checks.{ChecksAreWholeInWorlds};
 ghost use Rattle.ds_replica.specs.Growth.{NewsAreNew, LaterIsFront};
-ghost use Rattle.ds_replica.specs.Headline.{AccountFitsAtStart, EventsFit, EqualWhereKnown, EqualOverEvents, NothingClashes, NothingStops};
-ghost use Rattle.ds_replica.specs.Messages.{SnapshotIsWhole, SinceIsTurn, SinceExtends, PageIsTurn, CheckIsTurn};
+ghost use Rattle.ds_replica.specs.Headline.{AccountFitsAtStart, EventsFit, EqualWhereKnown, EqualOverEvents, NothingClashesInWorlds, NothingStopsInWorlds};
+ghost use Rattle.ds_replica.specs.Messages.{SnapshotIsWholeInWorlds, SinceIsTurn, SinceExtendsInWorlds, PageIsTurn, CheckIsTurn};
 ghost use Rattle.ds_replica.specs.Rows.{ReplicasConverge, ReplicasDiffer, MapsCatchUp, MapsLag, MapsLead, ReplicasClash, MapsClash};
-ghost use Rattle.ds_replica.specs.Turns.{TurnsAreRun, WholeStays, KnownStays, NothingBelowFloors, FloorsStand};
+ghost use Rattle.ds_replica.specs.Turns.{TurnsAreRunInWorlds, WholeStaysInWorlds, KnownStays, NothingBelowFloorsInWorlds, FloorsStandInWorlds};
 
 /// Of a world that was just made the empty account fits, and over every list of events the account that is extended by
 /// them.
@@ -22,17 +22,17 @@ pub fn accounts_fit()
 pub fn holders_agree()
     ensures equal { EqualWhereKnown }
     ensures over_events { EqualOverEvents }
-    ensures clashes { NothingClashes }
-    ensures stops { NothingStops }
+    ensures clashes { NothingClashesInWorlds }
+    ensures stops { NothingStopsInWorlds }
 {}
 
 /// A map that was given all that a store accepted under its query, and nothing that the store doesn't know, holds just the
 /// store's entries under its query, and its labels name no older generation; told more, it holds at least that.
 pub fn maps_catch_up()
     ensures all { WholeIsAll }
-    ensures exact { HoldsTheStores }
-    ensures least { HoldsAtLeast }
-    ensures labels { LabelsAreNewest }
+    ensures exact { HoldsTheStoresInWorlds }
+    ensures least { HoldsAtLeastInWorlds }
+    ensures labels { LabelsAreNewestInWorlds }
 {}
 
 /// All that Asks bring in over a list of events are changes and floors that keep their rules, where what the commands name
@@ -45,14 +45,14 @@ pub fn items_are_brought()
 /// gave leaves out nothing: snapshots and the journal are whole, and pages and checks are what
 /// the laws of pages and of checks ask for.
 pub fn messages_are_whole()
-    ensures turns { TurnsAreRun }
-    ensures stays { WholeStays }
-    ensures snapshot { SnapshotIsWhole }
+    ensures turns { TurnsAreRunInWorlds }
+    ensures stays { WholeStaysInWorlds }
+    ensures snapshot { SnapshotIsWholeInWorlds }
     ensures since { SinceIsTurn }
-    ensures extends { SinceExtends }
+    ensures extends { SinceExtendsInWorlds }
     ensures page { PageIsTurn }
     ensures check { CheckIsTurn }
-    ensures checks { ChecksAreWhole }
+    ensures checks { ChecksAreWholeInWorlds }
 {}
 
 /// What a store's machine lets take effect is new, as the laws of checks ask for, and where it went on, its feed is the earlier
@@ -66,8 +66,8 @@ pub fn stores_grow()
 /// and no event brings such a change.
 pub fn floors_stand()
     ensures known { KnownStays }
-    ensures below { NothingBelowFloors }
-    ensures events { FloorsStand }
+    ensures below { NothingBelowFloorsInWorlds }
+    ensures events { FloorsStandInWorlds }
 {}
 
 /// Worked rows: events after which two replicas know and hold the same, and a map has all of a store and names its label;

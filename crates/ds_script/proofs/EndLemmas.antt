@@ -10,8 +10,8 @@ use Rattle.ds_script.specs.declared.fault.ReplayFault.TheVariants.{BadLine, Read
 use Rattle.ds_script.specs.declared.report.BadLines.{BadLines}
 use Rattle.ds_script.specs.declared.report.BadLines.TheVariants.{End, GoOn}
 use Rattle.ds_script.specs.Session.{SessionContent, IsOpened}
-use Rattle.ds_script.specs.Replay.{AnswersLines, AreAnswers, IsAnswered, IsAnsweredUpTo, IsAnsweredInPart, StopsWith}
-use Rattle.ds_script.specs.Progress.{Reached, Takes, TakesText, TakesNoneOrAll, TextStops, Turns, TurnStops, Stops, Settles}
+use Rattle.ds_script.specs.Replay.{AnswersLines, AreAnswers, IsReplayed, IsAnsweredUpTo, IsAnsweredInPart, StopsWith}
+use Rattle.ds_script.specs.Progress.{Reached, TakesLines, TakesText, TakesNoneOrAll, TextStops, Turns, TurnStops, Stops, Settles}
 use Rattle.ds_script.proofs.ProgressLemmas.{takes_kept, takes_then, takes_few}
 use Rattle.ds_script.proofs.RunLemmas.{text_sent, texts_then, stops_then}
 
@@ -35,7 +35,7 @@ none_of : (lines : List (List ℕ)) (bad : ℕ) (output : List ℕ) → AreAnswe
 none_of [] bad output a = a.1
 none_of (line ∷ lines) bad output a = none_bad 0 a.0 a.1 (line ∷ lines) output bad a.3
 
-pub answered_at_end : (input output : List ℕ) (count bad : ℕ) → IsAnswered End input count bad output → IsAnswered End input count 0 output
+pub answered_at_end : (input output : List ℕ) (count bad : ℕ) → IsReplayed End input count bad output → IsReplayed End input count 0 output
 answered_at_end input output count bad a =
     record { lines = a.lines; split = a.split; answers = subst (λ (n : ℕ). AreAnswers End a.lines n output) (none_of a.lines bad output a.answers) a.answers; counted = a.counted }
 
@@ -118,12 +118,12 @@ read_all from mid to bytes first second = subst (Consumes from to) (append-nil b
 
 -- all was read and answered
 abbrev pub Answered : (from to had has : Option (List ℕ)) → BadLines → (count bad : ℕ) → Type 0
-Answered from to had has policy count bad = (input output : List ℕ) × Consumes from to input × IsAtEnd to × Appends had has output × IsAnswered policy input count bad output
+Answered from to had has policy count bad = (input output : List ℕ) × Consumes from to input × IsAtEnd to × Appends had has output × IsReplayed policy input count bad output
 
 come_whole : (from mid to had is has : Option (List ℕ)) (policy : BadLines) (old new : Reached) (pending rest : List ℕ) → Come from mid had is policy old pending → IsUnbroken pending → Turns false mid to is has old pending new rest → Answered from to had has policy new.lines new.bad
 come_whole from mid to had is has policy old new pending rest p whole t =
     let lines : List (List ℕ) = p.text.lines ++ unended pending in
-    let a : Takes had has (start p.first policy) lines new = takes_then had is has (start p.first policy) old new p.text.lines (unended pending) p.text.takes t.2 in
+    let a : TakesLines had has (start p.first policy) lines new = takes_then had is has (start p.first policy) old new p.text.lines (unended pending) p.text.takes t.2 in
     let same : a.output ≡ a.sent = a.split ∙ ap (λ t. a.sent ++ t) t.3 ∙ append-nil a.sent in
     let bads : a.bad ≡ new.bad = omega (arith, a.told) in (
       p.bytes,
@@ -184,12 +184,12 @@ last_stopped from mid to had is has policy old pending waiting p whole read end 
     let input : Consumes from to p.bytes = read_all from mid to p.bytes p.read read in
     elim s.2 [
       | inl none ↦
-          (let sent : Takes is has old [] s.1 = subst (λ (ls : List (List ℕ)). Takes is has old ls s.1) none s.3 in
+          (let sent : TakesLines is has old [] s.1 = subst (λ (ls : List (List ℕ)). TakesLines is has old ls s.1) none s.3 in
           unwritten from to had has p.first policy s.1 p.bytes pending waiting p.opened input (text_sent had is has (start p.first policy) old s.1 p.bytes pending p.text sent))
       | inr all ↦
-          (let one : Takes is has old (unended pending) s.1 = subst (λ (ls : List (List ℕ)). Takes is has old ls s.1) all s.3 in
+          (let one : TakesLines is has old (unended pending) s.1 = subst (λ (ls : List (List ℕ)). TakesLines is has old ls s.1) all s.3 in
           let lines : List (List ℕ) = p.text.lines ++ unended pending in
-          let a : Takes had has (start p.first policy) lines s.1 = takes_then had is has (start p.first policy) old s.1 p.text.lines (unended pending) p.text.takes one in (
+          let a : TakesLines had has (start p.first policy) lines s.1 = takes_then had is has (start p.first policy) old s.1 p.text.lines (unended pending) p.text.takes one in (
             p.bytes,
             a.sent,
             input,

@@ -13,7 +13,7 @@ use Rattle.ds_words.specs.declared.command.ScriptCommand.{ScriptCommand}
 use Rattle.ds_words.specs.declared.command.ScriptCommand.TheVariants.{Show, All, Entries, Ring, Side}
 use Rattle.ds_words.specs.declared.wording.Wording.{Wording}
 use Rattle.ds_script.specs.Session.{SessionContent, IsHappening, turned}
-use Rattle.ds_script.specs.Answer.{told_lines, entries_text, AnswersEvent, AnswersAsEvent, AnswersRing, AnswersCommand, IsRefused, AnswersOrRefuses}
+use Rattle.ds_script.specs.Answer.{told_lines, entries_text, AnswersEvent, AnswersAsEvent, AnswersRing, AnswersCommand, IsLineRefused, AnswersOrRefuses}
 use Rattle.ds_script.proofs.LineLemmas.{plain_room}
 
 -- ---- events
@@ -49,7 +49,7 @@ answers_it (Side side) old out new a = absurd a
 answers_it command old out new a = a
 
 pub event_answers : (command : ScriptCommand) (old : SessionContent) (out : List ℕ) (new : SessionContent)
-    → AnswersAsEvent command old out new ⊎ ((is_plain command ≡ false) × IsRefused old out new) → AnswersOrRefuses command old out new
+    → AnswersAsEvent command old out new ⊎ ((is_plain command ≡ false) × IsLineRefused old out new) → AnswersOrRefuses command old out new
 event_answers command old out new (inl a) = inr (answers_it command old out new a)
 event_answers command old out new (inr r) = inl (plain_room command r.0, r.1)
 
@@ -62,7 +62,7 @@ entries_answers command number session m is at = subst (λ (k : ScriptCommand). 
 pub entries_refused : (command : ScriptCommand) (number : ℕ) (session : SessionContent) → command ≡ Entries number → AnswersOrRefuses command session refused_noroom session
 entries_refused command number session is = subst (λ (k : ScriptCommand). AnswersOrRefuses k session refused_noroom session) (sym is) (inl (tt, (refl, refl)))
 
-pub ring_answers : (command : ScriptCommand) (ring : ℕ) (old : SessionContent) (out : List ℕ) (new : SessionContent) → command ≡ Ring ring → AnswersRing ring old out new ⊎ IsRefused old out new → AnswersOrRefuses command old out new
+pub ring_answers : (command : ScriptCommand) (ring : ℕ) (old : SessionContent) (out : List ℕ) (new : SessionContent) → command ≡ Ring ring → AnswersRing ring old out new ⊎ IsLineRefused old out new → AnswersOrRefuses command old out new
 ring_answers command ring old out new is (inl a) = subst (λ (k : ScriptCommand). AnswersOrRefuses k old out new) (sym is) (inr a)
 ring_answers command ring old out new is (inr r) = subst (λ (k : ScriptCommand). AnswersOrRefuses k old out new) (sym is) (inl (tt, r))
 

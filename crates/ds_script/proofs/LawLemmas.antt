@@ -4,7 +4,6 @@ use Rattle.ds_names.specs.declared.key.Key.{Key}
 use Rattle.ds_entry.specs.declared.item.Item.{Item}
 use Rattle.ds_entry.specs.declared.item.Item.TheVariants.{Change as Changed, Floor as Floored}
 use Rattle.ds_held.specs.Limits.{larger}
-use Rattle.ds_whole.specs.Under.{under}
 use Rattle.ds_replica.specs.declared.event.Event.{Event}
 use Rattle.ds_replica.specs.declared.event.Side.{Side as OneSide}
 use Rattle.ds_replica.specs.declared.outcome.Outcome.{Outcome}
@@ -21,15 +20,12 @@ use Rattle.ds_script.specs.declared.report.BadLines.{BadLines}
 use Rattle.ds_script.specs.Session.{SessionContent, IsOpened, seed, made, turned}
 use Rattle.ds_script.specs.Answer.{AnswersEvent, AnswersCommand, AnswersLine, picked, shown}
 use Rattle.ds_script.specs.Replay.{AnswersOrTells, AnswersLines}
-use Rattle.ds_script.specs.Laws.{CameOf, MakesEvents, LineMakesEvents, LinesMakeEvents, ScriptsAreEvents, HoldersAgree, ShowsAgree}
+use Rattle.ds_script.specs.Laws.{CameOf, MakesEvents, LineMakesEvents, LinesMakeEvents, ScriptsAreEvents, ScriptHoldersAgree, ShowsAgree}
 use Rattle.ds_script.proofs.LineLemmas.{may_command}
+use Rattle.ds_entry.specs.Under.{under}
+use Rattle.ds_replica.proofs.CheckLemmas.{happen_last}
 
 -- ---- events
-
--- one more event behind the others
-happen_last : (events : List (Event × Outcome)) (w mid late : World) (event : Event) (out : Outcome) → HappenAll w events mid → Happens mid event out late → HappenAll w (events ++ (event, out) ∷ []) late
-happen_last [] w mid late event out h a = (late, subst (λ (x : World). Happens x event out late) h a, refl)
-happen_last (e ∷ events) w mid late event out h a = (h.0, h.1, happen_last events h.0 mid late event out h.2 a)
 
 -- the session came of these events
 abbrev Came : SessionContent → List (Event × Outcome) → Type 0
@@ -109,7 +105,7 @@ scripts_are_events policy ls out bad start end opened a =
 
 -- ---- what is held
 
-pub holders_agree : HoldersAgree
+pub holders_agree : ScriptHoldersAgree
 holders_agree events ring world session query h i came single know = equal_over_events (seed 1 ring) (seed 2 ring) larger world events query h i (inr refl) came.happened single know
 
 under_all : (items : List Item) → under (λ (key : Key). true) items ≡ items

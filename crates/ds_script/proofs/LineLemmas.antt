@@ -1,11 +1,11 @@
 -- Lines, and the commands that may stand on them.
 use Rattle.std.proofs.Common.{◌≡◌, ◌≢◌, ℕ, zero, suc, false, List, Some, Result, refl, arith}
-use Rattle.ds_words.specs.Command.{IsCommand, TakesMemory, ReadsAs, is_plain}
+use Rattle.ds_words.specs.Command.{IsCommand, CommandTakesMemory, ReadsAs, is_plain}
 use Rattle.ds_words.specs.Later.{IsLater}
 use Rattle.ds_words.specs.declared.command.ScriptCommand.{ScriptCommand}
 use Rattle.ds_words.specs.declared.command.ScriptCommand.TheVariants.{Offer, Show, All, Publish, Subscribe, Map, Entries, Ring, Since, Snapshot, Page}
 use Rattle.ds_words.specs.declared.fault.CommandFault.{CommandFault}
-use Rattle.ds_script.specs.Answer.{MayStand, TakesRoom}
+use Rattle.ds_script.specs.Answer.{MayStand, AnswerTakesRoom}
 
 -- a command that may stand on some line is a command
 pub may_command : (before : ℕ) (command : ScriptCommand) → MayStand before command → IsCommand command
@@ -15,7 +15,7 @@ may_command (suc before) command may = may.0
 -- ---- memory
 
 -- a line with a text, a blob or a pattern takes memory
-pub memory_room : (command : ScriptCommand) → TakesMemory command → TakesRoom command
+pub memory_room : (command : ScriptCommand) → CommandTakesMemory command → AnswerTakesRoom command
 memory_room (Offer i) takes = refl
 memory_room (Publish caller key version value overwrite) takes = refl
 memory_room (Subscribe sub query initial overwrite) takes = refl
@@ -26,7 +26,7 @@ memory_room (Page (Some query) after max) takes = refl
 memory_room command takes = absurd takes
 
 -- so does what isn't plain
-pub plain_room : (command : ScriptCommand) → is_plain command ≡ false → TakesRoom command
+pub plain_room : (command : ScriptCommand) → is_plain command ≡ false → AnswerTakesRoom command
 plain_room Show e = tt
 plain_room All e = tt
 plain_room (Entries map) e = tt

@@ -9,13 +9,10 @@ use Rattle.ds_script.specs.declared.report.BadLines.TheVariants.{End, GoOn}
 use Rattle.ds_script.specs.Session.{SessionContent}
 use Rattle.ds_script.specs.Answer.{AnswersLine}
 use Rattle.ds_script.specs.Replay.{IsBadBehind, badline, AnswersLines}
-use Rattle.ds_script.specs.Progress.{Reached, Takes, EndsAtBad, TellsBad, LineStops}
+use Rattle.ds_script.specs.Progress.{Reached, TakesLines, EndsAtBad, TellsBad, LineStops}
+use Rattle.ds_words.proofs.ResultLemmas.{on_ok}
 
 -- ---- results
-
-pub where_ok : {T E P Q : Type 0} (r : Result T E) → (P → Q) → OnOk r P → OnOk r Q
-where_ok (Ok t) by p = by p
-where_ok (Err e) by p = tt
 
 pub where_if_ok : {T E : Type 0} {P Q : T → Type 0} (r : Result T E) → ((t : T) → P t → Q t) → IfOk r P → IfOk r Q
 where_if_ok (Ok t) by p = by t p
@@ -61,24 +58,24 @@ abbrev pub waits : Reached → List ℕ → Reached
 waits old waiting = record old { waiting = waiting }
 
 -- some of the answers that wait are written, and nothing else changes
-pub takes_kept : (had has : Option (List ℕ)) (old new : Reached) (sent : List ℕ) → old.waiting ≡ sent ++ new.waiting → Appends had has sent → new.session ≡ old.session → new.lines ≡ old.lines → new.bad ≡ old.bad → new.policy ≡ old.policy → Takes had has old [] new
+pub takes_kept : (had has : Option (List ℕ)) (old new : Reached) (sent : List ℕ) → old.waiting ≡ sent ++ new.waiting → Appends had has sent → new.session ≡ old.session → new.lines ≡ old.lines → new.bad ≡ old.bad → new.policy ≡ old.policy → TakesLines had has old [] new
 takes_kept had has old new sent split written session lines bad policy =
     record { output = []; sent = sent; bad = 0; answers = (refl, refl, session); split = append-nil old.waiting ∙ split; written = written; counted = omega (arith, lines); told = omega (arith, bad); policy = policy }
 
-pub takes_sent : (had has : Option (List ℕ)) (old : Reached) (sent left : List ℕ) → old.waiting ≡ sent ++ left → Appends had has sent → Takes had has old [] (waits old left)
+pub takes_sent : (had has : Option (List ℕ)) (old : Reached) (sent left : List ℕ) → old.waiting ≡ sent ++ left → Appends had has sent → TakesLines had has old [] (waits old left)
 takes_sent had has old sent left split written = takes_kept had has old (waits old left) sent split written refl refl refl refl
 
 -- all of them are
-pub takes_written : (had has : Option (List ℕ)) (old : Reached) (waiting : List ℕ) → Appends had has old.waiting → waiting ≡ [] → Takes had has old [] (waits old waiting)
+pub takes_written : (had has : Option (List ℕ)) (old : Reached) (waiting : List ℕ) → Appends had has old.waiting → waiting ≡ [] → TakesLines had has old [] (waits old waiting)
 takes_written had has old waiting written none =
     takes_sent had has old old.waiting waiting (sym (append-nil old.waiting) ∙ ap (λ t. old.waiting ++ t) (sym none)) written
 
 -- nothing is
-pub takes_none : (had : Option (List ℕ)) (old : Reached) → Takes had had old [] old
+pub takes_none : (had : Option (List ℕ)) (old : Reached) → TakesLines had had old [] old
 takes_none had old = takes_sent had had old [] old.waiting refl (Appends-nil had)
 
 -- a command's line is answered
-pub takes_line : (had : Option (List ℕ)) (old new : Reached) (out text : List ℕ) → new.waiting ≡ old.waiting ++ out → AnswersLine old.lines old.session text out new.session → new.lines ≡ old.lines + 1 → new.bad ≡ old.bad → new.policy ≡ old.policy → Takes had had old (text ∷ []) new
+pub takes_line : (had : Option (List ℕ)) (old new : Reached) (out text : List ℕ) → new.waiting ≡ old.waiting ++ out → AnswersLine old.lines old.session text out new.session → new.lines ≡ old.lines + 1 → new.bad ≡ old.bad → new.policy ≡ old.policy → TakesLines had had old (text ∷ []) new
 takes_line had old new out text grown line counted told policy =
     record {
       output = out;
@@ -94,7 +91,7 @@ takes_line had old new out text grown line counted told policy =
 
 -- a bad one is passed over
 pub takes_bad : (had has : Option (List ℕ)) (old new : Reached) (number place : ℕ) (sent text : List ℕ) → old.policy ≡ GoOn → IsBadBehind old.lines text place → number ≡ suc old.lines → old.waiting ++ badline number place ≡ sent ++ new.waiting → Appends had has sent
-    → new.session ≡ old.session → new.lines ≡ old.lines + 1 → new.bad ≡ old.bad + 1 → new.policy ≡ old.policy → Takes had has old (text ∷ []) new
+    → new.session ≡ old.session → new.lines ≡ old.lines + 1 → new.bad ≡ old.bad + 1 → new.policy ≡ old.policy → TakesLines had has old (text ∷ []) new
 takes_bad had has old new number place sent text goes bad numbered split written same counted told policy =
     let out : List ℕ = badline number place in
     record {
@@ -110,7 +107,7 @@ takes_bad had has old new number place sent text goes bad numbered split written
     }
 
 -- lines behind lines
-pub takes_then : (a b c : Option (List ℕ)) (old mid new : Reached) (ls ms : List (List ℕ)) → Takes a b old ls mid → Takes b c mid ms new → Takes a c old (ls ++ ms) new
+pub takes_then : (a b c : Option (List ℕ)) (old mid new : Reached) (ls ms : List (List ℕ)) → TakesLines a b old ls mid → TakesLines b c mid ms new → TakesLines a c old (ls ++ ms) new
 takes_then a b c old mid new ls ms p q =
     record {
       output = p.output ++ q.output;
@@ -125,15 +122,15 @@ takes_then a b c old mid new ls ms p q =
     }
 
 -- then some of the answers are written
-pub takes_behind : (a b c : Option (List ℕ)) (old mid new : Reached) (ls : List (List ℕ)) → Takes a b old ls mid → Takes b c mid [] new → Takes a c old ls new
-takes_behind a b c old mid new ls p q = subst (λ (ms : List (List ℕ)). Takes a c old ms new) (append-nil ls) (takes_then a b c old mid new ls [] p q)
+pub takes_behind : (a b c : Option (List ℕ)) (old mid new : Reached) (ls : List (List ℕ)) → TakesLines a b old ls mid → TakesLines b c mid [] new → TakesLines a c old ls new
+takes_behind a b c old mid new ls p q = subst (λ (ms : List (List ℕ)). TakesLines a c old ms new) (append-nil ls) (takes_then a b c old mid new ls [] p q)
 
 -- no line was answered, so the count is what it was
-pub same_count : (had has : Option (List ℕ)) (old new : Reached) → Takes had has old [] new → new.lines ≡ old.lines
+pub same_count : (had has : Option (List ℕ)) (old new : Reached) → TakesLines had has old [] new → new.lines ≡ old.lines
 same_count had has old new p = omega (arith, p.counted)
 
 -- no more lines are bad than there are
-pub takes_few : (had has : Option (List ℕ)) (old new : Reached) (ls : List (List ℕ)) → Takes had has old ls new → old.bad ≤ old.lines → new.bad ≤ new.lines
+pub takes_few : (had has : Option (List ℕ)) (old new : Reached) (ls : List (List ℕ)) → TakesLines had has old ls new → old.bad ≤ old.lines → new.bad ≤ new.lines
 takes_few had has old new ls p few = omega (arith, few, p.counted, p.told, bad_few old.policy old.lines p.bad old.session new.session ls p.output p.answers)
 
 -- ---- a line that isn't answered
@@ -156,7 +153,7 @@ pass_stops WriteFault had has old text output number place e numbered goes bad =
 pass_stops NoRoom had has old text output number place e numbered goes bad = (waits old output, takes_sent had has old [] output (sym e.1) e.0, refl)
 
 -- answers were written before
-pub line_behind : (fault : ReplayFault) (a b c : Option (List ℕ)) (old mid : Reached) (text output : List ℕ) → Takes a b old [] mid → LineStops fault b c mid text output → LineStops fault a c old text output
+pub line_behind : (fault : ReplayFault) (a b c : Option (List ℕ)) (old mid : Reached) (text output : List ℕ) → TakesLines a b old [] mid → LineStops fault b c mid text output → LineStops fault a c old text output
 line_behind (BadLine number place expected) a b c old mid text output p s =
     let same : mid.lines ≡ old.lines = same_count a b old mid p in
     (s.0, takes_then a b c old mid s.0 [] [] p s.1, s.2, s.3, subst (λ (n : ℕ). IsBadBehind n text place) same s.4, s.5 ∙ ap suc same)

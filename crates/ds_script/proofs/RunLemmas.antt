@@ -5,21 +5,21 @@ use Rattle.std.proofs.KnownBytes.{Consumes-nil}
 use Rattle.std.proofs.lemmas.List.{drop_at}
 use Rattle.std.proofs.lemmas.List.Elements.{All-nil, All-append, All-push}
 use Rattle.std.proofs.lemmas.List.Concat.{flat_map-append}
-use Rattle.ds_words.specs.Lines.{IsUnbroken, ended, joined, unended}
+use Rattle.ds_words.specs.Lines.{IsUnbroken, with_newline, joined, unended}
 use Rattle.ds_script.specs.declared.fault.ReplayFault.{ReplayFault}
 use Rattle.ds_script.specs.declared.fault.ReplayFault.TheVariants.{BadLine, ReadFault, WriteFault, NoRoom}
 use Rattle.ds_script.specs.declared.report.BadLines.TheVariants.{End}
 use Rattle.ds_script.specs.Replay.{IsBadBehind}
-use Rattle.ds_script.specs.Progress.{Reached, Takes, TakesText, EndsAtBad, LineStops, TextStops, LastStops, Turns, TurnStops}
+use Rattle.ds_script.specs.Progress.{Reached, TakesLines, TakesText, EndsAtBad, LineStops, TextStops, LastStops, Turns, TurnStops}
 use Rattle.ds_script.proofs.ProgressLemmas.{waits, takes_sent, takes_written, takes_none, takes_then, takes_behind, same_count}
 
 -- ---- lines of a text
 
 joined-append : (ls ms : List (List ℕ)) → joined (ls ++ ms) ≡ joined ls ++ joined ms
-joined-append ls ms = flat_map-append ended ls ms
+joined-append ls ms = flat_map-append with_newline ls ms
 
-joined_one : (l : List ℕ) → joined (l ∷ []) ≡ ended l
-joined_one l = append-nil (ended l)
+joined_one : (l : List ℕ) → joined (l ∷ []) ≡ with_newline l
+joined_one l = append-nil (with_newline l)
 
 pub something : (bs : List ℕ) → length bs ≢ 0 → unended bs ≡ bs ∷ []
 something [] some = absurd (some refl)
@@ -30,11 +30,11 @@ nothing [] e = refl
 nothing (b ∷ bs) e = absurd (omega arith)
 
 -- no line of it is answered
-pub text_none : (had has : Option (List ℕ)) (old new : Reached) (text : List ℕ) → Takes had has old [] new → TakesText had has old text new text
+pub text_none : (had has : Option (List ℕ)) (old new : Reached) (text : List ℕ) → TakesLines had has old [] new → TakesText had has old text new text
 text_none had has old new text p = record { lines = []; split = refl; unbroken = All-nil IsUnbroken; takes = p }
 
 -- one more line is answered
-pub text_more : (a b c : Option (List ℕ)) (old mid new : Reached) (text rest line more l : List ℕ) → TakesText a b old text mid rest → rest ≡ line ++ more → line ≡ ended l → IsUnbroken l → Takes b c mid (l ∷ []) new → TakesText a c old text new more
+pub text_more : (a b c : Option (List ℕ)) (old mid new : Reached) (text rest line more l : List ℕ) → TakesText a b old text mid rest → rest ≡ line ++ more → line ≡ with_newline l → IsUnbroken l → TakesLines b c mid (l ∷ []) new → TakesText a c old text new more
 text_more a b c old mid new text rest line more l p split is unbroken one =
     let lines : List (List ℕ) = p.lines in
     record {
@@ -45,7 +45,7 @@ text_more a b c old mid new text rest line more l p split is unbroken one =
     }
 
 -- answers are written, and no line is answered
-pub text_sent : (a b c : Option (List ℕ)) (old mid new : Reached) (text rest : List ℕ) → TakesText a b old text mid rest → Takes b c mid [] new → TakesText a c old text new rest
+pub text_sent : (a b c : Option (List ℕ)) (old mid new : Reached) (text rest : List ℕ) → TakesText a b old text mid rest → TakesLines b c mid [] new → TakesText a c old text new rest
 text_sent a b c old mid new text rest p sent = record { lines = p.lines; split = p.split; unbroken = p.unbroken; takes = takes_behind a b c old mid new p.lines p.takes sent }
 
 -- behind the lines of one text come those of its rest and of what was read behind it
@@ -59,7 +59,7 @@ texts_then a b c old mid new text rest bytes more whole last p left all q =
     }
 
 -- the answers that waited are written before
-pub text_behind : (a b c : Option (List ℕ)) (old mid new : Reached) (text rest : List ℕ) → Takes a b old [] mid → TakesText b c mid text new rest → TakesText a c old text new rest
+pub text_behind : (a b c : Option (List ℕ)) (old mid new : Reached) (text rest : List ℕ) → TakesLines a b old [] mid → TakesText b c mid text new rest → TakesText a c old text new rest
 text_behind a b c old mid new text rest p q = record { lines = q.lines; split = q.split; unbroken = q.unbroken; takes = takes_then a b c old mid new [] q.lines p q.takes }
 
 pub text_rest : (a b : Option (List ℕ)) (old new : Reached) (text rest : List ℕ) → TakesText a b old text new rest → (length rest ≤ length text) × (drop (length text - length rest) text ≡ rest)
@@ -70,7 +70,7 @@ text_rest a b old new text rest p =
 -- ---- a text whose lines aren't all answered
 
 -- its next line isn't answered
-pub line_stops : (fault : ReplayFault) (to a b c : Option (List ℕ)) (old mid : Reached) (text rest line more l output : List ℕ) → TakesText a b old text mid rest → rest ≡ line ++ more → line ≡ ended l → IsUnbroken l → LineStops fault b c mid l output → TextStops fault to a c old text output
+pub line_stops : (fault : ReplayFault) (to a b c : Option (List ℕ)) (old mid : Reached) (text rest line more l output : List ℕ) → TakesText a b old text mid rest → rest ≡ line ++ more → line ≡ with_newline l → IsUnbroken l → LineStops fault b c mid l output → TextStops fault to a c old text output
 line_stops (BadLine number place expected) to a b c old mid text rest line more l output p split is unbroken s =
     let same : s.0.lines ≡ mid.lines = same_count b c mid s.0 s.1 in (
       s.0,
@@ -93,8 +93,8 @@ line_stops (BadLine number place expected) to a b c old mid text rest line more 
 line_stops ReadFault to a b c old mid text rest line more l output p split is unbroken s = absurd s
 line_stops WriteFault to a b c old mid text rest line more l output p split is unbroken s =
     elim s.2 [
-      | inl none ↦ (s.1, rest, text_sent a b c old mid s.1 text rest p (subst (λ (ls : List (List ℕ)). Takes b c mid ls s.1) none s.3), tt)
-      | inr all ↦ (s.1, more, text_more a b c old mid s.1 text rest line more l p split is unbroken (subst (λ (ls : List (List ℕ)). Takes b c mid ls s.1) all s.3), tt)
+      | inl none ↦ (s.1, rest, text_sent a b c old mid s.1 text rest p (subst (λ (ls : List (List ℕ)). TakesLines b c mid ls s.1) none s.3), tt)
+      | inr all ↦ (s.1, more, text_more a b c old mid s.1 text rest line more l p split is unbroken (subst (λ (ls : List (List ℕ)). TakesLines b c mid ls s.1) all s.3), tt)
     ]
 line_stops NoRoom to a b c old mid text rest line more l output p split is unbroken s = (s.0, rest, text_sent a b c old mid s.0 text rest p s.1, s.2)
 
@@ -102,7 +102,7 @@ line_stops NoRoom to a b c old mid text rest line more l output p split is unbro
 pub stops_then : (fault : ReplayFault) (to a b c : Option (List ℕ)) (old mid : Reached) (text rest bytes more whole output : List ℕ) → TakesText a b old text mid rest → rest ++ bytes ≡ more → text ++ bytes ≡ whole → TextStops fault to b c mid more output → TextStops fault to a c old whole output
 stops_then fault to a b c old mid text rest bytes more whole output p left all s = (s.0, s.1, texts_then a b c old mid s.0 text rest bytes more whole s.1 p left all s.2, s.3)
 
-pub stops_behind : (fault : ReplayFault) (to a b c : Option (List ℕ)) (old mid : Reached) (text output : List ℕ) → Takes a b old [] mid → TextStops fault to b c mid text output → TextStops fault to a c old text output
+pub stops_behind : (fault : ReplayFault) (to a b c : Option (List ℕ)) (old mid : Reached) (text output : List ℕ) → TakesLines a b old [] mid → TextStops fault to b c mid text output → TextStops fault to a c old text output
 stops_behind fault to a b c old mid text output p s = (s.0, s.1, text_behind a b c old mid s.0 text s.1 p s.2, s.3)
 
 -- a front of a line is too long
@@ -139,10 +139,10 @@ last_stops WriteFault to had has old pending output s one unbroken end = inr (re
 last_stops NoRoom to had has old pending output s one unbroken end = inl (s.0, pending, text_none had has old s.0 pending s.1, s.2)
 
 -- the writer failed before it, or behind it
-pub last_unsent : (to a b c : Option (List ℕ)) (old mid : Reached) (pending sent left output : List ℕ) (ls : List (List ℕ)) → Takes a b old ls mid → (ls ≡ []) ⊎ (ls ≡ unended pending) → mid.waiting ≡ sent ++ left → Appends b c sent → LastStops WriteFault to a c old pending output
+pub last_unsent : (to a b c : Option (List ℕ)) (old mid : Reached) (pending sent left output : List ℕ) (ls : List (List ℕ)) → TakesLines a b old ls mid → (ls ≡ []) ⊎ (ls ≡ unended pending) → mid.waiting ≡ sent ++ left → Appends b c sent → LastStops WriteFault to a c old pending output
 last_unsent to a b c old mid pending sent left output ls p which split written = inr (refl, (ls, waits mid left, which, takes_behind a b c old mid (waits mid left) ls p (takes_sent b c mid sent left split written)))
 
-pub last_behind : (fault : ReplayFault) (to a b c : Option (List ℕ)) (old mid : Reached) (pending output : List ℕ) → Takes a b old [] mid → LastStops fault to b c mid pending output → LastStops fault to a c old pending output
+pub last_behind : (fault : ReplayFault) (to a b c : Option (List ℕ)) (old mid : Reached) (pending output : List ℕ) → TakesLines a b old [] mid → LastStops fault to b c mid pending output → LastStops fault to a c old pending output
 last_behind fault to a b c old mid pending output p s =
     elim s [
       | inl t ↦ inl (stops_behind fault to a b c old mid pending output p t)
@@ -162,8 +162,8 @@ turns_idle from to had old pending rest read same unbroken =
     turns_more from to had had old old pending [] rest rest read whole (text_none had had old old rest (takes_none had old)) (subst IsUnbroken (sym same) unbroken)
 
 -- there is no more
-pub turns_last : (from to had has : Option (List ℕ)) (old new : Reached) (pending whole rest : List ℕ) → Consumes from to [] → IsAtEnd to → whole ≡ pending → Takes had has old (unended whole) new → new.waiting ≡ [] → Turns false from to had has old pending new rest
-turns_last from to had has old new pending whole rest read end same takes none = (read, end, subst (λ (t : List ℕ). Takes had has old (unended t) new) same takes, none)
+pub turns_last : (from to had has : Option (List ℕ)) (old new : Reached) (pending whole rest : List ℕ) → Consumes from to [] → IsAtEnd to → whole ≡ pending → TakesLines had has old (unended whole) new → new.waiting ≡ [] → Turns false from to had has old pending new rest
+turns_last from to had has old new pending whole rest read end same takes none = (read, end, subst (λ (t : List ℕ). TakesLines had has old (unended t) new) same takes, none)
 
 -- a turn stops in what was read
 pub turn_stops : (fault : ReplayFault) (from to had has : Option (List ℕ)) (old : Reached) (pending bytes whole output : List ℕ) → Consumes from to bytes → whole ≡ pending ++ bytes → TextStops fault to had has old whole output → TurnStops fault from to had has old pending output
@@ -188,11 +188,11 @@ turn_unsent from had has old pending sent left output split written =
     inl ([], Consumes-nil from, (waits old left, pending ++ [], text_none had has old (waits old left) (pending ++ []) (takes_sent had has old sent left split written), tt))
 
 -- answers were written before a turn
-pub turns_behind : (more : Bool) (from to a b c : Option (List ℕ)) (old mid new : Reached) (pending rest : List ℕ) → Takes a b old [] mid → Turns more from to b c mid pending new rest → Turns more from to a c old pending new rest
+pub turns_behind : (more : Bool) (from to a b c : Option (List ℕ)) (old mid new : Reached) (pending rest : List ℕ) → TakesLines a b old [] mid → Turns more from to b c mid pending new rest → Turns more from to a c old pending new rest
 turns_behind true from to a b c old mid new pending rest p t = (t.0, t.1, text_behind a b c old mid new (pending ++ t.0) rest p t.2, t.3)
 turns_behind false from to a b c old mid new pending rest p t = (t.0, t.1, takes_then a b c old mid new [] (unended pending) p t.2, t.3)
 
-pub turn_stops_behind : (fault : ReplayFault) (from to a b c : Option (List ℕ)) (old mid : Reached) (pending output : List ℕ) → Takes a b old [] mid → TurnStops fault from to b c mid pending output → TurnStops fault from to a c old pending output
+pub turn_stops_behind : (fault : ReplayFault) (from to a b c : Option (List ℕ)) (old mid : Reached) (pending output : List ℕ) → TakesLines a b old [] mid → TurnStops fault from to b c mid pending output → TurnStops fault from to a c old pending output
 turn_stops_behind fault from to a b c old mid pending output p s =
     elim s [
       | inl t ↦ inl (t.0, t.1, stops_behind fault to a b c old mid (pending ++ t.0) output p t.2)

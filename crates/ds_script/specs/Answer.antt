@@ -7,7 +7,7 @@ use Rattle.ds_entry.specs.declared.item.Item.{Item}
 use Rattle.ds_line.specs.ItemSpelling.{item_spelling}
 use Rattle.ds_held.specs.Limits.{larger}
 use Rattle.ds_held.specs.Held.{held_items}
-use Rattle.ds_submap.specs.Map.{SubMapRecord, entries_of}
+use Rattle.ds_submap.specs.Map.{SubMapRecord}
 use Rattle.ds_machine.specs.declared.reply.Reply.{Reply}
 use Rattle.ds_replica.specs.declared.event.Event.{Event}
 use Rattle.ds_replica.specs.declared.event.Side.{Side}
@@ -15,7 +15,7 @@ use Rattle.ds_replica.specs.declared.outcome.Outcome.{Outcome}
 use Rattle.ds_replica.specs.declared.outcome.Outcome.TheVariants.{Made}
 use Rattle.ds_words.specs.Command.{IsCommand, IsLineAs, is_plain}
 use Rattle.ds_words.specs.Later.{IsLater}
-use Rattle.ds_words.specs.Lines.{ended}
+use Rattle.ds_words.specs.Lines.{with_newline}
 use Rattle.ds_words.specs.Event.{event_of}
 use Rattle.ds_words.specs.Outcome.{outcome_lines, ring_line, side_line}
 use Rattle.ds_words.specs.Reply.{wording, reply_lines, refused_noroom}
@@ -23,12 +23,13 @@ use Rattle.ds_words.specs.declared.command.ScriptCommand.{ScriptCommand}
 use Rattle.ds_words.specs.declared.command.ScriptCommand.TheVariants as lines
 use Rattle.ds_words.specs.declared.wording.Wording.{Wording}
 use Rattle.ds_script.specs.Session.{SessionContent, IsOpened, IsHappening, turned, held_of}
+use Rattle.ds_entry.specs.Under.{entries_of}
 
 -- ---- what is held
 
 -- the lines of the items, and then `shown` and their number
 abbrev pub shown : List Item → List ℕ
-shown items = flat_map item_spelling items ++ ended (codes "shown " ++ decimal (length items))
+shown items = flat_map item_spelling items ++ with_newline (codes "shown " ++ decimal (length items))
 
 -- all of the items, or the puts alone
 abbrev pub picked : Bool → List Item → List Item
@@ -37,7 +38,7 @@ picked false items = entries_of items
 
 -- the line of a refusal by its word
 abbrev pub refused_by : List ℕ → List ℕ
-refused_by word = ended (codes "refused " ++ word)
+refused_by word = with_newline (codes "refused " ++ word)
 
 -- the lines of the map's puts, or the refusal where there is no such map
 abbrev pub entries_text : Option SubMapRecord → List ℕ
@@ -81,22 +82,22 @@ AnswersCommand (lines.Side side) old out new = AnswersSide side old out new
 AnswersCommand command old out new = AnswersAsEvent command old out new
 
 -- for want of memory a command is refused, and nothing changes
-abbrev pub IsRefused : SessionContent → List ℕ → SessionContent → Type 0
-IsRefused old out new = (new ≡ old) × (out ≡ refused_noroom)
+abbrev pub IsLineRefused : SessionContent → List ℕ → SessionContent → Type 0
+IsLineRefused old out new = (new ≡ old) × (out ≡ refused_noroom)
 
 -- The script itself takes memory for the command: for a copy of what is shown, for the stores' rings, or for what the line asks.
 -- Where others are refused for want of memory, it is the world that refuses them.
-abbrev pub TakesRoom : ScriptCommand → Type 0
-TakesRoom lines.Show = Unit {0}
-TakesRoom lines.All = Unit {0}
-TakesRoom (lines.Entries map) = Unit {0}
-TakesRoom (lines.Ring ring) = Unit {0}
-TakesRoom (lines.Map query) = Unit {0}
-TakesRoom command = is_plain command ≡ false
+abbrev pub AnswerTakesRoom : ScriptCommand → Type 0
+AnswerTakesRoom lines.Show = Unit {0}
+AnswerTakesRoom lines.All = Unit {0}
+AnswerTakesRoom (lines.Entries map) = Unit {0}
+AnswerTakesRoom (lines.Ring ring) = Unit {0}
+AnswerTakesRoom (lines.Map query) = Unit {0}
+AnswerTakesRoom command = is_plain command ≡ false
 
 -- what a command is answered, memory or not
 abbrev pub AnswersOrRefuses : ScriptCommand → SessionContent → List ℕ → SessionContent → Type 0
-AnswersOrRefuses command old out new = (TakesRoom command × IsRefused old out new) ⊎ AnswersCommand command old out new
+AnswersOrRefuses command old out new = (AnswerTakesRoom command × IsLineRefused old out new) ⊎ AnswersCommand command old out new
 
 -- ---- lines
 

@@ -18,11 +18,11 @@ use Rattle.ds_words.specs.Event.{event_of}
 use Rattle.ds_words.specs.Reply.{wording}
 use Rattle.ds_words.specs.declared.command.ScriptCommand.{ScriptCommand}
 use Rattle.ds_words.specs.declared.command.ScriptCommand.TheVariants as lines
-use Rattle.ds_world.specs.World.{Stands}
+use Rattle.ds_world.specs.World.{WorldStands}
 use Rattle.ds_script.specs.declared.report.BadLines.{BadLines}
 use Rattle.ds_script.specs.declared.report.BadLines.TheVariants.{End}
 use Rattle.ds_script.specs.Session.{SessionContent, IsOpened, seed, made, turned}
-use Rattle.ds_script.specs.Answer.{AnswersEvent, AnswersCommand, IsRefused, TakesRoom, MayStand}
+use Rattle.ds_script.specs.Answer.{AnswersEvent, AnswersCommand, IsLineRefused, AnswerTakesRoom, MayStand}
 use Rattle.ds_script.specs.Replay.{TellsBadLine, AnswersLines}
 
 -- ---- a script and its events
@@ -32,7 +32,7 @@ pub record CameOf (events : List (Event × Outcome)) (ring : ℕ) (world : World
   pub least : 1 ≤ ring
   pub most : ring ≤ 4096
   pub happened : HappenAll (made ring) events world
-  pub stands : Stands session.world world
+  pub stands : WorldStands session.world world
 
 -- A command that was answered so makes these events of those before it: one that is an event comes behind them, with its outcome;
 -- `ring` makes the world anew, of which nothing came yet; others let nothing happen.
@@ -44,7 +44,7 @@ MakesEvents command old out new came events =
 -- and so does a line; one that is refused for want of memory, or is bad, lets nothing happen
 abbrev pub LineMakesEvents : BadLines → ℕ → SessionContent → List ℕ → List ℕ → ℕ → SessionContent → List (Event × Outcome) → List (Event × Outcome) → Type 0
 LineMakesEvents policy before old line out bad new came events =
-    ((command : ScriptCommand) × IsLineAs (MayStand before) command line × (bad ≡ 0) × ((TakesRoom command × IsRefused old out new × (events ≡ came)) ⊎ MakesEvents command old out new came events))
+    ((command : ScriptCommand) × IsLineAs (MayStand before) command line × (bad ≡ 0) × ((AnswerTakesRoom command × IsLineRefused old out new × (events ≡ came)) ⊎ MakesEvents command old out new came events))
     ⊎ (TellsBadLine policy before old line out bad new × (events ≡ came))
 
 -- and lines, one after the other
@@ -63,8 +63,8 @@ ScriptsAreEvents =
 -- ---- what follows
 
 -- So holders that know the same under a query hold the same under it, if all that was brought in is single-numbered.
-abbrev pub HoldersAgree : Type 0
-HoldersAgree =
+abbrev pub ScriptHoldersAgree : Type 0
+ScriptHoldersAgree =
     (events : List (Event × Outcome)) (ring : ℕ) (world : World) (session : SessionContent) (query : Key → Bool) (h i : Holder) → CameOf events ring world session →
     let account = extended_all (new_account (seed 1 ring) (seed 2 ring) larger) events in
     AreSingleNumbered account.brought → KnowSame query (known_at account h) (known_at account i) → HoldSame world query h i
@@ -72,7 +72,7 @@ HoldersAgree =
 -- Where both stores hold the same under the query of all keys, `show` answers the same at both sides.
 abbrev pub ShowsAgree : Type 0
 ShowsAgree =
-    (world : World) (session after : SessionContent) (out : List ℕ) → Stands session.world world → HoldSame world (λ key. true) (Store A) (Store B) →
+    (world : World) (session after : SessionContent) (out : List ℕ) → WorldStands session.world world → HoldSame world (λ key. true) (Store A) (Store B) →
     AnswersCommand lines.Show (turned session A) out after → AnswersCommand lines.Show (turned session B) out (turned session B)
 
 -- No line is bad where a bad line ends the script.

@@ -31,14 +31,14 @@ reached running = record { session = running.session; waiting = running.output.i
 -- ---- one line
 
 -- why a line behind so many others, without its newline, isn't answered
-abbrev pub IsFaultOf : ℕ → CommandFault → List ℕ → Type 0
-IsFaultOf before (lines.BadLine place expected) text = IsBadBehind before text place
-IsFaultOf before lines.NoRoom text = Unit {0}
+abbrev pub IsUnendedFault : ℕ → CommandFault → List ℕ → Type 0
+IsUnendedFault before (lines.BadLine place expected) text = IsBadBehind before text place
+IsUnendedFault before lines.NoRoom text = Unit {0}
 
 -- a line that is bad changes nothing
-abbrev pub Keeps : CommandFault → SessionContent → SessionContent → Type 0
-Keeps (lines.BadLine place expected) old new = new ≡ old
-Keeps lines.NoRoom old new = Unit {0}
+abbrev pub KeepsSession : CommandFault → SessionContent → SessionContent → Type 0
+KeepsSession (lines.BadLine place expected) old new = new ≡ old
+KeepsSession lines.NoRoom old new = Unit {0}
 
 -- some of these answers were written, and the writer failed
 abbrev pub WritesPart : Option (List ℕ) → Option (List ℕ) → List ℕ → Type 0
@@ -59,7 +59,7 @@ TellsBad _ number place had has old new = ⊥
 -- ---- lines
 
 -- The lines were answered: some of the answers were written, behind those that waited before.
-pub record Takes (had has : Option (List ℕ)) (old : Reached) (lines : List (List ℕ)) (new : Reached) : Type 0 where
+pub record TakesLines (had has : Option (List ℕ)) (old : Reached) (lines : List (List ℕ)) (new : Reached) : Type 0 where
   pub output : List ℕ
   pub sent : List ℕ
   pub bad : ℕ
@@ -75,7 +75,7 @@ pub record TakesText (had has : Option (List ℕ)) (old : Reached) (text : List 
   pub lines : List (List ℕ)
   pub split : text ≡ joined lines ++ rest
   pub unbroken : All IsUnbroken lines
-  pub takes : Takes had has old lines new
+  pub takes : TakesLines had has old lines new
 
 -- ---- why no more lines are answered
 
@@ -89,14 +89,14 @@ Leaves NoRoom to output mid rest = mid.waiting ≡ output
 
 -- none of the lines was answered, or all were
 abbrev pub TakesNoneOrAll : (had has : Option (List ℕ)) → Reached → List (List ℕ) → Type 0
-TakesNoneOrAll had has old whole = (lines : List (List ℕ)) × (mid : Reached) × ((lines ≡ []) ⊎ (lines ≡ whole)) × Takes had has old lines mid
+TakesNoneOrAll had has old whole = (lines : List (List ℕ)) × (mid : Reached) × ((lines ≡ []) ⊎ (lines ≡ whole)) × TakesLines had has old lines mid
 
 -- a line, without its newline, wasn't answered, or the writer failed behind it
 abbrev pub LineStops : ReplayFault → (had has : Option (List ℕ)) → Reached → List ℕ → (output : List ℕ) → Type 0
-LineStops (BadLine number place expected) had has old line output = (mid : Reached) × Takes had has old [] mid × (mid.policy ≡ End) × (mid.waiting ≡ output) × IsBadBehind old.lines line place × (number ≡ suc old.lines)
+LineStops (BadLine number place expected) had has old line output = (mid : Reached) × TakesLines had has old [] mid × (mid.policy ≡ End) × (mid.waiting ≡ output) × IsBadBehind old.lines line place × (number ≡ suc old.lines)
 LineStops ReadFault had has old line output = ⊥
 LineStops WriteFault had has old line output = TakesNoneOrAll had has old (line ∷ [])
-LineStops NoRoom had has old line output = (mid : Reached) × Takes had has old [] mid × (mid.waiting ≡ output)
+LineStops NoRoom had has old line output = (mid : Reached) × TakesLines had has old [] mid × (mid.waiting ≡ output)
 
 -- some lines of a text were answered, and then the fault came
 abbrev pub TextStops : ReplayFault → (to had has : Option (List ℕ)) → Reached → (text output : List ℕ) → Type 0
@@ -112,7 +112,7 @@ LastStops fault to had has old pending output = TextStops fault to had has old p
 -- what was pending was the last line, if it is one.
 abbrev pub Turns : Bool → (from to had has : Option (List ℕ)) → Reached → (pending : List ℕ) → Reached → (rest : List ℕ) → Type 0
 Turns true from to had has old pending new rest = (bytes : List ℕ) × Consumes from to bytes × TakesText had has old (pending ++ bytes) new rest × IsUnbroken rest
-Turns false from to had has old pending new rest = Consumes from to [] × IsAtEnd to × Takes had has old (unended pending) new × (new.waiting ≡ [])
+Turns false from to had has old pending new rest = Consumes from to [] × IsAtEnd to × TakesLines had has old (unended pending) new × (new.waiting ≡ [])
 
 -- what a turn has done that stopped
 abbrev pub TurnStops : ReplayFault → (from to had has : Option (List ℕ)) → Reached → (pending output : List ℕ) → Type 0

@@ -3,7 +3,7 @@ use Rattle.std.specs.Prelude.{◌≡◌, ℕ, suc, ◌<◌, ◌+◌, ◌⊎◌, 
 use Rattle.std.specs.List.{All}
 use Rattle.std.specs.Fmt.{decimal}
 use Rattle.std.specs.Io.KnownBytes.{IsAtEnd}
-use Rattle.ds_words.specs.Lines.{IsUnbroken, joined, HasLines, ended}
+use Rattle.ds_words.specs.Lines.{IsUnbroken, joined, HasLines, with_newline}
 use Rattle.ds_words.specs.Command.{IsBadLineAs}
 use Rattle.ds_script.specs.declared.fault.ReplayFault.{ReplayFault}
 use Rattle.ds_script.specs.declared.fault.ReplayFault.TheVariants.{BadLine, ReadFault, WriteFault, NoRoom}
@@ -18,7 +18,7 @@ IsBadBehind before line place = IsBadLineAs (MayStand before) line place
 
 -- the answer to a line that is no command's: its number, from 1, and the place
 abbrev pub badline : ℕ → ℕ → List ℕ
-badline number place = ended (codes "badline " ++ (decimal number ++ 32 ∷ decimal place))
+badline number place = with_newline (codes "badline " ++ (decimal number ++ 32 ∷ decimal place))
 
 -- The line behind so many others is bad, and that is its answer, where bad lines end nothing. It changes nothing, and is counted.
 abbrev pub TellsBadLine : BadLines → ℕ → SessionContent → List ℕ → List ℕ → ℕ → SessionContent → Type 0
@@ -41,7 +41,7 @@ AreAnswers policy [] bad output = (output ≡ []) × (bad ≡ 0)
 AreAnswers policy (line ∷ lines) bad output = (start end : SessionContent) × IsOpened 256 start × AnswersLines policy 0 start (line ∷ lines) output bad end
 
 -- The input is so many lines, so many of them bad, and the output is the answers to all of them.
-pub record IsAnswered (policy : BadLines) (input : List ℕ) (count bad : ℕ) (output : List ℕ) : Type 0 where
+pub record IsReplayed (policy : BadLines) (input : List ℕ) (count bad : ℕ) (output : List ℕ) : Type 0 where
   pub lines : List (List ℕ)
   pub split : HasLines input lines
   pub answers : AreAnswers policy lines bad output
@@ -64,7 +64,7 @@ pub record IsAnsweredInPart (policy : BadLines) (to : Option (List ℕ)) (input 
   pub count : ℕ
   pub bad : ℕ
   pub split : input ≡ front ++ rest
-  pub answered : IsAnswered policy front count bad (output ++ left)
+  pub answered : IsReplayed policy front count bad (output ++ left)
   pub ends : (answered.split.last ≡ []) ⊎ ((rest ≡ []) × IsAtEnd to)
 
 -- The rest, behind so many lines, begins with a line that is bad at the place. It was read to its newline, or to the end of
@@ -78,13 +78,13 @@ pub record BeginsBadLine (before : ℕ) (to : Option (List ℕ)) (rest : List �
   pub ends : ((after : List ℕ) × (more ≡ 10 ∷ after)) ⊎ (((more ≡ []) × IsAtEnd to) ⊎ (4096 < length line))
 
 -- all lines before the rest were answered
-abbrev pub StopsAt : BadLines → (ℕ → List ℕ → Type 0) → List ℕ → List ℕ → Type 0
-StopsAt policy Why input output = (count bad : ℕ) × (rest : List ℕ) × IsAnsweredUpTo policy rest input count bad output × Why count rest
+abbrev pub ReplayStops : BadLines → (ℕ → List ℕ → Type 0) → List ℕ → List ℕ → Type 0
+ReplayStops policy Why input output = (count bad : ℕ) × (rest : List ℕ) × IsAnsweredUpTo policy rest input count bad output × Why count rest
 
 -- How the input was answered by the output when a fault ended it, where `to` is what the reader has left. A bad line ends it
 -- only where it is to.
 abbrev pub StopsWith : BadLines → ReplayFault → Option (List ℕ) → List ℕ → List ℕ → Type 0
-StopsWith policy (BadLine number place expected) to input output = (policy ≡ End) × StopsAt policy (λ count rest. BeginsBadLine count to rest place × (number ≡ suc count)) input output
-StopsWith policy ReadFault to input output = StopsAt policy (λ count rest. IsUnbroken rest) input output
+StopsWith policy (BadLine number place expected) to input output = (policy ≡ End) × ReplayStops policy (λ count rest. BeginsBadLine count to rest place × (number ≡ suc count)) input output
+StopsWith policy ReadFault to input output = ReplayStops policy (λ count rest. IsUnbroken rest) input output
 StopsWith policy WriteFault to input output = IsAnsweredInPart policy to input output
-StopsWith policy NoRoom to input output = StopsAt policy (λ count rest. Unit {0}) input output
+StopsWith policy NoRoom to input output = ReplayStops policy (λ count rest. Unit {0}) input output

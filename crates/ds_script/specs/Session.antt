@@ -8,7 +8,7 @@ use Rattle.ds_replica.specs.declared.event.Side.TheVariants.{A}
 use Rattle.ds_replica.specs.declared.outcome.Outcome.{Outcome}
 use Rattle.ds_replica.specs.declared.seed.Seed.{Seed}
 use Rattle.ds_replica.specs.World.{World, new_world}
-use Rattle.ds_world.specs.World.{WorldRecord, Stands, store_in}
+use Rattle.ds_world.specs.World.{WorldRecord, WorldStands, store_in}
 use Rattle.ds_world.specs.Run.{EventLeads}
 use Rattle.ds_world.specs.Told.{IsTold}
 
@@ -28,7 +28,7 @@ made ring = new_world (seed 1 ring) (seed 2 ring) larger
 
 -- the session stands for such a world, and side a is asked
 pub record IsOpened (ring : ℕ) (session : SessionContent) : Type 0 where
-  pub world : Stands session.world (made ring)
+  pub world : WorldStands session.world (made ring)
   pub side : session.side ≡ A
 
 -- from now on the store of this side is asked

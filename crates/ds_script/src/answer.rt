@@ -4,7 +4,7 @@ ghost use Rattle.std.specs.Prelude.{◌≡◌, ◌≤◌, ◌⊎◌, ◌++◌, L
 ghost use Rattle.ds_words.specs.Command.{IsCommand};
 ghost use Rattle.ds_words.specs.Outcome.{side_line};
 ghost use Rattle.ds_script.specs.Session.{turned};
-ghost use Rattle.ds_script.specs.Answer.{AnswersOrRefuses, AnswersRing, IsRefused};
+ghost use Rattle.ds_script.specs.Answer.{AnswersOrRefuses, AnswersRing, IsLineRefused};
 
 use crate::entries::append_entries;
 use crate::event::answer_event;
@@ -48,7 +48,7 @@ fn answer_ring(
     ring: u32,
 ) -> Result<(), NoRoom>
     requires { (1 ≤ ring) × (ring ≤ 4096) }
-    ensures answered { OnOk result ((out : List ℕ) × (output.new.items ≡ output.old.items ++ out) × (AnswersRing ring session.old out session.new ⊎ IsRefused session.old out session.new)) }
+    ensures answered { OnOk result ((out : List ℕ) × (output.new.items ≡ output.old.items ++ out) × (AnswersRing ring session.old out session.new ⊎ IsLineRefused session.old out session.new)) }
     ensures unanswered { OnErr result (output.new.items ≡ output.old.items) }
 {
     let Ok(opened) = Session::open(alloc, ring) else {

@@ -1,13 +1,13 @@
 //! Laws over every script, over definitions alone.
 
-ghost use Rattle.ds_script.specs.Laws.{ScriptsAreEvents, HoldersAgree, ShowsAgree, NoneIsBadWhereOneEnds};
+ghost use Rattle.ds_script.specs.Laws.{ScriptsAreEvents, ScriptHoldersAgree, ShowsAgree, NoneIsBadWhereOneEnds};
 
 /// What a script drives is a world that came of events, whatever its lines are answered; so what holds over every list of
 /// events holds over every script: stores and maps that know the same under a query hold the same under it, if all that the
 /// script brought in is single-numbered, and `show` answers the same at both sides where both stores hold the same.
 pub fn scripts_are_events()
     ensures events { ScriptsAreEvents }
-    ensures agree { HoldersAgree }
+    ensures agree { ScriptHoldersAgree }
     ensures shows { ShowsAgree }
 {}
 

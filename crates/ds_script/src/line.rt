@@ -2,10 +2,10 @@
 
 ghost use Rattle.std.specs.Prelude.{◌≡◌, ◌++◌, ℕ, List, IfErr, OnOk, OnErr};
 ghost use Rattle.ds_line.specs.LastNewline.{EndsLine};
-ghost use Rattle.ds_words.specs.Lines.{ended};
+ghost use Rattle.ds_words.specs.Lines.{with_newline};
 ghost use Rattle.ds_words.specs.Command.{ReadsAs};
 ghost use Rattle.ds_script.specs.Answer.{MayStand, AnswersLine};
-ghost use Rattle.ds_script.specs.Progress.{IsFaultOf, Keeps};
+ghost use Rattle.ds_script.specs.Progress.{IsUnendedFault, KeepsSession};
 
 use crate::answer::answer_command;
 use crate::session::Session;
@@ -24,10 +24,10 @@ pub(crate) fn answer_line(
     output: &mut Vec<u8>,
 ) -> Result<(), CommandFault>
     requires { EndsLine line.now }
-    ensures ok { OnOk result ((out : List ℕ) × (output.new.items ≡ output.old.items ++ out) × ((text : List ℕ) → line.now ≡ ended text → AnswersLine before session.old text out session.new)) }
+    ensures ok { OnOk result ((out : List ℕ) × (output.new.items ≡ output.old.items ++ out) × ((text : List ℕ) → line.now ≡ with_newline text → AnswersLine before session.old text out session.new)) }
     ensures err { OnErr result (output.new.items ≡ output.old.items) }
-    ensures fault { IfErr result (λ fault. (text : List ℕ) → line.now ≡ ended text → IsFaultOf before fault text) }
-    ensures kept { IfErr result (λ fault. Keeps fault session.old session.new) }
+    ensures fault { IfErr result (λ fault. (text : List ℕ) → line.now ≡ with_newline text → IsUnendedFault before fault text) }
+    ensures kept { IfErr result (λ fault. KeepsSession fault session.old session.new) }
 {
     if line.len() > LONGEST_LINE + 1 {
         return Err(CommandFault::BadLine {

@@ -4,11 +4,11 @@ ghost use Rattle.std.specs.Prelude.{◌≡◌, ◌<◌, ◌⊎◌, ◌++◌, [],
 ghost use Rattle.std.specs.List.{flat_map};
 ghost use Rattle.ds_line.specs.ItemSpelling.{item_spelling};
 ghost use Rattle.ds_held.specs.Held.{held_items};
-ghost use Rattle.ds_submap.specs.Map.{is_put as leaves_value};
 ghost use Rattle.ds_script.specs.Answer.{picked, shown};
 ghost use Rattle.ds_words.specs.Reply.{refused_noroom};
+ghost use Rattle.ds_entry.specs.Left.{is_put as leaves_value};
 
-use ds_entry::{Body, Item, Items};
+use ds_entry::{Item, Items};
 use ds_held::Held;
 use ds_line::{append_all, append_item};
 use ds_names::NoRoom;
@@ -92,10 +92,7 @@ fn is_put(item: &Item) -> bool
     ensures { result ≡ leaves_value item.now }
 {
     match item {
-        Item::Change(change) => match change.body() {
-            Body::Put(_) => true,
-            Body::Gone => false,
-        },
+        Item::Change(change) => change.body().value().is_some(),
         Item::Floor(_) => false,
     }
 }

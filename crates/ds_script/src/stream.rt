@@ -4,7 +4,7 @@ ghost use Rattle.std.specs.Prelude.{◌≡◌, [], ℕ, List, IfOk, IfErr, OnOk,
 ghost use Rattle.std.specs.Io.KnownBytes.{Appends, Consumes, IsAtEnd};
 ghost use Rattle.ds_script.specs.declared.report.BadLines.TheVariants.{End};
 ghost use Rattle.ds_script.specs.Session.{IsOpened};
-ghost use Rattle.ds_script.specs.Replay.{IsAnswered, StopsWith};
+ghost use Rattle.ds_script.specs.Replay.{IsReplayed, StopsWith};
 ghost use Rattle.ds_script.specs.Progress.{Stops, Settles};
 
 use crate::fault::ReplayFault;
@@ -42,7 +42,7 @@ pub fn replay<R: Read, W: Write>(
     ensures answered { IfOk result (λ count. (input output : List ℕ)
         × Consumes (R.remaining reader.old) (R.remaining reader.new) input × IsAtEnd (R.remaining reader.new)
         × Appends (W.contents writer.old) (W.contents writer.new) output
-        × IsAnswered End input count 0 output) }
+        × IsReplayed End input count 0 output) }
     ensures stopped { IfErr result (λ fault. (input output : List ℕ)
         × Consumes (R.remaining reader.old) (R.remaining reader.new) input
         × Appends (W.contents writer.old) (W.contents writer.new) output
@@ -68,7 +68,7 @@ pub fn replay_reporting<R: Read, W: Write, B: Report>(
     ensures answered { IfOk result (λ done. (input output : List ℕ)
         × Consumes (R.remaining reader.old) (R.remaining reader.new) input × IsAtEnd (R.remaining reader.new)
         × Appends (W.contents writer.old) (W.contents writer.new) output
-        × IsAnswered bad_lines input done.lines done.bad output) }
+        × IsReplayed bad_lines input done.lines done.bad output) }
     ensures stopped { IfErr result (λ fault. (input output : List ℕ)
         × Consumes (R.remaining reader.old) (R.remaining reader.new) input
         × Appends (W.contents writer.old) (W.contents writer.new) output
@@ -110,7 +110,7 @@ fn run<R: Read, W: Write, B: Report>(
     ensures ok { OnOk result ((input output : List ℕ)
         × Consumes (R.remaining reader.old) (R.remaining reader.new) input × IsAtEnd (R.remaining reader.new)
         × Appends (W.contents writer.old) (W.contents writer.new) output
-        × IsAnswered running.old.bad_lines input running.new.done.lines running.new.done.bad output) }
+        × IsReplayed running.old.bad_lines input running.new.done.lines running.new.done.bad output) }
     ensures err { IfErr result (λ fault. (input output : List ℕ)
         × Consumes (R.remaining reader.old) (R.remaining reader.new) input
         × Appends (W.contents writer.old) (W.contents writer.new) output

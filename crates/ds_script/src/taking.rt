@@ -3,9 +3,9 @@
 ghost use Rattle.std.specs.Prelude.{◌≡◌, ◌≤◌, ◌<◌, ◌+◌, ◌^◌, ◌∷◌, [], ℕ, suc, List, Option, IfOk, IfErr, OnOk, length, drop, vec_len};
 ghost use Rattle.std.specs.Io.KnownBytes.{IsAtEnd};
 ghost use Rattle.ds_line.specs.LastNewline.{EndsLine};
-ghost use Rattle.ds_words.specs.Lines.{IsUnbroken, ended, unended};
+ghost use Rattle.ds_words.specs.Lines.{IsUnbroken, with_newline, unended};
 ghost use Rattle.ds_script.specs.Replay.{IsBadBehind};
-ghost use Rattle.ds_script.specs.Progress.{reached, Takes, TakesText, LineStops, TextStops, LastStops};
+ghost use Rattle.ds_script.specs.Progress.{reached, TakesLines, TakesText, LineStops, TextStops, LastStops};
 
 use crate::bad_line::{end_at, pass_over};
 use crate::fault::ReplayFault;
@@ -51,8 +51,8 @@ fn take_line<W: Write, B: Report>(
     requires line { EndsLine line.now }
     requires few { running.old.done.lines < 2 ^ 62 }
     requires bad { running.old.done.bad ≤ running.old.done.lines }
-    ensures ok { OnOk result ((text : List ℕ) → line.now ≡ ended text → Takes (W.contents writer.old) (W.contents writer.new) (reached running.old) (text ∷ []) (reached running.new)) }
-    ensures err { IfErr result (λ fault. (text : List ℕ) → line.now ≡ ended text → LineStops fault (W.contents writer.old) (W.contents writer.new) (reached running.old) text running.new.output.items) }
+    ensures ok { OnOk result ((text : List ℕ) → line.now ≡ with_newline text → TakesLines (W.contents writer.old) (W.contents writer.new) (reached running.old) (text ∷ []) (reached running.new)) }
+    ensures err { IfErr result (λ fault. (text : List ℕ) → line.now ≡ with_newline text → LineStops fault (W.contents writer.old) (W.contents writer.new) (reached running.old) text running.new.output.items) }
 {
     send_full(writer, &mut running.output)?;
     let before = running.done.lines;
@@ -90,7 +90,7 @@ fn take_bad<W: Write, B: Report>(
     requires few { running.old.done.lines < 2 ^ 62 }
     requires bad { running.old.done.bad ≤ running.old.done.lines }
     requires number { bad.now.number ≡ suc running.old.done.lines }
-    ensures ok { OnOk result ((text : List ℕ) → IsBadBehind running.old.done.lines text bad.now.place → Takes (W.contents writer.old) (W.contents writer.new) (reached running.old) (text ∷ []) (reached running.new)) }
+    ensures ok { OnOk result ((text : List ℕ) → IsBadBehind running.old.done.lines text bad.now.place → TakesLines (W.contents writer.old) (W.contents writer.new) (reached running.old) (text ∷ []) (reached running.new)) }
     ensures err { IfErr result (λ fault. (text : List ℕ) → IsBadBehind running.old.done.lines text bad.now.place → LineStops fault (W.contents writer.old) (W.contents writer.new) (reached running.old) text running.new.output.items) }
 {
     match running.bad_lines {
@@ -186,7 +186,7 @@ pub(crate) fn take_last<W: Write, B: Report>(
     requires pending { IsUnbroken pending.old.items }
     requires few { running.old.done.lines < 2 ^ 62 }
     requires bad { running.old.done.bad ≤ running.old.done.lines }
-    ensures ok { OnOk result (Takes (W.contents writer.old) (W.contents writer.new) (reached running.old) (unended pending.old.items) (reached running.new) × (running.new.output.items ≡ [])) }
+    ensures ok { OnOk result (TakesLines (W.contents writer.old) (W.contents writer.new) (reached running.old) (unended pending.old.items) (reached running.new) × (running.new.output.items ≡ [])) }
     ensures err { IfErr result (λ fault. (to : Option (List ℕ)) → IsAtEnd to → LastStops fault to (W.contents writer.old) (W.contents writer.new) (reached running.old) pending.old.items running.new.output.items) }
 {
     take_unended(alloc, writer, report, pending, running)?;
@@ -205,7 +205,7 @@ fn take_unended<W: Write, B: Report>(
     requires pending { IsUnbroken pending.old.items }
     requires few { running.old.done.lines < 2 ^ 62 }
     requires bad { running.old.done.bad ≤ running.old.done.lines }
-    ensures ok { OnOk result (Takes (W.contents writer.old) (W.contents writer.new) (reached running.old) (unended pending.old.items) (reached running.new)) }
+    ensures ok { OnOk result (TakesLines (W.contents writer.old) (W.contents writer.new) (reached running.old) (unended pending.old.items) (reached running.new)) }
     ensures err { IfErr result (λ fault. (to : Option (List ℕ)) → IsAtEnd to → LastStops fault to (W.contents writer.old) (W.contents writer.new) (reached running.old) pending.old.items running.new.output.items) }
 {
     if pending.is_empty() {

@@ -15,9 +15,9 @@ use Rattle.ds_entry.specs.declared.item.Item.TheVariants.{Change as Changed, Flo
 use Rattle.ds_watch.specs.Mask.{mask, padded}
 use Rattle.ds_watch.proofs.PaddedLemmas.{padded_number}
 use Rattle.ds_machine.specs.Parts.{held_at}
-use Rattle.ds_machine.specs.State.{State, held, accepts, owed}
+use Rattle.ds_machine.specs.State.{State, held, takes_effect, owed}
 use Rattle.ds_machine.specs.Subscription.{is_owed}
-use Rattle.ds_machine.specs.Asking.{Request, change_asked, asked_in, name_of, cause_against, sweep_cause}
+use Rattle.ds_machine.specs.Asking.{AskedChange, change_asked, asked_in, name_of, cause_against, sweep_cause}
 use Rattle.ds_machine.specs.Machine.{Answers, IsOutcome, outcome, asking, answer_for, sweeping, sweep_answer, dropped}
 use Rattle.ds_machine.specs.declared.refusal.Cause.{Cause}
 use Rattle.ds_machine.specs.declared.refusal.Cause.TheVariants as causes
@@ -32,7 +32,7 @@ use Rattle.ds_judge.specs.Last.{IsKindInPlace, IsLast, MayLackRoom}
 use Rattle.ds_judge.specs.Passed.{passed_as}
 use Rattle.ds_judge.proofs.LastLemmas.{last}
 use Rattle.ds_content.specs.Content.{ContentRecord}
-use Rattle.ds_content.specs.Stands.{Stands}
+use Rattle.ds_content.specs.Stands.{ContentStands}
 use Rattle.ds_store.proofs.ReadingLemmas.{refused_last}
 
 -- what the machine itself answers tells want of memory only where it may
@@ -57,31 +57,31 @@ pub owed_number : (s : State) (i : Item) (flags : List Bool) (n : ℕ) → n ≡
 owed_number s i flags n e f = e ∙ ap mask f ∙ padded_number (map (is_owed (i ∷ [])) s.subscriptions)
 
 -- ---- what a caller asks for
-pub asked_refused : (s : State) (a : Request) (body : Body) (cause : Cause) → cause_against s a body ≡ Some cause → IsOutcome (asking s a body) (answer_for cause) s
+pub asked_refused : (s : State) (a : AskedChange) (body : Body) (cause : Cause) → cause_against s a body ≡ Some cause → IsOutcome (asking s a body) (answer_for cause) s
 asked_refused s a body cause e =
-    let result : Option Cause → Reply × State = λ o. option_map_or (λ x. (answer_for x, s)) o (replies.Changed (owed s (Changed (asked_in s a body) ∷ [])), accepts s (Changed (asked_in s a body) ∷ [])) in
+    let result : Option Cause → Reply × State = λ o. option_map_or (λ x. (answer_for x, s)) o (replies.Changed (owed s (Changed (asked_in s a body) ∷ [])), takes_effect s (Changed (asked_in s a body) ∷ [])) in
     record { reply_is = sym (ap (λ o. (result o).0) e); state_is = sym (ap (λ o. (result o).1) e) }
 
-pub asked_taken : (v : ContentRecord) (s : State) (a : Request) (body : Body) (c : ChangeRecord) (bits : ℕ) → Stands v s → cause_against s a body ≡ None → c ≡ change_asked (name_of v.held a.caller) a body → bits ≡ owed s (Changed c ∷ [])
-    → Answers s (asking s a body) (replies.Changed bits) (accepts s (Changed c ∷ []))
+pub asked_taken : (v : ContentRecord) (s : State) (a : AskedChange) (body : Body) (c : ChangeRecord) (bits : ℕ) → ContentStands v s → cause_against s a body ≡ None → c ≡ change_asked (name_of v.held a.caller) a body → bits ≡ owed s (Changed c ∷ [])
+    → Answers s (asking s a body) (replies.Changed bits) (takes_effect s (Changed c ∷ []))
 asked_taken v s a body c bits stands e made owes =
-    let result : Option Cause → Reply × State = λ o. option_map_or (λ x. (answer_for x, s)) o (replies.Changed (owed s (Changed (asked_in s a body) ∷ [])), accepts s (Changed (asked_in s a body) ∷ [])) in
+    let result : Option Cause → Reply × State = λ o. option_map_or (λ x. (answer_for x, s)) o (replies.Changed (owed s (Changed (asked_in s a body) ∷ [])), takes_effect s (Changed (asked_in s a body) ∷ [])) in
     let change : c ≡ asked_in s a body = made ∙ ap (λ (hs : List Item). change_asked (name_of hs a.caller) a body) stands.held in
     inl (record {
       reply_is = ap (λ n. replies.Changed n) (owes ∙ ap (λ (x : ChangeRecord). owed s (Changed x ∷ [])) change) ∙ sym (ap (λ o. (result o).0) e);
-      state_is = ap (λ (x : ChangeRecord). accepts s (Changed x ∷ [])) change ∙ sym (ap (λ o. (result o).1) e);
+      state_is = ap (λ (x : ChangeRecord). takes_effect s (Changed x ∷ [])) change ∙ sym (ap (λ o. (result o).1) e);
     })
 
 -- ---- a sweep
 pub sweep_refused : (s : State) (caller : EndpointRecord) (f : Floor) (cause : Cause) → sweep_cause s caller f ≡ Some cause → IsOutcome (sweeping s caller f) (sweep_answer cause) s
 sweep_refused s caller f cause e =
-    let result : Option Cause → Reply × State = λ o. option_map_or (λ x. (sweep_answer x, s)) o (replies.Swept (length (dropped (held s) f)) (owed s (Floored f ∷ [])), accepts s (Floored f ∷ [])) in
+    let result : Option Cause → Reply × State = λ o. option_map_or (λ x. (sweep_answer x, s)) o (replies.Swept (length (dropped (held s) f)) (owed s (Floored f ∷ [])), takes_effect s (Floored f ∷ [])) in
     record { reply_is = sym (ap (λ o. (result o).0) e); state_is = sym (ap (λ o. (result o).1) e) }
 
-pub sweep_taken : (v : ContentRecord) (s : State) (caller : EndpointRecord) (f : Floor) (count bits : ℕ) → Stands v s → sweep_cause s caller f ≡ None → count ≡ length (dropped v.held f) → bits ≡ owed s (Floored f ∷ [])
-    → IsOutcome (sweeping s caller f) (replies.Swept count bits) (accepts s (Floored f ∷ []))
+pub sweep_taken : (v : ContentRecord) (s : State) (caller : EndpointRecord) (f : Floor) (count bits : ℕ) → ContentStands v s → sweep_cause s caller f ≡ None → count ≡ length (dropped v.held f) → bits ≡ owed s (Floored f ∷ [])
+    → IsOutcome (sweeping s caller f) (replies.Swept count bits) (takes_effect s (Floored f ∷ []))
 sweep_taken v s caller f count bits stands e counted owes =
-    let result : Option Cause → Reply × State = λ o. option_map_or (λ x. (sweep_answer x, s)) o (replies.Swept (length (dropped (held s) f)) (owed s (Floored f ∷ [])), accepts s (Floored f ∷ [])) in
+    let result : Option Cause → Reply × State = λ o. option_map_or (λ x. (sweep_answer x, s)) o (replies.Swept (length (dropped (held s) f)) (owed s (Floored f ∷ [])), takes_effect s (Floored f ∷ [])) in
     record {
       reply_is = ap₂ (λ m n. replies.Swept m n) (counted ∙ ap (λ (hs : List Item). length (dropped hs f)) stands.held) owes ∙ sym (ap (λ o. (result o).0) e);
       state_is = sym (ap (λ o. (result o).1) e);

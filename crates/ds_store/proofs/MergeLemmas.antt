@@ -12,8 +12,6 @@ use Rattle.ds_join.specs.declared.merge.Merge.{Merge}
 use Rattle.ds_join.specs.declared.merge.Merge.TheVariants.{Taken, Known, Stale}
 use Rattle.ds_watch.specs.Mask.{mask, either, padded}
 use Rattle.ds_watch.proofs.PaddedLemmas.{padded_number}
-use Rattle.ds_machine.specs.Limits.{most_items}
-use Rattle.ds_machine.specs.Scope.{is_item_under}
 use Rattle.ds_machine.specs.Subscription.{Subscription, is_owed}
 use Rattle.ds_machine.specs.State.{State, owed}
 use Rattle.ds_machine.specs.Order.{first_refusal}
@@ -30,9 +28,12 @@ use Rattle.ds_machine.specs.declared.refusal.Refusal.TheVariants as refusals
 use Rattle.ds_judge.specs.Passed.{passed_as}
 use Rattle.ds_judge.specs.Last.{IsLast, MayLackItem}
 use Rattle.ds_content.specs.Content.{ContentRecord}
-use Rattle.ds_content.specs.Stands.{Stands}
+use Rattle.ds_content.specs.Stands.{ContentStands}
 use Rattle.ds_content.proofs.EnterLemmas.{few_places}
-use Rattle.ds_store.specs.Merging.{MergesItem, IsStopped, owed_after, taken_by, stale_by}
+use Rattle.ds_store.specs.Merging.{MergesItem, StopsMerge, owed_after, count_taken, stale_by}
+use Rattle.ds_names.specs.Limits.{most_items}
+use Rattle.ds_pattern.specs.Under.{is_under}
+use Rattle.ds_entry.specs.Item.{passes}
 
 -- the counts of a merge that wasn't stopped
 pub record Reached (k : Course) (d n m : ℕ) : Type 0 where
@@ -47,7 +48,7 @@ not_begun s = record { stop = refl; done = refl; taken = refl; stale = refl }
 pub judged : (k : Course) (c : Item) (o : Option Cause) → k.stop ≡ None → cause_of k.state c ≡ o → item_merged k c ≡ item_judged k c o
 judged k c o e f = ap₂ (λ stop x. option_map_or (λ (r : Refusal). k) stop (item_judged k c x)) e f
 
-pub item_done : (k : Course) (c : Item) (join : Merge) (t : State) (d n m : ℕ) → Reached k d n m → MergesItem k.state c (Ok join) t → Reached (item_merged k c) (d + 1) (n + taken_by join) (m + stale_by join) × ((item_merged k c).state ≡ t)
+pub item_done : (k : Course) (c : Item) (join : Merge) (t : State) (d n m : ℕ) → Reached k d n m → MergesItem k.state c (Ok join) t → Reached (item_merged k c) (d + 1) (n + count_taken join) (m + stale_by join) × ((item_merged k c).state ≡ t)
 item_done k c Taken t d n m r is =
     subst (λ (x : Course). Reached x (d + 1) (n + 1) (m + 0) × (x.state ≡ t)) (sym (judged k c None r.stop is.0)) (
       record { stop = r.stop; done = ap (λ x. x + 1) r.done; taken = omega (arith, r.taken, length-append k.taken (c ∷ [])); stale = omega (arith, r.stale) },
@@ -78,7 +79,7 @@ stays k r (c ∷ items) e =
     let same : item_merged k c ≡ k = ap (λ stop. option_map_or (λ (x : Refusal). k) stop (item_judged k c (cause_of k.state c))) e in
     ap (λ (x : Course). fold item_merged x items) same ∙ stays k r items e
 
-pub course_stopped : (s : State) (items : List Item) (i : ℕ) (d : Item) (fault : Refusal) → i < length items → (course s (take i items)).stop ≡ None → IsStopped (course s (take i items)).state (get_or items i d) fault
+pub course_stopped : (s : State) (items : List Item) (i : ℕ) (d : Item) (fault : Refusal) → i < length items → (course s (take i items)).stop ≡ None → StopsMerge (course s (take i items)).state (get_or items i d) fault
     → course s items ≡ record (course s (take i items)) { stop = Some fault }
 course_stopped s items i d fault l e is =
     let k = course s (take i items) in
@@ -96,7 +97,7 @@ pub next_course : (s : State) (items : List Item) (i : ℕ) (c : Item) → slice
 next_course s items i c at =
     course_more s items i c (slice_get_within items i c at) ∙ ap (item_merged (course s (take i items))) (get_or_from_slice_get items i c c at)
 
-pub next_reached : (s : State) (items : List Item) (i : ℕ) (c : Item) (join : Merge) (t : State) (n m x y : ℕ) → slice_get items i ≡ Some c → Reached (course s (take i items)) i n m → MergesItem (course s (take i items)).state c (Ok join) t → x ≡ taken_by join → y ≡ stale_by join
+pub next_reached : (s : State) (items : List Item) (i : ℕ) (c : Item) (join : Merge) (t : State) (n m x y : ℕ) → slice_get items i ≡ Some c → Reached (course s (take i items)) i n m → MergesItem (course s (take i items)).state c (Ok join) t → x ≡ count_taken join → y ≡ stale_by join
     → Reached (course s (take (i + 1) items)) (i + 1) (n + x) (m + y) × (t ≡ (course s (take (i + 1) items)).state)
 next_reached s items i c join t n m x y at r is e f =
     let same = next_course s items i c at in
@@ -121,7 +122,7 @@ merge_stopped s items i c fault t n m o owes few at r is = by_fault is.1
     nothing : o ≡ owed s k.taken
     nothing = owes
 
-    by_fault : (fault ≡ refusals.NoRoom) ⊎ IsStopped k.state c fault → Step s (Merges items) (MergeStopped i fault o) t
+    by_fault : (fault ≡ refusals.NoRoom) ⊎ StopsMerge k.state c fault → Step s (Merges items) (MergeStopped i fault o) t
     by_fault (inl e) = inr (
       i,
       record {
@@ -135,7 +136,7 @@ merge_stopped s items i c fault t n m o owes few at r is = by_fault is.1
     by_fault (inr stop) =
         let this : get_or items i c ≡ c = get_or_from_slice_get items i c c at in
         let there : course s items ≡ record k { stop = Some fault } =
-        course_stopped s items i c fault (slice_get_within items i c at) r.stop (subst (λ (x : Item). IsStopped k.state x fault) (sym this) stop) in
+        course_stopped s items i c fault (slice_get_within items i c at) r.stop (subst (λ (x : Item). StopsMerge k.state x fault) (sym this) stop) in
         let reply : (merging s items (first_refusal (against_merge (length items)))).0 ≡ MergeStopped i fault o =
         ap (λ x. (merging s items x).0) (none_against (length items) few) ∙ ap (merge_reply s) there ∙ ap₂ (λ d b. MergeStopped d fault b) r.done (sym nothing) in
         let state : (merging s items (first_refusal (against_merge (length items)))).1 ≡ k.state =
@@ -161,7 +162,7 @@ merge_done s items i n m o owes few gone within r =
     past : (xs : List Item) (j : ℕ) → slice_get xs j ≡ None → length xs ≤ j
     past xs j e = elim ((slice_get_cases xs j).1) [ inl h ↦ absurd (let no : None ≡ Some h.0 = sym e ∙ h.2 in cc) | inr h ↦ h.0 ]
 
-pub taken_within : (join : Merge) (n d x : ℕ) → x ≡ taken_by join → n ≤ d → n + x ≤ d + 1
+pub taken_within : (join : Merge) (n d x : ℕ) → x ≡ count_taken join → n ≤ d → n + x ≤ d + 1
 taken_within Taken n d x e h = omega (arith, e, h)
 taken_within Known n d x e h = omega (arith, e, h)
 taken_within Stale n d x e h = omega (arith, e, h)
@@ -175,7 +176,7 @@ stale_within Stale n d x e h = omega (arith, e, h)
 either_owed : (xs ys : List Item) (subs : List (Option Subscription)) → map (is_owed (xs ++ ys)) subs ≡ either (map (is_owed xs) subs) (map (is_owed ys) subs)
 either_owed xs ys [] = refl
 either_owed xs ys (None ∷ subs) = ap (λ l. false ∷ l) (either_owed xs ys subs)
-either_owed xs ys (Some sub ∷ subs) = ap₂ ◌∷◌ (list_any-append (is_item_under sub.query) xs ys) (either_owed xs ys subs)
+either_owed xs ys (Some sub ∷ subs) = ap₂ ◌∷◌ (list_any-append (passes (is_under sub.query)) xs ys) (either_owed xs ys subs)
 
 neither : (n : ℕ) → either (replicate n false) (replicate n false) ≡ replicate n false
 neither zero = refl
@@ -200,7 +201,7 @@ none_of (None ∷ subs) n = let e : length (None ∷ subs) + n ≡ suc (length s
 none_of (Some sub ∷ subs) n = let e : length (Some sub ∷ subs) + n ≡ suc (length subs + n) = omega arith in ap (λ m. replicate m false) e ∙ ap (λ l. false ∷ l) (none_of subs n)
 
 -- nothing is owed to none
-pub nothing_owed : (v : ContentRecord) (s : State) → Stands v s → replicate 128 false ≡ padded (map (is_owed []) s.subscriptions)
+pub nothing_owed : (v : ContentRecord) (s : State) → ContentStands v s → replicate 128 false ≡ padded (map (is_owed []) s.subscriptions)
 nothing_owed v s stands =
     let places : length s.subscriptions ≡ v.limits.subs = stands.reached.places ∙ sym (ap (λ l. l.subs) stands.limits) in
     let few = few_places v s (length s.subscriptions) stands places in

@@ -1,7 +1,6 @@
 -- How a run goes on.
-use Rattle.std.proofs.Common.{◌≡◌, List, [], ◌∷◌, ◌++◌, length, take, Result, Ok, Err, refl, ap, sym, ◌∙◌, subst}
+use Rattle.std.proofs.Common.{◌≡◌, List, [], ◌∷◌, ◌++◌, length, take, refl, ap, sym, ◌∙◌, subst}
 use Rattle.std.proofs.Math.Seq.{take-append_seam}
-use Rattle.std.specs.Result.{OnErr}
 use Rattle.ds_machine.specs.State.{State}
 use Rattle.ds_machine.specs.declared.command.Command.{Command}
 use Rattle.ds_machine.specs.declared.reply.Reply.{Reply}
@@ -21,7 +20,3 @@ pub run_first : (front rest commands : List Command) (replies : List Reply) (s t
 run_first front rest commands replies s t e run =
     let first : front ≡ take (length front) commands = sym (take-append_seam front rest) ∙ ap (take (length front)) e in
     (length front, replies, subst (λ (l : List Command). LastRun s l replies t) first run)
-
-pub on_err : {A E : Type 0} (r : Result A E) (P : Type 0) → P → OnErr r P
-on_err (Ok a) P p = tt
-on_err (Err e) P p = p

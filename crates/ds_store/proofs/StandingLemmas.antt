@@ -1,5 +1,5 @@
 -- What is there before a change and before a floor, in a content and in the state that it stands for.
-use Rattle.std.proofs.Common.{◌≡◌, ℕ, ◌<◌, Bool, List, Option, Some, None, IfNone, length, refl, ap, sym, ◌∙◌, subst}
+use Rattle.std.proofs.Common.{◌≡◌, ℕ, Bool, List, Option, Some, None, IfNone, length, refl, ap, sym, ◌∙◌, subst}
 use Rattle.std.specs.Option.{option_map}
 use Rattle.ds_names.specs.Endpoint.{EndpointRecord}
 use Rattle.ds_entry.specs.Change.{ChangeRecord}
@@ -11,22 +11,18 @@ use Rattle.ds_entry.specs.declared.item.Item.{Item}
 use Rattle.ds_entry.specs.declared.item.Item.TheVariants.{Change as Changed, Floor as Floored}
 use Rattle.ds_held.specs.Held.{Holding, held_items, floor_for, is_below, IsSound}
 use Rattle.ds_machine.specs.Parts.{changes_in, floors_in, held_at, floor_at}
-use Rattle.ds_machine.specs.Limits.{last_place}
 use Rattle.ds_machine.specs.State.{State}
 use Rattle.ds_machine.specs.Order.{first_cause}
-use Rattle.ds_machine.specs.Standing.{Standing, FloorStanding, standing_of, floor_standing_of, against_change, against_floor, cause_of}
-use Rattle.ds_machine.specs.Asking.{Request, against_asked, against_sweep, change_asked, name_of, cause_against, sweep_cause}
+use Rattle.ds_machine.specs.Standing.{Standing, FloorStanding, standing_of, against_change, against_floor, cause_of, IsFree, IsFloorFree}
+use Rattle.ds_machine.specs.Asking.{AskedChange, against_asked, against_sweep, change_asked, name_of, cause_against, sweep_cause}
 use Rattle.ds_machine.specs.declared.refusal.Cause.{Cause}
 use Rattle.ds_machine.proofs.PartLemmas.{owner_found}
 use Rattle.ds_judge.specs.Asked.{is_void_under}
-use Rattle.ds_judge.specs.Standing as judge
-use Rattle.ds_judge.specs.Standing.{HasFloorRoom, IsFreeFloor}
-use Rattle.ds_judge.specs.declared.standing.FloorStanding as judge_floor
 use Rattle.ds_content.specs.Content.{ContentRecord}
-use Rattle.ds_content.specs.Free.{IsFree, IsHigher, IsFloorFree}
-use Rattle.ds_content.specs.Stands.{Stands}
+use Rattle.ds_content.specs.Stands.{ContentStands}
 use Rattle.ds_content.proofs.HoldingLemmas.{floor_at-is, void-is}
-use Rattle.ds_store.specs.Standing.{standing_in, floor_standing_in}
+use Rattle.ds_content.specs.Standing.{standing_in, floor_standing_in}
+use Rattle.ds_content.proofs.RoomLemmas.{standing_at, floor_standing_at}
 
 -- ---- floors
 pub floor_back : (held : List Item) (owner : List ℕ) → option_map (floor_of owner) (option_map (λ (f : Floor). f.generation) (floor_at held owner)) ≡ floor_at held owner
@@ -65,52 +61,25 @@ pub told_same : (v : ContentRecord) (c : ChangeRecord) (o : Option ChangeRecord)
     → told o void count most position ≡ standing_in v c
 told_same v c o void count most position p q r x y = λ i. record { held = p i; void = q i; count = r i; most = x i; position = y i }
 
-pub standing_at : (v : ContentRecord) (s : State) (c : ChangeRecord) → Stands v s → standing_in v c ≡ standing_of s c
-standing_at v s c stands =
-    λ i. record {
-      held = held_at (stands.held i) c.key;
-      void = is_void (stands.held i) c;
-      count = length (changes_in (stands.held i));
-      most = (stands.limits i).keys;
-      position = stands.journal.position i;
-    }
-
-pub floor_standing_at : (v : ContentRecord) (s : State) (f : Floor) → Stands v s → floor_standing_in v f ≡ floor_standing_of s f
-floor_standing_at v s f stands =
-    λ i. record { held = floor_at (stands.held i) f.owner; count = length (floors_in (stands.held i)); position = stands.journal.position i }
-
 -- ---- the first cause
-pub asked_cause : (v : ContentRecord) (s : State) (a : Request) (body : Body) (caller : Option (List ℕ)) (t : Standing) (o : Option Cause) → Stands v s → caller ≡ name_of v.held a.caller → t ≡ standing_in v (change_asked caller a body)
+pub asked_cause : (v : ContentRecord) (s : State) (a : AskedChange) (body : Body) (caller : Option (List ℕ)) (t : Standing) (o : Option Cause) → ContentStands v s → caller ≡ name_of v.held a.caller → t ≡ standing_in v (change_asked caller a body)
     → o ≡ first_cause (Some a.version) (against_asked t caller a body) → o ≡ cause_against s a body
 asked_cause v s a body caller t o stands named same first =
     first ∙ ap (λ (x : Standing). first_cause (Some a.version) (against_asked x caller a body)) (same ∙ standing_at v s (change_asked caller a body) stands)
     ∙ ap (λ m. first_cause (Some a.version) (against_asked (standing_of s (change_asked m a body)) m a body)) (named ∙ ap (λ (hs : List Item). name_of hs a.caller) stands.held)
 
-pub change_cause : (v : ContentRecord) (s : State) (c : ChangeRecord) (t : Standing) (o : Option Cause) → Stands v s → t ≡ standing_in v c → o ≡ first_cause (Some c.version) (against_change t c) → o ≡ cause_of s (Changed c)
+pub change_cause : (v : ContentRecord) (s : State) (c : ChangeRecord) (t : Standing) (o : Option Cause) → ContentStands v s → t ≡ standing_in v c → o ≡ first_cause (Some c.version) (against_change t c) → o ≡ cause_of s (Changed c)
 change_cause v s c t o stands same first = first ∙ ap (λ (x : Standing). first_cause (Some c.version) (against_change x c)) (same ∙ standing_at v s c stands)
 
-pub floor_cause : (v : ContentRecord) (s : State) (f : Floor) (t : FloorStanding) (o : Option Cause) → Stands v s → t ≡ floor_standing_in v f → o ≡ first_cause None (against_floor t f) → o ≡ cause_of s (Floored f)
+pub floor_cause : (v : ContentRecord) (s : State) (f : Floor) (t : FloorStanding) (o : Option Cause) → ContentStands v s → t ≡ floor_standing_in v f → o ≡ first_cause None (against_floor t f) → o ≡ cause_of s (Floored f)
 floor_cause v s f t o stands same first = first ∙ ap (λ (x : FloorStanding). first_cause None (against_floor x f)) (same ∙ floor_standing_at v s f stands)
 
-pub swept_cause : (v : ContentRecord) (s : State) (caller : EndpointRecord) (f : Floor) (t : FloorStanding) (o : Option Cause) → Stands v s → t ≡ floor_standing_in v f → o ≡ first_cause None (against_sweep t caller f) → o ≡ sweep_cause s caller f
+pub swept_cause : (v : ContentRecord) (s : State) (caller : EndpointRecord) (f : Floor) (t : FloorStanding) (o : Option Cause) → ContentStands v s → t ≡ floor_standing_in v f → o ≡ first_cause None (against_sweep t caller f) → o ≡ sweep_cause s caller f
 swept_cause v s caller f t o stands same first = first ∙ ap (λ (x : FloorStanding). first_cause None (against_sweep x caller f)) (same ∙ floor_standing_at v s f stands)
 
 -- ---- what is free
-pub none_free : (o : Option Cause) (v : ContentRecord) (c : ChangeRecord) (t : Standing) → t ≡ standing_in v c → IfNone o (judge.IsFree t c) → IfNone o (IsFree v c)
-none_free None v c t e x =
-    let y : judge.IsFree (standing_in v c) c = subst (λ (z : Standing). judge.IsFree z c) e x in
-    record { room = y.room; kept = y.valid; left = y.left }
-none_free (Some cause) v c t e x = tt
+pub none_free : (o : Option Cause) (v : ContentRecord) (c : ChangeRecord) (t : Standing) → t ≡ standing_in v c → IfNone o (IsFree t c) → IfNone o (IsFree (standing_in v c) c)
+none_free o v c t e x = subst (λ (z : Standing). IfNone o (IsFree z c)) e x
 
-higher : (o : Option ℕ) (count : ℕ) (f : Floor) → HasFloorRoom o count f.generation → IsHigher (option_map (floor_of f.owner) o) count f
-higher None count f room = room
-higher (Some g) count f room = room
-
-pub none_floor_free : (o : Option Cause) (v : ContentRecord) (f : Floor) (t : judge_floor.FloorStanding) → judge.machine_floor_standing f.owner t ≡ floor_standing_in v f → IfNone o (IsFreeFloor t f.generation) → IfNone o (IsFloorFree v f)
-none_floor_free None v f t e x =
-    record {
-      higher =
-          subst (λ (y : FloorStanding). IsHigher y.held y.count f) e (higher t.held t.count f x.room);
-      left = subst (λ (y : FloorStanding). y.position < last_place) e x.left;
-    }
-none_floor_free (Some cause) v f t e x = tt
+pub none_floor_free : (o : Option Cause) (v : ContentRecord) (f : Floor) (t : FloorStanding) → t ≡ floor_standing_in v f → IfNone o (IsFloorFree t f) → IfNone o (IsFloorFree (floor_standing_in v f) f)
+none_floor_free o v f t e x = subst (λ (z : FloorStanding). IfNone o (IsFloorFree z f)) e x

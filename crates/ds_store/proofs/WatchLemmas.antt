@@ -21,7 +21,7 @@ use Rattle.ds_judge.specs.Refused.{IsRefusedFor}
 use Rattle.ds_judge.specs.Cases.{refusal_of_showing}
 use Rattle.ds_content.specs.Content.{ContentRecord}
 use Rattle.ds_content.specs.Followed.{followed_of}
-use Rattle.ds_content.specs.Stands.{Stands}
+use Rattle.ds_content.specs.Stands.{ContentStands}
 use Rattle.ds_content.proofs.SeenLemmas.{place_of}
 use Rattle.ds_store.proofs.AnswerLemmas.{last_of}
 
@@ -30,7 +30,7 @@ mapped_some f None = refl
 mapped_some f (Some x) = refl
 
 -- there is a subscription where it has a stamp
-pub taken_is : (v : ContentRecord) (s : State) (sub : ℕ) (o : Option ℕ) → Stands v s → o ≡ option_map (λ (f : Followed). f.stamp) (get_or v.subscriptions sub None) → is_some o ≡ is_some (subscription_at s sub)
+pub taken_is : (v : ContentRecord) (s : State) (sub : ℕ) (o : Option ℕ) → ContentStands v s → o ≡ option_map (λ (f : Followed). f.stamp) (get_or v.subscriptions sub None) → is_some o ≡ is_some (subscription_at s sub)
 taken_is v s sub o stands e =
     ap is_some e ∙ mapped_some (λ (f : Followed). f.stamp) (get_or v.subscriptions sub None) ∙ ap is_some (place_of v s stands sub) ∙ mapped_some (followed_of (held s)) (subscription_at s sub)
 
@@ -52,7 +52,7 @@ module _ (s : State) (sub : ℕ) (query : Query) (initial overwrite : Bool) wher
       let now : first_refusal (against_subscribe (subscribe_case s sub query overwrite)) ≡ Some r = ap (λ (y : SubscribeCase). first_refusal (against_subscribe y)) (sym same) ∙ e in
       inl (record { reply_is = sym (ap (λ o. (subscribed_with o).0) now); state_is = sym (ap (λ o. (subscribed_with o).1) now) })
 
-  pub subscribe_made : (v : ContentRecord) (x : SubscribeCase) (n bits : ℕ) → Stands v s → x ≡ subscribe_case s sub query overwrite → first_refusal (against_subscribe x) ≡ None → n ≡ v.stamp + 1 → bits ≡ owed_at_first v.held sub query initial
+  pub subscribe_made : (v : ContentRecord) (x : SubscribeCase) (n bits : ℕ) → ContentStands v s → x ≡ subscribe_case s sub query overwrite → first_refusal (against_subscribe x) ≡ None → n ≡ v.stamp + 1 → bits ≡ owed_at_first v.held sub query initial
       → Answers s (subscribing s sub query initial overwrite) (Subscribed n bits) (subscribes s sub query (shown_at_first v.held initial))
   subscribe_made v x n bits stands same none e owes =
       let now : first_refusal (against_subscribe (subscribe_case s sub query overwrite)) ≡ None = ap (λ (y : SubscribeCase). first_refusal (against_subscribe y)) (sym same) ∙ none in
@@ -90,7 +90,7 @@ pub record Seen (s : State) (sub stamp : ℕ) : Type 0 where
   pub here : subscription_at s sub ≡ Some seer
   pub stamp_is : stamp ≡ seer.stamp
 
-pub seen_at : (v : ContentRecord) (s : State) (sub n : ℕ) → Stands v s → Some n ≡ option_map (λ (f : Followed). f.stamp) (get_or v.subscriptions sub None) → Seen s sub n
+pub seen_at : (v : ContentRecord) (s : State) (sub n : ℕ) → ContentStands v s → Some n ≡ option_map (λ (f : Followed). f.stamp) (get_or v.subscriptions sub None) → Seen s sub n
 seen_at v s sub n stands e = by_place (subscription_at s sub) refl
   where
     there : Some n ≡ option_map (λ (f : Followed). f.stamp) (option_map (followed_of (held s)) (subscription_at s sub))

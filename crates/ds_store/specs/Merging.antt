@@ -4,7 +4,7 @@ use Rattle.ds_entry.specs.declared.item.Item.{Item}
 use Rattle.ds_join.specs.declared.merge.Merge.{Merge}
 use Rattle.ds_join.specs.declared.merge.Merge.TheVariants as merges
 use Rattle.ds_watch.specs.Mask.{either}
-use Rattle.ds_machine.specs.State.{State, accepts}
+use Rattle.ds_machine.specs.State.{State, takes_effect}
 use Rattle.ds_machine.specs.Standing.{cause_of}
 use Rattle.ds_machine.specs.declared.refusal.Cause.TheVariants as causes
 use Rattle.ds_machine.specs.declared.refusal.Refusal.{Refusal}
@@ -12,16 +12,16 @@ use Rattle.ds_machine.specs.declared.refusal.Refusal.TheVariants as refusals
 use Rattle.ds_judge.specs.Passed.{passed_as}
 
 -- this refusal stands against the item, and stops the merge
-pub record IsStopped (s : State) (i : Item) (fault : Refusal) : Type 0 where
+pub record StopsMerge (s : State) (i : Item) (fault : Refusal) : Type 0 where
   pub stands : cause_of s i ≡ Some (causes.Refused fault)
   pub refuses : passed_as (causes.Refused fault) ≡ Err fault
 
 -- it takes effect, is passed over, or is refused, also for want of memory
 abbrev pub MergesItem : State → Item → Result Merge Refusal → State → Type 0
-MergesItem s i (Ok merges.Taken) t = (cause_of s i ≡ None) × (t ≡ accepts s (i ∷ []))
+MergesItem s i (Ok merges.Taken) t = (cause_of s i ≡ None) × (t ≡ takes_effect s (i ∷ []))
 MergesItem s i (Ok merges.Known) t = (cause_of s i ≡ Some causes.Known) × (t ≡ s)
 MergesItem s i (Ok merges.Stale) t = (cause_of s i ≡ Some (causes.Refused refusals.Stale)) × (t ≡ s)
-MergesItem s i (Err fault) t = (t ≡ s) × ((fault ≡ refusals.NoRoom) ⊎ IsStopped s i fault)
+MergesItem s i (Err fault) t = (t ≡ s) × ((fault ≡ refusals.NoRoom) ⊎ StopsMerge s i fault)
 
 -- the flags of those to which the items are owed that were taken: those of one more are added
 abbrev pub owed_after : Result Merge Refusal → List Bool → List Bool → List Bool
@@ -31,10 +31,10 @@ owed_after (Ok merges.Stale) total more = total
 owed_after (Err fault) total more = total
 
 -- how many items are taken by this, and how many are stale
-abbrev pub taken_by : Merge → ℕ
-taken_by merges.Taken = 1
-taken_by merges.Known = 0
-taken_by merges.Stale = 0
+abbrev pub count_taken : Merge → ℕ
+count_taken merges.Taken = 1
+count_taken merges.Known = 0
+count_taken merges.Stale = 0
 
 abbrev pub stale_by : Merge → ℕ
 stale_by merges.Taken = 0

@@ -3,9 +3,9 @@ use Rattle.std.specs.Prelude.{ℕ, ◌<◌, ◌≤◌}
 use Rattle.ds_feed.specs.declared.journal.OpenFault.{OpenFault}
 use Rattle.ds_feed.specs.declared.journal.OpenFault.TheVariants as faults
 use Rattle.ds_feed.specs.Kept.{IsRing}
-use Rattle.ds_machine.specs.Limits.{last_place}
 use Rattle.ds_machine.specs.declared.refusal.Refusal.{Refusal}
 use Rattle.ds_machine.specs.declared.refusal.Refusal.TheVariants.{BadRing, BadFirst, NoRoom}
+use Rattle.ds_names.specs.Limits.{last_place}
 
 -- first for the ring, and then for the first position; memory for the ring is wanting only where neither stands
 abbrev pub IsOpenRefusal : Refusal → ℕ → ℕ → Type 0

@@ -2,7 +2,7 @@
 
 ghost use Rattle.std.specs.Prelude.{◌≡◌, IfOk, OnErr};
 ghost use Rattle.ds_machine.specs.State.{State};
-ghost use Rattle.ds_content.specs.Stands.{Stands};
+ghost use Rattle.ds_content.specs.Stands.{ContentStands};
 ghost use Rattle.ds_store.specs.Run.{LastRun, RunsFirst};
 
 use crate::store::Store;
@@ -13,8 +13,8 @@ use std::alloc::Global;
 /// Gives the store the commands in order. Its replies are those of a run of the store's machine, whatever
 /// the store is made of. `NoRoom` where there is no room for a reply; the store has answered up to there.
 pub fn run(alloc: Global, store: &mut Store, commands: Vec<Command>) -> Result<Vec<Reply>, NoRoom>
-    ensures done { IfOk result (λ replies. (s : State) → Stands store.old s → (t : State) × LastRun s commands.items replies.items t × Stands store.new t) }
-    ensures stopped { OnErr result ((s : State) → Stands store.old s → (t : State) × RunsFirst s commands.items t × Stands store.new t) }
+    ensures done { IfOk result (λ replies. (s : State) → ContentStands store.old s → (t : State) × LastRun s commands.items replies.items t × ContentStands store.new t) }
+    ensures stopped { OnErr result ((s : State) → ContentStands store.old s → (t : State) × RunsFirst s commands.items t × ContentStands store.new t) }
 {
     let mut replies = Vec::new(alloc);
     for command in commands {

@@ -4,14 +4,14 @@ ghost use Rattle.std.specs.Prelude.{◌≡◌, ◌≢◌, ◌≤◌, IfOk, IfErr
 ghost use Rattle.ds_feed.specs.Kept.{cursor_of, IsRing};
 ghost use Rattle.ds_held.specs.Held.{held_items, IsSound};
 ghost use Rattle.ds_held.specs.Limits.{larger};
-ghost use Rattle.ds_machine.specs.Limits.{last_place};
 ghost use Rattle.ds_machine.specs.State.{State, opening};
 ghost use Rattle.ds_machine.specs.Machine.{Step};
 ghost use Rattle.ds_machine.specs.Says.{IsReplyTo};
 ghost use Rattle.ds_judge.specs.Last.{IsLast};
-ghost use Rattle.ds_content.specs.Stands.{Stands};
+ghost use Rattle.ds_content.specs.Stands.{ContentStands};
 ghost use Rattle.ds_store.specs.Opening.{IsOpenRefusal, refusal_of_opening};
 ghost use Rattle.ds_store.specs.InPlace.{TakesNoMemory};
+ghost use Rattle.ds_names.specs.Limits.{last_place};
 
 use ds_content::Content;
 use ds_entry::{Body, Floor};
@@ -60,7 +60,7 @@ impl Store {
     /// subscriptions and 4096 keys. BadRing unless the ring is 1 to 4096, then BadFirst above 2^62, and NoRoom last, for the
     /// ring.
     pub fn open(alloc: Global, incarnation: u64, first: u64, ring: u32) -> Result<Store, Refusal>
-        ensures opened { IfOk result (λ store. Stands store (opening incarnation first ring larger)) }
+        ensures opened { IfOk result (λ store. ContentStands store (opening incarnation first ring larger)) }
         ensures fits { OnOk result (IsRing ring × (first ≤ last_place)) }
         ensures refused { IfErr result (λ refusal. IsOpenRefusal refusal first ring) }
     {
@@ -75,7 +75,7 @@ impl Store {
         ring: u32,
         limits: Limits,
     ) -> Result<Store, Refusal>
-        ensures opened { IfOk result (λ store. Stands store (opening incarnation first ring limits)) }
+        ensures opened { IfOk result (λ store. ContentStands store (opening incarnation first ring limits)) }
         ensures fits { OnOk result (IsRing ring × (first ≤ last_place)) }
         ensures refused { IfErr result (λ refusal. IsOpenRefusal refusal first ring) }
     {
@@ -88,7 +88,7 @@ impl Store {
     /// Begins again as another incarnation, as it was opened: with its first position, ring and limits, and nothing held. It
     /// takes no memory.
     pub fn restart(&mut self, incarnation: u64)
-        ensures { (s : State) → Stands self.old s → Stands self.new (opening incarnation s.feed.first s.feed.ring s.limits) }
+        ensures { (s : State) → ContentStands self.old s → ContentStands self.new (opening incarnation s.feed.first s.feed.ring s.limits) }
     {
         self.content.restart(incarnation);
     }
@@ -100,9 +100,9 @@ impl Store {
     /// which is read in its place. Every refusal but a stopped Merge leaves the store as it was. NameOf, and Retrieve of a
     /// label or a number, take no memory.
     pub fn apply(&mut self, command: Command) -> Reply
-        ensures step { (s : State) → Stands self.old s → (t : State) × Step s command result t × Stands self.new t }
+        ensures step { (s : State) → ContentStands self.old s → (t : State) × Step s command result t × ContentStands self.new t }
         ensures in_place { TakesNoMemory command → result ≢ Reply.Refused Refusal.NoRoom }
-        ensures last { (s : State) → Stands self.old s → IsLast s command result }
+        ensures last { (s : State) → ContentStands self.old s → IsLast s command result }
         ensures fits { IsReplyTo command result }
     {
         let _stood = self.cursor();
@@ -148,7 +148,7 @@ impl Store {
         ensures value { held_items result.now ≡ self.now.held }
         ensures limits { result.now.limits ≡ self.now.limits }
         ensures sound { IsSound result.now }
-        ensures stood { (s : State) × Stands self.now s }
+        ensures stood { (s : State) × ContentStands self.now s }
     {
         self.content.held()
     }
@@ -157,7 +157,7 @@ impl Store {
     pub fn cursor(&self) -> Cursor
         ensures value { result ≡ cursor_of self.now.journal }
         ensures limit { result.position ≤ last_place }
-        ensures stood { (s : State) × Stands self.now s }
+        ensures stood { (s : State) × ContentStands self.now s }
     {
         self.content.cursor()
     }

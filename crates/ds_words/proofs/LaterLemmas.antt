@@ -8,7 +8,7 @@ use Rattle.ds_words.specs.declared.command.ScriptCommand.{ScriptCommand}
 use Rattle.ds_words.specs.declared.command.ScriptCommand.TheVariants.{Show}
 use Rattle.ds_words.specs.declared.fault.CommandFault.{CommandFault}
 use Rattle.ds_words.specs.declared.fault.CommandFault.TheVariants.{BadLine, NoRoom}
-use Rattle.ds_words.specs.Command.{word_of, behind_word, command_parts, IsCommand, IsFaultAmong, IsCommandFault, Reads}
+use Rattle.ds_words.specs.Command.{word_of, behind_word, command_parts, IsCommand, IsFaultAmong, IsCommandFault, ReadsCommand}
 use Rattle.ds_words.specs.Later.{IsLater, ReadsLater}
 use Rattle.ds_words.specs.World.{ring_word}
 use Rattle.ds_words.proofs.LineLemmas.{code}
@@ -61,7 +61,7 @@ fault_later line place other fault =
 may_stand : (line : List ℕ) (command : ScriptCommand) → ((after : List ℕ) → ¬ Begins is_ascii_alphanumeric line ring_word after) → IsCommand command → line ≡ texts (command_parts command) → IsLater command
 may_stand line command other can text = (can, other_word command line (texts (behind_word command)) other (word_begins command line text))
 
-pub reads_later : (line : List ℕ) (result : Result ScriptCommand CommandFault) → ((after : List ℕ) → ¬ Begins is_ascii_alphanumeric line ring_word after) → Reads line result → ReadsLater line result
+pub reads_later : (line : List ℕ) (result : Result ScriptCommand CommandFault) → ((after : List ℕ) → ¬ Begins is_ascii_alphanumeric line ring_word after) → ReadsCommand line result → ReadsLater line result
 reads_later line (Ok command) other h = (may_stand line command other h.0 h.1, h.1)
 reads_later line (Err (BadLine place expected)) other h = fault_later line place other h
 reads_later line (Err NoRoom) other h = (h.0, may_stand line h.0 other h.1 h.2, h.2, h.3)

@@ -9,7 +9,7 @@ use Rattle.ds_line.proofs.PieceLemmas.{One}
 use Rattle.ds_words.specs.declared.command.ScriptCommand.{ScriptCommand}
 use Rattle.ds_words.specs.declared.word.Word.{Word as CommandWord}
 use Rattle.ds_words.specs.declared.word.Word.TheVariants as words
-use Rattle.ds_words.specs.Lines.{ended}
+use Rattle.ds_words.specs.Lines.{with_newline}
 use Rattle.ds_words.specs.Command.{behind_word, IsLineOf}
 use Rattle.ds_words.specs.Pieces.{taken_by, text_of}
 use Rattle.ds_words.proofs.LineLemmas.{publish_one, delete_one, sweep_one, retrieve_one, nameof_one}
@@ -46,8 +46,8 @@ one_taken words.Page = page_one
 pub one_command : (c d : ScriptCommand) (line : List ℕ) → IsLineOf c line → IsLineOf d line → c ≡ d
 one_command c d line of_c of_d =
     let w = word_there c in
-    let begins_c = subst (λ (t : List ℕ). Begins is_ascii_alphanumeric (ended line) t (texts (behind_word c))) w.1 (word_begins c (ended line) of_c.text) in
-    let one = one_word d (ended line) (text_of w.0) (texts (behind_word d)) (texts (behind_word c)) (text_is w.0) (word_begins d (ended line) of_d.text) begins_c in
+    let begins_c = subst (λ (t : List ℕ). Begins is_ascii_alphanumeric (with_newline line) t (texts (behind_word c))) w.1 (word_begins c (with_newline line) of_c.text) in
+    let one = one_word d (with_newline line) (text_of w.0) (texts (behind_word d)) (texts (behind_word c)) (text_is w.0) (word_begins d (with_newline line) of_d.text) begins_c in
     let stands_c : Stand (length (behind_word c)) (behind_word c) (texts (behind_word c)) [] = subst (λ (t : List ℕ). Stand (length (behind_word c)) (behind_word c) t []) (append-nil (texts (behind_word c))) (command_stands c) in
     let stands_d : Stand (length (behind_word d)) (behind_word d) (texts (behind_word d)) [] = subst (λ (t : List ℕ). Stand (length (behind_word d)) (behind_word d) t []) (append-nil (texts (behind_word d))) (command_stands d) in
     let found_c : Found (taken_by (text_of w.0)) c (texts (behind_word c)) [] = record { can = (of_c.written, w.1); front = stands_c } in

@@ -5,7 +5,6 @@ use Rattle.ds_names.specs.declared.kind.Kind.TheVariants.{U32}
 use Rattle.ds_names.specs.declared.key.Key.{Key}
 use Rattle.ds_names.specs.declared.version.Version.{Version}
 use Rattle.ds_entry.specs.declared.body.Value.{Value}
-use Rattle.ds_entry.specs.Change.{rs_name}
 use Rattle.ds_line.specs.Piece.{Piece, Found, StopsIn}
 use Rattle.ds_line.specs.declared.part_fault.PartFault.{PartFault}
 use Rattle.ds_line.specs.declared.part_fault.PartFault.TheVariants.{BadPart, NoRoom}
@@ -14,12 +13,14 @@ use Rattle.ds_line.proofs.PieceLemmas.{One, behind, Goes, Views, view_found, vie
 use Rattle.ds_words.specs.declared.command.ScriptCommand.{ScriptCommand}
 use Rattle.ds_words.specs.declared.command.ScriptCommand.TheVariants.{Publish, Delete, Sweep, Retrieve, NameOf}
 use Rattle.ds_words.specs.Command.{IsVersion, behind_word, publish_word, delete_word, sweep_word, retrieve_word, nameof_word}
-use Rattle.ds_words.specs.Pieces.{an_endpoint, a_mode, a_name, a_key, a_generation, a_version, a_value, WantsRoom, an_end, taken_by, Takes}
-use Rattle.ds_words.proofs.PieceLemmas.{endpoint_fixed, endpoint_one, mode_fixed, mode_one, name_fixed, name_one, key_fixed, key_one, generation_fixed, generation_one, version_fixed, version_one, value_of}
+use Rattle.ds_words.specs.Pieces.{an_endpoint, a_mode, a_name, a_key, a_generation, a_version, a_value, ValueWantsRoom, an_end, taken_by, TakesCommand}
+use Rattle.ds_words.proofs.PieceLemmas.{endpoint_fixed, endpoint_one, mode_fixed, mode_one, name_fixed, name_one, key_fixed, key_one, generation_fixed, generation_one, version_fixed, version_one}
 use Rattle.ds_words.proofs.OneLemmas.{one_behind, one_view, end_one, marked_one}
+use Rattle.ds_names.specs.Name.{rs_name}
+use Rattle.ds_line.proofs.LastValueLemmas.{some_value_of}
 
 -- a line that can't be read, and that there is room for
-pub takes_stop : (word bytes : List ℕ) (stop : PartFault) → stop ≢ NoRoom → StopsIn (taken_by word) stop bytes → Takes word bytes (Err stop)
+pub takes_stop : (word bytes : List ℕ) (stop : PartFault) → stop ≢ NoRoom → StopsIn (taken_by word) stop bytes → TakesCommand word bytes (Err stop)
 takes_stop word bytes (BadPart left) room s = s
 takes_stop word bytes NoRoom room s = absurd (room refl)
 
@@ -60,7 +61,7 @@ publish_view = record {
 }
 
 publish_key_goes : Goes a_key publish_version
-publish_key_goes key can = ((version_of 0 0, some_value key.kind), (some_version, value_of key.kind))
+publish_key_goes key can = ((version_of 0 0, some_value key.kind), (some_version, some_value_of key.kind))
 
 publish_mode_goes : Goes a_mode (λ (_ : Bool). publish_key)
 publish_mode_goes mode can = ((some_key, (publish_key_goes some_key rs_is_name).0), (rs_is_name, (publish_key_goes some_key rs_is_name).1))
@@ -89,7 +90,7 @@ publish_behind_key caller mode key stop bytes r1 r2 r3 f1 f2 f3 s = publish_behi
 pub publish_version_stops : (caller : EndpointRecord) (mode : Bool) (key : Key) (stop : PartFault) (bytes r1 r2 r3 : List ℕ) → Found an_endpoint caller bytes r1 → Found a_mode mode r1 r2 → Found a_key key r2 r3 → stop ≢ NoRoom → StopsIn a_version stop r3
     → StopsIn (taken_by publish_word) stop bytes
 publish_version_stops caller mode key stop bytes r1 r2 r3 f1 f2 f3 room s =
-    publish_behind_key caller mode key stop bytes r1 r2 r3 f1 f2 f3 (first_stops a_version (λ _. a_value key.kind) 4 stop r3 version_fixed (λ version can. (some_value key.kind, value_of key.kind)) room s)
+    publish_behind_key caller mode key stop bytes r1 r2 r3 f1 f2 f3 (first_stops a_version (λ _. a_value key.kind) 4 stop r3 version_fixed (λ version can. (some_value key.kind, some_value_of key.kind)) room s)
 
 pub publish_value_stops : (caller : EndpointRecord) (mode : Bool) (key : Key) (version : Version) (stop : PartFault) (bytes r1 r2 r3 r4 : List ℕ) → Found an_endpoint caller bytes r1 → Found a_mode mode r1 r2 → Found a_key key r2 r3 → Found a_version version r3 r4
     → StopsIn (a_value key.kind) stop r4 → StopsIn (taken_by publish_word) stop bytes
@@ -106,7 +107,7 @@ publish_found caller mode key version value bytes r1 r2 r3 r4 rest f1 f2 f3 f4 f
 
 -- the value can't be read, or there is no room for it
 pub publish_value_takes : (caller : EndpointRecord) (mode : Bool) (key : Key) (version : Version) (stop : PartFault) (bytes r1 r2 r3 r4 : List ℕ) → Found an_endpoint caller bytes r1 → Found a_mode mode r1 r2 → Found a_key key r2 r3 → Found a_version version r3 r4
-    → StopsIn (a_value key.kind) stop r4 → (stop ≡ NoRoom → WantsRoom key.kind r4) → Takes publish_word bytes (Err stop)
+    → StopsIn (a_value key.kind) stop r4 → (stop ≡ NoRoom → ValueWantsRoom key.kind r4) → TakesCommand publish_word bytes (Err stop)
 publish_value_takes caller mode key version (BadPart left) bytes r1 r2 r3 r4 f1 f2 f3 f4 s wants = publish_value_stops caller mode key version (BadPart left) bytes r1 r2 r3 r4 f1 f2 f3 f4 s
 publish_value_takes caller mode key version NoRoom bytes r1 r2 r3 r4 f1 f2 f3 f4 s wants =
     let w = wants refl in (Publish caller key version w.0 mode, w.1, publish_found caller mode key version w.0 bytes r1 r2 r3 r4 w.1 f1 f2 f3 f4 w.2, w.3)

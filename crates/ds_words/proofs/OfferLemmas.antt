@@ -2,13 +2,13 @@
 use Rattle.std.proofs.Common.{◌≡◌, ◌≢◌, ℕ, ◌-◌, ◌≤◌, List, ◌∷◌, ◌++◌, length, take, drop, Err, refl, sym, ap, subst, ◌∙◌, arith, take-append-drop}
 use Rattle.ds_names.specs.declared.kind.Kind.TheVariants.{U32}
 use Rattle.ds_entry.specs.declared.body.Body.TheVariants.{Gone}
-use Rattle.ds_entry.specs.Change.{ChangeRecord, change_of, rs_name}
+use Rattle.ds_entry.specs.Change.{ChangeRecord, change_of}
 use Rattle.ds_entry.specs.Item.{IsItem}
 use Rattle.ds_entry.specs.declared.item.Item.{Item}
 use Rattle.ds_entry.specs.declared.item.Item.TheVariants.{Change as Changed, Floor as Floored}
 use Rattle.ds_line.specs.ItemSpelling.{item_parts, item_spelling}
 use Rattle.ds_line.specs.ItemFault.{IsItemFault}
-use Rattle.ds_line.specs.FaultPlace.{Stand, TakesRoom}
+use Rattle.ds_line.specs.FaultPlace.{Stand, LineTakesRoom}
 use Rattle.ds_line.specs.Piece.{Piece, Found, StopsIn}
 use Rattle.ds_line.specs.declared.part_fault.PartFault.{PartFault}
 use Rattle.ds_line.specs.declared.part_fault.PartFault.TheVariants.{BadPart, NoRoom}
@@ -19,10 +19,11 @@ use Rattle.ds_line.proofs.PieceLemmas.{One, Views, view_found, view_stops, after
 use Rattle.ds_words.specs.declared.command.ScriptCommand.{ScriptCommand}
 use Rattle.ds_words.specs.declared.command.ScriptCommand.TheVariants.{Offer, Show, All as Everything}
 use Rattle.ds_words.specs.Command.{behind_word, offer_word, show_word, all_word}
-use Rattle.ds_words.specs.Pieces.{an_end, taken_by, Takes}
+use Rattle.ds_words.specs.Pieces.{an_end, taken_by, TakesCommand}
 use Rattle.ds_words.proofs.PieceLemmas.{no_byte}
 use Rattle.ds_words.proofs.LineLemmas.{code}
 use Rattle.ds_words.proofs.OneLemmas.{one_view, end_one, one_byte}
+use Rattle.ds_names.specs.Name.{rs_name}
 
 -- ---- offer
 
@@ -86,7 +87,7 @@ pub offer_found : (bytes text : List ℕ) (i : Item) (n : ℕ) → bytes ≡ 32 
 offer_found bytes text i n space line is = offer_stands bytes text (drop n text) i space line (sym (take-append-drop n text) ∙ ap (λ (t : List ℕ). t ++ drop n text) is)
 
 -- there is no room for it
-pub offer_no_room : (bytes text : List ℕ) → bytes ≡ 32 ∷ text → TakesRoom text → Takes offer_word bytes (Err NoRoom)
+pub offer_no_room : (bytes text : List ℕ) → bytes ≡ 32 ∷ text → LineTakesRoom text → TakesCommand offer_word bytes (Err NoRoom)
 offer_no_room bytes text space room = (Offer (Changed room.change), room.rest, offer_stands bytes text room.rest (Changed room.change) space room.line room.front, room.value)
 
 -- ---- show and all

@@ -1,43 +1,14 @@
 -- Pieces of which one has more parts than another.
-use Rattle.std.proofs.Common.{◌≡◌, ◌≢◌, ℕ, zero, suc, ◌+◌, ◌-◌, ◌<◌, ◌≤◌, inl, inr, List, [], ◌∷◌, ◌++◌, length, refl, sym, ap, subst, length-append, arith}
+use Rattle.std.proofs.Common.{◌≡◌, ◌≢◌, ℕ, suc, ◌+◌, ◌-◌, ◌<◌, ◌≤◌, inl, inr, List, ◌++◌, length, refl, sym, ap, subst, length-append, arith}
 use Rattle.std.proofs.lemmas.Bool.{cases_lt}
-use Rattle.ds_line.specs.Part.{Part}
 use Rattle.ds_line.specs.FaultPlace.{Stand}
 use Rattle.ds_line.specs.Piece.{Piece, Found, Breaks, StopsIn}
 use Rattle.ds_line.specs.declared.part_fault.PartFault.{PartFault}
 use Rattle.ds_line.specs.declared.part_fault.PartFault.TheVariants.{BadPart, NoRoom}
-use Rattle.ds_line.proofs.PieceLemmas.{One, Goes, behind, stand_split, both_found}
+use Rattle.ds_line.proofs.PieceLemmas.{One, Goes, behind, stand_split, both_found, stand_wider, stand_cut, stand_join}
+use Rattle.ds_line.proofs.PlaceLemmas.{fewer}
 
 -- ---- parts that stand in a row
-
-pub stand_less : (j k : ℕ) (xs : List Part) (bytes rest : List ℕ) → j ≤ k → Stand k xs bytes rest → (mid : List ℕ) × Stand j xs bytes mid
-stand_less zero k xs bytes rest le h = (bytes, refl)
-stand_less (suc j) zero xs bytes rest le h = absurd (omega (arith, le))
-stand_less (suc j) (suc k) [] bytes rest le h = absurd h
-stand_less (suc j) (suc k) (x ∷ xs) bytes rest le h = let more = stand_less j k xs h.0 rest (omega (arith, le)) h.2 in (more.0, (h.0, h.1, more.1))
-
-stand_wider : (k : ℕ) (xs ys : List Part) (bytes rest : List ℕ) → Stand k xs bytes rest → Stand k (xs ++ ys) bytes rest
-stand_wider zero xs ys bytes rest h = h
-stand_wider (suc k) [] ys bytes rest h = absurd h
-stand_wider (suc k) (x ∷ xs) ys bytes rest h = (h.0, h.1, stand_wider k xs ys h.0 rest h.2)
-
-stand_cut : (k : ℕ) (xs ys : List Part) (bytes rest : List ℕ) → k ≤ length xs → Stand k (xs ++ ys) bytes rest → Stand k xs bytes rest
-stand_cut zero xs ys bytes rest le h = h
-stand_cut (suc k) [] ys bytes rest le h = absurd (omega (arith, le))
-stand_cut (suc k) (x ∷ xs) ys bytes rest le h = (h.0, h.1, stand_cut k xs ys h.0 rest (omega (arith, le)) h.2)
-
-stand_join : (n k : ℕ) (xs ys : List Part) (bytes mid rest : List ℕ) → n ≡ length xs + k → Stand (length xs) xs bytes mid → Stand k ys mid rest → Stand n (xs ++ ys) bytes rest
-stand_join n k [] ys bytes mid rest eq first second =
-    let same : k ≡ n = omega (arith, eq) in
-    subst (λ (b : List ℕ). Stand n ys b rest) (sym first) (subst (λ (c : ℕ). Stand c ys mid rest) same second)
-stand_join zero k (x ∷ xs) ys bytes mid rest eq first second = absurd (omega (arith, eq))
-stand_join (suc n) k (x ∷ xs) ys bytes mid rest eq first second = (first.0, first.1, stand_join n k xs ys first.0 mid rest (omega (arith, eq)) first.2 second)
-
--- no more of the parts stand there than there are
-pub stand_fits : (k : ℕ) (xs : List Part) (bytes rest : List ℕ) → Stand k xs bytes rest → k ≤ length xs
-stand_fits zero xs bytes rest h = omega arith
-stand_fits (suc k) [] bytes rest h = absurd h
-stand_fits (suc k) (x ∷ xs) bytes rest h = omega (arith, stand_fits k xs h.0 rest h.2)
 
 -- ---- one piece, and behind it another
 
@@ -88,7 +59,7 @@ open_then p q a bytes r rest apart one found s =
           elim (cases_lt (suc (length (p.parts a) + s.count)) (length (p.parts x.0))) [
             | inl lt ↦
                 (let whole = stand_cut (suc (length (p.parts a) + s.count)) (p.parts x.0) ((q x.0).parts x.1) bytes after (omega (arith, lt)) h in
-                let less = stand_less (suc (length (p.parts a))) (suc (length (p.parts a) + s.count)) (p.parts x.0) bytes after (omega arith) whole in
+                let less = fewer (suc (length (p.parts a))) (suc (length (p.parts a) + s.count)) (p.parts x.0) bytes after (omega arith) whole in
                 apart a x.0 bytes r less.0 found can.0 (omega (arith, lt)) less.1)
             | inr le ↦
                 (let k = suc (length (p.parts a) + s.count) - length (p.parts x.0) in
@@ -107,7 +78,7 @@ pub first_counts : (p : Piece) (q : p.Of → Piece) (a : p.Of) (b : (q a).Of) (b
 first_counts p q a b bytes r rest found can s =
     elim (cases_lt s.count (length (p.parts a))) [
       | inl lt ↦
-          (let less = stand_less (suc s.count) (length (p.parts a)) (p.parts a) bytes r (omega (arith, lt)) found.front in
+          (let less = fewer (suc s.count) (length (p.parts a)) (p.parts a) bytes r (omega (arith, lt)) found.front in
           absurd (s.most (a, b) less.0 (found.can, can) (stand_wider (suc s.count) (p.parts a) ((q a).parts b) bytes less.0 less.1)))
       | inr le ↦ le
     ]

@@ -10,7 +10,7 @@ use Rattle.ds_words.specs.declared.command.ScriptCommand.{ScriptCommand}
 use Rattle.ds_words.specs.declared.command.ScriptCommand.TheVariants.{Page}
 use Rattle.ds_words.specs.Command.{behind_word}
 use Rattle.ds_words.specs.Page.{page_word, a_range}
-use Rattle.ds_words.specs.Pieces.{an_end, taken_by, Takes}
+use Rattle.ds_words.specs.Pieces.{an_end, taken_by, TakesCommand}
 use Rattle.ds_words.specs.Scope.{a_scope, Writes}
 use Rattle.ds_words.proofs.LineLemmas.{code}
 use Rattle.ds_words.proofs.OpenLemmas.{open_first_stops, open_then_stops}
@@ -55,7 +55,7 @@ page_found text kinds scope same range bytes r1 r2 rest first second f1 f2 f3 =
     subst (λ (s : Option Query). Found (taken_by page_word) (Page s range.0 range.1) bytes rest) (written_one text kinds scope same first second) (page_whole scope range bytes r1 r2 rest f1 f2 f3)
 
 pub page_no_room : (text : List ℕ) (kinds : Option ℕ) (scope : Option Query) (range : Option Key × ℕ) (bytes r1 r2 rest : List ℕ) → kinds ≢ None → Writes text kinds scope → Found a_scope scope bytes r1 → Found a_range range r1 r2 → Found an_end tt r2 rest
-    → Takes page_word bytes (Err NoRoom)
+    → TakesCommand page_word bytes (Err NoRoom)
 page_no_room text kinds scope range bytes r1 r2 rest some writes f1 f2 f3 = (Page scope range.0 range.1, rest, page_whole scope range bytes r1 r2 rest f1 f2 f3, takes_memory text kinds scope writes some)
 
 page_back : (m : ScriptCommand) (can : (taken_by page_word).Can m) → page_view.to (page_from m can).0 ≡ m

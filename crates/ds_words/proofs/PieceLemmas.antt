@@ -4,24 +4,24 @@ use Rattle.std.specs.Char.{is_ascii_digit, is_ascii_alphanumeric}
 use Rattle.std.specs.Fmt.{decimal}
 use Rattle.std.specs.List.{list_all}
 use Rattle.std.proofs.lemmas.Fmt.{decimal_injective}
-use Rattle.ds_names.specs.Name.{is_name_byte, IsName}
+use Rattle.ds_names.specs.Name.{is_name_byte, IsName, rs_name}
 use Rattle.ds_names.specs.Endpoint.{EndpointRecord, IsEndpoint, endpoint_of, endpoint_text}
 use Rattle.ds_names.specs.Run.{Begins}
 use Rattle.ds_names.specs.declared.kind.Kind.{Kind}
 use Rattle.ds_names.specs.declared.kind.Kind.TheVariants.{U32}
 use Rattle.ds_names.proofs.DecimalLemmas.{endpoint_text_one}
-use Rattle.ds_entry.specs.Change.{rs_name}
 use Rattle.ds_line.specs.Part.{Part, part, run_of, Word, Name, Number, Endpoint}
 use Rattle.ds_line.specs.Spelling.{kind_word}
-use Rattle.ds_line.specs.Piece.{Piece, Found, StopsIn, IsValueOf, last_value, StopsValue}
+use Rattle.ds_line.specs.Piece.{Piece, Found, StopsIn, last_value, StopsValue}
 use Rattle.ds_line.specs.declared.part_fault.PartFault.{PartFault}
 use Rattle.ds_line.specs.declared.part_fault.PartFault.TheVariants.{BadPart, NoRoom}
-use Rattle.ds_line.proofs.LabelLemmas.{rs_is_name, some_value, some_kind, some_is}
+use Rattle.ds_line.proofs.LabelLemmas.{rs_is_name, some_value}
 use Rattle.ds_line.proofs.PartLemmas.{part_one}
 use Rattle.ds_line.proofs.OpeningLemmas.{text_at, word_is_word, word_one, key_is, version_is}
 use Rattle.ds_line.proofs.PieceLemmas.{behind, Fixed, One, one_by, Views, view_stops, first_stops, then_stops, after_byte, part_missing, byte_missing, byte_found, byte_stops, stops_from}
 use Rattle.ds_words.specs.Command.{initial_word, mode_word}
-use Rattle.ds_words.specs.Pieces.{an_endpoint, an_initial, a_mode, a_name, a_kind, a_key, a_generation, a_seq, a_version, a_number, a_place, a_kinds, a_value, WantsRoom, an_end}
+use Rattle.ds_words.specs.Pieces.{an_endpoint, an_initial, a_mode, a_name, a_kind, a_key, a_generation, a_seq, a_version, a_number, a_place, a_kinds, a_value, ValueWantsRoom, an_end}
+use Rattle.ds_line.proofs.LastValueLemmas.{some_value_of}
 
 -- ---- a byte, and behind it one part
 
@@ -248,9 +248,6 @@ version_one =
 
 -- ---- values
 
-pub value_of : (kind : Kind) → IsValueOf kind (some_value kind)
-value_of kind = record { valid = some_is kind; of = some_kind kind }
-
 pub value_stops : (kind : Kind) (stop : PartFault) (bytes : List ℕ) → StopsValue kind stop bytes → StopsIn (last_value kind) stop bytes
 value_stops kind (BadPart left) bytes s = s
 value_stops kind NoRoom bytes s = (s.0, s.1, s.2)
@@ -260,7 +257,7 @@ pub no_want : (stop : PartFault) (left : ℕ) → stop ≡ BadPart left → stop
 no_want stop left is room = let same : BadPart left ≡ NoRoom = sym is ∙ room in cc
 
 -- there is no room for the value
-pub value_wants : (kind : Kind) (stop : PartFault) (bytes r1 r2 r3 : List ℕ) → bytes ≡ 32 ∷ r1 → r1 ≡ 61 ∷ r2 → r2 ≡ 32 ∷ r3 → StopsValue kind stop r3 → stop ≡ NoRoom → WantsRoom kind bytes
+pub value_wants : (kind : Kind) (stop : PartFault) (bytes r1 r2 r3 : List ℕ) → bytes ≡ 32 ∷ r1 → r1 ≡ 61 ∷ r2 → r2 ≡ 32 ∷ r3 → StopsValue kind stop r3 → stop ≡ NoRoom → ValueWantsRoom kind bytes
 value_wants kind stop bytes r1 r2 r3 is1 is2 is3 s room =
     let k = subst (λ (x : PartFault). StopsValue kind x r3) room s in (
       k.0,
@@ -275,14 +272,14 @@ behind_mark kind stop bytes r1 r2 r3 is1 is2 is3 s =
     byte_stops 32 (after_byte 61 (after_byte 32 (last_value kind))) stop bytes r1 is1 (byte_stops 61 (after_byte 32 (last_value kind)) stop r1 r2 is2 (byte_stops 32 (last_value kind) stop r2 r3 is3 s))
 
 pub no_first_space : (kind : Kind) (stop : PartFault) (bytes : List ℕ) → stop ≡ BadPart (length bytes) → ((rest : List ℕ) → bytes ≢ 32 ∷ rest) → StopsIn (a_value kind) stop bytes
-no_first_space kind stop bytes at none = no_byte 32 (after_byte 61 (after_byte 32 (last_value kind))) (some_value kind) stop bytes (value_of kind) at none
+no_first_space kind stop bytes at none = no_byte 32 (after_byte 61 (after_byte 32 (last_value kind))) (some_value kind) stop bytes (some_value_of kind) at none
 
 pub no_mark : (kind : Kind) (stop : PartFault) (bytes r1 : List ℕ) → bytes ≡ 32 ∷ r1 → stop ≡ BadPart (length r1) → ((rest : List ℕ) → r1 ≢ 61 ∷ rest) → StopsIn (a_value kind) stop bytes
-no_mark kind stop bytes r1 is1 at none = byte_stops 32 (after_byte 61 (after_byte 32 (last_value kind))) stop bytes r1 is1 (no_byte 61 (after_byte 32 (last_value kind)) (some_value kind) stop r1 (value_of kind) at none)
+no_mark kind stop bytes r1 is1 at none = byte_stops 32 (after_byte 61 (after_byte 32 (last_value kind))) stop bytes r1 is1 (no_byte 61 (after_byte 32 (last_value kind)) (some_value kind) stop r1 (some_value_of kind) at none)
 
 pub no_second_space : (kind : Kind) (stop : PartFault) (bytes r1 r2 : List ℕ) → bytes ≡ 32 ∷ r1 → r1 ≡ 61 ∷ r2 → stop ≡ BadPart (length r2) → ((rest : List ℕ) → r2 ≢ 32 ∷ rest) → StopsIn (a_value kind) stop bytes
 no_second_space kind stop bytes r1 r2 is1 is2 at none =
-    byte_stops 32 (after_byte 61 (after_byte 32 (last_value kind))) stop bytes r1 is1 (byte_stops 61 (after_byte 32 (last_value kind)) stop r1 r2 is2 (no_byte 32 (last_value kind) (some_value kind) stop r2 (value_of kind) at none))
+    byte_stops 32 (after_byte 61 (after_byte 32 (last_value kind))) stop bytes r1 is1 (byte_stops 61 (after_byte 32 (last_value kind)) stop r1 r2 is2 (no_byte 32 (last_value kind) (some_value kind) stop r2 (some_value_of kind) at none))
 
 -- the newline is missing
 pub no_end : (stop : PartFault) (bytes : List ℕ) → stop ≡ BadPart (length bytes) → ((rest : List ℕ) → bytes ≢ 10 ∷ rest) → StopsIn an_end stop bytes

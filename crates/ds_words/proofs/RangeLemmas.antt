@@ -18,12 +18,12 @@ use Rattle.ds_line.specs.declared.part_fault.PartFault.{PartFault}
 use Rattle.ds_line.specs.declared.part_fault.PartFault.TheVariants.{BadPart, NoRoom}
 use Rattle.ds_line.proofs.PartLemmas.{byte_begins}
 use Rattle.ds_line.proofs.OpeningLemmas.{text_at, word_is_word, word_one}
-use Rattle.ds_line.proofs.PieceLemmas.{One, Fixed, Views, behind, one_by, view_found, view_stops, first_stops, then_stops, then_breaks, both_found}
+use Rattle.ds_line.proofs.PieceLemmas.{One, Fixed, Views, behind, one_by, view_found, view_stops, first_stops, then_stops, then_breaks, both_found, count_fits}
 use Rattle.ds_words.specs.Pieces.{a_name, a_kind, a_number}
 use Rattle.ds_words.specs.Page.{no_key, IsAfter, range_parts, a_range}
 use Rattle.ds_words.proofs.PieceLemmas.{name_fixed, name_one, number_one}
 use Rattle.ds_words.proofs.OneLemmas.{one_behind, one_view}
-use Rattle.ds_words.proofs.OpenLemmas.{Apart, stand_fits, first_counts}
+use Rattle.ds_words.proofs.OpenLemmas.{Apart, first_counts}
 use Rattle.ds_words.proofs.WorldPieceLemmas.{first_byte}
 
 no_key_is : IsName no_key
@@ -179,7 +179,7 @@ follow_kind_stops name stop bytes other room s = kind_missing name stop bytes (�
 
 behind_most : (name bytes after : List ℕ) (k : ℕ) → 2 ≤ k → ((x : with_kind.Of) (end : List ℕ) → with_kind.Can x → ¬ Stand (suc k) (with_kind.parts x) bytes end)
     → (x : Option Kind × ℕ) → (a_follow name).Can x → Stand (suc k) ((a_follow name).parts x) bytes after → ⊥
-behind_most name bytes after k two most (None, max) can h = omega (arith, two, stand_fits (suc k) (follow_parts None max) bytes after h)
+behind_most name bytes after k two most (None, max) can h = omega (arith, two, count_fits (suc k) (follow_parts None max) bytes after h)
 behind_most name bytes after k two most (Some kind, max) can h = most (kind, max) after (tt, can.1) h
 
 behind_none : (name bytes r after : List ℕ) (there : Kind) → Found a_kind there bytes r → ((x : with_kind.Of) (end : List ℕ) → with_kind.Can x → ¬ Stand (length (with_kind.parts x)) (with_kind.parts x) bytes end)

@@ -8,7 +8,7 @@ use Rattle.ds_line.specs.FaultPlace.{Stand}
 use Rattle.ds_line.specs.Piece.{Piece, Found, Breaks, StopsIn}
 use Rattle.ds_line.specs.declared.part_fault.PartFault.{PartFault}
 use Rattle.ds_line.specs.declared.part_fault.PartFault.TheVariants.{BadPart, NoRoom}
-use Rattle.ds_line.proofs.PieceLemmas.{One, behind, byte_stops, part_missing, stops_from, then_breaks, both_found}
+use Rattle.ds_line.proofs.PieceLemmas.{One, behind, byte_stops, part_missing, stops_from, then_breaks, both_found, count_fits}
 use Rattle.ds_line.proofs.PartLemmas.{byte_begins}
 use Rattle.ds_pattern.specs.declared.query.Query.{Query}
 use Rattle.ds_words.specs.Lines.{IsUnbroken}
@@ -17,7 +17,7 @@ use Rattle.ds_words.specs.Scope.{a_scope, scope_parts, IsScope, Writes}
 use Rattle.ds_words.proofs.PieceLemmas.{kinds_one}
 use Rattle.ds_words.proofs.QueryLemmas.{pattern_fixed, pattern_one, escaped_one, query_is}
 use Rattle.ds_words.proofs.OneLemmas.{one_behind}
-use Rattle.ds_words.proofs.OpenLemmas.{Apart, stand_fits, first_counts}
+use Rattle.ds_words.proofs.OpenLemmas.{Apart, first_counts}
 
 abbrev pub query_of : List ℕ → ℕ → Query
 query_of text kinds = record { text = text; kinds = kinds }
@@ -71,7 +71,7 @@ quote_stands text bytes mid rest space_is quote_is = ((escaped text ++ 34 ∷ []
 -- ---- the kinds are missing behind a pattern
 
 query_most : (bytes after : List ℕ) (k : ℕ) → 2 ≤ k → ((x : a_query.Of) (end : List ℕ) → a_query.Can x → ¬ Stand (suc k) (a_query.parts x) bytes end) → (scope : Option Query) → IsScope scope → Stand (suc k) (space ∷ scope_parts scope) bytes after → ⊥
-query_most bytes after k two most None can h = omega (arith, two, stand_fits (suc k) (space ∷ byte 42 ∷ []) bytes after h)
+query_most bytes after k two most None can h = omega (arith, two, count_fits (suc k) (space ∷ byte 42 ∷ []) bytes after h)
 query_most bytes after k two most (Some query) can h = most (query.text, query.kinds) after (can.text, (can.some, can.limit)) h
 
 query_none : (bytes after t : List ℕ) → bytes ≡ 32 ∷ 34 ∷ t → ((x : a_query.Of) (end : List ℕ) → a_query.Can x → ¬ Stand (length (a_query.parts x)) (a_query.parts x) bytes end) → (scope : Option Query) → IsScope scope

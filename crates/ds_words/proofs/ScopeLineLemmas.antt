@@ -10,7 +10,7 @@ use Rattle.ds_words.specs.declared.command.ScriptCommand.{ScriptCommand}
 use Rattle.ds_words.specs.declared.command.ScriptCommand.TheVariants.{Since, Snapshot}
 use Rattle.ds_words.specs.World.{since_word, snapshot_word}
 use Rattle.ds_words.specs.Command.{behind_word}
-use Rattle.ds_words.specs.Pieces.{a_number, a_place, an_end, taken_by, Takes}
+use Rattle.ds_words.specs.Pieces.{a_number, a_place, an_end, taken_by, TakesCommand}
 use Rattle.ds_words.specs.Scope.{a_scope, ScopeTakesMemory, Writes}
 use Rattle.ds_words.proofs.LineLemmas.{code}
 use Rattle.ds_words.proofs.PieceLemmas.{number_fixed, number_one, place_fixed, place_one}
@@ -55,7 +55,7 @@ snapshot_found text kinds scope same bytes r rest first second f1 f2 =
     subst (λ (s : Option Query). Found (taken_by snapshot_word) (Snapshot s) bytes rest) (written_one text kinds scope same first second) (snapshot_whole scope bytes r rest f1 f2)
 
 pub snapshot_no_room : (text : List ℕ) (kinds : Option ℕ) (scope : Option Query) (bytes r rest : List ℕ) → kinds ≢ None → Writes text kinds scope → Found a_scope scope bytes r → Found an_end tt r rest
-    → Takes snapshot_word bytes (Err NoRoom)
+    → TakesCommand snapshot_word bytes (Err NoRoom)
 snapshot_no_room text kinds scope bytes r rest some writes f1 f2 = (Snapshot scope, rest, snapshot_whole scope bytes r rest f1 f2, takes_memory text kinds scope writes some)
 
 snapshot_back : (m : ScriptCommand) (can : (taken_by snapshot_word).Can m) → snapshot_view.to (snapshot_from m can).0 ≡ m
@@ -129,7 +129,7 @@ since_found text kinds scope same incarnation position max bytes r1 r2 r3 r4 res
     (since_whole scope incarnation position max bytes r1 r2 r3 r4 rest f1 f2 f3 f4 f5)
 
 pub since_no_room : (text : List ℕ) (kinds : Option ℕ) (scope : Option Query) (incarnation position max : ℕ) (bytes r1 r2 r3 r4 rest : List ℕ) → kinds ≢ None → Writes text kinds scope → Found a_scope scope bytes r1 → Found a_place incarnation r1 r2
-    → Found a_place position r2 r3 → Found a_number max r3 r4 → Found an_end tt r4 rest → Takes since_word bytes (Err NoRoom)
+    → Found a_place position r2 r3 → Found a_number max r3 r4 → Found an_end tt r4 rest → TakesCommand since_word bytes (Err NoRoom)
 since_no_room text kinds scope incarnation position max bytes r1 r2 r3 r4 rest some writes f1 f2 f3 f4 f5 =
     (Since scope (cursor_of incarnation position) max, rest, since_whole scope incarnation position max bytes r1 r2 r3 r4 rest f1 f2 f3 f4 f5, takes_memory text kinds scope writes some)
 

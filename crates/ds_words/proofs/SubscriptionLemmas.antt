@@ -9,7 +9,7 @@ use Rattle.ds_pattern.specs.declared.query.Query.{Query}
 use Rattle.ds_words.specs.declared.command.ScriptCommand.{ScriptCommand}
 use Rattle.ds_words.specs.declared.command.ScriptCommand.TheVariants.{Subscribe, Check, Map, Entries}
 use Rattle.ds_words.specs.Command.{behind_word, subscribe_word, check_word, map_word, entries_word}
-use Rattle.ds_words.specs.Pieces.{an_initial, a_mode, a_number, a_place, a_kinds, a_pattern, an_end, taken_by, FindsPattern, Takes}
+use Rattle.ds_words.specs.Pieces.{an_initial, a_mode, a_number, a_place, a_kinds, a_pattern, an_end, taken_by, FindsPattern, TakesCommand}
 use Rattle.ds_words.proofs.NewlineLemmas.{unbroken_none}
 use Rattle.ds_words.proofs.LineLemmas.{code}
 use Rattle.ds_words.proofs.PieceLemmas.{mode_fixed, mode_one, initial_fixed, initial_one, number_fixed, number_one, place_fixed, place_one, kinds_fixed, kinds_one}
@@ -56,7 +56,7 @@ map_whole written kinds bytes r1 r2 rest f1 f2 f3 =
     view_found map_line (taken_by map_word) map_view (f1.0, (kinds, tt)) bytes rest
     (both_found a_pattern (λ _. map_kinds) f1.0 (kinds, tt) bytes r1 rest f1.2 (both_found a_kinds (λ _. an_end) kinds tt r1 r2 rest f2 f3))
 
-pub map_no_room : (written : List ℕ) (kinds : ℕ) (bytes r1 r2 rest : List ℕ) → FindsPattern written bytes r1 → Found a_kinds kinds r1 r2 → Found an_end tt r2 rest → Takes map_word bytes (Err NoRoom)
+pub map_no_room : (written : List ℕ) (kinds : ℕ) (bytes r1 r2 rest : List ℕ) → FindsPattern written bytes r1 → Found a_kinds kinds r1 r2 → Found an_end tt r2 rest → TakesCommand map_word bytes (Err NoRoom)
 map_no_room written kinds bytes r1 r2 rest f1 f2 f3 = (Map (query_of f1.0 kinds), rest, map_whole written kinds bytes r1 r2 rest f1 f2 f3, tt)
 
 pub map_found : (written : List ℕ) (kinds : ℕ) (query : Query) (bytes r1 r2 rest : List ℕ) → FindsPattern written bytes r1 → Found a_kinds kinds r1 r2 → Found an_end tt r2 rest → written ≡ escaped query.text → query.kinds ≡ kinds
@@ -198,7 +198,7 @@ subscribe_whole sub written kinds initial mode bytes r1 r2 r3 r4 r5 rest f1 f2 f
     (both_found an_initial (λ _. subscribe_mode) initial (mode, tt) r3 r4 rest f4 (both_found a_mode (λ _. an_end) mode tt r4 r5 rest f5 f6)))))
 
 pub subscribe_no_room : (sub : ℕ) (written : List ℕ) (kinds : ℕ) (initial mode : Bool) (bytes r1 r2 r3 r4 r5 rest : List ℕ) → Found a_number sub bytes r1 → FindsPattern written r1 r2 → Found a_kinds kinds r2 r3 → Found an_initial initial r3 r4
-    → Found a_mode mode r4 r5 → Found an_end tt r5 rest → Takes subscribe_word bytes (Err NoRoom)
+    → Found a_mode mode r4 r5 → Found an_end tt r5 rest → TakesCommand subscribe_word bytes (Err NoRoom)
 subscribe_no_room sub written kinds initial mode bytes r1 r2 r3 r4 r5 rest f1 f2 f3 f4 f5 f6 =
     (Subscribe sub (query_of f2.0 kinds) initial mode, rest, subscribe_whole sub written kinds initial mode bytes r1 r2 r3 r4 r5 rest f1 f2 f3 f4 f5 f6, tt)
 

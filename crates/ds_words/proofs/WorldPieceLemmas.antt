@@ -1,9 +1,9 @@
 -- Each piece of a world's lines: it is missing where it has to stand, or it is read.
-use Rattle.std.proofs.Common.{◌≡◌, ◌≢◌, ℕ, ◌<◌, ◌≤◌, ◌^◌, Bool, true, false, ◌&&◌, ◌||◌, List, [], ◌∷◌, ◌++◌, length, get_or, drop, Option, None, Some, IfNone, refl, sym, ap, ◌∙◌, arith, append-nil}
+use Rattle.std.proofs.Common.{◌≡◌, ◌≢◌, ℕ, ◌<◌, ◌≤◌, ◌^◌, Bool, true, false, ◌||◌, List, [], ◌∷◌, ◌++◌, length, get_or, drop, Option, None, Some, IfNone, refl, sym, ap, ◌∙◌, arith, append-nil}
 use Rattle.std.specs.Char.{is_ascii_digit, is_ascii_uppercase, is_ascii_lowercase, is_ascii_alphanumeric}
 use Rattle.std.specs.Fmt.{decimal}
 use Rattle.std.specs.List.{list_all}
-use Rattle.std.proofs.lemmas.Bool.{and_parts, false≢true}
+use Rattle.std.proofs.lemmas.Bool.{and_parts, false≢true, and_from}
 use Rattle.std.proofs.lemmas.Fmt.{decimal_injective, decimal_nonempty, digits_decimal}
 use Rattle.ds_names.specs.Run.{Begins}
 use Rattle.ds_names.proofs.DecimalLemmas.{own, value_more}
@@ -81,16 +81,12 @@ one_of_three : (a b c : Bool) → a ≡ true → ((a || b) || c) ≡ true
 one_of_three true b c h = refl
 one_of_three false b c h = absurd (false≢true h)
 
-both_true : (a b : Bool) → a ≡ true → b ≡ true → (a && b) ≡ true
-both_true true b h k = k
-both_true false b h k = absurd (false≢true h)
-
 digit_is_word : (c : ℕ) → is_ascii_digit c ≡ true → is_ascii_alphanumeric c ≡ true
 digit_is_word c h = one_of_three (is_ascii_digit c) (is_ascii_uppercase c) (is_ascii_lowercase c) h
 
 digits_are_words : (t : List ℕ) → list_all is_ascii_digit t ≡ true → list_all is_ascii_alphanumeric t ≡ true
 digits_are_words [] h = refl
-digits_are_words (c ∷ t) h = let both = and_parts (is_ascii_digit c) (list_all is_ascii_digit t) h in both_true (is_ascii_alphanumeric c) (list_all is_ascii_alphanumeric t) (digit_is_word c both.0) (digits_are_words t both.1)
+digits_are_words (c ∷ t) h = let both = and_parts (is_ascii_digit c) (list_all is_ascii_digit t) h in and_from (is_ascii_alphanumeric c) (list_all is_ascii_alphanumeric t) (digit_is_word c both.0) (digits_are_words t both.1)
 
 holder_is_word : (holder : Holder) → IsHolder holder → list_all is_ascii_alphanumeric (holder_word holder) ≡ true
 holder_is_word (Store side) is = side_is_word side

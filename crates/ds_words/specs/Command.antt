@@ -14,7 +14,7 @@ use Rattle.ds_line.specs.FaultPlace.{IsFaultPlace}
 use Rattle.ds_line.specs.Piece.{IsValueOf}
 use Rattle.ds_machine.specs.declared.command.Command.{Command}
 use Rattle.ds_machine.specs.declared.command.Command.TheVariants as commands
-use Rattle.ds_words.specs.Lines.{ended}
+use Rattle.ds_words.specs.Lines.{with_newline}
 use Rattle.ds_words.specs.declared.fault.CommandFault.{CommandFault}
 use Rattle.ds_words.specs.declared.fault.CommandFault.TheVariants.{BadLine, NoRoom}
 use Rattle.ds_words.specs.declared.command.ScriptCommand.{ScriptCommand}
@@ -171,15 +171,15 @@ IsCommand (Snapshot scope) = IsScope scope
 IsCommand (Page scope after max) = IsScope scope × IsAfter after × (max < 2 ^ 32)
 
 -- the command has a text, a blob or a pattern
-abbrev pub TakesMemory : ScriptCommand → Type 0
-TakesMemory (Offer i) = ¬ IsItemInPlace i
-TakesMemory (Publish caller key version value overwrite) = ¬ IsInPlace value
-TakesMemory (Subscribe sub query initial overwrite) = Unit {0}
-TakesMemory (Map query) = Unit {0}
-TakesMemory (Since scope cursor max) = ScopeTakesMemory scope
-TakesMemory (Snapshot scope) = ScopeTakesMemory scope
-TakesMemory (Page scope after max) = ScopeTakesMemory scope
-TakesMemory _ = ⊥
+abbrev pub CommandTakesMemory : ScriptCommand → Type 0
+CommandTakesMemory (Offer i) = ¬ IsItemInPlace i
+CommandTakesMemory (Publish caller key version value overwrite) = ¬ IsInPlace value
+CommandTakesMemory (Subscribe sub query initial overwrite) = Unit {0}
+CommandTakesMemory (Map query) = Unit {0}
+CommandTakesMemory (Since scope cursor max) = ScopeTakesMemory scope
+CommandTakesMemory (Snapshot scope) = ScopeTakesMemory scope
+CommandTakesMemory (Page scope after max) = ScopeTakesMemory scope
+CommandTakesMemory _ = ⊥
 
 -- what the line asks of a store takes no memory: it has no item, no value and no pattern, or the line asks nothing
 abbrev pub is_plain : ScriptCommand → Bool
@@ -245,27 +245,27 @@ pub record IsFaultAmong (May : ScriptCommand → Type 0) (bytes : List ℕ) (pla
 abbrev pub ReadsAs : (ScriptCommand → Type 0) → List ℕ → Result ScriptCommand CommandFault → Type 0
 ReadsAs May bytes (Ok command) = May command × (bytes ≡ texts (command_parts command))
 ReadsAs May bytes (Err (BadLine place expected)) = IsFaultAmong May bytes place
-ReadsAs May bytes (Err NoRoom) = (command : ScriptCommand) × May command × (bytes ≡ texts (command_parts command)) × TakesMemory command
+ReadsAs May bytes (Err NoRoom) = (command : ScriptCommand) × May command × (bytes ≡ texts (command_parts command)) × CommandTakesMemory command
 
 -- the bytes are no command's line
 abbrev pub IsCommandFault : List ℕ → ℕ → Type 0
 IsCommandFault bytes place = IsFaultAmong IsCommand bytes place
 
 -- each command may stand there
-abbrev pub Reads : List ℕ → Result ScriptCommand CommandFault → Type 0
-Reads bytes result = ReadsAs IsCommand bytes result
+abbrev pub ReadsCommand : List ℕ → Result ScriptCommand CommandFault → Type 0
+ReadsCommand bytes result = ReadsAs IsCommand bytes result
 
 -- ---- lines
 
 -- the line, without its newline, is the command's, which may stand there
 pub record IsLineAs (May : ScriptCommand → Type 0) (command : ScriptCommand) (line : List ℕ) : Type 0 where
   pub written : May command
-  pub text : ended line ≡ texts (command_parts command)
+  pub text : with_newline line ≡ texts (command_parts command)
   pub short : length line ≤ 4096
 
 -- a line above 4096 bytes is bad there, whatever it holds
 abbrev pub IsBadLineAs : (ScriptCommand → Type 0) → List ℕ → ℕ → Type 0
-IsBadLineAs May line place = ((4096 < length line) × (place ≡ 4096)) ⊎ ((length line ≤ 4096) × IsFaultAmong May (ended line) place)
+IsBadLineAs May line place = ((4096 < length line) × (place ≡ 4096)) ⊎ ((length line ≤ 4096) × IsFaultAmong May (with_newline line) place)
 
 abbrev pub IsLineOf : ScriptCommand → List ℕ → Type 0
 IsLineOf command line = IsLineAs IsCommand command line
@@ -274,6 +274,6 @@ abbrev pub IsBadLine : List ℕ → ℕ → Type 0
 IsBadLine line place = IsBadLineAs IsCommand line place
 
 -- why a line isn't read: it is bad, or it is a command's, and there is no room for its text, blob or pattern
-abbrev pub IsLineFault : CommandFault → List ℕ → Type 0
-IsLineFault (BadLine place expected) line = IsBadLine line place
-IsLineFault NoRoom line = (command : ScriptCommand) × IsLineOf command line × TakesMemory command
+abbrev pub IsCommandLineFault : CommandFault → List ℕ → Type 0
+IsCommandLineFault (BadLine place expected) line = IsBadLine line place
+IsCommandLineFault NoRoom line = (command : ScriptCommand) × IsLineOf command line × CommandTakesMemory command

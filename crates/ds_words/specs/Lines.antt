@@ -13,12 +13,12 @@ pub record BreaksAt (text : List ℕ) (n : ℕ) : Type 0 where
   pub parts : take (suc n) text ≡ take n text ++ 10 ∷ []
 
 -- a line with its newline
-abbrev pub ended : List ℕ → List ℕ
-ended line = line ++ 10 ∷ []
+abbrev pub with_newline : List ℕ → List ℕ
+with_newline line = line ++ 10 ∷ []
 
 -- lines one behind the other, each with its newline
 abbrev pub joined : List (List ℕ) → List ℕ
-joined lines = flat_map ended lines
+joined lines = flat_map with_newline lines
 
 -- What stands behind the last newline is a line too, unless nothing stands there.
 abbrev pub unended : List ℕ → List (List ℕ)

@@ -7,7 +7,7 @@ use Rattle.ds_replica.specs.declared.outcome.EventFault.{EventFault}
 use Rattle.ds_replica.specs.declared.outcome.EventFault.TheVariants as faults
 use Rattle.ds_replica.specs.declared.outcome.Outcome.{Outcome}
 use Rattle.ds_replica.specs.declared.outcome.Outcome.TheVariants.{Replied, Made, MapMade, Merged, Stopped, Cleared, Restarted, Refused}
-use Rattle.ds_words.specs.Lines.{ended}
+use Rattle.ds_words.specs.Lines.{with_newline}
 use Rattle.ds_words.specs.Reply.{reply_lines, merged, stopped, owed_line}
 use Rattle.ds_words.specs.World.{side_word}
 use Rattle.ds_words.specs.declared.wording.Wording.{Wording}
@@ -30,17 +30,17 @@ event_fault_word faults.NoRoom = codes "noroom"
 abbrev pub outcome_lines : Wording → Outcome → LimitsRecord → List ℕ
 outcome_lines wording (Replied reply) limits = reply_lines wording reply limits
 outcome_lines wording (Made message) limits = []
-outcome_lines wording (MapMade map) limits = ended (codes "map " ++ decimal map)
-outcome_lines wording (Merged done taken stale owed) limits = ended (merged AsMerge done taken stale) ++ owed_line limits owed
-outcome_lines wording (Stopped done fault owed) limits = ended (stopped AsMerge done fault) ++ owed_line limits owed
-outcome_lines wording Cleared limits = ended (codes "cleared")
-outcome_lines wording Restarted limits = ended (codes "restarted")
-outcome_lines wording (Refused fault) limits = ended (codes "refused " ++ event_fault_word fault)
+outcome_lines wording (MapMade map) limits = with_newline (codes "map " ++ decimal map)
+outcome_lines wording (Merged done taken stale owed) limits = with_newline (merged AsMerge done taken stale) ++ owed_line limits owed
+outcome_lines wording (Stopped done fault owed) limits = with_newline (stopped AsMerge done fault) ++ owed_line limits owed
+outcome_lines wording Cleared limits = with_newline (codes "cleared")
+outcome_lines wording Restarted limits = with_newline (codes "restarted")
+outcome_lines wording (Refused fault) limits = with_newline (codes "refused " ++ event_fault_word fault)
 
 -- the answer to `ring`
 abbrev pub ring_line : ℕ → List ℕ
-ring_line ring = ended (codes "ring " ++ decimal ring)
+ring_line ring = with_newline (codes "ring " ++ decimal ring)
 
 -- the answer to `side`
 abbrev pub side_line : Side → List ℕ
-side_line side = ended (codes "side " ++ side_word side)
+side_line side = with_newline (codes "side " ++ side_word side)

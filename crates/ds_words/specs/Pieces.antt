@@ -16,7 +16,7 @@ use Rattle.ds_line.specs.declared.part_fault.PartFault.{PartFault}
 use Rattle.ds_line.specs.declared.part_fault.PartFault.TheVariants.{BadPart, NoRoom}
 use Rattle.ds_words.specs.Lines.{IsUnbroken}
 use Rattle.ds_words.specs.declared.command.ScriptCommand.{ScriptCommand}
-use Rattle.ds_words.specs.Command.{IsCommand, IsVersion, TakesMemory, word_of, behind_word, initial_word, mode_word, offer_word, show_word, all_word, publish_word, delete_word, sweep_word, retrieve_word, nameof_word, subscribe_word, check_word, map_word, entries_word}
+use Rattle.ds_words.specs.Command.{IsCommand, IsVersion, CommandTakesMemory, word_of, behind_word, initial_word, mode_word, offer_word, show_word, all_word, publish_word, delete_word, sweep_word, retrieve_word, nameof_word, subscribe_word, check_word, map_word, entries_word}
 use Rattle.ds_words.specs.Key.{key_parts, version_parts}
 use Rattle.ds_words.specs.Page.{page_word}
 use Rattle.ds_words.specs.World.{ring_word, side_line_word, clear_word, restart_word, deliver_word, since_word, snapshot_word}
@@ -88,8 +88,8 @@ abbrev pub a_value : Kind → Piece
 a_value kind = record { Of = Value; Can = IsValueOf kind; parts = λ (value : Value). space ∷ body_parts (Put value) }
 
 -- `=`, a value of the kind that takes memory, and the newline stand there
-abbrev pub WantsRoom : Kind → List ℕ → Type 0
-WantsRoom kind bytes = (value : Value) × (rest : List ℕ) × Found (a_value kind) value bytes rest × ¬ IsInPlace value
+abbrev pub ValueWantsRoom : Kind → List ℕ → Type 0
+ValueWantsRoom kind bytes = (value : Value) × (rest : List ℕ) × Found (a_value kind) value bytes rest × ¬ IsInPlace value
 
 -- the newline
 abbrev pub an_end : Piece
@@ -100,10 +100,10 @@ abbrev pub taken_by : List ℕ → Piece
 taken_by word = record { Of = ScriptCommand; Can = λ (command : ScriptCommand). IsCommand command × (word_of command ≡ word); parts = behind_word }
 
 -- what the reader of it answers
-abbrev pub Takes : List ℕ → List ℕ → Result ScriptCommand PartFault → Type 0
-Takes word bytes (Ok command) = (rest : List ℕ) × Found (taken_by word) command bytes rest
-Takes word bytes (Err (BadPart left)) = StopsIn (taken_by word) (BadPart left) bytes
-Takes word bytes (Err NoRoom) = (command : ScriptCommand) × (rest : List ℕ) × Found (taken_by word) command bytes rest × TakesMemory command
+abbrev pub TakesCommand : List ℕ → List ℕ → Result ScriptCommand PartFault → Type 0
+TakesCommand word bytes (Ok command) = (rest : List ℕ) × Found (taken_by word) command bytes rest
+TakesCommand word bytes (Err (BadPart left)) = StopsIn (taken_by word) (BadPart left) bytes
+TakesCommand word bytes (Err NoRoom) = (command : ScriptCommand) × (rest : List ℕ) × Found (taken_by word) command bytes rest × CommandTakesMemory command
 
 -- the text of a command's word
 abbrev pub text_of : Word → List ℕ

@@ -22,7 +22,7 @@ use Rattle.ds_words.specs.declared.command.ScriptCommand.{ScriptCommand}
 use Rattle.ds_words.specs.declared.command.ScriptCommand.TheVariants as asked
 use Rattle.ds_words.specs.declared.wording.Wording.{Wording}
 use Rattle.ds_words.specs.declared.wording.Wording.TheVariants.{AsOffer, AsMerge}
-use Rattle.ds_words.specs.Lines.{ended}
+use Rattle.ds_words.specs.Lines.{with_newline}
 
 -- the word of a refusal: its name in lower case
 abbrev pub refusal_word : Refusal → List ℕ
@@ -82,16 +82,16 @@ stopped AsOffer done fault = refused fault
 stopped AsMerge done fault = codes "stopped " ++ (decimal done ++ 32 ∷ refusal_words fault)
 
 -- how many items were shown, and the stamps before and after
-abbrev pub checked : ℕ → ℕ → ℕ → List ℕ
-checked count before after = codes "checked " ++ (decimal count ++ 32 ∷ (decimal before ++ 32 ∷ decimal after))
+abbrev pub checked_text : ℕ → ℕ → ℕ → List ℕ
+checked_text count before after = codes "checked " ++ (decimal count ++ 32 ∷ (decimal before ++ 32 ∷ decimal after))
 
 -- the incarnation and the position of a cursor
 abbrev pub cursor_text : Cursor → List ℕ
 cursor_text cursor = decimal cursor.incarnation ++ 32 ∷ decimal cursor.position
 
 -- how many items are given, and the cursor behind what was looked at
-abbrev pub journaled : Since → List ℕ
-journaled since = codes "since " ++ (decimal (length since.items) ++ 32 ∷ cursor_text since.cursor)
+abbrev pub since_text : Since → List ℕ
+since_text since = codes "since " ++ (decimal (length since.items) ++ 32 ∷ cursor_text since.cursor)
 
 -- how many items are held, and the cursor from which the journal goes on
 abbrev pub snapped : Snapshot → List ℕ
@@ -103,8 +103,8 @@ page_mark true = codes " last "
 page_mark false = codes " more "
 
 -- how many items are on the page, whether it is the last one, and the cursor at its time
-abbrev pub paged : Page → List ℕ
-paged page = codes "page " ++ (decimal (length page.items) ++ (page_mark page.last ++ cursor_text page.cursor))
+abbrev pub page_text : Page → List ℕ
+page_text page = codes "page " ++ (decimal (length page.items) ++ (page_mark page.last ++ cursor_text page.cursor))
 
 -- what the reply says
 abbrev pub reply_words : Wording → Reply → List ℕ
@@ -114,10 +114,10 @@ reply_words wording (Swept count owed) = codes "swept " ++ decimal count
 reply_words wording (Found value) = codes "found " ++ (value_part value).text
 reply_words wording (Named name) = codes "named " ++ name
 reply_words wording (Subscribed stamp owed) = codes "subscribed " ++ decimal stamp
-reply_words wording (Checked items before after) = checked (length items) before after
-reply_words wording (Journaled since) = journaled since
+reply_words wording (Checked items before after) = checked_text (length items) before after
+reply_words wording (Journaled since) = since_text since
 reply_words wording (Snapped snapshot) = snapped snapshot
-reply_words wording (Paged page) = paged page
+reply_words wording (Paged page) = page_text page
 reply_words wording (Merged done taken stale owed) = merged wording done taken stale
 reply_words wording (MergeStopped done fault owed) = stopped wording done fault
 reply_words wording (Refused fault) = refused fault
@@ -128,7 +128,7 @@ mask_hex limits mask = encode_lower (bytes_high_first (limits.subs / 8) mask)
 
 -- a line for what is owed, unless nothing is
 abbrev pub owed_line : LimitsRecord → ℕ → List ℕ
-owed_line limits mask = if mask == 0 then [] else ended (codes "owed " ++ mask_hex limits mask)
+owed_line limits mask = if mask == 0 then [] else with_newline (codes "owed " ++ mask_hex limits mask)
 
 -- the items that the reply gives, floors and tombstones too
 abbrev pub shown_by : Reply → List Item
@@ -140,7 +140,7 @@ shown_by _ = []
 
 -- the lines of the reply: those of the items that it gives, its words, and what is owed
 abbrev pub reply_lines : Wording → Reply → LimitsRecord → List ℕ
-reply_lines wording reply limits = flat_map item_spelling (shown_by reply) ++ (ended (reply_words wording reply) ++ owed_line limits (owed_by reply))
+reply_lines wording reply limits = flat_map item_spelling (shown_by reply) ++ (with_newline (reply_words wording reply) ++ owed_line limits (owed_by reply))
 
 -- the lines that answer the command
 abbrev pub reply_text : ScriptCommand → Reply → LimitsRecord → List ℕ
@@ -148,4 +148,4 @@ reply_text command reply limits = reply_lines (wording command) reply limits
 
 -- the answer for want of memory
 abbrev pub refused_noroom : List ℕ
-refused_noroom = ended (codes "refused noroom")
+refused_noroom = with_newline (codes "refused noroom")

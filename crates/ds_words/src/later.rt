@@ -4,7 +4,7 @@ ghost use Rattle.std.specs.Prelude.{◌≡◌, ◌≢◌, ◌↔◌, ℕ, List, 
 ghost use Rattle.std.specs.Char.{is_ascii_alphanumeric};
 ghost use Rattle.ds_line.specs.LastNewline.{EndsLine};
 ghost use Rattle.ds_names.specs.Run.{Begins};
-ghost use Rattle.ds_words.specs.Command.{Reads};
+ghost use Rattle.ds_words.specs.Command.{ReadsCommand};
 ghost use Rattle.ds_words.specs.Later.{ReadsLater};
 ghost use Rattle.ds_words.specs.World.{ring_word};
 
@@ -23,7 +23,7 @@ pub fn read_line_behind(
     before: u64,
 ) -> Result<ScriptCommand, CommandFault>
     requires { EndsLine line.now }
-    ensures first { before ≡ 0 → Reads line.now result }
+    ensures first { before ≡ 0 → ReadsCommand line.now result }
     ensures later { before ≢ 0 → ReadsLater line.now result }
 {
     if before > 0 && has_ring(line) {

@@ -4,7 +4,7 @@ ghost use Rattle.std.specs.Prelude.{◌≡◌, ◌≢◌, ◌∷◌, List, ℕ, 
 ghost use Rattle.ds_words.specs.Command.{initial_word, mode_word};
 ghost use Rattle.ds_line.specs.Piece.{Found, StopsIn};
 ghost use Rattle.ds_line.specs.declared.part_fault.PartFault.TheVariants.{BadPart, NoRoom};
-ghost use Rattle.ds_words.specs.Pieces.{an_endpoint, an_initial, a_mode, a_name, a_kind, a_key, a_generation, a_seq, a_version, a_number, a_place, a_kinds, a_value, WantsRoom, an_end};
+ghost use Rattle.ds_words.specs.Pieces.{an_endpoint, an_initial, a_mode, a_name, a_kind, a_key, a_generation, a_seq, a_version, a_number, a_place, a_kinds, a_value, ValueWantsRoom, an_end};
 
 use ds_entry::Value;
 use ds_line::{
@@ -226,7 +226,7 @@ impl Rest<'_> {
     pub fn value(&mut self, alloc: Global, kind: Kind) -> Result<Value, PartFault>
         ensures found { IfOk result (λ value. Found (a_value kind) value self.old.bytes.now self.new.bytes.now) }
         ensures stop { IfErr result (λ stop. StopsIn (a_value kind) stop self.old.bytes.now) }
-        ensures room { IfErr result (λ stop. stop ≡ NoRoom → WantsRoom kind self.old.bytes.now) }
+        ensures room { IfErr result (λ stop. stop ≡ NoRoom → ValueWantsRoom kind self.old.bytes.now) }
     {
         self.byte(b' ', Expected::Space)?;
         self.byte(b'=', Expected::Equals)?;

@@ -2,9 +2,9 @@
 
 ghost use Rattle.std.specs.Prelude.{◌≡◌, ◌≤◌, ◌+◌, length, take, IfOk, IfErr};
 ghost use Rattle.ds_line.specs.LastNewline.{EndsLine};
-ghost use Rattle.ds_words.specs.Lines.{IsUnbroken, ended};
-ghost use Rattle.ds_words.specs.Command.{Reads, IsLineOf, IsLineFault};
-ghost use Rattle.ds_words.specs.Pieces.{Takes, text_of};
+ghost use Rattle.ds_words.specs.Lines.{IsUnbroken, with_newline};
+ghost use Rattle.ds_words.specs.Command.{ReadsCommand, IsLineOf, IsCommandLineFault};
+ghost use Rattle.ds_words.specs.Pieces.{TakesCommand, text_of};
 
 use crate::command::ScriptCommand;
 use crate::fault::CommandFault;
@@ -30,7 +30,7 @@ pub const LONGEST_LINE: usize = 4096;
 pub fn read_command(alloc: Global, line: &[u8]) -> Result<ScriptCommand, CommandFault>
     requires { IsUnbroken line.now }
     ensures found { IfOk result (λ command. IsLineOf command line.now) }
-    ensures fault { IfErr result (λ fault. IsLineFault fault line.now) }
+    ensures fault { IfErr result (λ fault. IsCommandLineFault fault line.now) }
 {
     if line.len() > LONGEST_LINE {
         return Err(CommandFault::BadLine {
@@ -46,7 +46,7 @@ pub fn read_command(alloc: Global, line: &[u8]) -> Result<ScriptCommand, Command
 // Writes a line, and a newline behind it, to the front of a block.
 fn end_line(line: &[u8], block: &mut [u8; LONGEST_LINE + 1])
     requires { length line.now ≤ 4096 }
-    ensures { take (length line.now + 1) block.new ≡ ended line.now }
+    ensures { take (length line.now + 1) block.new ≡ with_newline line.now }
 {
     block[..line.len()].copy_from_slice(line);
     block[line.len()] = b'\n';
@@ -55,7 +55,7 @@ fn end_line(line: &[u8], block: &mut [u8; LONGEST_LINE + 1])
 /// Reads the command of a line, which comes with its newline and has no other. How long it is, its caller judges.
 pub fn read_line(alloc: Global, line: &[u8]) -> Result<ScriptCommand, CommandFault>
     requires { EndsLine line.now }
-    ensures { Reads line.now result }
+    ensures { ReadsCommand line.now result }
 {
     let (text, bytes) = word_at(line);
     let Some(word) = word_of(text) else {
@@ -83,7 +83,7 @@ pub fn read_line(alloc: Global, line: &[u8]) -> Result<ScriptCommand, CommandFau
 
 // Reads what follows a command's word.
 fn behind_word(alloc: Global, word: Word, rest: &mut Rest) -> Result<ScriptCommand, PartFault>
-    ensures { Takes (text_of word) rest.old.bytes.now result }
+    ensures { TakesCommand (text_of word) rest.old.bytes.now result }
 {
     match word {
         Word::Offer => offer_at(alloc, rest),

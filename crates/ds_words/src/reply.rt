@@ -4,7 +4,7 @@ ghost use Rattle.std.specs.Prelude.{◌≡◌, ◌≤◌, ◌++◌, drop, codes,
 ghost use Rattle.std.specs.List.{flat_map};
 ghost use Rattle.hex.specs.Hex.{encode_lower};
 ghost use Rattle.ds_line.specs.ItemSpelling.{item_spelling};
-ghost use Rattle.ds_words.specs.Lines.{ended};
+ghost use Rattle.ds_words.specs.Lines.{with_newline};
 ghost use Rattle.ds_words.specs.declared.wording.Wording.TheVariants.{AsOffer, AsMerge};
 ghost use Rattle.ds_words.specs.Reply.{refusal_word, refusal_words, refused, merged, stopped, reply_words, shown_by, owed_line, reply_lines, reply_text, refused_noroom};
 
@@ -67,7 +67,7 @@ pub fn append_noroom(buffer: &mut Vec<u8>) -> Result<(), NoRoom>
 
 // Appends the lines of a reply but for what is owed, or nothing.
 fn append_words(buffer: &mut Vec<u8>, wording: Wording, reply: &Reply) -> Result<(), NoRoom>
-    ensures written { OnOk result (buffer.new.items ≡ buffer.old.items ++ (flat_map item_spelling (shown_by reply.now) ++ ended (reply_words wording reply.now))) }
+    ensures written { OnOk result (buffer.new.items ≡ buffer.old.items ++ (flat_map item_spelling (shown_by reply.now) ++ with_newline (reply_words wording reply.now))) }
     ensures unchanged { OnErr result (buffer.new.items ≡ buffer.old.items) }
 {
     match reply {
@@ -112,7 +112,7 @@ fn append_words(buffer: &mut Vec<u8>, wording: Wording, reply: &Reply) -> Result
 
 // The line that tells what became of an offer, by how many items of its Merge took effect and how many were stale.
 fn offered(taken: usize, stale: usize) -> &'static [u8]
-    ensures { result.now ≡ ended (merged AsOffer 1 taken stale) }
+    ensures { result.now ≡ with_newline (merged AsOffer 1 taken stale) }
 {
     if taken != 0 {
         b"taken\n"
@@ -130,7 +130,7 @@ fn append_merged(
     taken: usize,
     stale: usize,
 ) -> Result<(), NoRoom>
-    ensures written { OnOk result (buffer.new.items ≡ buffer.old.items ++ ended (merged AsMerge done taken stale)) }
+    ensures written { OnOk result (buffer.new.items ≡ buffer.old.items ++ with_newline (merged AsMerge done taken stale)) }
     ensures unchanged { OnErr result (buffer.new.items ≡ buffer.old.items) }
 {
     let mut done_digits = Buffer::new();
@@ -144,7 +144,7 @@ fn append_merged(
 
 // Appends the line of a Merge that stopped behind so many items, or nothing.
 fn append_stopped(buffer: &mut Vec<u8>, done: usize, fault: Refusal) -> Result<(), NoRoom>
-    ensures written { OnOk result (buffer.new.items ≡ buffer.old.items ++ ended (stopped AsMerge done fault)) }
+    ensures written { OnOk result (buffer.new.items ≡ buffer.old.items ++ with_newline (stopped AsMerge done fault)) }
     ensures unchanged { OnErr result (buffer.new.items ≡ buffer.old.items) }
 {
     let mut digits = Buffer::new();
@@ -154,7 +154,7 @@ fn append_stopped(buffer: &mut Vec<u8>, done: usize, fault: Refusal) -> Result<(
 
 // Appends the line of a refusal, or nothing.
 fn append_refused(buffer: &mut Vec<u8>, refusal: Refusal) -> Result<(), NoRoom>
-    ensures written { OnOk result (buffer.new.items ≡ buffer.old.items ++ ended (refused refusal)) }
+    ensures written { OnOk result (buffer.new.items ≡ buffer.old.items ++ with_newline (refused refusal)) }
     ensures unchanged { OnErr result (buffer.new.items ≡ buffer.old.items) }
 {
     append_refusal(buffer, &[b"refused "], refusal)
@@ -162,7 +162,7 @@ fn append_refused(buffer: &mut Vec<u8>, refusal: Refusal) -> Result<(), NoRoom>
 
 // Appends some texts and the words of a refusal as one line, or nothing.
 fn append_refusal(buffer: &mut Vec<u8>, before: &[&[u8]], refusal: Refusal) -> Result<(), NoRoom>
-    ensures written { OnOk result (buffer.new.items ≡ buffer.old.items ++ (flat_map (λ text. text.now) before.now ++ ended (refusal_words refusal))) }
+    ensures written { OnOk result (buffer.new.items ≡ buffer.old.items ++ (flat_map (λ text. text.now) before.now ++ with_newline (refusal_words refusal))) }
     ensures unchanged { OnErr result (buffer.new.items ≡ buffer.old.items) }
 {
     let start = buffer.len();
@@ -176,7 +176,7 @@ fn append_refusal(buffer: &mut Vec<u8>, before: &[&[u8]], refusal: Refusal) -> R
 
 // Appends the words of a refusal and a newline, or nothing.
 fn append_refusal_words(buffer: &mut Vec<u8>, refusal: Refusal) -> Result<(), NoRoom>
-    ensures written { OnOk result (buffer.new.items ≡ buffer.old.items ++ ended (refusal_words refusal)) }
+    ensures written { OnOk result (buffer.new.items ≡ buffer.old.items ++ with_newline (refusal_words refusal)) }
     ensures unchanged { OnErr result (buffer.new.items ≡ buffer.old.items) }
 {
     match refusal {
@@ -187,7 +187,7 @@ fn append_refusal_words(buffer: &mut Vec<u8>, refusal: Refusal) -> Result<(), No
 
 // Appends the words of a clash at a version and a newline, or nothing.
 fn append_clash(buffer: &mut Vec<u8>, version: Version) -> Result<(), NoRoom>
-    ensures written { OnOk result (buffer.new.items ≡ buffer.old.items ++ ended (refusal_words (Refusal.Clash version))) }
+    ensures written { OnOk result (buffer.new.items ≡ buffer.old.items ++ with_newline (refusal_words (Refusal.Clash version))) }
     ensures unchanged { OnErr result (buffer.new.items ≡ buffer.old.items) }
 {
     let mut epoch_digits = Buffer::new();
@@ -243,7 +243,7 @@ fn append_owed(buffer: &mut Vec<u8>, mask: u128, limits: Limits) -> Result<(), N
 // Appends the line of a mask, without its first bytes, or nothing.
 fn append_mask(buffer: &mut Vec<u8>, bytes: &[u8; 16], first: usize) -> Result<(), NoRoom>
     requires { first ≤ 16 }
-    ensures written { OnOk result (buffer.new.items ≡ buffer.old.items ++ ended (codes "owed " ++ encode_lower (drop first bytes.now))) }
+    ensures written { OnOk result (buffer.new.items ≡ buffer.old.items ++ with_newline (codes "owed " ++ encode_lower (drop first bytes.now))) }
     ensures unchanged { OnErr result (buffer.new.items ≡ buffer.old.items) }
 {
     let bytes = &bytes[first..];

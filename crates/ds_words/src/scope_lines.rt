@@ -2,7 +2,7 @@
 
 ghost use Rattle.ds_words.specs.Page.{page_word};
 ghost use Rattle.ds_words.specs.World.{since_word, snapshot_word};
-ghost use Rattle.ds_words.specs.Pieces.{Takes};
+ghost use Rattle.ds_words.specs.Pieces.{TakesCommand};
 
 use crate::command::ScriptCommand;
 use crate::pieces::Rest;
@@ -13,7 +13,7 @@ use std::alloc::Global;
 
 /// Reads what follows `since`.
 pub(crate) fn since_at(alloc: Global, rest: &mut Rest) -> Result<ScriptCommand, PartFault>
-    ensures { Takes since_word rest.old.bytes.now result }
+    ensures { TakesCommand since_word rest.old.bytes.now result }
 {
     let (text, kinds) = match rest.scope() {
         Ok(written) => written,
@@ -35,7 +35,7 @@ pub(crate) fn since_at(alloc: Global, rest: &mut Rest) -> Result<ScriptCommand, 
 
 /// Reads what follows `snapshot`.
 pub(crate) fn snapshot_at(alloc: Global, rest: &mut Rest) -> Result<ScriptCommand, PartFault>
-    ensures { Takes snapshot_word rest.old.bytes.now result }
+    ensures { TakesCommand snapshot_word rest.old.bytes.now result }
 {
     let (text, kinds) = match rest.scope() {
         Ok(written) => written,
@@ -50,7 +50,7 @@ pub(crate) fn snapshot_at(alloc: Global, rest: &mut Rest) -> Result<ScriptComman
 
 /// Reads what follows `page`.
 pub(crate) fn page_at(alloc: Global, rest: &mut Rest) -> Result<ScriptCommand, PartFault>
-    ensures { Takes page_word rest.old.bytes.now result }
+    ensures { TakesCommand page_word rest.old.bytes.now result }
 {
     let (text, kinds) = match rest.scope() {
         Ok(written) => written,

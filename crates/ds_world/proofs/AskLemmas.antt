@@ -21,10 +21,11 @@ use Rattle.ds_replica.specs.declared.outcome.EventFault.{EventFault}
 use Rattle.ds_replica.specs.declared.outcome.EventFault.TheVariants.{MessagesFull, NoRoom}
 use Rattle.ds_replica.specs.World.{World, store_at, with_state, with_items}
 use Rattle.ds_replica.specs.Happens.{gives_items, items_given, most_messages, ask_outcome}
-use Rattle.ds_world.specs.World.{WorldRecord, world_of, Stands}
+use Rattle.ds_world.specs.World.{WorldRecord, world_of, WorldStands}
 use Rattle.ds_world.specs.Run.{EventLeads}
-use Rattle.ds_world.specs.Told.{IsAnswered, IsKept}
-use Rattle.ds_world.proofs.StandLemmas.{as_many_messages, le_true, le_false}
+use Rattle.ds_world.specs.Told.{IsAnswered, IsMessageKept}
+use Rattle.ds_world.proofs.StandLemmas.{as_many_messages}
+use Rattle.std.proofs.lemmas.Bool.{le-leb, lt-leb}
 
 -- ---- replies without items
 asked_none : (reply : Reply) → IsAskedReply reply → items_given reply ≡ None
@@ -89,11 +90,11 @@ some_items (Some items) e = (items, refl)
 -- a store of the world made a step
 abbrev pub StoreSteps : ContentRecord → ContentRecord → ContentRecord → ContentRecord → Side → Command → Reply → Type 0
 StoreSteps a b newa newb side command reply =
-    (w : World) → contents.Stands a w.a → contents.Stands b w.b → (s : State) × Step (store_at w side) command reply s × contents.Stands newa (with_state w side s).a × contents.Stands newb (with_state w side s).b
+    (w : World) → contents.ContentStands a w.a → contents.ContentStands b w.b → (s : State) × Step (store_at w side) command reply s × contents.ContentStands newa (with_state w side s).a × contents.ContentStands newb (with_state w side s).b
 
 -- and told of want of memory last
 abbrev pub LastOf : ContentRecord → ContentRecord → Side → Command → Reply → Type 0
-LastOf a b side command reply = (w : World) → contents.Stands a w.a → contents.Stands b w.b → IsLast (store_at w side) command reply
+LastOf a b side command reply = (w : World) → contents.ContentStands a w.a → contents.ContentStands b w.b → IsLast (store_at w side) command reply
 
 same_maps : (w : World) (side : Side) (s : State) → (with_state w side s).maps ≡ w.maps
 same_maps w A s = refl
@@ -112,12 +113,12 @@ module _ (a b newa newb : ContentRecord) (maps : List SubMapRecord) (messages : 
   old = world_of a b maps messages
 
   -- the world afterwards, with the messages that there were
-  asked : (w : World) (s : Stands old w) → Stands (world_of newa newb maps messages) (with_state w side (steps w s.a s.b).0)
+  asked : (w : World) (s : WorldStands old w) → WorldStands (world_of newa newb maps messages) (with_state w side (steps w s.a s.b).0)
   asked w s =
       let t = steps w s.a s.b in record { a = t.2; b = t.3; maps = same_maps w side t.0 ∙ s.maps; messages = s.messages ∙ ap (λ (l : List (List Item)). map Some l) (sym (same_messages w side t.0)) }
 
   -- and with one more
-  kept : (items : List Item) → items_given reply ≡ Some items → (w : World) (s : Stands old w) → Stands (world_of newa newb maps (messages ++ reply ∷ [])) (with_items (with_state w side (steps w s.a s.b).0) (Some items))
+  kept : (items : List Item) → items_given reply ≡ Some items → (w : World) (s : WorldStands old w) → WorldStands (world_of newa newb maps (messages ++ reply ∷ [])) (with_items (with_state w side (steps w s.a s.b).0) (Some items))
   kept items some w s =
       let t = steps w s.a s.b in
       let all = asked w s in
@@ -157,7 +158,7 @@ module _ (a b newa newb : ContentRecord) (maps : List SubMapRecord) (messages : 
     pub made : gives_items command ≡ true → length messages < most_messages → EventLeads (Ask side command) (Made (length messages)) old (world_of newa newb maps (messages ++ reply ∷ []))
     made gives few w s =
         let t = steps w s.a s.b in
-        let free : gives_items command && nat_le most_messages (length messages) ≡ false = ap (λ x. gives_items command && x) (le_false most_messages (length messages) few) ∙ and_false (gives_items command) in (
+        let free : gives_items command && nat_le most_messages (length messages) ≡ false = ap (λ x. gives_items command && x) (lt-leb most_messages (length messages) few) ∙ and_false (gives_items command) in (
           with_items (with_state w side t.0) (Some items),
           (
             ap (full_fault command) (as_many_messages old w s) ∙ ap (λ x. cond x (Some MessagesFull) None) free,
@@ -176,7 +177,7 @@ module _ (a b newa newb : ContentRecord) (maps : List SubMapRecord) (messages : 
         and_false true = refl
         and_false false = refl
 
-    pub made_so : gives_items command ≡ true → length messages < most_messages → LastOf a b side command reply → IsKept side command (length messages) old (world_of newa newb maps (messages ++ reply ∷ []))
+    pub made_so : gives_items command ≡ true → length messages < most_messages → LastOf a b side command reply → IsMessageKept side command (length messages) old (world_of newa newb maps (messages ++ reply ∷ []))
     unfolding made
     made_so gives few last =
         record {
@@ -188,7 +189,7 @@ module _ (a b newa newb : ContentRecord) (maps : List SubMapRecord) (messages : 
 
 -- there is a place for one more message
 pub few_free : (command : Command) (messages : List Reply) → length messages < most_messages → gives_items command && nat_le most_messages (length messages) ≡ false
-few_free command messages few = ap (λ x. gives_items command && x) (le_false most_messages (length messages) few) ∙ and_false (gives_items command)
+few_free command messages few = ap (λ x. gives_items command && x) (lt-leb most_messages (length messages) few) ∙ and_false (gives_items command)
   where
     and_false : (x : Bool) → x && false ≡ false
     and_false true = refl
@@ -198,11 +199,11 @@ few_free command messages few = ap (λ x. gives_items command && x) (le_false mo
 pub messages_full : (value : WorldRecord) (side : Side) (command : Command) → gives_items command ≡ true → most_messages ≤ length value.messages → EventLeads (Ask side command) (Rejected MessagesFull) value value
 messages_full value side command gives full w s =
     let e : gives_items command && nat_le most_messages (length w.messages) ≡ true =
-    ap (λ x. x && nat_le most_messages (length w.messages)) gives ∙ ap (λ n. nat_le most_messages n) (as_many_messages value w s) ∙ le_true most_messages (length value.messages) full in
+    ap (λ x. x && nat_le most_messages (length w.messages)) gives ∙ ap (λ n. nat_le most_messages n) (as_many_messages value w s) ∙ le-leb most_messages (length value.messages) full in
     (w, (ap (λ x. cond x (Some MessagesFull) None) e, refl), s)
 
 pub no_room_for_message : (value : WorldRecord) (side : Side) (command : Command) → gives_items command ≡ true → length value.messages < most_messages → EventLeads (Ask side command) (Rejected NoRoom) value value
 no_room_for_message value side command gives few w s =
     let e : gives_items command && nat_le most_messages (length w.messages) ≡ false =
-    ap (λ x. x && nat_le most_messages (length w.messages)) gives ∙ ap (λ n. nat_le most_messages n) (as_many_messages value w s) ∙ le_false most_messages (length value.messages) few in
+    ap (λ x. x && nat_le most_messages (length w.messages)) gives ∙ ap (λ n. nat_le most_messages n) (as_many_messages value w s) ∙ lt-leb most_messages (length value.messages) few in
     (w, ((gives, inl (ap (λ x. cond x (Some MessagesFull) None) e)), refl), s)

@@ -23,10 +23,11 @@ use Rattle.ds_replica.specs.declared.outcome.EventFault.TheVariants.{NoMessage, 
 use Rattle.ds_replica.specs.Delivery.{Tally, StoreTakes, MapTakes}
 use Rattle.ds_replica.specs.World.{MapState, World, store_at, with_state}
 use Rattle.ds_replica.specs.Happens.{count_of, delivery_fault, tally_outcome, Happens, Delivers}
-use Rattle.ds_world.specs.World.{WorldRecord, map_state, kept_items, Stands}
+use Rattle.ds_world.specs.World.{WorldRecord, map_state, kept_items, WorldStands}
 use Rattle.ds_world.specs.Run.{EventLeads}
 use Rattle.ds_world.specs.Told.{IsMapTold, IsStoreTold, IsTold, IsWantLast}
-use Rattle.ds_world.proofs.StandLemmas.{map_is, message_is, lt_true, lt_false}
+use Rattle.ds_world.proofs.StandLemmas.{map_is, message_is, lt_false}
+use Rattle.std.proofs.lemmas.Bool.{lt-ltb}
 
 -- an event that leads from one value to another does so by whatever names they have
 pub carried : {event event' : Event} {outcome outcome' : Outcome} {old old' new new' : WorldRecord} → event ≡ event' → outcome ≡ outcome' → old ≡ old' → new ≡ new' → EventLeads event outcome old new → EventLeads event' outcome' old' new'
@@ -47,7 +48,7 @@ module _ (value : WorldRecord) (k : ℕ) (count : Option ℕ) where
   -- such a message is there
   module _ (items : List Item) (there : kept_items value.messages k ≡ Some items) where
     -- the fault is the delivery's
-    by_items : (w : World) (holder : Holder) → Stands value w → option_map_or (λ items. delivery_fault w holder count items) (slice_get w.messages k) (Some NoMessage) ≡ delivery_fault w holder count items
+    by_items : (w : World) (holder : Holder) → WorldStands value w → option_map_or (λ items. delivery_fault w holder count items) (slice_get w.messages k) (Some NoMessage) ≡ delivery_fault w holder count items
     by_items w holder s = ap (λ (o : Option (List Item)). option_map_or (λ items. delivery_fault w holder count items) o (Some NoMessage)) (message_is value w k s ∙ there)
 
     pub no_map : (j : ℕ) → length value.maps ≤ j → EventLeads (Deliver k (Map j) count) (Refused NoMap) value value
@@ -56,22 +57,22 @@ module _ (value : WorldRecord) (k : ℕ) (count : Option ℕ) where
         (w, (by_items w (Map j) s ∙ ap (λ (o : Option MapState). cond (not (is_some o)) (Some NoMap) (cond (nat_lt (length items) (count_of count items)) (Some TooMany) None)) none, refl), s)
 
     pub too_many_for_store : (side : Side) → length items < count_of count items → EventLeads (Deliver k (Store side) count) (Refused TooMany) value value
-    too_many_for_store side l w s = (w, (by_items w (Store side) s ∙ ap (λ b. cond b (Some TooMany) None) (lt_true (length items) (count_of count items) l), refl), s)
+    too_many_for_store side l w s = (w, (by_items w (Store side) s ∙ ap (λ b. cond b (Some TooMany) None) (lt-ltb (length items) (count_of count items) l), refl), s)
 
     -- and a map
-    map_there : (w : World) (j : ℕ) (m : SubMapRecord) → Stands value w → slice_get value.maps j ≡ Some m → slice_get w.maps j ≡ Some (map_state m)
+    map_there : (w : World) (j : ℕ) (m : SubMapRecord) → WorldStands value w → slice_get value.maps j ≡ Some m → slice_get w.maps j ≡ Some (map_state m)
     map_there w j m s e = map_is value w j s ∙ ap (option_map map_state) e
 
-    by_count : (w : World) (j : ℕ) (m : SubMapRecord) → Stands value w → slice_get value.maps j ≡ Some m → delivery_fault w (Map j) count items ≡ cond (nat_lt (length items) (count_of count items)) (Some TooMany) None
+    by_count : (w : World) (j : ℕ) (m : SubMapRecord) → WorldStands value w → slice_get value.maps j ≡ Some m → delivery_fault w (Map j) count items ≡ cond (nat_lt (length items) (count_of count items)) (Some TooMany) None
     by_count w j m s e = ap (λ (o : Option MapState). cond (not (is_some o)) (Some NoMap) (cond (nat_lt (length items) (count_of count items)) (Some TooMany) None)) (map_there w j m s e)
 
     pub too_many_for_map : (j : ℕ) (m : SubMapRecord) → slice_get value.maps j ≡ Some m → length items < count_of count items → EventLeads (Deliver k (Map j) count) (Refused TooMany) value value
-    too_many_for_map j m e l w s = (w, (by_items w (Map j) s ∙ by_count w j m s e ∙ ap (λ b. cond b (Some TooMany) None) (lt_true (length items) (count_of count items) l), refl), s)
+    too_many_for_map j m e l w s = (w, (by_items w (Map j) s ∙ by_count w j m s e ∙ ap (λ b. cond b (Some TooMany) None) (lt-ltb (length items) (count_of count items) l), refl), s)
 
     -- ---- so many items are there
     module _ (few : count_of count items ≤ length items) (tally : Tally) where
       -- whatever the tally, its outcome isn't a refusal
-      happens : (w new : World) (holder : Holder) → delivery_fault w holder count items ≡ None → Stands value w → Delivers w k holder count (tally_outcome tally tally.stop) new → Happens w (Deliver k holder count) (tally_outcome tally tally.stop) new
+      happens : (w new : World) (holder : Holder) → delivery_fault w holder count items ≡ None → WorldStands value w → Delivers w k holder count (tally_outcome tally tally.stop) new → Happens w (Deliver k holder count) (tally_outcome tally tally.stop) new
       happens w new holder free s d = by_stop tally.stop d
         where
           by_stop : (o : Option Refusal) → Delivers w k holder count (tally_outcome tally o) new → Happens w (Deliver k holder count) (tally_outcome tally o) new
@@ -81,15 +82,15 @@ module _ (value : WorldRecord) (k : ℕ) (count : Option ℕ) where
       not_more : cond (nat_lt (length items) (count_of count items)) (Some TooMany) None ≡ None
       not_more = ap (λ b. cond b (Some TooMany) None) (lt_false (length items) (count_of count items) few)
 
-      message_there : (w : World) → Stands value w → slice_get w.messages k ≡ Some items
+      message_there : (w : World) → WorldStands value w → slice_get w.messages k ≡ Some items
       message_there w s = message_is value w k s ∙ there
 
       -- it led to such a world, in whose store want of memory came last
       abbrev pub Led : Side → WorldRecord → Type 0
       Led side new =
-          (w : World) → Stands value w → (after : World) × Happens w (Deliver k (Store side) count) (tally_outcome tally tally.stop) after × IsWantLast (take (count_of count items) items) tally.done tally.stop (store_at after side) × Stands new after
+          (w : World) → WorldStands value w → (after : World) × Happens w (Deliver k (Store side) count) (tally_outcome tally tally.stop) after × IsWantLast (take (count_of count items) items) tally.done tally.stop (store_at after side) × WorldStands new after
 
-      pub to_a : (new : ContentRecord) → ((s : State) → contents.Stands value.a s → (t : State) × StoreTakes s (take (count_of count items) items) tally t × contents.Stands new t × IsWantLast (take (count_of count items) items) tally.done tally.stop t)
+      pub to_a : (new : ContentRecord) → ((s : State) → contents.ContentStands value.a s → (t : State) × StoreTakes s (take (count_of count items) items) tally t × contents.ContentStands new t × IsWantLast (take (count_of count items) items) tally.done tally.stop t)
           → Led A (record value { a = new })
       to_a new takes w s =
           let t = takes w.a s.a in (
@@ -100,7 +101,7 @@ module _ (value : WorldRecord) (k : ℕ) (count : Option ℕ) where
             record { a = t.2; b = s.b; maps = s.maps; messages = s.messages },
           )
 
-      pub to_b : (new : ContentRecord) → ((s : State) → contents.Stands value.b s → (t : State) × StoreTakes s (take (count_of count items) items) tally t × contents.Stands new t × IsWantLast (take (count_of count items) items) tally.done tally.stop t)
+      pub to_b : (new : ContentRecord) → ((s : State) → contents.ContentStands value.b s → (t : State) × StoreTakes s (take (count_of count items) items) tally t × contents.ContentStands new t × IsWantLast (take (count_of count items) items) tally.done tally.stop t)
           → Led B (record value { b = new })
       to_b new takes w s =
           let t = takes w.b s.b in (
@@ -123,7 +124,7 @@ module _ (value : WorldRecord) (k : ℕ) (count : Option ℕ) where
           one o x y e f = cc
 
           by_stop : (o : Option Refusal)
-              → ((w : World) → Stands value w → (after : World) × Happens w (Deliver k (Store side) count) (tally_outcome tally o) after × IsWantLast (take (count_of count items) items) tally.done o (store_at after side) × Stands new after)
+              → ((w : World) → WorldStands value w → (after : World) × Happens w (Deliver k (Store side) count) (tally_outcome tally o) after × IsWantLast (take (count_of count items) items) tally.done o (store_at after side) × WorldStands new after)
               → IsStoreTold (Deliver k (Store side) count) side (take (count_of count items) items) (tally_outcome tally o) value new
           by_stop None to = tt
           by_stop (Some fault) to = λ w s. (let at = to w s in (at.0, (at.1, at.2), at.3))

@@ -16,7 +16,7 @@ use Rattle.ds_replica.specs.declared.outcome.Outcome.TheVariants.{Replied, Made,
 use Rattle.ds_replica.specs.World.{World}
 use Rattle.ds_replica.specs.Happens.{HappenAll}
 use Rattle.ds_replica.specs.Known.{Account, store_of, extended, extended_all}
-use Rattle.ds_replica.specs.Messages.{IsAsked, after, feed_of, IsMessage}
+use Rattle.ds_replica.specs.Messages.{IsAsked, account_after, feed_of, IsMessage}
 use Rattle.ds_replica.proofs.EventLemmas.{events_fit}
 use Rattle.ds_replica.proofs.MessageLemmas.{check_is_turn}
 use Rattle.ds_replica.proofs.CheckLemmas.{checks_are_whole}
@@ -36,7 +36,7 @@ extended_append [] ys account = refl
 extended_append (x ∷ xs) ys account = extended_append xs ys (extended account x.0 x.1)
 
 -- the account now is the one behind what was asked
-pub now_after : (account : Account) (events : List (Event × Outcome)) (side : Side) (command : Command) (k : ℕ) (g : WasGiven events side command k) → after (extended_all account g.before) side command k g.since ≡ extended_all account events
+pub now_after : (account : Account) (events : List (Event × Outcome)) (side : Side) (command : Command) (k : ℕ) (g : WasGiven events side command k) → account_after (extended_all account g.before) side command k g.since ≡ extended_all account events
 now_after account events side command k g = sym (extended_append g.before ((Ask side command, Made k) ∷ g.since) account) ∙ ap (extended_all account) g.all
 
 module _ (account : Account) (old new : WorldRecord) (events : List Event) (outcomes : List Outcome) (run : RunLeads events outcomes old new) (f : IsFor account old) where
@@ -50,7 +50,7 @@ module _ (account : Account) (old new : WorldRecord) (events : List Event) (outc
     asked : IsAsked (extended_all account g.before) parts.0 side command k g.since late
     asked = record { fits = events_fit account f.0 parts.0 g.before f.2 parts.1; happen = parts.2; stays = g.stays }
 
-    now_is : after (extended_all account g.before) side command k g.since ≡ extended_all account (paired events outcomes)
+    now_is : account_after (extended_all account g.before) side command k g.since ≡ extended_all account (paired events outcomes)
     now_is = now_after account (paired events outcomes) side command k g
 
   pub checks : ChecksAreTurns account (paired events outcomes)

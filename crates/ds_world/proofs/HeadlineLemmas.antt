@@ -10,7 +10,6 @@ use Rattle.ds_join.specs.ItemTop.{CoversAll}
 use Rattle.ds_held.specs.Held.{held_items}
 use Rattle.ds_pattern.specs.Under.{is_under}
 use Rattle.ds_submap.specs.Map.{SubMapRecord}
-use Rattle.ds_whole.specs.Under.{under, entries_of}
 use Rattle.ds_whole.specs.Labels.{label_in, IsNewest}
 use Rattle.ds_replica.specs.declared.event.Event.{Event}
 use Rattle.ds_replica.specs.declared.event.Side.{Side}
@@ -19,7 +18,7 @@ use Rattle.ds_replica.specs.declared.event.Holder.{Holder}
 use Rattle.ds_replica.specs.declared.event.Holder.TheVariants.{Store, Map}
 use Rattle.ds_replica.specs.declared.outcome.Outcome.{Outcome}
 use Rattle.ds_content.specs.Stands as contents
-use Rattle.ds_replica.specs.World.{World, map_held, held_at, store_at}
+use Rattle.ds_replica.specs.World.{World, map_held, held_by, store_at}
 use Rattle.ds_replica.specs.Headline as headline
 use Rattle.ds_replica.specs.Known.{Account, store_of, extended_all}
 use Rattle.ds_replica.proofs.EventLemmas.{events_fit}
@@ -27,11 +26,12 @@ use Rattle.ds_replica.proofs.HolderLemmas.{equal_where_known, holds_the_stores, 
 use Rattle.ds_replica.proofs.BringLemmas.{events_bring_items}
 use Rattle.ds_replica.proofs.StayLemmas.{floors_stand}
 use Rattle.ds_replica.proofs.TurnLemmas.{whole_stays, turns_are_run}
-use Rattle.ds_world.specs.World.{WorldRecord, map_state, held_in, store_in, Stands}
+use Rattle.ds_world.specs.World.{WorldRecord, map_state, held_in, store_in, WorldStands}
 use Rattle.ds_world.specs.Run.{paired, RunLeads}
-use Rattle.ds_world.specs.Account.{IsFor, Agrees, CatchesUp, KeepsUp, NamesNewest, IsAbout, NothingClashes, NothingBelowFloors, FloorsStand, WholeStays, StayItems, TurnsAreRun}
+use Rattle.ds_world.specs.Account.{IsFor, Agrees, CatchesUp, KeepsUp, NamesNewest, IsFoundIn, NothingClashes, NothingBelowFloors, FloorsStand, StaysWhole, StayItems, TurnsAreRun}
 use Rattle.ds_world.proofs.NamedLemmas.{named}
 use Rattle.ds_world.proofs.StandLemmas.{held_is, message_is}
+use Rattle.ds_entry.specs.Under.{under, entries_of}
 
 -- what stands at a place is in the list
 get_contains : (xs : List (List Item)) (k : ℕ) (x : List Item) → slice_get xs k ≡ Some x → Contains xs x
@@ -40,7 +40,7 @@ get_contains (y ∷ xs) zero x e = let same : y ≡ x = cc in subst (Contains (y
 get_contains (y ∷ xs) (suc k) x e = Contains-tail y xs x (get_contains xs k x e)
 
 module _ (account : Account) (value : WorldRecord) (f : IsFor account value) where
-  held : (h : Holder) → held_at f.0 h ≡ held_in value h
+  held : (h : Holder) → held_by f.0 h ≡ held_in value h
   held h = held_is value f.0 h f.1
 
   agrees : Agrees account value
@@ -60,15 +60,15 @@ module _ (account : Account) (value : WorldRecord) (f : IsFor account value) whe
   keeps_up : KeepsUp account value
   keeps_up j m side all =
       subst (λ (l : List Item). CoversAll l (under (is_under m.query) (held_in value (Store side)))) (held (Map j))
-      (subst (λ (l : List Item). CoversAll (held_at f.0 (Map j)) (under (is_under m.query) l)) (held (Store side)) (holds_at_least account f.0 j m side f.2 all))
+      (subst (λ (l : List Item). CoversAll (held_by f.0 (Map j)) (under (is_under m.query) l)) (held (Store side)) (holds_at_least account f.0 j m side f.2 all))
 
   names_newest : NamesNewest account value
   names_newest j m n side name there map items all else u =
-      let is : held_at f.0 (Map j) ≡ held_items n.held = held (Map j) ∙ ap (λ (o : Option SubMapRecord). map_held (option_map map_state o)) there in
+      let is : held_by f.0 (Map j) ≡ held_items n.held = held (Map j) ∙ ap (λ (o : Option SubMapRecord). map_held (option_map map_state o)) there in
       subst (λ (o : Option EndpointRecord). IsNewest (store_of account side).known name o) (ap (λ (l : List Item). label_in l name) is ∙ named n.held map.sound name)
       (labels_are_newest account f.0 j m side name f.2 items all else u)
 
-  about : (i : Item) → IsAbout value i → headline.IsAbout f.0 i
+  about : (i : Item) → IsFoundIn value i → headline.IsAbout f.0 i
   about i (inl h) = inl (h.0, subst (λ (l : List Item). Contains l i) (sym (held h.0)) h.1)
   about i (inr m) = inr (m.1, get_contains f.0.messages m.0 m.1 (message_is value f.0 m.0 f.1 ∙ m.2), m.3)
 
@@ -109,10 +109,10 @@ module _ (account : Account) (old new : WorldRecord) (events : List Event) (outc
   pub items_stay : StayItems account (paired events outcomes)
   items_stay proper items = let went = run f.0 f.1 in events_bring_items account f.0 went.0 (paired events outcomes) f.2 went.1 proper items
 
-  pub stays_whole : WholeStays account (paired events outcomes)
+  pub stays_whole : StaysWhole account (paired events outcomes)
   stays_whole side query items r stays l whole = let went = run f.0 f.1 in whole_stays account f.0 went.0 side (paired events outcomes) query items r f.2 went.1 stays l whole
 
-store_stands : (value : WorldRecord) (w : World) (side : Side) → Stands value w → contents.Stands (store_in value side) (store_at w side)
+store_stands : (value : WorldRecord) (w : World) (side : Side) → WorldStands value w → contents.ContentStands (store_in value side) (store_at w side)
 store_stands value w A s = s.a
 store_stands value w B s = s.b
 

@@ -21,36 +21,33 @@ use Rattle.ds_replica.specs.declared.outcome.Outcome.TheVariants.{MapMade, Clear
 use Rattle.ds_replica.specs.declared.outcome.EventFault.TheVariants.{MapsFull, TooLong, BadPattern, NoMap, OldIncarnation, NoRoom}
 use Rattle.ds_replica.specs.World.{MapState, World, with_state}
 use Rattle.ds_replica.specs.Happens.{most_maps, pattern_fault, map_fault, new_map, reopened}
-use Rattle.ds_world.specs.World.{WorldRecord, map_state, Stands}
+use Rattle.ds_world.specs.World.{WorldRecord, map_state, WorldStands}
 use Rattle.ds_world.specs.Run.{EventLeads}
-use Rattle.ds_world.proofs.StandLemmas.{map_is, le_true, le_false, lt_true, lt_false}
+use Rattle.ds_world.proofs.StandLemmas.{map_is, lt_false}
+use Rattle.std.proofs.lemmas.Bool.{le-leb, lt-leb, lt-ltb}
 
 -- ---- a map is made
 -- a map to which nothing came holds nothing
 empty_state : (query : Query) → map_state (empty_map query) ≡ new_map query
 empty_state query = ap (λ (l : List Item). record { query = query; held = l }) (nothing_is_held larger)
 
-many : (value : WorldRecord) (w : World) → Stands value w → length w.maps ≡ length value.maps
+many : (value : WorldRecord) (w : World) → WorldStands value w → length w.maps ≡ length value.maps
 many value w s = ap (λ (l : List MapState). length l) s.maps ∙ length-map value.maps map_state
 
 -- what stands against a query where there are few maps
-few_fault : (value : WorldRecord) (w : World) (query : Query) → Stands value w → length value.maps < most_maps → map_fault w query ≡ pattern_fault query
+few_fault : (value : WorldRecord) (w : World) (query : Query) → WorldStands value w → length value.maps < most_maps → map_fault w query ≡ pattern_fault query
 few_fault value w query s few =
-    ap (λ b. cond b (Some MapsFull) (pattern_fault query)) (ap (λ n. nat_le most_maps n) (many value w s) ∙ le_false most_maps (length value.maps) few)
-
-not_true : (b : Bool) → b ≡ true → not b ≡ false
-not_true true e = refl
-not_true false e = absurd (let n : false ≡ true = e in cc)
+    ap (λ b. cond b (Some MapsFull) (pattern_fault query)) (ap (λ n. nat_le most_maps n) (many value w s) ∙ lt-leb most_maps (length value.maps) few)
 
 fits : (query : Query) → length query.text ≤ 128 → not (nat_le (length query.text) 128) ≡ false
-fits query l = ap not (le_true (length query.text) 128 l)
+fits query l = ap not (le-leb (length query.text) 128 l)
 
 pub nothing_against : (query : Query) → IsPattern query.text → pattern_fault query ≡ None
 nothing_against query p =
     ap (λ b. cond b (Some TooLong) (cond (not (is_pattern query.text)) (Some BadPattern) None)) (fits query p.limit) ∙ ap (λ b. cond (not b) (Some BadPattern) None) p.accepted
 
 too_long : (query : Query) → 128 < length query.text → pattern_fault query ≡ Some TooLong
-too_long query l = ap (λ b. cond (not b) (Some TooLong) (cond (not (is_pattern query.text)) (Some BadPattern) None)) (le_false (length query.text) 128 l)
+too_long query l = ap (λ b. cond (not b) (Some TooLong) (cond (not (is_pattern query.text)) (Some BadPattern) None)) (lt-leb (length query.text) 128 l)
 
 bad_pattern : (query : Query) → length query.text ≤ 128 → is_pattern query.text ≡ false → pattern_fault query ≡ Some BadPattern
 bad_pattern query l e =
@@ -67,7 +64,7 @@ none_or_bad query l = by_test (is_pattern query.text) refl
 module _ (value : WorldRecord) (query : Query) where
   pub maps_full : most_maps ≤ length value.maps → EventLeads (NewMap query) (Refused MapsFull) value value
   maps_full full w s =
-      (w, (ap (λ b. cond b (Some MapsFull) (pattern_fault query)) (ap (λ n. nat_le most_maps n) (many value w s) ∙ le_true most_maps (length value.maps) full), refl), s)
+      (w, (ap (λ b. cond b (Some MapsFull) (pattern_fault query)) (ap (λ n. nat_le most_maps n) (many value w s) ∙ le-leb most_maps (length value.maps) full), refl), s)
 
   pub map_too_long : length value.maps < most_maps → IsPatternFault patterns.TooLong query.text → EventLeads (NewMap query) (Refused TooLong) value value
   map_too_long few l w s = (w, (few_fault value w query s few ∙ too_long query l, refl), s)
@@ -92,7 +89,7 @@ module _ (value : WorldRecord) (query : Query) where
   )
 
 -- ---- a map is cleared
-none_there : (value : WorldRecord) (w : World) (j : ℕ) → Stands value w → length value.maps ≤ j → slice_get w.maps j ≡ None
+none_there : (value : WorldRecord) (w : World) (j : ℕ) → WorldStands value w → length value.maps ≤ j → slice_get w.maps j ≡ None
 none_there value w j s l = slice_get_past w.maps j (omega (arith, l, many value w s))
 
 pub no_map : (value : WorldRecord) (j : ℕ) → length value.maps ≤ j → EventLeads (ClearMap j) (Refused NoMap) value value
@@ -107,7 +104,7 @@ map_cleared value j m e w s =
     )
 
 -- ---- a store is opened again
-same_incarnation : (content : ContentRecord) (t : State) → contents.Stands content t → content.journal.incarnation ≡ t.feed.incarnation
+same_incarnation : (content : ContentRecord) (t : State) → contents.ContentStands content t → content.journal.incarnation ≡ t.feed.incarnation
 same_incarnation content t s = s.journal.incarnation
 
 module _ (value : WorldRecord) (incarnation : ℕ) where
@@ -122,13 +119,13 @@ module _ (value : WorldRecord) (incarnation : ℕ) where
       and_false false = refl
 
   module _ (la : value.a.journal.incarnation < incarnation) (lb : value.b.journal.incarnation < incarnation) where
-    above : (w : World) → Stands value w → cond (nat_lt w.a.feed.incarnation incarnation && nat_lt w.b.feed.incarnation incarnation) None (Some OldIncarnation) ≡ None
+    above : (w : World) → WorldStands value w → cond (nat_lt w.a.feed.incarnation incarnation && nat_lt w.b.feed.incarnation incarnation) None (Some OldIncarnation) ≡ None
     above w s =
-        ap (λ b. cond (b && nat_lt w.b.feed.incarnation incarnation) None (Some OldIncarnation)) (lt_true w.a.feed.incarnation incarnation (omega (arith, la, same_incarnation value.a w.a s.a)))
-        ∙ ap (λ b. cond b None (Some OldIncarnation)) (lt_true w.b.feed.incarnation incarnation (omega (arith, lb, same_incarnation value.b w.b s.b)))
+        ap (λ b. cond (b && nat_lt w.b.feed.incarnation incarnation) None (Some OldIncarnation)) (lt-ltb w.a.feed.incarnation incarnation (omega (arith, la, same_incarnation value.a w.a s.a)))
+        ∙ ap (λ b. cond b None (Some OldIncarnation)) (lt-ltb w.b.feed.incarnation incarnation (omega (arith, lb, same_incarnation value.b w.b s.b)))
 
-    pub restarted_a : (new : ContentRecord) → ((t : State) → contents.Stands value.a t → contents.Stands new (reopened t incarnation)) → EventLeads (RestartStore A incarnation) Restarted value (record value { a = new })
+    pub restarted_a : (new : ContentRecord) → ((t : State) → contents.ContentStands value.a t → contents.ContentStands new (reopened t incarnation)) → EventLeads (RestartStore A incarnation) Restarted value (record value { a = new })
     restarted_a new opens w s = (with_state w A (reopened w.a incarnation), (above w s, record { outcome_is = refl; world_is = refl }), record { a = opens w.a s.a; b = s.b; maps = s.maps; messages = s.messages })
 
-    pub restarted_b : (new : ContentRecord) → ((t : State) → contents.Stands value.b t → contents.Stands new (reopened t incarnation)) → EventLeads (RestartStore B incarnation) Restarted value (record value { b = new })
+    pub restarted_b : (new : ContentRecord) → ((t : State) → contents.ContentStands value.b t → contents.ContentStands new (reopened t incarnation)) → EventLeads (RestartStore B incarnation) Restarted value (record value { b = new })
     restarted_b new opens w s = (with_state w B (reopened w.b incarnation), (above w s, record { outcome_is = refl; world_is = refl }), record { a = s.a; b = opens w.b s.b; maps = s.maps; messages = s.messages })

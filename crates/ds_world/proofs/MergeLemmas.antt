@@ -6,7 +6,6 @@ use Rattle.std.specs.Option.{option_map_or}
 use Rattle.std.proofs.lemmas.List.Concat.{flat_map-cons}
 use Rattle.ds_entry.specs.declared.item.Item.{Item}
 use Rattle.ds_entry.proofs.Members.{Contains-cons, Contains-from_map}
-use Rattle.ds_machine.specs.Limits.{most_items}
 use Rattle.ds_machine.specs.State.{State, owed}
 use Rattle.ds_machine.specs.Order.{first_refusal}
 use Rattle.ds_machine.specs.Calling.{against_merge}
@@ -25,6 +24,7 @@ use Rattle.ds_judge.proofs.RoomLemmas.{no_course}
 use Rattle.ds_replica.specs.Delivery.{Tally, ended, added, StoreTakes}
 use Rattle.ds_world.specs.Tally.{IsCounted}
 use Rattle.ds_world.specs.Told.{IsWantLast}
+use Rattle.ds_names.specs.Limits.{most_items}
 
 -- each item as a group of its own
 abbrev singles : List Item → List (List Item)

@@ -2,21 +2,17 @@
 use Rattle.std.proofs.Common.{◌≡◌, ℕ, Bool, true, false, cond, List, [], ◌∷◌, Option, Some, None, refl, sym, ap, ◌∙◌, subst, inl, inr, Contains}
 use Rattle.std.specs.Option.{option_and_then}
 use Rattle.std.specs.Ordering.{eq_by_cmp}
-use Rattle.ds_names.specs.Key.{key_cmp}
+use Rattle.ds_names.specs.Key.{key_cmp, label_key}
 use Rattle.ds_entry.specs.Change.{ChangeRecord}
-use Rattle.ds_entry.specs.declared.body.Value.{Value}
-use Rattle.ds_entry.specs.declared.body.Value.TheVariants as values
-use Rattle.ds_entry.specs.declared.body.Body.{Body}
-use Rattle.ds_entry.specs.declared.body.Body.TheVariants.{Put, Gone}
 use Rattle.ds_entry.specs.declared.item.Item.{Item}
 use Rattle.ds_entry.specs.declared.item.Item.TheVariants.{Change as Changed, Floor as Floored}
 use Rattle.ds_entry.proofs.CoversLemmas.{same_key, same_key-refl}
 use Rattle.ds_entry.proofs.Members.{Contains-nil, Contains-cons, Contains-head, Contains-tail}
-use Rattle.ds_join.specs.Reading.{value_in, value_of}
 use Rattle.ds_held.specs.Held.{Holding, held_items, held_for, IsSound}
 use Rattle.ds_held.proofs.HeldLemmas.{change_in, is_held}
 use Rattle.ds_submap.specs.Map as maps
-use Rattle.ds_whole.specs.Labels.{label_key, endpoint_in, label_in}
+use Rattle.ds_whole.specs.Labels.{label_in}
+use Rattle.ds_entry.specs.Left.{value_of, endpoint_in, endpoint_of_value}
 
 -- a label without a change names nothing
 none_named : (items : List Item) (name : List ℕ) → ((d : ChangeRecord) → Contains items (Changed d) → d.key ≡ label_key name → ⊥) → label_in items name ≡ None
@@ -46,23 +42,11 @@ one_named (Changed x ∷ items) name c h e one = by_test (λ m. one_named items 
           | inr m ↦ rest m
         ]
 
--- what a map reads of a value is what the label leaves
-reads_value : (v : Value) → endpoint_in (Put v) ≡ maps.endpoint_in v
-reads_value (values.Label e) = refl
-reads_value (values.U32 n) = refl
-reads_value (values.Str t) = refl
-reads_value (values.Mem b) = refl
-
-reads_body : (b : Body) → endpoint_in b ≡ option_and_then maps.endpoint_in (value_in b)
-reads_body (Put v) = reads_value v
-reads_body Gone = refl
-
 module _ (h : Holding) (sound : IsSound h) (name : List ℕ) where
-  by_change : (o : Option ChangeRecord) → held_for h (label_key name) ≡ o → label_in (held_items h) name ≡ option_and_then maps.endpoint_in (option_and_then value_of o)
+  by_change : (o : Option ChangeRecord) → held_for h (label_key name) ≡ o → label_in (held_items h) name ≡ option_and_then endpoint_of_value (option_and_then value_of o)
   by_change None e = none_named (held_items h) name (λ d k q. let there : None ≡ Some d = sym e ∙ (ap (held_for h) (sym q) ∙ is_held h sound (Changed d) k) in absurd (cc))
   by_change (Some c) e =
       one_named (held_items h) name c (change_in h (label_key name) c e) (sound.own (label_key name) c e) (λ d k q. let there : Some c ≡ Some d = sym e ∙ (ap (held_for h) (sym q) ∙ is_held h sound (Changed d) k) in cc)
-      ∙ reads_body c.body
 
   pub named : label_in (held_items h) name ≡ maps.endpoint_of_label h name
   named = by_change (held_for h (label_key name)) refl

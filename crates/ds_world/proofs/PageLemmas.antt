@@ -11,7 +11,7 @@ use Rattle.ds_feed.specs.declared.reading.Since as journals
 use Rattle.ds_feed.specs.Feed.{position}
 use Rattle.ds_feed.specs.Since.{IsGiven, piece, since_of}
 use Rattle.ds_feed.specs.Page.{floors_of, changes_of, still_to_come, page_of}
-use Rattle.ds_whole.specs.Under.{Keeps}
+use Rattle.ds_whole.specs.Under.{KeepsQuery}
 use Rattle.ds_whole.specs.Sent.{Sent, given}
 use Rattle.ds_whole.specs.Whole.{IsWhole}
 use Rattle.ds_whole.specs.Journaled.{SinceTurn, IsSinceTurn, AreSince, since_items, cursor_after}
@@ -36,7 +36,7 @@ use Rattle.ds_replica.specs.declared.outcome.Outcome.{Outcome}
 use Rattle.ds_replica.specs.World.{store_at}
 use Rattle.ds_replica.specs.Known.{StoreAccount, Account, message_items, store_of, extended_all}
 use Rattle.ds_replica.specs.Fits.{Fits, FitsStore}
-use Rattle.ds_replica.specs.Messages.{IsAsked, after, feed_of, IsMessage}
+use Rattle.ds_replica.specs.Messages.{IsAsked, account_after, feed_of, IsMessage}
 use Rattle.ds_replica.specs.Checks.{sent_in}
 use Rattle.ds_replica.proofs.EventLemmas.{events_fit}
 use Rattle.ds_replica.proofs.FitLemmas.{store_fits, own_fits}
@@ -44,7 +44,7 @@ use Rattle.ds_replica.proofs.GivenLemmas.{given_unless}
 use Rattle.ds_replica.proofs.MessageLemmas.{gave, front, snapshot_is_whole}
 use Rattle.ds_world.specs.World.{WorldRecord}
 use Rattle.ds_world.specs.Account.{IsFor}
-use Rattle.ds_world.specs.Messages.{WasGiven, GivenSince, GivenPage, SnapshotsAreWhole, SincesAreTurns, SincesExtend, PagesAreTurns}
+use Rattle.ds_world.specs.Messages.{WasGiven, GivenSince, GivenPage, SnapshotsAreWhole, SincesAreTurns, SinceMessagesExtend, PagesAreTurns}
 use Rattle.ds_world.specs.Pages.{WerePaged, WereJournaled, last_page, last_since, AllPagesAreWhole}
 use Rattle.ds_world.specs.Told.{AreTold}
 use Rattle.ds_world.proofs.GivenLemmas.{now_after}
@@ -86,7 +86,7 @@ module _ (says_snapshot : SnappedSays) (says_page : PagedSays) (says_since : Jou
     own : FitsStore (extended_all account g.before).brought (known_then g.before) (known_then g.before).state
     own = own_fits (extended_all account g.before) was.mid side fits
 
-    now_is : after (extended_all account g.before) side command k g.since ≡ now
+    now_is : account_after (extended_all account g.before) side command k g.since ≡ now
     now_is = now_after account events side command k g
 
     stepped : (reply : Reply) → slice_get new.messages k ≡ Some reply → Step (known_then g.before).state command reply was.asks.after
@@ -102,7 +102,7 @@ module _ (says_snapshot : SnappedSays) (says_page : PagedSays) (says_since : Jou
     snapshot_at : snapshot.cursor.position ≡ position (known_then g.before).state.feed
     snapshot_at = ap (λ (s : snaps.Snapshot). s.cursor.position) (says_snapshot (known_then g.before).state (was ask_snapshot k g).asks.after scope snapshot (stepped ask_snapshot k g (Snapped snapshot) there)).0
 
-    whole_snapshot : (query : Key → Bool) → Keeps (keeps scope) query → IsWhole (feed_of now side) query (sent_in now k) snapshot.cursor.position
+    whole_snapshot : (query : Key → Bool) → KeepsQuery (keeps scope) query → IsWhole (feed_of now side) query (sent_in now k) snapshot.cursor.position
     whole_snapshot query keep =
         let w = was ask_snapshot k g in
         let at = position (known_then g.before).state.feed in
@@ -160,10 +160,10 @@ module _ (says_snapshot : SnappedSays) (says_page : PagedSays) (says_since : Jou
         ap message_items here ∙ ap (λ (l : List Item). given a.known l) (sym (ap (λ (p : journals.Since). p.items) since_is.given ∙ same))
 
   -- ---- each of them
-  snapshots_whole : (scope : Scope) (query : Key → Bool) (k : ℕ) (snapshot : snaps.Snapshot) → WasGiven events side (Snapshot scope) k → slice_get new.messages k ≡ Some (Snapped snapshot) → Keeps (keeps scope) query → IsWhole (feed_of now side) query (sent_in now k) snapshot.cursor.position
+  snapshots_whole : (scope : Scope) (query : Key → Bool) (k : ℕ) (snapshot : snaps.Snapshot) → WasGiven events side (Snapshot scope) k → slice_get new.messages k ≡ Some (Snapped snapshot) → KeepsQuery (keeps scope) query → IsWhole (feed_of now side) query (sent_in now k) snapshot.cursor.position
   snapshots_whole scope query k snapshot g there keep = whole_snapshot scope k snapshot g there query keep
 
-  since_extends : (scope : Scope) (query : Key → Bool) (at : Cursor) (x : GivenSince) (items : List Sent) → WasGiven events side (Since scope at x.max) x.message → slice_get new.messages x.message ≡ Some (Journaled x.since) → Keeps (keeps scope) query →
+  since_extends : (scope : Scope) (query : Key → Bool) (at : Cursor) (x : GivenSince) (items : List Sent) → WasGiven events side (Since scope at x.max) x.message → slice_get new.messages x.message ≡ Some (Journaled x.since) → KeepsQuery (keeps scope) query →
       IsWhole (feed_of now side) query items at.position → IsWhole (feed_of now side) query (items ++ sent_in now x.message) x.since.cursor.position
   since_extends scope query at x items g there keep whole =
       let t = since_turn g.before x in
@@ -212,7 +212,7 @@ module _ (says_snapshot : SnappedSays) (says_page : PagedSays) (says_since : Jou
     since_sent says_snapshot says_page says_since account old new events told f side scope at x g there,
   )
 
-  pub sinces : SincesExtend account events new.messages
+  pub sinces : SinceMessagesExtend account events new.messages
   sinces side scope query at x items g there keep whole = since_extends says_snapshot says_page says_since account old new events told f side scope query at x items g there keep whole
 
   pub pages_are : PagesAreTurns account events new.messages

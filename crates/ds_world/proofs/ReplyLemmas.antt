@@ -11,7 +11,7 @@ use Rattle.ds_replica.specs.declared.outcome.Outcome.{Outcome}
 use Rattle.ds_replica.specs.declared.outcome.Outcome.TheVariants.{Replied, Made, MapMade, Merged, Stopped, Cleared, Restarted, Refused}
 use Rattle.ds_replica.specs.World.{World}
 use Rattle.ds_replica.specs.Happens.{event_fault, Asks, HappenAll}
-use Rattle.ds_world.specs.World.{WorldRecord, Stands}
+use Rattle.ds_world.specs.World.{WorldRecord, WorldStands}
 use Rattle.ds_world.specs.Run.{EventLeads}
 use Rattle.ds_world.specs.Told.{IsTold, AreTold, MessagesStay, RepliesAreKept}
 
@@ -51,8 +51,8 @@ in_two [] ys old new told = (old, refl, told)
 in_two (x ∷ xs) ys old new told = let rest = in_two xs ys told.0 new told.3 in (rest.0, (told.0, told.1, told.2, rest.1), rest.2)
 
 -- the values stand for worlds in which the events happened
-happened : (events : List (Event × Outcome)) (old new : WorldRecord) (w : World) → AreTold old events new → Stands old w → (late : World) × HappenAll w events late × Stands new late
-happened [] old new w told s = (w, refl, subst (λ (v : WorldRecord). Stands v w) (sym told) s)
+happened : (events : List (Event × Outcome)) (old new : WorldRecord) (w : World) → AreTold old events new → WorldStands old w → (late : World) × HappenAll w events late × WorldStands new late
+happened [] old new w told s = (w, refl, subst (λ (v : WorldRecord). WorldStands v w) (sym told) s)
 happened (e ∷ events) old new w told s =
     let one = told.1 w s in
     let rest = happened events told.0 new one.0 told.3 one.2 in
@@ -73,9 +73,9 @@ pub record WasAsked (before since : List (Event × Outcome)) (side : Side) (comm
   pub there : slice_get new.messages k ≡ Some asks.reply
   pub late : World
   pub since_happens : HappenAll after since late
-  pub stands : Stands new late
+  pub stands : WorldStands new late
 
-pub asked_for : (old new : WorldRecord) (events : List (Event × Outcome)) → AreTold old events new → (before since : List (Event × Outcome)) (side : Side) (command : Command) (k : ℕ) (w : World) → before ++ (Ask side command, Made k) ∷ since ≡ events → Stands old w
+pub asked_for : (old new : WorldRecord) (events : List (Event × Outcome)) → AreTold old events new → (before since : List (Event × Outcome)) (side : Side) (command : Command) (k : ℕ) (w : World) → before ++ (Ask side command, Made k) ∷ since ≡ events → WorldStands old w
     → WasAsked before since side command k w new
 asked_for old new events told before since side command k w all s =
     let parts = in_two before ((Ask side command, Made k) ∷ since) old new (subst (λ (l : List (Event × Outcome)). AreTold old l new) (sym all) told) in

@@ -19,11 +19,14 @@ use Rattle.ds_held.proofs.HeldLemmas.{change_in}
 use Rattle.ds_pattern.specs.declared.query.Query.{Query}
 use Rattle.ds_machine.specs.declared.refusal.Refusal.TheVariants as refusals
 use Rattle.ds_submap.specs.declared.count.Count.{Count}
-use Rattle.ds_submap.specs.Map.{SubMapRecord, is_item_under, under}
+use Rattle.ds_submap.specs.Map.{SubMapRecord}
 use Rattle.ds_submap.specs.Take.{AreAnswered, is_taken, is_stale, AreCounted, IsTakeStopped, IsUnasked, IsRefusedUnder}
 use Rattle.ds_replica.specs.Delivery.{ended, StandsAgainst, MapTakes}
 use Rattle.ds_world.specs.World.{map_state}
 use Rattle.ds_world.specs.Tally.{refusal_of}
+use Rattle.ds_pattern.specs.Under.{is_under}
+use Rattle.ds_entry.specs.Item.{passes}
+use Rattle.ds_entry.specs.Under.{under}
 
 -- ---- why an item is refused
 module _ (held : Holding) (sound : IsSound held) (c : ChangeRecord) where
@@ -80,26 +83,26 @@ answered_each old [] (r ∷ rs) new a = absurd a
 answered_each old (i ∷ items) [] new a = absurd a
 answered_each old (i ∷ items) (r ∷ rs) new a = let e = answered_each (after_item old i (Ok r)) items rs new a.1 in omega (arith, e)
 
-under_few : (q : Query) (items : List Item) → length (under q items) ≤ length items
+under_few : (q : Query) (items : List Item) → length (under (is_under q) items) ≤ length items
 under_few q [] = omega arith
-under_few q (i ∷ items) = by_test (is_item_under q i) refl (under_few q items)
+under_few q (i ∷ items) = by_test (passes (is_under q) i) refl (under_few q items)
   where
-    by_test : (b : Bool) → is_item_under q i ≡ b → length (under q items) ≤ length items → length (under q (i ∷ items)) ≤ length (i ∷ items)
+    by_test : (b : Bool) → passes (is_under q) i ≡ b → length (under (is_under q) items) ≤ length items → length (under (is_under q) (i ∷ items)) ≤ length (i ∷ items)
     by_test true e rest = rw e (omega (arith, rest))
     by_test false e rest = rw e (omega (arith, rest))
 
 -- ---- a take
 module _ (old new : SubMapRecord) (items : List Item) (query : new.query ≡ old.query) where
   -- all items were done
-  pub took : (count : Count) → IsTop (held_items new.held) (held_items old.held ++ under old.query items) → AreCounted old.query old.held items new.held count
+  pub took : (count : Count) → IsTop (held_items new.held) (held_items old.held ++ under (is_under old.query) items) → AreCounted old.query old.held items new.held count
       → MapTakes (map_state old) items (record { done = count.done; taken = count.taken; stale = count.stale; owed = 0; stop = None }) (map_state new)
   took count top n =
       record {
         query = query;
-        top = subst (λ (l : List Item). IsTop (held_items new.held) (held_items old.held ++ under old.query l)) (sym (take_all count.done items (omega (arith, n.done)))) top;
+        top = subst (λ (l : List Item). IsTop (held_items new.held) (held_items old.held ++ under (is_under old.query) l)) (sym (take_all count.done items (omega (arith, n.done)))) top;
         counted =
             (let few = answers_few n.all.answers in
-            let each = answered_each old.held (under old.query items) n.all.answers new.held n.all.answered in
+            let each = answered_each old.held (under (is_under old.query) items) n.all.answers new.held n.all.answered in
             let fewer = under_few old.query items in
             omega (arith, few, each, fewer, n.done, n.taken, n.stale));
         owed = refl;
@@ -107,7 +110,7 @@ module _ (old new : SubMapRecord) (items : List Item) (query : new.query ≡ old
       }
 
   -- the take was stopped
-  pub stopped : IsSound new.held → (stop : Stop) → IsTop (held_items new.held) (held_items old.held ++ under old.query (take stop.done items)) → IsTakeStopped old.query old.held items new.held stop
+  pub stopped : IsSound new.held → (stop : Stop) → IsTop (held_items new.held) (held_items old.held ++ under (is_under old.query) (take stop.done items)) → IsTakeStopped old.query old.held items new.held stop
       → MapTakes (map_state old) items (ended stop.done 0 (Some (refusal_of stop.fault))) (map_state new)
   stopped sound stop top n =
       record {
@@ -118,8 +121,8 @@ module _ (old new : SubMapRecord) (items : List Item) (query : new.query ≡ old
         ends = (n.refused.0, n.refused.1, under_or_noroom n.refused.2, against n.refused.2);
       }
     where
-      under_or_noroom : (IsRefusedUnder old.query new.held n.refused.0 stop.fault ⊎ IsUnasked old.query (take stop.done items) n.refused.0 stop.fault) → (is_item_under new.query n.refused.0 ≡ true) ⊎ (refusal_of stop.fault ≡ refusals.NoRoom)
-      under_or_noroom (inl r) = inl (subst (λ (q : Query). is_item_under q n.refused.0 ≡ true) (sym query) r.0)
+      under_or_noroom : (IsRefusedUnder old.query new.held n.refused.0 stop.fault ⊎ IsUnasked old.query (take stop.done items) n.refused.0 stop.fault) → (passes (is_under new.query) n.refused.0 ≡ true) ⊎ (refusal_of stop.fault ≡ refusals.NoRoom)
+      under_or_noroom (inl r) = inl (subst (λ (q : Query). passes (is_under q) n.refused.0 ≡ true) (sym query) r.0)
       under_or_noroom (inr u) = inr (ap refusal_of u.noroom)
 
       against : (IsRefusedUnder old.query new.held n.refused.0 stop.fault ⊎ IsUnasked old.query (take stop.done items) n.refused.0 stop.fault) → StandsAgainst (held_items new.held) n.refused.0 (refusal_of stop.fault)

@@ -12,14 +12,13 @@ use Rattle.ds_join.specs.ItemTop.{CoversAll}
 use Rattle.ds_feed.specs.Feed.{position}
 use Rattle.ds_pattern.specs.Under.{is_under}
 use Rattle.ds_submap.specs.Map.{SubMapRecord, IsMap, endpoint_of_label}
-use Rattle.ds_whole.specs.Under.{under, entries_of}
 use Rattle.ds_machine.specs.Machine.{Run}
 use Rattle.ds_machine.specs.declared.command.Command.{Command}
 use Rattle.ds_machine.specs.declared.reply.Reply.{Reply}
 use Rattle.ds_machine.specs.declared.refusal.Refusal.{Refusal}
 use Rattle.ds_content.specs.Stands as contents
 use Rattle.ds_whole.specs.Agreement.{KnowSame}
-use Rattle.ds_whole.specs.Labels.{label_key, IsNewest}
+use Rattle.ds_whole.specs.Labels.{IsNewest}
 use Rattle.ds_whole.specs.Sent.{Sent}
 use Rattle.ds_whole.specs.Whole.{IsWhole}
 use Rattle.ds_replica.specs.declared.event.Side.{Side}
@@ -36,11 +35,13 @@ use Rattle.ds_replica.specs.Headline.{IsContradiction}
 use Rattle.ds_replica.specs.CaughtUp.{HasAll, HasNothingElse, AreItems}
 use Rattle.ds_replica.specs.Bringing.{IsProperEvent}
 use Rattle.ds_replica.specs.Turns.{Stays}
-use Rattle.ds_world.specs.World.{WorldRecord, held_in, store_in, kept_items, Stands}
+use Rattle.ds_world.specs.World.{WorldRecord, held_in, store_in, kept_items, WorldStands}
+use Rattle.ds_names.specs.Key.{label_key}
+use Rattle.ds_entry.specs.Under.{under, entries_of}
 
 -- the account fits a world for which the value stands
 abbrev pub IsFor : Account → WorldRecord → Type 0
-IsFor account value = (w : World) × Stands value w × Fits account w
+IsFor account value = (w : World) × WorldStands value w × Fits account w
 
 -- *agreement*: holders that know the same under a query hold the same under it, tombstones, versions and floors too, and so
 -- equal entries, if all that Asks brought in is single-numbered
@@ -68,12 +69,12 @@ NamesNewest account value =
 
 -- *no stop by clash or owner*: no two changes of a key that are held, or can be delivered, have two owners, or two bodies at
 -- one version
-abbrev pub IsAbout : WorldRecord → Item → Type 0
-IsAbout value i = ((h : Holder) × Contains (held_in value h) i) ⊎ ((k : ℕ) × (items : List Item) × (kept_items value.messages k ≡ Some items) × Contains items i)
+abbrev pub IsFoundIn : WorldRecord → Item → Type 0
+IsFoundIn value i = ((h : Holder) × Contains (held_in value h) i) ⊎ ((k : ℕ) × (items : List Item) × (kept_items value.messages k ≡ Some items) × Contains items i)
 
 abbrev pub NothingClashes : Account → WorldRecord → Type 0
 NothingClashes account value =
-    (c d : ChangeRecord) → AreSingleNumbered account.brought → IsAbout value (Changed c) → IsAbout value (Changed d) → c.key ≡ d.key → (c.owner ≡ d.owner) × (c.version ≡ d.version → c ≡ d)
+    (c d : ChangeRecord) → AreSingleNumbered account.brought → IsFoundIn value (Changed c) → IsFoundIn value (Changed d) → c.key ≡ d.key → (c.owner ≡ d.owner) × (c.version ≡ d.version → c ≡ d)
 
 -- and no delivery among these events is stopped by such a fault
 abbrev pub NothingStops : Account → List (Event × Outcome) → Type 0
@@ -91,8 +92,8 @@ FloorsStand account events new =
     (h : Holder) (f : Floor) (c : ChangeRecord) → Stays h events → Contains (known_at account h) (Floored f) → Contains (held_in new h) (Changed c) → voids f c ≡ false
 
 -- *wholeness*: what is whole for a store stays so over these events, unless they restart the store
-abbrev pub WholeStays : Account → List (Event × Outcome) → Type 0
-WholeStays account events =
+abbrev pub StaysWhole : Account → List (Event × Outcome) → Type 0
+StaysWhole account events =
     (side : Side) (query : Key → Bool) (items : List Sent) (r : ℕ) → Stays (Store side) events → r ≤ position (store_of account side).state.feed → IsWhole (store_of account side).state.feed query items r →
     IsWhole (store_of (extended_all account events) side).state.feed query items r
 
@@ -103,5 +104,5 @@ StayItems account events = ((e : Event × Outcome) → Contains events e → IsP
 -- a store's turns in these events are a run of its machine, unless they restart the store
 abbrev pub TurnsAreRun : WorldRecord → List (Event × Outcome) → WorldRecord → Type 0
 TurnsAreRun old events new =
-    (w : World) (side : Side) → Stands old w → Stays (Store side) events →
-    (after : World) × (commands : List Command) × (replies : List Reply) × Run (store_at w side) commands replies (store_at after side) × contents.Stands (store_in new side) (store_at after side)
+    (w : World) (side : Side) → WorldStands old w → Stays (Store side) events →
+    (after : World) × (commands : List Command) × (replies : List Reply) × Run (store_at w side) commands replies (store_at after side) × contents.ContentStands (store_in new side) (store_at after side)

@@ -9,7 +9,7 @@ use Rattle.ds_feed.specs.declared.reading.Page as pages
 use Rattle.ds_feed.specs.Feed.{Feed, position}
 use Rattle.ds_pattern.specs.declared.query.Query.{Query}
 use Rattle.ds_pattern.specs.Under.{is_under}
-use Rattle.ds_whole.specs.Under.{Keeps}
+use Rattle.ds_whole.specs.Under.{KeepsQuery}
 use Rattle.ds_whole.specs.Sent.{Sent, given}
 use Rattle.ds_whole.specs.Front.{IsFront}
 use Rattle.ds_whole.specs.Whole.{IsWhole}
@@ -32,7 +32,7 @@ use Rattle.ds_replica.specs.declared.outcome.Outcome.{Outcome}
 use Rattle.ds_replica.specs.declared.outcome.Outcome.TheVariants.{Replied, Made}
 use Rattle.ds_replica.specs.Known.{Account, store_of, extended, extended_all}
 use Rattle.ds_replica.specs.Messages.{IsMessage, feed_of}
-use Rattle.ds_replica.specs.Checks.{subscribes, sent_in, checked}
+use Rattle.ds_replica.specs.Checks.{is_subscribing, sent_in, checks_sent}
 use Rattle.ds_replica.specs.Turns.{Stays}
 
 -- among the events a store was asked, gave this message, and wasn't restarted since
@@ -57,7 +57,7 @@ pub record GivenPage : Type 0 where
 -- a message with a snapshot, under a scope that keeps all of the query, is whole up to the cursor that came with it
 abbrev pub SnapshotsAreWhole : Account → List (Event × Outcome) → List Reply → Type 0
 SnapshotsAreWhole account events messages =
-    (side : Side) (scope : Scope) (query : Key → Bool) (k : ℕ) (snapshot : snapshots.Snapshot) → WasGiven events side (Snapshot scope) k → slice_get messages k ≡ Some (Snapped snapshot) → Keeps (keeps scope) query →
+    (side : Side) (scope : Scope) (query : Key → Bool) (k : ℕ) (snapshot : snapshots.Snapshot) → WasGiven events side (Snapshot scope) k → slice_get messages k ≡ Some (Snapped snapshot) → KeepsQuery (keeps scope) query →
     let now = extended_all account events in
     IsWhole (feed_of now side) query (sent_in now k) snapshot.cursor.position
 
@@ -70,9 +70,9 @@ SincesAreTurns account events messages =
 
 -- items that are whole up to a cursor, with those of a message of the journal from there, under a scope that keeps all of the
 -- query, are whole up to the cursor that came with the message
-abbrev pub SincesExtend : Account → List (Event × Outcome) → List Reply → Type 0
-SincesExtend account events messages =
-    (side : Side) (scope : Scope) (query : Key → Bool) (at : Cursor) (x : GivenSince) (items : List Sent) → WasGiven events side (Since scope at x.max) x.message → slice_get messages x.message ≡ Some (Journaled x.since) → Keeps (keeps scope) query →
+abbrev pub SinceMessagesExtend : Account → List (Event × Outcome) → List Reply → Type 0
+SinceMessagesExtend account events messages =
+    (side : Side) (scope : Scope) (query : Key → Bool) (at : Cursor) (x : GivenSince) (items : List Sent) → WasGiven events side (Since scope at x.max) x.message → slice_get messages x.message ≡ Some (Journaled x.since) → KeepsQuery (keeps scope) query →
     let now = extended_all account events in
     IsWhole (feed_of now side) query items at.position → IsWhole (feed_of now side) query (items ++ sent_in now x.message) x.since.cursor.position
 
@@ -102,7 +102,7 @@ pub record WasChecked (events : List (Event × Outcome)) (side : Side) (sub : �
   pub since : List (Event × Outcome)
   pub all : before ++ (Ask side (Subscribe sub query true overwrite), Replied (Subscribed stamp owed)) ∷ (between ++ (Ask side (Check sub max), Made k) ∷ since) ≡ events
   pub stays : Stays (Store side) between
-  pub alone : list_any (subscribes side sub) between ≡ false
+  pub alone : list_any (is_subscribing side sub) between ≡ false
 
 -- the items of all checks since then are whole up to that check, if it gave fewer than its max
 abbrev pub AllChecksAreWhole : Account → List (Event × Outcome) → Type 0
@@ -111,4 +111,4 @@ AllChecksAreWhole account events =
     let begun = extended (extended_all account g.before) (Ask side (Subscribe sub query true g.overwrite)) (Replied (Subscribed g.stamp g.owed)) in
     let asked = extended_all begun g.between in
     let told = extended asked (Ask side (Check sub max)) (Made k) in
-    length (sent_in told k) < max → IsWhole (feed_of told side) (is_under query) (checked side sub begun g.between ++ sent_in told k) (position (feed_of asked side))
+    length (sent_in told k) < max → IsWhole (feed_of told side) (is_under query) (checks_sent side sub begun g.between ++ sent_in told k) (position (feed_of asked side))

@@ -3,7 +3,7 @@ use Rattle.std.specs.Prelude.{◌≡◌, ℕ, ◌≤◌, Bool, List, [], ◌∷�
 use Rattle.std.specs.List.{flat_map, slice_get}
 use Rattle.ds_names.specs.declared.key.Key.{Key}
 use Rattle.ds_feed.specs.declared.cursor.Cursor.{Cursor}
-use Rattle.ds_whole.specs.Under.{Keeps}
+use Rattle.ds_whole.specs.Under.{KeepsQuery}
 use Rattle.ds_whole.specs.Whole.{IsWhole}
 use Rattle.ds_whole.specs.Paged.{last_key}
 use Rattle.ds_machine.specs.Scope.{keeps}
@@ -46,7 +46,7 @@ last_since at (x ∷ xs) = last_since x.since.cursor xs
 -- gave last, if that one isn't before the last page's; whatever happened between them, and in whatever order they were asked for
 abbrev pub AllPagesAreWhole : Account → List (Event × Outcome) → List Reply → Type 0
 AllPagesAreWhole account events messages =
-    (side : Side) (scope other : Scope) (query : Key → Bool) (first : GivenPage) (pages : List GivenPage) (sinces : List GivenSince) → Keeps (keeps scope) query → Keeps (keeps other) query →
+    (side : Side) (scope other : Scope) (query : Key → Bool) (first : GivenPage) (pages : List GivenPage) (sinces : List GivenSince) → KeepsQuery (keeps scope) query → KeepsQuery (keeps other) query →
     WerePaged events messages side scope None 0 (first ∷ pages) → WereJournaled events messages side other first.page.cursor sinces →
     let now = extended_all account events in
     let to = last_since first.page.cursor sinces in

@@ -1,10 +1,10 @@
 -- Why no world is made of two seeds.
 use Rattle.std.specs.Prelude.{◌≡◌, ◌≢◌, ◌⊎◌, ◌<◌, ◌≤◌}
 use Rattle.ds_feed.specs.Kept.{IsRing}
-use Rattle.ds_machine.specs.Limits.{last_place}
 use Rattle.ds_replica.specs.declared.seed.Seed.{Seed}
 use Rattle.ds_world.specs.declared.fault.SeedFault.{SeedFault}
 use Rattle.ds_world.specs.declared.fault.SeedFault.TheVariants.{BadRing, BadFirst, OldIncarnation, NoRoom}
+use Rattle.ds_names.specs.Limits.{last_place}
 
 -- a store can be opened with it
 pub record IsSeed (seed : Seed) : Type 0 where

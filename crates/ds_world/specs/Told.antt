@@ -23,7 +23,7 @@ use Rattle.ds_replica.specs.declared.outcome.Outcome.TheVariants.{Replied, Made,
 use Rattle.ds_replica.specs.World.{World, store_at}
 use Rattle.ds_replica.specs.Happens.{count_of, event_fault, Asks, Happens, HappenAll}
 use Rattle.ds_world.specs.Tally.{refusal_of}
-use Rattle.ds_world.specs.World.{WorldRecord, kept_items, Stands, Leads}
+use Rattle.ds_world.specs.World.{WorldRecord, kept_items, WorldStands, Leads}
 use Rattle.ds_world.specs.Run.{EventLeads}
 
 -- the item behind so many of them would take effect in this state, and that takes memory
@@ -53,11 +53,11 @@ IsMapTold query old items _ new = Unit {0}
 -- an Ask was answered by this reply, from each world that the old value stands for to one that the new value stands for, and
 -- want of memory comes last
 pub record IsAnswered (side : Side) (command : Command) (outcome : Outcome) (reply : Reply) (old new : WorldRecord) : Type 0 where
-  pub asks : (w : World) → Stands old w → (event_fault w (Ask side command) ≡ None) × (after : World) × (a : Asks w side command outcome after) × (a.reply ≡ reply) × Stands new after
-  pub last : (w : World) → Stands old w → IsLast (store_at w side) command reply
+  pub asks : (w : World) → WorldStands old w → (event_fault w (Ask side command) ≡ None) × (after : World) × (a : Asks w side command outcome after) × (a.reply ≡ reply) × WorldStands new after
+  pub last : (w : World) → WorldStands old w → IsLast (store_at w side) command reply
 
 -- and the reply is the message of this number, kept whole behind the others
-pub record IsKept (side : Side) (command : Command) (k : ℕ) (old new : WorldRecord) : Type 0 where
+pub record IsMessageKept (side : Side) (command : Command) (k : ℕ) (old new : WorldRecord) : Type 0 where
   pub reply : Reply
   pub answered : IsAnswered side command (Made k) reply old new
   pub next : k ≡ length old.messages
@@ -66,7 +66,7 @@ pub record IsKept (side : Side) (command : Command) (k : ℕ) (old new : WorldRe
 -- what an Ask tells: the reply, or the number under which it is kept; a refused one changes no message
 abbrev pub IsAskTold : Side → Command → Outcome → WorldRecord → WorldRecord → Type 0
 IsAskTold side command (Replied reply) old new = IsAnswered side command (Replied reply) reply old new × (new.messages ≡ old.messages)
-IsAskTold side command (Made k) old new = IsKept side command k old new
+IsAskTold side command (Made k) old new = IsMessageKept side command k old new
 IsAskTold side command _ old new = new.messages ≡ old.messages
 
 -- what an Ask and a delivery tell; only an Ask makes a message
@@ -93,6 +93,6 @@ MessagesStay old new = (made : List Reply) × (new.messages ≡ old.messages ++ 
 -- an Ask among these events made a message: it is the reply by which the store made its step then, behind the events before it
 abbrev pub RepliesAreKept : WorldRecord → List (Event × Outcome) → WorldRecord → Type 0
 RepliesAreKept old events new =
-    (before since : List (Event × Outcome)) (side : Side) (command : Command) (k : ℕ) (w : World) → before ++ (Ask side command, Made k) ∷ since ≡ events → Stands old w →
+    (before since : List (Event × Outcome)) (side : Side) (command : Command) (k : ℕ) (w : World) → before ++ (Ask side command, Made k) ∷ since ≡ events → WorldStands old w →
     (mid : World) × HappenAll w before mid × (after : World) × (a : Asks mid side command (Made k) after) × (slice_get new.messages k ≡ Some a.reply)
-    × (late : World) × HappenAll after since late × Stands new late
+    × (late : World) × HappenAll after since late × WorldStands new late

@@ -49,12 +49,12 @@ abbrev pub kept_items : List Reply → ℕ → Option (List Item)
 kept_items messages k = option_and_then items_given (slice_get messages k)
 
 -- the stores stand for the world's, the maps are the world's, and each message has the items that it has in the world
-pub record Stands (value : WorldRecord) (w : World) : Type 0 where
-  pub a : contents.Stands value.a w.a
-  pub b : contents.Stands value.b w.b
+pub record WorldStands (value : WorldRecord) (w : World) : Type 0 where
+  pub a : contents.ContentStands value.a w.a
+  pub b : contents.ContentStands value.b w.b
   pub maps : w.maps ≡ map map_state value.maps
   pub messages : map items_given value.messages ≡ map Some w.messages
 
 -- from each world that the old value stands for, this leads to one that the new value stands for
 abbrev pub Leads : (World → World → Type 0) → WorldRecord → WorldRecord → Type 0
-Leads R old new = (w : World) → Stands old w → (after : World) × R w after × Stands new after
+Leads R old new = (w : World) → WorldStands old w → (after : World) × R w after × WorldStands new after

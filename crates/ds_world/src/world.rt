@@ -5,13 +5,13 @@ ghost use Rattle.std.specs.Option.{option_copied};
 ghost use Rattle.ds_held.specs.Limits.{larger};
 ghost use Rattle.ds_replica.specs.World.{World as Described, new_world};
 ghost use Rattle.ds_replica.specs.Known.{Account, new_account, extended, extended_all};
-ghost use Rattle.ds_world.specs.World.{store_in, HasItems, Stands};
+ghost use Rattle.ds_world.specs.World.{store_in, HasItems, WorldStands};
 ghost use Rattle.ds_world.specs.Seeds.{AreSeeds, IsSeedFault};
 ghost use Rattle.ds_world.specs.Run.{most_events, paired, EventLeads, RunLeads, IsRunFault};
 ghost use Rattle.ds_world.specs.Told.{IsTold, AreTold, RepliesAreKept, MessagesStay};
-ghost use Rattle.ds_world.specs.Messages.{SnapshotsAreWhole, SincesAreTurns, SincesExtend, PagesAreTurns, ChecksAreTurns, AllChecksAreWhole};
+ghost use Rattle.ds_world.specs.Messages.{SnapshotsAreWhole, SincesAreTurns, SinceMessagesExtend, PagesAreTurns, ChecksAreTurns, AllChecksAreWhole};
 ghost use Rattle.ds_world.specs.Pages.{AllPagesAreWhole};
-ghost use Rattle.ds_world.specs.Account.{IsFor, Agrees, CatchesUp, KeepsUp, NamesNewest, NothingClashes, NothingStops, NothingBelowFloors, FloorsStand, StayItems, TurnsAreRun, WholeStays};
+ghost use Rattle.ds_world.specs.Account.{IsFor, Agrees, CatchesUp, KeepsUp, NamesNewest, NothingClashes, NothingStops, NothingBelowFloors, FloorsStand, StayItems, TurnsAreRun, StaysWhole};
 
 use crate::events::Events;
 use crate::fault::{SeedFault, WorldFault};
@@ -68,7 +68,7 @@ impl World {
     /// and messages. BadRing where a ring isn't 1 to 4096, then BadFirst where a first position is above 2^62, then
     /// OldIncarnation where both incarnations are equal, and NoRoom last, for the rings.
     pub fn new(alloc: Global, a: Seed, b: Seed) -> Result<World, SeedFault>
-        ensures made { IfOk result (λ world. Stands world (new_world a b larger)) }
+        ensures made { IfOk result (λ world. WorldStands world (new_world a b larger)) }
         ensures account { IfOk result (λ world. IsFor (new_account a b larger) world) }
         ensures fits { OnOk result (AreSeeds a b) }
         ensures refused { IfErr result (λ fault. IsSeedFault fault a b) }
@@ -108,10 +108,10 @@ impl World {
         ensures floors { IfOk result (λ outcomes. (account : Account) → IsFor account self.old → NothingBelowFloors (extended_all account (paired events outcomes)) self.new) }
         ensures floors_stand { IfOk result (λ outcomes. (account : Account) → IsFor account self.old → FloorsStand account (paired events outcomes) self.new) }
         ensures items { IfOk result (λ outcomes. (account : Account) → IsFor account self.old → StayItems account (paired events outcomes)) }
-        ensures whole { IfOk result (λ outcomes. (account : Account) → IsFor account self.old → WholeStays account (paired events outcomes)) }
+        ensures whole { IfOk result (λ outcomes. (account : Account) → IsFor account self.old → StaysWhole account (paired events outcomes)) }
         ensures snapshots { IfOk result (λ outcomes. (account : Account) → IsFor account self.old → SnapshotsAreWhole account (paired events outcomes) self.new.messages) }
         ensures since_turns { IfOk result (λ outcomes. (account : Account) → IsFor account self.old → SincesAreTurns account (paired events outcomes) self.new.messages) }
-        ensures sinces { IfOk result (λ outcomes. (account : Account) → IsFor account self.old → SincesExtend account (paired events outcomes) self.new.messages) }
+        ensures sinces { IfOk result (λ outcomes. (account : Account) → IsFor account self.old → SinceMessagesExtend account (paired events outcomes) self.new.messages) }
         ensures pages { IfOk result (λ outcomes. (account : Account) → IsFor account self.old → PagesAreTurns account (paired events outcomes) self.new.messages) }
         ensures all_pages { IfOk result (λ outcomes. (account : Account) → IsFor account self.old → AllPagesAreWhole account (paired events outcomes) self.new.messages) }
         ensures checks { IfOk result (λ outcomes. (account : Account) → IsFor account self.old → ChecksAreTurns account (paired events outcomes)) }
@@ -162,10 +162,10 @@ impl World {
         ensures floors { (account : Account) → IsFor account self.old → NothingBelowFloors (extended account event result) self.new }
         ensures floors_stand { (account : Account) → IsFor account self.old → FloorsStand account ((event, result) ∷ []) self.new }
         ensures items { (account : Account) → IsFor account self.old → StayItems account ((event, result) ∷ []) }
-        ensures whole { (account : Account) → IsFor account self.old → WholeStays account ((event, result) ∷ []) }
+        ensures whole { (account : Account) → IsFor account self.old → StaysWhole account ((event, result) ∷ []) }
         ensures snapshots { (account : Account) → IsFor account self.old → SnapshotsAreWhole account ((event, result) ∷ []) self.new.messages }
         ensures since_turns { (account : Account) → IsFor account self.old → SincesAreTurns account ((event, result) ∷ []) self.new.messages }
-        ensures sinces { (account : Account) → IsFor account self.old → SincesExtend account ((event, result) ∷ []) self.new.messages }
+        ensures sinces { (account : Account) → IsFor account self.old → SinceMessagesExtend account ((event, result) ∷ []) self.new.messages }
         ensures pages { (account : Account) → IsFor account self.old → PagesAreTurns account ((event, result) ∷ []) self.new.messages }
         ensures checks { (account : Account) → IsFor account self.old → ChecksAreTurns account ((event, result) ∷ []) }
         ensures turns { TurnsAreRun self.old ((event, result) ∷ []) self.new }
@@ -196,7 +196,7 @@ impl World {
     /// and `run` say is said of each.
     pub fn store(&self, side: Side) -> &Store
         ensures is { result.now ≡ store_in self.now side }
-        ensures stands { (w : Described) × Stands self.now w }
+        ensures stands { (w : Described) × WorldStands self.now w }
     {
         let _stood = (self.a.cursor(), self.b.cursor());
         match side {

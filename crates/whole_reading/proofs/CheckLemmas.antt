@@ -18,7 +18,7 @@ use Rattle.ds_machine.specs.State.{State, held, subscription_at}
 use Rattle.ds_machine.specs.Effect.{GoesOn}
 use Rattle.ds_machine.specs.SubscriptionLaws.{IsPlaced, IsCheckedOn}
 use Rattle.ds_content.specs.Content.{ContentRecord}
-use Rattle.ds_content.specs.Stands.{Stands}
+use Rattle.ds_content.specs.Stands.{ContentStands}
 use Rattle.whole_reading.specs.Goes.{Goes}
 use Rattle.whole_reading.specs.GivesUp.{IsFull, Shows, AreAllFull}
 use Rattle.whole_reading.specs.Laws.{Laws}
@@ -36,10 +36,10 @@ pub record Checking (s : State) (sub max : ℕ) (query : Query) (items : List It
   pub full : All (IsFull max) turns
   pub count_is : length turns ≡ count
   pub shows : Shows now sub query items
-  pub stands : Stands content now
+  pub stands : ContentStands content now
 
 -- the subscription was made, and nothing is shown yet
-pub begun : (s t : State) (sub max : ℕ) (query : Query) (stamp : ℕ) (content : ContentRecord) → GoesOn s t → IsPlaced s sub (record { query = query; stamp = stamp; shown = [] }) t → Stands content t → Checking s sub max query [] 0 content
+pub begun : (s t : State) (sub max : ℕ) (query : Query) (stamp : ℕ) (content : ContentRecord) → GoesOn s t → IsPlaced s sub (record { query = query; stamp = stamp; shown = [] }) t → ContentStands content t → Checking s sub max query [] 0 content
 begun s t sub max query stamp content goes placed stands =
     record {
       now = t;
@@ -69,8 +69,8 @@ still_full laws s sub count reading items content k mid others =
 
 -- one more check, behind what others did
 module _ (laws : Laws) (s : State) (sub : ℕ) (query : Query) (items more : List Item) (max count : ℕ) (content old : ContentRecord) (k : Checking s sub max query items count old)
-    (mid : State) (others : Goes (Some sub) k.now mid) (asked : ContentRecord) (stood : Stands asked mid)
-    (t : State) (before after : ℕ) (goes : GoesOn mid t) (says : (seer : Subscription) → subscription_at mid sub ≡ Some seer → IsCheckedOn mid sub max seer more before after t) (stands : Stands content t) where
+    (mid : State) (others : Goes (Some sub) k.now mid) (asked : ContentRecord) (stood : ContentStands asked mid)
+    (t : State) (before after : ℕ) (goes : GoesOn mid t) (says : (seer : Subscription) → subscription_at mid sub ≡ Some seer → IsCheckedOn mid sub max seer more before after t) (stands : ContentStands content t) where
   seer : Subscription
   seer = k.shows.seer
 

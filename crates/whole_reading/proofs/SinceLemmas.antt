@@ -10,11 +10,11 @@ use Rattle.ds_pattern.specs.Under.{is_under}
 use Rattle.ds_whole.specs.Journaled.{SinceTurn, IsSinceTurn, AreSince, cursor_after}
 use Rattle.ds_whole.specs.Gathered.{journaled}
 use Rattle.ds_machine.specs.Scope.{is_kept}
-use Rattle.ds_machine.specs.State.{State, position}
+use Rattle.ds_machine.specs.State.{State, next_position}
 use Rattle.ds_machine.specs.Effect.{GoesOn}
 use Rattle.ds_machine.specs.declared.command.Scope.TheVariants.{Under}
 use Rattle.ds_content.specs.Content.{ContentRecord}
-use Rattle.ds_content.specs.Stands.{Stands}
+use Rattle.ds_content.specs.Stands.{ContentStands}
 use Rattle.whole_reading.specs.Goes.{Goes}
 use Rattle.whole_reading.specs.GivesUp.{IsShort, AreAllShort}
 use Rattle.whole_reading.specs.Laws.{Laws}
@@ -31,10 +31,10 @@ pub record Catching (s : State) (reading : Reading) (from at : Cursor) (items mo
   pub at_is : cursor_after from turns ≡ at
   pub items_are : more ≡ items ++ journaled turns
   pub count_is : length turns ≡ count
-  pub stands : Stands content now
+  pub stands : ContentStands content now
 
 module _ (laws : Laws) (s : State) (reading : Reading) (from : Cursor) where
-  pub not_begun : (items : List Item) (content : ContentRecord) → Stands content s → Catching s reading from from items items 0 content
+  pub not_begun : (items : List Item) (content : ContentRecord) → ContentStands content s → Catching s reading from from items items 0 content
   not_begun items content stands =
       record {
         now = s;
@@ -52,7 +52,7 @@ module _ (laws : Laws) (s : State) (reading : Reading) (from : Cursor) where
     on = others_go_on laws k.now mid None k.stands.reached others
 
     -- what others did leaves it as far
-    pub stayed : (content : ContentRecord) → Stands content mid → Catching s reading from at items more count content
+    pub stayed : (content : ContentRecord) → ContentStands content mid → Catching s reading from at items more count content
     stayed content stands =
         record {
           now = mid;
@@ -83,7 +83,7 @@ module _ (laws : Laws) (s : State) (reading : Reading) (from at : Cursor) (items
   all_items = ap (λ (l : List Item). l ++ since.items) k.items_are ∙ append_assoc items (journaled k.turns) since.items ∙ ap (λ (l : List Item). items ++ l) (sym (laws.sinces.items_more k.turns turn))
 
   -- that didn't come to the store's cursor
-  pub caught_on : since.cursor.position ≢ position k.now → (content : ContentRecord) → Stands content k.now → Catching s reading from since.cursor items (more ++ since.items) (count + 1) content
+  pub caught_on : since.cursor.position ≢ next_position k.now → (content : ContentRecord) → ContentStands content k.now → Catching s reading from since.cursor items (more ++ since.items) (count + 1) content
   unfolding turn
   caught_on short content stands =
       record {
@@ -98,6 +98,6 @@ module _ (laws : Laws) (s : State) (reading : Reading) (from at : Cursor) (items
       }
 
   -- that came there
-  pub caught_up : since.cursor.position ≡ position k.now → IsCaughtUp k.now reading.query from items (more ++ since.items)
+  pub caught_up : since.cursor.position ≡ next_position k.now → IsCaughtUp k.now reading.query from items (more ++ since.items)
   unfolding turn
   caught_up end = record { turns = k.turns ++ turn ∷ []; are = are; items_are = all_items; to_end = ap (λ (c : Cursor). c.position) (laws.sinces.cursor_more from k.turns turn) ∙ end }

@@ -12,7 +12,7 @@ use Rattle.ds_whole.specs.Gathered as gathered
 use Rattle.ds_whole.specs.Journaled.{SinceTurn, AreSince, cursor_after}
 use Rattle.ds_whole.specs.Paged.{PageTurn, IsPageTurn}
 use Rattle.ds_whole.specs.OpenPages.{AreOpenPages, key_after, position_after, first_cursor}
-use Rattle.ds_machine.specs.State.{State, position, subscription_at}
+use Rattle.ds_machine.specs.State.{State, next_position, subscription_at}
 use Rattle.ds_machine.specs.Subscription.{Subscription}
 use Rattle.ds_machine.specs.Machine.{Step}
 use Rattle.ds_machine.specs.declared.refusal.Refusal.{Refusal}
@@ -26,7 +26,7 @@ use Rattle.whole_reading.specs.declared.fault.ReadFault.TheVariants.{Refused, No
 use Rattle.whole_reading.specs.declared.reading.Reading.{Reading}
 
 -- in this state the store refuses the command for this cause, and want of memory comes last
-pub record IsRefused (t : State) (command : Command) (refusal : Refusal) : Type 0 where
+pub record IsCommandRefused (t : State) (command : Command) (refusal : Refusal) : Type 0 where
   pub step : Step t command (replies.Refused refusal) t
   pub last : IsLast t command (replies.Refused refusal)
 
@@ -53,7 +53,7 @@ pub record AreAllFull (s t : State) (sub : ℕ) (reading : Reading) (turns : Lis
 -- the store, which is `t` now, refused the Subscribe, with which the reader begins, or the next Check, or there were as many as
 -- may be
 abbrev pub StopsChecks : State → State → ℕ → Reading → ReadFault → Type 0
-StopsChecks s t sub reading (Refused refusal) = ((t ≡ s) × IsRefused s (Subscribe sub reading.query true true) refusal) ⊎ ((turns : List CheckTurn) × AreAllFull s t sub reading turns × IsRefused t (Check sub reading.max) refusal)
+StopsChecks s t sub reading (Refused refusal) = ((t ≡ s) × IsCommandRefused s (Subscribe sub reading.query true true) refusal) ⊎ ((turns : List CheckTurn) × AreAllFull s t sub reading turns × IsCommandRefused t (Check sub reading.max) refusal)
 StopsChecks s t sub reading NoRoom = Unit {0}
 StopsChecks s t sub reading Unfinished = (turns : List CheckTurn) × AreAllFull s t sub reading turns × (length turns ≡ reading.questions)
 
@@ -71,7 +71,7 @@ pub record AreAllShort (t : State) (reading : Reading) (from : Cursor) (turns : 
 
 -- the next question to the journal was refused, or there were as many as may be
 abbrev pub StopsSinces : State → Reading → Cursor → ReadFault → Type 0
-StopsSinces t reading from (Refused refusal) = (turns : List SinceTurn) × AreAllShort t reading from turns × IsRefused t (Since (Under reading.query) (cursor_after from turns) reading.max) refusal
+StopsSinces t reading from (Refused refusal) = (turns : List SinceTurn) × AreAllShort t reading from turns × IsCommandRefused t (Since (Under reading.query) (cursor_after from turns) reading.max) refusal
 StopsSinces t reading from NoRoom = Unit {0}
 StopsSinces t reading from Unfinished = (turns : List SinceTurn) × AreAllShort t reading from turns × (length turns ≡ reading.questions)
 
@@ -79,7 +79,7 @@ StopsSinces t reading from Unfinished = (turns : List SinceTurn) × AreAllShort 
 
 -- the pages so far, since the reader began, none of which was the last
 pub record AreAllOpen (s t : State) (reading : Reading) (pages : List PageTurn) : Type 0 where
-  pub are : AreOpenPages t.feed (is_under reading.query) None (position s) pages
+  pub are : AreOpenPages t.feed (is_under reading.query) None (next_position s) pages
   pub asked : All (λ page. page.max ≡ reading.max) pages
 
 -- all pages were read, and this is the cursor of the first one
@@ -89,13 +89,13 @@ pub record ArePaged (s t : State) (reading : Reading) (from : Cursor) : Type 0 w
   pub last : PageTurn
   pub is : IsPageTurn t.feed (is_under reading.query) (key_after None pages) last
   pub asked : last.max ≡ reading.max
-  pub no_earlier : position_after (position s) pages ≤ last.page.cursor.position
+  pub no_earlier : position_after (next_position s) pages ≤ last.page.cursor.position
   pub ends : last.page.last ≡ true
   pub from_is : from ≡ unwrap_or (first_cursor pages) last.page.cursor
 
 -- the next page was refused, or there were as many as may be
 abbrev pub StopsOpen : State → State → Reading → ReadFault → Type 0
-StopsOpen s t reading (Refused refusal) = (pages : List PageTurn) × AreAllOpen s t reading pages × IsRefused t (Page (Under reading.query) (key_after None pages) reading.max) refusal
+StopsOpen s t reading (Refused refusal) = (pages : List PageTurn) × AreAllOpen s t reading pages × IsCommandRefused t (Page (Under reading.query) (key_after None pages) reading.max) refusal
 StopsOpen s t reading NoRoom = Unit {0}
 StopsOpen s t reading Unfinished = (pages : List PageTurn) × AreAllOpen s t reading pages × (length pages ≡ reading.questions)
 

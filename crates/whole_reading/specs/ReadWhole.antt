@@ -6,10 +6,10 @@ use Rattle.ds_pattern.specs.declared.query.Query.{Query}
 use Rattle.ds_pattern.specs.Under.{is_under}
 use Rattle.ds_whole.specs.Sent.{given}
 use Rattle.ds_whole.specs.Whole.{IsWhole}
-use Rattle.ds_machine.specs.State.{State, position}
+use Rattle.ds_machine.specs.State.{State, next_position}
 
 -- the items were all accepted, and are whole under the query up to the store's cursor: all that is under it and took
 -- effect by then is covered by one of them
 pub record IsReadWhole (t : State) (query : Query) (items : List Item) : Type 0 where
   pub among : IsPartOf items t.feed.accepted
-  pub whole : IsWhole t.feed (is_under query) (given t.feed.accepted items) (position t)
+  pub whole : IsWhole t.feed (is_under query) (given t.feed.accepted items) (next_position t)

@@ -9,8 +9,8 @@ ghost use Rattle.ds_machine.specs.State.{State, held, cursor, subscription_at};
 ghost use Rattle.ds_machine.specs.Subscription.{Subscription};
 ghost use Rattle.ds_machine.specs.SubscriptionLaws.{IsPlaced, IsCheckedOn};
 ghost use Rattle.ds_machine.specs.declared.command.Command.TheVariants as commands;
-ghost use Rattle.ds_content.specs.Stands.{Stands};
-ghost use Rattle.whole_reading.specs.GivesUp.{IsRefused};
+ghost use Rattle.ds_content.specs.Stands.{ContentStands};
+ghost use Rattle.whole_reading.specs.GivesUp.{IsCommandRefused};
 
 use crate::known::laws;
 use ds_entry::Items;
@@ -22,8 +22,8 @@ use ds_store::Store;
 
 /// Subscribes with INITIAL, over whatever the subscription was before.
 pub(crate) fn subscribe(store: &mut Store, sub: u32, query: Query) -> Result<(), Refusal>
-    ensures made { OnOk result ((s : State) → Stands store.old s → (t : State) × (stamp : ℕ) × GoesOn s t × IsPlaced s sub (record { query = query; stamp = stamp; shown = [] }) t × Stands store.new t) }
-    ensures refused { IfErr result (λ refusal. (s : State) → Stands store.old s → IsRefused s (commands.Subscribe sub query true true) refusal × Stands store.new s) }
+    ensures made { OnOk result ((s : State) → ContentStands store.old s → (t : State) × (stamp : ℕ) × GoesOn s t × IsPlaced s sub (record { query = query; stamp = stamp; shown = [] }) t × ContentStands store.new t) }
+    ensures refused { IfErr result (λ refusal. (s : State) → ContentStands store.old s → IsCommandRefused s (commands.Subscribe sub query true true) refusal × ContentStands store.new s) }
 {
     laws();
     match store.apply(Command::Subscribe {
@@ -43,8 +43,8 @@ pub(crate) fn subscribe(store: &mut Store, sub: u32, query: Query) -> Result<(),
 
 /// Checks the subscription.
 pub(crate) fn check(store: &mut Store, sub: u32, max: u32) -> Result<Items, Refusal>
-    ensures shown { IfOk result (λ items. (s : State) → Stands store.old s → (t : State) × (before : ℕ) × (after : ℕ) × GoesOn s t × ((seer : Subscription) → subscription_at s sub ≡ Some seer → IsCheckedOn s sub max seer items before after t) × Stands store.new t) }
-    ensures refused { IfErr result (λ refusal. (s : State) → Stands store.old s → IsRefused s (commands.Check sub max) refusal × Stands store.new s) }
+    ensures shown { IfOk result (λ items. (s : State) → ContentStands store.old s → (t : State) × (before : ℕ) × (after : ℕ) × GoesOn s t × ((seer : Subscription) → subscription_at s sub ≡ Some seer → IsCheckedOn s sub max seer items before after t) × ContentStands store.new t) }
+    ensures refused { IfErr result (λ refusal. (s : State) → ContentStands store.old s → IsCommandRefused s (commands.Check sub max) refusal × ContentStands store.new s) }
 {
     laws();
     match store.apply(Command::Check { sub, max }) {
@@ -65,8 +65,8 @@ pub(crate) fn page(
     after: Option<Key>,
     max: u32,
 ) -> Result<Page, Refusal>
-    ensures given { IfOk result (λ page. (s : State) → Stands store.old s → (page ≡ page_of (is_kept scope) after max (held s) (cursor s)) × Stands store.new s) }
-    ensures refused { IfErr result (λ refusal. (s : State) → Stands store.old s → IsRefused s (commands.Page scope after max) refusal × Stands store.new s) }
+    ensures given { IfOk result (λ page. (s : State) → ContentStands store.old s → (page ≡ page_of (is_kept scope) after max (held s) (cursor s)) × ContentStands store.new s) }
+    ensures refused { IfErr result (λ refusal. (s : State) → ContentStands store.old s → IsCommandRefused s (commands.Page scope after max) refusal × ContentStands store.new s) }
 {
     laws();
     match store.apply(Command::Page { scope, after, max }) {
@@ -83,8 +83,8 @@ pub(crate) fn since(
     cursor: Cursor,
     max: u32,
 ) -> Result<Since, Refusal>
-    ensures given { IfOk result (λ since. (s : State) → Stands store.old s → IsGiven s.feed (is_kept scope) cursor max since × Stands store.new s) }
-    ensures refused { IfErr result (λ refusal. (s : State) → Stands store.old s → IsRefused s (commands.Since scope cursor max) refusal × Stands store.new s) }
+    ensures given { IfOk result (λ since. (s : State) → ContentStands store.old s → IsGiven s.feed (is_kept scope) cursor max since × ContentStands store.new s) }
+    ensures refused { IfErr result (λ refusal. (s : State) → ContentStands store.old s → IsCommandRefused s (commands.Since scope cursor max) refusal × ContentStands store.new s) }
 {
     laws();
     match store.apply(Command::Since { scope, cursor, max }) {

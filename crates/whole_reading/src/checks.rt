@@ -3,7 +3,7 @@
 ghost use Rattle.std.specs.Prelude.{◌≡◌, IfOk, IfErr};
 ghost use Rattle.ds_machine.specs.Effect.{GoesOn};
 ghost use Rattle.ds_machine.specs.State.{State};
-ghost use Rattle.ds_content.specs.Stands.{Stands};
+ghost use Rattle.ds_content.specs.Stands.{ContentStands};
 ghost use Rattle.whole_reading.specs.GivesUp.{StopsChecks};
 ghost use Rattle.whole_reading.specs.ReadWhole.{IsReadWhole};
 
@@ -32,8 +32,8 @@ pub fn read_by_checks<O: Others>(
     sub: u32,
     reading: &Reading,
 ) -> Result<Items, ReadFault>
-    ensures whole { IfOk result (λ items. (s : State) → Stands store.old s → (t : State) × GoesOn s t × Stands store.new t × IsReadWhole t reading.now.query items) }
-    ensures stopped { IfErr result (λ fault. (s : State) → Stands store.old s → (t : State) × GoesOn s t × Stands store.new t × StopsChecks s t sub reading.now fault) }
+    ensures whole { IfOk result (λ items. (s : State) → ContentStands store.old s → (t : State) × GoesOn s t × ContentStands store.new t × IsReadWhole t reading.now.query items) }
+    ensures stopped { IfErr result (λ fault. (s : State) → ContentStands store.old s → (t : State) × GoesOn s t × ContentStands store.new t × StopsChecks s t sub reading.now fault) }
 {
     laws();
     let query = reading.query.copy(alloc)?;

@@ -3,7 +3,7 @@
 ghost use Rattle.std.specs.Prelude.{◌≡◌, IfOk, OnOk, IfErr};
 ghost use Rattle.ds_machine.specs.Effect.{GoesOn};
 ghost use Rattle.ds_machine.specs.State.{State};
-ghost use Rattle.ds_content.specs.Stands.{Stands};
+ghost use Rattle.ds_content.specs.Stands.{ContentStands};
 ghost use Rattle.whole_reading.specs.CaughtUp.{IsCaughtUp};
 ghost use Rattle.whole_reading.specs.GivesUp.{StopsPages, StopsSinces};
 ghost use Rattle.whole_reading.specs.ReadWhole.{IsReadWhole};
@@ -28,8 +28,8 @@ fn catch_up<O: Others>(
     from: Cursor,
     items: &mut Items,
 ) -> Result<(), ReadFault>
-    ensures caught_up { OnOk result ((s : State) → Stands store.old s → (t : State) × GoesOn s t × Stands store.new t × IsCaughtUp t reading.now.query from items.old items.new) }
-    ensures stopped { IfErr result (λ fault. (s : State) → Stands store.old s → (t : State) × GoesOn s t × Stands store.new t × StopsSinces t reading.now from fault) }
+    ensures caught_up { OnOk result ((s : State) → ContentStands store.old s → (t : State) × GoesOn s t × ContentStands store.new t × IsCaughtUp t reading.now.query from items.old items.new) }
+    ensures stopped { IfErr result (λ fault. (s : State) → ContentStands store.old s → (t : State) × GoesOn s t × ContentStands store.new t × StopsSinces t reading.now from fault) }
 {
     laws();
     let mut at = from;
@@ -59,8 +59,8 @@ pub fn read_by_pages<O: Others>(
     others: &mut O,
     reading: &Reading,
 ) -> Result<Items, ReadFault>
-    ensures whole { IfOk result (λ items. (s : State) → Stands store.old s → (t : State) × GoesOn s t × Stands store.new t × IsReadWhole t reading.now.query items) }
-    ensures stopped { IfErr result (λ fault. (s : State) → Stands store.old s → (t : State) × GoesOn s t × Stands store.new t × StopsPages s t reading.now fault) }
+    ensures whole { IfOk result (λ items. (s : State) → ContentStands store.old s → (t : State) × GoesOn s t × ContentStands store.new t × IsReadWhole t reading.now.query items) }
+    ensures stopped { IfErr result (λ fault. (s : State) → ContentStands store.old s → (t : State) × GoesOn s t × ContentStands store.new t × StopsPages s t reading.now fault) }
 {
     laws();
     let mut items = Items::new(alloc);

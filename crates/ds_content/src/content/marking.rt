@@ -7,10 +7,11 @@ ghost use Rattle.ds_entry.specs.declared.floor.Floor.{Floor};
 ghost use Rattle.ds_entry.specs.declared.item.Item as items;
 ghost use Rattle.ds_held.specs.Held.{held_items, held_changes, held_floors};
 ghost use Rattle.ds_marked.specs.Marked.{mark_for, floor_mark_for};
-ghost use Rattle.ds_machine.specs.Scope.{is_item_under};
 ghost use Rattle.ds_watch.specs.Masks.{shown_to, made_at};
 ghost use Rattle.ds_content.specs.Kept.{masks_at};
 ghost use Rattle.ds_content.specs.Marking.{IsSet, IsRemarked, AreRemarked};
+ghost use Rattle.ds_pattern.specs.Under.{is_under};
+ghost use Rattle.ds_entry.specs.Item.{passes};
 
 use ds_held::Held;
 use ds_index::Labelled;
@@ -109,7 +110,7 @@ pub(super) fn make_all(held: &mut Labelled<Masks>, sub: usize, flags: &[bool], i
 
 // Whether the held item at the index is under the query, as every floor is.
 fn is_under_at(held: &Held, asker: &mut Asker<'_>, index: usize) -> Option<bool>
-    ensures told { result ≡ option_map (is_item_under asker.old) (slice_get (held_items held.now) index) }
+    ensures told { result ≡ option_map (passes (is_under asker.old)) (slice_get (held_items held.now) index) }
     ensures same { asker.new ≡ asker.old }
 {
     let floors = held.floor_count();
@@ -124,7 +125,7 @@ fn is_under_at(held: &Held, asker: &mut Asker<'_>, index: usize) -> Option<bool>
 
 /// Which of the held items are under the query, floors first and then changes in key order.
 pub(super) fn flags_under(alloc: Global, held: &Held, filter: &Filter) -> Result<Vec<bool>, NoRoom>
-    ensures { IfOk result (λ flags. flags.items ≡ map (is_item_under filter.now) (held_items held.now)) }
+    ensures { IfOk result (λ flags. flags.items ≡ map (passes (is_under filter.now)) (held_items held.now)) }
 {
     let mut flags = Vec::with_capacity(alloc, held.len())?;
     let mut asker = filter.asker(alloc)?;

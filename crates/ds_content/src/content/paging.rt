@@ -8,8 +8,8 @@ ghost use Rattle.ds_feed.specs.Page.{page_of};
 ghost use Rattle.ds_held.specs.Held.{change_item, held_floors};
 ghost use Rattle.ds_held.specs.Kept.{floored};
 ghost use Rattle.ds_machine.specs.State.{State, held as held_in, cursor as cursor_behind};
-ghost use Rattle.ds_content.specs.Paging.{admitted, more_after, given};
-ghost use Rattle.ds_content.specs.Stands.{Stands};
+ghost use Rattle.ds_content.specs.Paging.{admitted, more_after, given_change};
+ghost use Rattle.ds_content.specs.Stands.{ContentStands};
 
 use crate::content::Content;
 use ds_entry::{Change, Item, Items};
@@ -45,7 +45,7 @@ fn add_change<S: KeyScope>(
     left: u32,
 ) -> Result<Option<u32>, NoRoom>
     ensures more { IfOk result (λ more. more ≡ more_after (S.keeps scope.old change.now.key) left) }
-    ensures added { OnOk result (items.new ≡ items.old ++ map change_item (given (S.keeps scope.old change.now.key) left change.now)) }
+    ensures added { OnOk result (items.new ≡ items.old ++ map change_item (given_change (S.keeps scope.old change.now.key) left change.now)) }
     ensures scope { S.keeps scope.new ≡ S.keeps scope.old }
 {
     if !scope.admits(change.key()) {
@@ -91,7 +91,7 @@ impl Content {
         max: u32,
     ) -> Result<Page, NoRoom>
         ensures given { IfOk result (λ page. page ≡ page_of (passes (S.keeps scope.old)) after max self.now.held (cursor_of self.now.journal)) }
-        ensures stands { (s : State) → Stands self.now s → IfOk result (λ page. page ≡ page_of (passes (S.keeps scope.old)) after max (held_in s) (cursor_behind s)) }
+        ensures stands { (s : State) → ContentStands self.now s → IfOk result (λ page. page ≡ page_of (passes (S.keeps scope.old)) after max (held_in s) (cursor_behind s)) }
         ensures scope { S.keeps scope.new ≡ S.keeps scope.old }
     {
         let held = self.held.held();

@@ -4,11 +4,12 @@ ghost use Rattle.std.specs.Prelude.{◌≡◌, ◌∷◌, [], None, is_some, map
 ghost use Rattle.ds_entry.specs.declared.floor.Floor as floors;
 ghost use Rattle.ds_entry.specs.declared.item.Item.TheVariants.{Floor as Floored};
 ghost use Rattle.ds_machine.specs.Parts.{floor_at};
-ghost use Rattle.ds_machine.specs.State.{State, accepts};
+ghost use Rattle.ds_machine.specs.State.{State, takes_effect};
 ghost use Rattle.ds_machine.specs.Subscription.{is_owed};
 ghost use Rattle.ds_watch.specs.Mask.{padded};
-ghost use Rattle.ds_content.specs.Free.{IsFloorFree};
-ghost use Rattle.ds_content.specs.Stands.{Stands};
+ghost use Rattle.ds_content.specs.Stands.{ContentStands};
+ghost use Rattle.ds_content.specs.Standing.{floor_standing_in};
+ghost use Rattle.ds_machine.specs.Standing.{IsFloorFree};
 
 use crate::content::Content;
 use crate::content::accepting::taken;
@@ -20,7 +21,7 @@ impl Content {
     /// The subscriptions to which a floor is owed: all that are made.
     pub fn owed_by_floor(&self) -> Mask
         ensures value { result ≡ padded (map is_some self.now.subscriptions) }
-        ensures owed { (s : State) (f : floors.Floor) → Stands self.now s → result ≡ padded (map (is_owed (Floored f ∷ [])) s.subscriptions) }
+        ensures owed { (s : State) (f : floors.Floor) → ContentStands self.now s → result ≡ padded (map (is_owed (Floored f ∷ [])) s.subscriptions) }
     {
         self.subscriptions.made()
     }
@@ -30,8 +31,8 @@ impl Content {
     /// floor yet.
     pub fn raise(&mut self, floor: Floor, owed: Mask) -> Result<(), NoRoom>
         requires owed { owed ≡ padded (map is_some self.old.subscriptions) }
-        requires free { IsFloorFree self.old floor }
-        ensures ok { OnOk result ((s : State) → Stands self.old s → Stands self.new (accepts s (Floored floor ∷ []))) }
+        requires free { IsFloorFree (floor_standing_in self.old floor) floor }
+        ensures ok { OnOk result ((s : State) → ContentStands self.old s → ContentStands self.new (takes_effect s (Floored floor ∷ []))) }
         ensures err { OnErr result (self.new ≡ self.old) }
         ensures new_owner { OnErr result (floor_at self.old.held floor.owner ≡ None) }
     {

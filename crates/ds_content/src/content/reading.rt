@@ -4,9 +4,9 @@ ghost use Rattle.std.specs.Prelude.{◌≡◌, IfOk, IfErr};
 ghost use Rattle.ds_entry.specs.Item.{passes};
 ghost use Rattle.ds_feed.specs.Kept.{cursor_of};
 ghost use Rattle.ds_feed.specs.Page.{snapshot_of};
-ghost use Rattle.ds_feed.specs.Since.{IsGiven, IsRefused};
+ghost use Rattle.ds_feed.specs.Since.{IsGiven, IsSinceRefused};
 ghost use Rattle.ds_machine.specs.State.{State, held, cursor as cursor_behind};
-ghost use Rattle.ds_content.specs.Stands.{Stands};
+ghost use Rattle.ds_content.specs.Stands.{ContentStands};
 
 use crate::content::Content;
 use crate::content::copying::all_under;
@@ -23,8 +23,8 @@ impl Content {
         cursor: Cursor,
         max: u32,
     ) -> Result<Since, SinceFault>
-        ensures given { (s : State) → Stands self.now s → IfOk result (IsGiven s.feed (passes (S.keeps scope.old)) cursor max) }
-        ensures refused { (s : State) → Stands self.now s → IfErr result (λ fault. IsRefused s.feed cursor fault) }
+        ensures given { (s : State) → ContentStands self.now s → IfOk result (IsGiven s.feed (passes (S.keeps scope.old)) cursor max) }
+        ensures refused { (s : State) → ContentStands self.now s → IfErr result (λ fault. IsSinceRefused s.feed cursor fault) }
         ensures scope { S.keeps scope.new ≡ S.keeps scope.old }
     {
         self.journal.since_under(self.alloc, scope, cursor, max)
@@ -34,7 +34,7 @@ impl Content {
     /// effect.
     pub fn snapshot<S: KeyScope>(&self, scope: &mut S) -> Result<Snapshot, NoRoom>
         ensures given { IfOk result (λ snapshot. snapshot ≡ snapshot_of (passes (S.keeps scope.old)) self.now.held (cursor_of self.now.journal)) }
-        ensures stands { (s : State) → Stands self.now s → IfOk result (λ snapshot. snapshot ≡ snapshot_of (passes (S.keeps scope.old)) (held s) (cursor_behind s)) }
+        ensures stands { (s : State) → ContentStands self.now s → IfOk result (λ snapshot. snapshot ≡ snapshot_of (passes (S.keeps scope.old)) (held s) (cursor_behind s)) }
         ensures scope { S.keeps scope.new ≡ S.keeps scope.old }
     {
         let items = all_under(self.alloc, self.held.held(), scope)?;

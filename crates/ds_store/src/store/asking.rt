@@ -6,15 +6,15 @@ ghost use Rattle.ds_machine.specs.Parts.{changes_in};
 ghost use Rattle.ds_machine.specs.Asking.{cause_against, change_asked, name_of};
 ghost use Rattle.ds_machine.specs.Machine.{Answers, asking};
 ghost use Rattle.ds_machine.specs.State.{State};
-ghost use Rattle.ds_judge.specs.Asked.{request_of, IsMade};
+ghost use Rattle.ds_judge.specs.Asked.{request_of, MakesChange};
 ghost use Rattle.ds_judge.specs.Last.{MayLackAsked};
 ghost use Rattle.ds_judge.specs.Standing.{machine_standing};
-ghost use Rattle.ds_content.specs.Free.{IsFree};
-ghost use Rattle.ds_content.specs.Stands.{Stands};
-ghost use Rattle.ds_store.specs.Standing.{standing_in};
+ghost use Rattle.ds_content.specs.Stands.{ContentStands};
+ghost use Rattle.ds_content.specs.Standing.{standing_in};
+ghost use Rattle.ds_machine.specs.Standing.{IsFree};
 
 use crate::store::Store;
-use ds_entry::{Body, rs_name};
+use ds_entry::Body;
 use ds_judge::{Asked, Standing, answer_to, cause_of_asked, change_asked, is_void_under};
 use ds_machine::{Cause, Refusal, Reply};
 use ds_names::{Name, NoRoom};
@@ -33,7 +33,7 @@ impl Store {
         let _held = self.content.held();
         let owner = match caller {
             Some(name) => *name,
-            None => rs_name(),
+            None => Name::rs(),
         };
         Standing {
             held: self.content.get_at(place),
@@ -54,9 +54,9 @@ impl Store {
     ) -> Option<Cause>
         requires place { IsPlace (changes_in self.now.held) asked.now.key place }
         requires named { caller.now ≡ name_of self.now.held asked.now.caller }
-        ensures first { (s : State) → Stands self.now s → result ≡ cause_against s (request_of asked.now) body.now }
-        ensures free { IfNone result (IsFree self.now (change_asked (name_of self.now.held asked.now.caller) (request_of asked.now) body.now)) }
-        ensures made { IfNone result (IsMade (change_asked (name_of self.now.held asked.now.caller) (request_of asked.now) body.now)) }
+        ensures first { (s : State) → ContentStands self.now s → result ≡ cause_against s (request_of asked.now) body.now }
+        ensures free { let c = change_asked (name_of self.now.held asked.now.caller) (request_of asked.now) body.now in IfNone result (IsFree (standing_in self.now c) c) }
+        ensures made { IfNone result (MakesChange (change_asked (name_of self.now.held asked.now.caller) (request_of asked.now) body.now)) }
     {
         let standing = self.standing_before(place, asked, caller);
         cause_of_asked(&standing, *caller, asked, body)
@@ -64,8 +64,8 @@ impl Store {
 
     // What a caller asks for takes effect, unless a cause stands against it.
     pub(super) fn ask(&mut self, asked: &Asked, body: Body) -> Reply
-        ensures step { (s : State) → Stands self.old s → (t : State) × Answers s (asking s (request_of asked.now) body) result t × Stands self.new t }
-        ensures last { result ≡ Reply.Refused Refusal.NoRoom → (s : State) → Stands self.old s → MayLackAsked s (request_of asked.now) body }
+        ensures step { (s : State) → ContentStands self.old s → (t : State) × Answers s (asking s (request_of asked.now) body) result t × ContentStands self.new t }
+        ensures last { result ≡ Reply.Refused Refusal.NoRoom → (s : State) → ContentStands self.old s → MayLackAsked s (request_of asked.now) body }
     {
         let place = self.content.place(&asked.key);
         let caller = self.content.name_of(asked.caller);

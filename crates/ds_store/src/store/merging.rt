@@ -4,7 +4,7 @@ ghost use Rattle.std.specs.Prelude.{◌≡◌, ◌∷◌, [], None, Err, IfNone,
 ghost use Rattle.ds_entry.specs.declared.item.Item.TheVariants.{Change as Changed, Floor as Floored};
 ghost use Rattle.ds_held.specs.Kept.{IsPlace};
 ghost use Rattle.ds_machine.specs.Parts.{changes_in};
-ghost use Rattle.ds_machine.specs.Standing.{cause_of};
+ghost use Rattle.ds_machine.specs.Standing.{cause_of, IsFree, IsFloorFree};
 ghost use Rattle.ds_machine.specs.State.{State};
 ghost use Rattle.ds_machine.specs.Machine.{Step};
 ghost use Rattle.ds_machine.specs.Says.{IsReplyTo};
@@ -12,10 +12,9 @@ ghost use Rattle.ds_machine.specs.Subscription.{is_owed};
 ghost use Rattle.ds_watch.specs.Mask.{padded};
 ghost use Rattle.ds_judge.specs.Last.{IsLast, MayLackItem};
 ghost use Rattle.ds_judge.specs.Standing.{machine_standing};
-ghost use Rattle.ds_content.specs.Free.{IsFree, IsFloorFree};
-ghost use Rattle.ds_content.specs.Stands.{Stands};
-ghost use Rattle.ds_store.specs.Merging.{MergesItem, owed_after, stale_by, taken_by};
-ghost use Rattle.ds_store.specs.Standing.{standing_in};
+ghost use Rattle.ds_content.specs.Stands.{ContentStands};
+ghost use Rattle.ds_store.specs.Merging.{MergesItem, owed_after, stale_by, count_taken};
+ghost use Rattle.ds_content.specs.Standing.{standing_in, floor_standing_in};
 
 use crate::store::Store;
 use ds_entry::{Change, Floor, Item};
@@ -43,8 +42,8 @@ impl Store {
     // The first cause against a change that another holder gave, and whose place is told.
     fn cause_of_change(&self, place: Result<usize, usize>, change: &Change) -> Option<Cause>
         requires { IsPlace (changes_in self.now.held) change.now.key place }
-        ensures first { (s : State) → Stands self.now s → result ≡ cause_of s (Changed change.now) }
-        ensures free { IfNone result (IsFree self.now change.now) }
+        ensures first { (s : State) → ContentStands self.now s → result ≡ cause_of s (Changed change.now) }
+        ensures free { IfNone result (IsFree (standing_in self.now change.now) change.now) }
     {
         let standing = self.standing(place, change);
         cause_of_change(&standing, change)
@@ -52,8 +51,8 @@ impl Store {
 
     // The first cause against a floor that another holder gave.
     fn cause_of_floor(&self, floor: &Floor) -> Option<Cause>
-        ensures first { (s : State) → Stands self.now s → result ≡ cause_of s (Floored floor.now) }
-        ensures free { IfNone result (IsFloorFree self.now floor.now) }
+        ensures first { (s : State) → ContentStands self.now s → result ≡ cause_of s (Floored floor.now) }
+        ensures free { IfNone result (IsFloorFree (floor_standing_in self.now floor.now) floor.now) }
     {
         let standing = self.floor_standing(floor);
         cause_of_floor(&standing, floor)
@@ -61,9 +60,9 @@ impl Store {
 
     // A change of a merge: it takes effect, is passed over, or is refused. Those to which it is owed are added.
     fn merge_change(&mut self, change: &Change, total: &mut Mask) -> Result<Merge, Refusal>
-        ensures owed { (s : State) → Stands self.old s → total.new ≡ owed_after result total.old (padded (map (is_owed (Changed change.now ∷ [])) s.subscriptions)) }
-        ensures step { (s : State) → Stands self.old s → (t : State) × MergesItem s (Changed change.now) result t × Stands self.new t }
-        ensures last { result ≡ Err Refusal.NoRoom → (s : State) → Stands self.old s → MayLackItem s (Changed change.now) }
+        ensures owed { (s : State) → ContentStands self.old s → total.new ≡ owed_after result total.old (padded (map (is_owed (Changed change.now ∷ [])) s.subscriptions)) }
+        ensures step { (s : State) → ContentStands self.old s → (t : State) × MergesItem s (Changed change.now) result t × ContentStands self.new t }
+        ensures last { result ≡ Err Refusal.NoRoom → (s : State) → ContentStands self.old s → MayLackItem s (Changed change.now) }
     {
         let place = self.content.place(change.key());
         if let Some(cause) = self.cause_of_change(place, change) {
@@ -86,9 +85,9 @@ impl Store {
 
     // A floor of a merge, likewise. It is owed to every subscription that is made.
     fn merge_floor(&mut self, floor: Floor, total: &mut Mask) -> Result<Merge, Refusal>
-        ensures owed { (s : State) → Stands self.old s → total.new ≡ owed_after result total.old (padded (map (is_owed (Floored floor ∷ [])) s.subscriptions)) }
-        ensures step { (s : State) → Stands self.old s → (t : State) × MergesItem s (Floored floor) result t × Stands self.new t }
-        ensures last { result ≡ Err Refusal.NoRoom → (s : State) → Stands self.old s → MayLackItem s (Floored floor) }
+        ensures owed { (s : State) → ContentStands self.old s → total.new ≡ owed_after result total.old (padded (map (is_owed (Floored floor ∷ [])) s.subscriptions)) }
+        ensures step { (s : State) → ContentStands self.old s → (t : State) × MergesItem s (Floored floor) result t × ContentStands self.new t }
+        ensures last { result ≡ Err Refusal.NoRoom → (s : State) → ContentStands self.old s → MayLackItem s (Floored floor) }
     {
         if let Some(cause) = self.cause_of_floor(&floor) {
             return passed_as(cause);
@@ -105,9 +104,9 @@ impl Store {
 
     // An item of a merge.
     fn merge_item(&mut self, item: &Item, total: &mut Mask) -> Result<Merge, Refusal>
-        ensures owed { (s : State) → Stands self.old s → total.new ≡ owed_after result total.old (padded (map (is_owed (item.now ∷ [])) s.subscriptions)) }
-        ensures step { (s : State) → Stands self.old s → (t : State) × MergesItem s item.now result t × Stands self.new t }
-        ensures last { result ≡ Err Refusal.NoRoom → (s : State) → Stands self.old s → MayLackItem s item.now }
+        ensures owed { (s : State) → ContentStands self.old s → total.new ≡ owed_after result total.old (padded (map (is_owed (item.now ∷ [])) s.subscriptions)) }
+        ensures step { (s : State) → ContentStands self.old s → (t : State) × MergesItem s item.now result t × ContentStands self.new t }
+        ensures last { result ≡ Err Refusal.NoRoom → (s : State) → ContentStands self.old s → MayLackItem s item.now }
     {
         match item {
             Item::Change(change) => self.merge_change(change, total),
@@ -118,8 +117,8 @@ impl Store {
     /// Answers as to `Command::Merge` of the items, which are only lent: they take effect in their order, up to the first that
     /// is refused. TooMany: more than 256. An item is judged before it is copied, so that want of memory comes last.
     pub fn merge(&mut self, items: &[Item]) -> Reply
-        ensures step { (s : State) → Stands self.old s → (t : State) × Step s (Command.Merge items.now) result t × Stands self.new t }
-        ensures last { (s : State) → Stands self.old s → IsLast s (Command.Merge items.now) result }
+        ensures step { (s : State) → ContentStands self.old s → (t : State) × Step s (Command.Merge items.now) result t × ContentStands self.new t }
+        ensures last { (s : State) → ContentStands self.old s → IsLast s (Command.Merge items.now) result }
         ensures fits { IsReplyTo (Command.Merge items.now) result }
     {
         let _stood = self.cursor();
@@ -156,7 +155,7 @@ impl Store {
 
 // How many items are taken by this.
 fn taken_by(join: Merge) -> usize
-    ensures { result ≡ taken_by join }
+    ensures { result ≡ count_taken join }
 {
     match join {
         Merge::Taken => 1,

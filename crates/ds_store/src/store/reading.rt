@@ -9,7 +9,7 @@ ghost use Rattle.ds_feed.specs.Since.{IsGiven};
 ghost use Rattle.ds_judge.specs.Last.{IsLast};
 ghost use Rattle.ds_judge.specs.Refused.{IsJournalRefusal};
 ghost use Rattle.ds_judge.specs.Scopes.{scope_of};
-ghost use Rattle.ds_content.specs.Stands.{Stands};
+ghost use Rattle.ds_content.specs.Stands.{ContentStands};
 
 use crate::store::Store;
 use ds_feed::{AllKeys, Cursor, Page, Since, SinceFault};
@@ -20,8 +20,8 @@ use ds_names::{Key, NoRoom};
 impl Store {
     // What took effect under a scope that was read: OldCursor, Ahead or Behind, and NoRoom where none of them stands.
     fn give_since(&self, filter: &ScopeFilter, cursor: Cursor, max: u32) -> Result<Since, Refusal>
-        ensures given { (s : State) → Stands self.now s → IfOk result (IsGiven s.feed (is_kept (scope_of filter.now)) cursor max) }
-        ensures refused { (s : State) → Stands self.now s → IfErr result (IsJournalRefusal s.feed cursor) }
+        ensures given { (s : State) → ContentStands self.now s → IfOk result (IsGiven s.feed (is_kept (scope_of filter.now)) cursor max) }
+        ensures refused { (s : State) → ContentStands self.now s → IfErr result (IsJournalRefusal s.feed cursor) }
     {
         let given = match filter.asker(self.alloc) {
             Ok(mut asker) => self.content.since(&mut asker, cursor, max),
@@ -38,8 +38,8 @@ impl Store {
 
     // What took effect under the scope from the cursor on, up to `max` items.
     pub(super) fn since(&self, scope: &Scope, cursor: Cursor, max: u32) -> Reply
-        ensures answer { (s : State) → Stands self.now s → Answers s (journaling s scope.now cursor max) result s }
-        ensures last { (s : State) → Stands self.now s → IsLast s (Command.Since scope.now cursor max) result }
+        ensures answer { (s : State) → ContentStands self.now s → Answers s (journaling s scope.now cursor max) result s }
+        ensures last { (s : State) → ContentStands self.now s → IsLast s (Command.Since scope.now cursor max) result }
     {
         let filter = match scope_of_since(self.alloc, scope, max) {
             Ok(filter) => filter,
@@ -53,8 +53,8 @@ impl Store {
 
     // All that is held under the scope.
     pub(super) fn snapshot(&self, scope: &Scope) -> Reply
-        ensures answer { (s : State) → Stands self.now s → Answers s (snapping s scope.now) result s }
-        ensures last { (s : State) → Stands self.now s → IsLast s (Command.Snapshot scope.now) result }
+        ensures answer { (s : State) → ContentStands self.now s → Answers s (snapping s scope.now) result s }
+        ensures last { (s : State) → ContentStands self.now s → IsLast s (Command.Snapshot scope.now) result }
     {
         let filter = match ScopeFilter::read(self.alloc, scope) {
             Ok(filter) => filter,
@@ -71,7 +71,7 @@ impl Store {
 
     // A page under a scope that was read.
     fn give_page(&self, filter: &ScopeFilter, after: Option<Key>, max: u32) -> Result<Page, NoRoom>
-        ensures { (s : State) → Stands self.now s → IfOk result (λ page. page ≡ page_of (is_kept (scope_of filter.now)) after max (held s) (cursor s)) }
+        ensures { (s : State) → ContentStands self.now s → IfOk result (λ page. page ≡ page_of (is_kept (scope_of filter.now)) after max (held s) (cursor s)) }
     {
         match filter.asker(self.alloc) {
             Ok(mut asker) => self.content.page(&mut asker, after, max),
@@ -81,8 +81,8 @@ impl Store {
 
     // The first `max` changes behind the key of what is held under the scope, with all floors on the first page.
     pub(super) fn page(&self, scope: &Scope, after: Option<Key>, max: u32) -> Reply
-        ensures answer { (s : State) → Stands self.now s → Answers s (paging s scope.now after max) result s }
-        ensures last { (s : State) → Stands self.now s → IsLast s (Command.Page scope.now after max) result }
+        ensures answer { (s : State) → ContentStands self.now s → Answers s (paging s scope.now after max) result s }
+        ensures last { (s : State) → ContentStands self.now s → IsLast s (Command.Page scope.now after max) result }
     {
         let filter = match scope_of_page(self.alloc, scope, max) {
             Ok(filter) => filter,

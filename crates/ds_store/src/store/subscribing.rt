@@ -5,7 +5,7 @@ ghost use Rattle.ds_machine.specs.State.{State};
 ghost use Rattle.ds_machine.specs.Machine.{Answers};
 ghost use Rattle.ds_machine.specs.Watching.{subscribing, checking};
 ghost use Rattle.ds_judge.specs.Last.{IsLast};
-ghost use Rattle.ds_content.specs.Stands.{Stands};
+ghost use Rattle.ds_content.specs.Stands.{ContentStands};
 
 use crate::store::Store;
 use ds_judge::{CheckCase, SubscribeCase, refusal_of_check, refusal_of_showing, take_up};
@@ -30,8 +30,8 @@ impl Store {
         initial: bool,
         overwrite: bool,
     ) -> Reply
-        ensures step { (s : State) → Stands self.old s → (t : State) × Answers s (subscribing s sub query.now initial overwrite) result t × Stands self.new t }
-        ensures last { (s : State) → Stands self.old s → IsLast s (Command.Subscribe sub query.now initial overwrite) result }
+        ensures step { (s : State) → ContentStands self.old s → (t : State) × Answers s (subscribing s sub query.now initial overwrite) result t × ContentStands self.new t }
+        ensures last { (s : State) → ContentStands self.old s → IsLast s (Command.Subscribe sub query.now initial overwrite) result }
     {
         let stamp = self.content.stamp();
         let case = SubscribeCase {
@@ -56,8 +56,8 @@ impl Store {
 
     // The first `max` items that are to be shown to the subscription at the place are shown.
     pub(super) fn check(&mut self, sub: u32, max: u32) -> Reply
-        ensures step { (s : State) → Stands self.old s → (t : State) × Answers s (checking s sub max) result t × Stands self.new t }
-        ensures last { (s : State) → Stands self.old s → IsLast s (Command.Check sub max) result }
+        ensures step { (s : State) → ContentStands self.old s → (t : State) × Answers s (checking s sub max) result t × ContentStands self.new t }
+        ensures last { (s : State) → ContentStands self.old s → IsLast s (Command.Check sub max) result }
     {
         let before = self.content.stamp_of(sub);
         let case = CheckCase {

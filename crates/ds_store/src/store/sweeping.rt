@@ -2,18 +2,18 @@
 
 ghost use Rattle.std.specs.Prelude.{◌≡◌, ◌&&◌, IfNone, is_some, length};
 ghost use Rattle.ds_entry.specs.Void.{voids};
-ghost use Rattle.ds_join.specs.Reading.{value_of};
 ghost use Rattle.ds_machine.specs.Asking.{sweep_cause};
 ghost use Rattle.ds_machine.specs.Machine.{Answers, sweeping, dropped};
 ghost use Rattle.ds_machine.specs.State.{State};
 ghost use Rattle.ds_judge.specs.Last.{IsLast};
 ghost use Rattle.ds_judge.specs.Standing.{machine_floor_standing};
-ghost use Rattle.ds_content.specs.Free.{IsFloorFree};
-ghost use Rattle.ds_content.specs.Stands.{Stands};
-ghost use Rattle.ds_store.specs.Standing.{floor_standing_in};
+ghost use Rattle.ds_content.specs.Stands.{ContentStands};
+ghost use Rattle.ds_entry.specs.Left.{value_of};
+ghost use Rattle.ds_content.specs.Standing.{floor_standing_in};
+ghost use Rattle.ds_machine.specs.Standing.{IsFloorFree};
 
 use crate::store::Store;
-use ds_entry::{Body, Change, Floor};
+use ds_entry::{Change, Floor};
 use ds_judge::{FloorStanding, cause_of_sweep, sweep_answer};
 use ds_machine::{Cause, Command, Refusal, Reply};
 use ds_names::{Endpoint, NoRoom};
@@ -22,10 +22,7 @@ use ds_names::{Endpoint, NoRoom};
 fn is_dropped(floor: &Floor, change: &Change) -> bool
     ensures { result ≡ voids floor.now change.now && is_some (value_of change.now) }
 {
-    match change.body() {
-        Body::Put(_) => floor.voids(change),
-        Body::Gone => false,
-    }
+    floor.voids(change) && change.body().value().is_some()
 }
 
 impl Store {
@@ -59,8 +56,8 @@ impl Store {
 
     // The first cause against a sweep.
     fn cause_of_sweep(&self, caller: Endpoint, floor: &Floor) -> Option<Cause>
-        ensures first { (s : State) → Stands self.now s → result ≡ sweep_cause s caller floor.now }
-        ensures free { IfNone result (IsFloorFree self.now floor.now) }
+        ensures first { (s : State) → ContentStands self.now s → result ≡ sweep_cause s caller floor.now }
+        ensures free { IfNone result (IsFloorFree (floor_standing_in self.now floor.now) floor.now) }
     {
         let standing = self.floor_standing(floor);
         cause_of_sweep(&standing, caller, floor)
@@ -68,8 +65,8 @@ impl Store {
 
     // RS raises the floor of an owner. It is owed to every subscription that is made.
     pub(super) fn sweep(&mut self, caller: Endpoint, floor: Floor) -> Reply
-        ensures step { (s : State) → Stands self.old s → (t : State) × Answers s (sweeping s caller floor) result t × Stands self.new t }
-        ensures last { (s : State) → Stands self.old s → IsLast s (Command.Sweep caller floor.owner floor.generation) result }
+        ensures step { (s : State) → ContentStands self.old s → (t : State) × Answers s (sweeping s caller floor) result t × ContentStands self.new t }
+        ensures last { (s : State) → ContentStands self.old s → IsLast s (Command.Sweep caller floor.owner floor.generation) result }
     {
         if let Some(cause) = self.cause_of_sweep(caller, &floor) {
             return sweep_answer(cause);

@@ -5,7 +5,7 @@ ghost use Rattle.ds_machine.specs.State.{State};
 ghost use Rattle.ds_machine.specs.Machine.{Step};
 ghost use Rattle.ds_machine.specs.Says.{IsReplyTo};
 ghost use Rattle.ds_judge.specs.Last.{IsLast};
-ghost use Rattle.ds_content.specs.Stands.{Stands};
+ghost use Rattle.ds_content.specs.Stands.{ContentStands};
 ghost use Rattle.ds_replica.specs.declared.event.Event.TheVariants.{Ask};
 ghost use Rattle.ds_replica.specs.World.{World as Described, store_at, with_state};
 ghost use Rattle.ds_replica.specs.Happens.{gives_items};
@@ -23,8 +23,8 @@ const MOST_MESSAGES: usize = 65536;
 
 // Asks the store of the side.
 fn apply(a: &mut Store, b: &mut Store, side: Side, command: Command) -> Reply
-    ensures step { (w : Described) → Stands a.old w.a → Stands b.old w.b → (s : State) × Step (store_at w side) command result s × Stands a.new (with_state w side s).a × Stands b.new (with_state w side s).b }
-    ensures last { (w : Described) → Stands a.old w.a → Stands b.old w.b → IsLast (store_at w side) command result }
+    ensures step { (w : Described) → ContentStands a.old w.a → ContentStands b.old w.b → (s : State) × Step (store_at w side) command result s × ContentStands a.new (with_state w side s).a × ContentStands b.new (with_state w side s).b }
+    ensures last { (w : Described) → ContentStands a.old w.a → ContentStands b.old w.b → IsLast (store_at w side) command result }
     ensures fits { IsReplyTo command result }
 {
     match side {

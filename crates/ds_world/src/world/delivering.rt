@@ -5,7 +5,7 @@ ghost use Rattle.ds_machine.specs.State.{State};
 ghost use Rattle.ds_machine.specs.Machine.{Step};
 ghost use Rattle.ds_machine.specs.declared.command.Command.TheVariants.{Merge};
 ghost use Rattle.ds_judge.specs.Last.{IsLast};
-ghost use Rattle.ds_content.specs.Stands.{Stands};
+ghost use Rattle.ds_content.specs.Stands.{ContentStands};
 ghost use Rattle.ds_replica.specs.declared.event.Event.TheVariants.{Deliver};
 ghost use Rattle.ds_replica.specs.declared.event.Holder.TheVariants.{Store as OfStore, Map as OfMap};
 ghost use Rattle.ds_replica.specs.Delivery.{StoreTakes, MapTakes};
@@ -20,18 +20,16 @@ use crate::tally::{Tally, refusal_of};
 use crate::world::World;
 use ds_entry::Item;
 use ds_machine::Reply;
+use ds_names::limits::MOST_ITEMS;
 use ds_replica::{EventFault, Holder, Outcome, Side};
 use ds_store::Store;
 use ds_submap::SubMap;
 use std::alloc::Global;
 
-/// The most items of one Merge.
-const MOST_ITEMS: usize = 256;
-
 // Asks a store to merge items.
 fn merge_group(store: &mut Store, group: &[Item]) -> Reply
-    ensures step { (s : State) → Stands store.old s → (t : State) × Step s (Merge group.now) result t × Stands store.new t }
-    ensures last { (s : State) → Stands store.old s → IsLast s (Merge group.now) result }
+    ensures step { (s : State) → ContentStands store.old s → (t : State) × Step s (Merge group.now) result t × ContentStands store.new t }
+    ensures last { (s : State) → ContentStands store.old s → IsLast s (Merge group.now) result }
     ensures counted { IsCounted (length group.now) result }
 {
     let _stood = store.cursor();
@@ -40,7 +38,7 @@ fn merge_group(store: &mut Store, group: &[Item]) -> Reply
 
 // The items go to a store, as Merges of at most 256. Nothing is asked after one that was stopped.
 fn merge_all(store: &mut Store, items: &[Item]) -> Tally
-    ensures takes { (s : State) → Stands store.old s → (t : State) × StoreTakes s items.now (tally_of result) t × Stands store.new t × IsWantLast items.now result.done result.stop t }
+    ensures takes { (s : State) → ContentStands store.old s → (t : State) × StoreTakes s items.now (tally_of result) t × ContentStands store.new t × IsWantLast items.now result.done result.stop t }
     ensures within { (result.done ≤ length items.now) × (result.taken + result.stale ≤ result.done) }
 {
     if items.is_empty() {

@@ -4,7 +4,7 @@ ghost use Rattle.std.specs.Prelude.{◌≡◌, true, false, IfOk, IfErr, IfNone,
 ghost use Rattle.ds_feed.specs.Kept.{IsRing};
 ghost use Rattle.ds_held.specs.Limits.{larger};
 ghost use Rattle.ds_machine.specs.State.{opening};
-ghost use Rattle.ds_content.specs.Stands.{Stands};
+ghost use Rattle.ds_content.specs.Stands.{ContentStands};
 ghost use Rattle.ds_replica.specs.declared.event.Event.TheVariants.{RestartStore};
 ghost use Rattle.ds_world.specs.Seeds.{AreSeeds, IsSeed, IsSeedFault};
 ghost use Rattle.ds_world.specs.Run.{EventLeads};
@@ -12,22 +12,17 @@ ghost use Rattle.ds_world.specs.Told.{IsTold};
 
 use crate::fault::SeedFault;
 use crate::world::World;
+use ds_names::limits::{LARGEST_RING, LAST_PLACE};
 use ds_replica::{EventFault, Outcome, Seed, Side};
 use ds_store::Store;
 use std::alloc::Global;
-
-/// The most that a ring keeps.
-const MOST_OF_RING: u32 = 4096;
-
-/// The most that positions reach.
-const LAST_PLACE: u64 = 1 << 62;
 
 // Whether a ring keeps 1 to 4096 items.
 fn is_ring(ring: u32) -> bool
     ensures yes { result ≡ true → IsRing ring }
     ensures no { result ≡ false → ¬ IsRing ring }
 {
-    0 < ring && ring <= MOST_OF_RING
+    0 < ring && ring <= LARGEST_RING
 }
 
 // The first fault of two seeds.
@@ -50,7 +45,7 @@ pub(super) fn seed_fault(a: &Seed, b: &Seed) -> Option<SeedFault>
 // A store that is opened with a seed. What stands against it then is want of memory alone.
 pub(super) fn opened(alloc: Global, seed: Seed) -> Result<Store, SeedFault>
     requires { IsSeed seed }
-    ensures opened { IfOk result (λ store. Stands store (opening seed.incarnation seed.first seed.ring larger)) }
+    ensures opened { IfOk result (λ store. ContentStands store (opening seed.incarnation seed.first seed.ring larger)) }
     ensures noroom { IfErr result (λ fault. fault ≡ SeedFault.NoRoom) }
 {
     match Store::open(alloc, seed.incarnation, seed.first, seed.ring) {

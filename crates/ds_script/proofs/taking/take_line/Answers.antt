@@ -1,8 +1,9 @@
 use Rattle.std.proofs.Common.{◌++◌, ◌∙◌, ◌+◌, ◌∷◌, [], List, ℕ, refl, sym, ap, inl}
 use Rattle.std.proofs.lemmas.Result.{err_from_is_err_and}
-use Rattle.ds_script.specs.Progress.{Reached, reached, Takes}
-use Rattle.ds_script.proofs.ProgressLemmas.{waits, takes_kept, takes_sent, takes_line, takes_then, line_behind, where_ok, where_err}
+use Rattle.ds_script.specs.Progress.{Reached, reached, TakesLines}
+use Rattle.ds_script.proofs.ProgressLemmas.{waits, takes_kept, takes_sent, takes_line, takes_then, line_behind, where_err}
 use Rattle.ds_script.proofs.taking.take_line.Goals as goal
+use Rattle.ds_words.proofs.ResultLemmas.{on_ok}
 
 pub returns-in_err-send_full-clause-err : goal.returns-in_err-send_full-clause-err
 returns-in_err-send_full-clause-err g c =
@@ -30,8 +31,8 @@ returns-in-Err-BadLine-clause-ok g c =
     let has = g.W.Write.contents c.send_full.new.writer in
     let old : Reached = reached c.args.running.now in
     let mid : Reached = record old { session = c.answer_line.new.session; waiting = c.answer_line.new.output.items } in
-    let kept : Takes had has old [] mid = takes_kept had has old mid s.0 (s.1 ∙ ap (λ t. s.0 ++ t) (sym e.err)) s.2 (rw c.in-Err-BadLine.field-0-is at e.kept) refl refl refl in
-    where_ok c.take_bad.result (λ done text is. takes_then had has (g.W.Write.contents c.take_bad.new.writer) old mid (reached c.take_bad.new.running) [] (text ∷ []) kept (done text (rw c.in-Err-BadLine.field-0-is at (e.fault text is)))) c.take_bad.ensures.ok
+    let kept : TakesLines had has old [] mid = takes_kept had has old mid s.0 (s.1 ∙ ap (λ t. s.0 ++ t) (sym e.err)) s.2 (rw c.in-Err-BadLine.field-0-is at e.kept) refl refl refl in
+    on_ok c.take_bad.result (λ done text is. takes_then had has (g.W.Write.contents c.take_bad.new.writer) old mid (reached c.take_bad.new.running) [] (text ∷ []) kept (done text (rw c.in-Err-BadLine.field-0-is at (e.fault text is)))) c.take_bad.ensures.ok
 
 pub returns-in-Err-BadLine-clause-err : goal.returns-in-Err-BadLine-clause-err
 returns-in-Err-BadLine-clause-err g c =
@@ -41,7 +42,7 @@ returns-in-Err-BadLine-clause-err g c =
     let has = g.W.Write.contents c.send_full.new.writer in
     let old : Reached = reached c.args.running.now in
     let mid : Reached = record old { session = c.answer_line.new.session; waiting = c.answer_line.new.output.items } in
-    let kept : Takes had has old [] mid = takes_kept had has old mid s.0 (s.1 ∙ ap (λ t. s.0 ++ t) (sym e.err)) s.2 (rw c.in-Err-BadLine.field-0-is at e.kept) refl refl refl in
+    let kept : TakesLines had has old [] mid = takes_kept had has old mid s.0 (s.1 ∙ ap (λ t. s.0 ++ t) (sym e.err)) s.2 (rw c.in-Err-BadLine.field-0-is at e.kept) refl refl refl in
     where_err c.take_bad.result (λ fault stops text is. line_behind fault had has (g.W.Write.contents c.take_bad.new.writer) old mid text c.take_bad.new.running.output.items kept (stops text (rw c.in-Err-BadLine.field-0-is at (e.fault text is)))) c.take_bad.ensures.err
 
 pub returns-in-Err-NoRoom-clause-err : goal.returns-in-Err-NoRoom-clause-err

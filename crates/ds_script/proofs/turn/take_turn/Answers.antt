@@ -1,5 +1,5 @@
 use Rattle.std.proofs.lemmas.Result.{err_from_is_err_and}
-use Rattle.ds_script.specs.Progress.{Reached, reached, Takes}
+use Rattle.ds_script.specs.Progress.{Reached, reached, TakesLines}
 use Rattle.ds_script.proofs.ProgressLemmas.{waits, takes_written, where_if_ok, where_err}
 use Rattle.std.proofs.Common.{[]}
 use Rattle.ds_script.proofs.RunLemmas.{turn_unsent, turns_behind, turn_stops_behind}
@@ -18,7 +18,7 @@ returns-clause-ok g c =
     let s = (c.in_ok-send.ensures).ok in
     let a = g.W.Write.contents c.args.writer.now in
     let b = g.W.Write.contents c.send.new.writer in
-    let sent : Takes a b old [] mid = takes_written a b old c.send.new.output.items s.0 s.1 in
+    let sent : TakesLines a b old [] mid = takes_written a b old c.send.new.output.items s.0 s.1 in
     where_if_ok c.take_read.result (λ more t. turns_behind more (g.R.Read.remaining c.args.reader.now) (g.R.Read.remaining c.take_read.new.reader) a b (g.W.Write.contents c.take_read.new.writer) old mid (reached c.take_read.new.running) c.args.pending.now.items c.take_read.new.pending.items sent t) c.take_read.ensures.ok
 
 pub returns-clause-err : goal.returns-clause-err
@@ -28,5 +28,5 @@ returns-clause-err g c =
     let s = (c.in_ok-send.ensures).ok in
     let a = g.W.Write.contents c.args.writer.now in
     let b = g.W.Write.contents c.send.new.writer in
-    let sent : Takes a b old [] mid = takes_written a b old c.send.new.output.items s.0 s.1 in
+    let sent : TakesLines a b old [] mid = takes_written a b old c.send.new.output.items s.0 s.1 in
     where_err c.take_read.result (λ fault t. turn_stops_behind fault (g.R.Read.remaining c.args.reader.now) (g.R.Read.remaining c.take_read.new.reader) a b (g.W.Write.contents c.take_read.new.writer) old mid c.args.pending.now.items c.take_read.new.running.output.items sent t) c.take_read.ensures.err

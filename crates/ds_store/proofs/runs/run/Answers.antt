@@ -1,8 +1,9 @@
 use Rattle.std.proofs.Common.{◌≡◌, List, ap, subst, sym, ◌∙◌, ◌++◌, ◌∷◌, [], append_assoc}
 use Rattle.ds_machine.specs.declared.reply.Reply.{Reply}
 use Rattle.ds_store.specs.Run.{LastRun}
-use Rattle.ds_store.proofs.RunLemmas.{run_more, run_first, on_err}
+use Rattle.ds_store.proofs.RunLemmas.{run_more, run_first}
 use Rattle.ds_store.proofs.runs.run.Goals as goal
+use Rattle.ds_content.proofs.OpenLemmas.{on_err}
 
 pub loop-command-preserved : goal.loop-command-preserved
 loop-command-preserved c = record {

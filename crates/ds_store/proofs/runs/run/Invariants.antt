@@ -1,6 +1,6 @@
 use Rattle.std.proofs.Common.{◌≡◌, ◌++◌}
 use Rattle.ds_machine.specs.State.{State}
-use Rattle.ds_content.specs.Stands.{Stands}
+use Rattle.ds_content.specs.Stands.{ContentStands}
 use Rattle.ds_store.specs.Run.{LastRun}
 use Rattle.ds_store.proofs.runs.run.Given as goal
 
@@ -8,5 +8,5 @@ use Rattle.ds_store.proofs.runs.run.Given as goal
 abbrev pub invariant-loop-command : goal.invariant-loop-command
 invariant-loop-command l = record {
   all : l.yielded ++ l.command-iterator.rest.items ≡ l.fn.commands.items;
-  run : (s : State) → Stands l.fn.store s → (t : State) × LastRun s l.yielded l.replies.items t × Stands l.store t;
+  run : (s : State) → ContentStands l.fn.store s → (t : State) × LastRun s l.yielded l.replies.items t × ContentStands l.store t;
 }

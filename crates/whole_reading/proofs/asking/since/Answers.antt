@@ -1,6 +1,6 @@
 use Rattle.std.proofs.Common.{subst}
 use Rattle.ds_machine.specs.declared.command.Command.TheVariants as commands
-use Rattle.ds_content.specs.Stands.{Stands}
+use Rattle.ds_content.specs.Stands.{ContentStands}
 use Rattle.whole_reading.proofs.StateLemmas.{refused_there}
 use Rattle.whole_reading.proofs.asking.since.Goals as goal
 
@@ -8,7 +8,7 @@ pub returns-in-Journaled-clause-given : goal.returns-in-Journaled-clause-given
 returns-in-Journaled-clause-given c = λ s stands.
     let step = c.in-Journaled.ensures.step s stands in
     let said = c.laws.ensures.journaled s step.0 c.args.scope c.args.cursor c.args.max c.in-Journaled.since step.1 in
-    (said.0, subst (Stands c.apply.new.self) said.1 step.2)
+    (said.0, subst (ContentStands c.apply.new.self) said.1 step.2)
 
 pub returns-in-Refused-clause-refused : goal.returns-in-Refused-clause-refused
 returns-in-Refused-clause-refused c = λ s stands.

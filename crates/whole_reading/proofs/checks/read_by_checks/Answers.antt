@@ -4,7 +4,7 @@ use Rattle.ds_entry.specs.declared.item.Item.{Item}
 use Rattle.ds_pattern.specs.declared.query.Query.{Query}
 use Rattle.ds_machine.specs.SubscriptionLaws.{IsPlaced}
 use Rattle.ds_machine.specs.declared.command.Command.TheVariants.{Subscribe}
-use Rattle.whole_reading.specs.GivesUp.{IsRefused}
+use Rattle.whole_reading.specs.GivesUp.{IsCommandRefused}
 use Rattle.whole_reading.specs.ReadWhole.{IsReadWhole}
 use Rattle.whole_reading.proofs.StateLemmas.{others_go_on}
 use Rattle.whole_reading.proofs.CheckLemmas.{Checking, begun, all_full, still_full, checked_on, gone, read_whole}
@@ -52,7 +52,7 @@ returns-in_err-subscribe-clause-stopped g c =
     let exit = err_from_is_err_and c.from_residual-in_err-subscribe.result c.from_residual-in_err-subscribe.ensures.1 in
     rw (exit.1, exit.2) (λ s stands.
     (let r = c.in_err-subscribe.ensures.refused s stands in
-    (s, c.laws.ensures.same s, r.1, inl (refl, subst (λ (q : Query). IsRefused s (Subscribe c.args.sub q true true) c.in_err-subscribe.field-0.0) c.in_ok-query.ensures r.0))))
+    (s, c.laws.ensures.same s, r.1, inl (refl, subst (λ (q : Query). IsCommandRefused s (Subscribe c.args.sub q true true) c.in_err-subscribe.field-0.0) c.in_ok-query.ensures r.0))))
 
 pub returns-in_err-given-clause-stopped : goal.returns-in_err-given-clause-stopped
 returns-in_err-given-clause-stopped g c =

@@ -12,7 +12,7 @@ use Rattle.ds_machine.specs.declared.command.Scope.TheVariants.{Under}
 use Rattle.ds_machine.specs.Scope.{is_kept}
 use Rattle.ds_machine.specs.State.{held, cursor}
 use Rattle.whole_reading.specs.CaughtUp.{IsCaughtUp}
-use Rattle.whole_reading.specs.GivesUp.{IsRefused, StopsSinces}
+use Rattle.whole_reading.specs.GivesUp.{IsCommandRefused, StopsSinces}
 use Rattle.whole_reading.proofs.PageLemmas.{Paging, not_begun, paged_on, all_paged, read_whole}
 use Rattle.whole_reading.proofs.pages.read_by_pages.Goals as goal
 
@@ -52,8 +52,8 @@ returns-in_err-given-clause-stopped g c =
     let q = c.loop-question in
     let k = q.invariant s stands in
     let r = c.in_err-given.ensures.refused k.now k.stands in
-    let refused = subst (λ (x : Scope). IsRefused k.now (Page x q.after reading.max) c.in_err-given.field-0.0) c.in_ok-scope.ensures r.0 in
-    (k.now, k.goes, r.1, inl (k.turns, k.all, subst (λ (x : Option Key). IsRefused k.now (Page (Under reading.query) x reading.max) c.in_err-given.field-0.0) (sym k.after_is) refused))))
+    let refused = subst (λ (x : Scope). IsCommandRefused k.now (Page x q.after reading.max) c.in_err-given.field-0.0) c.in_ok-scope.ensures r.0 in
+    (k.now, k.goes, r.1, inl (k.turns, k.all, subst (λ (x : Option Key). IsCommandRefused k.now (Page (Under reading.query) x reading.max) c.in_err-given.field-0.0) (sym k.after_is) refused))))
 
 pub returns-in_err-append-clause-stopped : goal.returns-in_err-append-clause-stopped
 returns-in_err-append-clause-stopped g c =

@@ -13,15 +13,14 @@ use Rattle.ds_marked.specs.Marked.{marks_after}
 use Rattle.ds_join.specs.ItemTop.{IsTop}
 use Rattle.ds_join.specs.declared.merge.Merge.TheVariants.{Taken}
 use Rattle.ds_machine.specs.Parts.{changes_in, held_at}
-use Rattle.ds_machine.specs.State.{State, accepts}
+use Rattle.ds_machine.specs.State.{State, takes_effect}
 use Rattle.ds_watch.specs.Mask.{padded}
 use Rattle.ds_watch.specs.Masks.{fresh}
 use Rattle.ds_watch.specs.declared.masks.Masks.{Masks}
 use Rattle.ds_content.specs.Content.{ContentRecord}
-use Rattle.ds_content.specs.Followed.{watches}
-use Rattle.ds_content.specs.Free.{IsFree}
+use Rattle.ds_content.specs.Followed.{watches_item}
 use Rattle.ds_content.specs.Kept.{content_of}
-use Rattle.ds_content.specs.Stands.{Stands}
+use Rattle.ds_content.specs.Stands.{ContentStands}
 use Rattle.ds_content.proofs.EnterLemmas.{effect, marked_then, places_then, change_view}
 use Rattle.ds_content.proofs.HoldingLemmas.{changes_are, change_taken, change_new}
 use Rattle.ds_content.proofs.KeptLemmas.{change_here, change_kept}
@@ -29,9 +28,11 @@ use Rattle.ds_content.proofs.OpenLemmas.{on_err}
 use Rattle.ds_content.proofs.RoomLemmas.{change_enters}
 use Rattle.ds_content.proofs.content.Content.accept_at.Goals as goal
 use Rattle.ds_content.proofs.content.Content.accept_at.Goals.{In_ok-taken, After-push}
+use Rattle.ds_content.specs.Standing.{standing_in}
+use Rattle.ds_machine.specs.Standing.{IsFree}
 
-free : (c : In_ok-taken) → IsFree (content_of c.self.inside) c.args.change
-free c = subst (λ (v : ContentRecord). IsFree v c.args.change) (sym c.self.view_is) c.requires.free
+free : (c : In_ok-taken) → IsFree (standing_in (content_of c.self.inside) c.args.change) c.args.change
+free c = subst (λ (v : ContentRecord). IsFree (standing_in v c.args.change) c.args.change) (sym c.self.view_is) c.requires.free
 
 pub merge_at-requires : goal.merge_at-requires
 merge_at-requires c =
@@ -39,14 +40,14 @@ merge_at-requires c =
 
 pub taken-requires : goal.taken-requires
 taken-requires c =
-    let f : IsFree (content_of c.self.inside) c.args.change = subst (λ (v : ContentRecord). IsFree v c.args.change) (sym c.self.view_is) c.requires.free in
-    change_taken c.self.inside.held.held c.held-held.ensures.sound c.args.change c.self.inside.held.held.limits.keys c.merge_at.result refl f.room f.kept c.merge_at.ensures.answer
+    let f : IsFree (standing_in (content_of c.self.inside) c.args.change) c.args.change = subst (λ (v : ContentRecord). IsFree (standing_in v c.args.change) c.args.change) (sym c.self.view_is) c.requires.free in
+    change_taken c.self.inside.held.held c.held-held.ensures.sound c.args.change c.self.inside.held.held.limits.keys c.merge_at.result refl f.room f.valid c.merge_at.ensures.answer
 
 pub returns-in_err-taken-clause-wants : goal.returns-in_err-taken-clause-wants
 returns-in_err-taken-clause-wants c =
-    let f : IsFree (content_of c.self.inside) c.args.change = subst (λ (v : ContentRecord). IsFree v c.args.change) (sym c.self.view_is) c.requires.free in
+    let f : IsFree (standing_in (content_of c.self.inside) c.args.change) c.args.change = subst (λ (v : ContentRecord). IsFree (standing_in v c.args.change) c.args.change) (sym c.self.view_is) c.requires.free in
     let new : held_at (held_items c.self.inside.held.held) c.args.change.key ≡ None =
-    change_new c.self.inside.held.held c.held-held.ensures.sound c.args.change f.kept (subst (λ r. MergeAnswer c.self.inside.held.held c.args.change r) c.in_err-taken.ensures.err c.merge_at.ensures.answer) in
+    change_new c.self.inside.held.held c.held-held.ensures.sound c.args.change f.valid (subst (λ r. MergeAnswer c.self.inside.held.held c.args.change r) c.in_err-taken.ensures.err c.merge_at.ensures.answer) in
     on_err c.from_residual-in_err-taken.result ((held_at c.args.self.now.held c.args.change.key ≡ None) ⊎ (IsBodyInPlace c.args.change.body → ⊥)) (inl (subst (λ (v : ContentRecord). held_at v.held c.args.change.key ≡ None) c.self.view_is new))
 
 -- what is held is the top with the change
@@ -63,7 +64,7 @@ marks c =
     ∙ ap (λ (m : Masks). insert c.self.inside.held.marks c.args.change.key m) c.fresh.ensures
 
 -- it is owed to those under whose query it is
-owes : (c : In_ok-taken) → c.args.owed ≡ padded (map (watches (Changed c.args.change)) c.self.inside.subscriptions)
+owes : (c : In_ok-taken) → c.args.owed ≡ padded (map (watches_item (Changed c.args.change)) c.self.inside.subscriptions)
 owes c = c.requires.owed ∙ change_view c.self.inside.held c.self.inside.journal c.self.inside.stamp c.self.inside.subscriptions c.args.self.now c.self.view_is c.args.change
 
 pushed : (c : After-push) → (f : Feed) → Keeps c.self.inside.journal f → Keeps c.push.new.self (feeds.accepts f (Changed c.args.change))
@@ -78,7 +79,7 @@ returns-clause-ok c = λ s stands.
     effect old new c.self.inside.journal c.push.new.self c.self.inside.stamp c.self.inside.subscriptions (Changed c.args.change) c.args.owed (joined b) (ap (λ (h : Holding). h.limits) (held b))
     (change_here old new c.args.change c.args.owed c.merge_at.ensures.sound (held b) (marks b) c.merge_at.ensures.floor_marks)
     (change_kept old new c.args.change c.args.owed c.merge_at.ensures.sound (held b) (marks b) c.merge_at.ensures.floor_marks) (owes b) (pushed d)
-    (λ t stood. change_enters (content_of c.self.inside) t c.args.change stood (free b)) s (subst (λ (v : ContentRecord). Stands v s) (sym c.self.view_is) stands)
+    (λ t stood. change_enters (content_of c.self.inside) t c.args.change stood (free b)) s (subst (λ (v : ContentRecord). ContentStands v s) (sym c.self.view_is) stands)
 
 pub invariant_of-self-2 : goal.invariant_of-self-2
 invariant_of-self-2 c =
@@ -89,13 +90,13 @@ invariant_of-self-2 c =
     let here = change_here old new c.args.change c.args.owed c.merge_at.ensures.sound (held b) (marks b) c.merge_at.ensures.floor_marks in
     let kept = change_kept old new c.args.change c.args.owed c.merge_at.ensures.sound (held b) (marks b) c.merge_at.ensures.floor_marks in
     let bounds : new.held.limits ≡ old.held.limits = ap (λ (h : Holding). h.limits) (held b) in
-    let enters = λ (t : State) (stood : Stands (content_of c.self.inside) t). change_enters (content_of c.self.inside) t c.args.change stood (free b) in
+    let enters = λ (t : State) (stood : ContentStands (content_of c.self.inside) t). change_enters (content_of c.self.inside) t c.args.change stood (free b) in
     let stood = c.self.invariant.stood in
     record {
       places = places_then old new c.self.inside.journal c.push.new.self c.self.inside.stamp c.self.inside.subscriptions (Changed c.args.change) c.args.owed (joined b) bounds here kept (owes b) (pushed d) enters c.self.invariant.places;
       marked = marked_then old new c.self.inside.journal c.push.new.self c.self.inside.stamp c.self.inside.subscriptions (Changed c.args.change) c.args.owed (joined b) bounds here kept (owes b) (pushed d) enters stood.0 stood.1 c.self.invariant.places c.self.invariant.marked;
       stood = (
-        accepts stood.0 (Changed c.args.change ∷ []),
+        takes_effect stood.0 (Changed c.args.change ∷ []),
         effect old new c.self.inside.journal c.push.new.self c.self.inside.stamp c.self.inside.subscriptions (Changed c.args.change) c.args.owed (joined b) bounds here kept (owes b) (pushed d) enters stood.0 stood.1,
       );
     }

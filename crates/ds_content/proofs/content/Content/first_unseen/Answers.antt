@@ -2,7 +2,7 @@ use Rattle.std.proofs.Common.{◌≡◌, take, ap, sym, ◌∙◌, subst}
 use Rattle.ds_machine.specs.State.{unseen}
 use Rattle.ds_content.specs.Content.{ContentRecord}
 use Rattle.ds_content.specs.Shown.{AreUnseen, AreFirst}
-use Rattle.ds_content.specs.Stands.{Stands}
+use Rattle.ds_content.specs.Stands.{ContentStands}
 use Rattle.ds_content.specs.declared.content.showing.Shown.{Shown}
 use Rattle.ds_content.proofs.OpenLemmas.{if_ok, if_err}
 use Rattle.ds_content.proofs.ServeLemmas.{seat_here, are_unseen, first_are, to_show, some_to_show}
@@ -21,8 +21,8 @@ pub returns-clause-first : goal.returns-clause-first
 returns-clause-first c = λ s seer stands here.
     if_ok (λ (x : Shown). AreFirst c.self.inside.held c.args.sub c.args.max x.items x.passed) (λ (x : Shown). x.items ≡ take c.args.max (unseen s seer)) c.first_unseen.result
     (λ x first. first_are c.self.inside.held c.args.sub c.args.max x.items x.passed first
-    ∙ ap (take c.args.max) (to_show c.self.inside.held c.self.inside.subscriptions c.args.sub c.held-held.ensures.sound c.self.inside.journal c.self.inside.stamp s (subst (λ (v : ContentRecord). Stands v s) (sym c.self.view_is) stands) seer here)) c.first_unseen.ensures.first
+    ∙ ap (take c.args.max) (to_show c.self.inside.held c.self.inside.subscriptions c.args.sub c.held-held.ensures.sound c.self.inside.journal c.self.inside.stamp s (subst (λ (v : ContentRecord). ContentStands v s) (sym c.self.view_is) stands) seer here)) c.first_unseen.ensures.first
 
 pub returns-clause-refused : goal.returns-clause-refused
 returns-clause-refused c = λ s seer stands here.
-    if_err c.first_unseen.result (some_to_show c.self.inside.held c.self.inside.subscriptions c.args.sub c.held-held.ensures.sound c.self.inside.journal c.self.inside.stamp s (subst (λ (v : ContentRecord). Stands v s) (sym c.self.view_is) stands) seer here) c.first_unseen.ensures.refused
+    if_err c.first_unseen.result (some_to_show c.self.inside.held c.self.inside.subscriptions c.args.sub c.held-held.ensures.sound c.self.inside.journal c.self.inside.stamp s (subst (λ (v : ContentRecord). ContentStands v s) (sym c.self.view_is) stands) seer here) c.first_unseen.ensures.refused

@@ -12,15 +12,14 @@ use Rattle.ds_marked.specs.Marked.{marks_raised, floor_marks_after}
 use Rattle.ds_join.specs.ItemTop.{IsTop}
 use Rattle.ds_join.specs.declared.merge.Merge.TheVariants.{Taken}
 use Rattle.ds_machine.specs.Parts.{floor_at}
-use Rattle.ds_machine.specs.State.{State, accepts}
+use Rattle.ds_machine.specs.State.{State, takes_effect}
 use Rattle.ds_watch.specs.Mask.{padded}
 use Rattle.ds_watch.specs.Masks.{fresh}
 use Rattle.ds_watch.specs.declared.masks.Masks.{Masks}
 use Rattle.ds_content.specs.Content.{ContentRecord}
-use Rattle.ds_content.specs.Followed.{watches}
-use Rattle.ds_content.specs.Free.{IsFloorFree}
+use Rattle.ds_content.specs.Followed.{watches_item}
 use Rattle.ds_content.specs.Kept.{content_of}
-use Rattle.ds_content.specs.Stands.{Stands}
+use Rattle.ds_content.specs.Stands.{ContentStands}
 use Rattle.ds_content.proofs.EnterLemmas.{effect, marked_then, places_then, floor_view}
 use Rattle.ds_content.proofs.HoldingLemmas.{floor_taken, floor_new}
 use Rattle.ds_content.proofs.KeptLemmas.{floor_here, floor_kept}
@@ -28,14 +27,16 @@ use Rattle.ds_content.proofs.OpenLemmas.{on_err}
 use Rattle.ds_content.proofs.RoomLemmas.{floor_enters}
 use Rattle.ds_content.proofs.content.Content.raise.Goals as goal
 use Rattle.ds_content.proofs.content.Content.raise.Goals.{In_ok-taken, After-push}
+use Rattle.ds_content.specs.Standing.{floor_standing_in}
+use Rattle.ds_machine.specs.Standing.{IsFloorFree}
 
-free : (c : In_ok-taken) → IsFloorFree (content_of c.self.inside) c.args.floor
-free c = subst (λ (v : ContentRecord). IsFloorFree v c.args.floor) (sym c.self.view_is) c.requires.free
+free : (c : In_ok-taken) → IsFloorFree (floor_standing_in (content_of c.self.inside) c.args.floor) c.args.floor
+free c = subst (λ (v : ContentRecord). IsFloorFree (floor_standing_in v c.args.floor) c.args.floor) (sym c.self.view_is) c.requires.free
 
 pub taken-requires : goal.taken-requires
 taken-requires c =
-    let f : IsFloorFree (content_of c.self.inside) c.args.floor = subst (λ (v : ContentRecord). IsFloorFree v c.args.floor) (sym c.self.view_is) c.requires.free in
-    floor_taken c.self.inside.held.held c.held-held.ensures.sound c.args.floor c.raise.result f.higher c.raise.ensures.answer
+    let f : IsFloorFree (floor_standing_in (content_of c.self.inside) c.args.floor) c.args.floor = subst (λ (v : ContentRecord). IsFloorFree (floor_standing_in v c.args.floor) c.args.floor) (sym c.self.view_is) c.requires.free in
+    floor_taken c.self.inside.held.held c.held-held.ensures.sound c.args.floor c.raise.result f.room c.raise.ensures.answer
 
 pub returns-in_err-taken-clause-new_owner : goal.returns-in_err-taken-clause-new_owner
 returns-in_err-taken-clause-new_owner c =
@@ -61,7 +62,7 @@ floors c =
     ∙ ap (λ (m : Masks). insert c.self.inside.held.floor_marks c.args.floor.owner m) c.fresh.ensures
 
 -- it is owed to all that are made
-owes : (c : In_ok-taken) → c.args.owed ≡ padded (map (watches (Floored c.args.floor)) c.self.inside.subscriptions)
+owes : (c : In_ok-taken) → c.args.owed ≡ padded (map (watches_item (Floored c.args.floor)) c.self.inside.subscriptions)
 owes c = c.requires.owed ∙ floor_view c.self.inside.held c.self.inside.journal c.self.inside.stamp c.self.inside.subscriptions c.args.self.now c.self.view_is c.args.floor
 
 pushed : (c : After-push) → (f : Feed) → Keeps c.self.inside.journal f → Keeps c.push.new.self (feeds.accepts f (Floored c.args.floor))
@@ -76,7 +77,7 @@ returns-clause-ok c = λ s stands.
     effect old new c.self.inside.journal c.push.new.self c.self.inside.stamp c.self.inside.subscriptions (Floored c.args.floor) c.args.owed (joined b) (ap (λ (h : Holding). h.limits) (held b))
     (floor_here old new c.args.floor c.args.owed c.raise.ensures.sound (held b) (marks b) (floors b))
     (floor_kept old new c.args.floor c.args.owed c.raise.ensures.sound (held b) (marks b) (floors b)) (owes b) (pushed d)
-    (λ t stood. floor_enters (content_of c.self.inside) t c.args.floor stood (free b)) s (subst (λ (v : ContentRecord). Stands v s) (sym c.self.view_is) stands)
+    (λ t stood. floor_enters (content_of c.self.inside) t c.args.floor stood (free b)) s (subst (λ (v : ContentRecord). ContentStands v s) (sym c.self.view_is) stands)
 
 pub invariant_of-self-2 : goal.invariant_of-self-2
 invariant_of-self-2 c =
@@ -87,13 +88,13 @@ invariant_of-self-2 c =
     let here = floor_here old new c.args.floor c.args.owed c.raise.ensures.sound (held b) (marks b) (floors b) in
     let kept = floor_kept old new c.args.floor c.args.owed c.raise.ensures.sound (held b) (marks b) (floors b) in
     let bounds : new.held.limits ≡ old.held.limits = ap (λ (h : Holding). h.limits) (held b) in
-    let enters = λ (t : State) (stood : Stands (content_of c.self.inside) t). floor_enters (content_of c.self.inside) t c.args.floor stood (free b) in
+    let enters = λ (t : State) (stood : ContentStands (content_of c.self.inside) t). floor_enters (content_of c.self.inside) t c.args.floor stood (free b) in
     let stood = c.self.invariant.stood in
     record {
       places = places_then old new c.self.inside.journal c.push.new.self c.self.inside.stamp c.self.inside.subscriptions (Floored c.args.floor) c.args.owed (joined b) bounds here kept (owes b) (pushed d) enters c.self.invariant.places;
       marked = marked_then old new c.self.inside.journal c.push.new.self c.self.inside.stamp c.self.inside.subscriptions (Floored c.args.floor) c.args.owed (joined b) bounds here kept (owes b) (pushed d) enters stood.0 stood.1 c.self.invariant.places c.self.invariant.marked;
       stood = (
-        accepts stood.0 (Floored c.args.floor ∷ []),
+        takes_effect stood.0 (Floored c.args.floor ∷ []),
         effect old new c.self.inside.journal c.push.new.self c.self.inside.stamp c.self.inside.subscriptions (Floored c.args.floor) c.args.owed (joined b) bounds here kept (owes b) (pushed d) enters stood.0 stood.1,
       );
     }

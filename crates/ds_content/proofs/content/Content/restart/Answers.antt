@@ -5,15 +5,15 @@ use Rattle.ds_held.specs.Held.{Holding, held_items}
 use Rattle.ds_held.specs.Limits.{LimitsRecord, IsLimits}
 use Rattle.ds_marked.specs.Marked.{nothing_marked}
 use Rattle.ds_watch.specs.Watching.{Watching}
-use Rattle.ds_machine.specs.Limits.{last_place}
 use Rattle.ds_machine.specs.State.{State, opening}
 use Rattle.ds_content.specs.Content.{ContentRecord}
 use Rattle.ds_content.specs.Followed.{followed_from}
 use Rattle.ds_content.specs.Kept.{content_of, unseen_at}
-use Rattle.ds_content.specs.Stands.{Stands}
+use Rattle.ds_content.specs.Stands.{ContentStands}
 use Rattle.ds_content.proofs.OpenLemmas.{places_here, none_marked, stands_opening}
 use Rattle.ds_content.proofs.content.Content.restart.Goals as goal
 use Rattle.ds_content.proofs.content.Content.restart.Goals.{After-new}
+use Rattle.ds_names.specs.Limits.{last_place}
 
 -- the limits that it had
 bounds : (c : After-new) → c.limits-limits.result ≡ c.self.inside.held.held.limits
@@ -26,15 +26,15 @@ none : (c : After-new) → c.new.result ≡ replicate c.self.inside.held.held.li
 none c =
     c.new.ensures ∙ ap (λ n. replicate {A = Option Watching} n None) (c.subs.ensures.count ∙ ap (λ (l : LimitsRecord). l.subs) (bounds c))
 
-stands_after : (c : After-new) (s : State) → Stands (content_of c.self.inside) s
-    → Stands (record { held = held_items c.bounded.result.held; journal = c.restart.new.self; limits = c.bounded.result.held.limits; stamp = c.first-self-inside.result; subscriptions = followed_from (held_items c.bounded.result.held) (unseen_at c.bounded.result) 0 c.new.result }) (opening c.args.incarnation s.feed.first s.feed.ring s.limits)
+stands_after : (c : After-new) (s : State) → ContentStands (content_of c.self.inside) s
+    → ContentStands (record { held = held_items c.bounded.result.held; journal = c.restart.new.self; limits = c.bounded.result.held.limits; stamp = c.first-self-inside.result; subscriptions = followed_from (held_items c.bounded.result.held) (unseen_at c.bounded.result) 0 c.new.result }) (opening c.args.incarnation s.feed.first s.feed.ring s.limits)
 stands_after c s stands =
     let l = c.self.inside.held.held.limits in
     let keeps : Keeps c.restart.new.self (restarted s.feed c.args.incarnation) = c.restart.ensures s.feed stands.journal in
     let is_limits : IsLimits l = subst IsLimits (sym stands.limits) stands.reached.limits in
     let within : s.feed.first + length s.feed.accepted ≤ last_place = stands.within.position in
     let low : s.feed.first ≤ last_place = omega (arith, within) in
-    subst (λ (x : LimitsRecord). Stands (record { held = held_items c.bounded.result.held; journal = c.restart.new.self; limits = c.bounded.result.held.limits; stamp = c.first-self-inside.result; subscriptions = followed_from (held_items c.bounded.result.held) (unseen_at c.bounded.result) 0 c.new.result }) (opening c.args.incarnation s.feed.first s.feed.ring x)) stands.limits
+    subst (λ (x : LimitsRecord). ContentStands (record { held = held_items c.bounded.result.held; journal = c.restart.new.self; limits = c.bounded.result.held.limits; stamp = c.first-self-inside.result; subscriptions = followed_from (held_items c.bounded.result.held) (unseen_at c.bounded.result) 0 c.new.result }) (opening c.args.incarnation s.feed.first s.feed.ring x)) stands.limits
     (stands_opening c.bounded.result c.new.result l (nothing c) (none c) c.restart.new.self c.args.incarnation s.feed.first s.feed.ring c.first-self-inside.result keeps (c.first-self-inside.ensures ∙ keeps.first) is_limits low)
 
 pub invariant_of-self : goal.invariant_of-self
@@ -50,4 +50,4 @@ invariant_of-self c =
 
 pub returns : goal.returns
 returns c = λ s stands.
-    stands_after (goal.at.returns c).After-new s (subst (λ (v : ContentRecord). Stands v s) (sym c.self.view_is) stands)
+    stands_after (goal.at.returns c).After-new s (subst (λ (v : ContentRecord). ContentStands v s) (sym c.self.view_is) stands)

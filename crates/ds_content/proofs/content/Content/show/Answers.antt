@@ -3,18 +3,18 @@ use Rattle.std.proofs.lemmas.List.{length-set}
 use Rattle.std.specs.Option.{option_map}
 use Rattle.ds_held.specs.Held.{Holding, held_items}
 use Rattle.ds_watch.specs.Watching.{Watching, watching, stamped}
-use Rattle.ds_machine.specs.Limits.{last_place}
 use Rattle.ds_machine.specs.State.{State, subscribes, subscription_at}
 use Rattle.ds_machine.specs.Subscription.{Subscription}
 use Rattle.ds_content.specs.Content.{ContentRecord}
 use Rattle.ds_content.specs.Kept.{AreMarked, content_of}
 use Rattle.ds_content.specs.Shown.{AreUnseen, is_to_show}
-use Rattle.ds_content.specs.Stands.{Stands}
+use Rattle.ds_content.specs.Stands.{ContentStands}
 use Rattle.ds_content.proofs.EnterLemmas.{value_of}
 use Rattle.ds_content.proofs.RemarkLemmas.{checked_marked}
 use Rattle.ds_content.proofs.ServeLemmas.{shown_stands, made_place, unseen_items, within_places, twin_of, few_seats}
 use Rattle.ds_content.proofs.content.Content.show.Goals as goal
 use Rattle.ds_content.proofs.content.Content.show.Goals.{After-set_stamp}
+use Rattle.ds_names.specs.Limits.{last_place}
 
 pub show_first-requires : goal.show_first-requires
 show_first-requires c =
@@ -42,10 +42,10 @@ items c =
     unseen_items c.self.inside.held c.self.inside.subscriptions c.args.sub (seat c).0 (seat c).1 c.self.inside.journal c.self.inside.stamp c.args.shown.now.items c.args.shown.now.passed
     (subst (λ (v : ContentRecord). AreUnseen v c.args.sub c.args.shown.now.items c.args.shown.now.passed) (sym c.self.view_is) c.requires.unseen)
 
-stands_after : (c : After-set_stamp) (s : State) (seer : Subscription) → Stands (content_of c.self.inside) s → subscription_at s c.args.sub ≡ Some seer
-    → Stands (value_of c.show_first.new.held c.self.inside.journal (c.self.inside.stamp + 1) c.set_stamp.new.self) (subscribes s c.args.sub seer.query (seer.shown ++ c.args.shown.now.items))
+stands_after : (c : After-set_stamp) (s : State) (seer : Subscription) → ContentStands (content_of c.self.inside) s → subscription_at s c.args.sub ≡ Some seer
+    → ContentStands (value_of c.show_first.new.held c.self.inside.journal (c.self.inside.stamp + 1) c.set_stamp.new.self) (subscribes s c.args.sub seer.query (seer.shown ++ c.args.shown.now.items))
 stands_after c s seer stands here =
-    subst (λ (ws : List (Option Watching)). Stands (value_of c.show_first.new.held c.self.inside.journal (c.self.inside.stamp + 1) ws) (subscribes s c.args.sub seer.query (seer.shown ++ c.args.shown.now.items))) (sym (places c))
+    subst (λ (ws : List (Option Watching)). ContentStands (value_of c.show_first.new.held c.self.inside.journal (c.self.inside.stamp + 1) ws) (subscribes s c.args.sub seer.query (seer.shown ++ c.args.shown.now.items))) (sym (places c))
     (shown_stands c.self.inside.held c.show_first.new.held c.self.inside.journal c.self.inside.stamp c.self.inside.subscriptions c.args.sub c.self.invariant.places (within_places c.self.inside.subscriptions c.args.sub (seat c).0 (seat c).1) (room c) c.held-held.ensures.sound
     c.args.shown.now.passed c.show_first.ensures s seer (seat c).0 c.args.shown.now.items stands here (seat c).1 (items c))
 
@@ -64,4 +64,4 @@ invariant_of-self c =
 
 pub returns : goal.returns
 returns c = λ s seer stands here.
-    stands_after (goal.at.returns c).After-set_stamp s seer (subst (λ (v : ContentRecord). Stands v s) (sym c.self.view_is) stands) here
+    stands_after (goal.at.returns c).After-set_stamp s seer (subst (λ (v : ContentRecord). ContentStands v s) (sym c.self.view_is) stands) here

@@ -9,14 +9,14 @@ use Rattle.ds_machine.specs.declared.command.Command.TheVariants.{Check}
 use Rattle.ds_judge.specs.Cases.{refusal_of_showing}
 use Rattle.ds_judge.specs.Last.{IsLast}
 use Rattle.ds_content.specs.Content.{ContentRecord}
-use Rattle.ds_content.specs.Stands.{Stands}
+use Rattle.ds_content.specs.Stands.{ContentStands}
 use Rattle.ds_store.proofs.WatchLemmas.{taken_is, is_shown, check_judged, check_refused, seen_at, some_is, no_items, some_items, are_some, check_short, short_last, check_empty, check_done}
 use Rattle.ds_store.proofs.store.Store.check.Goals as goal
 
 pub returns-in-Some-clause-step : goal.returns-in-Some-clause-step
 returns-in-Some-clause-step c = λ s stands.
     let v = c.self.inside.content in
-    let here : Stands v s = subst (λ (x : ContentRecord). Stands x s) (sym c.self.view_is) stands in
+    let here : ContentStands v s = subst (λ (x : ContentRecord). ContentStands x s) (sym c.self.view_is) stands in
     let places = c.subs.ensures.count ∙ ap (λ l. l.subs) (c.limits.ensures ∙ here.limits) in
     let taken = c.is_some.ensures ∙ taken_is v s c.args.sub c.stamp_of-before.result here c.stamp_of-before.ensures in
     let judged = check_judged s c.args.sub c.args.max c.subs.result c.is_some.result c.refusal_of_check.result places taken c.refusal_of_check.ensures.first in
@@ -25,7 +25,7 @@ returns-in-Some-clause-step c = λ s stands.
 pub returns-in_default-first_unseen-clause-step : goal.returns-in_default-first_unseen-clause-step
 returns-in_default-first_unseen-clause-step c = λ s stands.
     let v = c.self.inside.content in
-    let here : Stands v s = subst (λ (x : ContentRecord). Stands x s) (sym c.self.view_is) stands in
+    let here : ContentStands v s = subst (λ (x : ContentRecord). ContentStands x s) (sym c.self.view_is) stands in
     let places = c.subs.ensures.count ∙ ap (λ l. l.subs) (c.limits.ensures ∙ here.limits) in
     let taken = c.is_some.ensures ∙ taken_is v s c.args.sub c.stamp_of-before.result here c.stamp_of-before.ensures in
     let judged = check_judged s c.args.sub c.args.max c.subs.result c.is_some.result c.refusal_of_check.result places taken c.refusal_of_check.ensures.first in
@@ -38,7 +38,7 @@ returns-in_default-first_unseen-clause-step c = λ s stands.
 pub returns-in_default-first_unseen-clause-last : goal.returns-in_default-first_unseen-clause-last
 returns-in_default-first_unseen-clause-last c = λ s stands.
     let v = c.self.inside.content in
-    let here : Stands v s = subst (λ (x : ContentRecord). Stands x s) (sym c.self.view_is) stands in
+    let here : ContentStands v s = subst (λ (x : ContentRecord). ContentStands x s) (sym c.self.view_is) stands in
     let places = c.subs.ensures.count ∙ ap (λ l. l.subs) (c.limits.ensures ∙ here.limits) in
     let taken = c.is_some.ensures ∙ taken_is v s c.args.sub c.stamp_of-before.result here c.stamp_of-before.ensures in
     let judged = check_judged s c.args.sub c.args.max c.subs.result c.is_some.result c.refusal_of_check.result places taken c.refusal_of_check.ensures.first in
@@ -51,7 +51,7 @@ returns-in_default-first_unseen-clause-last c = λ s stands.
 pub returns-then-count-eq0-clause-step : goal.returns-then-count-eq0-clause-step
 returns-then-count-eq0-clause-step c = λ s stands.
     let v = c.self.inside.content in
-    let here : Stands v s = subst (λ (x : ContentRecord). Stands x s) (sym c.self.view_is) stands in
+    let here : ContentStands v s = subst (λ (x : ContentRecord). ContentStands x s) (sym c.self.view_is) stands in
     let places = c.subs.ensures.count ∙ ap (λ l. l.subs) (c.limits.ensures ∙ here.limits) in
     let taken = c.is_some.ensures ∙ taken_is v s c.args.sub c.stamp_of-before.result here c.stamp_of-before.ensures in
     let judged = check_judged s c.args.sub c.args.max c.subs.result c.is_some.result c.refusal_of_check.result places taken c.refusal_of_check.ensures.first in
@@ -66,7 +66,7 @@ returns-then-count-eq0-clause-step c = λ s stands.
 pub returns-in-Some-refusal_of_showing-clause-step : goal.returns-in-Some-refusal_of_showing-clause-step
 returns-in-Some-refusal_of_showing-clause-step c = λ s stands.
     let v = c.self.inside.content in
-    let here : Stands v s = subst (λ (x : ContentRecord). Stands x s) (sym c.self.view_is) stands in
+    let here : ContentStands v s = subst (λ (x : ContentRecord). ContentStands x s) (sym c.self.view_is) stands in
     let places = c.subs.ensures.count ∙ ap (λ l. l.subs) (c.limits.ensures ∙ here.limits) in
     let taken = c.is_some.ensures ∙ taken_is v s c.args.sub c.stamp_of-before.result here c.stamp_of-before.ensures in
     let judged = check_judged s c.args.sub c.args.max c.subs.result c.is_some.result c.refusal_of_check.result places taken c.refusal_of_check.ensures.first in
@@ -81,7 +81,7 @@ returns-in-Some-refusal_of_showing-clause-step c = λ s stands.
 pub returns-clause-step : goal.returns-clause-step
 returns-clause-step c = λ s stands.
     let v = c.self.inside.content in
-    let here : Stands v s = subst (λ (x : ContentRecord). Stands x s) (sym c.self.view_is) stands in
+    let here : ContentStands v s = subst (λ (x : ContentRecord). ContentStands x s) (sym c.self.view_is) stands in
     let places = c.subs.ensures.count ∙ ap (λ l. l.subs) (c.limits.ensures ∙ here.limits) in
     let taken = c.is_some.ensures ∙ taken_is v s c.args.sub c.stamp_of-before.result here c.stamp_of-before.ensures in
     let judged = check_judged s c.args.sub c.args.max c.subs.result c.is_some.result c.refusal_of_check.result places taken c.refusal_of_check.ensures.first in

@@ -3,15 +3,16 @@ use Rattle.std.specs.Prelude.{slice_get}
 use Rattle.std.specs.Option.{option_copied}
 use Rattle.ds_entry.specs.Change.{ChangeRecord}
 use Rattle.ds_entry.specs.Void.{voids}
-use Rattle.ds_join.specs.Reading.{value_of}
 use Rattle.ds_held.specs.Held.{held_changes}
 use Rattle.ds_machine.specs.Parts.{changes_in}
 use Rattle.ds_content.specs.Content.{ContentRecord}
-use Rattle.ds_content.proofs.HoldingLemmas.{changes_are, count_changes}
+use Rattle.ds_content.proofs.HoldingLemmas.{changes_are}
 use Rattle.ds_content.proofs.FlagLemmas.{past_end, few_taken}
 use Rattle.ds_store.proofs.CountLemmas.{counted, counted_more}
 use Rattle.ds_store.proofs.store.Store.count_dropped.Goals as goal
 use Rattle.ds_store.proofs.store.Store.count_dropped.Goals.{in-Some+then-is_dropped, in-Some+else-is_dropped, in_default}
+use Rattle.ds_entry.specs.Left.{value_of}
+use Rattle.ds_held.proofs.HeldLemmas.{count_is}
 
 pub loop-index-preserved : goal.loop-index-preserved
 loop-index-preserved c =
@@ -34,7 +35,7 @@ loop-index-preserved c =
           (let gone : slice_get (held_changes h) i ≡ None = sym (subst (λ o. option_copied o ≡ slice_get (held_changes h) i) w.in_default.is c.at.ensures.value) in
           let end : length (held_changes h) ≤ i = past_end (held_changes h) i gone in
           let within : i < c.len-most.result = c.loop-index-test.true in
-          absurd (omega (arith, end, within, c.len-most.ensures.count, count_changes h)))
+          absurd (omega (arith, end, within, c.len-most.ensures.count, count_is h)))
     ]
 
 pub returns : goal.returns
@@ -44,5 +45,5 @@ returns c =
     let p : ChangeRecord → Bool = λ (x : ChangeRecord). voids c.args.floor.now x && is_some (value_of x) in
     let same : held_changes h ≡ cs = sym (changes_are h) ∙ ap changes_in (c.held-held.ensures.items ∙ ap (λ (x : ContentRecord). x.held) c.self.view_is) in
     let long : length (held_changes h) ≡ length cs = ap (λ (l : List ChangeRecord). length l) same in
-    let end : length cs ≤ c.loop-index.index = omega (arith, long, c.loop-index-test.false, c.len-most.ensures.count, count_changes h) in
+    let end : length cs ≤ c.loop-index.index = omega (arith, long, c.loop-index-test.false, c.len-most.ensures.count, count_is h) in
     c.loop-index.invariant.counted ∙ ap (λ (l : List ChangeRecord). length (filter p l)) (few_taken c.loop-index.index cs end)

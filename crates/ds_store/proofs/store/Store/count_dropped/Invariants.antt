@@ -1,10 +1,10 @@
 use Rattle.std.proofs.Common.{◌≡◌, ◌≤◌, ◌&&◌, is_some}
 use Rattle.ds_entry.specs.Change.{ChangeRecord}
 use Rattle.ds_entry.specs.Void.{voids}
-use Rattle.ds_join.specs.Reading.{value_of}
 use Rattle.ds_machine.specs.Parts.{changes_in}
 use Rattle.ds_store.proofs.CountLemmas.{counted}
 use Rattle.ds_store.proofs.store.Store.count_dropped.Given as goal
+use Rattle.ds_entry.specs.Left.{value_of}
 
 -- those counted are the ones that are dropped of the first changes
 abbrev pub invariant-loop-index : goal.invariant-loop-index

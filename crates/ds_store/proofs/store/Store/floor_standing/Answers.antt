@@ -2,9 +2,9 @@ use Rattle.std.proofs.Common.{ap, ◌∙◌}
 use Rattle.std.specs.Option.{option_map}
 use Rattle.ds_entry.specs.Floor.{floor_of}
 use Rattle.ds_content.specs.Content.{ContentRecord}
-use Rattle.ds_store.specs.Standing.{floor_standing_in}
 use Rattle.ds_store.proofs.StandingLemmas.{floor_back, floor_told_same}
 use Rattle.ds_store.proofs.store.Store.floor_standing.Goals as goal
+use Rattle.ds_content.specs.Standing.{floor_standing_in}
 
 pub returns : goal.returns
 returns c =

@@ -5,10 +5,10 @@ use Rattle.ds_machine.specs.Scope.{is_kept}
 use Rattle.ds_machine.specs.State.{held, cursor}
 use Rattle.ds_machine.specs.declared.command.Scope.{Scope}
 use Rattle.ds_content.specs.Content.{ContentRecord}
-use Rattle.ds_content.specs.Stands.{Stands}
+use Rattle.ds_content.specs.Stands.{ContentStands}
 use Rattle.ds_store.proofs.store.Store.give_page.Goals as goal
 
 pub returns-in-Ok : goal.returns-in-Ok
 returns-in-Ok c = λ s stands.
-    let here : Stands c.self.inside.content s = subst (λ (x : ContentRecord). Stands x s) (sym c.self.view_is) stands in
+    let here : ContentStands c.self.inside.content s = subst (λ (x : ContentRecord). ContentStands x s) (sym c.self.view_is) stands in
     subst (λ (x : Scope). IfOk c.page.result (λ (page : Page). page ≡ page_of (is_kept x) c.args.after c.args.max (held s) (cursor s))) c.in-Ok.ensures.asks (c.page.ensures.stands s here)

@@ -6,7 +6,7 @@ use Rattle.ds_machine.specs.Scope.{is_kept}
 use Rattle.ds_machine.specs.State.{State}
 use Rattle.ds_machine.specs.declared.command.Scope.{Scope}
 use Rattle.ds_content.specs.Content.{ContentRecord}
-use Rattle.ds_content.specs.Stands.{Stands}
+use Rattle.ds_content.specs.Stands.{ContentStands}
 use Rattle.ds_store.proofs.store.Store.give_since.Goals as goal
 use Rattle.ds_store.proofs.store.Store.give_since.Goals.{in-Ok+in-Under-1, in-Ok+in-All-1, in-Err+in-Ok-1, in-Ok-since, in-Err-since, in-Err+in-Err-1}
 
@@ -17,7 +17,7 @@ under_read s asked read e given answer since is same at max h =
 
 pub returns-in-Ok-given-clause-given : goal.returns-in-Ok-given-clause-given
 returns-in-Ok-given-clause-given c = λ s stands.
-    let here : Stands c.self.inside.content s = subst (λ (x : ContentRecord). Stands x s) (sym c.self.view_is) stands in
+    let here : ContentStands c.self.inside.content s = subst (λ (x : ContentRecord). ContentStands x s) (sym c.self.view_is) stands in
     elim c.match-asker.branch [
       | in-Ok+in-Under-1 w ↦ under_read s _ _ w.in-Ok.ensures.asks c.match-asker.given w.since-given.result c.in-Ok-given.since c.in-Ok-given.is w.given-is c.args.cursor c.args.max (w.since-given.ensures.given s here)
       | in-Ok+in-All-1 w ↦ under_read s _ _ w.in-Ok.ensures.asks c.match-asker.given w.since-given.result c.in-Ok-given.since c.in-Ok-given.is w.given-is c.args.cursor c.args.max (w.since-given.ensures.given s here)

@@ -5,7 +5,7 @@ use Rattle.ds_watch.specs.Mask.{padded}
 use Rattle.ds_machine.specs.State.{State}
 use Rattle.ds_machine.specs.Subscription.{is_owed}
 use Rattle.ds_machine.specs.Merging.{Course, course}
-use Rattle.ds_content.specs.Stands.{Stands}
+use Rattle.ds_content.specs.Stands.{ContentStands}
 use Rattle.ds_store.proofs.MergeLemmas.{item_next, not_begun, nothing_owed, merge_stopped, merge_done, taken_within, stale_within, next_course, next_reached, item_owed, course_places, course_number, stopped_last}
 use Rattle.ds_store.proofs.store.Store.merge.Goals as goal
 
@@ -68,7 +68,7 @@ loop-item-preserved c =
           (let at = c.loop-item.invariant.reached s stands in
           let next = c.in-Ok.ensures.step (course s (take i items)).state at.1 in
           let there = next_reached s items i it c.in-Ok.join next.0 c.loop-item.taken c.loop-item.stale c.taken_by-taken.result c.stale_by-stale.result item at.0 next.1 c.taken_by-taken.ensures c.stale_by-stale.ensures in
-          (there.0, subst (λ (t : State). Stands c.merge_item.new.self t) there.1 next.2));
+          (there.0, subst (λ (t : State). ContentStands c.merge_item.new.self t) there.1 next.2));
     }
 
 pub returns-clause-step : goal.returns-clause-step

@@ -3,7 +3,7 @@ use Rattle.ds_watch.specs.Mask.{padded}
 use Rattle.ds_machine.specs.State.{State}
 use Rattle.ds_machine.specs.Subscription.{is_owed}
 use Rattle.ds_machine.specs.Merging.{course}
-use Rattle.ds_content.specs.Stands.{Stands}
+use Rattle.ds_content.specs.Stands.{ContentStands}
 use Rattle.ds_store.proofs.MergeLemmas.{Reached}
 use Rattle.ds_store.proofs.store.Store.merge.Given as goal
 
@@ -15,6 +15,6 @@ invariant-loop-item l = record {
   within : l.done ≤ length l.items;
   taken : l.taken ≤ l.done;
   stale : l.stale ≤ l.done;
-  owed : (s : State) → Stands l.fn.self s → l.owed ≡ padded (map (is_owed (course s (take l.done l.items)).taken) s.subscriptions);
-  reached : (s : State) → Stands l.fn.self s → Reached (course s (take l.done l.items)) l.done l.taken l.stale × Stands l.self (course s (take l.done l.items)).state;
+  owed : (s : State) → ContentStands l.fn.self s → l.owed ≡ padded (map (is_owed (course s (take l.done l.items)).taken) s.subscriptions);
+  reached : (s : State) → ContentStands l.fn.self s → Reached (course s (take l.done l.items)) l.done l.taken l.stale × ContentStands l.self (course s (take l.done l.items)).state;
 }

@@ -6,7 +6,7 @@ use Rattle.ds_machine.specs.Standing.{against_change, standing_of}
 use Rattle.ds_machine.specs.declared.refusal.Cause.{Cause}
 use Rattle.ds_judge.proofs.RoomLemmas.{no_cause}
 use Rattle.ds_content.specs.Content.{ContentRecord}
-use Rattle.ds_content.specs.Stands.{Stands}
+use Rattle.ds_content.specs.Stands.{ContentStands}
 use Rattle.ds_store.specs.Merging.{owed_after}
 use Rattle.ds_store.proofs.AnswerLemmas.{passed_no_room}
 use Rattle.ds_store.proofs.store.Store.merge_change.Goals as goal
@@ -20,7 +20,7 @@ returns-in-Some-clause-last c = λ e s stands.
 
 pub returns-clause-owed : goal.returns-clause-owed
 returns-clause-owed c = λ s stands.
-    let here : Stands c.self.inside.content s = subst (λ (x : ContentRecord). Stands x s) (sym c.self.view_is) stands in
+    let here : ContentStands c.self.inside.content s = subst (λ (x : ContentRecord). ContentStands x s) (sym c.self.view_is) stands in
     elim c.match-accept_at.branch [
       | in-Ok-accept_at w ↦
           w.total-is ∙ w.add.ensures ∙ ap (either c.args.total.now) (c.in-Ok.ensures.owed s c.args.change.now here (sym c.key-2.ensures.value))

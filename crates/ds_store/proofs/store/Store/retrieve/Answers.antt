@@ -2,13 +2,13 @@ use Rattle.std.proofs.Common.{◌≡◌, true, false, List, Some, refl, ap, sym,
 use Rattle.std.specs.Prelude.{is_some}
 use Rattle.std.specs.Option.{option_and_then}
 use Rattle.ds_entry.specs.declared.item.Item.{Item}
-use Rattle.ds_join.specs.Reading.{value_in, value_of}
 use Rattle.ds_machine.specs.Parts.{held_at}
 use Rattle.ds_machine.specs.Machine.{live_at}
 use Rattle.ds_content.specs.Content.{ContentRecord}
-use Rattle.ds_content.specs.Stands.{Stands}
+use Rattle.ds_content.specs.Stands.{ContentStands}
 use Rattle.ds_store.proofs.AnswerLemmas.{found_in_place}
 use Rattle.ds_store.proofs.store.Store.retrieve.Goals as goal
+use Rattle.ds_entry.specs.Left.{value_in, value_of}
 
 pub returns-in-Err-clause-in_place : goal.returns-in-Err-clause-in_place
 returns-in-Err-clause-in_place c = λ p e.
@@ -20,7 +20,7 @@ returns-in-Err-clause-in_place c = λ p e.
 pub returns-in-Err-clause-last : goal.returns-in-Err-clause-last
 returns-in-Err-clause-last c = λ s stands.
     let v = c.self.inside.content in
-    let here : Stands v s = subst (λ (x : ContentRecord). Stands x s) (sym c.self.view_is) stands in
+    let here : ContentStands v s = subst (λ (x : ContentRecord). ContentStands x s) (sym c.self.view_is) stands in
     let found : held_at v.held c.args.key ≡ Some c.in-Some.change.now = sym c.in-Some.ensures.value in
     let put = sym c.body.ensures.value ∙ c.in-Put.is in
     let live : live_at s c.args.key ≡ Some c.in-Put.value =

@@ -1,15 +1,16 @@
 use Rattle.std.proofs.Common.{◌≡◌, ℕ, List, Some, ap, sym, ◌∙◌, subst}
 use Rattle.std.specs.Option.{unwrap_or}
-use Rattle.ds_entry.specs.Change.{change_of, rs_name}
+use Rattle.ds_entry.specs.Change.{change_of}
 use Rattle.ds_held.specs.Kept.{IsPlace}
 use Rattle.ds_machine.specs.Parts.{changes_in}
 use Rattle.ds_machine.specs.Asking.{change_asked}
 use Rattle.ds_judge.specs.Asked.{request_of, is_void_under}
 use Rattle.ds_content.specs.Content.{ContentRecord}
-use Rattle.ds_store.specs.Standing.{standing_in}
 use Rattle.ds_store.proofs.StandingLemmas.{told_same, void_is}
 use Rattle.ds_store.proofs.store.Store.standing_before.Goals as goal
 use Rattle.ds_store.proofs.store.Store.standing_before.Goals.{in-Some, in-None}
+use Rattle.ds_names.specs.Name.{rs_name}
+use Rattle.ds_content.specs.Standing.{standing_in}
 
 pub returns : goal.returns
 returns c = λ body.
@@ -19,7 +20,7 @@ returns c = λ body.
     let at : IsPlace (changes_in v.held) a.key c.args.place = subst (λ (x : ContentRecord). IsPlace (changes_in x.held) a.key c.args.place) (sym c.self.view_is) c.requires in
     let same : owner ≡ unwrap_or c.args.caller.now rs_name = elim c.match-caller.branch [
       | in-Some w ↦ w.owner-is ∙ sym (ap (λ o. unwrap_or o rs_name) w.in-Some.is)
-      | in-None w ↦ w.owner-is ∙ w.rs_name-owner.ensures ∙ sym (ap (λ o. unwrap_or o rs_name) w.in-None.is)
+      | in-None w ↦ w.owner-is ∙ w.rs-owner.ensures ∙ sym (ap (λ o. unwrap_or o rs_name) w.in-None.is)
     ] in
     let change = change_asked (Some owner) a body in
     let void = c.is_void_under.ensures owner body ∙ ap (λ o. is_void_under o change) c.floor.ensures ∙ sym (void_is c.held-held.result.now c.held-held.ensures.sound v.held c.held-held.ensures.items change) in

@@ -1,16 +1,17 @@
 use Rattle.std.proofs.Common.{◌+◌, ◌^◌, ◌&&◌, cond, ap, sym, ◌∙◌, subst, inr, refl}
 use Rattle.std.specs.List.{list_any}
 use Rattle.ds_pattern.specs.declared.query.Query.{Query}
-use Rattle.ds_machine.specs.Scope.{is_item_under}
 use Rattle.ds_machine.specs.State.{subscribes}
 use Rattle.ds_machine.specs.Watching.{subscribing, shown_at_first}
 use Rattle.ds_machine.specs.Machine.{Answers}
 use Rattle.ds_machine.specs.declared.reply.Reply.{Reply}
 use Rattle.ds_content.specs.Content.{ContentRecord}
-use Rattle.ds_content.specs.Stands.{Stands}
+use Rattle.ds_content.specs.Stands.{ContentStands}
 use Rattle.ds_store.proofs.WatchLemmas.{taken_is, subscribe_of, subscribe_same, subscribe_made}
 use Rattle.ds_store.proofs.store.Store.subscribe.Goals as goal
 use Rattle.ds_store.proofs.store.Store.subscribe.Goals.{in-Ok-subscribe, in-Err-subscribe}
+use Rattle.ds_pattern.specs.Under.{is_under}
+use Rattle.ds_entry.specs.Item.{passes}
 
 pub returns-clause-step : goal.returns-clause-step
 returns-clause-step c = λ s stands.
@@ -18,18 +19,18 @@ returns-clause-step c = λ s stands.
     let sub = c.args.sub in
     let query = c.args.query.now in
     let initial = c.args.initial in
-    let here : Stands v s = subst (λ (x : ContentRecord). Stands x s) (sym c.self.view_is) stands in
+    let here : ContentStands v s = subst (λ (x : ContentRecord). ContentStands x s) (sym c.self.view_is) stands in
     let places = c.subs.ensures.count ∙ ap (λ l. l.subs) (c.limits.ensures ∙ here.limits) in
     let taken = c.is_some.ensures ∙ taken_is v s sub c.stamp_of.result here c.stamp_of.ensures in
     let case = subscribe_of c.subs.result c.is_some.result c.stamp-stamp.result sub query c.args.overwrite in
     let same = subscribe_same s sub query c.args.overwrite c.subs.result c.is_some.result c.stamp-stamp.result places taken (c.stamp-stamp.ensures.value ∙ here.stamp) in
     elim c.match-subscribe.branch [
       | in-Ok-subscribe w ↦
-          (let owes = w.own_bit.ensures ∙ ap (λ b. cond (initial && b) (2 ^ sub) 0) (w.in-Ok-subscribe.ensures.some ∙ ap (λ (q : Query). list_any (is_item_under q) v.held) c.in-Ok.ensures.value) in (
+          (let owes = w.own_bit.ensures ∙ ap (λ b. cond (initial && b) (2 ^ sub) 0) (w.in-Ok-subscribe.ensures.some ∙ ap (λ (q : Query). list_any (passes (is_under q)) v.held) c.in-Ok.ensures.value) in (
             subscribes s sub query (shown_at_first v.held initial),
             subst (λ (r : Reply). Answers s (subscribing s sub query initial c.args.overwrite) r (subscribes s sub query (shown_at_first v.held initial))) (sym w.result-is)
                 (subscribe_made s sub query initial c.args.overwrite v case _ w.own_bit.result here same c.in-Ok.ensures.none (ap (λ n. n + 1) c.stamp-stamp.ensures.value) owes),
-            subst (λ (q : Query). Stands c.subscribe.new.self (subscribes s sub q (shown_at_first v.held initial))) c.in-Ok.ensures.value (w.in-Ok-subscribe.ensures.ok s here),
+            subst (λ (q : Query). ContentStands c.subscribe.new.self (subscribes s sub q (shown_at_first v.held initial))) c.in-Ok.ensures.value (w.in-Ok-subscribe.ensures.ok s here),
           ))
-      | in-Err-subscribe w ↦ (s, inr (record { reply_is = w.result-is; state_is = refl }), subst (λ (x : ContentRecord). Stands x s) (sym w.in-Err-subscribe.ensures.err) here)
+      | in-Err-subscribe w ↦ (s, inr (record { reply_is = w.result-is; state_is = refl }), subst (λ (x : ContentRecord). ContentStands x s) (sym w.in-Err-subscribe.ensures.err) here)
     ]

@@ -1,11 +1,11 @@
 use Rattle.std.proofs.Common.{◌≡◌, [], ◌∷◌, length, refl, ap, sym, ◌∙◌, subst, inl, inr}
 use Rattle.ds_entry.specs.declared.item.Item.TheVariants.{Floor as Floored}
-use Rattle.ds_machine.specs.State.{accepts, owed}
+use Rattle.ds_machine.specs.State.{takes_effect, owed}
 use Rattle.ds_machine.specs.Machine.{Answers, IsOutcome, sweeping, dropped}
 use Rattle.ds_machine.specs.declared.command.Command.TheVariants.{Sweep}
 use Rattle.ds_machine.specs.declared.reply.Reply.{Reply}
 use Rattle.ds_content.specs.Content.{ContentRecord}
-use Rattle.ds_content.specs.Stands.{Stands}
+use Rattle.ds_content.specs.Stands.{ContentStands}
 use Rattle.ds_store.proofs.AnswerLemmas.{last_of, sweep_refused, sweep_taken, owed_number}
 use Rattle.ds_store.proofs.store.Store.sweep.Goals as goal
 use Rattle.ds_store.proofs.store.Store.sweep.Goals.{in-Ok, in-Err}
@@ -26,16 +26,16 @@ pub returns-clause-step : goal.returns-clause-step
 returns-clause-step c = λ s stands.
     let v = c.self.inside.content in
     let f = c.args.floor in
-    let here : Stands v s = subst (λ (x : ContentRecord). Stands x s) (sym c.self.view_is) stands in
+    let here : ContentStands v s = subst (λ (x : ContentRecord). ContentStands x s) (sym c.self.view_is) stands in
     let none = sym (c.cause_of_sweep.ensures.first s stands) ∙ c.in_default.is in
     let counted = c.count_dropped-count.ensures ∙ ap (λ (x : ContentRecord). length (dropped x.held f)) (sym c.self.view_is) in
     elim c.match-raise.branch [
       | in-Ok w ↦
           (let bits : w.number.result ≡ owed s (Floored f ∷ []) = owed_number s (Floored f) c.owed_by_floor-owed.result w.number.result w.number.ensures (c.owed_by_floor-owed.ensures.owed s f here) in (
-            accepts s (Floored f ∷ []),
-            subst (λ (r : Reply). Answers s (sweeping s c.args.caller f) r (accepts s (Floored f ∷ []))) (sym w.result-is)
+            takes_effect s (Floored f ∷ []),
+            subst (λ (r : Reply). Answers s (sweeping s c.args.caller f) r (takes_effect s (Floored f ∷ []))) (sym w.result-is)
                 (inl (sweep_taken v s c.args.caller f c.count_dropped-count.result w.number.result here none counted bits)),
             w.in-Ok.ensures.ok s here,
           ))
-      | in-Err w ↦ (s, inr (record { reply_is = w.result-is; state_is = refl }), subst (λ (x : ContentRecord). Stands x s) (sym w.in-Err.ensures.err) here)
+      | in-Err w ↦ (s, inr (record { reply_is = w.result-is; state_is = refl }), subst (λ (x : ContentRecord). ContentStands x s) (sym w.in-Err.ensures.err) here)
     ]

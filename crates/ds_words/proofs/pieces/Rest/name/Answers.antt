@@ -1,7 +1,6 @@
 use Rattle.std.proofs.Common.{List, ℕ}
 use Rattle.std.proofs.lemmas.Result.{err_from_is_err_and}
-use Rattle.ds_names.specs.Name.{IsName}
-use Rattle.ds_entry.specs.Change.{rs_name}
+use Rattle.ds_names.specs.Name.{IsName, rs_name}
 use Rattle.ds_line.proofs.LabelLemmas.{rs_is_name}
 use Rattle.ds_words.proofs.PieceLemmas.{one_part, name_part, no_byte, no_name}
 use Rattle.ds_words.proofs.pieces.Rest.name.Goals as goal

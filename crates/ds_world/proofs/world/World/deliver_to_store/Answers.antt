@@ -36,13 +36,13 @@ returns-clause-leads c =
       | in-A w ↦
           (let tally = w.merge_all-tally.result in
           let new = w.merge_all-tally.new.store in
-          let taken = subst (λ (l : List Item). (s : State) → contents.Stands value.a s → (t : State) × StoreTakes s l (tally_of tally) t × contents.Stands new t × IsWantLast l tally.done tally.stop t) first w.merge_all-tally.ensures.takes in
+          let taken = subst (λ (l : List Item). (s : State) → contents.ContentStands value.a s → (t : State) × StoreTakes s l (tally_of tally) t × contents.ContentStands new t × IsWantLast l tally.done tally.stop t) first w.merge_all-tally.ensures.takes in
           let to = to_a value k count items there few (tally_of tally) new taken in
           carried (ap by_event (sym w.in-A.is)) (sym (c.outcome.ensures ∙ ap ends w.tally-is)) c.self.view_is (sym w.self-is) (led value k count items there few (tally_of tally) A (record value { a = new }) to))
       | in-B w ↦
           (let tally = w.merge_all-tally-in-B.result in
           let new = w.merge_all-tally-in-B.new.store in
-          let taken = subst (λ (l : List Item). (s : State) → contents.Stands value.b s → (t : State) × StoreTakes s l (tally_of tally) t × contents.Stands new t × IsWantLast l tally.done tally.stop t) first w.merge_all-tally-in-B.ensures.takes in
+          let taken = subst (λ (l : List Item). (s : State) → contents.ContentStands value.b s → (t : State) × StoreTakes s l (tally_of tally) t × contents.ContentStands new t × IsWantLast l tally.done tally.stop t) first w.merge_all-tally-in-B.ensures.takes in
           let to = to_b value k count items there few (tally_of tally) new taken in
           carried (ap by_event (sym w.in-B.is)) (sym (c.outcome.ensures ∙ ap ends w.tally-is)) c.self.view_is (sym w.self-is) (led value k count items there few (tally_of tally) B (record value { b = new }) to))
     ]
@@ -63,13 +63,13 @@ returns-clause-told c =
       | in-A w ↦
           (let tally = w.merge_all-tally.result in
           let new = w.merge_all-tally.new.store in
-          let taken = subst (λ (l : List Item). (s : State) → contents.Stands value.a s → (t : State) × StoreTakes s l (tally_of tally) t × contents.Stands new t × IsWantLast l tally.done tally.stop t) first w.merge_all-tally.ensures.takes in
+          let taken = subst (λ (l : List Item). (s : State) → contents.ContentStands value.a s → (t : State) × StoreTakes s l (tally_of tally) t × contents.ContentStands new t × IsWantLast l tally.done tally.stop t) first w.merge_all-tally.ensures.takes in
           let to = to_a value k count items there few (tally_of tally) new taken in
           told_so (ap by_event (sym w.in-A.is)) (sym (c.outcome.ensures ∙ ap ends w.tally-is)) c.self.view_is (sym w.self-is) (store_told value k count items there few (tally_of tally) A (record value { a = new }) to refl))
       | in-B w ↦
           (let tally = w.merge_all-tally-in-B.result in
           let new = w.merge_all-tally-in-B.new.store in
-          let taken = subst (λ (l : List Item). (s : State) → contents.Stands value.b s → (t : State) × StoreTakes s l (tally_of tally) t × contents.Stands new t × IsWantLast l tally.done tally.stop t) first w.merge_all-tally-in-B.ensures.takes in
+          let taken = subst (λ (l : List Item). (s : State) → contents.ContentStands value.b s → (t : State) × StoreTakes s l (tally_of tally) t × contents.ContentStands new t × IsWantLast l tally.done tally.stop t) first w.merge_all-tally-in-B.ensures.takes in
           let to = to_b value k count items there few (tally_of tally) new taken in
           told_so (ap by_event (sym w.in-B.is)) (sym (c.outcome.ensures ∙ ap ends w.tally-is)) c.self.view_is (sym w.self-is) (store_told value k count items there few (tally_of tally) B (record value { b = new }) to refl))
     ]

@@ -1,6 +1,6 @@
 use Rattle.std.proofs.Common.{subst}
 use Rattle.ds_replica.specs.World.{World}
-use Rattle.ds_world.specs.World.{WorldRecord, world_of, Stands}
+use Rattle.ds_world.specs.World.{WorldRecord, world_of, WorldStands}
 use Rattle.ds_world.proofs.StandLemmas.{some_world}
 use Rattle.ds_world.proofs.world.World.store.Goals as goal
 
@@ -9,11 +9,11 @@ returns-in-A-clause-stands c =
     let inside = c.self.inside in
     let a = c.cursor.ensures.stood in
     let b = c.cursor-2.ensures.stood in
-    subst (λ (v : WorldRecord). (w : World) × Stands v w) c.self.view_is (some_world (world_of inside.a inside.b inside.maps.items inside.messages.items) a.0 b.0 a.1 b.1 c.self.invariant)
+    subst (λ (v : WorldRecord). (w : World) × WorldStands v w) c.self.view_is (some_world (world_of inside.a inside.b inside.maps.items inside.messages.items) a.0 b.0 a.1 b.1 c.self.invariant)
 
 pub returns-in-B-clause-stands : goal.returns-in-B-clause-stands
 returns-in-B-clause-stands c =
     let inside = c.self.inside in
     let a = c.cursor.ensures.stood in
     let b = c.cursor-2.ensures.stood in
-    subst (λ (v : WorldRecord). (w : World) × Stands v w) c.self.view_is (some_world (world_of inside.a inside.b inside.maps.items inside.messages.items) a.0 b.0 a.1 b.1 c.self.invariant)
+    subst (λ (v : WorldRecord). (w : World) × WorldStands v w) c.self.view_is (some_world (world_of inside.a inside.b inside.maps.items inside.messages.items) a.0 b.0 a.1 b.1 c.self.invariant)
