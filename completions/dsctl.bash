@@ -1,4 +1,4 @@
-# Completions for bash, made by tests/manual from the program's help.
+# Completions for bash, made by tests/dsctl/manual from the program's help.
 _dsctl() {
     local at command= words="replay settings -h --help -V --version"
     for ((at = 1; at < COMP_CWORD; at++)); do

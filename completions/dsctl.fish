@@ -1,4 +1,4 @@
-# Completions for fish, made by tests/manual from the program's help.
+# Completions for fish, made by tests/dsctl/manual from the program's help.
 complete -c dsctl -f
 complete -c dsctl -n __fish_use_subcommand -a replay -d 'Answer a script; no subcommand means this one'
 complete -c dsctl -n __fish_use_subcommand -a settings -d 'Show what a settings text tells RS, or its first fault'
