@@ -52,11 +52,10 @@ def growths(refuser, room, name, script):
     given = pathlib.Path(room) / name.replace(" ", "_")
     given.write_bytes(script.text())
     case = harness.Case(name, [], given, script.wanted())
-    ample, counts = refuser.run(case)
-    wrong = harness.fault(case, ample)
-    if wrong or not counts["growth"]:
-        return wrong or "no growth of memory was counted at all"
-    for n in range(1, counts["growth"] + 1):
+    wrong, count = refuser.counted(case)
+    if wrong:
+        return wrong
+    for n in range(1, count + 1):
         ran, _ = refuser.run(case, growth=n)
         wrong = refused(script, ran, refuser)
         if wrong:

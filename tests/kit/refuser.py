@@ -46,6 +46,14 @@ class Refuser:
             counts = struct.unpack("4Q", words.read())
         return ran, dict(zip((*CALLS, "bytes"), counts))
 
+    def counted(self, case):
+        """Runs a case with ample memory: what was wrong with that, if anything, and how many growths it had."""
+        ran, counts = self.run(case)
+        wrong = harness.fault(case, ran)
+        if not wrong and not counts["growth"]:
+            wrong = "no growth of memory was counted at all"
+        return wrong, counts["growth"]
+
     def file(self, word):
         """A file of this process."""
         return os.path.join(self.room, f"{word}-{os.getpid()}")

@@ -50,12 +50,11 @@ class Crews:
         first, second = self.lines_of(1, 1), self.lines_of(threads, calls)
         case = harness.Case(given.name, [], given, first[0] + second[0])
         wanted = {case.output} | {line + second[0] for line in first} | {first[0] + line for line in second}
-        ample, counts = refuser.run(case)
-        wrong = harness.fault(case, ample)
-        if wrong or not counts["growth"]:
-            return wrong or "no growth of memory was counted at all"
+        wrong, count = refuser.counted(case)
+        if wrong:
+            return wrong
         ended = answered = 0
-        for n in range(1, counts["growth"] + 1):
+        for n in range(1, count + 1):
             ran, _ = refuser.run(case, growth=n)
             ended += ran.status == 3
             answered += ran.status == 0 and ran.output != case.output
