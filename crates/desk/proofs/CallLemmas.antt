@@ -12,7 +12,8 @@ use Rattle.desk_rule.specs.declared.notice.Act.TheVariants.{Post, Take}
 use Rattle.desk_rule.specs.declared.notice.Notice.{Notice}
 use Rattle.desk_rule.specs.declared.view.PassLog.{PassLog}
 use Rattle.desk_rule.specs.declared.view.View.{View}
-use Rattle.desk_rule.specs.History.{count_calls, entry}
+use Rattle.history.specs.History.{entry}
+use Rattle.desk_rule.specs.History.{count_calls}
 use Rattle.desk_rule.specs.Kinds.{after_turn, LastOwes, Looks, take_of, TakesBits}
 use Rattle.desk_rule.specs.Notices.{given_by, IsOrder, IsPostAt, OwedIn, OwnNotices, raised_at, raised_by, raised_in, set_by, taken_at, taken_by, taken_in}
 use Rattle.desk_rule.specs.Passes.{add_notice, notices_of, number_of}

@@ -7,26 +7,28 @@ use mathlib.Core.Option.{some}
 use mathlib.Core.List.{IsPrefix}
 use lib.ListN.{get_elem?}
 use Rattle.std.proofs.lemmas.Nat.Bits.{bit_at-lt}
-use Rattle.desk_rule.specs.declared.entry.Entry.{Entry}
+use Rattle.history.specs.declared.entry.Entry.{Entry}
 use Rattle.desk_rule.specs.declared.view.PassLog.{PassLog}
 use Rattle.desk_rule.specs.declared.view.View.{View}
 use Rattle.desk_rule.specs.declared.notice.Notice.{Notice}
-use Rattle.desk_rule.specs.History.{calls_by, OwnCalls, Stepped, total_of, weigh_all}
+use Rattle.history.specs.History.{calls_by, Stepped}
+use Rattle.desk_rule.specs.History.{OwnCalls, total_of, weigh_all}
 use Rattle.desk_rule.specs.Kinds.{after_pass, Looks}
 use Rattle.desk_rule.specs.Notices.{notices_by, OwnNotices, raised_at, raised_by, raised_in, taken_at, taken_by, taken_in, weigh_notices}
-use Rattle.desk_rule.specs.Passes.{calls_of}
 use Rattle.desk_rule.specs.Seat.{IsClosed, SeatOf}
-use Rattle.desk_rule.proofs.ListLemmas.{all_append, all_map, all_split, only_of, prefix_trans, total_append}
+use Rattle.desk_rule.proofs.ListLemmas.{all_append, all_map, all_split, prefix_trans, prefixes_agree, total_append}
 use Rattle.desk.specs.declared.account.Row.{Row}
+use Rattle.desk.specs.declared.close.Closed.{Closed}
 use Rattle.desk.specs.declared.pass.Sight.{Ghosts}
-use Rattle.desk.specs.Closing.{gathered, IsAccount, IsHistory, IsOrderOf, IsRow, pending_bit, Sums, Wraps}
+use Rattle.desk.specs.Calls.{PassesAgree}
+use Rattle.desk.specs.Closing.{AllAgree, gathered, HasAllNoticed, HasAllSeen, IsAccount, IsRow, LeavesHistory, pending_bit, Sums, Wraps}
 use Rattle.desk.specs.Pass.{calls, history, notices, number, order, Pass}
 use Rattle.desk.specs.Sight.{rests_of}
 use Rattle.desk.specs.Tally.{Tallies}
 use Rattle.desk.proofs.RowLemmas.{wraps_more}
 use Rattle.desk.proofs.PassLemmas.{own_notices_one, own_one, weigh_one, weigh_one_notices}
 use Rattle.desk.proofs.SightLemmas.{rests_facts}
-use Rattle.desk.proofs.StateLemmas.{states_run}
+use Rattle.history.proofs.RunLemmas.{values_run}
 
 -- what is pending in a row is the bit of the word
 row_pending : (pending raises takes' : List ℕ) (rows : List Row) (s b : ℕ) → s < 16 → b < 8 → ((k : ℕ) → k < 128 → IsRow pending raises takes' rows k)
@@ -47,22 +49,14 @@ module _ {M C R : Type 0} {G : Ghosts (View M C R)} where
   gathered_last l [] p = refl
   gathered_last l (q ∷ qs) p = ap (λ m. m ++ q.seat.me.0.passes) (gathered_last l qs p)
 
-  -- the history begins with what each of these passes has seen
-  abbrev pub Seen : List (Entry C R) → List (Pass M C R G) → Type 0
-  Seen h ps = AllByRecursion (λ (p : Pass M C R G). IsPrefix (history p) h) ps
-
-  -- and the order of all notices
-  abbrev pub Noticed : List Notice → List (Pass M C R G) → Type 0
-  Noticed ns ps = AllByRecursion (λ (p : Pass M C R G). IsPrefix (order p) ns) ps
-
   -- the seat q is p0 with the passes of all that aren't among ps
   pub record Gathers (p0 q : SeatOf M C R) (all ps : List (Pass M C R G)) (raises takes' : List ℕ) : Type 0 where
     pub same_table : q.table_id ≡ p0.table_id
     pub same_holding : q.me.0.holding ≡ p0.me.0.holding
     pub passes : gathered q.me.0.passes ps ≡ gathered p0.me.0.passes all
     -- what begins with all that it has seen begins with all that p0 and those that aren't among ps have seen
-    pub seen : (h : List (Entry C R)) → IsPrefix q.me.0.seen h → Seen h ps → IsPrefix p0.me.0.seen h × Seen h all
-    pub noticed : (ns : List Notice) → IsPrefix q.me.0.notices ns → Noticed ns ps → IsPrefix p0.me.0.notices ns × Noticed ns all
+    pub seen : (h : List (Entry C R)) → IsPrefix q.me.0.seen h → HasAllSeen h ps → IsPrefix p0.me.0.seen h × HasAllSeen h all
+    pub noticed : (ns : List Notice) → IsPrefix q.me.0.notices ns → HasAllNoticed ns ps → IsPrefix p0.me.0.notices ns × HasAllNoticed ns all
     pub rows_raised : Wraps raises (raised_by q.me.0.passes)
     pub rows_taken : Wraps takes' (taken_by q.me.0.passes)
 
@@ -79,20 +73,22 @@ module _ {M C R : Type 0} {G : Ghosts (View M C R)} where
         same_holding = ap (λ (v : View M C R). v.holding) l.is ∙ g.same_holding;
         passes = ap (λ (v : View M C R). gathered v.passes ps') l.is ∙ (sym (gathered_last p.me.0.passes ps' x) ∙ (ap (gathered p.me.0.passes) (sym is) ∙ g.passes));
         seen = λ h begins rest. g.seen h (prefix_trans _ _ _ l.seen begins)
-            (subst (Seen h) (sym is) (all_append (λ (y : Pass M C R G). IsPrefix (history y) h) ps' (x ∷ []) rest (prefix_trans _ _ _ l.told begins, tt)));
+            (subst (HasAllSeen h) (sym is)
+            (all_append (λ (y : Pass M C R G). IsPrefix (history y) h) ps' (x ∷ []) rest (prefix_trans _ _ _ l.told begins, tt)));
         noticed = λ ns begins rest. g.noticed ns (prefix_trans _ _ _ l.notices begins)
-            (subst (Noticed ns) (sym is) (all_append (λ (y : Pass M C R G). IsPrefix (order y) ns) ps' (x ∷ []) rest (prefix_trans _ _ _ l.told_notices begins, tt)));
+            (subst (HasAllNoticed ns) (sym is)
+            (all_append (λ (y : Pass M C R G). IsPrefix (order y) ns) ps' (x ∷ []) rest (prefix_trans _ _ _ l.told_notices begins, tt)));
         rows_raised = wraps_more raises more raises' _ _ _ g.rows_raised tr sr (λ s b. weighs (raised_at s b));
         rows_taken = wraps_more takes' gone takes'' _ _ _ g.rows_taken tt' st (λ s b. weighs (taken_at s b));
       }
 
   -- what begins with all that the last one and the others have seen
-  pub all_seen : (h : List (Entry C R)) (all ps : List (Pass M C R G)) (p : Pass M C R G) (es : List (Entry C R)) → all ≡ ps ++ p ∷ [] → IsPrefix es h → IsPrefix p.seat.me.0.seen es → AllByRecursion (λ (x : Pass M C R G). IsPrefix (history x) es) ps → Seen h all
-  all_seen h all ps p es is begins last others = subst (Seen h) (sym is)
+  pub all_seen : (h : List (Entry C R)) (all ps : List (Pass M C R G)) (p : Pass M C R G) (es : List (Entry C R)) → all ≡ ps ++ p ∷ [] → IsPrefix es h → IsPrefix p.seat.me.0.seen es → AllByRecursion (λ (x : Pass M C R G). IsPrefix (history x) es) ps → HasAllSeen h all
+  all_seen h all ps p es is begins last others = subst (HasAllSeen h) (sym is)
       (all_append (λ (x : Pass M C R G). IsPrefix (history x) h) ps (p ∷ []) (all_map _ _ (λ x b. prefix_trans _ _ _ b begins) ps others) (prefix_trans _ _ _ last begins, tt))
 
-  pub all_noticed : (ns : List Notice) (all ps : List (Pass M C R G)) (p : Pass M C R G) (seen : List Notice) → all ≡ ps ++ p ∷ [] → IsPrefix seen ns → IsPrefix p.seat.me.0.notices seen → AllByRecursion (λ (x : Pass M C R G). IsPrefix (order x) seen) ps → Noticed ns all
-  all_noticed ns all ps p seen is begins last others = subst (Noticed ns) (sym is)
+  pub all_noticed : (ns : List Notice) (all ps : List (Pass M C R G)) (p : Pass M C R G) (seen : List Notice) → all ≡ ps ++ p ∷ [] → IsPrefix seen ns → IsPrefix p.seat.me.0.notices seen → AllByRecursion (λ (x : Pass M C R G). IsPrefix (order x) seen) ps → HasAllNoticed ns all
+  all_noticed ns all ps p seen is begins last others = subst (HasAllNoticed ns) (sym is)
       (all_append (λ (x : Pass M C R G). IsPrefix (order x) ns) ps (p ∷ []) (all_map _ _ (λ x b. prefix_trans _ _ _ b begins) ps others) (prefix_trans _ _ _ last begins, tt))
 
   -- all passes sit at the seat of the last one
@@ -129,13 +125,13 @@ module _ {M C R : Type 0} {G : Ghosts (View M C R)} where
   -- the history of a closed table, and the order of its notices, are those of the passes
   pub left_of_passes : {S : Type 0} → Tells G → (stands : M → S → Type 0) (steps : S → C → R → S → Type 0) (owes : R → ℕ) (opened m : M) (first : ℕ) (ps : List (Pass M C R G)) (v : View M C R) (pending raises takes' : List ℕ) (rows : List Row)
       → IsClosed (Stepped stands steps) owes opened first v m pending → v.passes ≡ gathered [] ps
-      → ((h : List (Entry C R)) → IsPrefix v.seen h → Seen h ps) → ((ns : List Notice) → IsPrefix v.notices ns → Noticed ns ps) → ((k : ℕ) → k < 128 → IsRow pending raises takes' rows k)
-      → (log : List (Entry C R)) × (ns : List Notice) × IsHistory stands steps opened ps m log × IsOrderOf owes first ps rows log ns
+      → ((h : List (Entry C R)) → IsPrefix v.seen h → HasAllSeen h ps) → ((ns : List Notice) → IsPrefix v.notices ns → HasAllNoticed ns ps) → ((k : ℕ) → k < 128 → IsRow pending raises takes' rows k)
+      → LeavesHistory stands steps owes opened first ps record { machine = m; account = rows }
   left_of_passes tells stands steps owes opened m first ps v pending raises takes' rows closed is seen noticed row = (
     closed.history,
     closed.order,
     record {
-      leads = states_run stands steps opened closed.history m closed.legal;
+      leads = values_run stands steps opened m closed.history closed.legal;
       begins = seen closed.history closed.seen;
       own = own_gathered tells closed.history ps (subst (λ l. OwnCalls closed.history l) is closed.own);
       no_others = λ weigh. closed.no_others weigh ∙ (ap (weigh_all weigh) is ∙ weigh_gathered tells weigh ps);
@@ -149,6 +145,27 @@ module _ {M C R : Type 0} {G : Ghosts (View M C R)} where
       left = λ s b hs hb. let r = row_pending pending raises takes' rows s b hs hb row in (r.0, r.1, r.2 ∙ ap (λ x. bit_at x b) (closed.left s hs));
     },
   )
+
+  -- what begins one history, and one order, agrees
+  agrees_with : (log : List (Entry C R)) (ns : List Notice) (p : Pass M C R G) (qs : List (Pass M C R G))
+      → IsPrefix (history p) log → IsPrefix (order p) ns → HasAllSeen log qs → HasAllNoticed ns qs → AllByRecursion (PassesAgree p) qs
+  agrees_with log ns p [] here there seen noticed = tt
+  agrees_with log ns p (q ∷ qs) here there seen noticed = (
+    (prefixes_agree (history p) (history q) log here seen.0, prefixes_agree (order p) (order q) ns there noticed.0),
+    agrees_with log ns p qs here there seen.1 noticed.1,
+  )
+
+  agree_with : (log : List (Entry C R)) (ns : List Notice) (ps qs : List (Pass M C R G))
+      → HasAllSeen log ps → HasAllNoticed ns ps → HasAllSeen log qs → HasAllNoticed ns qs
+      → AllByRecursion (λ p. AllByRecursion (PassesAgree p) qs) ps
+  agree_with log ns [] qs here there seen noticed = tt
+  agree_with log ns (p ∷ ps) qs here there seen noticed =
+      (agrees_with log ns p qs here.0 there.0 seen noticed, agree_with log ns ps qs here.1 there.1 seen noticed)
+
+  pub all_agree : {S : Type 0} (stands : M → S → Type 0) (steps : S → C → R → S → Type 0) (owes : R → ℕ) (opened : M) (first : ℕ)
+      (ps : List (Pass M C R G)) (closed : Closed M) → LeavesHistory stands steps owes opened first ps closed → AllAgree ps
+  all_agree stands steps owes opened first ps closed left =
+      agree_with left.0 left.1 ps ps left.2.begins left.3.begins left.2.begins left.3.begins
 
   -- the rows are the account
   pub account_of : Tells G → (v : View M C R) (all : List (Pass M C R G)) (pending raises takes' : List ℕ) (rows : List Row) → v.passes ≡ gathered [] all

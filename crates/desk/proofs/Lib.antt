@@ -1,6 +1,5 @@
 pub mod SightLemmas
 pub mod TurnLemmas
-pub mod StateLemmas
 pub mod PassLemmas
 pub mod TallyLemmas
 pub mod PostLemmas
@@ -9,3 +8,4 @@ pub mod SeeLemmas
 pub mod RowLemmas
 pub mod OpenLemmas
 pub mod CloseLemmas
+pub mod CrossingLemmas

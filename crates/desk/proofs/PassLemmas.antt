@@ -1,9 +1,10 @@
 -- The one pass of a seat.
 use Rattle.std.proofs.Common.{◌≡◌, ℕ, ◌+◌, List, [], ◌∷◌, ◌++◌, length, refl, sym, subst, arith}
-use Rattle.desk_rule.specs.declared.entry.Entry.{Entry}
+use Rattle.history.specs.declared.entry.Entry.{Entry}
 use Rattle.desk_rule.specs.declared.notice.Notice.{Notice}
 use Rattle.desk_rule.specs.declared.view.PassLog.{PassLog}
-use Rattle.desk_rule.specs.History.{calls_by, OwnCalls, total_of, weigh_all}
+use Rattle.history.specs.History.{calls_by}
+use Rattle.desk_rule.specs.History.{OwnCalls, total_of, weigh_all}
 use Rattle.desk_rule.specs.Notices.{notices_by, OwnNotices, weigh_notices}
 use Rattle.desk_rule.specs.Passes.{add_call, add_notice, calls_of, notices_of, number_of}
 use Rattle.desk_rule.proofs.ListLemmas.{only_of}

@@ -8,7 +8,6 @@ use Rattle.std.proofs.lemmas.List.{append-nil}
 use mathlib.Core.Logic.{dite}
 use native.Mathlib.Decide.{dec_le, ℕ_discrete}
 use Rattle.desk_rule.specs.declared.notice.Notice.{Notice}
-use Rattle.desk_rule.specs.declared.view.PassLog.{PassLog}
 use Rattle.desk_rule.specs.declared.view.View.{View}
 use Rattle.desk_rule.specs.History.{count_calls, total_of}
 use Rattle.desk_rule.specs.Kinds.{LastOwes, MakesNotice, post_of}
@@ -16,7 +15,7 @@ use Rattle.desk_rule.specs.Notices.{bits_for, posted_at, raised_at, raised_by}
 use Rattle.desk_rule.specs.Passes.{add_notice, calls_of, notices_of, number_of}
 use Rattle.desk_rule.specs.Seat.{SeatOf}
 use Rattle.desk_rule.proofs.OrderLemmas.{posted_elsewhere, posted_here, raised_elsewhere, raised_here}
-use Rattle.desk_rule.proofs.ListLemmas.{all_append, only_of, prefix_refl, prefix_trans, total_append}
+use Rattle.desk_rule.proofs.ListLemmas.{all_append, prefix_refl, prefix_trans, total_append}
 use Rattle.desk.proofs.PassLemmas.{notice_added, notice_weighs, weigh_one}
 use Rattle.desk.specs.Tally.{CanPost, Counts, Posts, row_at, Tallies}
 use Rattle.desk.proofs.TallyLemmas.{fresh_bit}

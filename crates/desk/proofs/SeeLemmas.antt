@@ -2,23 +2,33 @@
 use Rattle.std.proofs.Common.{◌≡◌, ℕ, ◌+◌, ◌-◌, ◌^◌, Bool, true, List, [], ◌∷◌, ◌++◌, length, refl, ap, sym, ◌∙◌, subst, arith, length-append, Some}
 use Rattle.std.specs.Prelude.{is_some}
 use mathlib.Core.List.{IsPrefix}
-use Rattle.desk_rule.specs.declared.entry.Entry.{Entry}
+use Rattle.history.specs.declared.entry.Entry.{Entry}
 use Rattle.desk_rule.specs.declared.view.PassLog.{PassLog}
 use Rattle.desk_rule.specs.declared.view.View.{View}
 use Rattle.desk_rule.specs.declared.notice.Notice.{Notice}
-use Rattle.desk_rule.specs.History.{calls_by, entry, IsLegal, IsLegalFrom, OwnCalls, Stepped}
+use Rattle.history.specs.History.{calls_by, entry, IsLegal, IsLegalFrom, Stepped}
+use Rattle.desk_rule.specs.History.{OwnCalls}
 use Rattle.desk_rule.specs.Notices.{IsPostAt, notices_by, pending_after}
 use Rattle.desk_rule.specs.Passes.{add_call, calls_of, notices_of, number_of}
-use Rattle.desk_rule.specs.Kinds.{after_turn, Looks, take_of, TakesBits}
-use Rattle.desk_rule.proofs.ListLemmas.{all_map, prefix_refl, prefix_trans, some_of}
+use Rattle.desk_rule.specs.Kinds.{after_note, after_turn, Looks, take_of, TakesBits}
+use Rattle.desk_rule.proofs.ListLemmas.{all_map, prefix_refl, prefix_trans, prefixes_agree, some_of}
 use Rattle.desk.specs.declared.pass.Sight.{Ghosts}
-use Rattle.desk.specs.Calls.{Calls, next_place, PostsOwed, SameNotices, Sees, TakesPending}
-use Rattle.desk.specs.Pass.{desk_of, number, Pass}
+use Rattle.desk.specs.Calls.{Calls, HasSeenAll, HasSeenNote, next_place, NoteAgrees, PassesAgree}
+use Rattle.desk.specs.Calls.{PostsOwed, SameNotices, Sees, TakesPending}
+use Rattle.desk.specs.Pass.{desk_of, history, Note, number, order, order_told_by, Pass, told_by}
 use Rattle.desk.specs.Sight.{TurnAt}
 use Rattle.desk.specs.Tally.{Posts}
 use Rattle.desk.proofs.CallLemmas.{turn_notices}
 use Rattle.desk.proofs.PassLemmas.{call_added, notice_added, own_notices_one, own_one}
-use Rattle.desk.proofs.StateLemmas.{states_legal}
+use Rattle.history.proofs.RunLemmas.{values_legal}
+
+-- who was told what a seat with the view n has seen, and then looked, has seen all of that
+pub told_seen : {M C R : Type 0} (steps : M → C → R → M → Type 0) (v u n w : View M C R) (found : ℕ) (holding : Bool) → u ≡ after_note v n
+    → Looks steps u found holding w → IsPrefix n.seen w.seen × IsPrefix n.notices w.notices
+told_seen {M} {C} {R} steps v u n w found holding is l = (
+  subst (λ es. IsPrefix es w.seen) (ap (λ (x : View M C R). x.told) is) l.told,
+  subst (λ ns. IsPrefix ns w.notices) (ap (λ (x : View M C R). x.told_notices) is) l.told_notices,
+)
 
 module _ {M C R S : Type 0} {G : Ghosts (View M C R)} (stands : M → S → Type 0) (steps : S → C → R → S → Type 0) where
   -- the pass p, whose view became u by other steps, and then looked
@@ -32,7 +42,7 @@ module _ {M C R S : Type 0} {G : Ghosts (View M C R)} (stands : M → S → Type
         same = record { same_desk = table; same_number = number_w; same_opening = opened_w; same_first = ap (λ (x : View M C R). x.first) l.is ∙ first };
         same_calls = ap calls_of passes_w ∙ calls;
         begins = prefix_trans _ _ _ begins l.seen;
-        legal = λ m e. states_legal stands steps m w.seen (l.legal m (opened ∙ e));
+        legal = λ m e. values_legal stands steps m w.seen (l.legal m (opened ∙ e));
         own = ap (λ (n : ℕ). calls_by n w.seen) (sym number_w) ∙ own_one w.seen w.passes (ap length passes_w ∙ one) l.own;
         notices = record {
           begins = prefix_trans _ _ _ noticed l.notices;
@@ -51,6 +61,29 @@ module _ {M C R S : Type 0} {G : Ghosts (View M C R)} (stands : M → S → Type
   sees_worn p q holding l table one opened =
       let m = some_of p.seat.me.0.opening opened in let place = l.place m.0 m.1 in let first : q.seat.me.0.first ≡ p.seat.me.0.first = ap (λ (x : View M C R). x.first) l.is in
       (sees_looked p q (2 ^ 63) holding l table one, ap (λ (x : View M C R). notices_of x.passes) l.is, omega arith)
+
+  -- what a pass had seen, and what it has learnt, begin what it has then seen: so of the two one begins the other
+  pub note_agrees : (p q : Pass M C R G) (n : Note M C R G) → Sees stands steps p q → HasSeenNote n q → NoteAgrees n p
+  note_agrees p q n s h = (
+    prefixes_agree (told_by n) (history p) (history q) h.0 s.begins,
+    prefixes_agree (order_told_by n) (order p) (order q) h.1 s.notices.begins,
+  )
+
+  pub passes_agree : (p q other : Pass M C R G) → Sees stands steps p q → HasSeenAll other q → PassesAgree p other
+  passes_agree p q other s h = (
+    prefixes_agree (history p) (history other) (history q) s.begins h.0,
+    prefixes_agree (order p) (order other) (order q) s.notices.begins h.1,
+  )
+
+  -- the pass was told what a seat with the view n has seen, and then looked
+  pub sees_told : (p q : Pass M C R G) (u n : View M C R) (found : ℕ) (holding : Bool) → u ≡ after_note p.seat.me.0 n
+      → Looks (Stepped stands steps) u found holding q.seat.me.0 → desk_of q ≡ desk_of p → length p.seat.me.0.passes ≡ 1 → Sees stands steps p q
+  sees_told p q u n found holding is l table one = let v : View M C R = p.seat.me.0 in
+      sees p q u found holding l (ap (λ (x : View M C R). x.opening) is) (ap (λ (x : View M C R). x.first) is)
+      (ap (λ (x : View M C R). number_of x.passes) is) (ap (λ (x : View M C R). calls_of x.passes) is)
+      (subst (λ es. IsPrefix v.seen es) (sym (ap (λ (x : View M C R). x.seen) is)) (prefix_refl v.seen))
+      (subst (λ ns. IsPrefix v.notices ns) (sym (ap (λ (x : View M C R). x.notices) is)) (prefix_refl v.notices))
+      table (ap (λ (x : View M C R). length x.passes) is ∙ one)
 
   -- the pass took what is pending, and then looked
   pub sees_taken : (owes : R → ℕ) (p q : Pass M C R G) (u : View M C R) (server n found : ℕ) (holding : Bool) → TakesBits owes p.seat.me.0 server n u → Looks (Stepped stands steps) u found holding q.seat.me.0 → desk_of q ≡ desk_of p → length p.seat.me.0.passes ≡ 1
@@ -100,7 +133,7 @@ module _ {M C R S : Type 0} {G : Ghosts (View M C R)} (stands : M → S → Type
         ends = seen2 ∙ (λ i. sym between i ++ same_entry i ∷ []);
         at = omega arith;
         one_more = posted.calls ∙ (ap calls_of passes2 ∙ (added.2 ∙ (λ i. calls_of (passes1 i) ++ same_entry i ∷ [])));
-        legal = λ k from. subst (λ (es : List (Entry C R)). IsLegalFrom stands steps k es) (sym posted.seen) (states_legal stands steps k v2.seen (legal k (opening1 ∙ from)));
+        legal = λ k from. subst (λ (es : List (Entry C R)). IsLegalFrom stands steps k es) (sym posted.seen) (values_legal stands steps k v2.seen (legal k (opening1 ∙ from)));
         own = (λ i. calls_by (sym same_number i) (posted.seen i)) ∙ (ap (λ (n : ℕ). calls_by n v2.seen) posted.number
             ∙ (own_one v2.seen v2.passes (ap length passes2 ∙ added.0) own ∙ sym posted.calls));
         notices = record {

@@ -1,5 +1,5 @@
 -- What the tests of a view say.
-use Rattle.std.proofs.Common.{◌≡◌, ◌==◌, Bool, true, false, not, ◌&&◌, [], length, ap, ◌∙◌, eq-eqb, eqb-true}
+use Rattle.std.proofs.Common.{◌≡◌, ◌==◌, true, false, not, ◌&&◌, [], length, ap, ◌∙◌, eq-eqb, eqb-true}
 use Rattle.std.specs.Prelude.{is_some}
 use Rattle.desk_rule.specs.declared.view.View.{View}
 use Rattle.desk_rule.proofs.ListLemmas.{nil_of}

@@ -3,12 +3,14 @@ use Rattle.std.proofs.Common.{◌≡◌, ℕ, ◌+◌, ◌/◌, ◌%◌, ◌^◌
 use Rattle.std.specs.Prelude.{is_some}
 use Rattle.std.specs.declared.snapshot.Snapshot.{Snapshot}
 use mathlib.Core.List.{IsPrefix}
-use Rattle.desk_rule.specs.declared.entry.Entry.{Entry}
+use Rattle.history.specs.declared.entry.Entry.{Entry}
 use Rattle.desk_rule.specs.declared.view.View.{View}
 use Rattle.desk_rule.specs.declared.table.Home.{Home}
 use Rattle.desk_rule.specs.declared.table.LastCall.{LastCall}
 use Rattle.desk_rule.specs.declared.notice.Notice.{Notice}
-use Rattle.desk_rule.specs.History.{entry, IsLegal, OwnCalls, Run}
+use Rattle.history.specs.History.{entry, IsLegal, Run}
+use Rattle.desk_rule.specs.History.{OwnCalls}
+use Rattle.history.proofs.RunLemmas.{run_push}
 use Rattle.desk_rule.specs.Passes.{number_of}
 use Rattle.desk_rule.specs.Kinds.{after_look, after_turn, GetsMachine, Looks, AtSeat}
 use Rattle.desk_rule.specs.Seat.{EndsTurn, HoldsTurn, SeatOf}
@@ -126,11 +128,6 @@ module _ {M C R : Type 0} (steps : M → C → R → M → Type 0) where
         },
       )
 
-  -- a run with one step more
-  pub run_push : (m : M) (es : List (Entry C R)) (k n : M) (number : ℕ) (c : C) (r : R) → Run steps m es k → steps k c r n → Run steps m (es ++ entry number c r ∷ []) n
-  run_push m [] k n number c r run step = (n, subst (λ x. steps x c r n) (sym run) step, refl)
-  run_push m (e ∷ es) k n number c r run step = (run.0, run.1, run_push run.0 es k n number c r run.2 step)
-
   -- the machine is back with the call that it answered
   pub ends : (p q : SeatOf M C R) (home : Home M C R) (n : M) (said : Snapshot C) (told : Snapshot R) (c : C) (r : R) → HoldsTurn steps p → ((m : M) → p.me.0.opening ≡ Some m → Run steps m p.me.0.seen home.machine)
       → steps home.machine c r n → said.value ≡ c → told.value ≡ r → q.me ≡ (p.me.0, (0, Some record { machine = n; last = Some record { command = said; reply = told } }) ∷ []) → EndsTurn steps q
@@ -146,14 +143,14 @@ module _ {M C R : Type 0} (steps : M → C → R → M → Type 0) where
         back = ap (λ (x : AtSeat M C R). x.1) back;
         said = refl;
         machine = λ m from. subst (λ (x : View M C R). Run steps m (x.seen ++ entry (number_of x.passes) said.value told.value ∷ []) n) (sym same)
-            (run_push m v.seen home.machine n (number_of v.passes) said.value told.value (run m (sym (ap (λ (x : View M C R). x.opening) same) ∙ from)) said_step);
+            (run_push steps m home.machine n v.seen (entry (number_of v.passes) said.value told.value) (run m (sym (ap (λ (x : View M C R). x.opening) same) ∙ from)) said_step);
       }
 
   -- the history after the turn is legal
   pub legal_after : (p q : SeatOf M C R) (home : Home M C R) (n : M) (c : C) (r : R) → ((m : M) → p.me.0.opening ≡ Some m → Run steps m p.me.0.seen home.machine) → steps home.machine c r n
       → q.me ≡ (after_turn p.me.0 c r, []) → (m : M) → p.me.0.opening ≡ Some m → IsLegal steps m q.me.0.seen
   legal_after p q home n c r run step is m from =
-      (n, subst (λ (es : List (Entry C R)). Run steps m es n) (sym (ap (λ (x : AtSeat M C R). x.0.seen) is)) (run_push m p.me.0.seen home.machine n (number_of p.me.0.passes) c r (run m from) step))
+      (n, subst (λ (es : List (Entry C R)). Run steps m es n) (sym (ap (λ (x : AtSeat M C R). x.0.seen) is)) (run_push steps m home.machine n p.me.0.seen (entry (number_of p.me.0.passes) c r) (run m from) step))
 
 module _ {M C R : Type 0} where
   -- the machine came out and another went back

@@ -1,16 +1,20 @@
 -- What the calls of a desk say of a pass.
-use Rattle.std.specs.Prelude.{◌≡◌, ℕ, ◌+◌, ◌<◌, ◌≤◌, List, [], ◌∷◌, ◌++◌, length, Some}
+use Rattle.std.specs.Prelude.{◌≡◌, ℕ, ◌+◌, ◌^◌, ◌<◌, ◌≤◌, List, [], ◌∷◌, ◌++◌, length, Some}
 use Rattle.std.specs.List.{AllByRecursion}
 use Rattle.std.specs.Int.{bit_at}
 use mathlib.Core.List.{IsPrefix}
-use Rattle.desk_rule.specs.declared.entry.Entry.{Entry}
+use Rattle.history.specs.declared.entry.Entry.{Entry}
 use Rattle.desk_rule.specs.declared.notice.Act.TheVariants.{Take}
 use Rattle.desk_rule.specs.declared.notice.Notice.{Notice}
 use Rattle.desk_rule.specs.declared.view.View.{View}
-use Rattle.desk_rule.specs.History.{calls_by, entry, IsLegalFrom, total_of}
+use Rattle.history.specs.History.{calls_by, entry, IsLegalFrom}
+use Rattle.desk_rule.specs.History.{OneBegins, total_of}
 use Rattle.desk_rule.specs.Notices.{bits_for, IsOrder, IsPostAt, notice, notices_by, pending_after, posted_at}
+use Rattle.desk.specs.declared.fault.DeskFault.{DeskFault}
+use Rattle.desk.specs.declared.fault.DeskFault.TheVariants.{Worn}
 use Rattle.desk.specs.declared.pass.Sight.{Ghosts}
 use Rattle.desk.specs.Pass.{calls, desk_of, first_place, history, notes_learnt, notes_made, notices, number, opening, order, Pass}
+use Rattle.desk.specs.Pass.{Note, order_told_by, told_by}
 
 module _ {M C R : Type 0} {G : Ghosts (View M C R)} where
   -- q is the pass p at another time
@@ -77,3 +81,27 @@ module _ {M C R : Type 0} {G : Ghosts (View M C R)} where
   -- the first place that the history which the pass has seen leaves free
   abbrev pub next_place : Pass M C R G → ℕ
   next_place p = first_place p + length (history p)
+
+  -- refused as worn, where no place below 2 ^ 62 is left: the pass has seen that, and nothing was entered
+  abbrev pub FindsNoPlace : {S : Type 0} → (M → S → Type 0) → (S → C → R → S → Type 0) → DeskFault → Pass M C R G → Pass M C R G → Type 0
+  FindsNoPlace stands steps fault p q = (fault ≡ Worn) × Sees stands steps p q × SameNotices p q × (next_place q ≡ 2 ^ 62)
+
+  -- the note carries all that the pass has seen, of the history and of the order of notices
+  abbrev pub CarriesAll : Note M C R G → Pass M C R G → Type 0
+  CarriesAll n p = (told_by n ≡ history p) × (order_told_by n ≡ order p)
+
+  -- the pass has seen all that the note carries
+  abbrev pub HasSeenNote : Note M C R G → Pass M C R G → Type 0
+  HasSeenNote n p = IsPrefix (told_by n) (history p) × IsPrefix (order_told_by n) (order p)
+
+  -- the pass q has seen all that the pass p has
+  abbrev pub HasSeenAll : Pass M C R G → Pass M C R G → Type 0
+  HasSeenAll p q = IsPrefix (history p) (history q) × IsPrefix (order p) (order q)
+
+  -- of what two passes have seen, one begins the other: of the history, and of the order of all notices
+  abbrev pub PassesAgree : Pass M C R G → Pass M C R G → Type 0
+  PassesAgree p q = OneBegins (history p) (history q) × OneBegins (order p) (order q)
+
+  -- and of what a note carries and a pass has seen
+  abbrev pub NoteAgrees : Note M C R G → Pass M C R G → Type 0
+  NoteAgrees n p = OneBegins (told_by n) (history p) × OneBegins (order_told_by n) (order p)

@@ -5,16 +5,19 @@ use Rattle.std.specs.Int.{bit_at}
 use mathlib.Core.Option.{some}
 use mathlib.Core.List.{IsPrefix}
 use lib.ListN.{get_elem?}
-use Rattle.desk_rule.specs.declared.entry.Entry.{Entry}
+use Rattle.history.specs.declared.entry.Entry.{Entry}
 use Rattle.desk_rule.specs.declared.notice.Notice.{Notice}
 use Rattle.desk_rule.specs.declared.view.PassLog.{PassLog}
 use Rattle.desk_rule.specs.declared.view.View.{View}
-use Rattle.desk_rule.specs.History.{calls_by, LeadsTo, total_of}
+use Rattle.history.specs.History.{calls_by, LeadsTo}
+use Rattle.desk_rule.specs.History.{total_of}
 use Rattle.desk_rule.specs.Notices.{IsOrder, IsOwed, notices_by, pending_after, raised_in, taken_in}
 use Rattle.desk.specs.declared.account.Row.{Row}
+use Rattle.desk.specs.declared.close.Closed.{Closed}
 use Rattle.desk.specs.declared.fault.DeskFault.{DeskFault}
 use Rattle.desk.specs.declared.fault.DeskFault.TheVariants.{PassesOut, Noted, NoRoom}
 use Rattle.desk.specs.declared.pass.Sight.{Ghosts}
+use Rattle.desk.specs.Calls.{PassesAgree}
 use Rattle.desk.specs.Pass.{calls, history as seen_by, notes_learnt, notes_made, notices, number, order as order_seen_by, Pass}
 use Rattle.desk.specs.Tally.{row_at}
 
@@ -41,10 +44,21 @@ module _ {M C R : Type 0} {G : Ghosts (View M C R)} where
   gathered l [] = l
   gathered l (p ∷ ps) = gathered l ps ++ p.seat.me.0.passes
 
+  -- the history begins with all that each of these passes has seen of it, and the order with all that each has seen of that
+  abbrev pub HasAllSeen : List (Entry C R) → List (Pass M C R G) → Type 0
+  HasAllSeen history passes = AllByRecursion (λ p. IsPrefix (seen_by p) history) passes
+
+  abbrev pub HasAllNoticed : List Notice → List (Pass M C R G) → Type 0
+  HasAllNoticed order passes = AllByRecursion (λ p. IsPrefix (order_seen_by p) order) passes
+
+  -- of what any two of these passes have seen, one begins the other
+  abbrev pub AllAgree : List (Pass M C R G) → Type 0
+  AllAgree passes = AllByRecursion (λ p. AllByRecursion (PassesAgree p) passes) passes
+
   -- the machine after one legal history, which begins with all that each pass has seen, in which the entries of each pass are just its calls, and there are no others
   pub record IsHistory {S : Type 0} (stands : M → S → Type 0) (steps : S → C → R → S → Type 0) (opened : M) (passes : List (Pass M C R G)) (machine : M) (history : List (Entry C R)) : Type 0 where
     pub leads : LeadsTo stands steps opened history machine
-    pub begins : AllByRecursion (λ p. IsPrefix (seen_by p) history) passes
+    pub begins : HasAllSeen history passes
     pub own : AllByRecursion (λ p. calls_by (number p) history ≡ calls p) passes
     pub no_others : (weigh : Entry C R → ℕ) → total_of weigh history ≡ total_of (λ p. total_of weigh (calls p)) passes
 
@@ -52,10 +66,16 @@ module _ {M C R : Type 0} {G : Ghosts (View M C R)} where
   pub record IsOrderOf (owes : R → ℕ) (first : ℕ) (passes : List (Pass M C R G)) (rows : List Row) (history : List (Entry C R)) (order : List Notice) : Type 0 where
     pub found : IsOrder order
     pub owed : AllByRecursion (IsOwed owes first history) order
-    pub begins : AllByRecursion (λ p. IsPrefix (order_seen_by p) order) passes
+    pub begins : HasAllNoticed order passes
     pub own : AllByRecursion (λ p. notices_by (number p) order ≡ notices p) passes
     pub no_others : (weigh : Notice → ℕ) → total_of weigh order ≡ total_of (λ p. total_of weigh (notices p)) passes
     pub left : (s b : ℕ) → s < 16 → b < 8 → (r : Row) × (get_elem? rows (8 * s + b) ≡ some r) × (pending_bit r ≡ bit_at (pending_after order s) b)
+
+  -- the machine that is left was left by one such history, and the account by one such order
+  abbrev pub LeavesHistory : {S : Type 0} → (M → S → Type 0) → (S → C → R → S → Type 0) → (R → ℕ) → M → ℕ → List (Pass M C R G)
+      → Closed M → Type 0
+  LeavesHistory stands steps owes opened first passes closed = (history : List (Entry C R)) × (order : List Notice)
+      × IsHistory stands steps opened passes closed.machine history × IsOrderOf owes first passes closed.account history order
 
   -- 128 rows, each with the sums of the passes' own posts and takes, and in each raises are takes and what is pending
   pub record IsAccount (passes : List (Pass M C R G)) (rows : List Row) : Type 0 where

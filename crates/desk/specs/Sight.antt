@@ -3,7 +3,7 @@ use Rattle.std.specs.Prelude.{◌≡◌, ℕ, ◌*◌, ◌<◌, ◌^◌, ◌==�
 use Rattle.desk_rule.specs.declared.view.View.{View}
 use Rattle.desk_rule.specs.Kinds.{Looks}
 use Rattle.desk_rule.specs.Notices.{raised_by, taken_by}
-use Rattle.desk_rule.specs.Seat.{SeatOf}
+use Rattle.desk_rule.specs.Seat.{HoldsTurn, SeatOf}
 
 module _ {M C R : Type 0} where
   -- one pass, between its calls
@@ -27,3 +27,7 @@ module _ {M C R : Type 0} where
   -- v became w when it took the turn at this place
   abbrev pub TurnAt : (M → C → R → M → Type 0) → View M C R → ℕ → View M C R → Type 0
   TurnAt steps v place w = Looks steps v (2 * place) true w × (place < 2 ^ 62)
+
+  -- the seat p became q when it took the turn at this place
+  abbrev pub HoldsTurnAt : (M → C → R → M → Type 0) → SeatOf M C R → ℕ → SeatOf M C R → Type 0
+  HoldsTurnAt steps p place q = TurnAt steps p.me.0 place q.me.0 × HoldsTurn steps q

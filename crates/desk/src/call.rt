@@ -2,11 +2,11 @@
 
 ghost use Rattle.std.specs.Prelude.{◌≡◌, ◌≤◌, ◌<◌, ◌+◌, ◌^◌, ℕ, [], ◌∷◌, ◌++◌, IfOk, OnOk, IfErr};
 ghost use Rattle.std.specs.Int.{bit_at};
-ghost use mathlib.Core.List.{IsPrefix};
 ghost use Rattle.desk_rule.specs.Notices.{OwedIn, raised_in};
 ghost use Rattle.desk.specs.Desk.{identity};
-ghost use Rattle.desk.specs.Calls.{Calls, KnowsAsMuch, PostsOwed, SameNotes, SameNotices, Sees, TakesPending, next_place};
-ghost use Rattle.desk.specs.Pass.{desk_of, desk_of_note, history, notes_learnt, notes_made, notices, order, order_told_by, told_by};
+ghost use Rattle.desk.specs.Calls.{Calls, CarriesAll, FindsNoPlace, HasSeenAll, HasSeenNote, KnowsAsMuch, NoteAgrees};
+ghost use Rattle.desk.specs.Calls.{PassesAgree, PostsOwed, SameNotes, SameNotices, Sees, TakesPending, next_place};
+ghost use Rattle.desk.specs.Pass.{desk_of, desk_of_note, history, notes_learnt, notes_made, notices};
 ghost use Rattle.desk.specs.Tally.{RaisesMask};
 
 use crate::desk::{Answer, Desk, Taken};
@@ -38,7 +38,7 @@ impl<M: Machine> Desk<M> {
         ensures posted { IfOk result (λ a. (a.owed ≡ M.owes a.reply) × PostsOwed pass.old pass.new a.place a.owed) }
         ensures raised { IfOk result (λ a. RaisesMask (raised_in (notices pass.old)) (raised_in (notices pass.new)) a.raised) }
         ensures same { SameNotes pass.old pass.new }
-        ensures worn { IfErr result (λ fault. (fault ≡ DeskFault.Worn) × Sees M.stands M.steps pass.old pass.new × SameNotices pass.old pass.new × (next_place pass.new ≡ 2 ^ 62)) }
+        ensures worn { IfErr result (λ fault. FindsNoPlace M.stands M.steps fault pass.old pass.new) }
     {
         let shared = &self.table.shared;
         let Some(place) = wait_turn(rt, shared, &mut pass.seat) else {
@@ -56,7 +56,8 @@ impl<M: Machine> Desk<M> {
     }
 
     /// Takes every bit that is pending for a server, and then looks how far the history goes: each of the bits is owed by a
-    /// call below `floor`. Pending are all bits that were posted to the server and not taken, in the one order of all notices. It takes no memory and waits for nobody. BadServer from 16 on.
+    /// call below `floor`. Pending are all bits that were posted to the server and not taken, in the one order of all notices.
+    /// It takes no memory and waits for nobody. BadServer from 16 on.
     pub fn take(&self, pass: &mut Pass<M>, server: u32) -> Result<Taken, DeskFault>
         requires { desk_of pass.old ≡ identity self.now }
         ensures stays { desk_of pass.new ≡ desk_of pass.old }
@@ -95,7 +96,7 @@ impl<M: Machine> Desk<M> {
     pub fn note(&self, pass: &mut Pass<M>) -> Result<Note<M>, DeskFault>
         requires { desk_of pass.old ≡ identity self.now }
         ensures stays { desk_of pass.new ≡ desk_of pass.old }
-        ensures told { IfOk result (λ n. (desk_of_note n ≡ identity self.now) × (told_by n ≡ history pass.old) × (order_told_by n ≡ order pass.old)) }
+        ensures told { IfOk result (λ n. (desk_of_note n ≡ identity self.now) × CarriesAll n pass.old) }
         ensures made { OnOk result ((notes_made pass.new ≡ notes_made pass.old + 1) × (notes_learnt pass.new ≡ notes_learnt pass.old)) }
         ensures same { KnowsAsMuch pass.old pass.new × SameNotices pass.old pass.new }
         ensures worn { IfErr result (λ fault. (fault ≡ DeskFault.Worn) × (notes_made pass.old ≡ 2 ^ 62) × (pass.new ≡ pass.old)) }
@@ -109,16 +110,18 @@ impl<M: Machine> Desk<M> {
         })
     }
 
-    /// From now on the pass has seen all that the note says. It waits for nobody. Worn after 2^62 notes; the note then comes
-    /// back.
+    /// From now on the pass has seen all that the note says. Of what the note says and the pass had seen, one began with the
+    /// other. It waits for nobody. Worn after 2^62 notes; the note then comes back.
     pub fn learn(&self, pass: &mut Pass<M>, note: Note<M>) -> Result<(), LearnStop<Note<M>>>
         requires pass { desk_of pass.old ≡ identity self.now }
         requires note { desk_of_note note ≡ identity self.now }
         ensures stays { desk_of pass.new ≡ desk_of pass.old }
-        ensures learnt { OnOk result (Sees M.stands M.steps pass.old pass.new × IsPrefix (told_by note) (history pass.new) × IsPrefix (order_told_by note) (order pass.new)) }
+        ensures learnt { OnOk result (Sees M.stands M.steps pass.old pass.new × HasSeenNote note pass.new) }
+        ensures agree { OnOk result (NoteAgrees note pass.old) }
         ensures counted { OnOk result ((notes_learnt pass.new ≡ notes_learnt pass.old + 1) × (notes_made pass.new ≡ notes_made pass.old)) }
         ensures same { SameNotices pass.old pass.new }
-        ensures worn { IfErr result (λ stop. (stop.fault ≡ DeskFault.Worn) × (stop.note ≡ note) × (notes_learnt pass.old ≡ 2 ^ 62) × (pass.new ≡ pass.old)) }
+        ensures worn { IfErr result (λ stop. (stop.fault ≡ DeskFault.Worn) × (notes_learnt pass.old ≡ 2 ^ 62) × (pass.new ≡ pass.old)) }
+        ensures back { IfErr result (λ stop. stop.note ≡ note) }
     {
         if pass.learnt >= MOST_NOTES {
             return Err(LearnStop {
@@ -132,5 +135,21 @@ impl<M: Machine> Desk<M> {
         join_note(shared, &mut pass.seat, seat);
         look(shared, &mut pass.seat);
         Ok(())
+    }
+
+    /// From now on the pass has seen all that the other has, without a note. Of what the two had seen, one began with the other.
+    /// It takes no memory and waits for nobody.
+    pub fn learn_from(&self, pass: &mut Pass<M>, other: &mut Pass<M>)
+        requires pass { desk_of pass.old ≡ identity self.now }
+        requires other { desk_of other.old ≡ identity self.now }
+        ensures stays { (desk_of pass.new ≡ desk_of pass.old) × (desk_of other.new ≡ desk_of other.old) }
+        ensures learnt { Sees M.stands M.steps pass.old pass.new × HasSeenAll other.old pass.new }
+        ensures agree { PassesAgree pass.old other.old }
+        ensures same { SameNotes pass.old pass.new × SameNotices pass.old pass.new }
+        ensures other { KnowsAsMuch other.old other.new × SameNotes other.old other.new × SameNotices other.old other.new }
+    {
+        let told = split_note(&self.table.shared, &mut other.seat);
+        join_note(&self.table.shared, &mut pass.seat, told);
+        look(&self.table.shared, &mut pass.seat);
     }
 }

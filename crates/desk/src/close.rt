@@ -1,14 +1,15 @@
 //! How a desk is closed.
 
-ghost use Rattle.std.specs.Prelude.{◌≡◌, ◌≤◌, ◌+◌, ℕ, length, IfSome, IfNone, IfOk, IfErr};
+ghost use Rattle.std.specs.Prelude.{◌≡◌, ◌≤◌, ◌+◌, ℕ, length, IfSome, IfNone, IfOk, IfErr, OnOk};
 ghost use Rattle.std.specs.List.{AllByRecursion};
 ghost use mathlib.Core.List.{IsPrefix};
 ghost use Rattle.desk_rule.specs.History.{total_of};
 ghost use Rattle.desk_rule.specs.Notices.{raised_by, taken_by};
 ghost use Rattle.desk_rule.specs.Seat.{IsAtTable};
 ghost use Rattle.desk.specs.Desk.{first_call, identity, opened_with, pass_count};
-ghost use Rattle.desk.specs.Closing.{AllLearnt, gathered, IsAccount, IsCloseFault, IsHistory, IsOrderOf, Wraps};
-ghost use Rattle.desk.specs.Pass.{desk_of, history, notes_learnt, notes_made, order};
+ghost use Rattle.desk.specs.Closing.{AllAgree, AllLearnt, HasAllNoticed, HasAllSeen, IsAccount, IsCloseFault};
+ghost use Rattle.desk.specs.Closing.{LeavesHistory, Wraps, gathered};
+ghost use Rattle.desk.specs.Pass.{desk_of, notes_learnt, notes_made};
 
 use crate::account::{Account, add_rows, fill_rows, sums_of};
 use crate::desk::{Desk, DeskOf};
@@ -81,8 +82,8 @@ fn gather<M: Machine>(
     requires counted { Wraps raise_sums.old (raised_by seat.old.me.0.passes) × Wraps take_sums.old (taken_by seat.old.me.0.passes) }
     ensures same { (seat.new.table_id ≡ seat.old.table_id) × (seat.new.me.0.holding ≡ seat.old.me.0.holding) }
     ensures passes { seat.new.me.0.passes ≡ gathered seat.old.me.0.passes others.items }
-    ensures seen { IsPrefix seat.old.me.0.seen seat.new.me.0.seen × AllByRecursion (λ p. IsPrefix (history p) seat.new.me.0.seen) others.items }
-    ensures notices { IsPrefix seat.old.me.0.notices seat.new.me.0.notices × AllByRecursion (λ p. IsPrefix (order p) seat.new.me.0.notices) others.items }
+    ensures seen { IsPrefix seat.old.me.0.seen seat.new.me.0.seen × HasAllSeen seat.new.me.0.seen others.items }
+    ensures notices { IsPrefix seat.old.me.0.notices seat.new.me.0.notices × HasAllNoticed seat.new.me.0.notices others.items }
     ensures counted { Wraps raise_sums.new (raised_by seat.new.me.0.passes) × Wraps take_sums.new (taken_by seat.new.me.0.passes) }
 {
     while let Some(pass) = others.pop() {
@@ -111,7 +112,8 @@ impl<M: Machine> Desk<M> {
         passes: Passes<M>,
     ) -> Result<Closed<M>, CloseStop<Desk<M>, Passes<M>>>
         requires { AllByRecursion (λ p. desk_of p ≡ identity self) passes }
-        ensures history { IfOk result (λ c. (log : _) × (notices : _) × IsHistory M.stands M.steps (opened_with self) passes c.machine log × IsOrderOf M.owes (first_call self) passes c.account log notices) }
+        ensures history { IfOk result (λ c. LeavesHistory M.stands M.steps M.owes (opened_with self) (first_call self) passes c) }
+        ensures agree { OnOk result (AllAgree passes) }
         ensures account { IfOk result (λ c. IsAccount passes c.account) }
         ensures notes { IfOk result (λ _. (pass_count self ≤ length passes) × AllLearnt passes) }
         ensures refused { IfErr result (λ stop. IsCloseFault stop.fault (pass_count self) passes) }

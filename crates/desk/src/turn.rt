@@ -1,10 +1,11 @@
 //! The turn of one call.
 
 ghost use Rattle.std.specs.Prelude.{◌≡◌, ◌*◌, ◌^◌, [], false, IfSome, IfNone, Some};
-ghost use Rattle.desk_rule.specs.History.{IsLegal, OwnCalls, Stepped};
+ghost use Rattle.history.specs.History.{IsLegal, Stepped};
+ghost use Rattle.desk_rule.specs.History.{OwnCalls};
 ghost use Rattle.desk_rule.specs.Kinds.{Looks, after_turn};
 ghost use Rattle.desk_rule.specs.Seat.{HoldsTurn, IsAtTable, SameSeat};
-ghost use Rattle.desk.specs.Sight.{Rests, TurnAt};
+ghost use Rattle.desk.specs.Sight.{HoldsTurnAt, Rests};
 
 use desk_rule::{
     DeskSeat, DeskShared, Home, LastCall, Machine, end_turn, hold, look, machine_back, machine_out,
@@ -25,7 +26,7 @@ pub(crate) fn wait_turn<M: Machine, W: Wait>(
     requires at { IsAtTable shared.now.table_id seat.old }
     requires rests { Rests seat.old }
     ensures same { SameSeat seat.old seat.new }
-    ensures turn { IfSome result (λ place. TurnAt (Stepped M.stands M.steps) seat.old.me.0 place seat.new.me.0 × HoldsTurn (Stepped M.stands M.steps) seat.new) }
+    ensures turn { IfSome result (λ place. HoldsTurnAt (Stepped M.stands M.steps) seat.old place seat.new) }
     ensures worn { IfNone result (Looks (Stepped M.stands M.steps) seat.old.me.0 (2 ^ 63) false seat.new.me.0 × Rests seat.new) }
 {
     for _ in rt.forever() {

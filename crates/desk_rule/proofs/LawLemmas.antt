@@ -1,10 +1,9 @@
 -- The laws of the rule.
-use Rattle.std.proofs.Common.{ℕ, ◌+◌, List, [], ◌∷◌, ◌++◌, refl, sym, ◌∙◌, subst}
+use Rattle.std.proofs.Common.{ℕ, ◌+◌, List, sym, ◌∙◌, subst}
 use Rattle.std.specs.Int.{bit_at}
 use mathlib.Core.List.{IsPrefix}
 use mathlib.Core.Option.{some-injective}
-use Rattle.desk_rule.specs.declared.entry.Entry.{Entry}
-use Rattle.desk_rule.specs.History.{IsLegal, Run}
+use Rattle.history.proofs.RunLemmas.{legal_front}
 use Rattle.desk_rule.specs.Laws.{BitsAreOwed, HistoriesAgree, NoticesAgree, NoticesBalance, OneSeatHolds, PostsAreOwed, WordsFollow}
 use Rattle.desk_rule.proofs.ListLemmas.{prefixes_agree}
 use Rattle.desk_rule.specs.declared.notice.Notice.{Notice}
@@ -13,17 +12,9 @@ use Rattle.desk_rule.proofs.NoticeLemmas.{pending_owed}
 use Rattle.desk_rule.proofs.OrderLemmas.{found_front, order_balanced}
 
 module _ {M C R : Type 0} (steps : M → C → R → M → Type 0) where
-  -- a beginning of a run is a run
-  pub run_front : (m n : M) (es more : List (Entry C R)) → Run steps m (es ++ more) n → IsLegal steps m es
-  run_front m n [] more run = (m, refl)
-  run_front m n (e ∷ es) more run = let rest = run_front run.0 n es more run.2 in (rest.0, (run.0, run.1, rest.1))
-
-  legal_front : (m n : M) (es history : List (Entry C R)) → IsPrefix es history → Run steps m history n → IsLegal steps m es
-  legal_front m n es history p run = run_front m n es p.0 (subst (λ l. Run steps m l n) (sym p.1) run)
-
   pub agree : (owes : R → ℕ) → HistoriesAgree steps owes
   agree owes opening first passes s r i j v w at_i at_j = let f = r.seated i v at_i in let g = r.seated j w at_j in
-      (prefixes_agree v.seen w.seen r.history f.seen g.seen, legal_front opening r.machine v.seen r.history f.seen r.legal, legal_front opening r.machine w.seen r.history g.seen r.legal)
+      (prefixes_agree v.seen w.seen r.history f.seen g.seen, legal_front steps opening r.machine v.seen r.history f.seen r.legal, legal_front steps opening r.machine w.seen r.history g.seen r.legal)
 
   order_front : (ns order : List Notice) → IsPrefix ns order → IsOrder order → IsOrder ns
   order_front ns order p found = found_front none_pending ns p.0 (subst IsOrder (sym p.1) found)

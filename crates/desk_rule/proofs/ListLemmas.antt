@@ -1,5 +1,6 @@
 -- Beginnings of lists, elements at an index, facts of every element, and sums.
-use Rattle.std.proofs.Common.{◌≡◌, ◌⊎◌, ℕ, zero, suc, ◌+◌, ◌≤◌, ◌<◌, true, List, [], ◌∷◌, ◌++◌, length, set, refl, ap, sym, ◌∙◌, inl, inr, subst, arith, append_assoc, Option, Some, None}
+use Rattle.std.proofs.Common.{◌≡◌, ◌⊎◌, ℕ, zero, suc, ◌+◌, ◌≤◌, ◌<◌, true, All, List, [], ◌∷◌, ◌++◌, length, set, get_or, Option, Some, None}
+use Rattle.std.proofs.Common.{refl, ap, sym, ◌∙◌, inl, inr, subst, arith, add-one, append_assoc}
 use Rattle.std.specs.Prelude.{is_some}
 use Rattle.std.specs.List.{AllByRecursion}
 use mathlib.Core.Logic.{dite}
@@ -70,6 +71,25 @@ module _ {A : Type 0} where
   pub all_split : (P : A → Type 0) (l m : List A) → AllByRecursion P (l ++ m) → AllByRecursion P l × AllByRecursion P m
   all_split P [] m all = (tt, all)
   all_split P (x ∷ xs) m all = let rest = all_split P xs m all.1 in ((all.0, rest.0), rest.1)
+
+  -- the two ways to say that something holds of every element
+  all_by_shape : (P : A → Type 0) (l : List A) → All P l → AllByRecursion P l
+  all_by_shape P [] each = tt
+  all_by_shape P (x ∷ xs) each =
+      (each 0 x (omega arith), all_by_shape P xs (λ i d below. subst (λ k. P (get_or (x ∷ xs) k d)) (add-one i) (each (i + 1) d (omega arith))))
+
+  all_by_index : (P : A → Type 0) (l : List A) → AllByRecursion P l → All P l
+  all_by_index P [] all i d below = absurd (omega arith)
+  all_by_index P (x ∷ xs) all zero d below = all.0
+  all_by_index P (x ∷ xs) all (suc i) d below = all_by_index P xs all.1 i d (omega arith)
+
+  -- of a list whose last element is taken out, and of one that gets one more
+  pub all_popped : (P : A → Type 0) (l m : List A) (x : A) → m ≡ l ++ x ∷ [] → All P m → All P l × P x
+  all_popped P l m x e all = let both = all_split P l (x ∷ []) (subst (λ k. AllByRecursion P k) e (all_by_shape P m all)) in
+      (all_by_index P l both.0, both.1.0)
+
+  pub all_pushed : (P : A → Type 0) (l m : List A) (x : A) → m ≡ l ++ x ∷ [] → AllByRecursion P l → P x → AllByRecursion P m
+  all_pushed P l m x e all one = subst (λ k. AllByRecursion P k) (sym e) (all_append P l (x ∷ []) all (one, tt))
 
   pub total_append : (f : A → ℕ) (l m : List A) → total_of f (l ++ m) ≡ total_of f l + total_of f m
   total_append f [] m = omega arith

@@ -9,7 +9,7 @@ use mathlib.Core.Option.{none, some}
 use native.Mathlib.Decide.{ℕ_discrete}
 use lib.ListN.{get_elem?}
 use Rattle.atomic_table.specs.Table.{Allows, keeps, State, step}
-use Rattle.desk_rule.specs.declared.entry.Entry.{Entry}
+use Rattle.history.specs.declared.entry.Entry.{Entry}
 use Rattle.desk_rule.specs.declared.notice.Act.{Act}
 use Rattle.desk_rule.specs.declared.notice.Act.TheVariants.{Post, Take}
 use Rattle.desk_rule.specs.declared.notice.Notice.{Notice}

@@ -10,12 +10,13 @@ use native.Mathlib.Decide.{ℕ_discrete}
 use lib.ListN.{get_elem?}
 use Rattle.atomic_table.specs.Table.{State}
 use Rattle.atomic_table.proofs.Lists.{at_set, at_longer, set_here, set_else}
-use Rattle.desk_rule.specs.declared.entry.Entry.{Entry}
+use Rattle.history.specs.declared.entry.Entry.{Entry}
 use Rattle.desk_rule.specs.declared.notice.Notice.{Notice}
 use Rattle.desk_rule.specs.declared.view.PassLog.{PassLog}
 use Rattle.desk_rule.specs.declared.view.View.{View}
 use Rattle.desk_rule.specs.declared.table.Home.{Home}
-use Rattle.desk_rule.specs.History.{calls_by, count_calls, entry, Run, total_of, weigh_all}
+use Rattle.history.specs.History.{calls_by, entry, Run}
+use Rattle.desk_rule.specs.History.{count_calls, total_of, weigh_all}
 use Rattle.desk_rule.specs.Notices.{IsActOwed, IsOwed, notices_by, weigh_notices}
 use Rattle.desk_rule.specs.declared.notice.Act.{Act}
 use Rattle.desk_rule.specs.declared.notice.Act.TheVariants.{Post, Take}

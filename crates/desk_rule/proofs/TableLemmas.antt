@@ -9,7 +9,7 @@ use mathlib.Core.Option as maybe
 use mathlib.Core.Option.{none, some, some-injective, some-ne-none}
 use lib.ListN.{get_elem?}
 use Rattle.atomic_table.specs.Table.{Final, opening as opening_state, Seen, State}
-use Rattle.desk_rule.specs.declared.entry.Entry.{Entry}
+use Rattle.history.specs.declared.entry.Entry.{Entry}
 use Rattle.desk_rule.specs.declared.view.PassLog.{PassLog}
 use Rattle.desk_rule.specs.declared.view.View.{View}
 use Rattle.desk_rule.specs.declared.table.Home.{Home}

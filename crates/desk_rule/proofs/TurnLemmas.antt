@@ -8,22 +8,29 @@ use mathlib.Core.List.{IsPrefix}
 use native.Mathlib.Decide.{ℕ_discrete}
 use lib.ListN.{get_elem?}
 use prog.Atomic.{either}
+use Rattle.std.proofs.lemmas.Bool.{false_from_ne_true}
 use Rattle.atomic_table.specs.Table.{Allows, gives, keeps, put_back, rest, State, step, takes}
 use Rattle.atomic_table.proofs.Lists.{set_here}
-use Rattle.desk_rule.specs.declared.entry.Entry.{Entry}
+use Rattle.history.specs.declared.entry.Entry.{Entry}
 use Rattle.desk_rule.specs.declared.view.PassLog.{PassLog}
 use Rattle.desk_rule.specs.declared.view.View.{View}
 use Rattle.desk_rule.specs.declared.table.Home.{Home}
 use Rattle.desk_rule.specs.declared.table.LastCall.{LastCall}
 use Rattle.desk_rule.specs.declared.notice.Notice.{Notice}
-use Rattle.desk_rule.specs.History.{entry, OwnCalls, Run}
+use Rattle.history.specs.History.{entry, Run}
+use Rattle.desk_rule.specs.History.{OwnCalls}
 use Rattle.desk_rule.specs.Notices.{raised_at}
 use Rattle.desk_rule.specs.Passes.{add_call, number_of}
-use Rattle.desk_rule.specs.Kinds.{after_look, after_turn, end_of_turn, hold, look, AtSeat}
+use Rattle.desk_rule.specs.Kinds.{after_look, after_turn, AtSeat, end_of_turn, hold, look, TellsTurn}
 use Rattle.desk_rule.specs.Rule.{IsAtHome, notice_weight_of, pass_count, turn_bit, weight_of}
 use Rattle.desk_rule.specs.Seat.{EndsTurn, SeatOf}
 use Rattle.desk_rule.proofs.ListLemmas.{all_map, at_inside, only_of, prefix_append, prefix_nil, prefix_refl, some_of, total_append, total_set}
 use Rattle.desk_rule.proofs.RuleLemmas.{all_views, calls_by_other, calls_by_own, differ_called, looked, no_notice_more, one_call_more, Own, owed_still, Rule, sits_looked, Sits, stays, word_same, word_small}
+
+-- the low bit is 1, so a seat holds the turn
+turn_is_held : (turn : maybe.Option ℕ) (n word : ℕ) → word ≡ 2 * n + turn_bit turn → word % 2 ≡ 1 → (j : ℕ) × (turn ≡ some j)
+turn_is_held none n word is odd = absurd (omega arith)
+turn_is_held (some j) n word is odd = (j, refl)
 
 -- the word says that the turn is free
 turn_is_free : (turn : maybe.Option ℕ) (n k : ℕ) → 2 * n + turn_bit turn ≡ 2 * k → turn ≡ none
@@ -40,13 +47,34 @@ module _ {M C R : Type 0} (steps : M → C → R → M → Type 0) (owes : R →
   abbrev Holds : State S V → Type 0
   Holds = Rule steps owes opening first passes
 
-  pub look_allowed : (slots id : ℕ) (me : AtSeat M C R) → Allows Holds slots id me 0 (λ n. n) (look steps (step slots 0 0 0 none) me)
+  -- what word 0 tells of the turn
+  tells_turn : (s : State S V) (r : Holds s) (id : ℕ) (v : V) → get_elem? s.views id ≡ some v → TellsTurn steps owes v (get_or s.words 0 0)
+  tells_turn s r id v at = let word = r.word in record {
+    opening = opening;
+    first = first;
+    passes = passes;
+    state = s;
+    rule = r;
+    loaded = refl;
+    seat = id;
+    here = at;
+    held = λ odd. (let j = turn_is_held r.turn (first + length r.history) _ r.word odd in let h = r.holder j.0 j.1 in (j.0, h.0, h.1, h.2));
+    free = λ even j w at_j. false_from_ne_true w.holding
+        (λ h. let one : turn_bit r.turn ≡ 1 = ap turn_bit ((r.seated j w at_j).holds h).0 in omega arith);
+    own = λ h. (let one : turn_bit r.turn ≡ 1 = ap turn_bit ((r.seated id v at).holds h).0 in omega arith);
+  }
+
+  pub look_allowed : (slots id : ℕ) (me : AtSeat M C R) → Allows Holds slots id me 0 (λ n. n) (look steps owes (step slots 0 0 0 none) me)
   look_allowed slots id me s r _ at _ = let v : V = me.0 in let f = r.seated id v at in (
     after_look v v.holding r.history r.order,
     keeps,
     tt,
     stays steps owes opening first passes s r id v (after_look v v.holding r.history r.order) at (sits_looked steps owes opening first passes r.history r.order r.turn r.seat_of id v v.holding f (λ h. (f.holds h).0)) refl refl _ (word_same steps owes opening first passes s),
-    (looked steps owes opening first passes s r id v v.holding at, refl, word_small steps owes opening first passes s r),
+    (
+      (looked steps owes opening first passes s r id v v.holding at, refl),
+      word_small steps owes opening first passes s r,
+      tells_turn s r id v at,
+    ),
   )
 
   -- the rule, where a seat takes the turn

@@ -1,18 +1,23 @@
 -- The kinds of step: what each tells, and the view after it.
-use Rattle.std.specs.Prelude.{◌≡◌, ◌≢◌, ℕ, ◌+◌, ◌-◌, ◌*◌, ◌/◌, ◌^◌, ◌<◌, ◌≤◌, Bool, true, false, List, [], ◌∷◌, ◌++◌, length, drop, Option, Some}
+use Rattle.std.specs.Prelude.{◌≡◌, ◌≢◌, ℕ, ◌+◌, ◌-◌, ◌*◌, ◌/◌, ◌%◌, ◌^◌, ◌<◌, ◌≤◌, Bool, true, false}
+use Rattle.std.specs.Prelude.{List, [], ◌∷◌, ◌++◌, length, drop, slice_index, Option, Some}
 use Rattle.std.specs.Prelude as std
 use Rattle.std.specs.Int.{bit_at}
+use mathlib.Core.Option.{some}
 use mathlib.Core.List.{IsPrefix}
-use Rattle.atomic_table.specs.Table.{Me, Step}
-use Rattle.desk_rule.specs.declared.entry.Entry.{Entry}
+use lib.ListN.{get_elem?}
+use Rattle.atomic_table.specs.Table.{Me, State, Step}
+use Rattle.history.specs.declared.entry.Entry.{Entry}
 use Rattle.desk_rule.specs.declared.notice.Notice.{Notice}
 use Rattle.desk_rule.specs.declared.notice.Act.TheVariants.{Post, Take}
 use Rattle.desk_rule.specs.declared.view.View.{View}
 use Rattle.desk_rule.specs.declared.table.Home.{Home}
 use Rattle.desk_rule.specs.declared.table.LastCall.{LastCall}
-use Rattle.desk_rule.specs.History.{count_calls, entry, IsLegal, OwnCalls, Run}
+use Rattle.history.specs.History.{entry, IsLegal, Run}
+use Rattle.desk_rule.specs.History.{count_calls, OwnCalls}
 use Rattle.desk_rule.specs.Notices.{IsOrder, notice, OwedIn, OwnNotices, pending_after, raised_by, taken_by}
 use Rattle.desk_rule.specs.Passes.{add_call, add_notice, number_of}
+use Rattle.desk_rule.specs.Rule.{RuleHolds}
 
 -- a seat's view, and the slots that are out with it
 abbrev pub AtSeat : Type 0 → Type 0 → Type 0 → Type 0
@@ -101,25 +106,53 @@ pub record TakesBits {M C R : Type 0} (owes : R → ℕ) (v : View M C R) (serve
 abbrev pub LastOwes : {M C R : Type 0} → (R → ℕ) → View M C R → ℕ → Type 0
 LastOwes {M} {C} {R} owes v owed = (es : List (Entry C R)) × (e : Entry C R) × (v.seen ≡ es ++ e ∷ []) × (e.pass ≡ number_of v.passes) × (owed ≡ owes e.reply)
 
+-- what word 0 tells of the turn, where a seat with the view v found it so: the table was then in a state that keeps the rule, and in
+-- it some seat held the turn where the low bit was 1, and none where it was 0
+pub record TellsTurn {M C R : Type 0} (steps : M → C → R → M → Type 0) (owes : R → ℕ) (v : View M C R) (found : ℕ) : Type 0 where
+  pub opening : M
+  pub first : ℕ
+  pub passes : ℕ
+  pub state : State (Option (Home M C R)) (View M C R)
+  pub rule : RuleHolds steps owes opening first passes state
+  pub loaded : slice_index state.words 0 ≡ found
+  pub seat : ℕ
+  pub here : get_elem? state.views seat ≡ some v
+  pub held : found % 2 ≡ 1 → (j : ℕ) × (w : View M C R) × (get_elem? state.views j ≡ some w) × (w.holding ≡ true)
+  pub free : found % 2 ≡ 0 → (j : ℕ) (w : View M C R) → get_elem? state.views j ≡ some w → w.holding ≡ false
+  -- a seat that holds the turn itself finds it held
+  pub own : v.holding ≡ true → found % 2 ≡ 1
+
 module _ {M C R : Type 0} (steps : M → C → R → M → Type 0) where
-  abbrev pub look : Step (Option (Home M C R)) → AtSeat M C R → ℕ → AtSeat M C R → Type 0
-  look st m r m' = Looks steps m.0 r m.0.holding m'.0 × (m'.1 ≡ m.1) × (r ≤ 2 ^ 63)
+  -- word 0 was looked at, and nothing else was done
+  abbrev pub LooksAlone : AtSeat M C R → ℕ → AtSeat M C R → Type 0
+  LooksAlone m r m' = Looks steps m.0 r m.0.holding m'.0 × (m'.1 ≡ m.1)
+
+  -- the number is at most 2 ^ 63, where no place is left; its low bit tells whether the turn is held
+  abbrev pub look : (R → ℕ) → Step (Option (Home M C R)) → AtSeat M C R → ℕ → AtSeat M C R → Type 0
+  look owes st m r m' = LooksAlone m r m' × (r ≤ 2 ^ 63) × TellsTurn steps owes m.0 r
 
   -- the machine comes out of the slot, as it is after the history
   abbrev pub GetsMachine : View M C R → List (ℕ × Option (Home M C R)) → View M C R → List (ℕ × Option (Home M C R)) → Type 0
   GetsMachine v c w c' = (h : Home M C R) × (c' ≡ (0, Some h) ∷ c) × ((m : M) → v.opening ≡ Some m → Run steps m w.seen h.machine)
 
+  -- the turn is held from now on
+  abbrev pub TakesTurn : AtSeat M C R → ℕ → AtSeat M C R → Type 0
+  TakesTurn m r m' = Looks steps m.0 r true m'.0 × GetsMachine m.0 m.1 m'.0 m'.1
+
   -- where the word was as expected the turn is held; else it was looked at, and no more
   abbrev pub hold : Step (Option (Home M C R)) → AtSeat M C R → ℕ → AtSeat M C R → Type 0
-  hold st m r m' =
-      (r ≡ st.first → Looks steps m.0 r true m'.0 × GetsMachine m.0 m.1 m'.0 m'.1)
-      × (r ≢ st.first → Looks steps m.0 r m.0.holding m'.0 × (m'.1 ≡ m.1))
+  hold st m r m' = (r ≡ st.first → TakesTurn m r m') × (r ≢ st.first → LooksAlone m r m')
 
 module _ {M C R : Type 0} where
   -- the call that the slot's last call names ends the history
   abbrev pub end_of_turn : Step (Option (Home M C R)) → AtSeat M C R → ℕ → AtSeat M C R → Type 0
   end_of_turn st m r m' = (h : Home M C R) (l : LastCall C R) (c : List (ℕ × Option (Home M C R))) → m.1 ≡ (0, Some h) ∷ c → h.last ≡ Some l
       → (m' ≡ (after_turn m.0 l.command.value l.reply.value, c)) × OwnCalls m'.0.seen m'.0.passes
+
+  -- where nothing else is out with the seat
+  abbrev pub EntersCall : AtSeat M C R → AtSeat M C R → Type 0
+  EntersCall m m' = (h : Home M C R) (l : LastCall C R) → m.1 ≡ (0, Some h) ∷ [] → h.last ≡ Some l
+      → (m' ≡ (after_turn m.0 l.command.value l.reply.value, [])) × OwnCalls m'.0.seen m'.0.passes
 
   abbrev pub post : Step (Option (Home M C R)) → AtSeat M C R → ℕ → AtSeat M C R → Type 0
   post st m r m' = MakesNotice m.0 (post_of m.0 (st.word - 1) st.first r) m'.0 × (m'.1 ≡ m.1)

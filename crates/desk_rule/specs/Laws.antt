@@ -1,15 +1,15 @@
 -- What follows of the rule.
-use Rattle.std.specs.Prelude.{◌≡◌, ◌⊎◌, ℕ, ◌+◌, ◌<◌, true, List, ◌∷◌, ◌++◌, slice_index, Option}
+use Rattle.std.specs.Prelude.{◌≡◌, ℕ, ◌+◌, ◌<◌, true, List, ◌∷◌, ◌++◌, slice_index, Option}
 use Rattle.std.specs.List.{AllByRecursion}
 use Rattle.std.specs.Int.{bit_at}
 use mathlib.Core.Option.{some}
-use mathlib.Core.List.{IsPrefix}
 use lib.ListN.{get_elem?}
 use Rattle.atomic_table.specs.Table.{State}
 use Rattle.desk_rule.specs.declared.notice.Notice.{Notice}
 use Rattle.desk_rule.specs.declared.table.Home.{Home}
 use Rattle.desk_rule.specs.declared.view.View.{View}
-use Rattle.desk_rule.specs.History.{IsLegal, total_of}
+use Rattle.history.specs.History.{IsLegal}
+use Rattle.desk_rule.specs.History.{OneBegins, total_of}
 use Rattle.desk_rule.specs.Notices.{IsOrder, IsOwed, NoTakes, OwedIn, pending_after, raised_by, set_by, taken_by}
 use Rattle.desk_rule.specs.Rule.{RuleHolds}
 
@@ -20,12 +20,12 @@ module _ {M C R : Type 0} (steps : M → C → R → M → Type 0) (owes : R →
   -- of what two seats have seen, one begins the other, and each is legal
   abbrev pub HistoriesAgree : Type 0
   HistoriesAgree = (opening : M) (first passes : ℕ) (s : TableState) → RuleHolds steps owes opening first passes s → (i j : ℕ) (v w : View M C R) → get_elem? s.views i ≡ some v → get_elem? s.views j ≡ some w
-      → (IsPrefix v.seen w.seen ⊎ IsPrefix w.seen v.seen) × IsLegal steps opening v.seen × IsLegal steps opening w.seen
+      → OneBegins v.seen w.seen × IsLegal steps opening v.seen × IsLegal steps opening w.seen
 
   -- and of what they have seen of the notices, where each found its word as those before it left it
   abbrev pub NoticesAgree : Type 0
   NoticesAgree = (opening : M) (first passes : ℕ) (s : TableState) → RuleHolds steps owes opening first passes s → (i j : ℕ) (v w : View M C R) → get_elem? s.views i ≡ some v → get_elem? s.views j ≡ some w
-      → (IsPrefix v.notices w.notices ⊎ IsPrefix w.notices v.notices) × IsOrder v.notices × IsOrder w.notices
+      → OneBegins v.notices w.notices × IsOrder v.notices × IsOrder w.notices
 
   -- two seats that hold the turn are one
   abbrev pub OneSeatHolds : Type 0

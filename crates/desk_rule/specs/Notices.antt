@@ -1,10 +1,10 @@
 -- The notices. The pending word of server s is word s + 1; its bit b is that of subscription b of the server.
-use Rattle.std.specs.Prelude.{◌≡◌, ℕ, ◌+◌, ◌-◌, ◌*◌, ◌/◌, ◌^◌, ◌==◌, List, [], ◌∷◌, filter, if◌then◌else◌, bit_and, bit_or}
+use Rattle.std.specs.Prelude.{◌≡◌, ℕ, ◌+◌, ◌-◌, ◌*◌, ◌/◌, ◌^◌, ◌<◌, ◌==◌, List, [], ◌∷◌, filter, slice_index, if◌then◌else◌, bit_and, bit_or}
 use Rattle.std.specs.Int.{bit_at}
 use Rattle.std.specs.List.{AllByRecursion}
 use mathlib.Core.Option.{some}
 use lib.ListN.{get_elem?}
-use Rattle.desk_rule.specs.declared.entry.Entry.{Entry}
+use Rattle.history.specs.declared.entry.Entry.{Entry}
 use Rattle.desk_rule.specs.declared.notice.Act.{Act}
 use Rattle.desk_rule.specs.declared.notice.Act.TheVariants.{Post, Take}
 use Rattle.desk_rule.specs.declared.notice.Notice.{Notice}
@@ -120,6 +120,10 @@ module _ {C R : Type 0} where
 
   abbrev pub taken_by : List (PassLog C R) → ℕ → ℕ → ℕ
   taken_by passes s b = weigh_notices (taken_at s b) passes
+
+  -- each bit was raised by these passes as often as they took it, and once more where it is pending
+  abbrev pub AreBalanced : List (PassLog C R) → List ℕ → Type 0
+  AreBalanced passes pending = (s b : ℕ) → s < 16 → raised_by passes s b ≡ taken_by passes s b + bit_at (slice_index pending s) b
 
   -- the notices of each pass are just those that the order has of it
   abbrev pub OwnNotices : List Notice → List (PassLog C R) → Type 0

@@ -1,7 +1,7 @@
 -- What the passes did that sit at one seat.
 use Rattle.std.specs.Prelude.{◌≢◌, ℕ, zero, suc, List, [], ◌∷◌, ◌++◌}
 use Rattle.std.specs.List.{AllByRecursion}
-use Rattle.desk_rule.specs.declared.entry.Entry.{Entry}
+use Rattle.history.specs.declared.entry.Entry.{Entry}
 use Rattle.desk_rule.specs.declared.notice.Notice.{Notice}
 use Rattle.desk_rule.specs.declared.view.PassLog.{PassLog}
 

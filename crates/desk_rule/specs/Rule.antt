@@ -6,13 +6,14 @@ use mathlib.Core.Option.{none, some}
 use mathlib.Core.List.{IsPrefix}
 use lib.ListN.{get_elem?}
 use Rattle.atomic_table.specs.Table.{State}
-use Rattle.desk_rule.specs.declared.entry.Entry.{Entry}
+use Rattle.history.specs.declared.entry.Entry.{Entry}
 use Rattle.desk_rule.specs.declared.notice.Notice.{Notice}
 use Rattle.desk_rule.specs.declared.view.PassLog.{PassLog}
 use Rattle.desk_rule.specs.declared.view.View.{View}
 use Rattle.desk_rule.specs.declared.table.Home.{Home}
 use Rattle.desk_rule.specs.declared.table.LastCall.{LastCall}
-use Rattle.desk_rule.specs.History.{calls_by, count_calls, Run, total_of, weigh_all}
+use Rattle.history.specs.History.{calls_by, Run}
+use Rattle.desk_rule.specs.History.{count_calls, total_of, weigh_all}
 use Rattle.desk_rule.specs.Notices.{IsOrder, IsOwed, notices_by, pending_after, raised_by, weigh_notices}
 use Rattle.desk_rule.specs.Passes.{AreDifferent, fresh}
 

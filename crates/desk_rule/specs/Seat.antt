@@ -4,12 +4,14 @@ use mathlib.Core.List.{IsPrefix}
 use Rattle.std.specs.List.{AllByRecursion}
 use Rattle.atomic_table.specs.Seated.{TableId}
 use Rattle.atomic_table.specs.declared.shared.Seat.{Seat}
-use Rattle.desk_rule.specs.declared.entry.Entry.{Entry}
+use Rattle.history.specs.declared.entry.Entry.{Entry}
 use Rattle.desk_rule.specs.declared.table.Home.{Home}
 use Rattle.desk_rule.specs.declared.table.LastCall.{LastCall}
+use Rattle.desk_rule.specs.declared.table.Opening.{Opening}
 use Rattle.desk_rule.specs.declared.view.View.{View}
 use Rattle.desk_rule.specs.declared.notice.Notice.{Notice}
-use Rattle.desk_rule.specs.History.{count_calls, entry, OwnCalls, Run, total_of, weigh_all}
+use Rattle.history.specs.History.{entry, Run}
+use Rattle.desk_rule.specs.History.{count_calls, OwnCalls, total_of, weigh_all}
 use Rattle.desk_rule.specs.Notices.{IsOrder, IsOwed, OwnNotices, pending_after, raised_by, weigh_notices}
 use Rattle.desk_rule.specs.Passes.{number_of}
 
@@ -23,6 +25,10 @@ module _ {M C R : Type 0} where
 
   abbrev pub SameSeat : SeatOf M C R → SeatOf M C R → Type 0
   SameSeat p q = (q.table_id ≡ p.table_id) × (q.id ≡ p.id)
+
+-- what the table was told as it was made: the machine, how many passes there are, and the place of the first call
+abbrev pub IsOpening : {M : Type 0} → Opening M → M → ℕ → ℕ → Type 0
+IsOpening key machine passes first = (key.machine.value ≡ machine) × (key.passes ≡ passes) × (key.first ≡ first)
 
 -- the seat of one pass holds the turn, and has the machine as it is after all that it has seen
 pub record HoldsTurn {M C R : Type 0} (steps : M → C → R → M → Type 0) (p : SeatOf M C R) : Type 0 where
@@ -60,3 +66,7 @@ pub record IsClosed {M C R : Type 0} (steps : M → C → R → M → Type 0) (o
   pub notices : IsPrefix v.notices order
   pub own_notices : OwnNotices order v.passes
   pub no_other_notices : (weigh : Notice → ℕ) → total_of weigh order ≡ weigh_notices weigh v.passes
+
+-- the same of a table by what it was told as it was made
+abbrev pub LeavesTable : {M C R : Type 0} → (M → C → R → M → Type 0) → (R → ℕ) → Opening M → View M C R → M → List ℕ → Type 0
+LeavesTable steps owes key v machine pending = IsClosed steps owes key.machine.value key.first v machine pending

@@ -1,9 +1,9 @@
 //! The laws of the rule, by its definitions alone.
 
-ghost use Rattle.desk_rule.specs.History.{Stepped};
+ghost use Rattle.history.specs.History.{Stepped};
 ghost use Rattle.desk_rule.specs.Laws.{BitsAreOwed, HistoriesAgree, NoticesAgree, NoticesBalance, OneSeatHolds, PostedBitsStay, PostsAreOwed, WordsFollow};
 
-use crate::machine::Machine;
+use history::Machine;
 
 /// There is one history: of what any two seats have seen, one begins the other, and each is legal.
 pub fn histories_agree<M: Machine>()

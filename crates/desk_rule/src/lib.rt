@@ -7,9 +7,7 @@
 //! its kinds of step are of this project.
 #![tactic(auto)]
 
-mod entry;
 mod law;
-mod machine;
 mod notice;
 mod play;
 mod seat;
@@ -18,12 +16,11 @@ mod table;
 mod turn;
 mod view;
 
-pub use entry::Entry;
+pub use history::{Entry, Machine};
 pub use law::{
     bits_are_owed, histories_agree, notices_agree, notices_balance, one_seat_holds,
     posted_bits_stay, posts_are_owed, words_follow,
 };
-pub use machine::Machine;
 pub use notice::{Act, Notice};
 pub use play::{EndTurn, Hold, JoinNote, JoinPass, Look, PostBits, SplitNote, SplitPass, TakeBits};
 pub use seat::{join_note, join_pass, split_note, split_pass};

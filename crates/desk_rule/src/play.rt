@@ -1,19 +1,19 @@
 //! The kinds of step, as the table knows them: what each tells, and what becomes of the views. No value of these types is
 //! made.
 
-ghost use Rattle.desk_rule.specs.History.{Stepped};
+ghost use Rattle.history.specs.History.{Stepped};
 ghost use Rattle.desk_rule.specs.Kinds.{after_note, after_pass, end_of_turn, hold, look, note_view, one_pass, other_passes, post, take};
 ghost use Rattle.desk_rule.specs.Rule.{spent_view};
 
-use crate::machine::Machine;
 use crate::table::{DeskView, Slot};
 use atomic_table::{Join, Play, Split};
+use history::Machine;
 
 /// A load of word 0.
 pub struct Look;
 
 impl<M: Machine> Play<Slot<M>, DeskView<M>> for Look {
-    ghost then = { look (Stepped M.stands M.steps) };
+    ghost then = { look (Stepped M.stands M.steps) M.owes };
 }
 
 /// A compare and exchange of word 0, which takes the turn if it is free.

@@ -5,9 +5,9 @@ ghost use Rattle.desk_rule.specs.Kinds.{after_note, after_pass, note_view, one_p
 ghost use Rattle.desk_rule.specs.Passes.{fresh};
 ghost use Rattle.desk_rule.specs.Seat.{IsAtTable, SameSeat};
 
-use crate::machine::Machine;
 use crate::play::{JoinNote, JoinPass, SplitNote, SplitPass};
 use crate::table::{DeskSeat, DeskShared};
+use history::Machine;
 
 /// A seat for one of the passes that sit here, of which none has called anything; at least one stays.
 pub fn split_pass<M: Machine>(shared: &DeskShared<M>, seat: &mut DeskSeat<M>) -> DeskSeat<M>

@@ -1,22 +1,24 @@
 //! Steps on the words that a seat makes at any time.
 
 ghost use Rattle.std.specs.Prelude.{◌≡◌, ℕ, ◌^◌, ◌<◌, ◌≤◌, true, length, is_some};
-ghost use Rattle.desk_rule.specs.History.{Stepped, count_calls};
-ghost use Rattle.desk_rule.specs.Kinds.{LastOwes, Looks, MakesNotice, TakesBits, post_of};
+ghost use Rattle.history.specs.History.{Stepped};
+ghost use Rattle.desk_rule.specs.History.{count_calls};
+ghost use Rattle.desk_rule.specs.Kinds.{LastOwes, Looks, MakesNotice, TakesBits, TellsTurn, post_of};
 ghost use Rattle.desk_rule.specs.Notices.{bits_for, raised_by};
 ghost use Rattle.desk_rule.specs.Seat.{IsAtTable, SameSeat};
 
-use crate::machine::Machine;
 use crate::play::{Look, PostBits, TakeBits};
 use crate::table::{DeskSeat, DeskShared};
+use history::Machine;
 
-/// Loads word 0: twice the place of the next call, and one more while a turn is held. The seat has seen the history as it
-/// is then.
+/// Loads word 0: twice the place of the next call, and one more while a turn is held, by this seat or by another. The seat
+/// has seen the history as it is then.
 pub fn look<M: Machine>(shared: &DeskShared<M>, seat: &mut DeskSeat<M>) -> u64
     requires { IsAtTable shared.now.table_id seat.old }
     ensures same { SameSeat seat.old seat.new × (seat.new.me.1 ≡ seat.old.me.1) }
     ensures looks { Looks (Stepped M.stands M.steps) seat.old.me.0 result seat.old.me.0.holding seat.new.me.0 }
     ensures below { result ≤ 2 ^ 63 }
+    ensures turn { TellsTurn (Stepped M.stands M.steps) M.owes seat.old.me.0 result }
 {
     shared.load::<Look>(seat, 0)
 }

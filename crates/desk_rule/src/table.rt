@@ -1,16 +1,15 @@
 //! The table that threads share: word 0, one pending word for each server, and a slot with the machine.
 
 ghost use Rattle.std.specs.Prelude.{◌≡◌, ◌≤◌, ◌<◌, ◌+◌, ◌^◌, ℕ, [], true, false, length, is_some, slice_index, IfSome, IfOk, IfErr};
-ghost use Rattle.std.specs.Int.{bit_at};
 ghost use Rattle.std.specs.Mem.Slots.{slots_items, slots_len, IsFull};
-ghost use Rattle.desk_rule.specs.History.{Stepped};
-ghost use Rattle.desk_rule.specs.Notices.{raised_by, taken_by};
+ghost use Rattle.history.specs.History.{Stepped};
+ghost use Rattle.desk_rule.specs.Notices.{AreBalanced, raised_by};
 ghost use Rattle.desk_rule.specs.Rule.{opening_view};
-ghost use Rattle.desk_rule.specs.Seat.{IsAtTable, IsClosed};
+ghost use Rattle.desk_rule.specs.Seat.{IsAtTable, IsOpening, LeavesTable};
 
-use crate::machine::Machine;
 use crate::view::View;
 use atomic_table::{Closed, Refused, Seat, Shared, Table, TableRule};
+use history::Machine;
 use std::alloc::{AllocFailed, Global};
 use std::marker::PhantomData;
 use std::snapshot::Snapshot;
@@ -56,7 +55,7 @@ pub struct DeskRule<M> {
 }
 
 impl<M: Machine> TableRule<Slot<M>, DeskView<M>, Opening<M>> for DeskRule<M> {
-    ghost use Rattle.desk_rule.specs.History.{Stepped};
+    ghost use Rattle.history.specs.History.{Stepped};
     ghost use Rattle.desk_rule.specs.Rule.{RuleHolds, opening_view};
 
     ghost holds = { λ k. RuleHolds (Stepped M.stands M.steps) M.owes k.machine.value k.first k.passes };
@@ -82,7 +81,7 @@ pub fn new_table<M: Machine>(
     first: u64,
 ) -> Result<(DeskTable<M>, DeskSeat<M>), M>
     requires { first ≤ 2 ^ 62 }
-    ensures table { IfOk result (λ t. (t.0.shared.key.machine.value ≡ machine) × (t.0.shared.key.passes ≡ passes) × (t.0.shared.key.first ≡ first)) }
+    ensures table { IfOk result (λ t. IsOpening t.0.shared.key machine passes first) }
     ensures seat { IfOk result (λ t. IsAtTable t.0.shared.table_id t.1 × (t.1.me ≡ (opening_view machine first passes, []))) }
     ensures back { IfErr result (λ m. m ≡ machine) }
 {
@@ -141,8 +140,8 @@ pub fn close_table<M: Machine>(table: DeskTable<M>, seat: DeskSeat<M>) -> (M, [u
     requires at { IsAtTable table.shared.table_id seat }
     requires resting { seat.me.0.holding ≡ false }
     requires all { table.shared.key.passes ≤ length seat.me.0.passes }
-    ensures closed { IsClosed (Stepped M.stands M.steps) M.owes table.shared.key.machine.value table.shared.key.first seat.me.0 result.0 result.1 }
-    ensures balance { (server bit : ℕ) → server < 16 → raised_by seat.me.0.passes server bit ≡ taken_by seat.me.0.passes server bit + bit_at (slice_index result.1 server) bit }
+    ensures closed { LeavesTable (Stepped M.stands M.steps) M.owes table.shared.key seat.me.0 result.0 result.1 }
+    ensures balance { AreBalanced seat.me.0.passes result.1 }
     ensures few { (server bit : ℕ) → server < 16 → raised_by seat.me.0.passes server bit ≤ 2 ^ 62 }
 {
     let mut closed = table.close_with(seat);

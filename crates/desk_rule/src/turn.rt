@@ -1,23 +1,23 @@
 //! A turn: it is held, the machine comes out of the slot and goes back, and the turn ends.
 
-ghost use Rattle.std.specs.Prelude.{◌≡◌, ℕ, ◌+◌, ◌*◌, ◌^◌, ◌<◌, [], ◌∷◌, length, is_some, Some, None, true};
-ghost use Rattle.desk_rule.specs.History.{OwnCalls, Run, Stepped};
-ghost use Rattle.desk_rule.specs.Kinds.{GetsMachine, Looks, after_turn};
+ghost use Rattle.std.specs.Prelude.{◌≡◌, ◌≢◌, ℕ, ◌+◌, ◌*◌, ◌^◌, ◌<◌, [], ◌∷◌, length, is_some, Some, None, true};
+ghost use Rattle.history.specs.History.{Run, Stepped};
+ghost use Rattle.desk_rule.specs.Kinds.{EntersCall, LooksAlone, TakesTurn};
 ghost use Rattle.desk_rule.specs.Seat.{EndsTurn, HoldsTurn, IsAtTable, SameSeat};
 
-use crate::machine::Machine;
 use crate::play::{EndTurn, Hold};
 use crate::table::{DeskSeat, DeskShared, Home};
+use history::Machine;
 
-/// Takes the turn if word 0 still is `word`, which says that it is free. Gives the word as it was; another one tells as
-/// much as a look, and no more.
+/// Takes the turn if word 0 still is `word`, which says that it is free. Gives the word as it was; another one tells how far
+/// the history goes, as a look does, and no more.
 pub fn hold<M: Machine>(shared: &DeskShared<M>, seat: &mut DeskSeat<M>, word: u64) -> u64
     requires at { IsAtTable shared.now.table_id seat.old }
     requires some_pass { 0 < length seat.old.me.0.passes }
     requires free { (n : ℕ) × (word ≡ 2 * n) × (n < 2 ^ 62) }
     ensures same { SameSeat seat.old seat.new }
-    ensures held { result ≡ word → Looks (Stepped M.stands M.steps) seat.old.me.0 result true seat.new.me.0 × GetsMachine (Stepped M.stands M.steps) seat.old.me.0 seat.old.me.1 seat.new.me.0 seat.new.me.1 }
-    ensures missed { (result ≡ word → ⊥) → Looks (Stepped M.stands M.steps) seat.old.me.0 result seat.old.me.0.holding seat.new.me.0 × (seat.new.me.1 ≡ seat.old.me.1) }
+    ensures held { result ≡ word → TakesTurn (Stepped M.stands M.steps) seat.old.me result seat.new.me }
+    ensures missed { result ≢ word → LooksAlone (Stepped M.stands M.steps) seat.old.me result seat.new.me }
 {
     shared.compare_exchange::<Hold>(seat, 0, word, word + 1)
 }
@@ -61,7 +61,7 @@ pub fn end_turn<M: Machine>(shared: &DeskShared<M>, seat: &mut DeskSeat<M>)
     requires at { IsAtTable shared.now.table_id seat.old }
     requires ends { EndsTurn (Stepped M.stands M.steps) seat.old }
     ensures same { SameSeat seat.old seat.new }
-    ensures ended { (h : _) (l : _) → seat.old.me.1 ≡ (0, Some h) ∷ [] → h.last ≡ Some l → (seat.new.me ≡ (after_turn seat.old.me.0 l.command.value l.reply.value, [])) × OwnCalls seat.new.me.0.seen seat.new.me.0.passes }
+    ensures ended { EntersCall seat.old.me seat.new.me }
 {
     shared.fetch_add::<EndTurn>(seat, 0, 1);
 }

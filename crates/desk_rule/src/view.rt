@@ -1,7 +1,7 @@
 //! What a seat at the table knows. No value of these types is ever made: they are what proofs speak of.
 
-use crate::entry::Entry;
 use crate::notice::Notice;
+use history::Entry;
 use std::collections::LinkedList;
 
 /// What one pass did.

@@ -1,9 +1,10 @@
 use Rattle.std.proofs.Common.{◌≡◌, ◌∙◌, arith, subst, sym}
-use Rattle.desk_rule.specs.History.{Stepped}
+use Rattle.history.specs.History.{Stepped}
 use Rattle.desk_rule.specs.Kinds.{after_pass, Looks}
 use Rattle.desk_rule.proofs.ListLemmas.{nil_of, prefix_refl}
 use Rattle.desk.specs.Pass.{desk_of}
-use Rattle.desk.proofs.CloseLemmas.{all_last, gathers_more, Noticed, Seen}
+use Rattle.desk.specs.Closing.{HasAllNoticed, HasAllSeen}
+use Rattle.desk.proofs.CloseLemmas.{all_last, gathers_more}
 use Rattle.desk.proofs.SightLemmas.{rests_facts}
 use Rattle.desk.proofs.close.gather.Goals as goal
 
@@ -28,8 +29,8 @@ loop-pass-preserved g c = let i = c.loop-pass.invariant in let p = c.in-Some.pas
 
 pub returns-clause-notices : goal.returns-clause-notices
 returns-clause-notices g c = let none = c.in_default.ensures.cases.0 in let long = c.loop-pass.others.ok.0 in let seen = c.loop-pass.seat.me.0.notices in
-    c.loop-pass.invariant.0.noticed seen (prefix_refl seen) (subst (Noticed seen) (sym (nil_of c.loop-pass.others.items (omega arith))) tt)
+    c.loop-pass.invariant.0.noticed seen (prefix_refl seen) (subst (HasAllNoticed seen) (sym (nil_of c.loop-pass.others.items (omega arith))) tt)
 
 pub returns-clause-seen : goal.returns-clause-seen
 returns-clause-seen g c = let none = c.in_default.ensures.cases.0 in let long = c.loop-pass.others.ok.0 in let seen = c.loop-pass.seat.me.0.seen in
-    c.loop-pass.invariant.0.seen seen (prefix_refl seen) (subst (Seen seen) (sym (nil_of c.loop-pass.others.items (omega arith))) tt)
+    c.loop-pass.invariant.0.seen seen (prefix_refl seen) (subst (HasAllSeen seen) (sym (nil_of c.loop-pass.others.items (omega arith))) tt)

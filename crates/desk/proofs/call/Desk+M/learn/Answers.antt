@@ -1,8 +1,6 @@
-use Rattle.std.proofs.Common.{ap, ◌∙◌, length, subst, sym}
-use Rattle.desk_rule.specs.Passes.{calls_of, number_of}
-use mathlib.Core.List.{IsPrefix}
-use Rattle.desk_rule.proofs.ListLemmas.{nil_of, prefix_refl}
-use Rattle.desk.proofs.SeeLemmas.{sees}
+use Rattle.std.proofs.Common.{ap, ◌∙◌}
+use Rattle.desk_rule.proofs.ListLemmas.{nil_of}
+use Rattle.desk.proofs.SeeLemmas.{note_agrees, sees_told, told_seen}
 use Rattle.desk.proofs.SightLemmas.{listens_facts, rests_facts}
 use Rattle.desk.proofs.call.Desk+M.learn.Goals as goal
 
@@ -13,10 +11,13 @@ pub join_note-requires-clause-no_pass : goal.join_note-requires-clause-no_pass
 join_note-requires-clause-no_pass g c = listens_facts c.args.note.seat.me.0 c.args.note.listening
 
 pub returns-clause-learnt : goal.returns-clause-learnt
-returns-clause-learnt g c = let j = c.join_note.ensures in let l = c.look.ensures in let v = c.args.pass.now.seat.me.0 in let one = (rests_facts v c.args.pass.now.resting).1 in (
-  sees _ _ _ _ c.join_note.new.seat.me.0 _ _ l.looks (ap (λ m. m.0.opening) j.told) (ap (λ m. m.0.first) j.told) (ap (λ m. number_of m.0.passes) j.told) (ap (λ m. calls_of m.0.passes) j.told)
-      (subst (λ es. IsPrefix v.seen es) (sym (ap (λ m. m.0.seen) j.told)) (prefix_refl v.seen)) (subst (λ ns. IsPrefix v.notices ns) (sym (ap (λ m. m.0.notices) j.told)) (prefix_refl v.notices))
-      (l.same.0.0 ∙ j.same.0) (ap (λ m. length m.0.passes) j.told ∙ one),
-  subst (λ es. IsPrefix es c.look.new.seat.me.0.seen) (ap (λ m. m.0.told) j.told) l.looks.told,
-  subst (λ ns. IsPrefix ns c.look.new.seat.me.0.notices) (ap (λ m. m.0.told_notices) j.told) l.looks.told_notices,
-)
+returns-clause-learnt g c = let j = c.join_note.ensures in let l = c.look.ensures in
+    let v = c.args.pass.now.seat.me.0 in let n = c.args.note.seat.me.0 in let is = ap (λ m. m.0) j.told in
+    let told = told_seen _ v c.join_note.new.seat.me.0 n c.look.new.seat.me.0 _ _ is l.looks in (
+      sees_told _ _ _ _ c.join_note.new.seat.me.0 n _ _ is l.looks (l.same.0.0 ∙ j.same.0) (rests_facts v c.args.pass.now.resting).1,
+      told,
+    )
+
+pub returns-clause-agree : goal.returns-clause-agree
+returns-clause-agree g c = let learnt = returns-clause-learnt g c in
+    note_agrees g.M.Machine.stands g.M.Machine.steps _ _ c.args.note learnt.0 learnt.1

@@ -1,7 +1,7 @@
 use Rattle.std.proofs.Common.{◌≡◌, ◌++◌, [], length, arith, ◌∙◌, ap, sym}
 use Rattle.std.specs.Option.{option_to_list}
 use Rattle.desk.specs.Pass.{desk_of}
-use Rattle.desk.proofs.CloseLemmas.{account_of, all_gathered, all_last, all_noticed, all_seen, left_of_passes, length_gathered}
+use Rattle.desk.proofs.CloseLemmas.{account_of, all_agree, all_gathered, all_last, all_noticed, all_seen, left_of_passes, length_gathered}
 use Rattle.desk.proofs.RowLemmas.{wraps_first}
 use Rattle.desk.proofs.close.Desk+M.close.Goals as goal
 
@@ -31,6 +31,9 @@ returns-clause-history g c =
     left_of_passes (λ v e. e) g.M.Machine.stands g.M.Machine.steps _ _ _ _ c.args.passes c.gather.new.seat.me.0 _ _ _ _ c.close_table-machine.ensures.closed is
     (λ h begins. all_seen h c.args.passes c.pop.new.self.items c.unwrap-last.result _ items begins seen.0 seen.1)
     (λ ns begins. all_noticed ns c.args.passes c.pop.new.self.items c.unwrap-last.result _ items begins noticed.0 noticed.1) c.fill_rows.ensures.rows
+
+pub returns-clause-agree : goal.returns-clause-agree
+returns-clause-agree g c = all_agree g.M.Machine.stands g.M.Machine.steps _ _ _ c.args.passes _ (returns-clause-history g c)
 
 pub returns-clause-account : goal.returns-clause-account
 returns-clause-account g c =
