@@ -1,17 +1,19 @@
 """What tests/programs/desk asks of threads: crews of them at one desk, over a counter or a store, and refused growths of memory.
 
 The program compares every reply with that of one thread that is given the history, and the account with what the threads
-counted. Each line that it is given, `counter THREADS CALLS` or `store THREADS CALLS`, is answered by one line, the same
-however the threads take turns. Where the n-th growth is refused, the run ends as `noroom`, behind the lines that it had printed;
-or one call of a store is answered so, which is one entry of the history and changes nothing, and all others are answered as
-ever; or a thread couldn't be made, and all is as with ample memory.
+counted. In 16 calls of a store each command is asked; every fourth call is followed by a take, every eighth by a note that
+another thread learns. Each line that it is given, `counter THREADS CALLS` or `store THREADS CALLS`, is answered by one line,
+the same however the threads take turns. Where the n-th growth is refused, the run ends as `noroom`, behind the lines that it
+had printed; or one call of a store is answered so, which is one entry of the history and changes nothing, or stopped so, a
+Merge, of which the items in front of that stand, and all others are answered as ever; or a thread couldn't be made, and all is
+as with ample memory.
 """
 import pathlib
 
 import harness
 
 RUNS = 5  # of each crew, since every run takes its turns otherwise
-REFUSED = ((1, 12), (2, 6), (1, 0))  # threads, and the calls of each
+REFUSED = ((1, 16), (2, 8), (1, 0))  # threads, and the calls of each
 UNREAD = ("2", "two 3", "2 3 ", "2 -1", "0 1", "65 1")  # and of no threads there is no desk
 
 

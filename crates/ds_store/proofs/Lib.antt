@@ -6,3 +6,5 @@ pub mod WatchLemmas
 pub mod ReadingLemmas
 pub mod RunLemmas
 pub mod CrossingLemmas
+pub mod TurnLemmas
+pub mod SettledLemmas

@@ -1,11 +1,12 @@
 -- What becomes of one item of a Merge.
-use Rattle.std.specs.Prelude.{◌≡◌, ◌⊎◌, ℕ, Bool, List, [], ◌∷◌, Some, None, Result, Ok, Err}
+use Rattle.std.specs.Prelude.{◌≡◌, ◌⊎◌, ℕ, Bool, List, [], ◌∷◌, Some, None, Result, Ok, Err, map}
 use Rattle.ds_entry.specs.declared.item.Item.{Item}
 use Rattle.ds_join.specs.declared.merge.Merge.{Merge}
 use Rattle.ds_join.specs.declared.merge.Merge.TheVariants as merges
-use Rattle.ds_watch.specs.Mask.{either}
+use Rattle.ds_watch.specs.Mask.{either, padded}
 use Rattle.ds_machine.specs.State.{State, takes_effect}
 use Rattle.ds_machine.specs.Standing.{cause_of}
+use Rattle.ds_machine.specs.Subscription.{is_owed}
 use Rattle.ds_machine.specs.declared.refusal.Cause.TheVariants as causes
 use Rattle.ds_machine.specs.declared.refusal.Refusal.{Refusal}
 use Rattle.ds_machine.specs.declared.refusal.Refusal.TheVariants as refusals
@@ -29,6 +30,10 @@ owed_after (Ok merges.Taken) total more = either total more
 owed_after (Ok merges.Known) total more = total
 owed_after (Ok merges.Stale) total more = total
 owed_after (Err fault) total more = total
+
+-- the subscriptions to which the item is owed, as the flags of a whole mask
+abbrev pub owed_flags : State → Item → List Bool
+owed_flags s i = padded (map (is_owed (i ∷ [])) s.subscriptions)
 
 -- how many items are taken by this, and how many are stale
 abbrev pub count_taken : Merge → ℕ

@@ -7,10 +7,12 @@
 //! snapshots, pages and merges are of this project.
 #![tactic(auto)]
 
+mod machine;
 mod runs;
 mod store;
 mod threads;
 
+pub use machine::stores_take_turns;
 pub use runs::run;
 pub use store::Store;
 pub use threads::stores_cross_threads;

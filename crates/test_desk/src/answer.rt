@@ -7,7 +7,7 @@ use crate::line::{Line, Row, Sizes};
 use crate::overwrite::overwrite_labels;
 use crate::review::{Review, share_and_compare};
 use crate::{rounds, rows};
-use ds_shared::SharedStore;
+use ds_store::Store;
 use std::alloc::Global;
 use std::sync::Wait;
 use std::thread::Threads;
@@ -63,8 +63,9 @@ fn share_counter<R: Print + Threads + Wait + Sync>(
     alloc: Global,
     sizes: Sizes,
 ) -> Result<(), Failure> {
-    let review = share_and_compare::<Counter, R>(rt, alloc, sizes).ok_or(Failure::NoRoom)?;
-    let (threads, entries) = (sizes.threads, review.entries);
+    let Sizes { threads, calls } = sizes;
+    let review = share_and_compare::<Counter, R>(rt, alloc, threads, calls).ok_or(Failure::NoRoom)?;
+    let entries = review.entries;
     let (history, account) = (history_word(&review), account_word(&review));
     println!(rt; "threads {threads} entries {entries} history {history} account {account}")?;
     Ok(())
@@ -76,8 +77,11 @@ fn share_store<R: Print + Threads + Wait + Sync>(
     alloc: Global,
     sizes: Sizes,
 ) -> Result<(), Failure> {
-    let review = share_and_compare::<SharedStore, R>(rt, alloc, sizes).ok_or(Failure::NoRoom)?;
-    let (threads, entries, noroom) = (sizes.threads, review.entries, review.history.noroom);
+    let Sizes { threads, calls } = sizes;
+    let review = share_and_compare::<Box<Store>, R>(rt, alloc, threads, calls).ok_or(
+        Failure::NoRoom,
+    )?;
+    let (entries, noroom) = (review.entries, review.history.noroom);
     let (history, account) = (history_word(&review), account_word(&review));
     println!(rt;
         "threads {threads} entries {entries} noroom {noroom} history {history} account {account}"

@@ -9,7 +9,7 @@ use crate::new_store::store_at;
 use crate::told::Told;
 use desk::{CloseStop, Closed, Desk, DeskFault, Pass, Passes};
 use ds_machine::Command;
-use ds_shared::SharedStore;
+use ds_store::Store;
 use std::alloc::Global;
 use std::sync::Wait;
 
@@ -19,11 +19,11 @@ pub(crate) fn open_two(
     alloc: Global,
     place: u64,
     position: u64,
-) -> Option<(Desk<SharedStore>, Pass<SharedStore>, Pass<SharedStore>)>
+) -> Option<(Desk<Box<Store>>, Pass<Box<Store>>, Pass<Box<Store>>)>
     ensures { IfSome result (λ d. (desk_of d.1 ≡ identity d.0) × (desk_of d.2 ≡ identity d.0)) }
 {
     let shared = store_at(alloc, position)?;
-    let Ok((desk, mut passes)) = Desk::<SharedStore>::open(alloc, shared, 2, place) else {
+    let Ok((desk, mut passes)) = Desk::<Box<Store>>::open(alloc, shared, 2, place) else {
         return None;
     };
     let two = passes.pop()?;
@@ -41,10 +41,10 @@ pub(crate) fn refuse(
     let Some(shared) = store_at(alloc, 7) else {
         return Err(Failure::NoRoom);
     };
-    match Desk::<SharedStore>::open(alloc, shared, passes, place) {
+    match Desk::<Box<Store>>::open(alloc, shared, passes, place) {
         Ok(_) => println!(rt; "opened")?,
         Err(stop) => {
-            let (fault, position) = (stop.fault, stop.machine.store.cursor().position);
+            let (fault, position) = (stop.fault, stop.machine.cursor().position);
             println!(rt; "no desk: {fault}; the store is at {position}")?;
         }
     }
@@ -54,8 +54,8 @@ pub(crate) fn refuse(
 /// Calls, and prints the answer.
 pub(crate) fn call<R: Print + Wait>(
     rt: &R,
-    desk: &Desk<SharedStore>,
-    pass: &mut Pass<SharedStore>,
+    desk: &Desk<Box<Store>>,
+    pass: &mut Pass<Box<Store>>,
     command: Command,
 ) -> Result<(), Failure>
     requires { desk_of pass.old ≡ identity desk.now }
@@ -75,8 +75,8 @@ pub(crate) fn call<R: Print + Wait>(
 /// Looks how far the history goes, and prints the first place behind what the pass has then seen.
 pub(crate) fn look<R: Print>(
     rt: &R,
-    desk: &Desk<SharedStore>,
-    pass: &mut Pass<SharedStore>,
+    desk: &Desk<Box<Store>>,
+    pass: &mut Pass<Box<Store>>,
 ) -> Result<(), Failure>
     requires { desk_of pass.old ≡ identity desk.now }
     ensures { desk_of pass.new ≡ identity desk.now }
@@ -89,8 +89,8 @@ pub(crate) fn look<R: Print>(
 /// Takes what a server is owed, and prints it.
 pub(crate) fn take<R: Print>(
     rt: &R,
-    desk: &Desk<SharedStore>,
-    pass: &mut Pass<SharedStore>,
+    desk: &Desk<Box<Store>>,
+    pass: &mut Pass<Box<Store>>,
     server: u32,
 ) -> Result<(), Failure>
     requires { desk_of pass.old ≡ identity desk.now }
@@ -113,15 +113,15 @@ pub(crate) fn tell_fault(rt: &impl Print, fault: DeskFault) -> Result<(), Failur
 }
 
 /// What came of a close: what is left, or why the desk is open, with the desk and its passes as they were.
-pub(crate) type Ended<P> = Result<Closed<SharedStore>, (DeskFault, Desk<SharedStore>, P)>;
+pub(crate) type Ended<P> = Result<Closed<Box<Store>>, (DeskFault, Desk<Box<Store>>, P)>;
 
 /// Closes the desk with both passes.
 pub(crate) fn close_two(
     alloc: Global,
-    desk: Desk<SharedStore>,
-    one: Pass<SharedStore>,
-    two: Pass<SharedStore>,
-) -> Ended<(Pass<SharedStore>, Pass<SharedStore>)>
+    desk: Desk<Box<Store>>,
+    one: Pass<Box<Store>>,
+    two: Pass<Box<Store>>,
+) -> Ended<(Pass<Box<Store>>, Pass<Box<Store>>)>
     requires one { desk_of one ≡ identity desk }
     requires two { desk_of two ≡ identity desk }
     ensures { IfErr result (λ stop. (stop.1 ≡ desk) × (stop.2.0 ≡ one) × (stop.2.1 ≡ two)) }
@@ -131,7 +131,7 @@ pub(crate) fn close_two(
     };
     both.push_reserved(one);
     both.push_reserved(two);
-    match desk.close(alloc, Passes::<SharedStore>::of(both)) {
+    match desk.close(alloc, Passes::<Box<Store>>::of(both)) {
         Ok(closed) => Ok(closed),
         Err(
             CloseStop {
@@ -151,9 +151,9 @@ pub(crate) fn close_two(
 /// Asks to close the desk with one of its passes alone.
 pub(crate) fn close_one(
     alloc: Global,
-    desk: Desk<SharedStore>,
-    one: Pass<SharedStore>,
-) -> Ended<Pass<SharedStore>>
+    desk: Desk<Box<Store>>,
+    one: Pass<Box<Store>>,
+) -> Ended<Pass<Box<Store>>>
     requires { desk_of one ≡ identity desk }
     ensures { IfErr result (λ stop. (stop.1 ≡ desk) × (stop.2 ≡ one)) }
 {
@@ -161,7 +161,7 @@ pub(crate) fn close_one(
         return Err((DeskFault::NoRoom, desk, one));
     };
     single.push_reserved(one);
-    match desk.close(alloc, Passes::<SharedStore>::of(single)) {
+    match desk.close(alloc, Passes::<Box<Store>>::of(single)) {
         Ok(closed) => Ok(closed),
         Err(
             CloseStop {
@@ -180,10 +180,10 @@ pub(crate) fn close_one(
 /// Prints what a closed desk left: the position behind all that took effect, and the row of a subscription.
 pub(crate) fn tell_closed(
     rt: &impl Print,
-    closed: &Closed<SharedStore>,
+    closed: &Closed<Box<Store>>,
     sub: usize,
 ) -> Result<(), Failure> {
-    let position = closed.machine.store.cursor().position;
+    let position = closed.machine.cursor().position;
     let Some(row) = closed.account.get(sub) else {
         return Ok(());
     };

@@ -1,7 +1,9 @@
 //! What a store is asked.
 
-use ds_entry::Value;
-use ds_machine::Command;
+use crate::new_store::INCARNATION;
+use ds_entry::{Body, Change, Floor, Item, Items, Value};
+use ds_feed::Cursor;
+use ds_machine::{Command, Scope};
 use ds_names::{Endpoint, Generation, Key, Kind, Kinds, Name, Version};
 use ds_pattern::{PatternText, Query};
 use std::alloc::Global;
@@ -51,6 +53,65 @@ pub(crate) fn start(driver: &Driver) -> Command {
         },
         value: Value::Label(driver.endpoint),
         overwrite: true,
+    }
+}
+
+/// RS deletes the label of a driver, of this generation or an earlier one.
+pub(crate) fn delete(driver: &Driver) -> Command {
+    Command::Delete {
+        caller: Endpoint::rs(),
+        key: driver.key,
+        version: Version {
+            epoch: driver.endpoint.generation(),
+            seq: 1,
+        },
+    }
+}
+
+/// RS ends what a driver published up to this generation.
+pub(crate) fn sweep(driver: &Driver) -> Command {
+    Command::Sweep {
+        caller: Endpoint::rs(),
+        owner: driver.key.name,
+        generation: driver.endpoint.generation(),
+    }
+}
+
+/// Another holder gives what it has of a driver: a floor under half of its generations, and a number that it published in the
+/// last one. `None` where memory is wanting.
+pub(crate) fn merge(alloc: Global, driver: &Driver, number: u32) -> Option<Command> {
+    let floor = Floor {
+        owner: driver.key.name,
+        generation: Generation::of(driver.endpoint.generation().number() / 2)?,
+    };
+    let mut items = Items::new(alloc);
+    items.push(Item::Floor(floor)).ok()?;
+    items.push(Item::Change(number_of(driver, number)?)).ok()?;
+    Some(Command::Merge { items })
+}
+
+// A number under the driver's name, which it published itself. `None` never: the parts fit together.
+fn number_of(driver: &Driver, number: u32) -> Option<Change> {
+    let key = Key {
+        name: driver.key.name,
+        kind: Kind::U32,
+    };
+    let version = Version {
+        epoch: driver.endpoint.generation(),
+        seq: number,
+    };
+    Change::make(key, driver.key.name, version, Body::Put(Value::U32(number))).ok()
+}
+
+/// What took effect from a position on is asked for, at most so many items.
+pub(crate) fn since(position: u64, max: u32) -> Command {
+    Command::Since {
+        scope: Scope::All,
+        cursor: Cursor {
+            incarnation: INCARNATION,
+            position,
+        },
+        max,
     }
 }
 

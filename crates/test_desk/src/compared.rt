@@ -1,8 +1,8 @@
 //! Machines that threads share, and one thread has alone.
 
-use crate::kept::Kept;
-use desk_rule::Machine;
+use history::Machine;
 use std::alloc::Global;
+use test_crews::Kept;
 
 /// A machine that threads share at a desk, and that one thread has alone, to compare how both are answered.
 pub(crate) trait Compared: Machine {
@@ -11,6 +11,9 @@ pub(crate) trait Compared: Machine {
 
     /// The command of a thread that had seen so many calls at this turn of its own. `None` where memory is wanting.
     fn command_of(alloc: Global, seen: u64, turn: u32) -> Option<Self::Command>;
+
+    /// The same command for the first so many of its items alone. `None` where memory is wanting.
+    fn first_of(alloc: Global, command: Self::Command, items: usize) -> Option<Self::Command>;
 
     /// Answers one thread, with no desk.
     fn answer(&mut self, command: Self::Command) -> Self::Reply;

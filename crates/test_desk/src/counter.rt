@@ -4,7 +4,7 @@
 
 ghost use Rattle.std.specs.Prelude.{◌≡◌};
 
-use desk_rule::Machine;
+use history::Machine;
 
 /// What a counter is asked.
 #[derive(Clone, Copy)]

@@ -2,9 +2,9 @@
 
 use crate::compared::Compared;
 use crate::counter::{Count, Counted, Counter};
-use crate::kept::Kept;
-use desk_rule::Machine;
+use history::Machine;
 use std::alloc::Global;
+use test_crews::Kept;
 
 impl Compared for Counter {
     fn begin(_alloc: Global) -> Option<Counter> {
@@ -20,12 +20,20 @@ impl Compared for Counter {
         })
     }
 
+    /// A counter is asked of no items.
+    fn first_of(_alloc: Global, command: Count, _items: usize) -> Option<Count> {
+        Some(command)
+    }
+
     fn answer(&mut self, command: Count) -> Counted {
         self.step(command)
     }
 
     fn kept_of(_alloc: Global, reply: &Counted) -> Option<Kept> {
-        Some(Kept::Counted(*reply))
+        Some(Kept::Reply {
+            mark: reply.total,
+            owed: reply.owed,
+        })
     }
 
     fn is_as_far_as(&self, other: &Counter) -> bool {

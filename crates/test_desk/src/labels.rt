@@ -1,17 +1,16 @@
 //! What a closed desk's store says of the labels that two threads published.
 
 use crate::commands::{driver_of, label_of, retrieve};
-use crate::compared::Compared;
-use crate::crew::run_crew;
+use crate::new_store::store_at;
 use crate::overwrite::Overwrite;
 use crate::store_compared::FIRST;
-use desk_rule::Machine;
 use ds_entry::Value;
 use ds_machine::Reply;
-use ds_shared::SharedStore;
+use ds_store::Store;
 use std::alloc::Global;
 use std::sync::Wait;
 use std::thread::Threads;
+use test_crews::run_crew;
 
 /// What is left of so many changes by each of two threads.
 #[derive(Clone, Copy)]
@@ -30,19 +29,19 @@ pub(crate) fn publish_labels<R: Threads + Wait + Sync>(
     alloc: Global,
     calls: u32,
 ) -> Option<Labels> {
-    let store = SharedStore::begin(alloc)?;
-    let mut machine = run_crew(rt, alloc, store, 2, Overwrite { calls })?.machine;
+    let store = store_at(alloc, FIRST)?;
+    let mut store = run_crew(rt, alloc, store, 2, Overwrite { calls })?.machine;
     Some(Labels {
-        changes: machine.store.cursor().position.wrapping_sub(FIRST),
-        first: generation_of(&mut machine, 1)?,
-        second: generation_of(&mut machine, 2)?,
+        changes: store.cursor().position.wrapping_sub(FIRST),
+        first: generation_of(&mut store, 1)?,
+        second: generation_of(&mut store, 2)?,
     })
 }
 
 // The generation of the endpoint that the label of this number has.
-fn generation_of(machine: &mut SharedStore, number: u64) -> Option<u32> {
+fn generation_of(store: &mut Box<Store>, number: u64) -> Option<u32> {
     let driver = driver_of(&label_of(number), 0, 0)?;
-    let reply = machine.step(retrieve(&driver));
+    let reply = store.apply(retrieve(&driver));
     found_in(&reply)
 }
 

@@ -18,7 +18,6 @@ mod commands;
 mod compared;
 mod counter;
 mod counter_compared;
-mod crew;
 mod failure;
 mod kept;
 mod labels;
@@ -30,9 +29,7 @@ mod rounds;
 mod rows;
 mod share;
 mod store_compared;
-mod task;
 mod told;
-mod worker;
 
 use answer::answer;
 use failure::Failure;

@@ -1,13 +1,17 @@
 //! New stores for desks.
 
-use ds_shared::SharedStore;
 use ds_store::Store;
 use std::alloc::Global;
+
+/// The incarnation of a new store.
+pub(crate) const INCARNATION: u64 = 1;
 
 // How many items the journal of a store keeps.
 const RING: u32 = 256;
 
-/// A store of instance 1 that holds nothing, and begins at a position. `None` where memory is wanting.
-pub(crate) fn store_at(alloc: Global, position: u64) -> Option<SharedStore> {
-    SharedStore::of(alloc, Store::open(alloc, 1, position, RING).ok()?).ok()
+/// A store that holds nothing, and begins at a position. It stands on the heap, since each turn takes the machine out of the
+/// desk's slot and puts it back. `None` where memory is wanting.
+pub(crate) fn store_at(alloc: Global, position: u64) -> Option<Box<Store>> {
+    let store = Store::open(alloc, INCARNATION, position, RING).ok()?;
+    Box::new(alloc, store).ok()
 }

@@ -5,18 +5,16 @@ ghost use Rattle.desk.specs.Desk.{identity};
 ghost use Rattle.desk.specs.Pass.{desk_of};
 
 use crate::commands::{driver_of, everything, follow, label_of, start};
-use crate::compared::Compared;
-use crate::crew::run_crew;
 use crate::line::Sizes;
+use crate::new_store::store_at;
 use crate::store_compared::FIRST;
-use crate::task::Task;
-use crate::worker::Worker;
 use desk::{Desk, Pass};
 use ds_machine::Reply;
-use ds_shared::SharedStore;
+use ds_store::Store;
 use std::alloc::Global;
 use std::sync::Wait;
 use std::thread::Threads;
+use test_crews::{Board, DeskName, Task, Worker, run_crew};
 
 /// So many overwrites of a label that no other thread overwrites: it has the number of the thread's subscription.
 #[derive(Clone, Copy)]
@@ -24,13 +22,14 @@ pub(crate) struct Overwrite {
     pub calls: u32,
 }
 
-impl Task<SharedStore> for Overwrite {
-    fn work<R: Wait>(
+impl Task<Box<Store>> for Overwrite {
+    fn work<R: Wait, D: DeskName>(
         &self,
         rt: &R,
         alloc: Global,
-        desk: &Desk<SharedStore>,
-        worker: &mut Worker<Pass<SharedStore>>,
+        desk: &Desk<Box<Store>>,
+        _board: &Board<Box<Store>, D>,
+        worker: &mut Worker<Pass<Box<Store>>>,
     ) -> Option<()> {
         let query = everything(alloc)?;
         let answer = worker.call(rt, desk, follow(query, 0))?;
@@ -55,7 +54,7 @@ pub(crate) fn overwrite_labels<R: Threads + Wait + Sync>(
     sizes: Sizes,
 ) -> Option<u64> {
     let Sizes { threads, calls } = sizes;
-    let store = SharedStore::begin(alloc)?;
+    let store = store_at(alloc, FIRST)?;
     let crew = run_crew(rt, alloc, store, threads, Overwrite { calls })?;
     Some(crew.raises)
 }

@@ -1,13 +1,11 @@
 //! Whether the threads were answered as one thread would be.
 
 use crate::compared::Compared;
-use crate::crew::{Crew, run_crew};
-use crate::kept::Kept;
-use crate::line::Sizes;
 use crate::share::Share;
 use std::alloc::Global;
 use std::sync::Wait;
 use std::thread::Threads;
+use test_crews::{Crew, Kept, Said, run_crew};
 
 /// How threads were answered, beside one thread.
 #[derive(Clone, Copy)]
@@ -25,21 +23,27 @@ pub(crate) struct Review {
 #[derive(Clone, Copy)]
 pub(crate) struct History {
     /// Whether each place is of one call, behind all that its thread had seen, and one machine that is given the commands in
-    /// the order of their places answers each as it was answered, and comes as far.
+    /// the order of their places answers each as it was answered, and comes as far; and whether who learnt a note looked as far
+    /// as its maker.
     pub legal: bool,
-    /// How many calls were refused for want of memory, and so changed nothing.
+    /// How many calls were refused or stopped for want of memory, and so changed nothing beside what they say.
     pub noroom: u64,
 }
 
-/// Has threads share a new machine, and compares them with one thread. `None` where memory is wanting.
-pub(crate) fn share_and_compare<M, R>(rt: &R, alloc: Global, sizes: Sizes) -> Option<Review>
+/// Has so many threads share a new machine, by so many calls each, and compares them with one thread. `None` where memory is wanting,
+/// or where there are not 1 to 64 threads.
+pub(crate) fn share_and_compare<M, R>(
+    rt: &R,
+    alloc: Global,
+    threads: u32,
+    calls: u32,
+) -> Option<Review>
 where
     M: Compared + Send + Drop,
     M::Command: Drop + Send,
     M::Reply: Drop + Send,
     R: Threads + Wait + Sync,
 {
-    let Sizes { threads, calls } = sizes;
     let crew = run_crew(rt, alloc, M::begin(alloc)?, threads, Share { calls })?;
     Some(Review {
         entries: crew.said.len(),
@@ -48,15 +52,15 @@ where
     })
 }
 
-// Gives one machine the commands in the order of their places, but for those that were refused for want of memory. `None`
-// where memory is wanting here.
+// Gives one machine the commands in the order of their places, but for those that were refused for want of memory, and of one
+// that was stopped so what was done. `None` where memory is wanting here.
 fn compare_with_one<M: Compared + Drop>(alloc: Global, crew: &Crew<M>) -> Option<History>
 where
     M::Reply: Drop,
 {
     let mut alone = M::begin(alloc)?;
     let mut history = compare_each(alloc, &mut alone, crew)?;
-    history.legal &= alone.is_as_far_as(&crew.machine);
+    history.legal &= !crew.behind && alone.is_as_far_as(&crew.machine);
     Some(history)
 }
 
@@ -68,19 +72,33 @@ where
     let mut legal = true;
     let mut noroom = 0u64;
     for (place, one) in (0u64..).zip(&crew.said) {
-        legal &= one.place == place && one.seen <= place;
-        if one.kept == Kept::NoRoom {
-            noroom = noroom.wrapping_add(1);
-            continue;
-        }
-        let reply = alone.answer(M::command_of(alloc, one.seen, one.turn)?);
-        let kept = M::kept_of(alloc, &reply)?;
-        if kept == Kept::NoRoom {
-            return None;
-        }
-        legal &= kept == one.kept;
+        let same = is_answered_so(alloc, alone, one)?;
+        legal &= same && one.place == place && one.seen <= place;
+        noroom = noroom.wrapping_add(u64::from(one.kept.wants_room()));
     }
     Some(History { legal, noroom })
+}
+
+// Whether the machine answers the call so. Of one that stopped for want of memory it is given what was done. `None` where memory
+// is wanting here.
+fn is_answered_so<M: Compared>(alloc: Global, alone: &mut M, one: &Said) -> Option<bool>
+where
+    M::Reply: Drop,
+{
+    if one.kept == Kept::NoRoom {
+        return Some(true);
+    }
+    let command = M::command_of(alloc, one.seen, one.turn)?;
+    if let Kept::Stopped { items, owed } = one.kept {
+        let reply = alone.answer(M::first_of(alloc, command, items)?);
+        return Some(M::owed(&reply) == owed);
+    }
+    let reply = alone.answer(command);
+    let kept = M::kept_of(alloc, &reply)?;
+    if kept.wants_room() {
+        return None;
+    }
+    Some(kept == one.kept)
 }
 
 fn account_is_exact<M>(crew: &Crew<M>) -> bool {

@@ -4,9 +4,10 @@ ghost use Rattle.std.specs.Prelude.{◌≡◌, IfSome};
 ghost use Rattle.desk.specs.Desk.{identity};
 ghost use Rattle.desk.specs.Pass.{desk_of};
 
-use crate::compared::Compared;
+use crate::new_store::store_at;
+use crate::store_compared::FIRST;
 use desk::{Desk, Pass};
-use ds_shared::SharedStore;
+use ds_store::Store;
 use std::alloc::Global;
 
 /// Looks so often how far the history of a desk goes. What it saw, added up; `None` where memory is wanting.
@@ -33,10 +34,10 @@ pub(crate) fn take(alloc: Global, count: u32) -> Option<u64> {
 }
 
 // A desk over a new store, and its one pass. `None` where memory is wanting.
-fn open_desk(alloc: Global) -> Option<(Desk<SharedStore>, Pass<SharedStore>)>
+fn open_desk(alloc: Global) -> Option<(Desk<Box<Store>>, Pass<Box<Store>>)>
     ensures { IfSome result (λ d. desk_of d.1 ≡ identity d.0) }
 {
-    let store = SharedStore::begin(alloc)?;
-    let (desk, mut passes) = Desk::<SharedStore>::open(alloc, store, 1, 0).ok()?;
+    let store = store_at(alloc, FIRST)?;
+    let (desk, mut passes) = Desk::<Box<Store>>::open(alloc, store, 1, 0).ok()?;
     Some((desk, passes.pop()?))
 }

@@ -5,28 +5,29 @@ ghost use Rattle.desk.specs.Desk.{identity};
 ghost use Rattle.desk.specs.Pass.{desk_of};
 
 use crate::compared::Compared;
-use crate::task::Task;
-use crate::worker::{Said, Worker};
 use desk::{Desk, Pass};
 use std::alloc::Global;
 use std::sync::Wait;
+use test_crews::{Board, DeskName, Said, Task, Worker};
 
-/// So many calls, every fourth of which is followed by a take of a server.
+/// So many calls, every fourth of which is followed by a take of a server, and every eighth by a note for another thread.
 #[derive(Clone, Copy)]
 pub(crate) struct Share {
+    /// How many calls each thread makes.
     pub calls: u32,
 }
 
-impl<M: Compared> Task<M> for Share
+impl<M: Compared + Drop> Task<M> for Share
 where
     M::Command: Drop + Send,
     M::Reply: Drop + Send,
 {
-    fn work<R: Wait>(
+    fn work<R: Wait, D: DeskName>(
         &self,
         rt: &R,
         alloc: Global,
         desk: &Desk<M>,
+        board: &Board<M, D>,
         worker: &mut Worker<Pass<M>>,
     ) -> Option<()> {
         for turn in 0..self.calls {
@@ -46,7 +47,10 @@ where
             if turn % 4 == 3 {
                 worker.take(desk, turn / 4 % 16)?;
             }
+            if turn % 8 == 5 {
+                worker.swap_notes(rt, desk, board)?;
+            }
         }
-        Some(())
+        worker.take_note(rt, desk, board)
     }
 }

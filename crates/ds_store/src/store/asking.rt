@@ -12,6 +12,8 @@ ghost use Rattle.ds_judge.specs.Standing.{machine_standing};
 ghost use Rattle.ds_content.specs.Stands.{ContentStands};
 ghost use Rattle.ds_content.specs.Standing.{standing_in};
 ghost use Rattle.ds_machine.specs.Standing.{IsFree};
+ghost use Rattle.ds_store.specs.Asking.{asked_here};
+ghost use Rattle.ds_store.specs.Steps.{ContentSteps, InEachState};
 
 use crate::store::Store;
 use ds_entry::Body;
@@ -55,8 +57,8 @@ impl Store {
         requires place { IsPlace (changes_in self.now.held) asked.now.key place }
         requires named { caller.now ≡ name_of self.now.held asked.now.caller }
         ensures first { (s : State) → ContentStands self.now s → result ≡ cause_against s (request_of asked.now) body.now }
-        ensures free { let c = change_asked (name_of self.now.held asked.now.caller) (request_of asked.now) body.now in IfNone result (IsFree (standing_in self.now c) c) }
-        ensures made { IfNone result (MakesChange (change_asked (name_of self.now.held asked.now.caller) (request_of asked.now) body.now)) }
+        ensures free { let c = asked_here self.now (request_of asked.now) body.now in IfNone result (IsFree (standing_in self.now c) c) }
+        ensures made { IfNone result (MakesChange (asked_here self.now (request_of asked.now) body.now)) }
     {
         let standing = self.standing_before(place, asked, caller);
         cause_of_asked(&standing, *caller, asked, body)
@@ -64,8 +66,8 @@ impl Store {
 
     // What a caller asks for takes effect, unless a cause stands against it.
     pub(super) fn ask(&mut self, asked: &Asked, body: Body) -> Reply
-        ensures step { (s : State) → ContentStands self.old s → (t : State) × Answers s (asking s (request_of asked.now) body) result t × ContentStands self.new t }
-        ensures last { result ≡ Reply.Refused Refusal.NoRoom → (s : State) → ContentStands self.old s → MayLackAsked s (request_of asked.now) body }
+        ensures step { ContentSteps self.old (λ s t. Answers s (asking s (request_of asked.now) body) result t) self.new }
+        ensures last { result ≡ Reply.Refused Refusal.NoRoom → InEachState self.old (λ s. MayLackAsked s (request_of asked.now) body) }
     {
         let place = self.content.place(&asked.key);
         let caller = self.content.name_of(asked.caller);

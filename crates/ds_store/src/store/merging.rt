@@ -1,6 +1,6 @@
 //! Merges of what another holder gives.
 
-ghost use Rattle.std.specs.Prelude.{◌≡◌, ◌∷◌, [], None, Err, IfNone, map};
+ghost use Rattle.std.specs.Prelude.{◌≡◌, Err, IfNone};
 ghost use Rattle.ds_entry.specs.declared.item.Item.TheVariants.{Change as Changed, Floor as Floored};
 ghost use Rattle.ds_held.specs.Kept.{IsPlace};
 ghost use Rattle.ds_machine.specs.Parts.{changes_in};
@@ -8,13 +8,12 @@ ghost use Rattle.ds_machine.specs.Standing.{cause_of, IsFree, IsFloorFree};
 ghost use Rattle.ds_machine.specs.State.{State};
 ghost use Rattle.ds_machine.specs.Machine.{Step};
 ghost use Rattle.ds_machine.specs.Says.{IsReplyTo};
-ghost use Rattle.ds_machine.specs.Subscription.{is_owed};
-ghost use Rattle.ds_watch.specs.Mask.{padded};
 ghost use Rattle.ds_judge.specs.Last.{IsLast, MayLackItem};
 ghost use Rattle.ds_judge.specs.Standing.{machine_standing};
 ghost use Rattle.ds_content.specs.Stands.{ContentStands};
-ghost use Rattle.ds_store.specs.Merging.{MergesItem, owed_after, stale_by, count_taken};
 ghost use Rattle.ds_content.specs.Standing.{standing_in, floor_standing_in};
+ghost use Rattle.ds_store.specs.Merging.{MergesItem, owed_after, owed_flags, stale_by, count_taken};
+ghost use Rattle.ds_store.specs.Steps.{ContentSteps, InEachState};
 
 use crate::store::Store;
 use ds_entry::{Change, Floor, Item};
@@ -60,9 +59,9 @@ impl Store {
 
     // A change of a merge: it takes effect, is passed over, or is refused. Those to which it is owed are added.
     fn merge_change(&mut self, change: &Change, total: &mut Mask) -> Result<Merge, Refusal>
-        ensures owed { (s : State) → ContentStands self.old s → total.new ≡ owed_after result total.old (padded (map (is_owed (Changed change.now ∷ [])) s.subscriptions)) }
-        ensures step { (s : State) → ContentStands self.old s → (t : State) × MergesItem s (Changed change.now) result t × ContentStands self.new t }
-        ensures last { result ≡ Err Refusal.NoRoom → (s : State) → ContentStands self.old s → MayLackItem s (Changed change.now) }
+        ensures owed { InEachState self.old (λ s. total.new ≡ owed_after result total.old (owed_flags s (Changed change.now))) }
+        ensures step { ContentSteps self.old (λ s t. MergesItem s (Changed change.now) result t) self.new }
+        ensures last { result ≡ Err Refusal.NoRoom → InEachState self.old (λ s. MayLackItem s (Changed change.now)) }
     {
         let place = self.content.place(change.key());
         if let Some(cause) = self.cause_of_change(place, change) {
@@ -85,9 +84,9 @@ impl Store {
 
     // A floor of a merge, likewise. It is owed to every subscription that is made.
     fn merge_floor(&mut self, floor: Floor, total: &mut Mask) -> Result<Merge, Refusal>
-        ensures owed { (s : State) → ContentStands self.old s → total.new ≡ owed_after result total.old (padded (map (is_owed (Floored floor ∷ [])) s.subscriptions)) }
-        ensures step { (s : State) → ContentStands self.old s → (t : State) × MergesItem s (Floored floor) result t × ContentStands self.new t }
-        ensures last { result ≡ Err Refusal.NoRoom → (s : State) → ContentStands self.old s → MayLackItem s (Floored floor) }
+        ensures owed { InEachState self.old (λ s. total.new ≡ owed_after result total.old (owed_flags s (Floored floor))) }
+        ensures step { ContentSteps self.old (λ s t. MergesItem s (Floored floor) result t) self.new }
+        ensures last { result ≡ Err Refusal.NoRoom → InEachState self.old (λ s. MayLackItem s (Floored floor)) }
     {
         if let Some(cause) = self.cause_of_floor(&floor) {
             return passed_as(cause);
@@ -104,9 +103,9 @@ impl Store {
 
     // An item of a merge.
     fn merge_item(&mut self, item: &Item, total: &mut Mask) -> Result<Merge, Refusal>
-        ensures owed { (s : State) → ContentStands self.old s → total.new ≡ owed_after result total.old (padded (map (is_owed (item.now ∷ [])) s.subscriptions)) }
-        ensures step { (s : State) → ContentStands self.old s → (t : State) × MergesItem s item.now result t × ContentStands self.new t }
-        ensures last { result ≡ Err Refusal.NoRoom → (s : State) → ContentStands self.old s → MayLackItem s item.now }
+        ensures owed { InEachState self.old (λ s. total.new ≡ owed_after result total.old (owed_flags s item.now)) }
+        ensures step { ContentSteps self.old (λ s t. MergesItem s item.now result t) self.new }
+        ensures last { result ≡ Err Refusal.NoRoom → InEachState self.old (λ s. MayLackItem s item.now) }
     {
         match item {
             Item::Change(change) => self.merge_change(change, total),
@@ -117,7 +116,7 @@ impl Store {
     /// Answers as to `Command::Merge` of the items, which are only lent: they take effect in their order, up to the first that
     /// is refused. TooMany: more than 256. An item is judged before it is copied, so that want of memory comes last.
     pub fn merge(&mut self, items: &[Item]) -> Reply
-        ensures step { (s : State) → ContentStands self.old s → (t : State) × Step s (Command.Merge items.now) result t × ContentStands self.new t }
+        ensures step { ContentSteps self.old (λ s t. Step s (Command.Merge items.now) result t) self.new }
         ensures last { (s : State) → ContentStands self.old s → IsLast s (Command.Merge items.now) result }
         ensures fits { IsReplyTo (Command.Merge items.now) result }
     {

@@ -1,15 +1,15 @@
 //! What readers are given: the journal from a cursor on, and what is held, whole or in pages.
 
 ghost use Rattle.std.specs.Prelude.{◌≡◌, IfOk, IfErr};
-ghost use Rattle.ds_machine.specs.State.{State, held, cursor};
+ghost use Rattle.ds_machine.specs.State.{State};
 ghost use Rattle.ds_machine.specs.Machine.{Answers, journaling, snapping, paging};
 ghost use Rattle.ds_machine.specs.Scope.{is_kept};
-ghost use Rattle.ds_feed.specs.Page.{page_of};
 ghost use Rattle.ds_feed.specs.Since.{IsGiven};
 ghost use Rattle.ds_judge.specs.Last.{IsLast};
 ghost use Rattle.ds_judge.specs.Refused.{IsJournalRefusal};
 ghost use Rattle.ds_judge.specs.Scopes.{scope_of};
 ghost use Rattle.ds_content.specs.Stands.{ContentStands};
+ghost use Rattle.ds_store.specs.Reading.{page_in};
 
 use crate::store::Store;
 use ds_feed::{AllKeys, Cursor, Page, Since, SinceFault};
@@ -71,7 +71,7 @@ impl Store {
 
     // A page under a scope that was read.
     fn give_page(&self, filter: &ScopeFilter, after: Option<Key>, max: u32) -> Result<Page, NoRoom>
-        ensures { (s : State) → ContentStands self.now s → IfOk result (λ page. page ≡ page_of (is_kept (scope_of filter.now)) after max (held s) (cursor s)) }
+        ensures { (s : State) → ContentStands self.now s → IfOk result (λ page. page ≡ page_in s (scope_of filter.now) after max) }
     {
         match filter.asker(self.alloc) {
             Ok(mut asker) => self.content.page(&mut asker, after, max),

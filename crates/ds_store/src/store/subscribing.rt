@@ -6,6 +6,7 @@ ghost use Rattle.ds_machine.specs.Machine.{Answers};
 ghost use Rattle.ds_machine.specs.Watching.{subscribing, checking};
 ghost use Rattle.ds_judge.specs.Last.{IsLast};
 ghost use Rattle.ds_content.specs.Stands.{ContentStands};
+ghost use Rattle.ds_store.specs.Steps.{ContentSteps};
 
 use crate::store::Store;
 use ds_judge::{CheckCase, SubscribeCase, refusal_of_check, refusal_of_showing, take_up};
@@ -30,7 +31,7 @@ impl Store {
         initial: bool,
         overwrite: bool,
     ) -> Reply
-        ensures step { (s : State) → ContentStands self.old s → (t : State) × Answers s (subscribing s sub query.now initial overwrite) result t × ContentStands self.new t }
+        ensures step { ContentSteps self.old (λ s t. Answers s (subscribing s sub query.now initial overwrite) result t) self.new }
         ensures last { (s : State) → ContentStands self.old s → IsLast s (Command.Subscribe sub query.now initial overwrite) result }
     {
         let stamp = self.content.stamp();
@@ -56,7 +57,7 @@ impl Store {
 
     // The first `max` items that are to be shown to the subscription at the place are shown.
     pub(super) fn check(&mut self, sub: u32, max: u32) -> Reply
-        ensures step { (s : State) → ContentStands self.old s → (t : State) × Answers s (checking s sub max) result t × ContentStands self.new t }
+        ensures step { ContentSteps self.old (λ s t. Answers s (checking s sub max) result t) self.new }
         ensures last { (s : State) → ContentStands self.old s → IsLast s (Command.Check sub max) result }
     {
         let before = self.content.stamp_of(sub);

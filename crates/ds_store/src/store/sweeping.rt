@@ -11,6 +11,7 @@ ghost use Rattle.ds_content.specs.Stands.{ContentStands};
 ghost use Rattle.ds_entry.specs.Left.{value_of};
 ghost use Rattle.ds_content.specs.Standing.{floor_standing_in};
 ghost use Rattle.ds_machine.specs.Standing.{IsFloorFree};
+ghost use Rattle.ds_store.specs.Steps.{ContentSteps};
 
 use crate::store::Store;
 use ds_entry::{Change, Floor};
@@ -65,7 +66,7 @@ impl Store {
 
     // RS raises the floor of an owner. It is owed to every subscription that is made.
     pub(super) fn sweep(&mut self, caller: Endpoint, floor: Floor) -> Reply
-        ensures step { (s : State) → ContentStands self.old s → (t : State) × Answers s (sweeping s caller floor) result t × ContentStands self.new t }
+        ensures step { ContentSteps self.old (λ s t. Answers s (sweeping s caller floor) result t) self.new }
         ensures last { (s : State) → ContentStands self.old s → IsLast s (Command.Sweep caller floor.owner floor.generation) result }
     {
         if let Some(cause) = self.cause_of_sweep(caller, &floor) {

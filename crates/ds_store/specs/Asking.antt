@@ -1,0 +1,9 @@
+-- What a caller asks for, by what a store keeps.
+use Rattle.ds_entry.specs.declared.body.Body.{Body}
+use Rattle.ds_entry.specs.Change.{ChangeRecord}
+use Rattle.ds_machine.specs.Asking.{AskedChange, change_asked, name_of}
+use Rattle.ds_content.specs.Content.{ContentRecord}
+
+-- the change that is asked for, in the name that the caller has there
+abbrev pub asked_here : ContentRecord → AskedChange → Body → ChangeRecord
+asked_here content a body = change_asked (name_of content.held a.caller) a body

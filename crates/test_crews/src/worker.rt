@@ -1,0 +1,146 @@
+//! What one thread does at the desk.
+
+ghost use Rattle.std.specs.Prelude.{◌≡◌};
+ghost use Rattle.desk.specs.Desk.{identity};
+ghost use Rattle.desk.specs.Pass.{desk_of};
+
+use crate::board::{Board, DeskName, Left};
+use crate::kept::Kept;
+use desk::{Answer, Desk, Pass};
+use history::Machine;
+use std::alloc::Global;
+use std::sync::Wait;
+
+/// One call that was answered.
+#[derive(Clone, Copy)]
+pub struct Said {
+    /// How many calls the thread had seen before it.
+    pub seen: u64,
+    /// Which of the thread's calls it is, from 0.
+    pub turn: u32,
+    /// Its place in the history.
+    pub place: u64,
+    /// What is kept of the answer.
+    pub kept: Kept,
+}
+
+/// A thread's pass, with what it was answered and what it counted. The pass is a plain parameter, so that a worker is found
+/// to cross threads.
+#[derive(Drop)]
+pub struct Worker<P> {
+    /// Its pass.
+    pub pass: P,
+    /// Its calls, in their order.
+    pub said: Vec<Said>,
+    /// How many bits its calls raised.
+    pub raises: u64,
+    /// How many bits its takes gave.
+    pub takes: u64,
+    /// Whether it did all of its task, and had room for it.
+    pub done: bool,
+    /// Whether it ever looked less far, behind a note that it had learnt, than the thread that made the note.
+    pub behind: bool,
+}
+
+impl<M: Machine> Worker<Pass<M>> {
+    /// A thread that has called nothing.
+    pub fn new(alloc: Global, pass: Pass<M>) -> Worker<Pass<M>>
+        ensures { desk_of result.pass ≡ desk_of pass }
+    {
+        Worker {
+            pass,
+            said: Vec::new(alloc),
+            raises: 0,
+            takes: 0,
+            done: false,
+            behind: false,
+        }
+    }
+
+    /// Makes one call, and counts what it raised. `None` where no place is left.
+    pub fn call<R: Wait>(
+        &mut self,
+        rt: &R,
+        desk: &Desk<M>,
+        command: M::Command,
+    ) -> Option<Answer<M::Reply>>
+    where
+        M::Command: Drop,
+        requires { desk_of self.old.pass ≡ identity desk.now }
+        ensures { desk_of self.new.pass ≡ desk_of self.old.pass }
+    {
+        let answer = desk.call(rt, &mut self.pass, command).ok()?;
+        let raised = u64::from(answer.raised.count_ones());
+        self.raises = self.raises.wrapping_add(raised);
+        Some(answer)
+    }
+
+    /// Takes the notices of a server, and counts them. `None` where there is no such server.
+    pub fn take(&mut self, desk: &Desk<M>, server: u32) -> Option<()>
+        requires { desk_of self.old.pass ≡ identity desk.now }
+        ensures { desk_of self.new.pass ≡ desk_of self.old.pass }
+    {
+        let taken = desk.take(&mut self.pass, server).ok()?;
+        self.takes = self.takes.wrapping_add(u64::from(taken.bits.count_ones()));
+        Some(())
+    }
+
+    /// Leaves a note on the board, and learns the one that was there. `None` where no more notes may be made or learnt.
+    pub fn swap_notes<R: Wait, D: DeskName>(
+        &mut self,
+        rt: &R,
+        desk: &Desk<M>,
+        board: &Board<M, D>,
+    ) -> Option<()>
+    where
+        M: Drop,
+        M::Command: Drop,
+        M::Reply: Drop,
+        requires named { identity desk.now ≡ D.table }
+        requires pass { desk_of self.old.pass ≡ identity desk.now }
+        ensures { desk_of self.new.pass ≡ desk_of self.old.pass }
+    {
+        let front = desk.front(&mut self.pass);
+        let note = desk.note(&mut self.pass).ok()?;
+        let there = board.lock(rt).replace(Left::new(note, front));
+        self.learn(desk, there)
+    }
+
+    /// Learns the note on the board, if there is one. `None` where no more notes may be learnt.
+    pub fn take_note<R: Wait, D: DeskName>(
+        &mut self,
+        rt: &R,
+        desk: &Desk<M>,
+        board: &Board<M, D>,
+    ) -> Option<()>
+    where
+        M: Drop,
+        M::Command: Drop,
+        M::Reply: Drop,
+        requires named { identity desk.now ≡ D.table }
+        requires pass { desk_of self.old.pass ≡ identity desk.now }
+        ensures { desk_of self.new.pass ≡ desk_of self.old.pass }
+    {
+        let there = board.lock(rt).take();
+        self.learn(desk, there)
+    }
+
+    // Learns what another thread left, if anything.
+    fn learn<D: DeskName>(&mut self, desk: &Desk<M>, there: Option<Left<M, D>>) -> Option<()>
+    where
+        M: Drop,
+        M::Command: Drop,
+        M::Reply: Drop,
+        requires named { identity desk.now ≡ D.table }
+        requires pass { desk_of self.old.pass ≡ identity desk.now }
+        ensures { desk_of self.new.pass ≡ desk_of self.old.pass }
+    {
+        if let Some(left) = there {
+            let (note, front) = left.into_note();
+            desk.learn(&mut self.pass, note).ok()?;
+            let behind = desk.front(&mut self.pass) < front;
+            self.behind |= behind;
+        }
+        Some(())
+    }
+}
