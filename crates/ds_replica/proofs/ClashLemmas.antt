@@ -1,9 +1,7 @@
 -- No delivery is stopped by an item that contradicts what is held.
-use Rattle.std.proofs.Common.{◌≡◌, ◌==◌, ℕ, zero, suc, true, false, not, ◌&&◌, List, [], ◌∷◌, ◌++◌, length, take, map, Option, Some, None, refl, ap, sym, ◌∙◌, subst, inl, inr, Contains}
-use Rattle.std.specs.List.{flat_map, slice_get}
+use Rattle.std.proofs.Common.{◌≡◌, ◌==◌, ℕ, true, false, not, ◌&&◌, List, [], ◌∷◌, ◌++◌, length, take, map, Option, Some, None, refl, ap, sym, ◌∙◌, subst, inl, inr, Contains}
+use Rattle.std.specs.List.{flat_map}
 use Rattle.std.specs.Option.{option_map_or}
-use Rattle.std.specs.declared.cmp.Ordering.{Ordering}
-use Rattle.std.specs.declared.cmp.Ordering.TheVariants.{Less, Equal, Greater}
 use Rattle.std.specs.Ordering.{is_eq}
 use Rattle.std.proofs.lemmas.List.Elements.{Contains-append_left, Contains-append_right, Contains-append_cases}
 use Rattle.std.proofs.lemmas.Bool.Decides.{eqb_tells}
@@ -17,10 +15,10 @@ use Rattle.ds_entry.specs.declared.body.Body.{Body}
 use Rattle.ds_entry.specs.declared.body.Body.TheVariants.{Put, Gone}
 use Rattle.ds_entry.specs.declared.item.Item.{Item}
 use Rattle.ds_entry.specs.declared.item.Item.TheVariants.{Change as Changed, Floor as Floored}
-use Rattle.ds_entry.proofs.Members.{Contains-head, Contains-tail, Contains-from_take}
+use Rattle.ds_entry.proofs.Members.{Contains-from_take}
 use Rattle.ds_join.specs.ItemTop.{IsPartOf}
 use Rattle.ds_pattern.specs.Under.{is_under}
-use Rattle.ds_whole.proofs.SentLemmas.{Contains-from_under}
+use Rattle.ds_convergence.proofs.SentLemmas.{Contains-from_under}
 use Rattle.ds_machine.specs.Parts.{held_at}
 use Rattle.ds_machine.specs.State.{State, held, owed}
 use Rattle.ds_machine.specs.Standing.{standing_of, floor_standing_of, on_held, against_change, against_floor, cause_of, is_same_body}

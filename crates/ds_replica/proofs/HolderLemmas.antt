@@ -2,22 +2,24 @@
 use Rattle.std.proofs.Common.{◌≡◌, ℕ, Bool, true, List, [], Option, Some, None, refl, ap, sym, ◌∙◌, subst, inl, inr, Contains}
 use Rattle.std.specs.List.{slice_get}
 use Rattle.ds_names.specs.declared.key.Key.{Key}
-use Rattle.ds_entry.specs.Item.{passes}
-use Rattle.ds_entry.specs.ItemCovers.{AreSingleNumbered}
+use Rattle.ds_entry.specs.Item.{passes, item_cmp}
+use Rattle.ds_entry.specs.ItemCovers.{covers}
 use Rattle.ds_entry.specs.declared.item.Item.{Item}
 use Rattle.ds_entry.specs.declared.item.Item.TheVariants.{Change as Changed}
 use Rattle.ds_entry.proofs.Members.{Contains-nil, Contains-head, Contains-from_filter, Contains-from_map}
-use Rattle.ds_entry.proofs.ItemLemmas.{covers-trans, covers-query}
+use Rattle.ds_entry.proofs.OrderedLemmas.{same_members}
+use Rattle.ds_entry.proofs.ItemLemmas.{covers-trans, covers-query, items_total}
 use Rattle.ds_join.specs.ItemTop.{IsTop, IsPartOf, CoversAll}
-use Rattle.ds_join.proofs.ItemTopLemmas.{top_of_nothing, void_isnt_held}
+use Rattle.ds_join.proofs.ItemTopLemmas.{held_apart, top_of_nothing, top_of_same, void_isnt_held}
 use Rattle.ds_feed.specs.Feed.{position}
 use Rattle.ds_pattern.specs.Under.{is_under}
-use Rattle.ds_whole.specs.Sent.{Sent}
-use Rattle.ds_whole.proofs.SentLemmas.{from_stood, Contains-under, Contains-from_under}
-use Rattle.ds_whole.proofs.HolderLemmas.{holders_agree}
-use Rattle.ds_whole.proofs.HolderLemmas as wholes
-use Rattle.ds_whole.proofs.WholeLemmas.{more_is_whole, earlier_is_whole}
-use Rattle.ds_whole.proofs.LabelLemmas as labels
+use Rattle.ds_convergence.specs.Sent.{Sent}
+use Rattle.ds_convergence.proofs.SentLemmas.{from_stood, Contains-under, Contains-from_under}
+use Rattle.ds_convergence.proofs.HolderLemmas.{top_under_query}
+use Rattle.ds_convergence.proofs.HolderLemmas as wholes
+use Rattle.ds_convergence.proofs.WholeLemmas.{more_is_whole, earlier_is_whole}
+use Rattle.ds_convergence.proofs.LabelLemmas as labels
+use Rattle.ds_machine.specs.Reached.{AreExact}
 use Rattle.ds_machine.specs.State.{State, held}
 use Rattle.ds_machine.proofs.ReachedLemmas.{held_is_top}
 use Rattle.ds_replica.specs.declared.event.Side.{Side}
@@ -75,25 +77,41 @@ module _ (account : Account) (w : World) (f : Fits account w) where
       let s = Contains-from_map (λ (x : Sent). x.item) sent i (subst (λ l. Contains l i) (sym m.items_are) h) in
       subst (Contains account.brought) s.2 (m.within s.0 s.1 s.0.item ((m.sent s.0 s.1).among s.0.item (Contains-head s.0.item [])))
 
--- part of what is single-numbered is
-pub single_part : (part whole : List Item) → IsPartOf part whole → AreSingleNumbered whole → AreSingleNumbered part
-single_part part whole p n = record {
-  one_change = λ c d h k e v. n.one_change c d (p (Changed c) h) (p (Changed d) k) e v;
-  one_owner = λ c d h k e. n.one_owner c d (p (Changed c) h) (p (Changed d) k) e;
-}
+-- ---- one top of what is known under a query
+-- all that was brought in is exact, and what is known is part of it
+module _ (query : Key → Bool) (known brought : List Item) (exact : AreExact brought) (within : IsPartOf known brought) where
+  -- what one top has the other has too: each has an item that covers it, which it covers as well
+  in_other : (one other : List Item) → IsTop one (under query known) → IsTop other (under query known) → IsPartOf one other
+  in_other one other t u i h =
+      let j = u.greatest i (t.among i h) in
+      let k = t.greatest j.0 (u.among j.0 j.1) in
+      let itself : k.0 ≡ i = held_apart one (under query known) t i k.0 h k.1 (covers-trans k.0 j.0 i k.2 j.2) in
+      let back : covers i j.0 ≡ true = subst (λ (x : Item). covers x j.0 ≡ true) itself k.2 in
+      subst (Contains other) (exact j.0 i (brought_in j.0 (u.among j.0 j.1)) (brought_in i (t.among i h)) back j.2) j.1
+    where
+      brought_in : (x : Item) → Contains (under query known) x → Contains brought x
+      brought_in x m = within x (Contains-from_under query known x m).0
 
-single_under : (query : Key → Bool) (known brought : List Item) → IsPartOf known brought → AreSingleNumbered brought → AreSingleNumbered (under query known)
-single_under query known brought p n = single_part (under query known) brought (λ i h. p i (Contains-from_under query known i h).0) n
+  one_top : (one other : List Item) → IsTop one (under query known) → IsTop other (under query known) → one ≡ other
+  one_top one other t u =
+      same_members item_cmp items_total one other t.in_order u.in_order (in_other one other t u) (in_other other one u t)
 
 -- ---- agreement
 pub equal_where_known : EqualWhereKnown
-equal_where_known account w query h i f n same =
-    holders_agree query (known_at account h) (known_at account i) (held_by w h) (held_by w i) (top_at account w f h) (top_at account w f i)
-    (single_under query (known_at account h) account.brought (known_within account w f h) n) same
+equal_where_known account w query h i f exact same =
+    let known = known_at account h in
+    let one = top_under_query query known (held_by w h) (top_at account w f h) in
+    let other = top_under_query query (known_at account i) (held_by w i) (top_at account w f i) in
+    let of_known =
+    top_of_same (under query (held_by w i)) (under query (known_at account i)) (under query known) same.here same.there other in
+    let equal =
+    one_top query known account.brought exact (known_within account w f h) (under query (held_by w h)) (under query (held_by w i)) one
+    of_known in
+    (equal, ap entries_of equal)
 
 pub equal_over_events : EqualOverEvents
-equal_over_events a b limits w events query h i l happen n same =
-    equal_where_known _ w query h i (events_fit _ _ w events (account_fits_at_start a b limits l) happen) n same
+equal_over_events a b limits w events query h i l happen exact same =
+    equal_where_known _ w query h i (events_fit _ _ w events (account_fits_at_start a b limits l) happen) exact same
 
 -- ---- nothing clashes
 about_within : (account : Account) (w : World) → Fits account w → (i : Item) → IsAbout w i → Contains account.brought i
@@ -122,14 +140,6 @@ module _ (account : Account) (w : World) (j : ℕ) (m : MapAccount) (side : Side
 
   map_is : held_by w (Map j) ≡ at.0.held
   map_is = ap map_held at.1
-
-  pub exact : AreSingleNumbered account.brought → IsPartOf (under (is_under m.query) (known_by m)) (store_of account side).known → held_by w (Map j) ≡ under (is_under m.query) (held_by w (Store side))
-  exact n part =
-      let own = own_fits account w side f in
-      let equal = (wholes.holds_the_stores s.feed (is_under m.query) m.taken (held s) at.0.held (held_is_top s own.reached) at.2.map all.whole
-      (λ i h. own.top.greatest i (part i h))
-      (single_under (is_under m.query) (known_by m) account.brought (map_within account w f m at.0 at.2) n)).0 in
-      map_is ∙ (equal ∙ ap (λ (x : State). under (is_under m.query) (held x)) same)
 
   pub least : CoversAll (held_by w (Map j)) (under (is_under m.query) (held_by w (Store side)))
   least =
@@ -166,8 +176,16 @@ module _ (account : Account) (w : World) (j : ℕ) (m : MapAccount) (side : Side
     none_void = map_top.none_void;
   }
 
+  -- and so is what the store holds under it
+  pub equal : AreExact account.brought → IsPartOf (under query (known_by m)) known
+      → held_by w (Map j) ≡ under query (held_by w (Store side))
+  equal exact part =
+      let fits = store_fits account w side f in
+      one_top query known account.brought exact fits.within (held_by w (Map j)) (under query (held_by w (Store side))) (top_of_known part)
+      (top_under_query query known (held_by w (Store side)) fits.top)
+
 pub holds_the_stores : HoldsTheStoresInWorlds
-holds_the_stores account w j m side f n all part = let e = exact account w j m side f all n part in (e, ap entries_of e)
+holds_the_stores account w j m side f exact all part = let e = equal account w j m side f all exact part in (e, ap entries_of e)
 
 pub holds_at_least : HoldsAtLeastInWorlds
 holds_at_least account w j m side f all = least account w j m side f all
@@ -179,7 +197,7 @@ whole_is_all account j m side items r there part whole l =
 
 -- ---- labels
 pub labels_are_newest : LabelsAreNewestInWorlds
-labels_are_newest account w j m side name f items all part q =
+labels_are_newest account w f items j m side name all part q =
     labels.labels_of_a_top (is_under m.query) (store_of account side).known (held_by w (Map j)) name (λ i h. items i (known_within account w f (Store side) i h)) (top_of_known account w j m side f all part) q
 
 -- ---- floors

@@ -1,10 +1,10 @@
 -- The worked rows.
-use Rattle.std.proofs.Common.{◌≡◌, ℕ, ◌≤◌, List, [], ◌∷◌, ◌++◌, length, filter, Some, None, refl, ap, sym, ◌∙◌, subst, inl, inr, arith, codes, Contains}
+use Rattle.std.proofs.Common.{◌≡◌, ◌⊎◌, ℕ, ◌≤◌, true, false, List, [], ◌∷◌, ◌++◌, length, filter, Some, None, refl, ap, sym, ◌∙◌, subst, inl, inr, arith, codes, Contains}
 use Rattle.ds_names.specs.Endpoint.{endpoint_of}
-use Rattle.ds_names.specs.Name.{is_name_byte, rs_name}
+use Rattle.ds_names.specs.Name.{is_name_byte, is_same_name, rs_name}
 use Rattle.ds_entry.specs.Change.{ChangeRecord}
 use Rattle.ds_entry.specs.Item.{IsItem, passes}
-use Rattle.ds_entry.specs.ItemCovers.{AreSingleNumbered}
+use Rattle.ds_entry.specs.ItemCovers.{covers, AreSingleNumbered}
 use Rattle.ds_entry.specs.declared.body.Value.TheVariants.{Label, U32 as Number}
 use Rattle.ds_entry.specs.declared.body.Body.TheVariants.{Put, Gone}
 use Rattle.ds_entry.specs.declared.floor.Floor.{Floor}
@@ -16,10 +16,11 @@ use Rattle.ds_held.specs.Limits.{larger}
 use Rattle.ds_pattern.specs.declared.query.Query.{Query}
 use Rattle.ds_pattern.specs.Under.{is_under}
 use Rattle.ds_join.proofs.ItemTopLemmas.{top_of_covered}
-use Rattle.ds_whole.proofs.Samples.{top_of_one}
-use Rattle.ds_whole.proofs.SentLemmas.{Contains-from_under, stood_wider}
+use Rattle.ds_convergence.proofs.Samples.{top_of_one}
+use Rattle.ds_convergence.proofs.SentLemmas.{Contains-from_under, stood_wider}
 use Rattle.ds_machine.specs.State.{State, takes_effect, opening}
 use Rattle.ds_machine.specs.Machine.{Step, outcome}
+use Rattle.ds_machine.specs.Reached.{AreExact}
 use Rattle.ds_machine.specs.declared.command.Command.{Command}
 use Rattle.ds_machine.specs.declared.command.Command.TheVariants.{Merge}
 use Rattle.ds_machine.specs.declared.refusal.Refusal.{Refusal}
@@ -37,7 +38,7 @@ use Rattle.ds_replica.specs.Happens.{Asks, ask_outcome, items_given, HappenAll}
 use Rattle.ds_replica.specs.Delivery.{Tally, StoreTakes, MapTakes}
 use Rattle.ds_replica.specs.Known.{known_by}
 use Rattle.ds_replica.specs.CaughtUp.{AreItems}
-use Rattle.ds_replica.specs.Rows.{fresh_world, driver_label, floor, irq, one, other, later, contradicted, with_both, with_other, AsksFor, ReplicasConverge, ReplicasDiffer, MapCatchesUp, MapLags, MapLeads, MapsCatchUp, MapsLag, MapsLead, ReplicasClash, MapClashes, MapsClash}
+use Rattle.ds_replica.specs.Rows.{fresh_world, driver_label, floor, irq, one, other, later, ended, renewed, OwnersChange, contradicted, with_both, with_other, AsksFor, ReplicasConverge, ReplicasDiffer, MapCatchesUp, MapLags, MapLeads, MapsCatchUp, MapsLag, MapsLead, ReplicasClash, MapClashes, MapsClash}
 use Rattle.ds_names.specs.Limits.{most_items}
 use Rattle.ds_names.specs.Key.{label_key}
 use Rattle.ds_entry.specs.Under.{under}
@@ -402,3 +403,98 @@ module _ (query : Query) (asks : AsksFor query irq) where
 
 pub maps_clash : MapsClash
 maps_clash query asks = clashes query asks
+
+-- ---- a key that comes back with another owner
+abbrev all_three : List Item
+all_three = one ∷ ended ∷ renewed ∷ []
+
+-- it is one of the three
+three_cases : (i : Item) → Contains all_three i → (i ≡ one) ⊎ ((i ≡ ended) ⊎ (i ≡ renewed))
+three_cases i h = elim (Contains-cons one (ended ∷ renewed ∷ []) i h) [
+  | inl e ↦ inl e
+  | inr k ↦ elim (Contains-cons ended (renewed ∷ []) i k) [ inl e ↦ inr (inl e) | inr l ↦ inr (inr (Contains-single renewed i l)) ]
+]
+
+-- two of them that cover each other are one
+three_exact : AreExact all_three
+three_exact i j h k e f = by_cases (three_cases i h) (three_cases j k)
+  where
+    forth : (x y : Item) → i ≡ x → j ≡ y → covers y x ≡ true
+    forth x y p q = subst (λ z. covers z x ≡ true) q (subst (λ z. covers j z ≡ true) p e)
+
+    back : (x y : Item) → i ≡ x → j ≡ y → covers x y ≡ true
+    back x y p q = subst (λ z. covers x z ≡ true) q (subst (λ z. covers z j ≡ true) p f)
+
+    by_cases : (i ≡ one) ⊎ ((i ≡ ended) ⊎ (i ≡ renewed)) → (j ≡ one) ⊎ ((j ≡ ended) ⊎ (j ≡ renewed)) → i ≡ j
+    by_cases (inl p) (inl q) = p ∙ sym q
+    by_cases (inl p) (inr (inl q)) = absurd (let n : false ≡ true = back one ended p q in cc)
+    by_cases (inl p) (inr (inr q)) = absurd (let n : false ≡ true = back one renewed p q in cc)
+    by_cases (inr (inl p)) (inl q) = absurd (let n : false ≡ true = forth ended one p q in cc)
+    by_cases (inr (inl p)) (inr (inl q)) = p ∙ sym q
+    by_cases (inr (inl p)) (inr (inr q)) = absurd (let n : false ≡ true = forth ended renewed p q in cc)
+    by_cases (inr (inr p)) (inl q) = absurd (let n : false ≡ true = forth renewed one p q in cc)
+    by_cases (inr (inr p)) (inr (inl q)) = absurd (let n : false ≡ true = back renewed ended p q in cc)
+    by_cases (inr (inr p)) (inr (inr q)) = p ∙ sym q
+
+-- but a key among them has two owners
+names_differ : codes "eth0" ≡ codes "eth1" → true ≡ false
+names_differ same = ap (is_same_name (codes "eth0")) same
+
+not_same : true ≡ false → ⊥
+not_same e = cc
+
+two_owners : ¬ AreSingleNumbered all_three
+two_owners n =
+    let first = Contains-head one (ended ∷ renewed ∷ []) in
+    let last = Contains-tail one (ended ∷ renewed ∷ []) renewed (Contains-tail ended (renewed ∷ []) renewed (Contains-head renewed [])) in
+    not_same (names_differ (n.one_owner _ _ first last refl))
+
+-- two items go to a store, as one Merge
+abbrev both_renewed : List Item
+both_renewed = ended ∷ renewed ∷ []
+
+stored_both : (s : State) → Step s (Merge both_renewed) (AllMerged 2 2 0 0) (takes_effect s both_renewed)
+    → StoreTakes s both_renewed (done 2 2) (takes_effect s both_renewed)
+stored_both s step = record {
+  groups = both_renewed ∷ [];
+  all = refl;
+  few = λ group h. subst (λ (l : List Item). length l ≤ most_items) (sym (Contains-single both_renewed group h)) (omega arith);
+  merged = (AllMerged 2 2 0 0, takes_effect s both_renewed, step, (done 0 0, (refl, refl), refl));
+}
+
+abbrev first_told : State
+first_told = takes_effect (opening 1 0 4 larger) all_three
+
+abbrev then_told : State
+then_told = takes_effect (opening 2 0 4 larger) both_renewed
+
+pub owners_change : OwnersChange
+owners_change = record {
+  world = record fresh_world { a = first_told; b = then_told; messages = both_renewed ∷ [] };
+  happen = (
+    record fresh_world { a = first_told },
+    (refl, does _ _ _),
+    (
+      record fresh_world { a = first_told; messages = both_renewed ∷ [] },
+      (refl, does _ _ _),
+      (
+        record fresh_world { a = first_told; b = then_told; messages = both_renewed ∷ [] },
+        (
+          refl,
+          record {
+            items = both_renewed;
+            there = refl;
+            tally = done 2 2;
+            taken = record { after = then_told; takes = stored_both (opening 2 0 4 larger) (inl (inl (record { reply_is = refl; state_is = refl }))); world_is = refl };
+            outcome_is = refl;
+          },
+        ),
+        refl,
+      ),
+    ),
+  );
+  exact = three_exact;
+  owners = two_owners;
+  same = record { there = λ i h. h; here = λ i h. h };
+  held = refl;
+}

@@ -2,14 +2,14 @@
 use Rattle.std.specs.Prelude.{◌≡◌, ℕ, ◌≤◌, true, List, Some, Contains}
 use Rattle.std.specs.List.{slice_get}
 use Rattle.ds_entry.specs.Item.{IsItem}
-use Rattle.ds_entry.specs.ItemCovers.{AreSingleNumbered}
 use Rattle.ds_entry.specs.declared.item.Item.{Item}
 use Rattle.ds_join.specs.ItemTop.{IsPartOf, CoversAll}
 use Rattle.ds_feed.specs.Feed.{position}
 use Rattle.ds_pattern.specs.Under.{is_under}
-use Rattle.ds_whole.specs.Sent.{Sent}
-use Rattle.ds_whole.specs.Whole.{IsWhole}
-use Rattle.ds_whole.specs.Labels.{label_in, IsNewest}
+use Rattle.ds_convergence.specs.Sent.{Sent}
+use Rattle.ds_convergence.specs.Whole.{IsWhole}
+use Rattle.ds_convergence.specs.Labels.{label_in, IsNewest}
+use Rattle.ds_machine.specs.Reached.{AreExact}
 use Rattle.ds_replica.specs.declared.event.Side.{Side}
 use Rattle.ds_replica.specs.declared.event.Holder.TheVariants.{Store, Map}
 use Rattle.ds_replica.specs.World.{World, held_by}
@@ -33,10 +33,12 @@ WholeIsAll =
 abbrev pub HasNothingElse : Account → MapAccount → Side → Type 0
 HasNothingElse account m side = IsPartOf (under (is_under m.query) (known_by m)) (store_of account side).known
 
--- a map that has all, and nothing else, holds just what the store holds under its query, and so the store's entries
+-- a map that has all, and nothing else, holds just what the store holds under its query, and so the store's entries, if all that
+-- Asks brought in is exact
 abbrev pub HoldsTheStoresInWorlds : Type 0
 HoldsTheStoresInWorlds =
-    (account : Account) (w : World) (j : ℕ) (m : MapAccount) (side : Side) → Fits account w → AreSingleNumbered account.brought → HasAll account j m side → HasNothingElse account m side →
+    (account : Account) (w : World) (j : ℕ) (m : MapAccount) (side : Side) → Fits account w → AreExact account.brought →
+    HasAll account j m side → HasNothingElse account m side →
     (held_by w (Map j) ≡ under (is_under m.query) (held_by w (Store side))) × (entries_of (held_by w (Map j)) ≡ entries_of (under (is_under m.query) (held_by w (Store side))))
 
 -- told more, as by the other store, it holds for each key under its query at least the store's version
@@ -49,9 +51,12 @@ abbrev pub AreItems : List Item → Type 0
 AreItems items = (i : Item) → Contains items i → IsItem i
 
 -- where the name's label is under the query of a map that has all, and nothing else, the map names the endpoint of the
--- greatest generation that the store knows for the name, or none where that one is gone or the store knows none; whether or not
--- what was brought in is single-numbered
-abbrev pub LabelsAreNewestInWorlds : Type 0
-LabelsAreNewestInWorlds =
-    (account : Account) (w : World) (j : ℕ) (m : MapAccount) (side : Side) (name : List ℕ) → Fits account w → AreItems account.brought → HasAll account j m side → HasNothingElse account m side →
+-- greatest generation that the store knows for the name, or none where that one is gone or the store knows none
+abbrev pub MapsNameNewest : Account → World → Type 0
+MapsNameNewest account w =
+    (j : ℕ) (m : MapAccount) (side : Side) (name : List ℕ) → HasAll account j m side → HasNothingElse account m side →
     is_under m.query (label_key name) ≡ true → IsNewest (store_of account side).known name (label_in (held_by w (Map j)) name)
+
+-- so it is wherever what was brought in keeps the rules, exact or not
+abbrev pub LabelsAreNewestInWorlds : Type 0
+LabelsAreNewestInWorlds = (account : Account) (w : World) → Fits account w → AreItems account.brought → MapsNameNewest account w

@@ -1,8 +1,8 @@
 -- How a store goes on, for the laws of wholeness: what its machine lets take effect, and what it becomes.
 use Rattle.std.specs.Prelude.{List}
 use Rattle.ds_entry.specs.declared.item.Item.{Item}
-use Rattle.ds_whole.specs.Accepting.{AreNew}
-use Rattle.ds_whole.specs.Front.{IsFront}
+use Rattle.ds_convergence.specs.Accepting.{AreNew}
+use Rattle.ds_convergence.specs.Front.{IsFront}
 use Rattle.ds_machine.specs.State.{State}
 use Rattle.ds_machine.specs.Effect.{AreNews, GoesOn}
 

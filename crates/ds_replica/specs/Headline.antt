@@ -6,7 +6,8 @@ use Rattle.ds_entry.specs.ItemCovers.{AreSingleNumbered}
 use Rattle.ds_entry.specs.declared.item.Item.{Item}
 use Rattle.ds_entry.specs.declared.item.Item.TheVariants.{Change as Changed}
 use Rattle.ds_held.specs.Limits.{LimitsRecord, IsLimits}
-use Rattle.ds_whole.specs.Agreement.{KnowSame}
+use Rattle.ds_convergence.specs.Agreement.{KnowSame}
+use Rattle.ds_machine.specs.Reached.{AreExact}
 use Rattle.ds_machine.specs.declared.refusal.Refusal.{Refusal}
 use Rattle.ds_machine.specs.declared.refusal.Refusal.TheVariants.{NotOwner, Clash}
 use Rattle.ds_replica.specs.declared.seed.Seed.{Seed}
@@ -33,23 +34,26 @@ EventsFit = (account : Account) (old new : World) (events : List (Event × Outco
 abbrev pub HoldSame : World → (Key → Bool) → Holder → Holder → Type 0
 HoldSame w query h i = (under query (held_by w h) ≡ under query (held_by w i)) × (entries_of (under query (held_by w h)) ≡ entries_of (under query (held_by w i)))
 
--- holders that know the same under a query hold the same under it, if all that Asks brought in is single-numbered
+-- holders that know the same under a query hold the same under it, if all that Asks brought in is exact: no two of its changes
+-- have one key, one owner and one version, but two bodies
 abbrev pub EqualWhereKnown : Type 0
 EqualWhereKnown =
-    (account : Account) (w : World) (query : Key → Bool) (h i : Holder) → Fits account w → AreSingleNumbered account.brought → KnowSame query (known_at account h) (known_at account i) → HoldSame w query h i
+    (account : Account) (w : World) (query : Key → Bool) (h i : Holder) → Fits account w → AreExact account.brought →
+    KnowSame query (known_at account h) (known_at account i) → HoldSame w query h i
 
 -- so over every list of events of a new world, whatever the order, repeats, coalescing and exchanges among them
 abbrev pub EqualOverEvents : Type 0
 EqualOverEvents =
     (a b : Seed) (limits : LimitsRecord) (w : World) (events : List (Event × Outcome)) (query : Key → Bool) (h i : Holder) → IsLimits limits → HappenAll (new_world a b limits) events w →
     let account = extended_all (new_account a b limits) events in
-    AreSingleNumbered account.brought → KnowSame query (known_at account h) (known_at account i) → HoldSame w query h i
+    AreExact account.brought → KnowSame query (known_at account h) (known_at account i) → HoldSame w query h i
 
 -- the item is held somewhere, or is one of a message
 abbrev pub IsAbout : World → Item → Type 0
 IsAbout w i = ((h : Holder) × Contains (held_by w h) i) ⊎ ((items : List Item) × Contains w.messages items × Contains items i)
 
--- no two changes of a key that are held, or can be delivered, have two owners, or two bodies at one version
+-- no two changes of a key that are held, or can be delivered, have two owners, or two bodies at one version, if all that Asks
+-- brought in is single-numbered: exact, and each key has one owner
 abbrev pub NothingClashesInWorlds : Type 0
 NothingClashesInWorlds =
     (account : Account) (w : World) (c d : ChangeRecord) → Fits account w → AreSingleNumbered account.brought → IsAbout w (Changed c) → IsAbout w (Changed d) → c.key ≡ d.key →

@@ -14,8 +14,9 @@ use Rattle.ds_entry.specs.declared.item.Item.TheVariants.{Change as Changed, Flo
 use Rattle.ds_held.specs.Limits.{larger}
 use Rattle.ds_pattern.specs.declared.query.Query.{Query}
 use Rattle.ds_pattern.specs.Under.{is_under}
-use Rattle.ds_whole.specs.Agreement.{KnowSame}
-use Rattle.ds_whole.specs.Labels.{label_in, IsNewest}
+use Rattle.ds_convergence.specs.Agreement.{KnowSame}
+use Rattle.ds_convergence.specs.Labels.{label_in, IsNewest}
+use Rattle.ds_machine.specs.Reached.{AreExact}
 use Rattle.ds_machine.specs.declared.command.Scope.TheVariants.{All}
 use Rattle.ds_machine.specs.declared.command.Command.{Command}
 use Rattle.ds_machine.specs.declared.command.Command.TheVariants.{Publish, Sweep, Snapshot, Merge, Since}
@@ -207,3 +208,26 @@ pub record MapClashes (query : Query) : Type 0 where
 -- for every query that their key is under
 abbrev pub MapsClash : Type 0
 MapsClash = (query : Query) → AsksFor query irq → MapClashes query
+
+-- ---- a key that comes back with another owner
+
+-- a floor under all that the driver published, and an entry of another owner under the key
+abbrev pub ended : Item
+ended = Floored (floor_of (codes "eth0") 3)
+
+abbrev pub renewed : Item
+renewed = Changed (change_of irq (codes "eth1") first_version (Put (Number 11)))
+
+-- a store is told the driver's entry, the floor, and the other owner's entry, and a snapshot of it goes to the other store
+abbrev pub renewal : List (Event × Outcome)
+renewal =
+    (Ask A (Merge (one ∷ ended ∷ renewed ∷ [])), Replied (AllMerged 3 3 0 0)) ∷ snapshot A ∷ (Deliver 0 (Store B) None, Merged 2 2 0 0) ∷ []
+
+-- then what was brought in is exact, but not single-numbered, and both know the same, and hold it
+pub record OwnersChange : Type 0 where
+  pub world : World
+  pub happen : HappenAll fresh_world renewal world
+  pub exact : AreExact (account_of renewal).brought
+  pub owners : ¬ AreSingleNumbered (account_of renewal).brought
+  pub same : KnowSame all_keys (known_at (account_of renewal) (Store A)) (known_at (account_of renewal) (Store B))
+  pub held : held_by world (Store B) ≡ ended ∷ renewed ∷ []

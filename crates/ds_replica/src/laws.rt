@@ -6,7 +6,7 @@ ghost use Rattle.ds_replica.specs.Checks.{ChecksAreWholeInWorlds};
 ghost use Rattle.ds_replica.specs.Growth.{NewsAreNew, LaterIsFront};
 ghost use Rattle.ds_replica.specs.Headline.{AccountFitsAtStart, EventsFit, EqualWhereKnown, EqualOverEvents, NothingClashesInWorlds, NothingStopsInWorlds};
 ghost use Rattle.ds_replica.specs.Messages.{SnapshotIsWholeInWorlds, SinceIsTurn, SinceExtendsInWorlds, PageIsTurn, CheckIsTurn};
-ghost use Rattle.ds_replica.specs.Rows.{ReplicasConverge, ReplicasDiffer, MapsCatchUp, MapsLag, MapsLead, ReplicasClash, MapsClash};
+ghost use Rattle.ds_replica.specs.Rows.{ReplicasConverge, ReplicasDiffer, MapsCatchUp, MapsLag, MapsLead, ReplicasClash, MapsClash, OwnersChange};
 ghost use Rattle.ds_replica.specs.Turns.{TurnsAreRunInWorlds, WholeStaysInWorlds, KnownStays, NothingBelowFloorsInWorlds, FloorsStandInWorlds};
 
 /// Of a world that was just made the empty account fits, and over every list of events the account that is extended by
@@ -16,9 +16,10 @@ pub fn accounts_fit()
     ensures events { EventsFit }
 {}
 
-/// Over every list of events, replicas and maps that know the same under a query hold the same under it, and nothing that
-/// is held or on its way contradicts anything else, so that no delivery stops by a clash or by another owner, if all that
-/// Asks brought in is single-numbered.
+/// Over every list of events, replicas and maps that know the same under a query hold the same under it, if all that Asks
+/// brought in is exact: no two of its changes have one key, one owner and one version, but two bodies. If it is single-numbered
+/// (each key has one owner, too), nothing that is held or on its way contradicts anything else, so that no delivery stops by a
+/// clash or by another owner.
 pub fn holders_agree()
     ensures equal { EqualWhereKnown }
     ensures over_events { EqualOverEvents }
@@ -27,7 +28,8 @@ pub fn holders_agree()
 {}
 
 /// A map that was given all that a store accepted under its query, and nothing that the store doesn't know, holds just the
-/// store's entries under its query, and its labels name no older generation; told more, it holds at least that.
+/// store's entries under its query, if all that Asks brought in is exact, and its labels name no older generation; told more,
+/// it holds at least that.
 pub fn maps_catch_up()
     ensures all { WholeIsAll }
     ensures exact { HoldsTheStoresInWorlds }
@@ -72,7 +74,8 @@ pub fn floors_stand()
 
 /// Worked rows: events after which two replicas know and hold the same, and a map has all of a store and names its label;
 /// and some in which one thing that the laws ask for is missing, and the rest isn't enough: two replicas don't know the same,
-/// a map wasn't told all, or was told more, and two replicas, or a map, were told what contradicts itself.
+/// a map wasn't told all, or was told more, and two replicas, or a map, were told what contradicts itself; and some in which a key
+/// comes back with another owner, so that what was brought in is exact and not single-numbered.
 pub fn rows_happen()
     ensures converge { ReplicasConverge }
     ensures differ { ReplicasDiffer }
@@ -81,4 +84,5 @@ pub fn rows_happen()
     ensures lead { MapsLead }
     ensures clash { ReplicasClash }
     ensures map_clash { MapsClash }
+    ensures renew { OwnersChange }
 {}

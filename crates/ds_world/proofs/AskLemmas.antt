@@ -3,15 +3,12 @@ use Rattle.std.proofs.Common.{◌≡◌, ℕ, ◌<◌, ◌≤◌, nat_le, Bool, 
 use Rattle.std.proofs.lemmas.List.{map-append}
 use Rattle.ds_entry.specs.declared.item.Item.{Item}
 use Rattle.ds_machine.specs.State.{State}
-use Rattle.ds_machine.specs.Machine.{Step}
 use Rattle.ds_machine.specs.Says.{IsAskedReply, IsSweepReply, IsRetrieveReply, IsNameReply, IsSubscribeReply, IsMergeReply, IsReplyTo}
 use Rattle.ds_machine.specs.declared.command.Command.{Command}
 use Rattle.ds_machine.specs.declared.command.Command.TheVariants.{Publish, Delete, Sweep, Retrieve, NameOf, Subscribe, Check, Since, Snapshot, Page, Merge}
 use Rattle.ds_machine.specs.declared.reply.Reply.{Reply}
 use Rattle.ds_machine.specs.declared.reply.Reply.TheVariants.{Changed, Known, Swept, Found, Named, Subscribed, Merged, MergeStopped, Refused}
-use Rattle.ds_judge.specs.Last.{IsLast}
 use Rattle.ds_content.specs.Content.{ContentRecord}
-use Rattle.ds_content.specs.Stands as contents
 use Rattle.ds_submap.specs.Map.{SubMapRecord}
 use Rattle.ds_replica.specs.declared.event.Side.{Side}
 use Rattle.ds_replica.specs.declared.event.Side.TheVariants.{A, B}
@@ -19,10 +16,11 @@ use Rattle.ds_replica.specs.declared.event.Event.TheVariants.{Ask}
 use Rattle.ds_replica.specs.declared.outcome.Outcome.TheVariants.{Replied, Made, Refused as Rejected}
 use Rattle.ds_replica.specs.declared.outcome.EventFault.{EventFault}
 use Rattle.ds_replica.specs.declared.outcome.EventFault.TheVariants.{MessagesFull, NoRoom}
-use Rattle.ds_replica.specs.World.{World, store_at, with_state, with_items}
+use Rattle.ds_replica.specs.World.{World, with_state, with_items}
 use Rattle.ds_replica.specs.Happens.{gives_items, items_given, most_messages, ask_outcome}
 use Rattle.ds_world.specs.World.{WorldRecord, world_of, WorldStands}
 use Rattle.ds_world.specs.Run.{EventLeads}
+use Rattle.ds_world.specs.Steps.{StoreSteps, LastOf}
 use Rattle.ds_world.specs.Told.{IsAnswered, IsMessageKept}
 use Rattle.ds_world.proofs.StandLemmas.{as_many_messages}
 use Rattle.std.proofs.lemmas.Bool.{le-leb, lt-leb}
@@ -87,15 +85,6 @@ some_items None e = absurd (not_true e)
 some_items (Some items) e = (items, refl)
 
 -- ---- the store of a side
--- a store of the world made a step
-abbrev pub StoreSteps : ContentRecord → ContentRecord → ContentRecord → ContentRecord → Side → Command → Reply → Type 0
-StoreSteps a b newa newb side command reply =
-    (w : World) → contents.ContentStands a w.a → contents.ContentStands b w.b → (s : State) × Step (store_at w side) command reply s × contents.ContentStands newa (with_state w side s).a × contents.ContentStands newb (with_state w side s).b
-
--- and told of want of memory last
-abbrev pub LastOf : ContentRecord → ContentRecord → Side → Command → Reply → Type 0
-LastOf a b side command reply = (w : World) → contents.ContentStands a w.a → contents.ContentStands b w.b → IsLast (store_at w side) command reply
-
 same_maps : (w : World) (side : Side) (s : State) → (with_state w side s).maps ≡ w.maps
 same_maps w A s = refl
 same_maps w B s = refl

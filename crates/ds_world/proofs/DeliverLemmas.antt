@@ -6,10 +6,8 @@ use Rattle.std.proofs.lemmas.List.{map-set}
 use Rattle.std.proofs.lemmas.Option.{slice_get_past}
 use Rattle.ds_entry.specs.declared.item.Item.{Item}
 use Rattle.ds_submap.specs.Map.{SubMapRecord}
-use Rattle.ds_machine.specs.State.{State}
 use Rattle.ds_machine.specs.declared.refusal.Refusal.{Refusal}
 use Rattle.ds_content.specs.Content.{ContentRecord}
-use Rattle.ds_content.specs.Stands as contents
 use Rattle.ds_replica.specs.declared.event.Side.{Side}
 use Rattle.ds_replica.specs.declared.event.Side.TheVariants.{A, B}
 use Rattle.ds_replica.specs.declared.event.Holder.{Holder}
@@ -20,12 +18,13 @@ use Rattle.ds_replica.specs.declared.outcome.Outcome.{Outcome}
 use Rattle.ds_replica.specs.declared.outcome.Outcome.TheVariants.{Refused}
 use Rattle.ds_replica.specs.declared.outcome.EventFault.{EventFault}
 use Rattle.ds_replica.specs.declared.outcome.EventFault.TheVariants.{NoMessage, NoMap, TooMany}
-use Rattle.ds_replica.specs.Delivery.{Tally, StoreTakes, MapTakes}
+use Rattle.ds_replica.specs.Delivery.{Tally, MapTakes}
 use Rattle.ds_replica.specs.World.{MapState, World, store_at, with_state}
 use Rattle.ds_replica.specs.Happens.{count_of, delivery_fault, tally_outcome, Happens, Delivers}
 use Rattle.ds_world.specs.World.{WorldRecord, map_state, kept_items, WorldStands}
 use Rattle.ds_world.specs.Run.{EventLeads}
 use Rattle.ds_world.specs.Told.{IsMapTold, IsStoreTold, IsTold, IsWantLast}
+use Rattle.ds_world.specs.Steps.{ItemsAreTaken}
 use Rattle.ds_world.proofs.StandLemmas.{map_is, message_is, lt_false}
 use Rattle.std.proofs.lemmas.Bool.{lt-ltb}
 
@@ -90,7 +89,7 @@ module _ (value : WorldRecord) (k : ℕ) (count : Option ℕ) where
       Led side new =
           (w : World) → WorldStands value w → (after : World) × Happens w (Deliver k (Store side) count) (tally_outcome tally tally.stop) after × IsWantLast (take (count_of count items) items) tally.done tally.stop (store_at after side) × WorldStands new after
 
-      pub to_a : (new : ContentRecord) → ((s : State) → contents.ContentStands value.a s → (t : State) × StoreTakes s (take (count_of count items) items) tally t × contents.ContentStands new t × IsWantLast (take (count_of count items) items) tally.done tally.stop t)
+      pub to_a : (new : ContentRecord) → ItemsAreTaken value.a (take (count_of count items) items) tally new
           → Led A (record value { a = new })
       to_a new takes w s =
           let t = takes w.a s.a in (
@@ -101,7 +100,7 @@ module _ (value : WorldRecord) (k : ℕ) (count : Option ℕ) where
             record { a = t.2; b = s.b; maps = s.maps; messages = s.messages },
           )
 
-      pub to_b : (new : ContentRecord) → ((s : State) → contents.ContentStands value.b s → (t : State) × StoreTakes s (take (count_of count items) items) tally t × contents.ContentStands new t × IsWantLast (take (count_of count items) items) tally.done tally.stop t)
+      pub to_b : (new : ContentRecord) → ItemsAreTaken value.b (take (count_of count items) items) tally new
           → Led B (record value { b = new })
       to_b new takes w s =
           let t = takes w.b s.b in (

@@ -10,3 +10,5 @@ pub mod MapLemmas
 pub mod DeliverLemmas
 pub mod GivenLemmas
 pub mod PageLemmas
+pub mod LawLemmas
+pub mod AccountLemmas

@@ -31,7 +31,3 @@ told_more [] [] old mid new event outcome e run leads told = (new, subst (λ (x 
 told_more [] (o ∷ outcomes) old mid new event outcome e run leads told = absurd (omega (arith, e))
 told_more (x ∷ events) [] old mid new event outcome e run leads told = absurd (omega (arith, e))
 told_more (x ∷ events) (o ∷ outcomes) old mid new event outcome e run leads told = (run.0, run.1, run.2, told_more events outcomes run.0 mid new event outcome (omega (arith, e)) run.3 leads told)
-
--- one event is a run of it alone
-pub led_alone : (event : Event) (outcome : Outcome) (old new : WorldRecord) → EventLeads event outcome old new → RunLeads (event ∷ []) (outcome ∷ []) old new
-led_alone event outcome old new leads w s = let went = leads w s in (went.0, (went.0, went.1, refl), went.2)

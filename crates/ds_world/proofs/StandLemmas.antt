@@ -47,7 +47,7 @@ items_there : (o : Option (List Item)) → is_some o ≡ true → (items : List 
 items_there None e = absurd (let n : false ≡ true = e in cc)
 items_there (Some items) e = (items, refl)
 
-all_items : (messages : List Reply) → All HasItems messages → (items : List (List Item)) × (map items_given messages ≡ map Some items)
+pub all_items : (messages : List Reply) → All HasItems messages → (items : List (List Item)) × (map items_given messages ≡ map Some items)
 all_items [] all = ([], refl)
 all_items (reply ∷ messages) all =
     let one = items_there (items_given reply) (All-head HasItems reply messages all) in

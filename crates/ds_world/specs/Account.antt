@@ -11,16 +11,17 @@ use Rattle.ds_entry.specs.declared.item.Item.TheVariants.{Change as Changed, Flo
 use Rattle.ds_join.specs.ItemTop.{CoversAll}
 use Rattle.ds_feed.specs.Feed.{position}
 use Rattle.ds_pattern.specs.Under.{is_under}
-use Rattle.ds_submap.specs.Map.{SubMapRecord, IsMap, endpoint_of_label}
+use Rattle.ds_submap.specs.Map.{SubMapRecord, endpoint_of_label}
 use Rattle.ds_machine.specs.Machine.{Run}
+use Rattle.ds_machine.specs.Reached.{AreExact}
 use Rattle.ds_machine.specs.declared.command.Command.{Command}
 use Rattle.ds_machine.specs.declared.reply.Reply.{Reply}
 use Rattle.ds_machine.specs.declared.refusal.Refusal.{Refusal}
 use Rattle.ds_content.specs.Stands as contents
-use Rattle.ds_whole.specs.Agreement.{KnowSame}
-use Rattle.ds_whole.specs.Labels.{IsNewest}
-use Rattle.ds_whole.specs.Sent.{Sent}
-use Rattle.ds_whole.specs.Whole.{IsWhole}
+use Rattle.ds_convergence.specs.Agreement.{KnowSame}
+use Rattle.ds_convergence.specs.Labels.{IsNewest}
+use Rattle.ds_convergence.specs.Sent.{Sent}
+use Rattle.ds_convergence.specs.Whole.{IsWhole}
 use Rattle.ds_replica.specs.declared.event.Side.{Side}
 use Rattle.ds_replica.specs.declared.event.Holder.{Holder}
 use Rattle.ds_replica.specs.declared.event.Holder.TheVariants.{Store, Map}
@@ -33,7 +34,6 @@ use Rattle.ds_replica.specs.Known.{MapAccount, Account, store_of, known_at, exte
 use Rattle.ds_replica.specs.Fits.{Fits}
 use Rattle.ds_replica.specs.Headline.{IsContradiction}
 use Rattle.ds_replica.specs.CaughtUp.{HasAll, HasNothingElse, AreItems}
-use Rattle.ds_replica.specs.Bringing.{IsProperEvent}
 use Rattle.ds_replica.specs.Turns.{Stays}
 use Rattle.ds_world.specs.World.{WorldRecord, held_in, store_in, kept_items, WorldStands}
 use Rattle.ds_names.specs.Key.{label_key}
@@ -44,16 +44,17 @@ abbrev pub IsFor : Account → WorldRecord → Type 0
 IsFor account value = (w : World) × WorldStands value w × Fits account w
 
 -- *agreement*: holders that know the same under a query hold the same under it, tombstones, versions and floors too, and so
--- equal entries, if all that Asks brought in is single-numbered
+-- equal entries, if all that Asks brought in is exact
 abbrev pub Agrees : Account → WorldRecord → Type 0
 Agrees account value =
-    (query : Key → Bool) (h i : Holder) → AreSingleNumbered account.brought → KnowSame query (known_at account h) (known_at account i) →
+    (query : Key → Bool) (h i : Holder) → AreExact account.brought → KnowSame query (known_at account h) (known_at account i) →
     (under query (held_in value h) ≡ under query (held_in value i)) × (entries_of (under query (held_in value h)) ≡ entries_of (under query (held_in value i)))
 
--- *catch-up*: a map that has all of a store, and nothing else, holds just what the store holds under its query
+-- *catch-up*: a map that has all of a store, and nothing else, holds just what the store holds under its query, if all that Asks
+-- brought in is exact
 abbrev pub CatchesUp : Account → WorldRecord → Type 0
 CatchesUp account value =
-    (j : ℕ) (m : MapAccount) (side : Side) → AreSingleNumbered account.brought → HasAll account j m side → HasNothingElse account m side →
+    (j : ℕ) (m : MapAccount) (side : Side) → AreExact account.brought → HasAll account j m side → HasNothingElse account m side →
     (held_in value (Map j) ≡ under (is_under m.query) (held_in value (Store side))) × (entries_of (held_in value (Map j)) ≡ entries_of (under (is_under m.query) (held_in value (Store side))))
 
 -- told more, it holds for each key under its query at least the store's version
@@ -61,14 +62,15 @@ abbrev pub KeepsUp : Account → WorldRecord → Type 0
 KeepsUp account value = (j : ℕ) (m : MapAccount) (side : Side) → HasAll account j m side → CoversAll (held_in value (Map j)) (under (is_under m.query) (held_in value (Store side)))
 
 -- *no older generation*: such a map's label, as the map reads it, is for each name whose label is under its query the endpoint
--- of the greatest generation that the store knows, or none where that one is gone; single-numbered or not
+-- of the greatest generation that the store knows, or none where that one is gone; exact or not
 abbrev pub NamesNewest : Account → WorldRecord → Type 0
 NamesNewest account value =
-    (j : ℕ) (m : MapAccount) (n : SubMapRecord) (side : Side) (name : List ℕ) → slice_get value.maps j ≡ Some n → IsMap n → AreItems account.brought → HasAll account j m side → HasNothingElse account m side →
+    (j : ℕ) (m : MapAccount) (n : SubMapRecord) (side : Side) (name : List ℕ) → slice_get value.maps j ≡ Some n →
+    AreItems account.brought → HasAll account j m side → HasNothingElse account m side →
     is_under m.query (label_key name) ≡ true → IsNewest (store_of account side).known name (endpoint_of_label n.held name)
 
 -- *no stop by clash or owner*: no two changes of a key that are held, or can be delivered, have two owners, or two bodies at
--- one version
+-- one version, if all that Asks brought in is single-numbered
 abbrev pub IsFoundIn : WorldRecord → Item → Type 0
 IsFoundIn value i = ((h : Holder) × Contains (held_in value h) i) ⊎ ((k : ℕ) × (items : List Item) × (kept_items value.messages k ≡ Some items) × Contains items i)
 
@@ -97,9 +99,9 @@ StaysWhole account events =
     (side : Side) (query : Key → Bool) (items : List Sent) (r : ℕ) → Stays (Store side) events → r ≤ position (store_of account side).state.feed → IsWhole (store_of account side).state.feed query items r →
     IsWhole (store_of (extended_all account events) side).state.feed query items r
 
--- all that Asks brought in keeps the rules of changes and of floors, if what these events name is in its ranges
+-- all that Asks brought in keeps the rules of changes and of floors, if all did that was brought in before these events
 abbrev pub StayItems : Account → List (Event × Outcome) → Type 0
-StayItems account events = ((e : Event × Outcome) → Contains events e → IsProperEvent e.0) → AreItems account.brought → AreItems (extended_all account events).brought
+StayItems account events = AreItems account.brought → AreItems (extended_all account events).brought
 
 -- a store's turns in these events are a run of its machine, unless they restart the store
 abbrev pub TurnsAreRun : WorldRecord → List (Event × Outcome) → WorldRecord → Type 0

@@ -5,4 +5,6 @@ pub mod Run
 pub mod Account
 pub mod Messages
 pub mod Told
+pub mod Steps
 pub mod Pages
+pub mod Laws

@@ -22,6 +22,7 @@ use Rattle.ds_replica.specs.declared.outcome.Outcome.{Outcome}
 use Rattle.ds_replica.specs.declared.outcome.Outcome.TheVariants.{Replied, Made, Merged, Stopped}
 use Rattle.ds_replica.specs.World.{World, store_at}
 use Rattle.ds_replica.specs.Happens.{count_of, event_fault, Asks, Happens, HappenAll}
+use Rattle.ds_replica.specs.Bringing.{IsProper}
 use Rattle.ds_world.specs.Tally.{refusal_of}
 use Rattle.ds_world.specs.World.{WorldRecord, kept_items, WorldStands, Leads}
 use Rattle.ds_world.specs.Run.{EventLeads}
@@ -69,9 +70,9 @@ IsAskTold side command (Replied reply) old new = IsAnswered side command (Replie
 IsAskTold side command (Made k) old new = IsMessageKept side command k old new
 IsAskTold side command _ old new = new.messages ≡ old.messages
 
--- what an Ask and a delivery tell; only an Ask makes a message
+-- what an Ask and a delivery tell; what an Ask names of changes and floors is in its ranges; only an Ask makes a message
 abbrev pub IsTold : Event → Outcome → WorldRecord → WorldRecord → Type 0
-IsTold (Ask side command) outcome old new = IsAskTold side command outcome old new
+IsTold (Ask side command) outcome old new = IsProper command × IsAskTold side command outcome old new
 IsTold (Deliver k (Store side) count) outcome old new =
     ((items : List Item) → kept_items old.messages k ≡ Some items → IsStoreTold (Deliver k (Store side) count) side (take (count_of count items) items) outcome old new)
     × (new.messages ≡ old.messages)

@@ -8,6 +8,7 @@
 mod events;
 mod fault;
 mod outcomes;
+mod parts;
 mod replies;
 mod tally;
 mod world;

@@ -3,15 +3,15 @@
 ghost use Rattle.std.specs.Prelude.{◌≡◌, ◌≤◌, [], ◌∷◌, length, slice_get, vec_capacity, IfOk, IfErr, IfSome, OnOk, OnErr};
 ghost use Rattle.std.specs.Option.{option_copied};
 ghost use Rattle.ds_held.specs.Limits.{larger};
+ghost use Rattle.ds_submap.specs.Map.{IsMap};
 ghost use Rattle.ds_replica.specs.World.{World as Described, new_world};
-ghost use Rattle.ds_replica.specs.Known.{Account, new_account, extended, extended_all};
+ghost use Rattle.ds_replica.specs.Known.{Account, new_account};
 ghost use Rattle.ds_world.specs.World.{store_in, HasItems, WorldStands};
 ghost use Rattle.ds_world.specs.Seeds.{AreSeeds, IsSeedFault};
 ghost use Rattle.ds_world.specs.Run.{most_events, paired, EventLeads, RunLeads, IsRunFault};
 ghost use Rattle.ds_world.specs.Told.{IsTold, AreTold, RepliesAreKept, MessagesStay};
-ghost use Rattle.ds_world.specs.Messages.{SnapshotsAreWhole, SincesAreTurns, SinceMessagesExtend, PagesAreTurns, ChecksAreTurns, AllChecksAreWhole};
-ghost use Rattle.ds_world.specs.Pages.{AllPagesAreWhole};
-ghost use Rattle.ds_world.specs.Account.{IsFor, Agrees, CatchesUp, KeepsUp, NamesNewest, NothingClashes, NothingStops, NothingBelowFloors, FloorsStand, StayItems, TurnsAreRun, StaysWhole};
+ghost use Rattle.ds_world.specs.Account.{IsFor, TurnsAreRun};
+ghost use Rattle.ds_world.specs.Laws.{LawsHold};
 
 use crate::events::Events;
 use crate::fault::{SeedFault, WorldFault};
@@ -49,7 +49,7 @@ impl Model for World {
     ghost use Rattle.ds_content.specs.Content.{ContentRecord};
     ghost use Rattle.ds_machine.specs.declared.reply.Reply.{Reply};
     ghost use Rattle.ds_machine.specs.contracts.reply.Reply.{the_row as reply_row};
-    ghost use Rattle.ds_submap.specs.Map.{SubMapRecord};
+    ghost use Rattle.ds_submap.specs.Map.{SubMapRecord, IsMap};
     ghost use Rattle.ds_submap.specs.contracts.map.SubMap.{the_row as map_row};
     ghost use Rattle.ds_store.specs.contracts.store.Store.{the_row as store_row};
     ghost use Rattle.ds_world.specs.World.{WorldRecord, world_of, HasItems};
@@ -60,7 +60,7 @@ impl Model for World {
 
     ghost view = { λ w. world_of w.a w.b w.maps.items w.messages.items };
 
-    ghost invariant = { λ w. All HasItems w.messages.items };
+    ghost invariant = { λ w. All IsMap w.maps.items × All HasItems w.messages.items };
 }
 
 impl World {
@@ -98,24 +98,7 @@ impl World {
         ensures told { IfOk result (λ outcomes. AreTold self.old (paired events outcomes) self.new) }
         ensures replies { IfOk result (λ outcomes. RepliesAreKept self.old (paired events outcomes) self.new) }
         ensures messages { IfOk result (λ outcomes. MessagesStay self.old self.new) }
-        ensures account { IfOk result (λ outcomes. (account : Account) → IsFor account self.old → IsFor (extended_all account (paired events outcomes)) self.new) }
-        ensures agree { IfOk result (λ outcomes. (account : Account) → IsFor account self.old → Agrees (extended_all account (paired events outcomes)) self.new) }
-        ensures catch_up { IfOk result (λ outcomes. (account : Account) → IsFor account self.old → CatchesUp (extended_all account (paired events outcomes)) self.new) }
-        ensures keep_up { IfOk result (λ outcomes. (account : Account) → IsFor account self.old → KeepsUp (extended_all account (paired events outcomes)) self.new) }
-        ensures newest { IfOk result (λ outcomes. (account : Account) → IsFor account self.old → NamesNewest (extended_all account (paired events outcomes)) self.new) }
-        ensures clashes { IfOk result (λ outcomes. (account : Account) → IsFor account self.old → NothingClashes (extended_all account (paired events outcomes)) self.new) }
-        ensures stops { IfOk result (λ outcomes. (account : Account) → IsFor account self.old → NothingStops account (paired events outcomes)) }
-        ensures floors { IfOk result (λ outcomes. (account : Account) → IsFor account self.old → NothingBelowFloors (extended_all account (paired events outcomes)) self.new) }
-        ensures floors_stand { IfOk result (λ outcomes. (account : Account) → IsFor account self.old → FloorsStand account (paired events outcomes) self.new) }
-        ensures items { IfOk result (λ outcomes. (account : Account) → IsFor account self.old → StayItems account (paired events outcomes)) }
-        ensures whole { IfOk result (λ outcomes. (account : Account) → IsFor account self.old → StaysWhole account (paired events outcomes)) }
-        ensures snapshots { IfOk result (λ outcomes. (account : Account) → IsFor account self.old → SnapshotsAreWhole account (paired events outcomes) self.new.messages) }
-        ensures since_turns { IfOk result (λ outcomes. (account : Account) → IsFor account self.old → SincesAreTurns account (paired events outcomes) self.new.messages) }
-        ensures sinces { IfOk result (λ outcomes. (account : Account) → IsFor account self.old → SinceMessagesExtend account (paired events outcomes) self.new.messages) }
-        ensures pages { IfOk result (λ outcomes. (account : Account) → IsFor account self.old → PagesAreTurns account (paired events outcomes) self.new.messages) }
-        ensures all_pages { IfOk result (λ outcomes. (account : Account) → IsFor account self.old → AllPagesAreWhole account (paired events outcomes) self.new.messages) }
-        ensures checks { IfOk result (λ outcomes. (account : Account) → IsFor account self.old → ChecksAreTurns account (paired events outcomes)) }
-        ensures all_checks { IfOk result (λ outcomes. (account : Account) → IsFor account self.old → AllChecksAreWhole account (paired events outcomes)) }
+        ensures laws { IfOk result (λ outcomes. LawsHold self.old (paired events outcomes) self.new) }
         ensures turns { IfOk result (λ outcomes. TurnsAreRun self.old (paired events outcomes) self.new) }
         ensures refused { IfErr result (λ fault. IsRunFault fault events) }
         ensures unchanged { OnErr result (self.new ≡ self.old) }
@@ -127,7 +110,9 @@ impl World {
         let Ok(outcomes) = Vec::with_capacity(self.alloc, events.len()) else {
             return Err(WorldFault::NoRoom);
         };
-        Ok(self.happen_all(events, outcomes))
+        let outcomes = self.happen_all(events, outcomes);
+        let _maps = &self.maps;
+        Ok(outcomes)
     }
 
     // Lets the events happen. There is room for their outcomes.
@@ -152,26 +137,13 @@ impl World {
         ensures leads { EventLeads event result self.old self.new }
         ensures told { IsTold event result self.old self.new }
         ensures messages { MessagesStay self.old self.new }
-        ensures account { (account : Account) → IsFor account self.old → IsFor (extended account event result) self.new }
-        ensures agree { (account : Account) → IsFor account self.old → Agrees (extended account event result) self.new }
-        ensures catch_up { (account : Account) → IsFor account self.old → CatchesUp (extended account event result) self.new }
-        ensures keep_up { (account : Account) → IsFor account self.old → KeepsUp (extended account event result) self.new }
-        ensures newest { (account : Account) → IsFor account self.old → NamesNewest (extended account event result) self.new }
-        ensures clashes { (account : Account) → IsFor account self.old → NothingClashes (extended account event result) self.new }
-        ensures stops { (account : Account) → IsFor account self.old → NothingStops account ((event, result) ∷ []) }
-        ensures floors { (account : Account) → IsFor account self.old → NothingBelowFloors (extended account event result) self.new }
-        ensures floors_stand { (account : Account) → IsFor account self.old → FloorsStand account ((event, result) ∷ []) self.new }
-        ensures items { (account : Account) → IsFor account self.old → StayItems account ((event, result) ∷ []) }
-        ensures whole { (account : Account) → IsFor account self.old → StaysWhole account ((event, result) ∷ []) }
-        ensures snapshots { (account : Account) → IsFor account self.old → SnapshotsAreWhole account ((event, result) ∷ []) self.new.messages }
-        ensures since_turns { (account : Account) → IsFor account self.old → SincesAreTurns account ((event, result) ∷ []) self.new.messages }
-        ensures sinces { (account : Account) → IsFor account self.old → SinceMessagesExtend account ((event, result) ∷ []) self.new.messages }
-        ensures pages { (account : Account) → IsFor account self.old → PagesAreTurns account ((event, result) ∷ []) self.new.messages }
-        ensures checks { (account : Account) → IsFor account self.old → ChecksAreTurns account ((event, result) ∷ []) }
+        ensures laws { LawsHold self.old ((event, result) ∷ []) self.new }
         ensures turns { TurnsAreRun self.old ((event, result) ∷ []) self.new }
     {
         answers_say();
-        self.carry_out(event)
+        let outcome = self.carry_out(event);
+        let _maps = &self.maps;
+        outcome
     }
 
     // Lets an event happen, by its kind.
@@ -193,10 +165,11 @@ impl World {
     }
 
     /// The store of a side. Whatever happened, there are worlds of the definitions for which this one stands, and what `happen`
-    /// and `run` say is said of each.
+    /// and `run` say is said of each; and there is an account that fits it, with which whoever was handed a world can begin.
     pub fn store(&self, side: Side) -> &Store
         ensures is { result.now ≡ store_in self.now side }
         ensures stands { (w : Described) × WorldStands self.now w }
+        ensures account { (known : Account) × IsFor known self.now }
     {
         let _stood = (self.a.cursor(), self.b.cursor());
         match side {
@@ -205,9 +178,10 @@ impl World {
         }
     }
 
-    /// The map of a number, `None` where there is no such map.
+    /// The map of a number, `None` where there is no such map. It is one, as whoever has a `SubMap` learns of it.
     pub fn map(&self, number: usize) -> Option<&SubMap>
-        ensures { option_copied result ≡ slice_get self.now.maps number }
+        ensures is { option_copied result ≡ slice_get self.now.maps number }
+        ensures map { IfSome result (λ map. IsMap map.now) }
     {
         self.maps.get(number)
     }

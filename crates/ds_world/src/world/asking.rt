@@ -1,17 +1,14 @@
 //! How a world's stores are asked.
 
 ghost use Rattle.std.specs.Prelude.{◌≡◌, true};
-ghost use Rattle.ds_machine.specs.State.{State};
-ghost use Rattle.ds_machine.specs.Machine.{Step};
 ghost use Rattle.ds_machine.specs.Says.{IsReplyTo};
-ghost use Rattle.ds_judge.specs.Last.{IsLast};
-ghost use Rattle.ds_content.specs.Stands.{ContentStands};
 ghost use Rattle.ds_replica.specs.declared.event.Event.TheVariants.{Ask};
-ghost use Rattle.ds_replica.specs.World.{World as Described, store_at, with_state};
 ghost use Rattle.ds_replica.specs.Happens.{gives_items};
 ghost use Rattle.ds_world.specs.Run.{EventLeads};
-ghost use Rattle.ds_world.specs.Told.{IsTold};
+ghost use Rattle.ds_world.specs.Steps.{StoreSteps, LastOf};
+ghost use Rattle.ds_world.specs.Told.{IsAskTold, IsTold};
 
+use crate::parts::read_parts;
 use crate::replies::{gives_items, has_items};
 use crate::world::World;
 use ds_machine::{Command, Reply};
@@ -23,8 +20,8 @@ const MOST_MESSAGES: usize = 65536;
 
 // Asks the store of the side.
 fn apply(a: &mut Store, b: &mut Store, side: Side, command: Command) -> Reply
-    ensures step { (w : Described) → ContentStands a.old w.a → ContentStands b.old w.b → (s : State) × Step (store_at w side) command result s × ContentStands a.new (with_state w side s).a × ContentStands b.new (with_state w side s).b }
-    ensures last { (w : Described) → ContentStands a.old w.a → ContentStands b.old w.b → IsLast (store_at w side) command result }
+    ensures step { StoreSteps a.old b.old a.new b.new side command result }
+    ensures last { LastOf a.old b.old side command result }
     ensures fits { IsReplyTo command result }
 {
     match side {
@@ -39,6 +36,7 @@ impl World {
         ensures leads { EventLeads (Ask side command) result self.old self.new }
         ensures told { IsTold (Ask side command) result self.old self.new }
     {
+        read_parts(&command);
         if gives_items(&command) {
             return self.ask_for_items(side, command);
         }
@@ -49,7 +47,7 @@ impl World {
     fn ask_for_items(&mut self, side: Side, command: Command) -> Outcome
         requires { gives_items command ≡ true }
         ensures leads { EventLeads (Ask side command) result self.old self.new }
-        ensures told { IsTold (Ask side command) result self.old self.new }
+        ensures told { IsAskTold side command result self.old self.new }
     {
         let message = self.messages.len();
         if message >= MOST_MESSAGES {

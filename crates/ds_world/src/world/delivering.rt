@@ -1,18 +1,20 @@
 //! How items of a message go to a holder.
 
-ghost use Rattle.std.specs.Prelude.{◌≡◌, ◌<◌, ◌≤◌, ◌+◌, length, take, IfSome, IfNone};
+ghost use Rattle.std.specs.Prelude.{◌<◌, ◌≤◌, ◌+◌, length, IfSome, IfNone};
 ghost use Rattle.ds_machine.specs.State.{State};
 ghost use Rattle.ds_machine.specs.Machine.{Step};
 ghost use Rattle.ds_machine.specs.declared.command.Command.TheVariants.{Merge};
 ghost use Rattle.ds_judge.specs.Last.{IsLast};
+ghost use Rattle.ds_submap.specs.Map.{IsMap};
 ghost use Rattle.ds_content.specs.Stands.{ContentStands};
 ghost use Rattle.ds_replica.specs.declared.event.Event.TheVariants.{Deliver};
 ghost use Rattle.ds_replica.specs.declared.event.Holder.TheVariants.{Store as OfStore, Map as OfMap};
-ghost use Rattle.ds_replica.specs.Delivery.{StoreTakes, MapTakes};
+ghost use Rattle.ds_replica.specs.Delivery.{MapTakes};
 ghost use Rattle.ds_replica.specs.Happens.{count_of, tally_outcome};
 ghost use Rattle.ds_world.specs.World.{map_state};
 ghost use Rattle.ds_world.specs.Tally.{tally_of, IsCounted};
-ghost use Rattle.ds_world.specs.Told.{IsMapTold, IsTold, IsWantLast};
+ghost use Rattle.ds_world.specs.Told.{IsMapTold, IsTold};
+ghost use Rattle.ds_world.specs.Steps.{ItemsAreTaken, AreFirstItems};
 ghost use Rattle.ds_world.specs.Run.{EventLeads};
 
 use crate::replies::items_at;
@@ -38,7 +40,7 @@ fn merge_group(store: &mut Store, group: &[Item]) -> Reply
 
 // The items go to a store, as Merges of at most 256. Nothing is asked after one that was stopped.
 fn merge_all(store: &mut Store, items: &[Item]) -> Tally
-    ensures takes { (s : State) → ContentStands store.old s → (t : State) × StoreTakes s items.now (tally_of result) t × ContentStands store.new t × IsWantLast items.now result.done result.stop t }
+    ensures takes { ItemsAreTaken store.old items.now (tally_of result) store.new }
     ensures within { (result.done ≤ length items.now) × (result.taken + result.stale ≤ result.done) }
 {
     if items.is_empty() {
@@ -71,6 +73,7 @@ fn merge_all(store: &mut Store, items: &[Item]) -> Tally
 fn take_all(alloc: Global, map: &mut SubMap, items: &[Item]) -> Tally
     ensures takes { MapTakes (map_state map.old) items.now (tally_of result) (map_state map.new) }
     ensures told { IsMapTold map.old.query map.old.held items.now (tally_outcome (tally_of result) result.stop) map.new.held }
+    ensures map { IsMap map.new }
 {
     let taken = map.take_slice(alloc, items);
     let _held = map.held();
@@ -88,7 +91,7 @@ fn take_all(alloc: Global, map: &mut SubMap, items: &[Item]) -> Tally
 
 // The items of a message that go to a holder: so many of the first, or all. `None` where there are fewer.
 fn first_of(items: &[Item], count: Option<usize>) -> Option<&[Item]>
-    ensures some { IfSome result (λ first. (first.now ≡ take (count_of count items.now) items.now) × (count_of count items.now ≤ length items.now)) }
+    ensures some { IfSome result (λ first. AreFirstItems count items.now first.now) }
     ensures none { IfNone result (length items.now < count_of count items.now) }
 {
     items.get(..count.unwrap_or(items.len()))

@@ -1,4 +1,4 @@
-use Rattle.ds_replica.proofs.RowLemmas.{replicas_converge, replicas_differ, maps_catch_up, maps_lag, maps_lead, replicas_clash, maps_clash}
+use Rattle.ds_replica.proofs.RowLemmas.{replicas_converge, replicas_differ, maps_catch_up, maps_lag, maps_lead, replicas_clash, maps_clash, owners_change}
 use Rattle.ds_replica.proofs.laws.rows_happen.Goals as goal
 
 pub returns-clause-converge : goal.returns-clause-converge
@@ -21,3 +21,6 @@ returns-clause-clash c = replicas_clash
 
 pub returns-clause-map_clash : goal.returns-clause-map_clash
 returns-clause-map_clash c = maps_clash
+
+pub returns-clause-renew : goal.returns-clause-renew
+returns-clause-renew c = owners_change

@@ -5,7 +5,7 @@ use Rattle.ds_replica.specs.declared.outcome.Outcome.TheVariants.{Replied, Made}
 use Rattle.ds_replica.specs.Happens.{items_given}
 use Rattle.ds_world.specs.World.{WorldRecord, world_of}
 use Rattle.ds_world.specs.Run.{EventLeads}
-use Rattle.ds_world.specs.Told.{IsTold}
+use Rattle.ds_world.specs.Told.{IsAskTold}
 use Rattle.ds_world.proofs.AskLemmas.{replied, replied_so, made, made_so, few_free, no_items, some_items}
 use Rattle.ds_world.proofs.world.World.ask_for_items.Goals as goal
 
@@ -28,7 +28,6 @@ returns-then-has_items-clause-leads c =
 
 pub returns-then-has_items-clause-told : goal.returns-then-has_items-clause-told
 returns-then-has_items-clause-told c =
-    let ask = Ask c.args.side c.args.command in
     let messages = c.self.inside.messages.items in
     let maps = c.self.inside.maps.items in
     let a = c.apply-reply.new.a in
@@ -39,9 +38,9 @@ returns-then-has_items-clause-told c =
     let few : length messages < 65536 = omega (arith, many, c.if-message-ge-MOST_MESSAGES.false) in
     let told = made_so c.self.inside.a c.self.inside.b a b maps messages c.args.side c.args.command reply c.apply-reply.ensures.step items.0 items.1 c.requires few c.apply-reply.ensures.last in
     let more = c.push_reserved.ensures.items ∙ ap (λ (l : List Reply). l ++ reply ∷ []) c.reserve.ensures.items in
-    subst (λ n. IsTold ask (Made n) c.args.self.now (world_of a b maps c.push_reserved.new.self.items)) many
-    (subst (λ (l : List Reply). IsTold ask (Made (length messages)) c.args.self.now (world_of a b maps l)) (sym more)
-    (subst (λ (v : WorldRecord). IsTold ask (Made (length messages)) v (world_of a b maps (messages ++ reply ∷ []))) c.self.view_is told))
+    subst (λ n. IsAskTold c.args.side c.args.command (Made n) c.args.self.now (world_of a b maps c.push_reserved.new.self.items)) many
+    (subst (λ (l : List Reply). IsAskTold c.args.side c.args.command (Made (length messages)) c.args.self.now (world_of a b maps l)) (sym more)
+    (subst (λ (v : WorldRecord). IsAskTold c.args.side c.args.command (Made (length messages)) v (world_of a b maps (messages ++ reply ∷ []))) c.self.view_is told))
 
 pub returns-clause-leads : goal.returns-clause-leads
 returns-clause-leads c =
@@ -58,7 +57,6 @@ returns-clause-leads c =
 
 pub returns-clause-told : goal.returns-clause-told
 returns-clause-told c =
-    let ask = Ask c.args.side c.args.command in
     let messages = c.self.inside.messages.items in
     let maps = c.self.inside.maps.items in
     let a = c.apply-reply.new.a in
@@ -67,5 +65,6 @@ returns-clause-told c =
     let none = no_items (items_given reply) c.if-has_items.ensures in
     let few : length messages < 65536 = omega (arith, c.len-message.ensures, c.self.inside.messages.ok.0, c.if-message-ge-MOST_MESSAGES.false) in
     let told = replied_so c.self.inside.a c.self.inside.b a b maps messages c.args.side c.args.command reply c.apply-reply.ensures.step (few_free c.args.command messages few) none c.apply-reply.ensures.last in
-    subst (λ (l : List Reply). IsTold ask (Replied reply) c.args.self.now (world_of a b maps l)) (sym c.reserve.ensures.items)
-    (subst (λ (v : WorldRecord). IsTold ask (Replied reply) v (world_of a b maps messages)) c.self.view_is (told, refl))
+    subst (λ (l : List Reply). IsAskTold c.args.side c.args.command (Replied reply) c.args.self.now (world_of a b maps l))
+    (sym c.reserve.ensures.items)
+    (subst (λ (v : WorldRecord). IsAskTold c.args.side c.args.command (Replied reply) v (world_of a b maps messages)) c.self.view_is (told, refl))

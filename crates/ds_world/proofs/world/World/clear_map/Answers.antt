@@ -1,7 +1,9 @@
 use Rattle.std.proofs.Common.{◌≡◌, length, ap, sym, subst, arith}
+use Rattle.std.proofs.lemmas.List.Elements.{All-set}
 use Rattle.std.specs.List.{slice_set}
 use Rattle.std.proofs.lemmas.Option.{slice_get_read}
-use Rattle.ds_submap.specs.Map.{SubMapRecord}
+use Rattle.ds_submap.specs.Map.{SubMapRecord, IsMap}
+use Rattle.ds_submap.proofs.MapLemmas.{empty_is_map}
 use Rattle.ds_replica.specs.declared.event.Event.TheVariants.{ClearMap}
 use Rattle.ds_replica.specs.declared.outcome.Outcome.TheVariants.{Cleared}
 use Rattle.ds_world.specs.World.{WorldRecord, world_of}
@@ -24,3 +26,8 @@ returns-clause-leads c =
 
 pub returns-clause-told : goal.returns-clause-told
 returns-clause-told c = ap (λ (v : WorldRecord). v.messages) c.self.view_is
+
+pub invariant_of-self : goal.invariant_of-self
+invariant_of-self c =
+    let empty = subst IsMap (sym c.clear.ensures) (empty_is_map c.index_mut.result.now.query) in
+    (All-set IsMap c.self.inside.maps.items c.args.map c.clear.new.self empty c.self.invariant.0, c.self.invariant.1)

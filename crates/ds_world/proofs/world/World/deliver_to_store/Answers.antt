@@ -1,8 +1,5 @@
 use Rattle.std.proofs.Common.{◌≡◌, List, ◌≤◌, length, None, Some, refl, ap, sym, ◌∙◌, subst}
 use Rattle.ds_entry.specs.declared.item.Item.{Item}
-use Rattle.ds_machine.specs.State.{State}
-use Rattle.ds_content.specs.Stands as contents
-use Rattle.ds_replica.specs.Delivery.{StoreTakes}
 use Rattle.ds_replica.specs.Happens.{count_of, tally_outcome}
 use Rattle.ds_replica.specs.declared.event.Side.{Side}
 use Rattle.ds_replica.specs.declared.event.Side.TheVariants.{A, B}
@@ -15,7 +12,7 @@ use Rattle.ds_replica.specs.declared.outcome.EventFault.TheVariants.{NoMessage, 
 use Rattle.ds_world.specs.declared.tally.Tally.{Tally}
 use Rattle.ds_world.specs.Run.{EventLeads}
 use Rattle.ds_world.specs.Tally.{tally_of}
-use Rattle.ds_world.specs.Told.{IsWantLast}
+use Rattle.ds_world.specs.Steps.{ItemsAreTaken}
 use Rattle.ds_world.proofs.DeliverLemmas.{carried, told_so, led, store_told, no_message, too_many_for_store, to_a, to_b}
 use Rattle.ds_world.proofs.world.World.deliver_to_store.Goals as goal
 use Rattle.ds_world.proofs.world.World.deliver_to_store.Goals.{in-A, in-B}
@@ -36,13 +33,13 @@ returns-clause-leads c =
       | in-A w ↦
           (let tally = w.merge_all-tally.result in
           let new = w.merge_all-tally.new.store in
-          let taken = subst (λ (l : List Item). (s : State) → contents.ContentStands value.a s → (t : State) × StoreTakes s l (tally_of tally) t × contents.ContentStands new t × IsWantLast l tally.done tally.stop t) first w.merge_all-tally.ensures.takes in
+          let taken = subst (λ (l : List Item). ItemsAreTaken value.a l (tally_of tally) new) first w.merge_all-tally.ensures.takes in
           let to = to_a value k count items there few (tally_of tally) new taken in
           carried (ap by_event (sym w.in-A.is)) (sym (c.outcome.ensures ∙ ap ends w.tally-is)) c.self.view_is (sym w.self-is) (led value k count items there few (tally_of tally) A (record value { a = new }) to))
       | in-B w ↦
           (let tally = w.merge_all-tally-in-B.result in
           let new = w.merge_all-tally-in-B.new.store in
-          let taken = subst (λ (l : List Item). (s : State) → contents.ContentStands value.b s → (t : State) × StoreTakes s l (tally_of tally) t × contents.ContentStands new t × IsWantLast l tally.done tally.stop t) first w.merge_all-tally-in-B.ensures.takes in
+          let taken = subst (λ (l : List Item). ItemsAreTaken value.b l (tally_of tally) new) first w.merge_all-tally-in-B.ensures.takes in
           let to = to_b value k count items there few (tally_of tally) new taken in
           carried (ap by_event (sym w.in-B.is)) (sym (c.outcome.ensures ∙ ap ends w.tally-is)) c.self.view_is (sym w.self-is) (led value k count items there few (tally_of tally) B (record value { b = new }) to))
     ]
@@ -63,13 +60,13 @@ returns-clause-told c =
       | in-A w ↦
           (let tally = w.merge_all-tally.result in
           let new = w.merge_all-tally.new.store in
-          let taken = subst (λ (l : List Item). (s : State) → contents.ContentStands value.a s → (t : State) × StoreTakes s l (tally_of tally) t × contents.ContentStands new t × IsWantLast l tally.done tally.stop t) first w.merge_all-tally.ensures.takes in
+          let taken = subst (λ (l : List Item). ItemsAreTaken value.a l (tally_of tally) new) first w.merge_all-tally.ensures.takes in
           let to = to_a value k count items there few (tally_of tally) new taken in
           told_so (ap by_event (sym w.in-A.is)) (sym (c.outcome.ensures ∙ ap ends w.tally-is)) c.self.view_is (sym w.self-is) (store_told value k count items there few (tally_of tally) A (record value { a = new }) to refl))
       | in-B w ↦
           (let tally = w.merge_all-tally-in-B.result in
           let new = w.merge_all-tally-in-B.new.store in
-          let taken = subst (λ (l : List Item). (s : State) → contents.ContentStands value.b s → (t : State) × StoreTakes s l (tally_of tally) t × contents.ContentStands new t × IsWantLast l tally.done tally.stop t) first w.merge_all-tally-in-B.ensures.takes in
+          let taken = subst (λ (l : List Item). ItemsAreTaken value.b l (tally_of tally) new) first w.merge_all-tally-in-B.ensures.takes in
           let to = to_b value k count items there few (tally_of tally) new taken in
           told_so (ap by_event (sym w.in-B.is)) (sym (c.outcome.ensures ∙ ap ends w.tally-is)) c.self.view_is (sym w.self-is) (store_told value k count items there few (tally_of tally) B (record value { b = new }) to refl))
     ]

@@ -1,6 +1,8 @@
-use Rattle.std.proofs.Common.{◌≡◌, ◌<◌, ◌++◌, ◌∷◌, [], List, length, sym, ap, ◌∙◌, subst, arith}
+use Rattle.std.proofs.Common.{◌≡◌, ◌<◌, ◌++◌, ◌∷◌, [], List, length, sym, ap, ◌∙◌, subst, arith, All}
+use Rattle.std.proofs.lemmas.List.Elements.{All-push}
 use Rattle.ds_pattern.specs.Patterns.{IsPattern}
-use Rattle.ds_submap.specs.Map.{SubMapRecord}
+use Rattle.ds_submap.specs.Map.{SubMapRecord, IsMap}
+use Rattle.ds_submap.proofs.MapLemmas.{empty_is_map}
 use Rattle.ds_replica.specs.declared.event.Event.TheVariants.{NewMap}
 use Rattle.ds_replica.specs.declared.outcome.Outcome.{Outcome}
 use Rattle.ds_replica.specs.declared.outcome.Outcome.TheVariants.{MapMade, Refused}
@@ -38,3 +40,16 @@ returns-clause-leads c =
 
 pub returns-clause-told : goal.returns-clause-told
 returns-clause-told c = ap (λ (v : WorldRecord). v.messages) c.self.view_is
+
+pub invariant_of-self : goal.invariant_of-self
+invariant_of-self c =
+    let maps = c.self.inside.maps.items in
+    let made : IsMap c.in-Ok.map = subst IsMap (sym c.in-Ok.ensures.value) (empty_is_map c.args.query.now) in
+    elim c.match-push.branch [
+      | in-Ok-push w ↦
+          let pushed : c.push.new.self.items ≡ maps ++ c.in-Ok.map ∷ [] = rw w.in-Ok-push.is at c.push.ensures.items in
+          (subst (All IsMap) (sym pushed) (All-push IsMap maps c.in-Ok.map c.self.invariant.0 made), c.self.invariant.1)
+      | in-Err-push w ↦
+          let same : c.push.new.self.items ≡ maps = rw w.in-Err-push.is at c.push.ensures.items in
+          (subst (All IsMap) (sym same) c.self.invariant.0, c.self.invariant.1)
+    ]

@@ -1,0 +1,16 @@
+-- When items leave out nothing that a store accepted.
+use Rattle.std.specs.Prelude.{ℕ, ◌-◌, Bool, List, take}
+use Rattle.ds_names.specs.declared.key.Key.{Key}
+use Rattle.ds_entry.specs.declared.item.Item.{Item}
+use Rattle.ds_join.specs.ItemTop.{IsPartOf}
+use Rattle.ds_feed.specs.Feed.{Feed}
+use Rattle.ds_convergence.specs.Sent.{Sent, stood_for}
+use Rattle.ds_entry.specs.Under.{under}
+
+-- what took effect at the positions below this one
+abbrev pub before : Feed → ℕ → List Item
+before f r = take (r - f.first) f.accepted
+
+-- the items are whole up to the position: all that is under the query and took effect below it is stood for
+abbrev pub IsWhole : Feed → (Key → Bool) → List Sent → ℕ → Type 0
+IsWhole f query items r = IsPartOf (under query (before f r)) (stood_for items)

@@ -1,0 +1,61 @@
+-- The laws of wholeness.
+use Rattle.std.specs.Prelude.{ℕ, ◌≤◌, Bool, List, ◌++◌, Contains}
+use Rattle.ds_names.specs.declared.key.Key.{Key}
+use Rattle.ds_entry.specs.Item.{passes}
+use Rattle.ds_entry.specs.declared.item.Item.{Item}
+use Rattle.ds_join.specs.ItemTop.{IsTop, IsPartOf}
+use Rattle.ds_feed.specs.declared.cursor.Cursor.{Cursor}
+use Rattle.ds_feed.specs.declared.reading.Since.{Since}
+use Rattle.ds_feed.specs.Feed.{Feed, position, accepts}
+use Rattle.ds_feed.specs.Since.{IsGiven}
+use Rattle.ds_feed.specs.Page.{snapshot_of}
+use Rattle.ds_convergence.specs.Under.{KeepsQuery}
+use Rattle.ds_convergence.specs.Sent.{Sent, given}
+use Rattle.ds_convergence.specs.Front.{IsFront, end_of}
+use Rattle.ds_convergence.specs.Whole.{IsWhole}
+use Rattle.ds_convergence.specs.Journaled.{SinceTurn, AreSince, since_items, cursor_after}
+
+-- a snapshot's items, under a scope that keeps all of the query, are whole up to its cursor
+abbrev pub SnapshotIsWhole : Type 0
+SnapshotIsWhole =
+    (f : Feed) (known held : List Item) (scope query : Key → Bool) → IsTop held f.accepted → IsPartOf f.accepted known → KeepsQuery scope query → let taken = snapshot_of (passes scope) held (end_of f) in
+    IsWhole f query (given known taken.items) taken.cursor.position
+
+-- items that are whole up to a cursor, with those that the journal gives from there under such a scope, are whole up to
+-- the cursor that it gives
+abbrev pub SinceExtends : Type 0
+SinceExtends =
+    (f : Feed) (known : List Item) (scope query : Key → Bool) (items : List Sent) (at : Cursor) (max : ℕ) (since : Since) → IsPartOf f.accepted known → KeepsQuery scope query → IsGiven f (passes scope) at max since →
+    IsWhole f query items at.position → IsWhole f query (items ++ given known since.items) since.cursor.position
+
+-- and so with any number of such replies, whatever took effect between them
+abbrev pub SincesExtend : Type 0
+SincesExtend =
+    (f : Feed) (scope query : Key → Bool) (items : List Sent) (at : Cursor) (turns : List SinceTurn) → KeepsQuery scope query → AreSince f scope at turns →
+    IsWhole f query items at.position → IsWhole f query (items ++ since_items turns) (cursor_after at turns).position
+
+-- up to the first position any items are whole, none too
+abbrev pub NothingIsWhole : Type 0
+NothingIsWhole = (f : Feed) (query : Key → Bool) (items : List Sent) (r : ℕ) → r ≤ f.first → IsWhole f query items r
+
+-- more items are no less whole, in whatever order and however often they come
+abbrev pub MoreIsWhole : Type 0
+MoreIsWhole = (f : Feed) (query : Key → Bool) (items more : List Sent) (r : ℕ) → ((s : Sent) → Contains items s → Contains more s) → IsWhole f query items r → IsWhole f query more r
+
+-- what is whole up to a position is so up to each earlier one
+abbrev pub EarlierIsWhole : Type 0
+EarlierIsWhole = (f : Feed) (query : Key → Bool) (items : List Sent) (p r : ℕ) → p ≤ r → IsWhole f query items r → IsWhole f query items p
+
+-- and for each query that the query keeps all of
+abbrev pub NarrowerIsWhole : Type 0
+NarrowerIsWhole = (f : Feed) (query narrow : Key → Bool) (items : List Sent) (r : ℕ) → KeepsQuery query narrow → IsWhole f query items r → IsWhole f narrow items r
+
+-- what is whole stays whole, whatever takes effect later
+abbrev pub WholeStays : Type 0
+WholeStays = (f late : Feed) (query : Key → Bool) (items : List Sent) (r : ℕ) → IsFront f late → r ≤ position f → IsWhole f query items r → IsWhole late query items r
+
+-- a feed with one more item is that feed later, and later than later is later
+pub record FeedsGrow : Type 0 where
+  pub one_more : (f : Feed) (i : Item) → IsFront f (accepts f i)
+  pub same : (f : Feed) → IsFront f f
+  pub later : (f g h : Feed) → IsFront f g → IsFront g h → IsFront f h

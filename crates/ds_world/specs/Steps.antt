@@ -1,0 +1,36 @@
+-- What is asked of a world's stores, and what they make of it.
+use Rattle.std.specs.Prelude.{◌≡◌, ℕ, ◌≤◌, List, length, take, Option}
+use Rattle.ds_entry.specs.declared.item.Item.{Item}
+use Rattle.ds_machine.specs.State.{State}
+use Rattle.ds_machine.specs.Machine.{Step}
+use Rattle.ds_machine.specs.declared.command.Command.{Command}
+use Rattle.ds_machine.specs.declared.reply.Reply.{Reply}
+use Rattle.ds_judge.specs.Last.{IsLast}
+use Rattle.ds_content.specs.Content.{ContentRecord}
+use Rattle.ds_content.specs.Stands.{ContentStands}
+use Rattle.ds_replica.specs.declared.event.Side.{Side}
+use Rattle.ds_replica.specs.Delivery.{Tally, StoreTakes}
+use Rattle.ds_replica.specs.Happens.{count_of}
+use Rattle.ds_replica.specs.World.{World, store_at, with_state}
+use Rattle.ds_world.specs.Told.{IsWantLast}
+
+-- the store of the side made a step by this reply, from each world for whose stores the old contents stand
+abbrev pub StoreSteps : ContentRecord → ContentRecord → ContentRecord → ContentRecord → Side → Command → Reply → Type 0
+StoreSteps a b newa newb side command reply =
+    (w : World) → ContentStands a w.a → ContentStands b w.b →
+    (s : State) × Step (store_at w side) command reply s
+    × ContentStands newa (with_state w side s).a × ContentStands newb (with_state w side s).b
+
+-- and the reply tells want of memory last
+abbrev pub LastOf : ContentRecord → ContentRecord → Side → Command → Reply → Type 0
+LastOf a b side command reply = (w : World) → ContentStands a w.a → ContentStands b w.b → IsLast (store_at w side) command reply
+
+-- a store took the items as Merges, and was stopped for want of memory only where that came last
+abbrev pub ItemsAreTaken : ContentRecord → List Item → Tally → ContentRecord → Type 0
+ItemsAreTaken old items tally new =
+    (s : State) → ContentStands old s →
+    (t : State) × StoreTakes s items tally t × ContentStands new t × IsWantLast items tally.done tally.stop t
+
+-- these are so many of the first items, or all, and there are as many
+abbrev pub AreFirstItems : Option ℕ → List Item → List Item → Type 0
+AreFirstItems count items first = (first ≡ take (count_of count items) items) × (count_of count items ≤ length items)

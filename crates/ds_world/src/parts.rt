@@ -1,0 +1,79 @@
+//! What commands name of changes and floors: each part is in its range, as its type has it.
+
+ghost use Rattle.std.specs.Prelude.{◌<◌, ◌≤◌, ◌^◌, All};
+ghost use Rattle.ds_names.specs.Name.{IsName};
+ghost use Rattle.ds_entry.specs.Item.{IsItem};
+ghost use Rattle.ds_replica.specs.Bringing.{IsProper};
+
+use ds_entry::Item;
+use ds_machine::Command;
+use ds_names::{Key, Version};
+
+// Reads what a command names of changes and floors.
+pub(crate) fn read_parts(command: &Command)
+    ensures { IsProper command.now }
+{
+    match command {
+        Command::Publish {
+            key,
+            version,
+            value,
+            ..
+        } => {
+            let _kind = value.kind();
+            read_version(key, version);
+        }
+        Command::Delete { key, version, .. } => read_version(key, version),
+        Command::Sweep {
+            owner,
+            generation,
+            ..
+        } => {
+            let _owner = owner.bytes();
+            let _generation = generation.number();
+        }
+        Command::Merge { items } => read_items(items.as_slice()),
+        Command::Retrieve { .. }
+        | Command::NameOf { .. }
+        | Command::Subscribe { .. }
+        | Command::Check { .. }
+        | Command::Since { .. }
+        | Command::Snapshot { .. }
+        | Command::Page { .. } => {}
+    }
+}
+
+// Reads a key and a version.
+fn read_version(key: &Key, version: &Version)
+    ensures name { IsName key.now.name }
+    ensures epoch { version.now.epoch ≤ 2097151 }
+    ensures seq { version.now.seq < 2 ^ 32 }
+{
+    let _name = key.name.bytes();
+    let _epoch = version.epoch.number();
+    let _seq = version.seq;
+}
+
+// Reads items.
+fn read_items(items: &[Item])
+    ensures { All IsItem items.now }
+{
+    for item in items {
+        read_item(item);
+    }
+}
+
+// Reads an item.
+fn read_item(item: &Item)
+    ensures { IsItem item.now }
+{
+    match item {
+        Item::Change(change) => {
+            let _key = change.key();
+        }
+        Item::Floor(floor) => {
+            let _owner = floor.owner.bytes();
+            let _generation = floor.generation.number();
+        }
+    }
+}
