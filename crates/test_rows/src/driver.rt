@@ -4,24 +4,26 @@ use crate::keys::{number_key, version};
 use ds_entry::Value;
 use ds_machine::Command;
 use ds_names::{Endpoint, Generation, Key, Name, Version};
+use ds_reader::Others;
 use ds_store::Store;
-use whole_reading::Others;
 
 /// The driver, with the numbers that it still publishes, one whenever it is its turn.
 #[derive(Drop)]
 pub(crate) struct Driver {
     endpoint: Endpoint,
     version: Version,
-    /// The key of the next number, and the one behind it.
+    /// The keys of the next numbers, in their order.
     next: Option<Key>,
-    behind: Option<Key>,
+    second: Option<Key>,
+    third: Option<Key>,
 }
 
 impl Others for Driver {
-    fn ask(&mut self, store: &mut Store, _spared: Option<u32>) {
+    fn ask(&mut self, store: &mut Store) {
         let next = self.next;
-        self.next = self.behind;
-        self.behind = None;
+        self.next = self.second;
+        self.second = self.third;
+        self.third = None;
         if let Some(key) = next {
             store.apply(Command::Publish {
                 caller: self.endpoint,
@@ -44,13 +46,14 @@ pub(crate) fn endpoint() -> Option<Endpoint> {
     Endpoint::of(Generation::of(3)?, 17)
 }
 
-/// The driver of an endpoint and a version, which will publish `eth0.c` and `eth0.d`.
+/// The driver of an endpoint and a version, which will publish `eth0.c`, `eth0.d` and `eth0.e`.
 pub(crate) fn eth0(endpoint: Endpoint, version: Version) -> Driver {
     Driver {
         endpoint,
         version,
         next: number_key(b"eth0.c"),
-        behind: number_key(b"eth0.d"),
+        second: number_key(b"eth0.d"),
+        third: number_key(b"eth0.e"),
     }
 }
 

@@ -14,12 +14,13 @@ mod journal;
 mod keys;
 mod readings;
 mod replicas;
+mod rival;
 mod told;
 
 use ds_entry::Items;
 use ds_line::write_item;
 use journal::{Asked, told_by};
-use readings::{alone, by_checks, by_pages};
+use readings::{alone, by_checks, by_pages, overtaken};
 use replicas::Row;
 use std::alloc::Global;
 use std::process::ExitCode;
@@ -52,13 +53,15 @@ fn print_row(rt: &impl Print, alloc: Global, row: Row) -> Option<()> {
 const CHECKS: [(u32, u32, u32); 5] = [(40, 2, 4), (40, 2, 3), (40, 2, 0), (1000, 2, 4), (40, 0, 4)];
 
 // How many items the journal keeps, items that each page gives at most, and how many pages there may be.
-const PAGES: [(u32, u32, u32); 3] = [(256, 2, 2), (256, 2, 1), (1, 2, 2)];
+const PAGES: [(u32, u32, u32); 4] = [(256, 2, 3), (256, 4, 1), (256, 2, 1), (1, 2, 3)];
 
 fn print_readings(rt: &impl Print, alloc: Global) -> Option<()> {
     for (sub, max, checks) in CHECKS {
         let told = by_checks(alloc, sub, max, checks)?;
         println!(rt; "subscription {sub}, {checks} checks of {max}: {told}").ok()?;
     }
+    let told = overtaken(alloc, 40)?;
+    println!(rt; "subscription 40, another checks it too: {told}").ok()?;
     for (ring, max, pages) in PAGES {
         let told = by_pages(alloc, ring, max, pages)?;
         println!(rt; "ring {ring}, {pages} pages of {max}: {told}").ok()?;

@@ -2,39 +2,57 @@
 
 use crate::driver::{begin, endpoint, eth0, first_version};
 use crate::keys::all_under;
+use crate::rival::Rival;
 use crate::told::tell;
+use ds_reader::{Among, Reading, read_by_checks, read_by_pages};
 use ds_store::Store;
 use std::alloc::Global;
-use whole_reading::{Nobody, Reading, read_by_checks, read_by_pages};
 
 // How many items the journal of a store keeps, where nothing else is said.
 const RING: u32 = 256;
 
 /// Reads by so many checks of a subscription. What it is told; `None` where memory is wanting.
 pub(crate) fn by_checks(alloc: Global, sub: u32, max: u32, checks: u32) -> Option<String> {
-    let mut store = Store::open(alloc, 1, 0, RING).ok()?;
-    check(alloc, &mut store, sub, max, checks)
+    let store = Store::open(alloc, 1, 0, RING).ok()?;
+    check(alloc, store, sub, max, checks)
 }
 
-fn check(alloc: Global, store: &mut Store, sub: u32, max: u32, checks: u32) -> Option<String> {
-    begin(store)?;
+fn check(alloc: Global, mut store: Store, sub: u32, max: u32, checks: u32) -> Option<String> {
+    begin(&mut store)?;
     let asked = reading(alloc, max, checks)?;
-    let mut others = eth0(endpoint()?, first_version()?);
-    let read = read_by_checks(alloc, store, &mut others, sub, &asked);
+    let others = eth0(endpoint()?, first_version()?);
+    let mut among = Among { store, others };
+    let read = read_by_checks(alloc, &mut among, sub, &asked);
+    tell(alloc, &read)
+}
+
+/// Reads by four checks of a subscription that another service checks too.
+pub(crate) fn overtaken(alloc: Global, sub: u32) -> Option<String> {
+    let store = Store::open(alloc, 1, 0, RING).ok()?;
+    check_with_another(alloc, store, sub)
+}
+
+fn check_with_another(alloc: Global, mut store: Store, sub: u32) -> Option<String> {
+    begin(&mut store)?;
+    let asked = reading(alloc, 2, 4)?;
+    let others = Rival { sub };
+    let mut among = Among { store, others };
+    let read = read_by_checks(alloc, &mut among, sub, &asked);
     tell(alloc, &read)
 }
 
 /// Reads by so many pages of a store whose journal keeps so many items.
 pub(crate) fn by_pages(alloc: Global, ring: u32, max: u32, pages: u32) -> Option<String> {
-    let mut store = Store::open(alloc, 1, 0, ring).ok()?;
-    turn_pages(alloc, &mut store, max, pages)
+    let store = Store::open(alloc, 1, 0, ring).ok()?;
+    turn_pages(alloc, store, max, pages)
 }
 
-fn turn_pages(alloc: Global, store: &mut Store, max: u32, pages: u32) -> Option<String> {
-    begin(store)?;
+fn turn_pages(alloc: Global, mut store: Store, max: u32, pages: u32) -> Option<String> {
+    begin(&mut store)?;
     let asked = reading(alloc, max, pages)?;
-    let mut others = eth0(endpoint()?, first_version()?);
-    let read = read_by_pages(alloc, store, &mut others, &asked);
+    let others = eth0(endpoint()?, first_version()?);
+    let mut among = Among { store, others };
+    let read = read_by_pages(alloc, &mut among, &asked);
     tell(alloc, &read)
 }
 
@@ -47,8 +65,8 @@ pub(crate) fn alone(alloc: Global) -> Option<(String, String)> {
 fn read_alone(alloc: Global, store: &mut Store) -> Option<(String, String)> {
     begin(store)?;
     let asked = reading(alloc, 256, 1)?;
-    let checked = read_by_checks(alloc, store, &mut Nobody, 0, &asked);
-    let paged = read_by_pages(alloc, store, &mut Nobody, &asked);
+    let checked = read_by_checks(alloc, store, 0, &asked);
+    let paged = read_by_pages(alloc, store, &asked);
     Some((tell(alloc, &checked)?, tell(alloc, &paged)?))
 }
 

@@ -1,8 +1,8 @@
 //! What a service is told, in words.
 
 use ds_entry::{Item, Items};
+use ds_reader::ReadFault;
 use std::alloc::Global;
-use whole_reading::ReadFault;
 
 /// The names of the items behind the word `items`, or why the reader gave up. `None` where memory is wanting.
 pub(crate) fn tell(alloc: Global, read: &Result<Items, ReadFault>) -> Option<String> {

@@ -1,0 +1,24 @@
+use Rattle.std.proofs.Common.{IfOk, IfErr, sym, subst}
+use Rattle.ds_pass.specs.Led.{LedTo}
+use Rattle.ds_reader.specs.Asked.{ComesTo}
+use Rattle.ds_reader.specs.GivesUp.{StopsPages}
+use Rattle.ds_reader.specs.ReadWhole.{IsReadWhole}
+use Rattle.ds_pass.proofs.reading.read_at_desk.Goals as goal
+
+pub returns-clause-whole : goal.returns-clause-whole
+returns-clause-whole g c =
+    let reading = c.args.reading.now in
+    let read = c.read_by_pages-items in
+    subst (λ p. IfOk read.result (λ items. ComesTo (λ p s. LedTo p s) p c.into_pass.result (λ _ t. IsReadWhole t reading.query items)))
+    c.new-asked.ensures
+    (subst (λ q. IfOk read.result (λ items. ComesTo (λ p s. LedTo p s) c.new-asked.result.pass q (λ _ t. IsReadWhole t reading.query items)))
+    (sym c.into_pass.ensures) read.ensures.whole)
+
+pub returns-clause-stopped : goal.returns-clause-stopped
+returns-clause-stopped g c =
+    let reading = c.args.reading.now in
+    let read = c.read_by_pages-items in
+    subst (λ p. IfErr read.result (λ fault. ComesTo (λ p s. LedTo p s) p c.into_pass.result (λ s t. StopsPages s t reading fault)))
+    c.new-asked.ensures
+    (subst (λ q. IfErr read.result (λ fault. ComesTo (λ p s. LedTo p s) c.new-asked.result.pass q (λ s t. StopsPages s t reading fault)))
+    (sym c.into_pass.ensures) read.ensures.stopped)

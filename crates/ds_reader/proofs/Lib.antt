@@ -1,0 +1,6 @@
+pub mod ListLemmas
+pub mod StateLemmas
+pub mod CheckLemmas
+pub mod SinceLemmas
+pub mod PageLemmas
+pub mod StopLemmas

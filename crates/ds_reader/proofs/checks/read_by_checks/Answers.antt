@@ -1,0 +1,122 @@
+use Rattle.std.proofs.Common.{◌≡◌, ◌+◌, ◌<◌, ◌≤◌, List, length, arith, sym, ◌∙◌, subst}
+use Rattle.std.proofs.lemmas.Result.{err_from_is_err_and}
+use Rattle.ds_entry.specs.declared.item.Item.{Item}
+use Rattle.ds_pattern.specs.declared.query.Query.{Query}
+use Rattle.ds_machine.specs.declared.reply.Reply.TheVariants as replies
+use Rattle.ds_reader.specs.Asked.{Asked, subscribe_anew}
+use Rattle.ds_reader.specs.ReadWhole.{IsReadWhole}
+use Rattle.ds_reader.proofs.CheckLemmas.{Checking, begun, all_full, checked_on, gone, overtaken, read_whole}
+use Rattle.ds_reader.proofs.StopLemmas.{stops_check, stops_subscribe}
+use Rattle.ds_reader.proofs.checks.read_by_checks.Goals as goal
+
+pub returns-in_err-stamp-clause-stopped : goal.returns-in_err-stamp-clause-stopped
+returns-in_err-stamp-clause-stopped g c =
+    let exit = err_from_is_err_and c.from_residual-in_err-stamp.result c.from_residual-in_err-stamp.ensures.1 in
+    rw (exit.1, exit.2) (λ s stands. stops_subscribe c.laws.ensures g.A.Asks.stands g.A.Asks.is_worn c.args.asked.now c.subscribe.new.asked
+    s c.args.sub c.args.reading.now _ c.in_err-stamp.field-0.0 c.in_ok-query.ensures c.in_err-stamp.ensures.refused stands)
+
+pub loop-question-init : goal.loop-question-init
+loop-question-init g c = (
+  c.subscribe.ensures.same,
+  λ s stands.
+      (let reading = c.args.reading.now in
+      let stood = g.A.Asks.stands c.subscribe.new.asked in
+      let stamp = c.in_ok-stamp.stamp in
+      let made = c.in_ok-stamp.ensures.made in
+      let m = made.1 s stands in
+      let a = subst (λ (q : Query). Asked s (subscribe_anew c.args.sub q) (replies.Subscribed stamp made.0) m.0) c.in_ok-query.ensures m.1
+      in
+      subst (λ (l : List Item). Checking stood s c.args.sub reading.max reading.query l stamp 0) (sym c.new-items.ensures)
+      (begun c.laws.ensures stood s m.0 c.args.sub reading.max reading.query stamp made.0 a m.2)),
+)
+
+pub returns-in_err-shown-clause-stopped : goal.returns-in_err-shown-clause-stopped
+returns-in_err-shown-clause-stopped g c =
+    let exit = err_from_is_err_and c.from_residual-in_err-shown.result c.from_residual-in_err-shown.ensures.1 in
+    let q = c.loop-question in
+    rw (exit.1, exit.2) (λ s stands. stops_check c.laws.ensures g.A.Asks.stands g.A.Asks.is_worn q.asked c.check.new.asked s c.args.sub
+    q.stamp q._question c.args.reading.now q.items c.in_err-shown.field-0.0 c.in_err-shown.ensures.refused (q.invariant.1 s stands))
+
+pub returns-then-shown-stamp-clause-stopped : goal.returns-then-shown-stamp-clause-stopped
+returns-then-shown-stamp-clause-stopped g c = λ s stands.
+    let q = c.loop-question in
+    let reading = c.args.reading.now in
+    let stood = g.A.Asks.stands q.asked in
+    let shown = c.in_ok-shown.shown in
+    let k = q.invariant.1 s stands in
+    let a = c.in_ok-shown.ensures.shown k.now k.stands in
+    let over = overtaken c.laws.ensures stood s c.args.sub q.stamp q._question reading q.items shown.items k a.0 shown.before shown.after
+    a.1 c.if-shown-stamp.true in (
+      a.0,
+      gone c.laws.ensures stood s c.args.sub reading.query q.items shown.items reading.max q.stamp q._question k a.0 shown.before
+          shown.after a.1,
+      a.2,
+      over,
+    )
+
+pub returns-in_err-append-clause-stopped : goal.returns-in_err-append-clause-stopped
+returns-in_err-append-clause-stopped g c =
+    let exit = err_from_is_err_and c.from_residual-in_err-append.result c.from_residual-in_err-append.ensures.1 in
+    rw (exit.1, exit.2) (λ s stands.
+    (let q = c.loop-question in
+    let reading = c.args.reading.now in
+    let shown = c.in_ok-shown.shown in
+    let k = q.invariant.1 s stands in
+    let a = c.in_ok-shown.ensures.shown k.now k.stands in (
+      a.0,
+      gone c.laws.ensures (g.A.Asks.stands q.asked) s c.args.sub reading.query q.items shown.items reading.max q.stamp q._question k a.0
+          shown.before shown.after a.1,
+      a.2,
+      tt,
+    )))
+
+pub returns-then-len-reading-clause-whole : goal.returns-then-len-reading-clause-whole
+returns-then-len-reading-clause-whole g c = λ s stands.
+    let q = c.loop-question in
+    let reading = c.args.reading.now in
+    let stood = g.A.Asks.stands q.asked in
+    let shown = c.in_ok-shown.shown in
+    let k = q.invariant.1 s stands in
+    let a = c.in_ok-shown.ensures.shown k.now k.stands in
+    let few : length shown.items < reading.max = omega (arith, c.len.ensures, c.if-len-reading.true) in (
+      a.0,
+      gone c.laws.ensures stood s c.args.sub reading.query q.items shown.items reading.max q.stamp q._question k a.0 shown.before
+          shown.after a.1,
+      a.2,
+      subst (λ (l : List Item). IsReadWhole a.0 reading.query l) (sym c.in_ok-append.ensures)
+          (read_whole c.laws.ensures stood s c.args.sub reading.query q.items shown.items reading.max q.stamp q._question k a.0 shown.before
+          shown.after a.1 c.if-shown-stamp.false few),
+    )
+
+pub loop-question-preserved : goal.loop-question-preserved
+loop-question-preserved g c = (
+  c.check.ensures.same ∙ c.loop-question.invariant.0,
+  λ s stands.
+      (let q = c.loop-question in
+      let reading = c.args.reading.now in
+      let stood = g.A.Asks.stands q.asked in
+      let next = g.A.Asks.stands c.check.new.asked in
+      let shown = c.in_ok-shown.shown in
+      let k = q.invariant.1 s stands in
+      let a = c.in_ok-shown.ensures.shown k.now k.stands in
+      let full : reading.max ≤ length shown.items = omega (arith, c.len.ensures, c.if-len-reading.false) in
+      subst (λ (l : List Item). Checking next s c.args.sub reading.max reading.query l shown.after (q._question + 1))
+      (sym c.in_ok-append.ensures)
+      (checked_on c.laws.ensures stood s c.args.sub reading.query q.items shown.items reading.max q.stamp q._question k a.0 shown.before
+      shown.after a.1 c.if-shown-stamp.false next a.2 full)),
+)
+
+pub returns-clause-stopped : goal.returns-clause-stopped
+returns-clause-stopped g c = λ s stands.
+    let q = c.loop-question in
+    let k = q.invariant.1 s stands in
+    let last : q._question ≡ c.args.reading.now.questions = omega (arith, c.loop-question-test.false, q.auto._question-end) in (
+      k.now,
+      k.goes,
+      k.stands,
+      (
+        k.turns,
+        all_full (g.A.Asks.stands q.asked) s c.args.sub q.stamp q._question c.args.reading.now q.items k,
+        k.count_is ∙ last,
+      ),
+    )

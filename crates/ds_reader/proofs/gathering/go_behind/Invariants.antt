@@ -1,0 +1,7 @@
+use Rattle.std.proofs.Common.{◌≡◌, take}
+use Rattle.ds_convergence.specs.Paged.{last_key}
+use Rattle.ds_reader.proofs.gathering.go_behind.Given as goal
+
+-- it is the last key of the first ones
+abbrev pub invariant-loop-index : goal.invariant-loop-index
+invariant-loop-index l = l.key ≡ last_key l.fn.key (take l.index l.items)

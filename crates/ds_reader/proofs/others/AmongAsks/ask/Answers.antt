@@ -1,0 +1,14 @@
+use Rattle.ds_reader.proofs.others.AmongAsks.ask.Goals as goal
+
+pub returns-clause-asked : goal.returns-clause-asked
+returns-clause-asked g c = λ s stands.
+    let o = c.ask.ensures s stands in
+    let x = c.apply.ensures.step o.0 o.2 in (
+      x.0,
+      record {
+        mid = o.0;
+        went = record { reached = stands.reached; goes = o.1 };
+        answered = record { step = x.1; last = c.apply.ensures.last o.0 o.2 };
+      },
+      x.2,
+    )

@@ -1,0 +1,92 @@
+use Rattle.std.proofs.Common.{◌≡◌, ◌+◌, ◌<◌, ◌≤◌, List, length, arith, refl, sym, ◌∙◌, subst}
+use Rattle.std.proofs.lemmas.Result.{err_from_is_err_and}
+use Rattle.ds_entry.specs.declared.item.Item.{Item}
+use Rattle.ds_feed.specs.Since.{IsGiven}
+use Rattle.ds_machine.specs.declared.command.Scope.{Scope}
+use Rattle.ds_machine.specs.Scope.{is_kept}
+use Rattle.ds_reader.specs.CaughtUp.{IsCaughtUp}
+use Rattle.ds_reader.proofs.StateLemmas.{journaled_there}
+use Rattle.ds_reader.proofs.SinceLemmas.{Catching, caught_on, caught_up, gone, not_begun}
+use Rattle.ds_reader.proofs.StopLemmas.{stops_since}
+use Rattle.ds_reader.proofs.pages.catch_up.Goals as goal
+
+pub loop-question-init : goal.loop-question-init
+loop-question-init g c = (
+  refl,
+  λ s stands.
+      (not_begun c.laws.ensures (g.A.Asks.stands c.args.asked.now) s c.args.reading.now c.args.from c.args.items.now stands),
+)
+
+pub loop-question-preserved : goal.loop-question-preserved
+loop-question-preserved g c = (
+  c.since.ensures.same ∙ c.loop-question.invariant.0,
+  λ s stands.
+      (let reading = c.args.reading.now in
+      let q = c.loop-question in
+      let stood = g.A.Asks.stands q.asked in
+      let next = g.A.Asks.stands c.since.new.asked in
+      let given = c.in_ok-given.given in
+      let k = q.invariant.1 s stands in
+      let a = c.in_ok-given.ensures.given k.now k.stands in
+      let there = journaled_there c.laws.ensures k.now a.0 _ q.at reading.max given a.1 in
+      let is = subst (λ (x : Scope). IsGiven a.0.feed (is_kept x) q.at reading.max given) c.in_ok-scope.ensures there.0 in
+      let full : reading.max ≤ length given.items = omega (arith, c.len.ensures, c.if-len-reading.false) in
+      subst (λ (l : List Item). Catching next s reading c.args.from given.cursor c.args.items.now l (q._question + 1))
+      (sym c.in_ok-append.ensures)
+      (caught_on c.laws.ensures stood s reading c.args.from q.at c.args.items.now q.items q._question k a.0 there.1 given is next a.2
+      full)),
+)
+
+pub returns-in_err-scope-clause-stopped : goal.returns-in_err-scope-clause-stopped
+returns-in_err-scope-clause-stopped g c =
+    let exit = err_from_is_err_and c.from_residual.result c.from_residual.ensures.1 in
+    rw (exit.1, exit.2) (λ s stands. (let k = c.loop-question.invariant.1 s stands in (k.now, k.goes, k.stands, tt)))
+
+pub returns-in_err-given-clause-stopped : goal.returns-in_err-given-clause-stopped
+returns-in_err-given-clause-stopped g c =
+    let exit = err_from_is_err_and c.from_residual-in_err-given.result c.from_residual-in_err-given.ensures.1 in
+    let q = c.loop-question in
+    rw (exit.1, exit.2) (λ s stands.
+    stops_since c.laws.ensures g.A.Asks.stands g.A.Asks.is_worn q.asked c.since.new.asked s c.args.reading.now _ c.args.from q.at
+    c.args.items.now q.items q._question c.in_err-given.field-0.0 c.in_ok-scope.ensures c.in_err-given.ensures.refused
+    (q.invariant.1 s stands))
+
+pub returns-in_err-append-clause-stopped : goal.returns-in_err-append-clause-stopped
+returns-in_err-append-clause-stopped g c =
+    let exit = err_from_is_err_and c.from_residual-in_err-append.result c.from_residual-in_err-append.ensures.1 in
+    rw (exit.1, exit.2) (λ s stands.
+    (let reading = c.args.reading.now in
+    let q = c.loop-question in
+    let k = q.invariant.1 s stands in
+    let a = c.in_ok-given.ensures.given k.now k.stands in
+    let there = journaled_there c.laws.ensures k.now a.0 _ q.at reading.max c.in_ok-given.given a.1 in (
+      a.0,
+      gone c.laws.ensures (g.A.Asks.stands q.asked) s reading c.args.from q.at c.args.items.now q.items q._question k a.0 there.1,
+      a.2,
+      tt,
+    )))
+
+pub returns-then-len-reading-clause-caught : goal.returns-then-len-reading-clause-caught
+returns-then-len-reading-clause-caught g c = λ s stands.
+    let reading = c.args.reading.now in
+    let q = c.loop-question in
+    let stood = g.A.Asks.stands q.asked in
+    let given = c.in_ok-given.given in
+    let k = q.invariant.1 s stands in
+    let a = c.in_ok-given.ensures.given k.now k.stands in
+    let there = journaled_there c.laws.ensures k.now a.0 _ q.at reading.max given a.1 in
+    let is = subst (λ (x : Scope). IsGiven a.0.feed (is_kept x) q.at reading.max given) c.in_ok-scope.ensures there.0 in
+    let few : length given.items < reading.max = omega (arith, c.len.ensures, c.if-len-reading.true) in
+    let all = caught_up c.laws.ensures stood s reading c.args.from q.at c.args.items.now q.items q._question k a.0 there.1 given is few in (
+      a.0,
+      gone c.laws.ensures stood s reading c.args.from q.at c.args.items.now q.items q._question k a.0 there.1,
+      a.2,
+      subst (λ (l : List Item). IsCaughtUp a.0 reading.query c.args.from c.args.items.now l) (sym c.in_ok-append.ensures) all,
+    )
+
+pub returns-clause-stopped : goal.returns-clause-stopped
+returns-clause-stopped g c = λ s stands.
+    let k = c.loop-question.invariant.1 s stands in
+    let last : c.loop-question._question ≡ c.args.reading.now.questions = omega
+    (arith, c.loop-question-test.false, c.loop-question.auto._question-end) in
+    (k.now, k.goes, k.stands, (k.turns, k.all, k.count_is ∙ last))

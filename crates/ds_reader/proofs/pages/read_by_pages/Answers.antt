@@ -1,0 +1,130 @@
+use Rattle.std.proofs.Common.{◌≡◌, ◌+◌, ◌++◌, List, Option, Some, None, arith, refl, sym, ◌∙◌, subst, inl, inr}
+use Rattle.std.specs.Option.{unwrap_or}
+use Rattle.std.proofs.lemmas.Result.{err_from_is_err_and}
+use Rattle.ds_names.specs.declared.key.Key.{Key}
+use Rattle.ds_entry.specs.declared.item.Item.{Item}
+use Rattle.ds_feed.specs.declared.cursor.Cursor.{Cursor}
+use Rattle.ds_feed.specs.Page.{page_of}
+use Rattle.ds_convergence.specs.Paged.{last_key}
+use Rattle.ds_machine.specs.declared.command.Scope.{Scope}
+use Rattle.ds_machine.specs.Scope.{is_kept}
+use Rattle.ds_machine.specs.State.{held, cursor}
+use Rattle.ds_reader.specs.CaughtUp.{IsCaughtUp}
+use Rattle.ds_reader.specs.GivesUp.{StopsSinces}
+use Rattle.ds_reader.proofs.StateLemmas.{paged_there}
+use Rattle.ds_reader.proofs.PageLemmas.{Paging, all_paged, gone, not_begun, paged_on, read_whole}
+use Rattle.ds_reader.proofs.StopLemmas.{stops_page}
+use Rattle.ds_reader.proofs.pages.read_by_pages.Goals as goal
+
+pub loop-question-init : goal.loop-question-init
+loop-question-init g c = (
+  refl,
+  λ s stands.
+      (let stood = g.A.Asks.stands c.args.asked.now in
+      subst (λ (l : List Item). Paging stood s c.args.reading.now l None None 0) (sym c.new-items.ensures)
+      (not_begun c.laws.ensures stood s c.args.reading.now stands)),
+)
+
+pub loop-question-preserved : goal.loop-question-preserved
+loop-question-preserved g c = (
+  c.page.ensures.same ∙ c.loop-question.invariant.0,
+  λ s stands.
+      (let reading = c.args.reading.now in
+      let q = c.loop-question in
+      let next = g.A.Asks.stands c.page.new.asked in
+      let k = q.invariant.1 s stands in
+      let given = c.in_ok-given.given in
+      let a = c.in_ok-given.ensures.given k.now k.stands in
+      let there = paged_there c.laws.ensures k.now a.0 _ q.after reading.max given a.1 in
+      let is = subst (λ (x : Scope). given ≡ page_of (is_kept x) q.after reading.max (held a.0) (cursor a.0)) c.in_ok-scope.ensures there.0
+      in
+      let on = paged_on c.laws.ensures (g.A.Asks.stands q.asked) s reading q.items q.after q.from q._question k a.0 there.1 given is next
+      a.2 c.if-given.false in
+      subst (λ (l : List Item). Paging next s reading l c.go_behind.new.key (Some c.unwrap_or-first.result) (q._question + 1))
+      (sym c.in_ok-append.ensures)
+      (subst (λ (x : Option Key). Paging next s reading (q.items ++ given.items) x (Some c.unwrap_or-first.result) (q._question + 1))
+      (sym c.go_behind.ensures)
+      (subst (λ (x : Cursor). Paging next s reading (q.items ++ given.items) (last_key q.after given.items) (Some x) (q._question + 1))
+      (sym c.unwrap_or-first.ensures) on))),
+)
+
+pub returns-clause-stopped : goal.returns-clause-stopped
+returns-clause-stopped g c = λ s stands.
+    let k = c.loop-question.invariant.1 s stands in
+    let last : c.loop-question._question ≡ c.args.reading.now.questions = omega
+    (arith, c.loop-question-test.false, c.loop-question.auto._question-end) in
+    (k.now, k.goes, k.stands, inl (k.turns, k.all, k.count_is ∙ last))
+
+pub returns-in_err-scope-clause-stopped : goal.returns-in_err-scope-clause-stopped
+returns-in_err-scope-clause-stopped g c =
+    let exit = err_from_is_err_and c.from_residual.result c.from_residual.ensures.1 in
+    rw (exit.1, exit.2) (λ s stands. (let k = c.loop-question.invariant.1 s stands in (k.now, k.goes, k.stands, inl tt)))
+
+pub returns-in_err-given-clause-stopped : goal.returns-in_err-given-clause-stopped
+returns-in_err-given-clause-stopped g c =
+    let exit = err_from_is_err_and c.from_residual-in_err-given.result c.from_residual-in_err-given.ensures.1 in
+    let q = c.loop-question in
+    rw (exit.1, exit.2) (λ s stands.
+    stops_page c.laws.ensures g.A.Asks.stands g.A.Asks.is_worn q.asked c.page.new.asked s c.args.reading.now _ q.items q.after q.from
+    q._question c.in_err-given.field-0.0 c.in_ok-scope.ensures c.in_err-given.ensures.refused (q.invariant.1 s stands))
+
+pub returns-in_err-append-clause-stopped : goal.returns-in_err-append-clause-stopped
+returns-in_err-append-clause-stopped g c =
+    let exit = err_from_is_err_and c.from_residual-in_err-append.result c.from_residual-in_err-append.ensures.1 in
+    rw (exit.1, exit.2) (λ s stands.
+    (let q = c.loop-question in
+    let k = q.invariant.1 s stands in
+    let a = c.in_ok-given.ensures.given k.now k.stands in
+    let there = paged_there c.laws.ensures k.now a.0 _ q.after c.args.reading.now.max c.in_ok-given.given a.1 in (
+      a.0,
+      gone c.laws.ensures (g.A.Asks.stands q.asked) s c.args.reading.now q.items q.after q.from q._question k a.0 there.1,
+      a.2,
+      inl tt,
+    )))
+
+pub returns-in_err-catch_up-clause-stopped : goal.returns-in_err-catch_up-clause-stopped
+returns-in_err-catch_up-clause-stopped g c =
+    let exit = err_from_is_err_and c.from_residual-in_err-catch_up.result c.from_residual-in_err-catch_up.ensures.1 in
+    rw (exit.1, exit.2) (λ s stands.
+    (let reading = c.args.reading.now in
+    let q = c.loop-question in
+    let stood = g.A.Asks.stands q.asked in
+    let given = c.in_ok-given.given in
+    let k = q.invariant.1 s stands in
+    let a = c.in_ok-given.ensures.given k.now k.stands in
+    let there = paged_there c.laws.ensures k.now a.0 _ q.after reading.max given a.1 in
+    let is = subst (λ (x : Scope). given ≡ page_of (is_kept x) q.after reading.max (held a.0) (cursor a.0)) c.in_ok-scope.ensures there.0 in
+    let b = c.in_err-catch_up.ensures.stopped a.0 a.2 in
+    let all = all_paged c.laws.ensures stood s reading q.items q.after q.from q._question k a.0 there.1 given is c.if-given.true b.0 b.1 in (
+      b.0,
+      c.laws.ensures.later s a.0 b.0 (gone c.laws.ensures stood s reading q.items q.after q.from q._question k a.0 there.1) b.1,
+      b.2,
+      inr (
+        unwrap_or q.from given.cursor,
+        all,
+        subst (λ (x : Cursor). StopsSinces b.0 reading x c.in_err-catch_up.field-0.0)
+            c.unwrap_or-first.ensures b.3,
+      ),
+    )))
+
+pub returns-then-given-clause-whole : goal.returns-then-given-clause-whole
+returns-then-given-clause-whole g c = λ s stands.
+    let reading = c.args.reading.now in
+    let q = c.loop-question in
+    let stood = g.A.Asks.stands q.asked in
+    let given = c.in_ok-given.given in
+    let k = q.invariant.1 s stands in
+    let a = c.in_ok-given.ensures.given k.now k.stands in
+    let there = paged_there c.laws.ensures k.now a.0 _ q.after reading.max given a.1 in
+    let is = subst (λ (x : Scope). given ≡ page_of (is_kept x) q.after reading.max (held a.0) (cursor a.0)) c.in_ok-scope.ensures there.0 in
+    let b = c.in_ok-catch_up.ensures.caught a.0 a.2 in
+    let first = subst (λ (x : Cursor). IsCaughtUp b.0 reading.query x c.append.new.items c.catch_up.new.items) c.unwrap_or-first.ensures b.3
+    in
+    let caught = subst (λ (l : List Item). IsCaughtUp b.0 reading.query (unwrap_or q.from given.cursor) l c.catch_up.new.items)
+    c.in_ok-append.ensures first in (
+      b.0,
+      c.laws.ensures.later s a.0 b.0 (gone c.laws.ensures stood s reading q.items q.after q.from q._question k a.0 there.1) b.1,
+      b.2,
+      read_whole c.laws.ensures stood s reading q.items q.after q.from q._question k a.0 there.1 given is c.if-given.true b.0
+          c.catch_up.new.items b.1 caught,
+    )

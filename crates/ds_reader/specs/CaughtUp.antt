@@ -1,0 +1,16 @@
+-- What the journal added to items.
+use Rattle.std.specs.Prelude.{◌≡◌, List, ◌++◌}
+use Rattle.ds_entry.specs.declared.item.Item.{Item}
+use Rattle.ds_feed.specs.declared.cursor.Cursor.{Cursor}
+use Rattle.ds_pattern.specs.declared.query.Query.{Query}
+use Rattle.ds_pattern.specs.Under.{is_under}
+use Rattle.ds_convergence.specs.Journaled.{SinceTurn, AreSince, cursor_after}
+use Rattle.ds_convergence.specs.Gathered.{journaled}
+use Rattle.ds_machine.specs.State.{State, next_position}
+
+-- replies of the journal from the cursor on, each asked from the cursor that the one before gave, up to the store's cursor
+pub record IsCaughtUp (t : State) (query : Query) (from : Cursor) (items more : List Item) : Type 0 where
+  pub turns : List SinceTurn
+  pub are : AreSince t.feed (is_under query) from turns
+  pub items_are : more ≡ items ++ journaled turns
+  pub to_end : (cursor_after from turns).position ≡ next_position t

@@ -1,0 +1,129 @@
+-- When a reader gives up: where memory is wanting for what it was given, where the store refuses its question, and where as many
+-- questions as may be weren't enough.
+use Rattle.std.specs.Prelude.{◌≡◌, ◌≢◌, ◌⊎◌, ℕ, ◌≤◌, true, List, [], length, None, Some, All}
+use Rattle.std.specs.Option.{unwrap_or}
+use Rattle.ds_entry.specs.declared.item.Item.{Item}
+use Rattle.ds_feed.specs.declared.cursor.Cursor.{Cursor}
+use Rattle.ds_pattern.specs.declared.query.Query.{Query}
+use Rattle.ds_pattern.specs.Under.{is_under}
+use Rattle.ds_convergence.specs.Checked.{CheckTurn, AreChecks}
+use Rattle.ds_convergence.specs.Gathered as gathered
+use Rattle.ds_convergence.specs.Journaled.{SinceTurn, AreSince, cursor_after}
+use Rattle.ds_convergence.specs.Paged.{PageTurn, IsPageTurn}
+use Rattle.ds_convergence.specs.OpenPages.{AreOpenPages, key_after, position_after, first_cursor}
+use Rattle.ds_machine.specs.State.{State, next_position, subscription_at}
+use Rattle.ds_machine.specs.Subscription.{Subscription}
+use Rattle.ds_machine.specs.Effect.{GoesOn}
+use Rattle.ds_machine.specs.Machine.{Step}
+use Rattle.ds_machine.specs.declared.refusal.Refusal.{Refusal}
+use Rattle.ds_machine.specs.declared.command.Command.{Command}
+use Rattle.ds_machine.specs.declared.command.Command.TheVariants.{Check, Since, Page}
+use Rattle.ds_machine.specs.declared.command.Scope.TheVariants.{Under}
+use Rattle.ds_machine.specs.declared.reply.Reply.TheVariants as replies
+use Rattle.ds_judge.specs.Last.{IsLast}
+use Rattle.ds_reader.specs.Asked.{Goes, subscribe_anew}
+use Rattle.ds_reader.specs.declared.fault.ReadFault.{ReadFault}
+use Rattle.ds_reader.specs.declared.fault.ReadFault.TheVariants.{Refused, Unfinished, Overtaken}
+use Rattle.ds_reader.specs.declared.reading.Reading.{Reading}
+
+-- in this state the store refuses the command for this cause, and want of memory comes last
+pub record IsCommandRefused (t : State) (command : Command) (refusal : Refusal) : Type 0 where
+  pub step : Step t command (replies.Refused refusal) t
+  pub last : IsLast t command (replies.Refused refusal)
+
+-- ---- a reader by checks
+
+-- the place has a subscription to the query that was shown these items
+pub record Shows (s : State) (sub : ℕ) (query : Query) (shown : List Item) : Type 0 where
+  pub seer : Subscription
+  pub here : subscription_at s sub ≡ Some seer
+  pub query_is : seer.query ≡ query
+  pub shown_is : seer.shown ≡ shown
+
+-- a Check that gave as many items as it was asked for
+pub record IsFull (max : ℕ) (t : CheckTurn) : Type 0 where
+  pub asked : t.max ≡ max
+  pub full : max ≤ length t.items
+
+-- a run of the machine leads here from where the subscription had been shown these items, and no others
+pub record WasLeft (t : State) (sub : ℕ) (query : Query) (shown : List Item) : Type 0 where
+  pub left : State
+  pub shows : Shows left sub query shown
+  pub goes : Goes left t
+
+-- the Checks so far, since the Subscribe, all of them full, which left the subscription with what they gave
+pub record AreAllFull (s t : State) (sub : ℕ) (reading : Reading) (turns : List CheckTurn) : Type 0 where
+  pub are : AreChecks s.feed t.feed (is_under reading.query) [] turns
+  pub full : All (IsFull reading.max) turns
+  pub was_left : WasLeft t sub reading.query (gathered.checked turns)
+
+-- behind the Checks so far one more, before which the subscription was `found`, told another stamp than that with which the reader
+-- had left it
+pub record IsOvertaken (s t : State) (sub : ℕ) (reading : Reading) (turns : List CheckTurn) : Type 0 where
+  pub found : State
+  pub all : AreAllFull s found sub reading turns
+  pub seer : Subscription
+  pub here : subscription_at found sub ≡ Some seer
+  pub differs : seer.stamp ≢ all.was_left.shows.seer.stamp
+  pub goes : GoesOn found t
+
+-- the store, which is `t` now, refused the Subscribe, with which the reader begins, or the next Check, or another took the
+-- subscription over, or there were as many Checks as may be
+abbrev pub StopsChecks : State → State → ℕ → Reading → ReadFault → Type 0
+StopsChecks s t sub reading (Refused refusal) =
+    IsCommandRefused t (subscribe_anew sub reading.query) refusal ⊎
+    ((turns : List CheckTurn) × AreAllFull s t sub reading turns × IsCommandRefused t (Check sub reading.max) refusal)
+StopsChecks s t sub reading Unfinished = (turns : List CheckTurn) × AreAllFull s t sub reading turns × (length turns ≡ reading.questions)
+StopsChecks s t sub reading Overtaken = (turns : List CheckTurn) × IsOvertaken s t sub reading turns
+StopsChecks s t sub reading _ = Unit {0}
+
+-- ---- a reader by the journal
+
+-- a reply of the journal that gave as many items as it was asked for
+pub record IsFullSince (max : ℕ) (t : SinceTurn) : Type 0 where
+  pub asked : t.max ≡ max
+  pub full : max ≤ length t.since.items
+
+-- the journal's replies so far, from the cursor on, all of them full
+pub record AreFullSinces (t : State) (reading : Reading) (from : Cursor) (turns : List SinceTurn) : Type 0 where
+  pub are : AreSince t.feed (is_under reading.query) from turns
+  pub full : All (IsFullSince reading.max) turns
+
+-- the next question to the journal was refused, or there were as many as may be
+abbrev pub StopsSinces : State → Reading → Cursor → ReadFault → Type 0
+StopsSinces t reading from (Refused refusal) =
+    (turns : List SinceTurn) × AreFullSinces t reading from turns ×
+    IsCommandRefused t (Since (Under reading.query) (cursor_after from turns) reading.max) refusal
+StopsSinces t reading from Unfinished = (turns : List SinceTurn) × AreFullSinces t reading from turns × (length turns ≡ reading.questions)
+StopsSinces t reading from _ = Unit {0}
+
+-- ---- a reader by pages
+
+-- the pages so far, since the reader began, none of which was the last
+pub record AreAllOpen (s t : State) (reading : Reading) (pages : List PageTurn) : Type 0 where
+  pub are : AreOpenPages t.feed (is_under reading.query) None (next_position s) pages
+  pub asked : All (λ page. page.max ≡ reading.max) pages
+
+-- all pages were read, and this is the cursor of the first one
+pub record ArePaged (s t : State) (reading : Reading) (from : Cursor) : Type 0 where
+  pub pages : List PageTurn
+  pub open_ones : AreAllOpen s t reading pages
+  pub last : PageTurn
+  pub is : IsPageTurn t.feed (is_under reading.query) (key_after None pages) last
+  pub asked : last.max ≡ reading.max
+  pub no_earlier : position_after (next_position s) pages ≤ last.page.cursor.position
+  pub ends : last.page.last ≡ true
+  pub from_is : from ≡ unwrap_or (first_cursor pages) last.page.cursor
+
+-- the next page was refused, or there were as many as may be
+abbrev pub StopsOpen : State → State → Reading → ReadFault → Type 0
+StopsOpen s t reading (Refused refusal) =
+    (pages : List PageTurn) × AreAllOpen s t reading pages ×
+    IsCommandRefused t (Page (Under reading.query) (key_after None pages) reading.max) refusal
+StopsOpen s t reading Unfinished = (pages : List PageTurn) × AreAllOpen s t reading pages × (length pages ≡ reading.questions)
+StopsOpen s t reading _ = Unit {0}
+
+-- it stopped before the last page, or behind it at the journal
+abbrev pub StopsPages : State → State → Reading → ReadFault → Type 0
+StopsPages s t reading fault =
+    StopsOpen s t reading fault ⊎ ((from : Cursor) × ArePaged s t reading from × StopsSinces t reading from fault)

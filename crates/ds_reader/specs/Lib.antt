@@ -1,0 +1,6 @@
+pub mod Asked
+pub mod ReadWhole
+pub mod CaughtUp
+pub mod GivesUp
+pub mod Laws
+pub mod Stops

@@ -1,0 +1,52 @@
+//! Who answers a reader's commands.
+
+ghost use Rattle.std.specs.Prelude.{◌≡◌, Option, None, IfSome};
+ghost use Rattle.ds_machine.specs.State.{State};
+ghost use Rattle.ds_machine.specs.Says.{IsReplyTo};
+ghost use Rattle.ds_reader.specs.Asked.{GetsReply, OthersAsked};
+
+use ds_machine::{Command, Reply};
+use ds_store::Store;
+
+/// A store that answers commands, while others may ask it too: between any two commands they may have made any run of its
+/// machine.
+pub trait Asks {
+    ghost use Rattle.ds_machine.specs.State.{State};
+
+    // What no question changes of the one who asks, as which pass it is, and of which desk.
+    ghost Origin: { Type 0 };
+
+    ghost origin_of: { Self → Origin };
+
+    // The states that the store may be in, for all that the asker knows.
+    ghost stands: { Self → State → Type 0 };
+
+    // Nothing can be asked any more.
+    ghost is_worn: { Self → Type 0 };
+
+    /// Asks the command, when others may have asked since the last one. `None` where nothing can be asked any more; then
+    /// only others have.
+    fn ask(&mut self, command: Command) -> Option<Reply>
+        ensures asked { IfSome result (λ reply. GetsReply stands self.old command reply self.new) }
+        ensures fits { IfSome result (λ reply. IsReplyTo command reply) }
+        ensures went { result ≡ None → OthersAsked stands self.old self.new }
+        ensures same { origin_of self.new ≡ origin_of self.old }
+        ensures worn { result ≡ None → is_worn self.new };
+}
+
+// A store that nobody else asks.
+impl Asks for Store {
+    ghost use Rattle.ds_content.specs.Stands.{ContentStands};
+
+    ghost Origin = { Unit {0} };
+
+    ghost origin_of = { λ _. tt };
+
+    ghost stands = { ContentStands };
+
+    ghost is_worn = { λ _. ⊥ };
+
+    fn ask(&mut self, command: Command) -> Option<Reply> {
+        Some(self.apply(command))
+    }
+}

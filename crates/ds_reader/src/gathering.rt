@@ -1,0 +1,51 @@
+//! Items that are put together, reply by reply.
+
+ghost use Rattle.std.specs.Prelude.{◌≡◌, ◌++◌, ◌∷◌, [], OnOk, IfOk};
+ghost use Rattle.ds_machine.specs.declared.command.Scope.TheVariants.{Under};
+ghost use Rattle.ds_convergence.specs.Paged.{last_key};
+
+use ds_entry::{Item, Items};
+use ds_machine::Scope;
+use ds_names::{Key, NoRoom};
+use ds_pattern::Query;
+use std::alloc::Global;
+
+/// Puts copies of the items behind those that are there.
+pub(crate) fn append(alloc: Global, items: &mut Items, more: &Items) -> Result<(), NoRoom>
+    ensures { OnOk result (items.new ≡ items.old ++ more.now) }
+{
+    for index in 0..more.len() {
+        if let Some(item) = more.get(index) {
+            items.push(item.copy(alloc)?)?;
+        }
+    }
+    Ok(())
+}
+
+// Goes on to the key of a change.
+fn go_behind_item(key: &mut Option<Key>, item: &Item)
+    ensures { key.new ≡ last_key key.old (item.now ∷ []) }
+{
+    match item {
+        Item::Change(change) => *key = Some(*change.key()),
+        Item::Floor(_) => {}
+    }
+}
+
+/// Goes on to the key of the last change among the items, if there is one.
+pub(crate) fn go_behind(key: &mut Option<Key>, items: &Items)
+    ensures { key.new ≡ last_key key.old items.now }
+{
+    for index in 0..items.len() {
+        if let Some(item) = items.get(index) {
+            go_behind_item(key, item);
+        }
+    }
+}
+
+/// All that is under the query.
+pub(crate) fn scope_of(alloc: Global, query: &Query) -> Result<Scope, NoRoom>
+    ensures { IfOk result (λ scope. scope ≡ Under query.now) }
+{
+    Ok(Scope::Under(query.copy(alloc)?))
+}

@@ -1,0 +1,20 @@
+//! What a reader knows of a store.
+
+ghost use Rattle.ds_reader.specs.Laws.{ReaderLaws};
+
+use ds_convergence::{turn_laws, whole_laws};
+use ds_machine::{answers_say, states_are_reached, steps_have_effects, subscriptions_are_kept};
+use ds_replica::stores_grow;
+
+/// The laws from which a reader tells that nothing is left out.
+pub(crate) fn laws()
+    ensures { ReaderLaws }
+{
+    whole_laws();
+    turn_laws();
+    states_are_reached();
+    steps_have_effects();
+    subscriptions_are_kept();
+    answers_say();
+    stores_grow();
+}

@@ -1,0 +1,44 @@
+//! Who else asks a store.
+
+ghost use Rattle.ds_store.specs.Steps.{ContentSteps};
+ghost use Rattle.ds_reader.specs.Asked.{Goes};
+
+use crate::asks::Asks;
+use ds_machine::{Command, Reply};
+use ds_store::Store;
+
+/// Those who ask a store between two questions of a reader.
+pub trait Others {
+    ghost use Rattle.ds_store.specs.Steps.{ContentSteps};
+    ghost use Rattle.ds_reader.specs.Asked.{Goes};
+
+    /// They ask, each command one step of the store's machine.
+    fn ask(&mut self, store: &mut Store)
+        ensures { ContentSteps store.old Goes store.new };
+}
+
+/// A store among others, who ask it before each question.
+#[derive(Drop)]
+pub struct Among<O> {
+    /// The store.
+    pub store: Store,
+    /// The others.
+    pub others: O,
+}
+
+impl<O: Others> Asks for Among<O> {
+    ghost use Rattle.ds_content.specs.Stands.{ContentStands};
+
+    ghost Origin = { Unit {0} };
+
+    ghost origin_of = { λ _. tt };
+
+    ghost stands = { λ it s. ContentStands it.store s };
+
+    ghost is_worn = { λ _. ⊥ };
+
+    fn ask(&mut self, command: Command) -> Option<Reply> {
+        self.others.ask(&mut self.store);
+        Some(self.store.apply(command))
+    }
+}

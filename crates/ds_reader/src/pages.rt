@@ -1,0 +1,81 @@
+//! A store read by pages.
+
+ghost use Rattle.std.specs.Prelude.{◌≡◌, Err, IfOk, OnOk, IfErr};
+ghost use Rattle.ds_reader.specs.Asked.{ComesTo};
+ghost use Rattle.ds_reader.specs.CaughtUp.{IsCaughtUp};
+ghost use Rattle.ds_reader.specs.GivesUp.{StopsPages, StopsSinces};
+ghost use Rattle.ds_reader.specs.ReadWhole.{IsReadWhole};
+
+use crate::asking::{page, since};
+use crate::asks::Asks;
+use crate::fault::ReadFault;
+use crate::gathering::{append, go_behind, scope_of};
+use crate::known::laws;
+use crate::reading::Reading;
+use ds_entry::Items;
+use ds_feed::Cursor;
+use std::alloc::Global;
+
+// Adds to the items what took effect from the cursor on, while others go on, up to the store's cursor: it asks until a reply gives
+// fewer items than it asked for.
+fn catch_up<A: Asks>(
+    alloc: Global,
+    asked: &mut A,
+    reading: &Reading,
+    from: Cursor,
+    items: &mut Items,
+) -> Result<(), ReadFault>
+    ensures caught { OnOk result (ComesTo A.stands asked.old asked.new (λ _ t. IsCaughtUp t reading.now.query from items.old items.new)) }
+    ensures stopped { IfErr result (λ fault. ComesTo A.stands asked.old asked.new (λ _ t. StopsSinces t reading.now from fault)) }
+    ensures worn { result ≡ Err ReadFault.Worn → A.is_worn asked.new }
+    ensures same { A.origin_of asked.new ≡ A.origin_of asked.old }
+{
+    laws();
+    let mut at = from;
+    for _question in 0..reading.questions {
+        let scope = scope_of(alloc, &reading.query)?;
+        let given = since(asked, scope, at, reading.max)?;
+        append(alloc, items, &given.items)?;
+        at = given.cursor;
+        if given.items.len() < reading.max as usize {
+            return Ok(());
+        }
+    }
+    Err(ReadFault::Unfinished)
+}
+
+/// Reads a store by pages, while others go on, and then by the journal from the first page's cursor on. The items leave out
+/// nothing of what took effect under the query up to the store's cursor then.
+///
+/// Where it gives up, the store has gone on by what others asked. It is `Refused` just where the store refused the next page, or
+/// the next question to the journal, by this cause, and `Unfinished` just where as many questions of one kind as may be were
+/// asked: none of the pages was the last one, or each of the journal's replies gave as many items as it was asked for. No page
+/// is of a time before it began. `Worn`: nothing can be asked any more.
+pub fn read_by_pages<A: Asks>(
+    alloc: Global,
+    asked: &mut A,
+    reading: &Reading,
+) -> Result<Items, ReadFault>
+    ensures whole { IfOk result (λ items. ComesTo A.stands asked.old asked.new (λ _ t. IsReadWhole t reading.now.query items)) }
+    ensures stopped { IfErr result (λ fault. ComesTo A.stands asked.old asked.new (λ s t. StopsPages s t reading.now fault)) }
+    ensures worn { result ≡ Err ReadFault.Worn → A.is_worn asked.new }
+    ensures same { A.origin_of asked.new ≡ A.origin_of asked.old }
+{
+    laws();
+    let mut items = Items::new(alloc);
+    let mut after = None;
+    let mut from = None;
+    for _question in 0..reading.questions {
+        let scope = scope_of(alloc, &reading.query)?;
+        let given = page(asked, scope, after, reading.max)?;
+        append(alloc, &mut items, &given.items)?;
+        let first = from.unwrap_or(given.cursor);
+        if given.last {
+            catch_up(alloc, asked, reading, first, &mut items)?;
+            return Ok(items);
+        }
+        go_behind(&mut after, &given.items);
+        from = Some(first);
+    }
+    Err(ReadFault::Unfinished)
+}

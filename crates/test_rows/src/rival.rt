@@ -1,0 +1,21 @@
+//! Another service, which takes a reader's subscription for its own.
+
+use ds_machine::Command;
+use ds_reader::Others;
+use ds_store::Store;
+
+/// It checks the subscription for one item whenever it is its turn.
+#[derive(Drop)]
+pub(crate) struct Rival {
+    /// The subscription's number.
+    pub sub: u32,
+}
+
+impl Others for Rival {
+    fn ask(&mut self, store: &mut Store) {
+        store.apply(Command::Check {
+            sub: self.sub,
+            max: 1,
+        });
+    }
+}

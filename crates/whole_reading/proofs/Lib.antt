@@ -1,5 +1,0 @@
-pub mod ListLemmas
-pub mod StateLemmas
-pub mod CheckLemmas
-pub mod SinceLemmas
-pub mod PageLemmas

@@ -1,7 +1,0 @@
-use Rattle.std.proofs.Common.{◌≡◌, take}
-use Rattle.ds_whole.specs.Paged.{last_key}
-use Rattle.whole_reading.proofs.gathering.go_behind.Given as goal
-
--- it is the last key of the first ones
-abbrev pub invariant-loop-index : goal.invariant-loop-index
-invariant-loop-index l = l.key ≡ last_key l.fn.key (take l.index l.items)
