@@ -321,7 +321,7 @@ rises_step t u call (Ok moves) label g s = subst (λ (x : DriverTable). Rises t.
 rises_step t u call (Err fault) label g s = subst (λ (x : DriverTable). Rises t.states x.states label g) (sym s.unchanged) (stays t.states label g)
 
 pub newest_rises : NewestRises
-newest_rises t u [] label g run e = (g, ap (λ (x : DriverTable). newest x.states label) run ∙ e, omega arith)
+newest_rises t u [] label g run e = (g, ap (λ (x : DriverTable). newest x.states label) (sym run) ∙ e, omega arith)
 newest_rises t u (entry ∷ entries) label g run e =
     let first = rises_step t run.0 entry.call entry.answer label g run.1 e in
     let rest = newest_rises run.0 u entries label first.0 run.2 first.1 in

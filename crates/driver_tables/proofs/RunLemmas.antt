@@ -83,7 +83,7 @@ reached_step t u call (Ok moves) s h = subst IsTableReached (sym s.after) (reach
 reached_step t u call (Err fault) s h = subst IsTableReached (sym s.unchanged) h
 
 pub reached_run : (t u : DriverTable) (entries : List Entry) → TableRun t entries u → IsTableReached t → IsTableReached u
-reached_run t u [] run h = subst IsTableReached (sym run) h
+reached_run t u [] run h = subst IsTableReached run h
 reached_run t u (entry ∷ entries) run h = reached_run run.0 u entries run.2 (reached_step t run.0 entry.call entry.answer run.1 h)
 
 pub reached : (t : DriverTable) (entries : List Entry) → TableRun empty_table entries t → IsTableReached t
@@ -142,7 +142,7 @@ tells_step t u call (Err fault) s = subst (λ (u : DriverTable). Tells t u [] (r
 pub tells_run : (t u : DriverTable) (entries : List Entry) → TableRun t entries u →
     (u.requests ≡ t.requests ++ requests_in entries) × (u.sends ≡ t.sends ++ flat_map sends_of (all_moves_in entries)) × (u.answers ≡ t.answers ++ flat_map answered_by (all_moves_in entries))
 tells_run t u [] run =
-    (ap (λ (x : DriverTable). x.requests) run ∙ sym (append-nil t.requests), ap (λ (x : DriverTable). x.sends) run ∙ sym (append-nil t.sends), ap (λ (x : DriverTable). x.answers) run ∙ sym (append-nil t.answers))
+    (ap (λ (x : DriverTable). x.requests) (sym run) ∙ sym (append-nil t.requests), ap (λ (x : DriverTable). x.sends) (sym run) ∙ sym (append-nil t.sends), ap (λ (x : DriverTable). x.answers) (sym run) ∙ sym (append-nil t.answers))
 tells_run t u (entry ∷ entries) run =
     let mid = run.0 in
     let first = tells_step t mid entry.call entry.answer run.1 in

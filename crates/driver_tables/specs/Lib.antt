@@ -10,6 +10,7 @@ pub mod Submit
 pub mod Reply
 pub mod Reached
 pub mod Stands
+pub mod Outcome
 pub mod Value
 pub mod Devices
 pub mod Requests

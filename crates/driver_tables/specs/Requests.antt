@@ -1,5 +1,6 @@
 -- What private functions read and change of the pending requests.
 use Rattle.std.specs.Prelude.{if◌then◌else◌, ℕ, ◌==◌, Bool, true, false, not, List, Option, Some, None}
+use Rattle.std.specs.List.{filter_map, retain_mut}
 use Rattle.std.specs.Option.{option_map, option_map_or}
 use Rattle.std.specs.Map.{lookup}
 use Rattle.ds_names.specs.Endpoint.{EndpointRecord}
@@ -30,6 +31,10 @@ settled_by label state p d = if is_same_name label d.label then settled d.class 
 abbrev pub settled_in : List (ℕ × Device) → List ℕ → Option EndpointRecord → Pending → Option Move
 settled_in devices label state p = option_map_or (settled_by label state p) (lookup (λ u. p.unit == u) devices) None
 
+-- what it makes of all of them, in order
+abbrev pub all_settled_in : List (ℕ × Device) → List ℕ → Option EndpointRecord → List Pending → List Move
+all_settled_in devices label state pending = filter_map (settled_in devices label state) pending
+
 -- the request as its move leaves it
 abbrev pub kept_after : Option Move → Pending → Pending
 kept_after (Some (Send id endpoint)) p = record { id = p.id; unit = p.unit; sent = Some endpoint }
@@ -40,3 +45,7 @@ is_kept_in devices label state p = stays_pending (settled_in devices label state
 
 abbrev pub kept_in : List (ℕ × Device) → List ℕ → Option EndpointRecord → Pending → Pending
 kept_in devices label state p = kept_after (settled_in devices label state p) p
+
+-- the requests that stay pending, each as its move leaves it
+abbrev pub all_kept_in : List (ℕ × Device) → List ℕ → Option EndpointRecord → List Pending → List Pending
+all_kept_in devices label state pending = retain_mut (is_kept_in devices label state) (kept_in devices label state) pending

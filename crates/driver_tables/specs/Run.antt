@@ -2,6 +2,7 @@
 use Rattle.std.specs.Prelude.{◌≡◌, ℕ, List, [], ◌∷◌, Option, Some, None, Result, Ok, Err, OnOk, OnErr}
 use Rattle.std.specs.List.{flat_map, filter_map}
 use Rattle.ds_names.specs.Endpoint.{EndpointRecord}
+use Rattle.history.specs.History.{Path}
 use Rattle.driver_tables.specs.declared.moves.Move.{Move}
 use Rattle.driver_tables.specs.declared.fault.TableFault.{TableFault}
 use Rattle.driver_tables.specs.Driver.{Driver}
@@ -47,8 +48,7 @@ pub record Entry : Type 0 where
 
 -- the calls were answered so, one after the other
 abbrev pub TableRun : DriverTable → List Entry → DriverTable → Type 0
-TableRun t [] u = u ≡ t
-TableRun t (entry ∷ entries) u = (mid : DriverTable) × TableStep t entry.call entry.answer mid × TableRun mid entries u
+TableRun = Path (λ t entry u. TableStep t entry.call entry.answer u)
 
 -- ---- what was answered
 

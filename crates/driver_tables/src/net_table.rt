@@ -1,9 +1,9 @@
 //! The driver table of a network server.
 
-ghost use Rattle.std.specs.Prelude.{◌≡◌, OnOk, OnErr};
+ghost use Rattle.std.specs.Prelude.{◌≡◌, OnErr};
 ghost use Rattle.driver_tables.specs.Label.{newest};
 ghost use Rattle.driver_tables.specs.DriverTable.{DriverTable, empty_table};
-ghost use Rattle.driver_tables.specs.Answer.{IsAnswer};
+ghost use Rattle.driver_tables.specs.Outcome.{AnswersAs, LeavesAs};
 ghost use Rattle.driver_tables.specs.Room.{LacksOnlyWhere, StateTakesMemory, RequestTakesMemory};
 ghost use Rattle.driver_tables.specs.Assign.{assigning};
 ghost use Rattle.driver_tables.specs.Changed.{changing};
@@ -51,8 +51,8 @@ impl NetTable {
     ///
     /// Where its label has other ports, the new one has their endpoint now.
     pub fn assign(&mut self, port: u8, label: &Name) -> Result<(), TableFault>
-        ensures answer { (t : DriverTable) → TableStands self.old t → IsAnswer (assigning t port (net_driver label.now)).0 result }
-        ensures after { (t : DriverTable) → TableStands self.old t → OnOk result (TableStands self.new (assigning t port (net_driver label.now)).1) }
+        ensures answer { AnswersAs self.old (λ t. assigning t port (net_driver label.now)) result }
+        ensures after { LeavesAs self.old (λ t. assigning t port (net_driver label.now)) result self.new }
         ensures unchanged { OnErr result (self.new ≡ self.old) }
     {
         self.table.assign(port, Class::Network, label)
@@ -66,9 +66,9 @@ impl NetTable {
     /// generation is below the greatest that the label had, or is that one and the endpoint isn't the one now.
     /// NoRoom comes last, and only where there are moves.
     pub fn changed(&mut self, label: &Name, state: Option<Endpoint>) -> Result<Moves, TableFault>
-        ensures answer { (t : DriverTable) → TableStands self.old t → IsAnswer (changing t label.now state).0 result }
+        ensures answer { AnswersAs self.old (λ t. changing t label.now state) result }
         ensures room { (t : DriverTable) → TableStands self.old t → LacksOnlyWhere (StateTakesMemory t label.now state) result }
-        ensures after { (t : DriverTable) → TableStands self.old t → OnOk result (TableStands self.new (changing t label.now state).1) }
+        ensures after { LeavesAs self.old (λ t. changing t label.now state) result self.new }
         ensures unchanged { OnErr result (self.new ≡ self.old) }
     {
         self.table.changed(label, &state)
@@ -86,9 +86,9 @@ impl NetTable {
     ///
     /// TwoIds, then NoDevice, which uses no id. NoRoom comes last, and only for a request that is sent.
     pub fn submit(&mut self, id: u64, port: u8) -> Result<Move, TableFault>
-        ensures answer { (t : DriverTable) → TableStands self.old t → IsAnswer (submitting t id port).0 result }
+        ensures answer { AnswersAs self.old (λ t. submitting t id port) result }
         ensures room { (t : DriverTable) → TableStands self.old t → LacksOnlyWhere (RequestTakesMemory t id port) result }
-        ensures after { (t : DriverTable) → TableStands self.old t → OnOk result (TableStands self.new (submitting t id port).1) }
+        ensures after { LeavesAs self.old (λ t. submitting t id port) result self.new }
         ensures unchanged { OnErr result (self.new ≡ self.old) }
     {
         self.table.submit(id, port)
@@ -99,7 +99,7 @@ impl NetTable {
     /// NotPending, then OldEndpoint where the request wasn't last sent to this endpoint.
     pub fn reply(&mut self, endpoint: Endpoint, id: u64) -> Result<Move, TableFault>
         ensures answer { (t : DriverTable) → TableStands self.old t → result ≡ (replying t endpoint id).0 }
-        ensures after { (t : DriverTable) → TableStands self.old t → OnOk result (TableStands self.new (replying t endpoint id).1) }
+        ensures after { LeavesAs self.old (λ t. replying t endpoint id) result self.new }
         ensures unchanged { OnErr result (self.new ≡ self.old) }
     {
         self.table.reply(endpoint, id)

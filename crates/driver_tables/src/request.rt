@@ -1,10 +1,11 @@
 //! The pending requests, in order of submission.
 
 ghost use Rattle.std.specs.Prelude.{◌≡◌, ◌≢◌, ◌++◌, ◌==◌, [], Bool, true, false, filter, not, OnOk, OnErr};
-ghost use Rattle.std.specs.List.{find, filter_map, retain_mut};
+ghost use Rattle.std.specs.List.{find};
 ghost use Rattle.std.specs.Option.{option_map};
 ghost use Rattle.driver_tables.specs.Submit.{submitted};
-ghost use Rattle.driver_tables.specs.Requests.{is_ending, stays_pending, sent_again, settled_by, settled_in, kept_after, is_kept_in, kept_in};
+ghost use Rattle.driver_tables.specs.Requests.{is_ending, stays_pending, sent_again, settled_by, settled_in, all_settled_in};
+ghost use Rattle.driver_tables.specs.Requests.{kept_after, is_kept_in, kept_in, all_kept_in};
 
 use crate::device::{Class, Device, device_at};
 use crate::moves::{Ending, Move, Moves};
@@ -79,8 +80,8 @@ pub(crate) fn add_settled(
     label: &Name,
     state: &Option<Endpoint>,
 ) -> Result<(), NoRoom>
-    ensures added { OnOk result (moves.new ≡ moves.old ++ filter_map (settled_in devices.now.entries label.now state.now) pending.now.items) }
-    ensures room { OnErr result (filter_map (settled_in devices.now.entries label.now state.now) pending.now.items ≢ []) }
+    ensures added { OnOk result (moves.new ≡ moves.old ++ all_settled_in devices.now.entries label.now state.now pending.now.items) }
+    ensures room { OnErr result (all_settled_in devices.now.entries label.now state.now pending.now.items ≢ []) }
 {
     for p in pending {
         moves.add(settled(devices, label, state, p))?;
@@ -95,7 +96,7 @@ pub(crate) fn settle(
     label: &Name,
     state: &Option<Endpoint>,
 )
-    ensures { pending.new.items ≡ retain_mut (is_kept_in devices.now.entries label.now state.now) (kept_in devices.now.entries label.now state.now) pending.old.items }
+    ensures { pending.new.items ≡ all_kept_in devices.now.entries label.now state.now pending.old.items }
 {
     pending.retain_mut(
         |p: &mut Pending| -> bool

@@ -1,9 +1,9 @@
 //! What the tables of both servers are made of.
 
-ghost use Rattle.std.specs.Prelude.{◌≡◌, OnOk, OnErr};
+ghost use Rattle.std.specs.Prelude.{◌≡◌, OnErr};
 ghost use Rattle.driver_tables.specs.Label.{newest};
 ghost use Rattle.driver_tables.specs.DriverTable.{DriverTable, empty_table};
-ghost use Rattle.driver_tables.specs.Answer.{IsAnswer};
+ghost use Rattle.driver_tables.specs.Outcome.{AnswersAs, LeavesAs};
 ghost use Rattle.driver_tables.specs.Room.{LacksOnlyWhere, StateTakesMemory, RequestTakesMemory};
 ghost use Rattle.driver_tables.specs.Assign.{assigning};
 ghost use Rattle.driver_tables.specs.Changed.{changing};
@@ -52,8 +52,8 @@ impl Table {
     }
 
     pub fn assign(&mut self, unit: u8, class: Class, label: &Name) -> Result<(), TableFault>
-        ensures answer { (t : DriverTable) → TableStands self.old t → IsAnswer (assigning t unit (record { class = class; label = label.now })).0 result }
-        ensures after { (t : DriverTable) → TableStands self.old t → OnOk result (TableStands self.new (assigning t unit (record { class = class; label = label.now })).1) }
+        ensures answer { AnswersAs self.old (λ t. assigning t unit (record { class = class; label = label.now })) result }
+        ensures after { LeavesAs self.old (λ t. assigning t unit (record { class = class; label = label.now })) result self.new }
         ensures unchanged { OnErr result (self.new ≡ self.old) }
     {
         if self.devices.contains_key(&unit) {
@@ -71,9 +71,9 @@ impl Table {
     }
 
     pub fn changed(&mut self, label: &Name, state: &Option<Endpoint>) -> Result<Moves, TableFault>
-        ensures answer { (t : DriverTable) → TableStands self.old t → IsAnswer (changing t label.now state.now).0 result }
+        ensures answer { AnswersAs self.old (λ t. changing t label.now state.now) result }
         ensures room { (t : DriverTable) → TableStands self.old t → LacksOnlyWhere (StateTakesMemory t label.now state.now) result }
-        ensures after { (t : DriverTable) → TableStands self.old t → OnOk result (TableStands self.new (changing t label.now state.now).1) }
+        ensures after { LeavesAs self.old (λ t. changing t label.now state.now) result self.new }
         ensures unchanged { OnErr result (self.new ≡ self.old) }
     {
         let Some(device) = first_of(&self.devices, label) else {
@@ -101,9 +101,9 @@ impl Table {
     }
 
     pub fn submit(&mut self, id: u64, unit: u8) -> Result<Move, TableFault>
-        ensures answer { (t : DriverTable) → TableStands self.old t → IsAnswer (submitting t id unit).0 result }
+        ensures answer { AnswersAs self.old (λ t. submitting t id unit) result }
         ensures room { (t : DriverTable) → TableStands self.old t → LacksOnlyWhere (RequestTakesMemory t id unit) result }
-        ensures after { (t : DriverTable) → TableStands self.old t → OnOk result (TableStands self.new (submitting t id unit).1) }
+        ensures after { LeavesAs self.old (λ t. submitting t id unit) result self.new }
         ensures unchanged { OnErr result (self.new ≡ self.old) }
     {
         if !is_above(self.last, id) {
@@ -123,7 +123,7 @@ impl Table {
 
     pub fn reply(&mut self, endpoint: Endpoint, id: u64) -> Result<Move, TableFault>
         ensures answer { (t : DriverTable) → TableStands self.old t → result ≡ (replying t endpoint id).0 }
-        ensures after { (t : DriverTable) → TableStands self.old t → OnOk result (TableStands self.new (replying t endpoint id).1) }
+        ensures after { LeavesAs self.old (λ t. replying t endpoint id) result self.new }
         ensures unchanged { OnErr result (self.new ≡ self.old) }
     {
         let Some(sent) = sent_of(&self.pending, id) else {

@@ -1,89 +1,339 @@
--- What RS keeps, over the writes of a stop and of a start in one slot.
-use Rattle.std.proofs.Common.{◌≡◌, ◌≢◌, ℕ, ◌<◌, ◌≤◌, ◌+◌, ◌-◌, ◌^◌, List, get_or, length, false, Option, Some, refl, sym, ◌∙◌, ap, subst, inl, inr, cond, arith}
+-- What RS keeps, over the write of one state and of the slots.
+use Rattle.std.proofs.Common.{◌≡◌, ◌≢◌, ℕ, ◌<◌, ◌≤◌, ◌+◌, ◌-◌, ◌^◌, ◌==◌, nat_lt, Bool, true, false, cond, List, [], ◌∷◌, get_or, length, refl, sym, ◌∙◌, ap, subst, inl, inr, ◌⊎◌, lt-ltb, le-ltb, eq-eqb, ne_eqb, arith}
+use Rattle.std.specs.Prelude.{count_by, ◌↔◌}
 use Rattle.std.proofs.Math.ListN.{set, length-set}
 use Rattle.std.proofs.lemmas.List.{get_or-set_same, get_or-set_other}
-use Rattle.std.proofs.lemmas.Bool.{cases_eq}
-use Rattle.std.proofs.Common.{◌⊎◌}
+use Rattle.std.proofs.lemmas.List.Sums.{count_by-le-length, get_or-le-sum_by, sum_by-cons, sum_by-set}
+use Rattle.std.proofs.lemmas.Bool.{cases_eq, cases_lt}
 use Rattle.std.proofs.Math.Pow.{pow_mono}
-use Rattle.std.proofs.lemmas.List.Sums.{sum_by-set}
-use Rattle.slab.specs.Slab.{Slab, get, slab_len, Updates}
 use Rattle.rs_settings.specs.Settings.{SettingsRecord}
 use Rattle.rs_core.specs.declared.state.State.{State}
 use Rattle.rs_core.specs.declared.state.State.TheVariants.{Down, Up, Waiting, GaveUp}
 use Rattle.rs_core.specs.declared.state.Running.{Running}
-use Rattle.rs_core.specs.Kept.{IsRunning, IsState, IsRs, IsAtRest, HaveTwoSlots, is_up}
+use Rattle.rs_core.specs.Slots.{SlotsRecord, next_key, next_of, giving, with_next_given, with_freed}
+use Rattle.rs_core.specs.State.{is_up, up_count}
+use Rattle.rs_core.specs.Kept.{IsRunning, IsState, SlotsFit, IsRs, IsAtRest, IsNotAt, HaveTwoSlots, is_at, times_given}
 use Rattle.rs_core.specs.Machine.{pause}
 
--- a state without an instance asks nothing of the slots
-pub at_rest : (next : ℕ) (slots : Slab ℕ) (i : ℕ) (state : State) → IsAtRest state → IsState next slots i state
-at_rest next slots i (Up r) h = absurd h
-at_rest next slots i (Waiting p) h = h
-at_rest next slots i Down h = tt
-at_rest next slots i GaveUp h = tt
+-- ---- counts
 
-same_some : (i j : ℕ) → Some i ≡ Some j → i ≡ j
-same_some i j e = cc
+abbrev one : Bool → ℕ
+one b = cond b 1 0
 
--- another service's state stands where one key changes that was the service's
-pub stands : (next more : ℕ) (old new : Slab ℕ) (key : ℕ) (slot : Option ℕ) (at i : ℕ) (state : State) → next ≤ more → get old key ≡ Some at → Updates old new key slot → i ≢ at → IsState next old i state → IsState more new i state
-stands next more old new key slot at i (Up r) le holds up other h = record {
-  valid = h.valid;
-  given = h.given;
-  below = omega (arith, h.below);
-  slot = h.slot;
-  holds = up.others (r.endpoint.slot - 16) (λ (e : r.endpoint.slot - 16 ≡ key). other (same_some i at (sym h.holds ∙ ap (λ k. get old k) e ∙ holds))) ∙ h.holds;
-  failures = h.failures;
-}
-stands next more old new key slot at i (Waiting p) le holds up other h = h
-stands next more old new key slot at i Down le holds up other h = tt
-stands next more old new key slot at i GaveUp le holds up other h = tt
+-- how often the key is free again
+abbrev times_freed : ℕ → List ℕ → ℕ
+times_freed key freed = count_by (λ k. k == key) freed
 
-pub replaced : (settings : SettingsRecord) (states : List State) (tick now next more : ℕ) (old new : Slab ℕ) (key : ℕ) (slot : Option ℕ) (at : ℕ) (state : State)
-    → IsRs settings states tick next old → at < length states → now ≤ 2 ^ 62 → next ≤ more → more ≤ 2097152 → get old key ≡ Some at → Updates old new key slot → IsState more new at state
-    → slab_len new + cond (is_up (get_or states at Down)) 1 0 ≡ slab_len old + cond (is_up state) 1 0
-    → IsRs settings (set states at state) now more new
-replaced settings states tick now next more old new key slot at state kept within worn le spent holds up here len = record {
-  checked = kept.checked;
-  count = length-set states at state ∙ kept.count;
-  worn = worn;
-  some = omega (arith, kept.some);
-  spent = spent;
-  each = λ i l. by_place i l (cases_eq i at);
-  taken = omega (arith, kept.taken, len, sum_by-set (λ s. cond (is_up s) 1 0) states at state Down within);
-}
+at_most_one : (given key : ℕ) → times_given given key ≤ 1
+at_most_one given key = by (nat_lt key given)
   where
-    by_place : (i : ℕ) → i < length (set states at state) → (i ≡ at) ⊎ (i ≢ at) → IsState more new i (get_or (set states at state) i Down)
-    by_place i l (inl e) = subst (λ k. IsState more new k (get_or (set states at state) k Down)) (sym e) (subst (λ (z : State). IsState more new at z) (sym (get_or-set_same states at state Down within)) here)
-    by_place i l (inr other) = subst (λ (z : State). IsState more new i z) (sym (get_or-set_other states at i state Down other)) (stands next more old new key slot at i (get_or states i Down) le holds up other (kept.each i (subst (λ n. i < n) (length-set states at state) l)))
+    by : (b : Bool) → one b ≤ 1
+    by true = omega arith
+    by false = omega arith
 
--- a state at rest is not up
-pub rest_not_up : (state : State) → IsAtRest state → is_up state ≡ false
+not_given : (given key : ℕ) → given ≤ key → times_given given key ≡ 0
+not_given given key h = ap one (le-ltb key given h)
+
+-- one key more is given
+given_more : (given key : ℕ) → one ((16 + given) == (16 + key)) + times_given given key ≡ times_given (given + 1) key
+given_more given key = elim (cases_eq key given) [
+  | inl same ↦ rw (eq-eqb (16 + given) (16 + key) (omega (arith, same)), le-ltb key given (omega (arith, same)), lt-ltb key (given + 1) (omega (arith, same))) refl
+  | inr other ↦ rw (ne_eqb (16 + given) (16 + key) (omega (arith, other))) (elim (cases_lt key given) [
+    | inl low ↦ rw (lt-ltb key given low, lt-ltb key (given + 1) (omega (arith, low))) refl
+    | inr high ↦ rw (le-ltb key given high, le-ltb key (given + 1) (omega (arith, high, other))) refl
+  ])
+]
+
+-- a key is that of a slot where it is 16 less
+same_key : (slot k key : ℕ) → slot ≡ 16 + k → (slot == (16 + key)) ≡ (k == key)
+same_key slot k key e = elim (cases_eq k key) [
+  | inl same ↦ eq-eqb slot (16 + key) (omega (arith, e, same)) ∙ sym (eq-eqb k key same)
+  | inr other ↦ ne_eqb slot (16 + key) (omega (arith, e, other)) ∙ sym (ne_eqb k key other)
+]
+
+freed_more : (key k : ℕ) (freed : List ℕ) → times_freed key (k ∷ freed) ≡ one (k == key) + times_freed key freed
+freed_more key k freed = sum_by-cons (λ j. one (j == key)) k freed
+
+freed_itself : (k : ℕ) (freed : List ℕ) → 1 ≤ times_freed k (k ∷ freed)
+freed_itself k freed =
+    let e : (k == k) ≡ true = eq-eqb k k refl in
+    let f : times_freed k (k ∷ freed) ≡ 1 + times_freed k freed = freed_more k k freed ∙ ap (λ b. one b + times_freed k freed) e in
+    omega (arith, f)
+
+-- ---- states
+
+is_one : (b : Bool) → 1 ≤ one b → b ≡ true
+is_one true h = refl
+is_one false h = absurd (omega (arith, h))
+
+is_none : (b : Bool) → one b ≤ 0 → b ≡ false
+is_none true h = absurd (omega (arith, h))
+is_none false h = refl
+
+not_at : (key : ℕ) (state : State) → is_up state ≡ false → is_at key state ≡ false
+not_at key (Up r) h = cc
+not_at key (Waiting p) h = refl
+not_at key Down h = refl
+not_at key GaveUp h = refl
+
+-- a state without an instance
+at_rest : (next : ℕ) (state : State) → IsAtRest state → IsState next state
+at_rest next (Up r) h = absurd h
+at_rest next (Waiting p) h = h
+at_rest next Down h = tt
+at_rest next GaveUp h = tt
+
+rest_not_up : (state : State) → IsAtRest state → is_up state ≡ false
 rest_not_up (Up r) h = absurd h
 rest_not_up (Waiting p) h = refl
 rest_not_up Down h = refl
 rest_not_up GaveUp h = refl
 
--- what the instance of a service that is up keeps
-pub up_keeps : (settings : SettingsRecord) (states : List State) (tick next : ℕ) (slots : Slab ℕ) (at : ℕ) (r : Running) → IsRs settings states tick next slots → at < length states → get_or states at Down ≡ Up r → IsRunning next slots at r
-up_keeps settings states tick next slots at r kept within e = subst (λ (z : State). IsState next slots at z) e (kept.each at within)
+-- a state stands where more generations were given
+stands : (next more : ℕ) (state : State) → next ≤ more → IsState next state → IsState more state
+stands next more (Up r) le h = record { valid = h.valid; given = h.given; below = omega (arith, h.below, le); slot = h.slot; failures = h.failures }
+stands next more (Waiting p) le h = h
+stands next more Down le h = tt
+stands next more GaveUp le h = tt
 
--- two changes of one key are one
-pub updates_twice : (a b c : Slab ℕ) (key : ℕ) (x y : Option ℕ) → Updates a b key x → Updates b c key y → Updates a c key y
-updates_twice a b c key x y f g = record { changed = g.changed; others = λ k other. g.others k other ∙ f.others k other }
+-- ---- the slots, where the state of one service changes
 
--- no change of the slots
-pub same_slots : (a : Slab ℕ) (key at : ℕ) → get a key ≡ Some at → Updates a a key (Some at)
-same_slots a key at e = record { changed = e; others = λ k other. refl }
+-- the slots change as its state does
+record Follows (freed more : List ℕ) (given now : ℕ) (before after : State) : Type 0 where
+  once : (key : ℕ) →
+      times_freed key more + one (is_at key after) + times_given given key ≡ times_freed key freed + one (is_at key before) + times_given now key
+  taken : length more + one (is_up after) + given ≡ length freed + one (is_up before) + now
+
+-- it takes the slot that is given next
+takes_next : (freed : List ℕ) (given : ℕ) (before : State) (r : Running) → is_up before ≡ false →
+    r.endpoint.slot ≡ 16 + next_of freed given →
+    Follows freed (giving freed given).freed given (giving freed given).given before (Up r)
+takes_next [] given before r rest slot = record {
+  once = λ key. rw (not_at key before rest, slot) (omega (arith, given_more given key));
+  taken = rw rest (omega arith);
+}
+takes_next (k ∷ freed) given before r rest slot = record {
+  once = λ key. rw (not_at key before rest, same_key r.endpoint.slot k key slot, freed_more key k freed) (omega arith);
+  taken = rw rest (omega arith);
+}
+
+-- it gives its slot back
+gives_back : (freed : List ℕ) (given : ℕ) (r : Running) (after : State) → 16 ≤ r.endpoint.slot → is_up after ≡ false →
+    Follows freed ((r.endpoint.slot - 16) ∷ freed) given given (Up r) after
+gives_back freed given r after high rest = record {
+  once = λ key. rw (not_at key after rest, same_key r.endpoint.slot (r.endpoint.slot - 16) key (omega (arith, high)), freed_more key (r.endpoint.slot - 16) freed) (omega arith);
+  taken = rw rest (omega arith);
+}
+
+-- it keeps its slot
+keeps_slot : (freed : List ℕ) (given : ℕ) (r q : Running) → r.endpoint.slot ≡ q.endpoint.slot →
+    Follows freed freed given given (Up r) (Up q)
+keeps_slot freed given r q same = record { once = λ key. rw same refl; taken = refl }
+
+-- it has none
+has_none : (freed : List ℕ) (given : ℕ) (before after : State) → is_up before ≡ false → is_up after ≡ false →
+    Follows freed freed given given before after
+has_none freed given before after was is = record {
+  once = λ key. rw (not_at key before was, not_at key after is) refl;
+  taken = rw (was, is) refl;
+}
+
+-- ---- what RS keeps
+
+kept_slots : (old new : SlotsRecord) (states : List State) (at : ℕ) (after : State) → SlotsFit old states → at < length states →
+    Follows old.freed new.freed old.given new.given (get_or states at Down) after → new.given ≤ length states →
+    SlotsFit new (set states at after)
+kept_slots old new states at after kept within follows few = record {
+  once = λ key. omega (arith, kept.once key, follows.once key, sum_by-set (λ s. one (is_at key s)) states at after Down within);
+  taken = omega (arith, kept.taken, follows.taken, sum_by-set (λ s. one (is_up s)) states at after Down within);
+  few = omega (arith, few, length-set states at after);
+}
+
+kept_on : (settings : SettingsRecord) (states : List State) (tick now next more : ℕ) (old new : SlotsRecord) (at : ℕ) (after : State)
+    → IsRs settings states tick next old → at < length states → now ≤ 2 ^ 62 → next ≤ more → more ≤ 2097152 → IsState more after
+    → Follows old.freed new.freed old.given new.given (get_or states at Down) after → new.given ≤ length states → new.given ≤ settings.slots
+    → IsRs settings (set states at after) now more new
+kept_on settings states tick now next more old new at after kept within worn le spent here follows few own = record {
+  checked = kept.checked;
+  count = length-set states at after ∙ kept.count;
+  worn = worn;
+  some = omega (arith, kept.some, le);
+  spent = spent;
+  each = λ i l. by_place i l (cases_eq i at);
+  fit = kept_slots old new states at after kept.fit within follows few;
+  own = own;
+}
+  where
+    by_place : (i : ℕ) → i < length (set states at after) → (i ≡ at) ⊎ (i ≢ at) → IsState more (get_or (set states at after) i Down)
+    by_place i l (inl e) = subst (λ k. IsState more (get_or (set states at after) k Down)) (sym e) (subst (IsState more) (sym (get_or-set_same states at after Down within)) here)
+    by_place i l (inr other) = subst (IsState more) (sym (get_or-set_other states at i after Down other)) (stands next more (get_or states i Down) le (kept.each i (subst (λ n. i < n) (length-set states at after) l)))
+
+-- ---- what follows of it
+
+-- the key that is given next is one of the settings' just where fewer services are up than there are slots
+key_below : (limit : ℕ) (freed : List ℕ) (given : ℕ) (states : List State) → ((key : ℕ) →
+    times_freed key freed + count_by (is_at key) states ≡ times_given given key) →
+    length freed + up_count states ≡ given → given ≤ limit → (next_of freed given < limit) ↔ (up_count states < limit)
+key_below limit [] given states once taken own = ((λ h. omega (arith, h, taken)), (λ h. omega (arith, h, taken)))
+key_below limit (k ∷ freed) given states once taken own = (
+  (λ h. omega (arith, taken, own)),
+  (λ h. elim (cases_lt k given) [
+    | inl low ↦ omega (arith, low, own)
+    | inr high ↦ absurd (omega (arith, once k, not_given given k high, freed_itself k freed))
+  ]),
+)
+
+pub next_key_within : (settings : SettingsRecord) (states : List State) (tick next : ℕ) (slots : SlotsRecord) →
+    IsRs settings states tick next slots →
+    (next_key slots < settings.slots) ↔ (up_count states < settings.slots)
+next_key_within settings states tick next slots kept =
+    key_below settings.slots slots.freed slots.given states kept.fit.once kept.fit.taken kept.own
+
+-- where a service isn't up, there are fewer that are than services
+fewer_up : (states : List State) (at : ℕ) → at < length states → is_up (get_or states at Down) ≡ false → up_count states < length states
+fewer_up states at within rest =
+    omega (arith, was, sum_by-set (λ s. one (is_up s)) states at (Up up) Down within, count_by-le-length is_up (set states at (Up up)), length-set states at (Up up))
+  where
+    up : Running
+    up = record { endpoint = record { generation = 0; slot = 0 }; beat = 0; ping = 0; failures = 0 }
+
+    was : one (is_up (get_or states at Down)) ≡ 0
+    was = ap one rest
+
+some_up : (states : List State) (at : ℕ) → at < length states → is_up (get_or states at Down) ≡ true → 1 ≤ up_count states
+some_up states at within up =
+    let is : one (is_up (get_or states at Down)) ≡ 1 = ap one up in
+    omega (arith, is, get_or-le-sum_by (λ s. one (is_up s)) states at Down within)
+
+-- no more keys are given than there are services
+giving_few : (settings : SettingsRecord) (states : List State) (tick next : ℕ) (slots : SlotsRecord) (at : ℕ) →
+    IsRs settings states tick next slots → at < length states →
+    is_up (get_or states at Down) ≡ false → (giving slots.freed slots.given).given ≤ length states
+giving_few settings states tick next slots at kept within rest = by slots.freed kept.fit.taken
+  where
+    by : (freed : List ℕ) → length freed + up_count states ≡ slots.given → (giving freed slots.given).given ≤ length states
+    by [] taken = omega (arith, taken, fewer_up states at within rest)
+    by (k ∷ freed) taken = kept.fit.few
+
+-- nor more than the settings have slots
+giving_own : (settings : SettingsRecord) (states : List State) (tick next : ℕ) (slots : SlotsRecord) →
+    IsRs settings states tick next slots →
+    up_count states < settings.slots → (giving slots.freed slots.given).given ≤ settings.slots
+giving_own settings states tick next slots kept free = by slots.freed kept.fit.taken
+  where
+    by : (freed : List ℕ) → length freed + up_count states ≡ slots.given → (giving freed slots.given).given ≤ settings.slots
+    by [] taken = omega (arith, taken, free)
+    by (k ∷ freed) taken = kept.own
+
+-- no instance runs in the slot that is given next
+not_counted : (key : ℕ) (states : List State) (i : ℕ) → i < length states → count_by (is_at key) states ≤ 0 →
+    IsNotAt key (get_or states i Down)
+not_counted key states i l none = apart (get_or states i Down) (is_none (is_at key (get_or states i Down)) (omega (arith, none, get_or-le-sum_by (λ s. one (is_at key s)) states i Down l)))
+  where
+    apart : (state : State) → is_at key state ≡ false → IsNotAt key state
+    apart (Up r) h = λ (e : r.endpoint.slot ≡ 16 + key). differ (eq-eqb r.endpoint.slot (16 + key) e) h
+      where
+        differ : (r.endpoint.slot == (16 + key)) ≡ true → (r.endpoint.slot == (16 + key)) ≡ false → ⊥
+        differ p q = cc
+    apart (Waiting p) h = tt
+    apart Down h = tt
+    apart GaveUp h = tt
+
+pub next_key_free : (slots : SlotsRecord) (states : List State) → SlotsFit slots states → (i : ℕ) → i < length states →
+    IsNotAt (next_key slots) (get_or states i Down)
+next_key_free slots states kept i l = not_counted (next_key slots) states i l (by slots.freed kept.once)
+  where
+    by : (freed : List ℕ) → ((key : ℕ) → times_freed key freed + count_by (is_at key) states ≡ times_given slots.given key) →
+        count_by (is_at (next_of freed slots.given)) states ≤ 0
+    by [] once = omega (arith, once slots.given, not_given slots.given slots.given (omega arith))
+    by (k ∷ freed) once = omega (arith, once k, at_most_one slots.given k, freed_itself k freed)
+
+-- no two instances run in one slot
+counted_twice : (key : ℕ) (states : List State) (i j : ℕ) → i < j → j < length states → is_at key (get_or states i Down) ≡ true →
+    is_at key (get_or states j Down) ≡ true → 2 ≤ count_by (is_at key) states
+counted_twice key states i j below l p q =
+    let without = set states i Down in
+    let first : one (is_at key (get_or states i Down)) ≡ 1 = ap one p in
+    let second : one (is_at key (get_or without j Down)) ≡ 1 = ap one (ap (is_at key) (get_or-set_other states i j Down Down apart) ∙ q) in
+    omega (
+      arith,
+      first,
+      second,
+      sum_by-set (λ s. one (is_at key s)) states i Down Down (omega (arith, below, l)),
+      get_or-le-sum_by (λ s. one (is_at key s)) without j Down (omega (arith, l, length-set states i Down)),
+    )
+  where
+    apart : j ≢ i
+    apart e = omega (arith, e, below)
+
+pub two_slots : (next : ℕ) (slots : SlotsRecord) (states : List State) → SlotsFit slots states → ((i : ℕ) → i < length states →
+    IsState next (get_or states i Down)) →
+    (i j : ℕ) → i < j → j < length states → HaveTwoSlots (get_or states i Down) (get_or states j Down)
+two_slots next slots states kept each i j below l = by (get_or states i Down) refl (get_or states j Down) refl
+  where
+    by : (a : State) → get_or states i Down ≡ a → (b : State) → get_or states j Down ≡ b → HaveTwoSlots a b
+    by (Up r) e (Up q) f = λ (same : r.endpoint.slot ≡ q.endpoint.slot).
+        let high : 16 ≤ r.endpoint.slot = (subst (IsState next) e (each i (omega (arith, below, l)))).slot in
+        let key = r.endpoint.slot - 16 in
+        let here : is_at key (get_or states i Down) ≡ true = ap (is_at key) e ∙ eq-eqb r.endpoint.slot (16 + key) (omega (arith, high)) in
+        let there : is_at key (get_or states j Down) ≡ true =
+        ap (is_at key) f ∙ eq-eqb q.endpoint.slot (16 + key) (omega (arith, high, same)) in
+        omega (arith, kept.once key, at_most_one slots.given key, counted_twice key states i j below l here there)
+    by a e b f = tt
 
 pub pause_long : (k : ℕ) → 6 ≤ k → pause k ≡ 32
 pause_long k h =
     let e : 2 ^ 5 ≤ 2 ^ (k - 1) = pow_mono {i = 5} {j = k - 1} (omega arith) in
     omega arith
 
--- two services that run have two slots, since a slot's key is one service's
-pub two_slots : (next : ℕ) (slots : Slab ℕ) (i j : ℕ) (a b : State) → i < j → IsState next slots i a → IsState next slots j b → HaveTwoSlots a b
-two_slots next slots i j (Up r) (Up q) below h k = λ (e : r.endpoint.slot ≡ q.endpoint.slot). apart (same_some i j (sym h.holds ∙ ap (λ n. get slots (n - 16)) e ∙ k.holds))
-  where
-    apart : i ≡ j → ⊥
-    apart e = omega arith
-two_slots next slots i j a b below h k = tt
+-- ---- what is done to a service that is up, or isn't
+
+-- what the instance of a service that is up keeps
+pub up_keeps : (settings : SettingsRecord) (states : List State) (tick next : ℕ) (slots : SlotsRecord) (at : ℕ) (r : Running) →
+    IsRs settings states tick next slots → at < length states → get_or states at Down ≡ Up r → IsRunning next r
+up_keeps settings states tick next slots at r kept within e = subst (IsState next) e (kept.each at within)
+
+-- there is room for the key of its slot
+pub stop_has_room : (settings : SettingsRecord) (states : List State) (tick next : ℕ) (slots : SlotsRecord) (at : ℕ) →
+    IsRs settings states tick next slots → at < length states →
+    is_up (get_or states at Down) ≡ true → length slots.freed < 64
+stop_has_room settings states tick next slots at kept within up =
+    omega (arith, kept.fit.taken, kept.fit.few, kept.count, kept.checked.count, some_up states at within up)
+
+-- a service is started in the slot that is given next
+pub kept_by_start : (settings : SettingsRecord) (states : List State) (tick now next : ℕ) (slots : SlotsRecord) (at : ℕ) (r : Running) →
+    IsRs settings states tick next slots → at < length states → now ≤ 2 ^ 62 → next ≤ 2097151 →
+    up_count states < settings.slots → is_up (get_or states at Down) ≡ false → IsRunning (next + 1) r →
+    r.endpoint.slot ≡ 16 + next_key slots → IsRs settings (set states at (Up r)) now (next + 1) (with_next_given slots)
+kept_by_start settings states tick now next slots at r kept within worn left free rest here slot =
+    kept_on settings states tick now next (next + 1) slots (with_next_given slots) at (Up r) kept within worn (omega arith) (omega (arith, left)) here
+    (takes_next slots.freed slots.given (get_or states at Down) r rest slot)
+    (giving_few settings states tick next slots at kept within rest) (giving_own settings states tick next slots kept free)
+
+-- its instance is stopped
+pub kept_by_stop : (settings : SettingsRecord) (states : List State) (tick now next : ℕ) (slots : SlotsRecord) (at : ℕ) (r : Running) (after : State) → IsRs settings states tick next slots → at < length states → now ≤ 2 ^ 62 →
+    get_or states at Down ≡ Up r → IsAtRest after → IsRs settings (set states at after) now next (with_freed slots (r.endpoint.slot - 16))
+kept_by_stop settings states tick now next slots at r after kept within worn up rest =
+    let key = r.endpoint.slot - 16 in
+    kept_on settings states tick now next next slots (with_freed slots key) at after kept within worn (omega arith) kept.spent (at_rest next after rest)
+    (subst (λ (z : State). Follows slots.freed (key ∷ slots.freed) slots.given slots.given z after) (sym up)
+    (gives_back slots.freed slots.given r after (up_keeps settings states tick next slots at r kept within up).slot (rest_not_up after rest)))
+    kept.fit.few kept.own
+
+-- its instance goes on, or another one does in the same slot
+pub kept_by_change : (settings : SettingsRecord) (states : List State) (tick now next more : ℕ) (slots : SlotsRecord) (at : ℕ) (r q : Running) → IsRs settings states tick next slots → at < length states → now ≤ 2 ^ 62 → next ≤ more → more ≤ 2097152 →
+    get_or states at Down ≡ Up r → IsRunning more q → r.endpoint.slot ≡ q.endpoint.slot →
+    IsRs settings (set states at (Up q)) now more slots
+kept_by_change settings states tick now next more slots at r q kept within worn le spent up here same =
+    kept_on settings states tick now next more slots slots at (Up q) kept within worn le spent here
+    (subst (λ (z : State). Follows slots.freed slots.freed slots.given slots.given z (Up q)) (sym up) (keeps_slot slots.freed slots.given r q same))
+    kept.fit.few kept.own
+
+-- a service that isn't up is left so
+pub kept_at_rest : (settings : SettingsRecord) (states : List State) (tick now next : ℕ) (slots : SlotsRecord) (at : ℕ) (after : State) →
+    IsRs settings states tick next slots → at < length states → now ≤ 2 ^ 62 →
+    is_up (get_or states at Down) ≡ false → IsAtRest after → IsRs settings (set states at after) now next slots
+kept_at_rest settings states tick now next slots at after kept within worn was rest =
+    kept_on settings states tick now next next slots slots at after kept within worn (omega arith) kept.spent (at_rest next after rest)
+    (has_none slots.freed slots.given (get_or states at Down) after was (rest_not_up after rest))
+    kept.fit.few kept.own

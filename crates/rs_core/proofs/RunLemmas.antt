@@ -54,7 +54,7 @@ rises_on low mid high (d ∷ ds) es h k = (h.0, rises_on (d.generation + 1) mid 
 
 pub starts_rise : StartsRise
 starts_rise s t [] run = let n : s.next ≡ t.next = ap (λ (r : RsRecord). r.next) run in omega arith
-starts_rise s t (actions ∷ rest) (event, tick, m, step, run) = rises_on s.next m.next t.next (starts actions) (flat_map starts rest) (follow_rises s tick step.0 actions m step.3) (starts_rise m t rest run)
+starts_rise s t (actions ∷ rest) (m, (event, tick, step), run) = rises_on s.next m.next t.next (starts actions) (flat_map starts rest) (follow_rises s tick step.0 actions m step.3) (starts_rise m t rest run)
 
 -- ---- labels
 
@@ -137,7 +137,7 @@ follow_labels s tick (Some p) actions t c h i = subst (λ (z : List Action). IsL
 
 run_labels : (s t : RsRecord) (steps : List (List Action)) (c : ChangeRecord) → RsRun s steps t → In c (flat_map offers steps) → IsLabelOf (flat_map starts steps) c
 run_labels s t [] c run i = absurd i
-run_labels s t (actions ∷ rest) c (event, tick, m, step, run) i = elim (In-cases c (offers actions) (flat_map offers rest) i) [
+run_labels s t (actions ∷ rest) c (m, (event, tick, step), run) i = elim (In-cases c (offers actions) (flat_map offers rest) i) [
   | inl here ↦ label_left (starts actions) (flat_map starts rest) c (follow_labels s tick step.0 actions m c step.3 here)
   | inr later ↦ label_right (starts actions) (flat_map starts rest) c (run_labels m t rest c run later)
 ]

@@ -8,7 +8,7 @@ use Rattle.rs_core.specs.declared.fault.RsFault.TheVariants.{TickBack, Worn, Unk
 use Rattle.rs_core.specs.declared.deed.Deed.{Deed}
 use Rattle.rs_core.specs.declared.deed.Deed.TheVariants.{Begin, Resume, Replace, Forget, Hear}
 use Rattle.rs_core.specs.declared.deed.Plan.{Plan}
-use Rattle.rs_core.specs.State.{RsRecord}
+use Rattle.rs_core.specs.State.{RsRecord, up_count}
 use Rattle.rs_core.specs.Machine.{asked}
 
 -- the one order
@@ -62,6 +62,10 @@ abbrev pub names_old : Result (Option Plan) RsFault → Bool
 names_old (Err OldEndpoint) = true
 names_old _ = false
 
+-- as many services are up as there are slots
+abbrev pub is_full : RsRecord → Bool
+is_full s = nat_le s.settings.slots (up_count s.states)
+
 -- the cause stands against the event
 abbrev pub against : RsRecord → Event → ℕ → RsFault → Bool
 against s event tick TickBack = nat_lt tick s.tick
@@ -72,14 +76,14 @@ against s event tick AlreadyUp = names_already_up (asked s event tick)
 against s event tick NotUp = names_not_up (asked s event tick)
 against s event tick OldEndpoint = names_old (asked s event tick)
 against s event tick GenerationsSpent = asks takes_generation (asked s event tick) && nat_lt 2097151 s.next
-against s event tick NoSlot = asks takes_slot (asked s event tick) && nat_le s.settings.slots s.key
+against s event tick NoSlot = asks takes_slot (asked s event tick) && is_full s
 against s event tick NoRoom = false
 
 -- what a deed lacks
 abbrev pub lack_for : RsRecord → Deed → Option RsFault
 lack_for s deed =
     if takes_generation deed && nat_lt 2097151 s.next then Some GenerationsSpent
-    else if takes_slot deed && nat_le s.settings.slots s.key then Some NoSlot
+    else if takes_slot deed && is_full s then Some NoSlot
     else None
 
 -- the first cause of the order that stands against the event

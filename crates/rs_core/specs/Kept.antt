@@ -1,49 +1,59 @@
 -- What RS keeps true of its states, slots and generations.
-use Rattle.std.specs.Prelude.{◌≡◌, ◌≢◌, ℕ, ◌+◌, ◌-◌, ◌^◌, ◌<◌, ◌≤◌, Bool, true, false, List, length, slice_index_or, count_by, Some}
-use Rattle.slab.specs.Slab.{Slab, get, slab_len}
+use Rattle.std.specs.Prelude.{◌≡◌, ◌≢◌, ℕ, ◌+◌, ◌^◌, ◌<◌, ◌≤◌, ◌==◌, nat_lt, Bool, false, List, length, slice_index_or, count_by, if◌then◌else◌}
 use Rattle.ds_names.specs.Endpoint.{IsEndpoint}
 use Rattle.rs_settings.specs.Settings.{SettingsRecord, IsSettings}
 use Rattle.rs_core.specs.declared.state.State.{State}
 use Rattle.rs_core.specs.declared.state.State.TheVariants.{Down, Up, Waiting, GaveUp}
 use Rattle.rs_core.specs.declared.state.Running.{Running}
+use Rattle.rs_core.specs.Slots.{SlotsRecord}
+use Rattle.rs_core.specs.State.{up_count}
 
--- the instance of service i: its generation was given, and its slot's key is the service's
-pub record IsRunning (next : ℕ) (slots : Slab ℕ) (i : ℕ) (r : Running) : Type 0 where
+-- the instance of a service: its generation was given, and its slot isn't one of the first 16
+pub record IsRunning (next : ℕ) (r : Running) : Type 0 where
   pub valid : IsEndpoint r.endpoint
   pub given : 0 < r.endpoint.generation
   pub below : r.endpoint.generation < next
   pub slot : 16 ≤ r.endpoint.slot
-  pub holds : get slots (r.endpoint.slot - 16) ≡ Some i
   pub failures : r.failures ≤ 1000
 
--- the state of service i: what runs keeps its slot, and failures never pass a limit
-abbrev pub IsState : ℕ → Slab ℕ → ℕ → State → Type 0
-IsState next slots i (Up r) = IsRunning next slots i r
-IsState next slots i (Waiting p) = p.failures ≤ 1000
-IsState next slots i Down = Unit {0}
-IsState next slots i GaveUp = Unit {0}
+-- the state of a service: failures never pass a limit
+abbrev pub IsState : ℕ → State → Type 0
+IsState next (Up r) = IsRunning next r
+IsState next (Waiting p) = p.failures ≤ 1000
+IsState next Down = Unit {0}
+IsState next GaveUp = Unit {0}
 
--- an instance of the service runs
-abbrev pub is_up : State → Bool
-is_up (Up r) = true
-is_up (Waiting p) = false
-is_up Down = false
-is_up GaveUp = false
+-- an instance of the service runs in the slot with the key
+abbrev pub is_at : ℕ → State → Bool
+is_at key (Up r) = r.endpoint.slot == 16 + key
+is_at key (Waiting p) = false
+is_at key Down = false
+is_at key GaveUp = false
 
--- how many services are up
-abbrev pub up_count : List State → ℕ
-up_count states = count_by is_up states
+-- 1 for a key that was given, 0 for another one
+abbrev pub times_given : ℕ → ℕ → ℕ
+times_given given key = if nat_lt key given then 1 else 0
 
--- settings in their ranges, a state for each service, the tick and the next generation in their ranges, each state so, and as
--- many slots taken as services are up: no slot is lost
-pub record IsRs (settings : SettingsRecord) (states : List State) (tick next : ℕ) (slots : Slab ℕ) : Type 0 where
+-- The slots fit the states: no slot is lost, and none has two instances.
+pub record SlotsFit (slots : SlotsRecord) (states : List State) : Type 0 where
+  -- a key that was given is free again, or one instance's; no other key is
+  pub once : (key : ℕ) → count_by (λ k. k == key) slots.freed + count_by (is_at key) states ≡ times_given slots.given key
+  -- of the keys that were given, as many aren't free as services are up
+  pub taken : length slots.freed + up_count states ≡ slots.given
+  -- no more keys were given than there are services
+  pub few : slots.given ≤ length states
+
+-- settings in their ranges, a state for each service, the tick and the next generation in their ranges, each state so, and slots
+-- that fit the states, of no more keys than the settings allow
+pub record IsRs (settings : SettingsRecord) (states : List State) (tick next : ℕ) (slots : SlotsRecord) : Type 0 where
   pub checked : IsSettings settings
   pub count : length states ≡ length settings.services
   pub worn : tick ≤ 2 ^ 62
   pub some : 1 ≤ next
   pub spent : next ≤ 2097152
-  pub each : (i : ℕ) → i < length states → IsState next slots i (slice_index_or states i Down)
-  pub taken : slab_len slots ≡ up_count states
+  pub each : (i : ℕ) → i < length states → IsState next (slice_index_or states i Down)
+  pub fit : SlotsFit slots states
+  pub own : slots.given ≤ settings.slots
 
 -- no instance of the service runs in the slot with the key
 abbrev pub IsNotAt : ℕ → State → Type 0

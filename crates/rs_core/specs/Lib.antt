@@ -1,8 +1,10 @@
 pub mod Action
+pub mod Slots
 pub mod State
 pub mod Table
 pub mod Finding
 pub mod Machine
+pub mod Doing
 pub mod Judging
 pub mod Step
 pub mod Kept

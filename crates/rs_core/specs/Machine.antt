@@ -1,5 +1,5 @@
 -- The restart machine: what an event asks, what is then done, and the state that it leaves.
-use Rattle.std.specs.Prelude.{◌≡◌, ℕ, ◌+◌, ◌-◌, ◌^◌, min, true, nat_lt, List, [], ◌∷◌, ◌++◌, Option, Some, None, option_map, Result, Ok, Err, if◌then◌else◌}
+use Rattle.std.specs.Prelude.{ℕ, ◌+◌, ◌-◌, ◌^◌, min, true, nat_lt, List, [], ◌∷◌, ◌++◌, Option, Some, None, option_map, Result, Ok, Err, if◌then◌else◌}
 use Rattle.std.specs.Option.{option_or}
 use Rattle.ds_names.specs.Endpoint.{EndpointRecord, endpoint_of}
 use Rattle.rs_settings.specs.declared.service.Service.{Service}
@@ -17,6 +17,7 @@ use Rattle.rs_core.specs.declared.deed.Deed.{Deed}
 use Rattle.rs_core.specs.declared.deed.Deed.TheVariants.{Begin, Resume, Halt, Replace, Lose, Forget, Hear, Ping}
 use Rattle.rs_core.specs.declared.deed.Plan.{Plan}
 use Rattle.rs_core.specs.Action.{start_actions, stop_actions}
+use Rattle.rs_core.specs.Slots.{SlotsRecord, next_key, with_next_given, with_freed}
 use Rattle.rs_core.specs.State.{RsRecord, state_at}
 use Rattle.rs_core.specs.Table.{on_up, on_stop, on_refresh, on_restart, on_death}
 use Rattle.rs_core.specs.Finding.{service_place}
@@ -80,11 +81,11 @@ failures_of GaveUp = 0
 abbrev pub started_at : EndpointRecord → ℕ → ℕ → State
 started_at endpoint tick failures = Up (record { endpoint = endpoint; beat = tick; ping = tick; failures = failures })
 
--- the endpoint of a start: the next generation, in the slot that is free next; the first 16 slots are left to others
+-- the endpoint of a start: the next generation, in the slot that is given next; the first 16 slots are left to others
 abbrev pub new_endpoint : RsRecord → EndpointRecord
-new_endpoint s = endpoint_of s.next (16 + s.key)
+new_endpoint s = endpoint_of s.next (16 + next_key s.slots)
 
--- the endpoint of a start behind a stop: the slot that the stop freed is the one that is free next
+-- the endpoint of a start behind a stop: the slot that the stop freed is the one that is given next
 abbrev pub same_slot : RsRecord → Running → EndpointRecord
 same_slot s r = endpoint_of s.next r.endpoint.slot
 
@@ -120,12 +121,11 @@ next_after s (Waiting p) Resume = s.next + 1
 next_after s (Up r) Replace = s.next + 1
 next_after s state _ = s.next
 
--- the key of the slot that is free next: behind a stop that of the slot which it freed, else the same one; behind a start, any
-abbrev pub IsFreeAfter : RsRecord → State → Deed → ℕ → Type 0
-IsFreeAfter s Down Begin key = Unit {0}
-IsFreeAfter s GaveUp Begin key = Unit {0}
-IsFreeAfter s (Waiting p) Resume key = Unit {0}
-IsFreeAfter s (Up r) Replace key = Unit {0}
-IsFreeAfter s (Up r) (Lose kill) key = 16 + key ≡ r.endpoint.slot
-IsFreeAfter s (Up r) Halt key = 16 + key ≡ r.endpoint.slot
-IsFreeAfter s state _ key = key ≡ s.key
+-- a start takes the slot that is given next, and a stop frees that of its instance; a start behind a stop takes that one again
+abbrev pub slots_after : RsRecord → State → Deed → SlotsRecord
+slots_after s Down Begin = with_next_given s.slots
+slots_after s GaveUp Begin = with_next_given s.slots
+slots_after s (Waiting p) Resume = with_next_given s.slots
+slots_after s (Up r) (Lose kill) = with_freed s.slots (r.endpoint.slot - 16)
+slots_after s (Up r) Halt = with_freed s.slots (r.endpoint.slot - 16)
+slots_after s state _ = s.slots

@@ -1,19 +1,23 @@
 -- Runs of the restart machine, and what holds over each of them.
-use Rattle.std.specs.Prelude.{◌≡◌, ℕ, ◌+◌, ◌≤◌, List, [], ◌∷◌, Option, Some, None}
+use Rattle.std.specs.Prelude.{ℕ, ◌+◌, ◌≤◌, List, [], ◌∷◌, Option, Some, None}
 use Rattle.std.specs.List.{filter_map, flat_map}
 use Rattle.ds_names.specs.Endpoint.{EndpointRecord}
 use Rattle.ds_entry.specs.Change.{ChangeRecord}
 use Rattle.ds_entry.specs.SingleNumbered.{IsSingleNumbered}
+use Rattle.history.specs.History.{Path}
 use Rattle.rs_core.specs.declared.action.Action.{Action}
 use Rattle.rs_core.specs.declared.action.Action.TheVariants.{Start, Offer}
 use Rattle.rs_core.specs.declared.event.Event.{Event}
 use Rattle.rs_core.specs.State.{RsRecord}
 use Rattle.rs_core.specs.Step.{RsStep}
 
+-- the actions are those of a step at some event and tick
+abbrev pub RsActs : RsRecord → List Action → RsRecord → Type 0
+RsActs s actions t = (event : Event) × (tick : ℕ) × RsStep s event tick actions t
+
 -- steps one after another, each with its actions
 abbrev pub RsRun : RsRecord → List (List Action) → RsRecord → Type 0
-RsRun s [] t = s ≡ t
-RsRun s (actions ∷ rest) t = (event : Event) × (tick : ℕ) × (m : RsRecord) × RsStep s event tick actions m × RsRun m rest t
+RsRun = Path RsActs
 
 -- the endpoint, of a start
 abbrev pub start_of : Action → Option EndpointRecord

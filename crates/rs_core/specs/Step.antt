@@ -4,14 +4,22 @@ use Rattle.rs_core.specs.declared.action.Action.{Action}
 use Rattle.rs_core.specs.declared.event.Event.{Event}
 use Rattle.rs_core.specs.declared.deed.Plan.{Plan}
 use Rattle.rs_core.specs.State.{RsRecord, rs_of, state_at, service_at}
-use Rattle.rs_core.specs.Machine.{asked, state_after, actions_of, next_after, IsFreeAfter}
+use Rattle.rs_core.specs.Machine.{asked, state_after, actions_of, next_after, slots_after}
 use Rattle.rs_core.specs.Judging.{refusal}
 
--- the deed is done to the service that is meant, and to no other; which slot is free next behind a start is left open
+-- what RS knows once the deed is done to the service that is meant, and to no other
+abbrev pub done_to : RsRecord → ℕ → Plan → RsRecord
+done_to s tick p =
+    rs_of s.settings
+    (slice_set s.states p.place (state_after s tick (service_at s p.place) (state_at s p.place) p.deed))
+    tick
+    (next_after s (state_at s p.place) p.deed)
+    (slots_after s (state_at s p.place) p.deed)
+
+-- the deed is done
 pub record IsDone (s : RsRecord) (tick : ℕ) (p : Plan) (actions : List Action) (t : RsRecord) : Type 0 where
   pub done : actions ≡ actions_of s (service_at s p.place) (state_at s p.place) p.deed
-  pub after : t ≡ rs_of s.settings (slice_set s.states p.place (state_after s tick (service_at s p.place) (state_at s p.place) p.deed)) tick (next_after s (state_at s p.place) p.deed) t.key
-  pub free : IsFreeAfter s (state_at s p.place) p.deed t.key
+  pub after : t ≡ done_to s tick p
 
 -- nothing is due: the tick is kept
 pub record IsIdle (s : RsRecord) (tick : ℕ) (actions : List Action) (t : RsRecord) : Type 0 where

@@ -29,7 +29,7 @@ pub enum RsFault {
     /// A start would need a generation above 2097151.
     #[error("all generations are spent")]
     GenerationsSpent,
-    /// The slot that is free next is none of RS's, and the event frees none.
+    /// As many services are up as there are slots, and the event stops none.
     #[error("no slot is free")]
     NoSlot,
     /// Memory is wanting.

@@ -15,6 +15,7 @@ mod judging;
 mod law;
 mod numberer;
 mod rs;
+mod slots;
 mod state;
 
 pub use action::{Action, Actions};

@@ -1,8 +1,10 @@
 //! RS itself.
 
-ghost use Rattle.std.specs.Prelude.{◌≡◌, ◌≢◌, ℕ, ◌<◌, ◌≤◌, option_map, ◌↔◌, ◌⊎◌, IsErrOf, length, replicate, None, Some, true, IfOk, IfErr, IfSome, OnErr};
+ghost use Rattle.std.specs.Prelude.{◌≡◌, ◌≢◌, ℕ, ◌<◌, ◌≤◌, [], option_map, ◌↔◌, ◌⊎◌, IsErrOf, length, replicate};
+ghost use Rattle.std.specs.Prelude.{None, Some, true, IfOk, IfErr, IfSome, OnErr};
 ghost use Rattle.rs_settings.specs.Settings.{IsService, IsSettings};
-ghost use Rattle.rs_core.specs.State.{rs_of, state_at, service_at};
+ghost use Rattle.rs_core.specs.Slots.{slots_with, next_key};
+ghost use Rattle.rs_core.specs.State.{rs_of, state_at, service_at, up_count};
 ghost use Rattle.rs_core.specs.Finding.{service_place};
 ghost use Rattle.rs_core.specs.Machine.{asked, failures_of};
 ghost use Rattle.rs_core.specs.Judging.{refusal, asks, has_actions};
@@ -16,10 +18,10 @@ use crate::action::Actions;
 use crate::event::Event;
 use crate::fault::{NewFault, RsFault};
 use crate::finding::{Sought, place_of};
+use crate::slots::Slots;
 use crate::state::State;
 use ds_names::Name;
 use rs_settings::{Service, Settings};
-use slab::Slab;
 use std::alloc::Global;
 use std::marker::Model;
 
@@ -30,27 +32,22 @@ pub struct Rs {
     settings: Settings,
     // One for each service, in the order of the settings.
     states: Vec<State>,
-    // The index of the service that runs in each slot; slot 16 has key 0.
-    slots: Slab<usize>,
+    slots: Slots,
     tick: u64,
     next: u32,
 }
 
 impl Model for Rs {
-    ghost use Rattle.std.specs.Prelude.{ℕ, List};
-    ghost use Rattle.std.specs.Coded.{code_by, coded×, coded_ℕ, coded_list};
-    ghost use Rattle.rs_settings.specs.Settings.{SettingsRecord};
     ghost use Rattle.rs_settings.specs.contracts.settings.Settings.{the_row as settings_row};
-    ghost use Rattle.rs_core.specs.declared.state.State.{State};
     ghost use Rattle.rs_core.specs.contracts.state.State.{the_row as state_row};
-    ghost use Rattle.rs_core.specs.State.{RsRecord, rs_of};
+    ghost use Rattle.rs_core.specs.State.{RsRecord, rs_of, rs_code};
     ghost use Rattle.rs_core.specs.Kept.{IsRs};
 
     ghost Value = { RsRecord };
 
-    ghost coded = { code_by (SettingsRecord × (List State × (ℕ × (ℕ × ℕ)))) (coded× settings_row.coded (coded× (coded_list state_row.coded) (coded× coded_ℕ (coded× coded_ℕ coded_ℕ)))) (λ r. (r.settings, (r.states, (r.tick, (r.next, r.key))))) (λ p. rs_of p.0 p.1.0 p.1.1.0 p.1.1.1.0 p.1.1.1.1) (λ r i. r) };
+    ghost coded = { rs_code settings_row.coded state_row.coded };
 
-    ghost view = { λ r. rs_of r.settings r.states.items r.tick r.next r.slots.vacant_key };
+    ghost view = { λ r. rs_of r.settings r.states.items r.tick r.next r.slots };
 
     ghost invariant = { λ r. IsRs r.settings r.states.items r.tick r.next r.slots };
 }
@@ -59,7 +56,7 @@ impl Rs {
     /// RS before any event: every service is down. `next` is the generation of the first start; OutOfRange unless it
     /// is 1 to 2097152.
     pub fn new(alloc: Global, settings: Settings, next: u32) -> Result<Rs, NewFault>
-        ensures value { IfOk result (λ rs. rs ≡ rs_of settings (replicate (length settings.services) State.Down) 0 next 0) }
+        ensures value { IfOk result (λ rs. rs ≡ rs_of settings (replicate (length settings.services) State.Down) 0 next (slots_with [] 0)) }
         ensures range { IsErrOf result NewFault.OutOfRange ↔ (next < 1 ⊎ 2097152 < next) }
     {
         if next < 1 || next > 2097152 {
@@ -73,7 +70,7 @@ impl Rs {
             alloc,
             settings,
             states,
-            slots: Slab::new(alloc),
+            slots: Slots::new(),
             tick: 0,
             next,
         })
@@ -109,13 +106,15 @@ impl Rs {
 
     /// The key of the slot that the next start takes, unless it stops an instance itself: slot 16 has key 0.
     ///
-    /// No running service has that slot, and no two of them have one slot.
+    /// It is one of the settings' slots just where fewer services are up than there are slots. No running service has that
+    /// slot, and no two of them have one slot.
     pub fn next_key(&self) -> usize
-        ensures value { result ≡ self.now.key }
+        ensures value { result ≡ next_key self.now.slots }
+        ensures within { (result < self.now.settings.slots) ↔ (up_count self.now.states < self.now.settings.slots) }
         ensures free { (i : ℕ) → i < length self.now.states → IsNotAt result (state_at self.now i) }
         ensures own { (i j : ℕ) → i < j → j < length self.now.states → HaveTwoSlots (state_at self.now i) (state_at self.now j) }
     {
-        self.slots.vacant_key()
+        self.slots.next_key()
     }
 
     /// The settings.

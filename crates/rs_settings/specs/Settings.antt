@@ -50,9 +50,13 @@ abbrev pub with_services : ℕ → Result (List Service) SettingsFault → Resul
 with_services slots (Ok services) = unless_shared slots services (shared_fault services)
 with_services slots (Err fault) = Err fault
 
+-- the settings of so many slots and the services of these tables
+abbrev pub settings_from : ℕ → Items → Result SettingsRecord SettingsFault
+settings_from slots tables = with_services slots (services_in [] tables)
+
 -- both values at the top are judged before any service
 abbrev pub with_top : Option ℕ → Option Items → Result SettingsRecord SettingsFault
-with_top (Some slots) (Some tables) = with_services slots (services_in [] tables)
+with_top (Some slots) (Some tables) = settings_from slots tables
 with_top (Some slots) None = Err (at_top OutOfRange)
 with_top None tables = Err (at_top OutOfRange)
 
@@ -80,7 +84,7 @@ TakesMemory (Err fault) = ⊥
 
 -- the settings of so many slots and these tables take memory
 abbrev pub TablesTakeMemory : ℕ → Items → Type 0
-TablesTakeMemory slots tables = TakesMemory (with_services slots (services_in [] tables))
+TablesTakeMemory slots tables = TakesMemory (settings_from slots tables)
 
 -- the text may take memory: it is UTF-8, and has more than white space and comments
 abbrev pub MayTakeMemory : List ℕ → Type 0

@@ -7,9 +7,9 @@ ghost use Rattle.toml.specs.View.{view, table_view, array_view, items_view};
 ghost use Rattle.toml.specs.Text.{are_tables};
 ghost use Rattle.ds_names.specs.Name.{IsName};
 ghost use Rattle.rs_settings.specs.Values.{item_count};
-ghost use Rattle.rs_settings.specs.Service.{services_in};
 ghost use Rattle.rs_settings.specs.Fault.{no_room};
-ghost use Rattle.rs_settings.specs.Settings.{settings_in, settings_of, with_services, tables_of, TakesMemory, TablesTakeMemory, MayTakeMemory, IsService, IsSettings};
+ghost use Rattle.rs_settings.specs.Settings.{settings_in, settings_of, settings_from, tables_of, IsService, IsSettings};
+ghost use Rattle.rs_settings.specs.Settings.{TakesMemory, TablesTakeMemory, MayTakeMemory};
 ghost use Rattle.rs_settings.specs.Draft.{service_of_draft, text_in_value};
 
 use crate::draft::{Draft, drafts};
@@ -164,9 +164,9 @@ fn of_tables(alloc: Global, slots: u32, tables: &[Value]) -> Result<Settings, Se
     requires some { 1 ≤ slots }
     requires slots { slots ≤ 1008 }
     requires count { length tables.now ≤ 64 }
-    ensures read { IfOk result (λ settings. with_services slots (services_in [] (items_view tables.now)) ≡ Ok settings) }
-    ensures refused { IfErr result (λ fault. fault.cause ≢ SettingsCause.NoRoom → with_services slots (services_in [] (items_view tables.now)) ≡ Err fault) }
-    ensures last { IfErr result (λ fault. fault.cause ≡ SettingsCause.NoRoom → IsOk (with_services slots (services_in [] (items_view tables.now)))) }
+    ensures read { IfOk result (λ settings. settings_from slots (items_view tables.now) ≡ Ok settings) }
+    ensures refused { IfErr result (λ fault. fault.cause ≢ SettingsCause.NoRoom → settings_from slots (items_view tables.now) ≡ Err fault) }
+    ensures last { IfErr result (λ fault. fault.cause ≡ SettingsCause.NoRoom → IsOk (settings_from slots (items_view tables.now))) }
     ensures memory { IfErr result (λ fault. fault.cause ≡ SettingsCause.NoRoom → TablesTakeMemory slots (items_view tables.now)) }
     ensures room { IfErr result (λ fault. fault.cause ≡ SettingsCause.NoRoom → fault ≡ no_room) }
     ensures settings { IfOk result IsSettings }

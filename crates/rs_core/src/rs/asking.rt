@@ -81,7 +81,7 @@ impl Rs {
         if takes_generation(deed) && self.next > 2097151 {
             return Some(RsFault::GenerationsSpent);
         }
-        if takes_slot(deed) && self.slots.vacant_key() >= self.settings.slots() as usize {
+        if takes_slot(deed) && self.next_key() >= self.settings.slots() as usize {
             return Some(RsFault::NoSlot);
         }
         None

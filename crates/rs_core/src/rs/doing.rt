@@ -1,12 +1,13 @@
 //! What is done, once nothing stands against it.
 
-ghost use Rattle.std.specs.Prelude.{◌≡◌, ◌<◌, ◌≤◌, ◌+◌, ◌^◌, ◌∷◌, ◌++◌, [], true, false, length, slice_set, None, IfOk, IfErr, OnOk, OnErr};
+ghost use Rattle.std.specs.Prelude.{◌≡◌, ◌<◌, ◌≤◌, ◌+◌, ◌^◌, ◌∷◌, [], true, false, length, None, IfOk, IfErr, OnOk, OnErr};
 ghost use Rattle.rs_core.specs.Action.{start_actions, stop_actions};
-ghost use Rattle.rs_core.specs.State.{rs_of, state_at, service_at};
-ghost use Rattle.rs_core.specs.Machine.{started_at, failed, new_endpoint, same_slot};
+ghost use Rattle.rs_core.specs.State.{state_at, service_at, is_up, up_count};
+ghost use Rattle.rs_core.specs.Machine.{new_endpoint};
+ghost use Rattle.rs_core.specs.Doing.{after_start, after_stop, after_replacement, after_note, failing, replacing};
 ghost use Rattle.rs_core.specs.Judging.{lack_for, has_actions};
 ghost use Rattle.rs_core.specs.Step.{IsDone};
-ghost use Rattle.rs_core.specs.Kept.{IsAtRest, is_up};
+ghost use Rattle.rs_core.specs.Kept.{IsAtRest};
 
 use crate::action::{Action, Actions, add_start, add_stop};
 use crate::deed::{Deed, Plan};
@@ -72,29 +73,26 @@ impl Rs {
         }
     }
 
-    // Starts the service in the slot that is free next.
+    // Starts the service in the slot that is given next.
     fn begin(&mut self, place: usize, tick: u64, failures: u32) -> Result<Actions, RsFault>
         requires within { place < length self.old.states }
         requires tick { tick ≤ 2 ^ 62 }
         requires next { self.old.next ≤ 2097151 }
-        requires key { self.old.key < self.old.settings.slots }
+        requires slot { up_count self.old.states < self.old.settings.slots }
         requires failures { failures ≤ 1000 }
         requires rest { is_up (state_at self.old place) ≡ false }
         ensures done { IfOk result (λ actions. actions ≡ start_actions (service_at self.old place).label (new_endpoint self.old)) }
-        ensures after { OnOk result (self.new ≡ rs_of self.old.settings (slice_set self.old.states place (started_at (new_endpoint self.old) tick failures)) tick (self.old.next + 1) self.new.key) }
+        ensures after { OnOk result (self.new ≡ after_start self.old place tick failures) }
         ensures err { IfErr result (λ fault. fault ≡ RsFault.NoRoom) }
         ensures unchanged { OnErr result (self.new ≡ self.old) }
     {
         let label = self.service_at(place).label;
-        let endpoint = endpoint_at(self.next, self.slots.vacant_key());
+        let endpoint = endpoint_at(self.next, self.next_key());
         let mut actions = Actions::new(self.alloc);
         let Ok(()) = add_start(&mut actions, label, endpoint) else {
             return Err(RsFault::NoRoom);
         };
-        let Ok(()) = self.slots.reserve(1) else {
-            return Err(RsFault::NoRoom);
-        };
-        self.slots.insert_reserved(place);
+        self.slots.give();
         self.states[place] = State::Up(Running {
             endpoint,
             beat: tick,
@@ -120,8 +118,7 @@ impl Rs {
         requires up { state_at self.old place ≡ State.Up running }
         requires rest { IsAtRest after }
         ensures done { IfOk result (λ actions. actions ≡ stop_actions kill (service_at self.old place).label running.endpoint) }
-        ensures after { OnOk result (self.new ≡ rs_of self.old.settings (slice_set self.old.states place after) tick self.old.next self.new.key) }
-        ensures freed { OnOk result (self.new.key + 16 ≡ running.endpoint.slot) }
+        ensures after { OnOk result (self.new ≡ after_stop self.old place tick running after) }
         ensures err { IfErr result (λ fault. fault ≡ RsFault.NoRoom) }
         ensures unchanged { OnErr result (self.new ≡ self.old) }
     {
@@ -130,27 +127,25 @@ impl Rs {
         let Ok(()) = add_stop(&mut actions, kill, label, running.endpoint) else {
             return Err(RsFault::NoRoom);
         };
-        let key = running.endpoint.slot() as usize - 16;
-        self.slots.remove(key);
+        self.slots.free(running.endpoint.slot() as usize - 16);
         self.states[place] = after;
         self.tick = tick;
         Ok(actions)
     }
 
-    // Stops the instance of the service, and starts one in its slot.
+    // Stops the instance of the service, and starts one in its slot: that which a stop freed is given next.
     fn replace(&mut self, place: usize, tick: u64, running: Running) -> Result<Actions, RsFault>
         requires within { place < length self.old.states }
         requires tick { tick ≤ 2 ^ 62 }
         requires next { self.old.next ≤ 2097151 }
         requires up { state_at self.old place ≡ State.Up running }
-        ensures done { IfOk result (λ actions. actions ≡ stop_actions true (service_at self.old place).label running.endpoint ++ start_actions (service_at self.old place).label (same_slot self.old running)) }
-        ensures after { OnOk result (self.new ≡ rs_of self.old.settings (slice_set self.old.states place (started_at (same_slot self.old running) tick running.failures)) tick (self.old.next + 1) self.new.key) }
+        ensures done { IfOk result (λ actions. actions ≡ replacing self.old place running) }
+        ensures after { OnOk result (self.new ≡ after_replacement self.old place tick running) }
         ensures err { IfErr result (λ fault. fault ≡ RsFault.NoRoom) }
         ensures unchanged { OnErr result (self.new ≡ self.old) }
     {
         let label = self.service_at(place).label;
-        let key = running.endpoint.slot() as usize - 16;
-        let endpoint = endpoint_at(self.next, key);
+        let endpoint = endpoint_at(self.next, running.endpoint.slot() as usize - 16);
         let mut actions = Actions::new(self.alloc);
         let Ok(()) = add_stop(&mut actions, true, label, running.endpoint) else {
             return Err(RsFault::NoRoom);
@@ -158,8 +153,6 @@ impl Rs {
         let Ok(()) = add_start(&mut actions, label, endpoint) else {
             return Err(RsFault::NoRoom);
         };
-        self.slots.remove(key);
-        self.slots.insert_reserved(place);
         self.states[place] = State::Up(Running {
             endpoint,
             beat: tick,
@@ -184,8 +177,7 @@ impl Rs {
         requires up { state_at self.old place ≡ State.Up running }
         requires failures { running.failures ≤ 1000 }
         ensures done { IfOk result (λ actions. actions ≡ stop_actions kill (service_at self.old place).label running.endpoint) }
-        ensures after { OnOk result (self.new ≡ rs_of self.old.settings (slice_set self.old.states place (failed (service_at self.old place).limit tick (running.failures + 1))) tick self.old.next self.new.key) }
-        ensures freed { OnOk result (self.new.key + 16 ≡ running.endpoint.slot) }
+        ensures after { OnOk result (self.new ≡ after_stop self.old place tick running (failing self.old place tick running)) }
         ensures err { IfErr result (λ fault. fault ≡ RsFault.NoRoom) }
         ensures unchanged { OnErr result (self.new ≡ self.old) }
     {
@@ -198,7 +190,7 @@ impl Rs {
         requires within { place < length self.old.states }
         requires tick { tick ≤ 2 ^ 62 }
         requires up { state_at self.old place ≡ State.Up running }
-        ensures { self.new ≡ rs_of self.old.settings (slice_set self.old.states place (State.Up (record running { beat = beat; ping = ping }))) tick self.old.next self.old.key }
+        ensures { self.new ≡ after_note self.old place tick (State.Up (record running { beat = beat; ping = ping })) }
     {
         self.states[place] = State::Up(Running {
             endpoint: running.endpoint,
@@ -215,7 +207,7 @@ impl Rs {
         requires tick { tick ≤ 2 ^ 62 }
         requires up { state_at self.old place ≡ State.Up running }
         ensures done { result ≡ [] }
-        ensures after { self.new ≡ rs_of self.old.settings (slice_set self.old.states place (State.Up (record running { beat = tick }))) tick self.old.next self.old.key }
+        ensures after { self.new ≡ after_note self.old place tick (State.Up (record running { beat = tick })) }
     {
         let ping = running.ping;
         self.keep(place, tick, running, tick, ping);
@@ -228,7 +220,7 @@ impl Rs {
         requires tick { tick ≤ 2 ^ 62 }
         requires up { state_at self.old place ≡ State.Up running }
         ensures done { IfOk result (λ actions. actions ≡ Action.Ping running.endpoint ∷ []) }
-        ensures after { OnOk result (self.new ≡ rs_of self.old.settings (slice_set self.old.states place (State.Up (record running { ping = tick }))) tick self.old.next self.old.key) }
+        ensures after { OnOk result (self.new ≡ after_note self.old place tick (State.Up (record running { ping = tick }))) }
         ensures err { IfErr result (λ fault. fault ≡ RsFault.NoRoom) }
         ensures unchanged { OnErr result (self.new ≡ self.old) }
     {
@@ -247,7 +239,7 @@ impl Rs {
         requires tick { tick ≤ 2 ^ 62 }
         requires waiting { state_at self.old place ≡ State.Waiting pause }
         ensures done { result ≡ [] }
-        ensures after { self.new ≡ rs_of self.old.settings (slice_set self.old.states place State.Down) tick self.old.next self.old.key }
+        ensures after { self.new ≡ after_note self.old place tick State.Down }
     {
         let _failures = pause.failures;
         self.states[place] = State::Down;
@@ -259,7 +251,7 @@ impl Rs {
     fn leave(&mut self, place: usize, tick: u64) -> Actions
         requires { tick ≤ 2 ^ 62 }
         ensures done { result ≡ [] }
-        ensures after { self.new ≡ rs_of self.old.settings (slice_set self.old.states place (state_at self.old place)) tick self.old.next self.old.key }
+        ensures after { self.new ≡ after_note self.old place tick (state_at self.old place) }
     {
         self.tick = tick;
         Actions::new(self.alloc)

@@ -1,11 +1,26 @@
-use Rattle.std.proofs.Common.{◌<◌, length, get_or, subst, arith}
-use Rattle.rs_core.specs.declared.state.State.TheVariants.{Down}
-use Rattle.rs_core.specs.State.{RsRecord, state_at}
-use Rattle.rs_core.specs.Kept.{HaveTwoSlots}
-use Rattle.rs_core.proofs.KeptLemmas.{two_slots}
+use Rattle.std.proofs.Common.{ℕ, ◌<◌, length, subst}
+use Rattle.std.specs.Prelude.{◌↔◌}
+use Rattle.rs_core.specs.Slots.{next_key}
+use Rattle.rs_core.specs.State.{RsRecord, state_at, up_count}
+use Rattle.rs_core.specs.Kept.{IsNotAt, HaveTwoSlots}
+use Rattle.rs_core.proofs.KeptLemmas.{next_key_within, next_key_free, two_slots}
 use Rattle.rs_core.proofs.rs.Rs.next_key.Goals as goal
 
-pub returns-clause-own : goal.returns-clause-own
-returns-clause-own c = λ i j below l.
+pub returns-clause-within : goal.returns-clause-within
+returns-clause-within c =
     let s = c.self.inside in
-    subst (λ (r : RsRecord). j < length r.states → HaveTwoSlots (state_at r i) (state_at r j)) c.self.view_is (λ m. two_slots s.next s.slots i j (get_or s.states.items i Down) (get_or s.states.items j Down) below (c.self.invariant.each i (omega arith)) (c.self.invariant.each j m)) l
+    rw c.next_key.ensures (subst (λ (r : RsRecord). (next_key s.slots < r.settings.slots) ↔ (up_count r.states < r.settings.slots)) c.self.view_is
+    (next_key_within s.settings s.states.items s.tick s.next s.slots c.self.invariant))
+
+pub returns-clause-free : goal.returns-clause-free
+returns-clause-free c =
+    let s = c.self.inside in
+    rw c.next_key.ensures (subst (λ (r : RsRecord). (i : ℕ) → i < length r.states →
+    IsNotAt (next_key s.slots) (state_at r i)) c.self.view_is
+    (next_key_free s.slots s.states.items c.self.invariant.fit))
+
+pub returns-clause-own : goal.returns-clause-own
+returns-clause-own c =
+    let s = c.self.inside in
+    subst (λ (r : RsRecord). (i j : ℕ) → i < j → j < length r.states → HaveTwoSlots (state_at r i) (state_at r j)) c.self.view_is
+    (two_slots s.next s.slots s.states.items c.self.invariant.fit c.self.invariant.each)
