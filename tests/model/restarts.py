@@ -88,7 +88,7 @@ def repeated(services, word, marks_of):
 
 
 class Slots:
-    """Process slots by keys from 0, as the crate `slab` gives them: the one that was freed last, else a new one."""
+    """Process slots by keys from 0: the one that was freed last is given first, else a new one."""
 
     def __init__(self):
         self.freed, self.most = [], 0

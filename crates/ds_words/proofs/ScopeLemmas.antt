@@ -13,6 +13,8 @@ use Rattle.ds_line.proofs.PartLemmas.{byte_begins}
 use Rattle.ds_pattern.specs.declared.query.Query.{Query}
 use Rattle.ds_words.specs.Lines.{IsUnbroken}
 use Rattle.ds_words.specs.Pieces.{a_pattern, a_kinds, FindsPattern}
+use Rattle.ds_machine.specs.declared.command.Scope.{Scope}
+use Rattle.ds_machine.specs.declared.command.Scope.TheVariants.{All, Under}
 use Rattle.ds_words.specs.Scope.{a_scope, scope_parts, IsScope, Writes}
 use Rattle.ds_words.proofs.PieceLemmas.{kinds_one}
 use Rattle.ds_words.proofs.QueryLemmas.{pattern_fixed, pattern_one, escaped_one, query_is}
@@ -24,7 +26,7 @@ query_of text kinds = record { text = text; kinds = kinds }
 
 -- what stands behind the space
 abbrev pub scope_rest : Piece
-scope_rest = record { Of = Option Query; Can = IsScope; parts = scope_parts }
+scope_rest = record { Of = Scope; Can = IsScope; parts = scope_parts }
 
 -- a pattern, and the mask of some kinds
 abbrev pub a_query : Piece
@@ -32,25 +34,25 @@ a_query = behind a_pattern (λ (_ : List ℕ). a_kinds)
 
 -- ---- neither `*` nor a pattern stands there
 
-abbrev first_part : Option Query → Part
-first_part None = byte 42
-first_part (Some query) = part Quoted (quoted query.text)
+abbrev first_part : Scope → Part
+first_part All = byte 42
+first_part (Under query) = part Quoted (quoted query.text)
 
-abbrev more_parts : Option Query → List Part
-more_parts None = []
-more_parts (Some query) = space ∷ part Number (decimal query.kinds) ∷ []
+abbrev more_parts : Scope → List Part
+more_parts All = []
+more_parts (Under query) = space ∷ part Number (decimal query.kinds) ∷ []
 
-starts : (scope : Option Query) → scope_parts scope ≡ first_part scope ∷ more_parts scope
-starts None = refl
-starts (Some query) = refl
+starts : (scope : Scope) → scope_parts scope ≡ first_part scope ∷ more_parts scope
+starts All = refl
+starts (Under query) = refl
 
-none_begins : (r : List ℕ) → ((rest : List ℕ) → r ≢ 42 ∷ rest) → ((text rest : List ℕ) → IsUnbroken text → r ≢ quoted text ++ rest) → (scope : Option Query) (rest : List ℕ) → IsScope scope → Begins (run_of (first_part scope).class) r (first_part scope).text rest → ⊥
-none_begins r star none None rest can begins = star rest begins.parts
-none_begins r star none (Some query) rest can begins = none query.text rest can.text begins.parts
+none_begins : (r : List ℕ) → ((rest : List ℕ) → r ≢ 42 ∷ rest) → ((text rest : List ℕ) → IsUnbroken text → r ≢ quoted text ++ rest) → (scope : Scope) (rest : List ℕ) → IsScope scope → Begins (run_of (first_part scope).class) r (first_part scope).text rest → ⊥
+none_begins r star none All rest can begins = star rest begins.parts
+none_begins r star none (Under query) rest can begins = none query.text rest can.text begins.parts
 
 pub no_scope : (stop : PartFault) (bytes r : List ℕ) → bytes ≡ 32 ∷ r → stop ≡ BadPart (length r) → ((rest : List ℕ) → r ≢ 42 ∷ rest) → ((text rest : List ℕ) → IsUnbroken text → r ≢ quoted text ++ rest) → StopsIn a_scope stop bytes
 no_scope stop bytes r is at star none =
-    byte_stops 32 scope_rest stop bytes r is (stops_from scope_rest stop r r at (part_missing scope_rest first_part more_parts None r starts tt (λ scope rest can begins. none_begins r star none scope rest can begins)))
+    byte_stops 32 scope_rest stop bytes r is (stops_from scope_rest stop r r at (part_missing scope_rest first_part more_parts All r starts tt (λ scope rest can begins. none_begins r star none scope rest can begins)))
 
 -- ---- `*` and a pattern never stand at one place
 
@@ -70,14 +72,14 @@ quote_stands text bytes mid rest space_is quote_is = ((escaped text ++ 34 ∷ []
 
 -- ---- the kinds are missing behind a pattern
 
-query_most : (bytes after : List ℕ) (k : ℕ) → 2 ≤ k → ((x : a_query.Of) (end : List ℕ) → a_query.Can x → ¬ Stand (suc k) (a_query.parts x) bytes end) → (scope : Option Query) → IsScope scope → Stand (suc k) (space ∷ scope_parts scope) bytes after → ⊥
-query_most bytes after k two most None can h = omega (arith, two, count_fits (suc k) (space ∷ byte 42 ∷ []) bytes after h)
-query_most bytes after k two most (Some query) can h = most (query.text, query.kinds) after (can.text, (can.some, can.limit)) h
+query_most : (bytes after : List ℕ) (k : ℕ) → 2 ≤ k → ((x : a_query.Of) (end : List ℕ) → a_query.Can x → ¬ Stand (suc k) (a_query.parts x) bytes end) → (scope : Scope) → IsScope scope → Stand (suc k) (space ∷ scope_parts scope) bytes after → ⊥
+query_most bytes after k two most All can h = omega (arith, two, count_fits (suc k) (space ∷ byte 42 ∷ []) bytes after h)
+query_most bytes after k two most (Under query) can h = most (query.text, query.kinds) after (can.text, (can.some, can.limit)) h
 
-query_none : (bytes after t : List ℕ) → bytes ≡ 32 ∷ 34 ∷ t → ((x : a_query.Of) (end : List ℕ) → a_query.Can x → ¬ Stand (length (a_query.parts x)) (a_query.parts x) bytes end) → (scope : Option Query) → IsScope scope
+query_none : (bytes after t : List ℕ) → bytes ≡ 32 ∷ 34 ∷ t → ((x : a_query.Of) (end : List ℕ) → a_query.Can x → ¬ Stand (length (a_query.parts x)) (a_query.parts x) bytes end) → (scope : Scope) → IsScope scope
     → Stand (length (space ∷ scope_parts scope)) (space ∷ scope_parts scope) bytes after → ⊥
-query_none bytes after t quote none None can h = star_no_quote bytes after t (star_stands bytes after h) quote
-query_none bytes after t quote none (Some query) can h = none (query.text, query.kinds) after (can.text, (can.some, can.limit)) h
+query_none bytes after t quote none All can h = star_no_quote bytes after t (star_stands bytes after h) quote
+query_none bytes after t quote none (Under query) can h = none (query.text, query.kinds) after (can.text, (can.some, can.limit)) h
 
 query_breaks : (written bytes r rest : List ℕ) → FindsPattern written bytes r → Breaks a_kinds r rest → Breaks a_scope bytes rest
 query_breaks written bytes r rest found s =
@@ -85,7 +87,7 @@ query_breaks written bytes r rest found s =
     let quote = quote_stands found.0 bytes found.2.front.0 found.2.front.2.0 found.2.front.1.parts found.2.front.2.1.parts in
     record {
       count = t.count;
-      thing = Some (query_of t.thing.0 t.thing.1);
+      thing = Under (query_of t.thing.0 t.thing.1);
       can = record { text = t.can.0; some = t.can.1.0; limit = t.can.1.1 };
       front = t.front;
       most = λ scope after can h. query_most bytes after t.count (first_counts a_pattern (λ _. a_kinds) found.0 1 bytes r rest found.2 (omega arith, omega arith) t) t.most scope can h;
@@ -98,10 +100,10 @@ scope_kinds_stops written NoRoom bytes r found room s = absurd (room refl)
 
 -- ---- a scope is read
 
-pub star_found : (bytes r rest : List ℕ) → bytes ≡ 32 ∷ r → r ≡ 42 ∷ rest → Found a_scope None bytes rest
+pub star_found : (bytes r rest : List ℕ) → bytes ≡ 32 ∷ r → r ≡ 42 ∷ rest → Found a_scope All bytes rest
 star_found bytes r rest space_is star_is = record { can = tt; front = (r, byte_begins 32 bytes r space_is, (rest, byte_begins 42 r rest star_is, refl)) }
 
-pub query_found : (written bytes r rest : List ℕ) (kinds : ℕ) (found : FindsPattern written bytes r) → Found a_kinds kinds r rest → Found a_scope (Some (query_of found.0 kinds)) bytes rest
+pub query_found : (written bytes r rest : List ℕ) (kinds : ℕ) (found : FindsPattern written bytes r) → Found a_kinds kinds r rest → Found a_scope (Under (query_of found.0 kinds)) bytes rest
 query_found written bytes r rest kinds found second =
     let both = both_found a_pattern (λ _. a_kinds) found.0 kinds bytes r rest found.2 second in
     record { can = record { text = found.2.can; some = second.can.0; limit = second.can.1 }; front = both.front }
@@ -109,30 +111,30 @@ query_found written bytes r rest kinds found second =
 query_one : One a_query
 query_one = one_behind a_pattern (λ _. a_kinds) pattern_one (λ _. kinds_one)
 
-query_quote : (query : Query) (bytes rest : List ℕ) → Found a_scope (Some query) bytes rest → (t : List ℕ) × (bytes ≡ 32 ∷ 34 ∷ t)
+query_quote : (query : Query) (bytes rest : List ℕ) → Found a_scope (Under query) bytes rest → (t : List ℕ) × (bytes ≡ 32 ∷ 34 ∷ t)
 query_quote query bytes rest f = quote_stands query.text bytes f.front.0 f.front.2.0 f.front.1.parts f.front.2.1.parts
 
-as_query : (query : Query) (bytes rest : List ℕ) → Found a_scope (Some query) bytes rest → Found a_query (query.text, query.kinds) bytes rest
+as_query : (query : Query) (bytes rest : List ℕ) → Found a_scope (Under query) bytes rest → Found a_query (query.text, query.kinds) bytes rest
 as_query query bytes rest f = record { can = (f.can.text, (f.can.some, f.can.limit)); front = f.front }
 
-scopes_one : (a b : Option Query) (bytes r s : List ℕ) → Found a_scope a bytes r → Found a_scope b bytes s → (b ≡ a) × (s ≡ r)
-scopes_one None None bytes r s fa fb = (refl, ap (drop 2) (sym (star_stands bytes s fb.front) ∙ star_stands bytes r fa.front))
-scopes_one None (Some q) bytes r s fa fb = let quote = query_quote q bytes s fb in absurd (star_no_quote bytes r quote.0 (star_stands bytes r fa.front) quote.1)
-scopes_one (Some p) None bytes r s fa fb = let quote = query_quote p bytes r fa in absurd (star_no_quote bytes s quote.0 (star_stands bytes s fb.front) quote.1)
-scopes_one (Some p) (Some q) bytes r s fa fb =
+scopes_one : (a b : Scope) (bytes r s : List ℕ) → Found a_scope a bytes r → Found a_scope b bytes s → (b ≡ a) × (s ≡ r)
+scopes_one All All bytes r s fa fb = (refl, ap (drop 2) (sym (star_stands bytes s fb.front) ∙ star_stands bytes r fa.front))
+scopes_one All (Under q) bytes r s fa fb = let quote = query_quote q bytes s fb in absurd (star_no_quote bytes r quote.0 (star_stands bytes r fa.front) quote.1)
+scopes_one (Under p) All bytes r s fa fb = let quote = query_quote p bytes r fa in absurd (star_no_quote bytes s quote.0 (star_stands bytes s fb.front) quote.1)
+scopes_one (Under p) (Under q) bytes r s fa fb =
     let one = query_one (p.text, p.kinds) (q.text, q.kinds) bytes r s (as_query p bytes r fa) (as_query q bytes s fb) in
-    (ap (λ (x : a_query.Of). Some (query_of x.0 x.1)) one.0, one.1)
+    (ap (λ (x : a_query.Of). Under (query_of x.0 x.1)) one.0, one.1)
 
 pub scope_one : One a_scope
 scope_one = scopes_one
 
-scopes_apart : (a b : Option Query) (bytes r after : List ℕ) → Found a_scope a bytes r → IsScope b → length (space ∷ scope_parts a) < length (space ∷ scope_parts b) → Stand (suc (length (space ∷ scope_parts a))) (space ∷ scope_parts b) bytes after → ⊥
-scopes_apart None None bytes r after f can lt h = omega (arith, lt)
-scopes_apart None (Some q) bytes r after f can lt h =
+scopes_apart : (a b : Scope) (bytes r after : List ℕ) → Found a_scope a bytes r → IsScope b → length (space ∷ scope_parts a) < length (space ∷ scope_parts b) → Stand (suc (length (space ∷ scope_parts a))) (space ∷ scope_parts b) bytes after → ⊥
+scopes_apart All All bytes r after f can lt h = omega (arith, lt)
+scopes_apart All (Under q) bytes r after f can lt h =
     let quote = quote_stands q.text bytes h.0 h.2.0 h.1.parts h.2.1.parts in
     star_no_quote bytes r quote.0 (star_stands bytes r f.front) quote.1
-scopes_apart (Some p) None bytes r after f can lt h = omega (arith, lt)
-scopes_apart (Some p) (Some q) bytes r after f can lt h = omega (arith, lt)
+scopes_apart (Under p) All bytes r after f can lt h = omega (arith, lt)
+scopes_apart (Under p) (Under q) bytes r after f can lt h = omega (arith, lt)
 
 -- where a scope stands, no longer one goes on
 pub scope_apart : Apart a_scope
@@ -141,10 +143,10 @@ scope_apart = scopes_apart
 -- ---- what is written for a scope
 
 -- two scopes that are written so are one
-pub written_one : (text : List ℕ) (kinds : Option ℕ) (a b : Option Query) → Writes text kinds a → Writes text kinds b → a ≡ b
-written_one text None None None x y = refl
-written_one text None None (Some q) x y = absurd y
-written_one text None (Some p) b x y = absurd x
-written_one text (Some k) None b x y = absurd x
-written_one text (Some k) (Some p) None x y = absurd y
-written_one text (Some k) (Some p) (Some q) x y = ap Some (query_is p q.text q.kinds (escaped_one p.text q.text (sym x.0 ∙ y.0)) (x.1 ∙ sym y.1))
+pub written_one : (text : List ℕ) (kinds : Option ℕ) (a b : Scope) → Writes text kinds a → Writes text kinds b → a ≡ b
+written_one text None All All x y = refl
+written_one text None All (Under q) x y = absurd y
+written_one text None (Under p) b x y = absurd x
+written_one text (Some k) All b x y = absurd x
+written_one text (Some k) (Under p) All x y = absurd y
+written_one text (Some k) (Under p) (Under q) x y = ap Under (query_is p q.text q.kinds (escaped_one p.text q.text (sym x.0 ∙ y.0)) (x.1 ∙ sym y.1))

@@ -1,193 +1,225 @@
--- What a command takes stands where its parts are spelled out.
-use Rattle.std.proofs.Common.{ℕ, codes, List, [], ◌∷◌, ◌++◌, Option, None, Some, refl}
+-- What a command takes stands where its parts are spelled out, begins with a space or a newline, and ends with a newline.
+use Rattle.std.proofs.Common.{◌≡◌, ℕ, ◌⊎◌, inl, inr, List, [], ◌∷◌, ◌++◌, length, codes, Option, None, Some, refl, sym, ap, subst, ◌∙◌, append_assoc, append-nil, length-append}
+use Rattle.std.specs.Bool.{IsFalse}
+use Rattle.std.specs.Char.{is_ascii_alphanumeric}
 use Rattle.std.specs.Fmt.{decimal}
+use Rattle.std.proofs.lemmas.List.Concat.{flat_map-append}
 use Rattle.ds_names.specs.Endpoint.{endpoint_text}
+use Rattle.ds_names.specs.Name.{is_name_byte}
+use Rattle.ds_names.specs.Run.{Ends}
 use Rattle.ds_names.specs.declared.key.Key.{Key}
-use Rattle.ds_names.specs.declared.version.Version.{Version}
-use Rattle.ds_entry.specs.declared.body.Body.TheVariants.{Put}
-use Rattle.ds_line.specs.Part.{Part, part, byte, Word, Name, Number, Endpoint, Quoted}
-use Rattle.ds_line.specs.Spelling.{space, newline, kind_word, quoted, body_parts}
+use Rattle.ds_names.specs.declared.kind.Kind.{Kind}
+use Rattle.ds_names.specs.declared.kind.Kind.TheVariants.{U32}
+use Rattle.ds_entry.specs.declared.item.Item.{Item}
+use Rattle.ds_line.specs.Part.{Class, Byte, Word, Name, Number, Endpoint, Quoted, Hex, Part, part, byte, run_of, texts}
+use Rattle.ds_line.specs.Spelling.{space, newline, kind_word, quoted, value_part}
 use Rattle.ds_line.specs.ItemSpelling.{item_parts}
-use Rattle.ds_line.proofs.LineLemmas.{AllStand, part_stands, byte_stands, name_stands, body_stands}
+use Rattle.ds_line.specs.FaultPlace.{Stand}
+use Rattle.ds_line.proofs.ItemLemmas.{item_ends}
+use Rattle.ds_line.proofs.LineLemmas.{spelled, AllStand, part_stands, byte_stands}
+use Rattle.ds_line.proofs.PieceLemmas.{stand_join}
+use Rattle.ds_machine.specs.declared.command.Scope.{Scope}
+use Rattle.ds_machine.specs.declared.command.Scope.TheVariants.{All as AllKeys, Under}
 use Rattle.ds_words.specs.declared.command.ScriptCommand.{ScriptCommand}
-use Rattle.ds_words.specs.declared.command.ScriptCommand.TheVariants.{Offer, Show, All as Everything, Publish, Delete, Sweep, Retrieve, NameOf, Subscribe, Check, Map, Entries, Ring, Side as OnSide, Clear, Restart, Deliver, Since, Snapshot, Page}
-use Rattle.ds_pattern.specs.declared.query.Query.{Query}
+use Rattle.ds_words.specs.declared.slot.Slot.{Slot}
+use Rattle.ds_words.specs.declared.slot.Slot.TheVariants as slots
+use Rattle.ds_words.specs.declared.word.Word.{Word as CommandWord}
+use Rattle.ds_words.specs.declared.word.Word.TheVariants as words
+use Rattle.ds_words.specs.Command.{IsCommand, command_word, behind_word, initial_word, mode_word}
+use Rattle.ds_words.specs.Table.{slots_of, piece_of, kind_after, row_of, line_of}
+use Rattle.ds_words.specs.World.{side_word, holder_word, count_part}
 use Rattle.ds_words.specs.Page.{range_parts}
 use Rattle.ds_words.specs.Scope.{scope_parts}
-use Rattle.ds_words.specs.World.{side_word, holder_word, count_part}
-use Rattle.ds_words.specs.Command.{behind_word, initial_word, mode_word}
-use Rattle.ds_words.specs.Key.{key_parts, version_parts}
 use Rattle.ds_words.proofs.OfferLemmas.{item_stands}
+use Rattle.ds_words.proofs.TableLemmas.{row}
 
-delete_stands : (key : Key) (version : Version) → AllStand (key_parts key ++ space ∷ (version_parts version ++ newline ∷ [])) []
-delete_stands key version =
-    let from_seq : List Part = part Number (decimal version.seq) ∷ newline ∷ [] in
-    let from_epoch : List Part = part Number (decimal version.epoch) ∷ byte 46 ∷ from_seq in
-    let from_kind : List Part = part Word (kind_word key.kind) ∷ space ∷ from_epoch in
-    name_stands key.name from_kind []
-    (byte_stands 32 from_kind []
-    (part_stands (part Word (kind_word key.kind)) (space ∷ from_epoch) [] refl
-    (byte_stands 32 from_epoch []
-    (part_stands (part Number (decimal version.epoch)) (byte 46 ∷ from_seq) [] refl
-    (byte_stands 46 from_seq []
-    (part_stands (part Number (decimal version.seq)) (newline ∷ []) [] refl
-    (byte_stands 10 [] [] refl)))))))
+-- ---- parts before a space or a newline
 
-scope_stands : (scope : Option Query) (more : List Part) → AllStand (space ∷ more) [] → AllStand (scope_parts scope ++ space ∷ more) []
-scope_stands None more h = byte_stands 42 (space ∷ more) [] h
-scope_stands (Some query) more h =
-    let from_kinds : List Part = part Number (decimal query.kinds) ∷ space ∷ more in
-    part_stands (part Quoted (quoted query.text)) (space ∷ from_kinds) [] refl
-    (byte_stands 32 from_kinds [] (part_stands (part Number (decimal query.kinds)) (space ∷ more) [] refl h))
+-- the first of the parts, if there is one, is a space or a newline
+abbrev pub Parted : List Part → Type 0
+Parted [] = Unit {0}
+Parted (p ∷ ps) = (p ≡ space) ⊎ (p ≡ newline)
 
-count_stands : (count : Option ℕ) → AllStand (count_part count ∷ newline ∷ []) []
-count_stands None = byte_stands 42 (newline ∷ []) [] (byte_stands 10 [] [] refl)
-count_stands (Some n) = part_stands (part Number (decimal n)) (newline ∷ []) [] refl (byte_stands 10 [] [] refl)
+ends_at_space : (c : Class) → IsFalse (run_of c 32)
+unfolding is_name_byte
+ends_at_space Byte = refl
+ends_at_space Name = refl
+ends_at_space Word = refl
+ends_at_space Number = refl
+ends_at_space Endpoint = refl
+ends_at_space Quoted = refl
+ends_at_space Hex = refl
 
-range_stands : (after : Option Key) (max : ℕ) → AllStand (range_parts after max ++ newline ∷ []) []
-range_stands None max =
-    let from_max : List Part = part Number (decimal max) ∷ newline ∷ [] in
-    name_stands (codes "-") from_max [] (byte_stands 32 from_max [] (part_stands (part Number (decimal max)) (newline ∷ []) [] refl (byte_stands 10 [] [] refl)))
-range_stands (Some key) max =
-    let from_max : List Part = part Number (decimal max) ∷ newline ∷ [] in
-    let from_kind : List Part = part Word (kind_word key.kind) ∷ space ∷ from_max in
-    name_stands key.name from_kind []
-    (byte_stands 32 from_kind []
-    (part_stands (part Word (kind_word key.kind)) (space ∷ from_max) [] refl
-    (byte_stands 32 from_max [] (part_stands (part Number (decimal max)) (newline ∷ []) [] refl (byte_stands 10 [] [] refl)))))
+ends_at_newline : (c : Class) → IsFalse (run_of c 10)
+unfolding is_name_byte
+ends_at_newline Byte = refl
+ends_at_newline Name = refl
+ends_at_newline Word = refl
+ends_at_newline Number = refl
+ends_at_newline Endpoint = refl
+ends_at_newline Quoted = refl
+ends_at_newline Hex = refl
 
-pub command_stands : (command : ScriptCommand) → AllStand (behind_word command) []
-command_stands (Offer i) = byte_stands 32 (item_parts i) [] (item_stands i [])
-command_stands Show = byte_stands 10 [] [] refl
-command_stands Everything = byte_stands 10 [] [] refl
-command_stands (Publish caller key version value overwrite) =
-    let from_mark : List Part = body_parts (Put value) in
-    let from_seq : List Part = part Number (decimal version.seq) ∷ space ∷ from_mark in
-    let from_epoch : List Part = part Number (decimal version.epoch) ∷ byte 46 ∷ from_seq in
-    let from_kind : List Part = part Word (kind_word key.kind) ∷ space ∷ from_epoch in
-    let from_name : List Part = part Name key.name ∷ space ∷ from_kind in
-    let from_mode : List Part = part Word (mode_word overwrite) ∷ space ∷ from_name in
-    byte_stands 32 (part Endpoint (endpoint_text caller) ∷ space ∷ from_mode) []
-    (part_stands (part Endpoint (endpoint_text caller)) (space ∷ from_mode) [] refl
-    (byte_stands 32 from_mode []
-    (part_stands (part Word (mode_word overwrite)) (space ∷ from_name) [] refl
-    (byte_stands 32 from_name []
-    (name_stands key.name from_kind []
-    (byte_stands 32 from_kind []
-    (part_stands (part Word (kind_word key.kind)) (space ∷ from_epoch) [] refl
-    (byte_stands 32 from_epoch []
-    (part_stands (part Number (decimal version.epoch)) (byte 46 ∷ from_seq) [] refl
-    (byte_stands 46 from_seq []
-    (part_stands (part Number (decimal version.seq)) (space ∷ from_mark) [] refl
-    (byte_stands 32 from_mark [] (body_stands (Put value) [])))))))))))))
-command_stands (Delete caller key version) =
-    let from_name : List Part = key_parts key ++ space ∷ (version_parts version ++ newline ∷ []) in
-    byte_stands 32 (part Endpoint (endpoint_text caller) ∷ space ∷ from_name) []
-    (part_stands (part Endpoint (endpoint_text caller)) (space ∷ from_name) [] refl
-    (byte_stands 32 from_name [] (delete_stands key version)))
-command_stands (Sweep caller owner generation) =
-    let from_generation : List Part = part Number (decimal generation) ∷ newline ∷ [] in
-    let from_owner : List Part = part Name owner ∷ space ∷ from_generation in
-    byte_stands 32 (part Endpoint (endpoint_text caller) ∷ space ∷ from_owner) []
-    (part_stands (part Endpoint (endpoint_text caller)) (space ∷ from_owner) [] refl
-    (byte_stands 32 from_owner []
-    (name_stands owner from_generation []
-    (byte_stands 32 from_generation []
-    (part_stands (part Number (decimal generation)) (newline ∷ []) [] refl
-    (byte_stands 10 [] [] refl))))))
-command_stands (Retrieve key) =
-    let from_kind : List Part = part Word (kind_word key.kind) ∷ newline ∷ [] in
-    byte_stands 32 (part Name key.name ∷ space ∷ from_kind) []
-    (name_stands key.name from_kind []
-    (byte_stands 32 from_kind []
-    (part_stands (part Word (kind_word key.kind)) (newline ∷ []) [] refl
-    (byte_stands 10 [] [] refl))))
-command_stands (NameOf endpoint) =
-    byte_stands 32 (part Endpoint (endpoint_text endpoint) ∷ newline ∷ []) []
-    (part_stands (part Endpoint (endpoint_text endpoint)) (newline ∷ []) [] refl
-    (byte_stands 10 [] [] refl))
-command_stands (Subscribe sub query initial overwrite) =
-    let from_mode : List Part = part Word (mode_word overwrite) ∷ newline ∷ [] in
-    let from_initial : List Part = part Word (initial_word initial) ∷ space ∷ from_mode in
-    let from_kinds : List Part = part Number (decimal query.kinds) ∷ space ∷ from_initial in
-    let from_pattern : List Part = part Quoted (quoted query.text) ∷ space ∷ from_kinds in
-    byte_stands 32 (part Number (decimal sub) ∷ space ∷ from_pattern) []
-    (part_stands (part Number (decimal sub)) (space ∷ from_pattern) [] refl
-    (byte_stands 32 from_pattern []
-    (part_stands (part Quoted (quoted query.text)) (space ∷ from_kinds) [] refl
-    (byte_stands 32 from_kinds []
-    (part_stands (part Number (decimal query.kinds)) (space ∷ from_initial) [] refl
-    (byte_stands 32 from_initial []
-    (part_stands (part Word (initial_word initial)) (space ∷ from_mode) [] refl
-    (byte_stands 32 from_mode []
-    (part_stands (part Word (mode_word overwrite)) (newline ∷ []) [] refl
-    (byte_stands 10 [] [] refl))))))))))
-command_stands (Check sub max) =
-    let from_max : List Part = part Number (decimal max) ∷ newline ∷ [] in
-    byte_stands 32 (part Number (decimal sub) ∷ space ∷ from_max) []
-    (part_stands (part Number (decimal sub)) (space ∷ from_max) [] refl
-    (byte_stands 32 from_max []
-    (part_stands (part Number (decimal max)) (newline ∷ []) [] refl
-    (byte_stands 10 [] [] refl))))
-command_stands (Map query) =
-    let from_kinds : List Part = part Number (decimal query.kinds) ∷ newline ∷ [] in
-    byte_stands 32 (part Quoted (quoted query.text) ∷ space ∷ from_kinds) []
-    (part_stands (part Quoted (quoted query.text)) (space ∷ from_kinds) [] refl
-    (byte_stands 32 from_kinds []
-    (part_stands (part Number (decimal query.kinds)) (newline ∷ []) [] refl
-    (byte_stands 10 [] [] refl))))
-command_stands (Entries map) =
-    byte_stands 32 (part Number (decimal map) ∷ newline ∷ []) []
-    (part_stands (part Number (decimal map)) (newline ∷ []) [] refl
-    (byte_stands 10 [] [] refl))
-command_stands (Ring ring) =
-    byte_stands 32 (part Number (decimal ring) ∷ newline ∷ []) []
-    (part_stands (part Number (decimal ring)) (newline ∷ []) [] refl
-    (byte_stands 10 [] [] refl))
-command_stands (OnSide side) =
-    byte_stands 32 (part Word (side_word side) ∷ newline ∷ []) []
-    (part_stands (part Word (side_word side)) (newline ∷ []) [] refl
-    (byte_stands 10 [] [] refl))
-command_stands (Clear map) =
-    byte_stands 32 (part Number (decimal map) ∷ newline ∷ []) []
-    (part_stands (part Number (decimal map)) (newline ∷ []) [] refl
-    (byte_stands 10 [] [] refl))
-command_stands (Restart side incarnation) =
-    let from_incarnation : List Part = part Number (decimal incarnation) ∷ newline ∷ [] in
-    byte_stands 32 (part Word (side_word side) ∷ space ∷ from_incarnation) []
-    (part_stands (part Word (side_word side)) (space ∷ from_incarnation) [] refl
-    (byte_stands 32 from_incarnation []
-    (part_stands (part Number (decimal incarnation)) (newline ∷ []) [] refl
-    (byte_stands 10 [] [] refl))))
-command_stands (Deliver message holder count) =
-    let from_count : List Part = count_part count ∷ newline ∷ [] in
-    let from_holder : List Part = part Word (holder_word holder) ∷ space ∷ from_count in
-    byte_stands 32 (part Number (decimal message) ∷ space ∷ from_holder) []
-    (part_stands (part Number (decimal message)) (space ∷ from_holder) [] refl
-    (byte_stands 32 from_holder []
-    (part_stands (part Word (holder_word holder)) (space ∷ from_count) [] refl
-    (byte_stands 32 from_count [] (count_stands count)))))
-command_stands (Since scope cursor max) =
-    let from_max : List Part = part Number (decimal max) ∷ newline ∷ [] in
-    let from_position : List Part = part Number (decimal cursor.position) ∷ space ∷ from_max in
-    let from_incarnation : List Part = part Number (decimal cursor.incarnation) ∷ space ∷ from_position in
-    byte_stands 32 (scope_parts scope ++ space ∷ from_incarnation) []
-    (scope_stands scope from_incarnation
-    (byte_stands 32 from_incarnation []
-    (part_stands (part Number (decimal cursor.incarnation)) (space ∷ from_position) [] refl
-    (byte_stands 32 from_position []
-    (part_stands (part Number (decimal cursor.position)) (space ∷ from_max) [] refl
-    (byte_stands 32 from_max []
-    (part_stands (part Number (decimal max)) (newline ∷ []) [] refl
-    (byte_stands 10 [] [] refl))))))))
-command_stands (Snapshot None) = byte_stands 32 (byte 42 ∷ newline ∷ []) [] (byte_stands 42 (newline ∷ []) [] (byte_stands 10 [] [] refl))
-command_stands (Snapshot (Some query)) =
-    let from_kinds : List Part = part Number (decimal query.kinds) ∷ newline ∷ [] in
-    byte_stands 32 (part Quoted (quoted query.text) ∷ space ∷ from_kinds) []
-    (part_stands (part Quoted (quoted query.text)) (space ∷ from_kinds) [] refl
-    (byte_stands 32 from_kinds []
-    (part_stands (part Number (decimal query.kinds)) (newline ∷ []) [] refl
-    (byte_stands 10 [] [] refl))))
-command_stands (Page scope after max) =
-    let from_range : List Part = range_parts after max ++ newline ∷ [] in
-    byte_stands 32 (scope_parts scope ++ space ∷ from_range) [] (scope_stands scope from_range (byte_stands 32 from_range [] (range_stands after max)))
+before : (c : Class) (text : List ℕ) (more : List Part) → Parted more → AllStand more [] → AllStand (part c text ∷ more) []
+before c text [] parted h = part_stands (part c text) [] [] tt h
+before c text (p ∷ ps) (inl e) h =
+    subst (λ (q : Part). AllStand (q ∷ ps) [] → AllStand (part c text ∷ q ∷ ps) []) (sym e) (part_stands (part c text) (space ∷ ps) []
+    (ends_at_space c)) h
+before c text (p ∷ ps) (inr e) h =
+    subst (λ (q : Part). AllStand (q ∷ ps) [] → AllStand (part c text ∷ q ∷ ps) []) (sym e) (part_stands (part c text) (newline ∷ ps) []
+    (ends_at_newline c)) h
+
+-- a part behind a space
+spaced : (c : Class) (text : List ℕ) (more : List Part) → Parted more → AllStand more [] → AllStand (space ∷ part c text ∷ more) []
+spaced c text more parted h = byte_stands 32 (part c text ∷ more) [] (before c text more parted h)
+
+item_before : (i : Item) (more : List Part) → AllStand more [] → AllStand (item_parts i ++ more) []
+item_before i more h =
+    let text : Part → List ℕ = λ p. p.text in
+    let same : spelled (item_parts i) (spelled more []) ≡ spelled (item_parts i ++ more) [] =
+    sym (append_assoc (texts (item_parts i)) (texts more) []) ∙ ap (λ (t : List ℕ). t ++ []) (sym (flat_map-append text
+    (item_parts i) more)) in
+    stand_join (length (item_parts i ++ more)) (length more) (item_parts i) more (spelled (item_parts i ++ more) []) (spelled more []) []
+    (length-append (item_parts i) more)
+    (subst (λ (b : List ℕ). Stand (length (item_parts i)) (item_parts i) b (spelled more [])) same (item_stands i (spelled more []))) h
+
+count_before : (count : Option ℕ) (more : List Part) → Parted more → AllStand more [] → AllStand (space ∷ count_part count ∷ more) []
+count_before None more parted h = spaced Byte (42 ∷ []) more parted h
+count_before (Some n) more parted h = spaced Number (decimal n) more parted h
+
+scope_before : (scope : Scope) (more : List Part) → Parted more → AllStand more [] → AllStand (space ∷ (scope_parts scope ++ more)) []
+scope_before AllKeys more parted h = spaced Byte (42 ∷ []) more parted h
+scope_before (Under q) more parted h =
+    spaced Quoted (quoted q.text) (space ∷ part Number (decimal q.kinds) ∷ more) (inl refl) (spaced Number (decimal q.kinds) more parted h)
+
+range_before : (after : Option Key) (max : ℕ) (more : List Part) → Parted more → AllStand more []
+    → AllStand (space ∷ (range_parts after max ++ more)) []
+range_before None max more parted h =
+    spaced Name (codes "-") (space ∷ part Number (decimal max) ∷ more) (inl refl) (spaced Number (decimal max) more parted h)
+range_before (Some key) max more parted h =
+    let from_max : List Part = space ∷ part Number (decimal max) ∷ more in
+    spaced Name key.name (space ∷ part Word (kind_word key.kind) ∷ from_max) (inl refl)
+    (spaced Word (kind_word key.kind) from_max (inl refl) (spaced Number (decimal max) more parted h))
+
+-- ---- slots
+
+slot_stands : (k : Kind) (s : Slot) (x : (piece_of k s).Of) (more : List Part) → Parted more → AllStand more []
+    → AllStand ((piece_of k s).parts x ++ more) []
+slot_stands k slots.Item i more parted h = byte_stands 32 (item_parts i ++ more) [] (item_before i more h)
+slot_stands k slots.Caller e more parted h = spaced Endpoint (endpoint_text e) more parted h
+slot_stands k slots.Mode mode more parted h = spaced Word (mode_word mode) more parted h
+slot_stands k slots.Key key more parted h = spaced Name key.name (space ∷ part Word (kind_word key.kind) ∷ more) (inl refl) (spaced Word
+    (kind_word key.kind) more parted h)
+slot_stands k slots.Version v more parted h =
+    let from_seq : List Part = part Number (decimal v.seq) ∷ more in
+    byte_stands 32 (part Number (decimal v.epoch) ∷ byte 46 ∷ from_seq) []
+    (part_stands (part Number (decimal v.epoch)) (byte 46 ∷ from_seq) [] refl
+    (byte_stands 46 from_seq [] (before Number (decimal v.seq) more parted h)))
+slot_stands k slots.Value v more parted h =
+    let from_value : List Part = value_part v ∷ newline ∷ more in
+    byte_stands 32 (byte 61 ∷ space ∷ from_value) []
+    (byte_stands 61 (space ∷ from_value) []
+    (spaced (value_part v).class (value_part v).text (newline ∷ more) (inr refl) (byte_stands 10 more [] h)))
+slot_stands k slots.Owner name more parted h = spaced Name name more parted h
+slot_stands k slots.Generation n more parted h = spaced Number (decimal n) more parted h
+slot_stands k slots.Endpoint e more parted h = spaced Endpoint (endpoint_text e) more parted h
+slot_stands k slots.Sub n more parted h = spaced Number (decimal n) more parted h
+slot_stands k slots.Pattern text more parted h = spaced Quoted (quoted text) more parted h
+slot_stands k slots.Kinds n more parted h = spaced Number (decimal n) more parted h
+slot_stands k slots.Initial initial more parted h = spaced Word (initial_word initial) more parted h
+slot_stands k slots.Max n more parted h = spaced Number (decimal n) more parted h
+slot_stands k slots.Map n more parted h = spaced Number (decimal n) more parted h
+slot_stands k slots.Ring n more parted h = spaced Number (decimal n) more parted h
+slot_stands k slots.Side side more parted h = spaced Word (side_word side) more parted h
+slot_stands k slots.Incarnation n more parted h = spaced Number (decimal n) more parted h
+slot_stands k slots.Position n more parted h = spaced Number (decimal n) more parted h
+slot_stands k slots.Message n more parted h = spaced Number (decimal n) more parted h
+slot_stands k slots.Holder holder more parted h = spaced Word (holder_word holder) more parted h
+slot_stands k slots.Count count more parted h = count_before count more parted h
+slot_stands k slots.Scope scope more parted h = scope_before scope more parted h
+slot_stands k slots.Range x more parted h = range_before x.0 x.1 more parted h
+slot_stands k slots.End x more parted h = byte_stands 10 more [] h
+
+slot_parted : (k : Kind) (s : Slot) (x : (piece_of k s).Of) (more : List Part) → Parted ((piece_of k s).parts x ++ more)
+slot_parted k slots.End x more = inr refl
+slot_parted k s x more = inl refl
+
+-- a slot that ends with the newline of its line
+abbrev IsLast : Slot → Type 0
+IsLast slots.Item = Unit {0}
+IsLast slots.Value = Unit {0}
+IsLast slots.End = Unit {0}
+IsLast s = ⊥
+
+-- the parts end with a newline
+last_newline : (parts : List Part) → (front : List ℕ) × (texts (parts ++ newline ∷ []) ≡ front ++ 10 ∷ [])
+last_newline parts = (texts parts, flat_map-append (λ (p : Part). p.text) parts (newline ∷ []))
+
+slot_ends : (k : Kind) (s : Slot) (x : (piece_of k s).Of) → IsLast s → (piece_of k s).Can x
+    → (front : List ℕ) × (texts ((piece_of k s).parts x) ≡ front ++ 10 ∷ [])
+slot_ends k slots.Item i last can = let e = item_ends i can in (32 ∷ e.front, ap (λ (t : List ℕ). 32 ∷ t) e.parts)
+slot_ends k slots.Value v last can = last_newline (space ∷ byte 61 ∷ space ∷ value_part v ∷ [])
+slot_ends k slots.End x last can = ([], refl)
+slot_ends k s x last can = absurd last
+
+-- ---- rows
+
+row_parted : (k : Kind) (ss : List Slot) (x : (row_of k ss).Of) → Parted ((row_of k ss).parts x)
+row_parted k [] x = inr refl
+row_parted k (s ∷ []) x = subst Parted (append-nil ((piece_of k s).parts x)) (slot_parted k s x [])
+row_parted k (s ∷ t ∷ ss) x = slot_parted k s x.0 ((row_of (kind_after k s x.0) (t ∷ ss)).parts x.1)
+
+row_stands : (k : Kind) (ss : List Slot) (x : (row_of k ss).Of) → AllStand ((row_of k ss).parts x) []
+row_stands k [] x = byte_stands 10 [] [] refl
+row_stands k (s ∷ []) x = subst (λ (ps : List Part). AllStand ps []) (append-nil ((piece_of k s).parts x)) (slot_stands k s x [] tt refl)
+row_stands k (s ∷ t ∷ ss) x =
+    let more = row_of (kind_after k s x.0) (t ∷ ss) in
+    slot_stands k s x.0 (more.parts x.1) (row_parted (kind_after k s x.0) (t ∷ ss) x.1) (row_stands (kind_after k s x.0) (t ∷ ss) x.1)
+
+-- its last slot ends with the newline
+abbrev EndsRow : List Slot → Type 0
+EndsRow [] = ⊥
+EndsRow (s ∷ []) = IsLast s
+EndsRow (s ∷ t ∷ ss) = EndsRow (t ∷ ss)
+
+word_ends : (w : CommandWord) → EndsRow (slots_of w)
+word_ends words.Offer = tt
+word_ends w = tt
+
+row_ends : (k : Kind) (ss : List Slot) (x : (row_of k ss).Of) → EndsRow ss → (row_of k ss).Can x
+    → (front : List ℕ) × (texts ((row_of k ss).parts x) ≡ front ++ 10 ∷ [])
+row_ends k [] x last can = absurd last
+row_ends k (s ∷ []) x last can = slot_ends k s x last can
+row_ends k (s ∷ t ∷ ss) x last can =
+    let here = (piece_of k s).parts x.0 in
+    let more = (row_of (kind_after k s x.0) (t ∷ ss)).parts x.1 in
+    let e = row_ends (kind_after k s x.0) (t ∷ ss) x.1 last can.1 in
+    let text : Part → List ℕ = λ p. p.text in (
+      texts here ++ e.0,
+      flat_map-append text here more ∙ ap (λ (t : List ℕ). texts here ++ t) e.1 ∙ sym (append_assoc (texts here) e.0
+          (10 ∷ [])),
+    )
+
+-- ---- commands
+
+pub command_stands : (command : ScriptCommand) → IsCommand command → AllStand (behind_word command) []
+command_stands command is = let r = row command is in subst (λ (ps : List Part). AllStand ps []) r.parts (row_stands U32 (slots_of
+    (command_word command)) r.fields)
+
+parted_ends : (ps : List Part) → Parted ps → Ends is_ascii_alphanumeric (texts ps)
+parted_ends [] parted = tt
+parted_ends (p ∷ ps) (inl e) = subst (λ (q : Part). Ends is_ascii_alphanumeric (texts (q ∷ ps))) (sym e) refl
+parted_ends (p ∷ ps) (inr e) = subst (λ (q : Part). Ends is_ascii_alphanumeric (texts (q ∷ ps))) (sym e) refl
+
+-- the command's word ends where they begin
+pub command_parted : (command : ScriptCommand) → IsCommand command → Ends is_ascii_alphanumeric (texts (behind_word command))
+command_parted command is =
+    let r = row command is in
+    subst (λ (ps : List Part). Ends is_ascii_alphanumeric (texts ps)) r.parts (parted_ends ((line_of
+    (command_word command)).parts r.fields) (row_parted U32 (slots_of (command_word command)) r.fields))
+
+pub newline_last : (command : ScriptCommand) → IsCommand command → (front : List ℕ) × (texts (behind_word command) ≡ front ++ 10 ∷ [])
+newline_last command is =
+    let r = row command is in
+    let e = row_ends U32 (slots_of (command_word command)) r.fields (word_ends (command_word command)) r.can in
+    (e.0, ap texts (sym r.parts) ∙ e.1)

@@ -19,59 +19,14 @@ use Rattle.ds_words.specs.declared.fault.CommandFault.{CommandFault}
 use Rattle.ds_words.specs.declared.fault.CommandFault.TheVariants.{BadLine, NoRoom}
 use Rattle.ds_words.specs.declared.command.ScriptCommand.{ScriptCommand}
 use Rattle.ds_words.specs.declared.command.ScriptCommand.TheVariants.{Offer, Show, All, Publish, Delete, Sweep, Retrieve, NameOf, Subscribe, Check, Map, Entries, Ring, Side, Clear, Restart, Deliver, Since, Snapshot, Page}
+use Rattle.ds_words.specs.declared.word.Word.{Word as CommandWord}
+use Rattle.ds_words.specs.declared.word.Word.TheVariants as words
 use Rattle.ds_words.specs.Key.{key_parts, version_parts}
-use Rattle.ds_words.specs.Page.{page_word, range_parts, IsAfter}
+use Rattle.ds_words.specs.Page.{range_parts, IsAfter}
 use Rattle.ds_words.specs.Query.{IsQuery, query_parts}
-use Rattle.ds_words.specs.Scope.{scope_parts, IsScope, is_all, store_scope, ScopeTakesMemory}
-use Rattle.ds_words.specs.World.{ring_word, side_line_word, clear_word, restart_word, deliver_word, since_word, snapshot_word, side_word, holder_word, IsHolder, count_part, IsCount}
-
--- `offer`
-abbrev pub offer_word : List ℕ
-offer_word = codes "offer"
-
--- `show`
-abbrev pub show_word : List ℕ
-show_word = codes "show"
-
--- `all`
-abbrev pub all_word : List ℕ
-all_word = codes "all"
-
--- `publish`
-abbrev pub publish_word : List ℕ
-publish_word = codes "publish"
-
--- `delete`
-abbrev pub delete_word : List ℕ
-delete_word = codes "delete"
-
--- `sweep`
-abbrev pub sweep_word : List ℕ
-sweep_word = codes "sweep"
-
--- `retrieve`
-abbrev pub retrieve_word : List ℕ
-retrieve_word = codes "retrieve"
-
--- `nameof`
-abbrev pub nameof_word : List ℕ
-nameof_word = codes "nameof"
-
--- `subscribe`
-abbrev pub subscribe_word : List ℕ
-subscribe_word = codes "subscribe"
-
--- `check`
-abbrev pub check_word : List ℕ
-check_word = codes "check"
-
--- `map`
-abbrev pub map_word : List ℕ
-map_word = codes "map"
-
--- `entries`
-abbrev pub entries_word : List ℕ
-entries_word = codes "entries"
+use Rattle.ds_words.specs.Scope.{scope_parts, IsScope, is_all, ScopeTakesMemory}
+use Rattle.ds_words.specs.Words.{text_of}
+use Rattle.ds_words.specs.World.{side_word, holder_word, IsHolder, count_part, IsCount}
 
 -- `first` for a subscription that is shown what is held already, else `later`
 abbrev pub initial_word : Bool → List ℕ
@@ -84,27 +39,31 @@ mode_word true = codes "over"
 mode_word false = codes "new"
 
 -- the word of a command
+abbrev pub command_word : ScriptCommand → CommandWord
+command_word (Offer i) = words.Offer
+command_word Show = words.Show
+command_word All = words.All
+command_word (Publish caller key version value overwrite) = words.Publish
+command_word (Delete caller key version) = words.Delete
+command_word (Sweep caller owner generation) = words.Sweep
+command_word (Retrieve key) = words.Retrieve
+command_word (NameOf endpoint) = words.NameOf
+command_word (Subscribe sub query initial overwrite) = words.Subscribe
+command_word (Check sub max) = words.Check
+command_word (Map query) = words.Map
+command_word (Entries map) = words.Entries
+command_word (Ring ring) = words.Ring
+command_word (Side side) = words.Side
+command_word (Clear map) = words.Clear
+command_word (Restart side incarnation) = words.Restart
+command_word (Deliver message holder count) = words.Deliver
+command_word (Since scope cursor max) = words.Since
+command_word (Snapshot scope) = words.Snapshot
+command_word (Page scope after max) = words.Page
+
+-- and its text
 abbrev pub word_of : ScriptCommand → List ℕ
-word_of (Offer i) = offer_word
-word_of Show = show_word
-word_of All = all_word
-word_of (Publish caller key version value overwrite) = publish_word
-word_of (Delete caller key version) = delete_word
-word_of (Sweep caller owner generation) = sweep_word
-word_of (Retrieve key) = retrieve_word
-word_of (NameOf endpoint) = nameof_word
-word_of (Subscribe sub query initial overwrite) = subscribe_word
-word_of (Check sub max) = check_word
-word_of (Map query) = map_word
-word_of (Entries map) = entries_word
-word_of (Ring ring) = ring_word
-word_of (Side side) = side_line_word
-word_of (Clear map) = clear_word
-word_of (Restart side incarnation) = restart_word
-word_of (Deliver message holder count) = deliver_word
-word_of (Since scope cursor max) = since_word
-word_of (Snapshot scope) = snapshot_word
-word_of (Page scope after max) = page_word
+word_of command = text_of (command_word command)
 
 -- the parts behind it: what the command takes, and the newline
 abbrev pub behind_word : ScriptCommand → List Part
@@ -230,9 +189,9 @@ store_command (Side side) = None
 store_command (Clear map) = None
 store_command (Restart side incarnation) = None
 store_command (Deliver message holder count) = None
-store_command (Since scope cursor max) = Some (commands.Since (store_scope scope) cursor max)
-store_command (Snapshot scope) = Some (commands.Snapshot (store_scope scope))
-store_command (Page scope after max) = Some (commands.Page (store_scope scope) after max)
+store_command (Since scope cursor max) = Some (commands.Since scope cursor max)
+store_command (Snapshot scope) = Some (commands.Snapshot scope)
+store_command (Page scope after max) = Some (commands.Page scope after max)
 
 -- ---- a line with its newline, where some of the commands may stand
 

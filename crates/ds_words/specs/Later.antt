@@ -1,13 +1,13 @@
 -- The lines behind the first one of a script: the same, but that none of them is a `ring` line.
 use Rattle.std.specs.Prelude.{◌≢◌, ℕ, List, Result}
-use Rattle.ds_words.specs.Command.{IsCommand, word_of, ReadsAs, IsLineAs, IsBadLineAs}
-use Rattle.ds_words.specs.World.{ring_word}
+use Rattle.ds_words.specs.Command.{IsCommand, command_word, ReadsAs, IsLineAs, IsBadLineAs}
+use Rattle.ds_words.specs.declared.word.Word.TheVariants as words
 use Rattle.ds_words.specs.declared.command.ScriptCommand.{ScriptCommand}
 use Rattle.ds_words.specs.declared.fault.CommandFault.{CommandFault}
 
 -- what the command takes is valid, and it may stand on a line behind the first one
 abbrev pub IsLater : ScriptCommand → Type 0
-IsLater command = IsCommand command × (word_of command ≢ ring_word)
+IsLater command = IsCommand command × (command_word command ≢ words.Ring)
 
 -- what the reader of such a line, newline included, answers
 abbrev pub ReadsLater : List ℕ → Result ScriptCommand CommandFault → Type 0

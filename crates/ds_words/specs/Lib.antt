@@ -1,4 +1,5 @@
 pub mod Lines
+pub mod Words
 pub mod Key
 pub mod Command
 pub mod Pieces
@@ -10,4 +11,6 @@ pub mod WorldPieces
 pub mod Reply
 pub mod Later
 pub mod Event
+pub mod Proper
 pub mod Outcome
+pub mod Table

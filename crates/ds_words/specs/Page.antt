@@ -8,10 +8,6 @@ use Rattle.ds_line.specs.Spelling.{space}
 use Rattle.ds_line.specs.Piece.{Piece}
 use Rattle.ds_words.specs.Key.{key_parts}
 
--- `page`
-abbrev pub page_word : List ℕ
-page_word = codes "page"
-
 -- `-` for no key
 abbrev pub no_key : List ℕ
 no_key = codes "-"

@@ -16,12 +16,9 @@ use Rattle.ds_line.specs.declared.part_fault.PartFault.{PartFault}
 use Rattle.ds_line.specs.declared.part_fault.PartFault.TheVariants.{BadPart, NoRoom}
 use Rattle.ds_words.specs.Lines.{IsUnbroken}
 use Rattle.ds_words.specs.declared.command.ScriptCommand.{ScriptCommand}
-use Rattle.ds_words.specs.Command.{IsCommand, IsVersion, CommandTakesMemory, word_of, behind_word, initial_word, mode_word, offer_word, show_word, all_word, publish_word, delete_word, sweep_word, retrieve_word, nameof_word, subscribe_word, check_word, map_word, entries_word}
+use Rattle.ds_words.specs.Command.{IsCommand, IsVersion, CommandTakesMemory, command_word, behind_word, initial_word, mode_word}
 use Rattle.ds_words.specs.Key.{key_parts, version_parts}
-use Rattle.ds_words.specs.Page.{page_word}
-use Rattle.ds_words.specs.World.{ring_word, side_line_word, clear_word, restart_word, deliver_word, since_word, snapshot_word}
 use Rattle.ds_words.specs.declared.word.Word.{Word}
-use Rattle.ds_words.specs.declared.word.Word.TheVariants as words
 
 -- an endpoint
 abbrev pub an_endpoint : Piece
@@ -96,46 +93,11 @@ abbrev pub an_end : Piece
 an_end = record { Of = Unit {0}; Can = λ x. Unit {0}; parts = λ x. newline ∷ [] }
 
 -- what the commands of a word take
-abbrev pub taken_by : List ℕ → Piece
-taken_by word = record { Of = ScriptCommand; Can = λ (command : ScriptCommand). IsCommand command × (word_of command ≡ word); parts = behind_word }
+abbrev pub taken_by : Word → Piece
+taken_by word = record { Of = ScriptCommand; Can = λ (command : ScriptCommand). IsCommand command × (command_word command ≡ word); parts = behind_word }
 
 -- what the reader of it answers
-abbrev pub TakesCommand : List ℕ → List ℕ → Result ScriptCommand PartFault → Type 0
+abbrev pub TakesCommand : Word → List ℕ → Result ScriptCommand PartFault → Type 0
 TakesCommand word bytes (Ok command) = (rest : List ℕ) × Found (taken_by word) command bytes rest
 TakesCommand word bytes (Err (BadPart left)) = StopsIn (taken_by word) (BadPart left) bytes
 TakesCommand word bytes (Err NoRoom) = (command : ScriptCommand) × (rest : List ℕ) × Found (taken_by word) command bytes rest × CommandTakesMemory command
-
--- the text of a command's word
-abbrev pub text_of : Word → List ℕ
-text_of words.Offer = offer_word
-text_of words.Show = show_word
-text_of words.All = all_word
-text_of words.Publish = publish_word
-text_of words.Delete = delete_word
-text_of words.Sweep = sweep_word
-text_of words.Retrieve = retrieve_word
-text_of words.NameOf = nameof_word
-text_of words.Subscribe = subscribe_word
-text_of words.Check = check_word
-text_of words.Map = map_word
-text_of words.Entries = entries_word
-text_of words.Ring = ring_word
-text_of words.Side = side_line_word
-text_of words.Clear = clear_word
-text_of words.Restart = restart_word
-text_of words.Deliver = deliver_word
-text_of words.Since = since_word
-text_of words.Snapshot = snapshot_word
-text_of words.Page = page_word
-
--- the word is of a command to a world
-abbrev pub IsOfWorld : Word → Type 0
-IsOfWorld words.Ring = Unit {0}
-IsOfWorld words.Side = Unit {0}
-IsOfWorld words.Clear = Unit {0}
-IsOfWorld words.Restart = Unit {0}
-IsOfWorld words.Deliver = Unit {0}
-IsOfWorld words.Since = Unit {0}
-IsOfWorld words.Snapshot = Unit {0}
-IsOfWorld words.Page = Unit {0}
-IsOfWorld _ = ⊥

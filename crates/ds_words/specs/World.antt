@@ -7,34 +7,6 @@ use Rattle.ds_replica.specs.declared.event.Side.TheVariants.{A, B}
 use Rattle.ds_replica.specs.declared.event.Holder.{Holder}
 use Rattle.ds_replica.specs.declared.event.Holder.TheVariants.{Store, Map}
 
--- `ring`
-abbrev pub ring_word : List ℕ
-ring_word = codes "ring"
-
--- `side`
-abbrev pub side_line_word : List ℕ
-side_line_word = codes "side"
-
--- `clear`
-abbrev pub clear_word : List ℕ
-clear_word = codes "clear"
-
--- `restart`
-abbrev pub restart_word : List ℕ
-restart_word = codes "restart"
-
--- `deliver`
-abbrev pub deliver_word : List ℕ
-deliver_word = codes "deliver"
-
--- `since`
-abbrev pub since_word : List ℕ
-since_word = codes "since"
-
--- `snapshot`
-abbrev pub snapshot_word : List ℕ
-snapshot_word = codes "snapshot"
-
 -- `a` or `b`
 abbrev pub side_word : Side → List ℕ
 side_word A = codes "a"

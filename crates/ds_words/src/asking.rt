@@ -3,13 +3,12 @@
 ghost use Rattle.std.specs.Prelude.{◌≡◌, ◌||◌, ◌∷◌, [], true, false, IfOk, OnErr};
 ghost use Rattle.ds_machine.specs.declared.command.Command.TheVariants as commands;
 ghost use Rattle.ds_words.specs.Command.{has_scope, is_plain, store_command};
-ghost use Rattle.ds_words.specs.Scope.{is_all, store_scope};
+ghost use Rattle.ds_words.specs.Scope.{is_all};
 
 use crate::command::ScriptCommand;
 use ds_entry::{Item, Items};
 use ds_machine::{Command, Scope};
 use ds_names::NoRoom;
-use ds_pattern::Query;
 use std::alloc::Global;
 
 impl ScriptCommand {
@@ -119,19 +118,11 @@ impl ScriptCommand {
         ensures { result ≡ store_command self }
     {
         match self {
-            ScriptCommand::Since { scope, cursor, max } => Some(Command::Since {
-                scope: into_scope(scope),
-                cursor,
-                max,
-            }),
-            ScriptCommand::Snapshot { scope } => Some(Command::Snapshot {
-                scope: into_scope(scope),
-            }),
-            ScriptCommand::Page { scope, after, max } => Some(Command::Page {
-                scope: into_scope(scope),
-                after,
-                max,
-            }),
+            ScriptCommand::Since { scope, cursor, max } => {
+                Some(Command::Since { scope, cursor, max })
+            }
+            ScriptCommand::Snapshot { scope } => Some(Command::Snapshot { scope }),
+            ScriptCommand::Page { scope, after, max } => Some(Command::Page { scope, after, max }),
             plain => plain.plain_command(),
         }
     }
@@ -174,24 +165,14 @@ impl ScriptCommand {
     }
 }
 
-// The store's scope, with a copy of the pattern.
-fn copied_scope(alloc: Global, scope: &Option<Query>) -> Result<Scope, NoRoom>
-    ensures scope { IfOk result (λ copy. copy ≡ store_scope scope.now) }
+// The same scope, with a copy of the pattern.
+fn copied_scope(alloc: Global, scope: &Scope) -> Result<Scope, NoRoom>
+    ensures scope { IfOk result (λ copy. copy ≡ scope.now) }
     ensures room { OnErr result (is_all scope.now ≡ false) }
 {
     match scope {
-        None => Ok(Scope::All),
-        Some(query) => Ok(Scope::Under(query.copy(alloc)?)),
-    }
-}
-
-// The store's scope.
-fn into_scope(scope: Option<Query>) -> Scope
-    ensures { result ≡ store_scope scope }
-{
-    match scope {
-        None => Scope::All,
-        Some(query) => Scope::Under(query),
+        Scope::All => Ok(Scope::All),
+        Scope::Under(query) => Ok(Scope::Under(query.copy(alloc)?)),
     }
 }
 

@@ -2,6 +2,7 @@
 
 use ds_entry::{Item, Value};
 use ds_feed::Cursor;
+use ds_machine::Scope;
 use ds_names::{Endpoint, Generation, Key, Name, Version};
 use ds_pattern::Query;
 use ds_replica::{Holder, Side};
@@ -90,20 +91,20 @@ pub enum ScriptCommand {
         count: Option<u32>,
     },
     /// `since SCOPE INCARNATION POSITION MAX`: asks for what took effect under the scope from a cursor on. A scope is a
-    /// pattern and kinds, or `*` for all keys, which is `None`.
+    /// pattern and kinds, or `*` for all keys.
     Since {
-        scope: Option<Query>,
+        scope: Scope,
         cursor: Cursor,
         max: u32,
     },
     /// `snapshot SCOPE`: asks for all that is held under the scope.
     Snapshot {
-        scope: Option<Query>,
+        scope: Scope,
     },
     /// `page SCOPE AFTER MAX`: asks for the first changes that are held under the scope behind a key, `NAME KIND`, or behind
     /// none, which is `-`.
     Page {
-        scope: Option<Query>,
+        scope: Scope,
         after: Option<Key>,
         max: u32,
     },

@@ -6,7 +6,8 @@ ghost use Rattle.ds_line.specs.LastNewline.{EndsLine};
 ghost use Rattle.ds_names.specs.Run.{Begins};
 ghost use Rattle.ds_words.specs.Command.{ReadsCommand};
 ghost use Rattle.ds_words.specs.Later.{ReadsLater};
-ghost use Rattle.ds_words.specs.World.{ring_word};
+ghost use Rattle.ds_words.specs.Words.{text_of};
+ghost use Rattle.ds_words.specs.declared.word.Word.TheVariants as words;
 
 use crate::command::ScriptCommand;
 use crate::fault::CommandFault;
@@ -38,7 +39,7 @@ pub fn read_line_behind(
 // Whether the word of a line is `ring`. The word is read only where its bytes stand at the front: most lines begin with
 // others, and `read_line` is to read their word anyway.
 fn has_ring(line: &[u8]) -> bool
-    ensures { IsTrue result ↔ ((rest : List ℕ) × Begins is_ascii_alphanumeric line.now ring_word rest) }
+    ensures { IsTrue result ↔ ((rest : List ℕ) × Begins is_ascii_alphanumeric line.now (text_of words.Ring) rest) }
 {
     if !line.starts_with(b"ring") {
         return false;

@@ -4,7 +4,7 @@ ghost use Rattle.std.specs.Prelude.{◌≡◌, ◌≤◌, ◌+◌, length, take,
 ghost use Rattle.ds_line.specs.LastNewline.{EndsLine};
 ghost use Rattle.ds_words.specs.Lines.{IsUnbroken, with_newline};
 ghost use Rattle.ds_words.specs.Command.{ReadsCommand, IsLineOf, IsCommandLineFault};
-ghost use Rattle.ds_words.specs.Pieces.{TakesCommand, text_of};
+ghost use Rattle.ds_words.specs.Pieces.{TakesCommand};
 
 use crate::command::ScriptCommand;
 use crate::fault::CommandFault;
@@ -83,7 +83,7 @@ pub fn read_line(alloc: Global, line: &[u8]) -> Result<ScriptCommand, CommandFau
 
 // Reads what follows a command's word.
 fn behind_word(alloc: Global, word: Word, rest: &mut Rest) -> Result<ScriptCommand, PartFault>
-    ensures { TakesCommand (text_of word) rest.old.bytes.now result }
+    ensures { TakesCommand word rest.old.bytes.now result }
 {
     match word {
         Word::Offer => offer_at(alloc, rest),

@@ -8,8 +8,8 @@ ghost use Rattle.ds_words.specs.Scope.{a_scope, FindsScope, IsWrittenScope, Writ
 use crate::pieces::Rest;
 use crate::query::{query_of, quoted_at};
 use ds_line::{Expected, PartFault, stop_at};
+use ds_machine::Scope;
 use ds_names::{Kinds, NoRoom, read_byte};
-use ds_pattern::Query;
 use std::alloc::Global;
 
 impl<'a> Rest<'a> {
@@ -35,18 +35,14 @@ impl<'a> Rest<'a> {
     }
 }
 
-/// The scope that is written so: `None` for all keys. NoRoom: out of memory for a pattern.
-pub(crate) fn scope_of(
-    alloc: Global,
-    text: &[u8],
-    kinds: Option<Kinds>,
-) -> Result<Option<Query>, NoRoom>
+/// The scope that is written so: of all keys where there are no kinds. NoRoom: out of memory for a pattern.
+pub(crate) fn scope_of(alloc: Global, text: &[u8], kinds: Option<Kinds>) -> Result<Scope, NoRoom>
     requires { IsWrittenScope text.now kinds }
     ensures scope { IfOk result (λ scope. Writes text.now kinds scope) }
     ensures room { OnErr result (kinds ≢ None) }
 {
     match kinds {
-        None => Ok(None),
-        Some(kinds) => Ok(Some(query_of(alloc, text, kinds)?)),
+        None => Ok(Scope::All),
+        Some(kinds) => Ok(Scope::Under(query_of(alloc, text, kinds)?)),
     }
 }

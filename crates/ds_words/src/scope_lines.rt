@@ -1,8 +1,7 @@
 //! What the lines that have a scope have behind their word.
 
-ghost use Rattle.ds_words.specs.Page.{page_word};
-ghost use Rattle.ds_words.specs.World.{since_word, snapshot_word};
 ghost use Rattle.ds_words.specs.Pieces.{TakesCommand};
+ghost use Rattle.ds_words.specs.declared.word.Word.TheVariants as words;
 
 use crate::command::ScriptCommand;
 use crate::pieces::Rest;
@@ -13,7 +12,7 @@ use std::alloc::Global;
 
 /// Reads what follows `since`.
 pub(crate) fn since_at(alloc: Global, rest: &mut Rest) -> Result<ScriptCommand, PartFault>
-    ensures { TakesCommand since_word rest.old.bytes.now result }
+    ensures { TakesCommand words.Since rest.old.bytes.now result }
 {
     let (text, kinds) = match rest.scope() {
         Ok(written) => written,
@@ -35,7 +34,7 @@ pub(crate) fn since_at(alloc: Global, rest: &mut Rest) -> Result<ScriptCommand, 
 
 /// Reads what follows `snapshot`.
 pub(crate) fn snapshot_at(alloc: Global, rest: &mut Rest) -> Result<ScriptCommand, PartFault>
-    ensures { TakesCommand snapshot_word rest.old.bytes.now result }
+    ensures { TakesCommand words.Snapshot rest.old.bytes.now result }
 {
     let (text, kinds) = match rest.scope() {
         Ok(written) => written,
@@ -50,7 +49,7 @@ pub(crate) fn snapshot_at(alloc: Global, rest: &mut Rest) -> Result<ScriptComman
 
 /// Reads what follows `page`.
 pub(crate) fn page_at(alloc: Global, rest: &mut Rest) -> Result<ScriptCommand, PartFault>
-    ensures { TakesCommand page_word rest.old.bytes.now result }
+    ensures { TakesCommand words.Page rest.old.bytes.now result }
 {
     let (text, kinds) = match rest.scope() {
         Ok(written) => written,

@@ -1,7 +1,7 @@
 //! The words that commands begin with.
 
 ghost use Rattle.std.specs.Prelude.{◌≡◌, ◌≢◌, IfSome, IfNone};
-ghost use Rattle.ds_words.specs.Pieces.{text_of, IsOfWorld};
+ghost use Rattle.ds_words.specs.Words.{text_of, IsOfWorld};
 ghost use Rattle.ds_words.specs.declared.word.Word.{Word};
 
 /// The word of a command.

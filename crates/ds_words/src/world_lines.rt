@@ -1,7 +1,7 @@
 //! What the lines of a world have behind their word.
 
-ghost use Rattle.ds_words.specs.World.{ring_word, side_line_word, clear_word, restart_word, deliver_word};
 ghost use Rattle.ds_words.specs.Pieces.{TakesCommand};
+ghost use Rattle.ds_words.specs.declared.word.Word.TheVariants as words;
 
 use crate::command::ScriptCommand;
 use crate::pieces::Rest;
@@ -9,7 +9,7 @@ use ds_line::{Expected, PartFault};
 
 /// Reads what follows `ring`.
 pub(crate) fn ring_at(rest: &mut Rest) -> Result<ScriptCommand, PartFault>
-    ensures { TakesCommand ring_word rest.old.bytes.now result }
+    ensures { TakesCommand words.Ring rest.old.bytes.now result }
 {
     let ring = rest.ring()?;
     rest.end()?;
@@ -18,7 +18,7 @@ pub(crate) fn ring_at(rest: &mut Rest) -> Result<ScriptCommand, PartFault>
 
 /// Reads what follows `side`.
 pub(crate) fn side_at(rest: &mut Rest) -> Result<ScriptCommand, PartFault>
-    ensures { TakesCommand side_line_word rest.old.bytes.now result }
+    ensures { TakesCommand words.Side rest.old.bytes.now result }
 {
     let side = rest.side()?;
     rest.end()?;
@@ -27,7 +27,7 @@ pub(crate) fn side_at(rest: &mut Rest) -> Result<ScriptCommand, PartFault>
 
 /// Reads what follows `clear`.
 pub(crate) fn clear_at(rest: &mut Rest) -> Result<ScriptCommand, PartFault>
-    ensures { TakesCommand clear_word rest.old.bytes.now result }
+    ensures { TakesCommand words.Clear rest.old.bytes.now result }
 {
     let map = rest.place(Expected::Map)?;
     rest.end()?;
@@ -36,7 +36,7 @@ pub(crate) fn clear_at(rest: &mut Rest) -> Result<ScriptCommand, PartFault>
 
 /// Reads what follows `restart`.
 pub(crate) fn restart_at(rest: &mut Rest) -> Result<ScriptCommand, PartFault>
-    ensures { TakesCommand restart_word rest.old.bytes.now result }
+    ensures { TakesCommand words.Restart rest.old.bytes.now result }
 {
     let side = rest.side()?;
     let incarnation = rest.place(Expected::Incarnation)?;
@@ -46,7 +46,7 @@ pub(crate) fn restart_at(rest: &mut Rest) -> Result<ScriptCommand, PartFault>
 
 /// Reads what follows `deliver`.
 pub(crate) fn deliver_at(rest: &mut Rest) -> Result<ScriptCommand, PartFault>
-    ensures { TakesCommand deliver_word rest.old.bytes.now result }
+    ensures { TakesCommand words.Deliver rest.old.bytes.now result }
 {
     let message = rest.place(Expected::Message)?;
     let holder = rest.holder()?;

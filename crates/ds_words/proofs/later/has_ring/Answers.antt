@@ -5,13 +5,14 @@ use Rattle.std.proofs.lemmas.Slice.Eq.{slice_eq-Decides}
 use Rattle.ds_line.specs.Part.{Word}
 use Rattle.ds_line.proofs.PartLemmas.{part_one}
 use Rattle.ds_names.specs.Run.{Begins}
-use Rattle.ds_words.specs.World.{ring_word}
+use Rattle.ds_words.specs.Words.{text_of}
+use Rattle.ds_words.specs.declared.word.Word.TheVariants as words
 use Rattle.ds_words.proofs.later.has_ring.Goals as goal
 
 pub returns : goal.returns
 returns c =
-    let slice : c.as_slice.result.now ≡ ring_word = c.as_slice.ensures in
-    let is = slice_eq-Decides Decides-eqb c.word_at.result.0.now ring_word c.eq.result (rw (← slice) c.eq.ensures) in (
+    let slice : c.as_slice.result.now ≡ (text_of words.Ring) = c.as_slice.ensures in
+    let is = slice_eq-Decides Decides-eqb c.word_at.result.0.now (text_of words.Ring) c.eq.result (rw (← slice) c.eq.ensures) in (
       λ same. (c.word_at.result.1.now, subst (λ (t : List ℕ). Begins is_ascii_alphanumeric c.args.line.now t c.word_at.result.1.now) (is.0 same) c.word_at.ensures.found),
-      λ begins. is.1 (part_one Word c.args.line.now c.word_at.result.0.now ring_word c.word_at.result.1.now begins.0 c.word_at.ensures.valid refl c.word_at.ensures.found begins.1).0,
+      λ begins. is.1 (part_one Word c.args.line.now c.word_at.result.0.now (text_of words.Ring) c.word_at.result.1.now begins.0 c.word_at.ensures.valid refl c.word_at.ensures.found begins.1).0,
     )

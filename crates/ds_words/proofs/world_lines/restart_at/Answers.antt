@@ -1,23 +1,26 @@
-use Rattle.std.proofs.lemmas.Result.{err_from_is_err_and}
-use Rattle.ds_words.proofs.WorldLemmas.{restart_side_stops, restart_incarnation_stops, restart_end_stops, restart_found}
-use Rattle.ds_words.proofs.LineLemmas.{takes_stop}
-use Rattle.ds_words.specs.World.{restart_word}
+use Rattle.ds_words.specs.declared.word.Word.TheVariants as words
+use Rattle.ds_words.proofs.TableLemmas.{start, next, exit_here, exit_last, found_last}
 use Rattle.ds_words.proofs.world_lines.restart_at.Goals as goal
 
 pub returns-in_err-side : goal.returns-in_err-side
 returns-in_err-side c =
-    let exit = err_from_is_err_and c.from_residual.result c.from_residual.ensures.1 in
-    rw (exit.1, exit.2) (takes_stop restart_word c.args.rest.now.bytes.now c.in_err-side.field-0.0 c.in_err-side.ensures.room (restart_side_stops c.in_err-side.field-0.0 c.args.rest.now.bytes.now c.in_err-side.ensures.room c.in_err-side.ensures.stop))
+    exit_here c.from_residual.result c.from_residual.ensures.1 (start words.Restart c.args.rest.now.bytes.now) c.in_err-side.ensures.room
+    c.in_err-side.ensures.stop
 
 pub returns-in_err-incarnation : goal.returns-in_err-incarnation
 returns-in_err-incarnation c =
-    let exit = err_from_is_err_and c.from_residual-in_err-incarnation.result c.from_residual-in_err-incarnation.ensures.1 in
-    rw (exit.1, exit.2) (takes_stop restart_word c.args.rest.now.bytes.now c.in_err-incarnation.field-0.0 c.in_err-incarnation.ensures.room (restart_incarnation_stops c.in_ok-side.side c.in_err-incarnation.field-0.0 c.args.rest.now.bytes.now _ c.in_ok-side.ensures.found c.in_err-incarnation.ensures.room c.in_err-incarnation.ensures.stop))
+    exit_here c.from_residual-in_err-incarnation.result c.from_residual-in_err-incarnation.ensures.1 (next tt (start words.Restart
+    c.args.rest.now.bytes.now) c.in_ok-side.ensures.found) c.in_err-incarnation.ensures.room c.in_err-incarnation.ensures.stop
 
 pub returns-in_err-end : goal.returns-in_err-end
 returns-in_err-end c =
-    let exit = err_from_is_err_and c.from_residual-in_err-end.result c.from_residual-in_err-end.ensures.1 in
-    rw (exit.1, exit.2) (takes_stop restart_word c.args.rest.now.bytes.now c.in_err-end.field-0.0 c.in_err-end.ensures.room (restart_end_stops c.in_ok-side.side c.in_ok-incarnation.incarnation c.in_err-end.field-0.0 c.args.rest.now.bytes.now _ _ c.in_ok-side.ensures.found c.in_ok-incarnation.ensures.found c.in_err-end.ensures.stop))
+    exit_last c.from_residual-in_err-end.result c.from_residual-in_err-end.ensures.1 (next tt (next tt (start words.Restart
+    c.args.rest.now.bytes.now) c.in_ok-side.ensures.found) c.in_ok-incarnation.ensures.found) c.in_err-end.ensures.room
+    c.in_err-end.ensures.stop
 
 pub returns : goal.returns
-returns c = (_, restart_found c.in_ok-side.side c.in_ok-incarnation.incarnation c.args.rest.now.bytes.now _ _ _ c.in_ok-side.ensures.found c.in_ok-incarnation.ensures.found c.in_ok-end.ensures.found)
+returns c = (
+  _,
+  found_last (next tt (next tt (start words.Restart c.args.rest.now.bytes.now) c.in_ok-side.ensures.found)
+      c.in_ok-incarnation.ensures.found) c.in_ok-end.ensures.found,
+)

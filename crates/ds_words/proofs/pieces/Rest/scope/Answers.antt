@@ -1,4 +1,5 @@
-use Rattle.std.proofs.Common.{None, Some, refl}
+use Rattle.std.proofs.Common.{refl}
+use Rattle.ds_machine.specs.declared.command.Scope.TheVariants.{All, Under}
 use Rattle.std.proofs.lemmas.Result.{err_from_is_err_and}
 use Rattle.ds_words.proofs.PieceLemmas.{no_byte}
 use Rattle.ds_words.proofs.QueryLemmas.{pattern_found}
@@ -8,7 +9,7 @@ use Rattle.ds_words.proofs.pieces.Rest.scope.Goals as goal
 pub returns-in_err-byte-clause-stop : goal.returns-in_err-byte-clause-stop
 returns-in_err-byte-clause-stop c =
     let exit = err_from_is_err_and c.from_residual.result c.from_residual.ensures.1 in
-    rw (exit.1, exit.2) (no_byte 32 scope_rest None c.in_err-byte.field-0.0 c.args.self.now.bytes.now tt c.in_err-byte.ensures.stop c.in_err-byte.ensures.none)
+    rw (exit.1, exit.2) (no_byte 32 scope_rest All c.in_err-byte.field-0.0 c.args.self.now.bytes.now tt c.in_err-byte.ensures.stop c.in_err-byte.ensures.none)
 
 pub returns-in_err-kinds-clause-stop : goal.returns-in_err-kinds-clause-stop
 returns-in_err-kinds-clause-stop c =
@@ -18,4 +19,4 @@ returns-in_err-kinds-clause-stop c =
 pub returns-clause-found : goal.returns-clause-found
 returns-clause-found c =
     let found = pattern_found c.in-Some-quoted_at.text.now c.args.self.now.bytes.now _ c.in-Some-quoted_at.rest.now c.in_ok-byte.ensures.found c.in-Some-quoted_at.ensures.found in
-    (Some (query_of found.0 c.in_ok-kinds.kinds), (found.1, refl), query_found c.in-Some-quoted_at.text.now c.args.self.now.bytes.now _ _ c.in_ok-kinds.kinds found c.in_ok-kinds.ensures.found)
+    (Under (query_of found.0 c.in_ok-kinds.kinds), (found.1, refl), query_found c.in-Some-quoted_at.text.now c.args.self.now.bytes.now _ _ c.in_ok-kinds.kinds found c.in_ok-kinds.ensures.found)

@@ -1,0 +1,157 @@
+-- Each slot of the table: something fits it, two of it at one front are one, and where one stands no longer one goes on.
+use Rattle.std.proofs.Common.{ℕ, false, [], None, refl, sym, ◌∙◌, arith}
+use Rattle.ds_names.specs.Endpoint.{endpoint_of}
+use Rattle.ds_names.specs.Name.{rs_name}
+use Rattle.ds_names.specs.declared.kind.Kind.{Kind}
+use Rattle.ds_names.specs.declared.kind.Kind.TheVariants.{U32}
+use Rattle.ds_names.specs.declared.key.Key.{Key}
+use Rattle.ds_entry.specs.declared.body.Body.TheVariants.{Gone}
+use Rattle.ds_entry.specs.Change.{change_of}
+use Rattle.ds_entry.specs.Item.{IsItem}
+use Rattle.ds_entry.specs.declared.item.Item.{Item}
+use Rattle.ds_entry.specs.declared.item.Item.TheVariants.{Change as Changed}
+use Rattle.ds_line.specs.ItemSpelling.{item_parts}
+use Rattle.ds_line.specs.Piece.{Piece}
+use Rattle.ds_line.proofs.LabelLemmas.{rs_is_name, version_of, some_value}
+use Rattle.ds_line.proofs.LastValueLemmas.{some_value_of}
+use Rattle.ds_line.proofs.ItemLemmas.{items_apart}
+use Rattle.ds_line.proofs.PieceLemmas.{One, Fixed, stand_texts}
+use Rattle.ds_machine.specs.declared.command.Scope.TheVariants.{All as AllKeys}
+use Rattle.ds_replica.specs.declared.event.Side.TheVariants.{A}
+use Rattle.ds_replica.specs.declared.event.Holder.TheVariants.{Store}
+use Rattle.ds_words.specs.declared.slot.Slot.{Slot}
+use Rattle.ds_words.specs.declared.slot.Slot.TheVariants as slots
+use Rattle.ds_words.specs.Command.{IsVersion}
+use Rattle.ds_words.specs.Pieces.{an_endpoint, a_mode, an_initial, a_name, a_key, a_generation, a_version, a_number, a_place, a_kinds, a_pattern, a_value, an_end}
+use Rattle.ds_words.specs.Table.{piece_of}
+use Rattle.ds_words.specs.WorldPieces.{a_ring, a_side, a_holder, a_count}
+use Rattle.ds_words.proofs.NewlineLemmas.{unbroken_none}
+use Rattle.ds_words.proofs.OneLemmas.{one_byte, end_one, marked_one}
+use Rattle.ds_words.proofs.OpenLemmas.{Apart}
+use Rattle.ds_words.proofs.PieceLemmas.{endpoint_is, endpoint_fixed, endpoint_one, mode_fixed, mode_one, initial_fixed, initial_one, name_fixed, name_one, key_fixed, key_one, generation_fixed, generation_one, version_fixed, version_one, number_fixed, number_one, place_fixed, place_one, kinds_fixed, kinds_one}
+use Rattle.ds_words.proofs.QueryLemmas.{pattern_fixed, pattern_one}
+use Rattle.ds_words.proofs.RangeLemmas.{range_one, range_apart}
+use Rattle.ds_words.proofs.ScopeLemmas.{scope_one, scope_apart}
+use Rattle.ds_words.proofs.WorldPieceLemmas.{ring_fixed, ring_one, side_fixed, side_one, holder_fixed, holder_one, count_fixed, count_one}
+
+-- ---- items
+
+-- an item, without the space before it
+abbrev pub item_rest : Piece
+item_rest = record { Of = Item; Can = IsItem; parts = item_parts }
+
+abbrev some_key : Key
+some_key = record { name = rs_name; kind = U32 }
+
+some_version : IsVersion (version_of 0 0)
+some_version = record { epoch = omega arith; seq = omega arith }
+
+-- some item
+abbrev pub some_item : Item
+some_item = Changed (change_of some_key rs_name (version_of 0 0) Gone)
+
+pub some_item_is : IsItem some_item
+some_item_is = record { name = rs_is_name; owner = rs_is_name; epoch = omega arith; seq = omega arith; body = tt; kind = tt; rule = tt }
+
+item_one : One item_rest
+item_one i j bytes r s first second =
+    let a = items_apart i j r s first.can second.can (sym (stand_texts (item_parts i) bytes r first.front) ∙ stand_texts
+    (item_parts j) bytes s second.front) in
+    (sym a.0, sym a.1)
+
+-- ---- slots
+
+-- something fits the slot
+pub some_of : (k : Kind) (s : Slot) → (x : (piece_of k s).Of) × (piece_of k s).Can x
+some_of k slots.Item = (some_item, some_item_is)
+some_of k slots.Caller = (endpoint_of 0 0, endpoint_is)
+some_of k slots.Mode = (false, tt)
+some_of k slots.Key = (some_key, rs_is_name)
+some_of k slots.Version = (version_of 0 0, some_version)
+some_of k slots.Value = (some_value k, some_value_of k)
+some_of k slots.Owner = (rs_name, rs_is_name)
+some_of k slots.Generation = (0, omega arith)
+some_of k slots.Endpoint = (endpoint_of 0 0, endpoint_is)
+some_of k slots.Sub = (0, omega arith)
+some_of k slots.Pattern = ([], unbroken_none)
+some_of k slots.Kinds = (1, (omega arith, omega arith))
+some_of k slots.Initial = (false, tt)
+some_of k slots.Max = (0, omega arith)
+some_of k slots.Map = (0, omega arith)
+some_of k slots.Ring = (1, (omega arith, omega arith))
+some_of k slots.Side = (A, tt)
+some_of k slots.Incarnation = (0, omega arith)
+some_of k slots.Position = (0, omega arith)
+some_of k slots.Message = (0, omega arith)
+some_of k slots.Holder = (Store A, tt)
+some_of k slots.Count = (None, tt)
+some_of k slots.Scope = (AllKeys, tt)
+some_of k slots.Range = ((None, 0), (tt, omega arith))
+some_of k slots.End = (tt, tt)
+
+-- two of it at one front are one
+pub slot_one : (k : Kind) (s : Slot) → One (piece_of k s)
+slot_one k slots.Item = one_byte 32 item_rest item_one
+slot_one k slots.Caller = endpoint_one
+slot_one k slots.Mode = mode_one
+slot_one k slots.Key = key_one
+slot_one k slots.Version = version_one
+slot_one k slots.Value = marked_one k
+slot_one k slots.Owner = name_one
+slot_one k slots.Generation = generation_one
+slot_one k slots.Endpoint = endpoint_one
+slot_one k slots.Sub = number_one
+slot_one k slots.Pattern = pattern_one
+slot_one k slots.Kinds = kinds_one
+slot_one k slots.Initial = initial_one
+slot_one k slots.Max = number_one
+slot_one k slots.Map = place_one
+slot_one k slots.Ring = ring_one
+slot_one k slots.Side = side_one
+slot_one k slots.Incarnation = place_one
+slot_one k slots.Position = place_one
+slot_one k slots.Message = place_one
+slot_one k slots.Holder = holder_one
+slot_one k slots.Count = count_one
+slot_one k slots.Scope = scope_one
+slot_one k slots.Range = range_one
+slot_one k slots.End = end_one
+
+-- something can stand behind the slot: an item is the last of its line
+abbrev pub IsInner : Slot → Type 0
+IsInner slots.Item = ⊥
+IsInner s = Unit {0}
+
+fixed_apart : (p : Piece) (n : ℕ) → Fixed p n → Apart p
+fixed_apart p n fixed a b bytes r after f can lt h = omega (arith, lt, fixed a, fixed b)
+
+value_fixed : (k : Kind) → Fixed (a_value k) 5
+value_fixed k value = refl
+
+-- where one stands no longer one goes on
+pub slot_apart : (k : Kind) (s : Slot) → IsInner s → Apart (piece_of k s)
+slot_apart k slots.Item inner = absurd inner
+slot_apart k slots.Caller inner = fixed_apart an_endpoint 2 endpoint_fixed
+slot_apart k slots.Mode inner = fixed_apart a_mode 2 mode_fixed
+slot_apart k slots.Key inner = fixed_apart a_key 4 key_fixed
+slot_apart k slots.Version inner = fixed_apart a_version 4 version_fixed
+slot_apart k slots.Value inner = fixed_apart (a_value k) 5 (value_fixed k)
+slot_apart k slots.Owner inner = fixed_apart a_name 2 name_fixed
+slot_apart k slots.Generation inner = fixed_apart a_generation 2 generation_fixed
+slot_apart k slots.Endpoint inner = fixed_apart an_endpoint 2 endpoint_fixed
+slot_apart k slots.Sub inner = fixed_apart a_number 2 number_fixed
+slot_apart k slots.Pattern inner = fixed_apart a_pattern 2 pattern_fixed
+slot_apart k slots.Kinds inner = fixed_apart a_kinds 2 kinds_fixed
+slot_apart k slots.Initial inner = fixed_apart an_initial 2 initial_fixed
+slot_apart k slots.Max inner = fixed_apart a_number 2 number_fixed
+slot_apart k slots.Map inner = fixed_apart a_place 2 place_fixed
+slot_apart k slots.Ring inner = fixed_apart a_ring 2 ring_fixed
+slot_apart k slots.Side inner = fixed_apart a_side 2 side_fixed
+slot_apart k slots.Incarnation inner = fixed_apart a_place 2 place_fixed
+slot_apart k slots.Position inner = fixed_apart a_place 2 place_fixed
+slot_apart k slots.Message inner = fixed_apart a_place 2 place_fixed
+slot_apart k slots.Holder inner = fixed_apart a_holder 2 holder_fixed
+slot_apart k slots.Count inner = fixed_apart a_count 2 count_fixed
+slot_apart k slots.Scope inner = scope_apart
+slot_apart k slots.Range inner = range_apart
+slot_apart k slots.End inner = fixed_apart an_end 1 (λ x. refl)

@@ -1,0 +1,39 @@
+-- The words that commands begin with.
+use Rattle.std.specs.Prelude.{ℕ, List, codes}
+use Rattle.ds_words.specs.declared.word.Word.{Word}
+use Rattle.ds_words.specs.declared.word.Word.TheVariants as words
+
+-- the text of a command's word
+abbrev pub text_of : Word → List ℕ
+text_of words.Offer = codes "offer"
+text_of words.Show = codes "show"
+text_of words.All = codes "all"
+text_of words.Publish = codes "publish"
+text_of words.Delete = codes "delete"
+text_of words.Sweep = codes "sweep"
+text_of words.Retrieve = codes "retrieve"
+text_of words.NameOf = codes "nameof"
+text_of words.Subscribe = codes "subscribe"
+text_of words.Check = codes "check"
+text_of words.Map = codes "map"
+text_of words.Entries = codes "entries"
+text_of words.Ring = codes "ring"
+text_of words.Side = codes "side"
+text_of words.Clear = codes "clear"
+text_of words.Restart = codes "restart"
+text_of words.Deliver = codes "deliver"
+text_of words.Since = codes "since"
+text_of words.Snapshot = codes "snapshot"
+text_of words.Page = codes "page"
+
+-- the word is of a command to a world
+abbrev pub IsOfWorld : Word → Type 0
+IsOfWorld words.Ring = Unit {0}
+IsOfWorld words.Side = Unit {0}
+IsOfWorld words.Clear = Unit {0}
+IsOfWorld words.Restart = Unit {0}
+IsOfWorld words.Deliver = Unit {0}
+IsOfWorld words.Since = Unit {0}
+IsOfWorld words.Snapshot = Unit {0}
+IsOfWorld words.Page = Unit {0}
+IsOfWorld _ = ⊥

@@ -1,0 +1,58 @@
+//! The grammar of commands as a table: for each word, what stands behind it.
+
+ghost use Rattle.std.specs.Prelude.{◌≡◌};
+ghost use Rattle.ds_words.specs.Table.{slots_of, IsByTable};
+ghost use Rattle.ds_words.specs.declared.word.Word.{Word};
+
+use crate::slot::Slot;
+use crate::word::Word;
+
+/// What stands behind a word, in its order.
+pub fn slots_of(word: Word) -> &'static [Slot]
+    ensures { result.now ≡ slots_of word }
+{
+    match word {
+        Word::Offer => &[Slot::Item],
+        Word::Show | Word::All => &[Slot::End],
+        Word::Publish => &[
+            Slot::Caller,
+            Slot::Mode,
+            Slot::Key,
+            Slot::Version,
+            Slot::Value,
+        ],
+        Word::Delete => &[Slot::Caller, Slot::Key, Slot::Version, Slot::End],
+        Word::Sweep => &[Slot::Caller, Slot::Owner, Slot::Generation, Slot::End],
+        Word::Retrieve => &[Slot::Key, Slot::End],
+        Word::NameOf => &[Slot::Endpoint, Slot::End],
+        Word::Subscribe => &[
+            Slot::Sub,
+            Slot::Pattern,
+            Slot::Kinds,
+            Slot::Initial,
+            Slot::Mode,
+            Slot::End,
+        ],
+        Word::Check => &[Slot::Sub, Slot::Max, Slot::End],
+        Word::Map => &[Slot::Pattern, Slot::Kinds, Slot::End],
+        Word::Entries | Word::Clear => &[Slot::Map, Slot::End],
+        Word::Ring => &[Slot::Ring, Slot::End],
+        Word::Side => &[Slot::Side, Slot::End],
+        Word::Restart => &[Slot::Side, Slot::Incarnation, Slot::End],
+        Word::Deliver => &[Slot::Message, Slot::Holder, Slot::Count, Slot::End],
+        Word::Since => &[
+            Slot::Scope,
+            Slot::Incarnation,
+            Slot::Position,
+            Slot::Max,
+            Slot::End,
+        ],
+        Word::Snapshot => &[Slot::Scope, Slot::End],
+        Word::Page => &[Slot::Scope, Slot::Range, Slot::End],
+    }
+}
+
+/// The law of the table: the lines of a word's commands are those that its slots make, and no others.
+pub fn lines_are_by_the_table()
+    ensures { (word : Word) → IsByTable word }
+{}
