@@ -12,7 +12,7 @@ use Rattle.ds_script.specs.declared.report.BadLines.TheVariants.{End, GoOn}
 use Rattle.ds_script.specs.Session.{SessionContent, IsOpened}
 use Rattle.ds_script.specs.Replay.{AnswersLines, AreAnswers, IsReplayed, IsAnsweredUpTo, IsAnsweredInPart, StopsWith}
 use Rattle.ds_script.specs.Progress.{Reached, TakesLines, TakesText, TakesNoneOrAll, TextStops, Turns, TurnStops, Stops, Settles}
-use Rattle.ds_script.proofs.ProgressLemmas.{takes_kept, takes_then, takes_few}
+use Rattle.ds_script.proofs.ProgressLemmas.{takes_kept, takes_then}
 use Rattle.ds_script.proofs.RunLemmas.{text_sent, texts_then, stops_then}
 
 -- ---- answers
@@ -90,9 +90,6 @@ come_none from had old pending opened empty lines bad none =
       read = Consumes-nil from;
       text = record { lines = []; split = sym none; unbroken = All-nil IsUnbroken; takes = takes_kept had had (start old.session old.policy) old [] (sym empty) (Appends-nil had) refl lines bad refl };
     }
-
-pub come_few : (from to had has : Option (List ℕ)) (policy : BadLines) (now : Reached) (pending : List ℕ) → Come from to had has policy now pending → now.bad ≤ now.lines
-come_few from to had has policy now pending p = takes_few had has (start p.first policy) now p.text.lines p.text.takes (omega arith)
 
 -- a turn left more to read
 pub come_more : (from mid to had is has : Option (List ℕ)) (policy : BadLines) (old new : Reached) (pending rest : List ℕ) → Come from mid had is policy old pending → Turns true mid to is has old pending new rest → Come from to had has policy new rest × IsUnbroken rest

@@ -1,6 +1,8 @@
 -- What a script drives came of events, and what follows from that.
-use Rattle.std.proofs.Common.{◌≡◌, ℕ, suc, ◌≤◌, true, false, inl, inr, Option, None, Some, MatchOption, List, [], ◌∷◌, ◌++◌, refl, sym, ap, subst, ◌∙◌, arith}
+use Rattle.std.proofs.Common.{◌≡◌, ℕ, suc, ◌≤◌, true, false, inl, inr, Option, None, Some, MatchOption, List, [], ◌∷◌, ◌++◌, refl, sym, ap, subst, ◌∙◌, arith, Contains}
+use Rattle.std.proofs.lemmas.List.Elements.{Contains-push_cases}
 use Rattle.ds_names.specs.declared.key.Key.{Key}
+use Rattle.ds_entry.proofs.Members.{Contains-nil}
 use Rattle.ds_entry.specs.declared.item.Item.{Item}
 use Rattle.ds_entry.specs.declared.item.Item.TheVariants.{Change as Changed, Floor as Floored}
 use Rattle.ds_held.specs.Limits.{larger}
@@ -8,19 +10,25 @@ use Rattle.ds_replica.specs.declared.event.Event.{Event}
 use Rattle.ds_replica.specs.declared.event.Side.{Side as OneSide}
 use Rattle.ds_replica.specs.declared.outcome.Outcome.{Outcome}
 use Rattle.ds_replica.specs.Happens.{Happens, HappenAll}
+use Rattle.ds_replica.specs.Bringing.{IsProperEvent}
+use Rattle.ds_replica.specs.Known.{new_account, extended_all}
 use Rattle.ds_replica.specs.World.{World}
-use Rattle.ds_replica.proofs.HolderLemmas.{equal_over_events}
+use Rattle.ds_replica.proofs.BringLemmas.{events_bring_items}
+use Rattle.ds_replica.proofs.EventLemmas.{events_fit}
+use Rattle.ds_replica.proofs.HolderLemmas as holders
+use Rattle.ds_replica.proofs.StartLemmas.{account_fits_at_start}
 use Rattle.ds_world.specs.Run.{EventLeads}
 use Rattle.ds_words.specs.Command.{IsCommand}
 use Rattle.ds_words.specs.Event.{event_of}
 use Rattle.ds_words.specs.Reply.{wording}
+use Rattle.ds_words.proofs.ProperLemmas.{lines_are_proper}
 use Rattle.ds_words.specs.declared.command.ScriptCommand.{ScriptCommand}
 use Rattle.ds_words.specs.declared.command.ScriptCommand.TheVariants.{Show, All, Entries, Ring, Side}
 use Rattle.ds_script.specs.declared.report.BadLines.{BadLines}
 use Rattle.ds_script.specs.Session.{SessionContent, IsOpened, seed, made, turned}
 use Rattle.ds_script.specs.Answer.{AnswersEvent, AnswersCommand, AnswersLine, picked, shown}
 use Rattle.ds_script.specs.Replay.{AnswersOrTells, AnswersLines}
-use Rattle.ds_script.specs.Laws.{CameOf, MakesEvents, LineMakesEvents, LinesMakeEvents, ScriptsAreEvents, ScriptHoldersAgree, ShowsAgree}
+use Rattle.ds_script.specs.Laws.{CameOf, MakesEvents, LineMakesEvents, LinesMakeEvents, ScriptsAreEvents, ScriptHoldersAgree, ScriptLabelsAreNewest, ShowsAgree}
 use Rattle.ds_script.proofs.LineLemmas.{may_command}
 use Rattle.ds_entry.specs.Under.{under}
 use Rattle.ds_replica.proofs.CheckLemmas.{happen_last}
@@ -106,8 +114,66 @@ scripts_are_events policy ls out bad start end opened a =
 -- ---- what is held
 
 pub holders_agree : ScriptHoldersAgree
-holders_agree events ring world session query h i came single know = equal_over_events (seed 1 ring) (seed 2 ring) larger world events query h i (inr refl) came.happened single know
+holders_agree events ring world session query h i came exact know =
+    holders.equal_over_events (seed 1 ring) (seed 2 ring) larger world events query h i (inr refl) came.happened exact know
 
+-- ---- what labels name
+-- what events name is in its ranges
+abbrev AllProper : List (Event × Outcome) → Type 0
+AllProper events = (e : Event × Outcome) → Contains events e → IsProperEvent e.0
+
+none_proper : AllProper []
+none_proper e h = absurd (Contains-nil e h)
+
+one_more_proper : (came : List (Event × Outcome)) (event : Event) (outcome : Outcome) → AllProper came → IsProperEvent event
+    → AllProper (came ++ (event, outcome) ∷ [])
+one_more_proper came event outcome all one e h = elim (Contains-push_cases came (event, outcome) e h) [
+  | inl k ↦ all e k
+  | inr q ↦ subst (λ (y : Event × Outcome). IsProperEvent y.0) q one
+]
+
+proper_event : (command : ScriptCommand) (old : SessionContent) (out : List ℕ) (new : SessionContent) (came events : List (Event × Outcome)) (o : Option Event) (Else : Type 0)
+    → ((event : Event) → o ≡ Some event → IsProperEvent event)
+    → MatchOption o (Else × (events ≡ came)) (λ event. (answer : AnswersEvent (wording command) event old out new) × (events ≡ came ++ (event, answer.outcome) ∷ []))
+    → AllProper came → AllProper events
+proper_event command old out new came events None Else proper m all = subst AllProper (sym m.1) all
+proper_event command old out new came events (Some event) Else proper m all =
+    subst AllProper (sym m.1) (one_more_proper came event m.0.outcome all (proper event refl))
+
+proper_command : (command : ScriptCommand) (old : SessionContent) (out : List ℕ) (new : SessionContent) (came events : List (Event × Outcome))
+    → IsCommand command → MakesEvents command old out new came events → AllProper came → AllProper events
+proper_command (Ring ring) old out new came events is m all = subst AllProper (sym m.1) none_proper
+proper_command command old out new came events is m all =
+    proper_event command old out new came events (event_of old.side command) (AnswersCommand command old out new)
+    (λ event e. lines_are_proper command old.side event is e) m all
+
+proper_line : (policy : BadLines) (before : ℕ) (old : SessionContent) (line out : List ℕ) (bad : ℕ) (new : SessionContent) (came events : List (Event × Outcome))
+    → LineMakesEvents policy before old line out bad new came events → AllProper came → AllProper events
+proper_line policy before old line out bad new came events m all = elim m [
+  | inl read ↦
+      elim read.3 [
+        | inl refused ↦ subst AllProper (sym refused.2) all
+        | inr answered ↦ proper_command read.0 old out new came events (may_command before read.0 read.1.written) answered all
+      ]
+  | inr told ↦ subst AllProper (sym told.1) all
+]
+
+proper_lines : (policy : BadLines) (before : ℕ) (old : SessionContent) (ls : List (List ℕ)) (out : List ℕ) (bad : ℕ) (new : SessionContent) (came events : List (Event × Outcome))
+    → LinesMakeEvents policy before old ls out bad new came events → AllProper came
+    → AllProper events
+proper_lines policy before old [] out bad new came events m all = subst AllProper (sym m.3) all
+proper_lines policy before old (line ∷ ls) out bad new came events m all =
+    proper_lines policy (suc before) m.0 ls m.2 m.4 new m.5 events m.7 (proper_line policy before old line m.1 m.3 m.0 came m.5 m.6 all)
+
+pub labels_are_newest : ScriptLabelsAreNewest
+labels_are_newest policy ls out bad start session events ring world told came =
+    let account = new_account (seed 1 ring) (seed 2 ring) larger in
+    let fits = account_fits_at_start (seed 1 ring) (seed 2 ring) larger (inr refl) in
+    let proper = proper_lines policy 0 start ls out bad session [] events told none_proper in
+    let items = events_bring_items account (made ring) world events fits came.happened proper (λ i h. absurd (Contains-nil i h)) in
+    holders.labels_are_newest (extended_all account events) world (events_fit account (made ring) world events fits came.happened) items
+
+-- ---- what is shown
 under_all : (items : List Item) → under (λ (key : Key). true) items ≡ items
 under_all [] = refl
 under_all (Changed c ∷ items) = ap (λ (l : List Item). Changed c ∷ l) (under_all items)

@@ -1,5 +1,6 @@
 -- Lines, and the commands that may stand on them.
 use Rattle.std.proofs.Common.{◌≡◌, ◌≢◌, ℕ, zero, suc, false, List, Some, Result, refl, arith}
+use Rattle.ds_machine.specs.declared.command.Scope.TheVariants.{Under}
 use Rattle.ds_words.specs.Command.{IsCommand, CommandTakesMemory, ReadsAs, is_plain}
 use Rattle.ds_words.specs.Later.{IsLater}
 use Rattle.ds_words.specs.declared.command.ScriptCommand.{ScriptCommand}
@@ -20,9 +21,9 @@ memory_room (Offer i) takes = refl
 memory_room (Publish caller key version value overwrite) takes = refl
 memory_room (Subscribe sub query initial overwrite) takes = refl
 memory_room (Map query) takes = tt
-memory_room (Since (Some query) cursor max) takes = refl
-memory_room (Snapshot (Some query)) takes = refl
-memory_room (Page (Some query) after max) takes = refl
+memory_room (Since (Under query) cursor max) takes = refl
+memory_room (Snapshot (Under query)) takes = refl
+memory_room (Page (Under query) after max) takes = refl
 memory_room command takes = absurd takes
 
 -- so does what isn't plain

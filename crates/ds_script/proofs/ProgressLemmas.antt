@@ -1,5 +1,5 @@
 -- Lines that are answered, one after the other, bad ones too.
-use Rattle.std.proofs.Common.{◌≡◌, ℕ, suc, ◌+◌, ◌≤◌, List, [], ◌∷◌, ◌++◌, length, Option, Result, Ok, Err, OnOk, IfOk, IfErr, refl, sym, ap, subst, ◌∙◌, inl, inr, arith, append_assoc, append-nil, length-append}
+use Rattle.std.proofs.Common.{◌≡◌, ℕ, suc, ◌+◌, ◌≤◌, List, [], ◌∷◌, ◌++◌, length, Option, Result, Ok, Err, MatchResult, OnOk, IfOk, IfErr, refl, sym, ap, subst, ◌∙◌, inl, inr, arith, append_assoc, append-nil, length-append}
 use Rattle.std.specs.Io.KnownBytes.{Appends}
 use Rattle.std.proofs.KnownBytes.{Appends-nil, Appends-trans}
 use Rattle.ds_script.specs.declared.fault.ReplayFault.{ReplayFault}
@@ -10,17 +10,13 @@ use Rattle.ds_script.specs.Session.{SessionContent}
 use Rattle.ds_script.specs.Answer.{AnswersLine}
 use Rattle.ds_script.specs.Replay.{IsBadBehind, badline, AnswersLines}
 use Rattle.ds_script.specs.Progress.{Reached, TakesLines, EndsAtBad, TellsBad, LineStops}
-use Rattle.ds_words.proofs.ResultLemmas.{on_ok}
 
 -- ---- results
 
-pub where_if_ok : {T E : Type 0} {P Q : T → Type 0} (r : Result T E) → ((t : T) → P t → Q t) → IfOk r P → IfOk r Q
-where_if_ok (Ok t) by p = by t p
-where_if_ok (Err e) by p = tt
-
-pub where_err : {T E : Type 0} {P Q : E → Type 0} (r : Result T E) → ((e : E) → P e → Q e) → IfErr r P → IfErr r Q
-where_err (Ok t) by p = tt
-where_err (Err e) by p = by e p
+-- what is so of both follows from what is so of both
+pub where_both : {T E : Type 0} {P P2 : T → Type 0} {Q Q2 : E → Type 0} (r : Result T E) → ((t : T) → P t → P2 t) → ((e : E) → Q e → Q2 e) → MatchResult r P Q → MatchResult r P2 Q2
+where_both (Ok t) f g p = f t p
+where_both (Err e) f g p = g e p
 
 -- an error that is known
 pub where_known : {T E : Type 0} (Q : E → Type 0) (r : Result T E) (y e : E) → r ≡ Err y → y ≡ e → Q e → IfErr r Q
@@ -39,17 +35,6 @@ lines_both policy q n k x y a b c [] ms o p same e u v =
     subst (λ (t : List ℕ). AnswersLines policy n a ms (t ++ p) (x + y) c) (sym u.0) v3
 lines_both policy q n k x y a b c (l ∷ ls) ms o p same e u v =
     (u.0, u.1, u.2 ++ p, u.3, u.4 + y, u.5, lines_both policy q (suc n) k u.4 y u.0 b c ls ms u.2 p same (omega (arith, e)) u.6 v, ap (λ t. t ++ p) u.7 ∙ append_assoc u.1 u.2 p, omega (arith, u.8))
-
--- no more are bad than there are
-bad_few : (policy : BadLines) (n x : ℕ) (a b : SessionContent) (ls : List (List ℕ)) (o : List ℕ) → AnswersLines policy n a ls o x b → x ≤ length ls
-bad_few policy n x a b [] o u = omega (arith, u.1)
-bad_few policy n x a b (l ∷ ls) o u =
-    let rest : u.4 ≤ length ls = bad_few policy (suc n) u.4 u.0 b ls u.2 u.6 in
-    let one : u.3 ≤ 1 = elim u.5 [
-      | inl y ↦ omega (arith, y.1)
-      | inr z ↦ omega (arith, z.2)
-    ] in
-    omega (arith, rest, one, u.8)
 
 -- ---- how far a replay has come
 
@@ -128,10 +113,6 @@ takes_behind a b c old mid new ls p q = subst (λ (ms : List (List ℕ)). TakesL
 -- no line was answered, so the count is what it was
 pub same_count : (had has : Option (List ℕ)) (old new : Reached) → TakesLines had has old [] new → new.lines ≡ old.lines
 same_count had has old new p = omega (arith, p.counted)
-
--- no more lines are bad than there are
-pub takes_few : (had has : Option (List ℕ)) (old new : Reached) (ls : List (List ℕ)) → TakesLines had has old ls new → old.bad ≤ old.lines → new.bad ≤ new.lines
-takes_few had has old new ls p few = omega (arith, few, p.counted, p.told, bad_few old.policy old.lines p.bad old.session new.session ls p.output p.answers)
 
 -- ---- a line that isn't answered
 

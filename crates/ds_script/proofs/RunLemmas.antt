@@ -21,13 +21,9 @@ joined-append ls ms = flat_map-append with_newline ls ms
 joined_one : (l : List ℕ) → joined (l ∷ []) ≡ with_newline l
 joined_one l = append-nil (with_newline l)
 
-pub something : (bs : List ℕ) → length bs ≢ 0 → unended bs ≡ bs ∷ []
+pub something : (bs : List ℕ) → bs ≢ [] → unended bs ≡ bs ∷ []
 something [] some = absurd (some refl)
 something (b ∷ bs) some = refl
-
-pub nothing : (bs : List ℕ) → length bs ≡ 0 → unended bs ≡ []
-nothing [] e = refl
-nothing (b ∷ bs) e = absurd (omega arith)
 
 -- no line of it is answered
 pub text_none : (had has : Option (List ℕ)) (old new : Reached) (text : List ℕ) → TakesLines had has old [] new → TakesText had has old text new text
@@ -58,14 +54,17 @@ texts_then a b c old mid new text rest bytes more whole last p left all q =
       takes = takes_then a b c old mid new p.lines q.lines p.takes q.takes;
     }
 
+-- nothing changed since
+pub text_kept : {W : Type 0} (contents : W → Option (List ℕ)) (a : Option (List ℕ)) (b d : W) (old mid new : Reached) (text rest last : List ℕ) → TakesText a (contents b) old text mid rest → new ≡ mid → d ≡ b → last ≡ rest
+    → TakesText a (contents d) old text new last
+text_kept {W} contents a b d old mid new text rest last p same held left =
+    let one : TakesText a (contents b) old text mid last = subst (λ (r : List ℕ). TakesText a (contents b) old text mid r) (sym left) p in
+    let two : TakesText a (contents b) old text new last = subst (λ (r : Reached). TakesText a (contents b) old text r last) (sym same) one in
+    subst (λ (w : W). TakesText a (contents w) old text new last) (sym held) two
+
 -- the answers that waited are written before
 pub text_behind : (a b c : Option (List ℕ)) (old mid new : Reached) (text rest : List ℕ) → TakesLines a b old [] mid → TakesText b c mid text new rest → TakesText a c old text new rest
 text_behind a b c old mid new text rest p q = record { lines = q.lines; split = q.split; unbroken = q.unbroken; takes = takes_then a b c old mid new [] q.lines p q.takes }
-
-pub text_rest : (a b : Option (List ℕ)) (old new : Reached) (text rest : List ℕ) → TakesText a b old text new rest → (length rest ≤ length text) × (drop (length text - length rest) text ≡ rest)
-text_rest a b old new text rest p =
-    let len : length text ≡ length (joined p.lines) + length rest = ap length p.split ∙ length-append (joined p.lines) rest in
-    (omega (arith, len), ap (drop (length text - length rest)) p.split ∙ drop_at (joined p.lines) rest (length text - length rest) (omega (arith, len)))
 
 -- ---- a text whose lines aren't all answered
 

@@ -109,3 +109,34 @@ MayStand (suc before) command = IsLater command
 -- what is answered to a line behind so many others, which has to be a command's, and the state after it
 abbrev pub AnswersLine : ℕ → SessionContent → List ℕ → List ℕ → SessionContent → Type 0
 AnswersLine before old line out new = (command : ScriptCommand) × IsLineAs (MayStand before) command line × AnswersOrRefuses command old out new
+
+-- ---- behind the answers that waited
+
+-- what a command is answered is put behind them
+abbrev pub AppendsCommand : ScriptCommand → (before after : List ℕ) → (old new : SessionContent) → Type 0
+AppendsCommand command before after old new = (out : List ℕ) × (after ≡ before ++ out) × AnswersOrRefuses command old out new
+
+-- so is what `ring` is answered, or that it is refused
+abbrev pub AppendsRing : ℕ → (before after : List ℕ) → (old new : SessionContent) → Type 0
+AppendsRing ring before after old new =
+    (out : List ℕ) × (after ≡ before ++ out) × (AnswersRing ring old out new ⊎ IsLineRefused old out new)
+
+-- so is what `side` is answered, and that side is asked from now on
+abbrev pub AppendsSide : Side → (before after : List ℕ) → (old new : SessionContent) → Type 0
+AppendsSide side before after old new = (after ≡ before ++ side_line side) × (new ≡ turned old side)
+
+-- So is what a command is answered that is an event. It is refused only where it isn't plain.
+abbrev pub AppendsEvent : ScriptCommand → (before after : List ℕ) → (old new : SessionContent) → Type 0
+AppendsEvent command before after old new =
+    (out : List ℕ) × (after ≡ before ++ out)
+    × (AnswersAsEvent command old out new ⊎ ((is_plain command ≡ false) × IsLineRefused old out new))
+
+-- so is this text, or that there is no memory for it
+abbrev pub AppendsOrRefuses : List ℕ → (before after : List ℕ) → Type 0
+AppendsOrRefuses text before after = (after ≡ before ++ refused_noroom) ⊎ (after ≡ before ++ text)
+
+-- so is what the line, behind so many others, is answered
+abbrev pub AppendsLine : ℕ → List ℕ → (before after : List ℕ) → (old new : SessionContent) → Type 0
+AppendsLine count line before after old new =
+    (out : List ℕ) × (after ≡ before ++ out)
+    × ((text : List ℕ) → line ≡ with_newline text → AnswersLine count old text out new)

@@ -1,9 +1,9 @@
 -- What holds of every script: what it drives came of events, so that the laws over events are laws over scripts.
 use Rattle.std.specs.Prelude.{◌≡◌, ℕ, suc, ◌+◌, ◌≤◌, ◌⊎◌, Bool, true, List, [], ◌∷◌, ◌++◌, MatchOption}
 use Rattle.ds_names.specs.declared.key.Key.{Key}
-use Rattle.ds_entry.specs.ItemCovers.{AreSingleNumbered}
 use Rattle.ds_held.specs.Limits.{larger}
-use Rattle.ds_whole.specs.Agreement.{KnowSame}
+use Rattle.ds_machine.specs.Reached.{AreExact}
+use Rattle.ds_convergence.specs.Agreement.{KnowSame}
 use Rattle.ds_replica.specs.declared.event.Event.{Event}
 use Rattle.ds_replica.specs.declared.event.Holder.{Holder}
 use Rattle.ds_replica.specs.declared.event.Holder.TheVariants.{Store}
@@ -11,6 +11,7 @@ use Rattle.ds_replica.specs.declared.event.Side.TheVariants.{A, B}
 use Rattle.ds_replica.specs.declared.outcome.Outcome.{Outcome}
 use Rattle.ds_replica.specs.Happens.{HappenAll}
 use Rattle.ds_replica.specs.Headline.{HoldSame}
+use Rattle.ds_replica.specs.CaughtUp.{MapsNameNewest}
 use Rattle.ds_replica.specs.Known.{known_at, new_account, extended_all}
 use Rattle.ds_replica.specs.World.{World}
 use Rattle.ds_words.specs.Command.{IsLineAs}
@@ -62,12 +63,21 @@ ScriptsAreEvents =
 
 -- ---- what follows
 
--- So holders that know the same under a query hold the same under it, if all that was brought in is single-numbered.
+-- So holders that know the same under a query hold the same under it, if all that was brought in is exact: no two of its changes
+-- have one key, one owner and one version, but two bodies.
 abbrev pub ScriptHoldersAgree : Type 0
 ScriptHoldersAgree =
     (events : List (Event × Outcome)) (ring : ℕ) (world : World) (session : SessionContent) (query : Key → Bool) (h i : Holder) → CameOf events ring world session →
     let account = extended_all (new_account (seed 1 ring) (seed 2 ring) larger) events in
-    AreSingleNumbered account.brought → KnowSame query (known_at account h) (known_at account i) → HoldSame world query h i
+    AreExact account.brought → KnowSame query (known_at account h) (known_at account i) → HoldSame world query h i
+
+-- No label of a map that has all of a store, and nothing else, names an older generation, whatever the lines are: each asks to bring
+-- in changes and floors alone.
+abbrev pub ScriptLabelsAreNewest : Type 0
+ScriptLabelsAreNewest =
+    (policy : BadLines) (lines : List (List ℕ)) (out : List ℕ) (bad : ℕ) (start session : SessionContent) (events : List (Event × Outcome))
+    (ring : ℕ) (world : World) → LinesMakeEvents policy 0 start lines out bad session [] events → CameOf events ring world session →
+    MapsNameNewest (extended_all (new_account (seed 1 ring) (seed 2 ring) larger) events) world
 
 -- Where both stores hold the same under the query of all keys, `show` answers the same at both sides.
 abbrev pub ShowsAgree : Type 0

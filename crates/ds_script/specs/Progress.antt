@@ -11,8 +11,8 @@ use Rattle.ds_script.specs.declared.fault.ReplayFault.{ReplayFault}
 use Rattle.ds_script.specs.declared.fault.ReplayFault.TheVariants.{BadLine, ReadFault, WriteFault, NoRoom}
 use Rattle.ds_script.specs.declared.report.BadLines.{BadLines}
 use Rattle.ds_script.specs.declared.report.BadLines.TheVariants.{End}
-use Rattle.ds_script.specs.declared.taking.Running.{Running}
 use Rattle.ds_script.specs.Session.{SessionContent}
+use Rattle.ds_script.specs.Transfer.{WritesPart}
 use Rattle.ds_script.specs.Replay.{AnswersLines, IsBadBehind, BeginsBadLine, badline, StopsWith}
 
 -- What a replay has reached: what it drives, the answers that wait, the counts of lines and of bad ones, and what becomes of
@@ -23,10 +23,6 @@ pub record Reached : Type 0 where
   pub lines : ℕ
   pub bad : ℕ
   pub policy : BadLines
-
--- that of a replay under way
-abbrev pub reached : Running → Reached
-reached running = record { session = running.session; waiting = running.output.items; lines = running.done.lines; bad = running.done.bad; policy = running.bad_lines }
 
 -- ---- one line
 
@@ -39,10 +35,6 @@ IsUnendedFault before lines.NoRoom text = Unit {0}
 abbrev pub KeepsSession : CommandFault → SessionContent → SessionContent → Type 0
 KeepsSession (lines.BadLine place expected) old new = new ≡ old
 KeepsSession lines.NoRoom old new = Unit {0}
-
--- some of these answers were written, and the writer failed
-abbrev pub WritesPart : Option (List ℕ) → Option (List ℕ) → List ℕ → Type 0
-WritesPart had has answers = (sent left : List ℕ) × (answers ≡ sent ++ left) × Appends had has sent
 
 -- the answers that wait were written, and the bad line is the fault; or the writer failed
 abbrev pub EndsAtBad : ReplayFault → (number place : ℕ) → Option (List ℕ) → Option (List ℕ) → (old new : List ℕ) → Type 0

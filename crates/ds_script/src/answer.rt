@@ -1,10 +1,8 @@
 //! Carrying commands out, and their answers.
 
-ghost use Rattle.std.specs.Prelude.{◌≡◌, ◌≤◌, ◌⊎◌, ◌++◌, List, ℕ, OnOk, OnErr};
+ghost use Rattle.std.specs.Prelude.{◌≡◌, ◌≤◌, OnOk, OnErr};
 ghost use Rattle.ds_words.specs.Command.{IsCommand};
-ghost use Rattle.ds_words.specs.Outcome.{side_line};
-ghost use Rattle.ds_script.specs.Session.{turned};
-ghost use Rattle.ds_script.specs.Answer.{AnswersOrRefuses, AnswersRing, IsLineRefused};
+ghost use Rattle.ds_script.specs.Answer.{AppendsCommand, AppendsRing, AppendsSide};
 
 use crate::entries::append_entries;
 use crate::event::answer_event;
@@ -26,7 +24,7 @@ pub(crate) fn answer_command(
     command: ScriptCommand,
 ) -> Result<(), NoRoom>
     requires { IsCommand command }
-    ensures answered { OnOk result ((out : List ℕ) × (output.new.items ≡ output.old.items ++ out) × AnswersOrRefuses command session.old out session.new) }
+    ensures answered { OnOk result (AppendsCommand command output.old.items output.new.items session.old session.new) }
     ensures unanswered { OnErr result (output.new.items ≡ output.old.items) }
 {
     match command {
@@ -48,7 +46,7 @@ fn answer_ring(
     ring: u32,
 ) -> Result<(), NoRoom>
     requires { (1 ≤ ring) × (ring ≤ 4096) }
-    ensures answered { OnOk result ((out : List ℕ) × (output.new.items ≡ output.old.items ++ out) × (AnswersRing ring session.old out session.new ⊎ IsLineRefused session.old out session.new)) }
+    ensures answered { OnOk result (AppendsRing ring output.old.items output.new.items session.old session.new) }
     ensures unanswered { OnErr result (output.new.items ≡ output.old.items) }
 {
     let Ok(opened) = Session::open(alloc, ring) else {
@@ -61,7 +59,7 @@ fn answer_ring(
 
 // Turns to the store of a side.
 fn answer_side(session: &mut Session, output: &mut Vec<u8>, side: Side) -> Result<(), NoRoom>
-    ensures answered { OnOk result ((output.new.items ≡ output.old.items ++ side_line side) × (session.new ≡ turned session.old side)) }
+    ensures answered { OnOk result (AppendsSide side output.old.items output.new.items session.old session.new) }
     ensures unanswered { OnErr result (output.new.items ≡ output.old.items) }
 {
     append_side(output, side)?;

@@ -1,27 +1,25 @@
 //! Lines that can't be read.
 
-ghost use Rattle.std.specs.Prelude.{◌≡◌, ◌++◌, [], IfErr, OnOk, OnErr};
-ghost use Rattle.std.specs.Io.KnownBytes.{Appends};
+ghost use Rattle.std.specs.Prelude.{◌≡◌, ◌++◌, OnOk, OnErr};
 ghost use Rattle.ds_script.specs.Replay.{badline};
-ghost use Rattle.ds_script.specs.Progress.{TellsBad, EndsAtBad};
+ghost use Rattle.ds_script.specs.Passing.{EndsFor, PassesOver};
 
 use crate::fault::ReplayFault;
 use crate::report::{BadLine, Report};
 use crate::sending::send;
-use crate::transfer::WriteFailed;
+use crate::streams::Sink;
 use ds_line::append_all;
 use ds_names::NoRoom;
 use itoa::Buffer;
-use std::io::Write;
 
 /// Writes the answers that wait, reports the line, and gives the fault that it is; or WriteFault, and nobody is told.
-pub(crate) fn end_at<W: Write, B: Report>(
+pub(crate) fn end_at<W: Sink, B: Report>(
     writer: &mut W,
     report: &mut B,
     bad: &BadLine<'_>,
     output: &mut Vec<u8>,
 ) -> ReplayFault
-    ensures { EndsAtBad result bad.now.number bad.now.place (W.contents writer.old) (W.contents writer.new) output.old.items output.new.items }
+    ensures { EndsFor W.Sink result bad.now.number bad.now.place writer.old writer.new output.old.items output.new.items }
 {
     let Ok(()) = send(writer, output) else {
         return ReplayFault::WriteFault;
@@ -35,14 +33,13 @@ pub(crate) fn end_at<W: Write, B: Report>(
 }
 
 /// Answers a line that can't be read, and writes the answer behind those that wait, and reports the line.
-pub(crate) fn pass_over<W: Write, B: Report>(
+pub(crate) fn pass_over<W: Sink, B: Report>(
     writer: &mut W,
     report: &mut B,
     bad: &BadLine<'_>,
     output: &mut Vec<u8>,
 ) -> Result<(), ReplayFault>
-    ensures ok { OnOk result (Appends (W.contents writer.old) (W.contents writer.new) (output.old.items ++ badline bad.now.number bad.now.place) × (output.new.items ≡ [])) }
-    ensures err { IfErr result (λ fault. TellsBad fault bad.now.number bad.now.place (W.contents writer.old) (W.contents writer.new) output.old.items output.new.items) }
+    ensures { PassesOver W.Sink bad.now.number bad.now.place writer.old writer.new output.old.items output.new.items result }
 {
     append_badline(output, bad.number, bad.place)?;
     send(writer, output)?;

@@ -1,9 +1,8 @@
 //! Commands that are events of a world, and what is told of them.
 
-ghost use Rattle.std.specs.Prelude.{◌≡◌, ◌≢◌, ◌⊎◌, ◌++◌, List, ℕ, false, None, OnOk, OnErr};
-ghost use Rattle.ds_words.specs.Command.{is_plain};
+ghost use Rattle.std.specs.Prelude.{◌≡◌, ◌≢◌, ◌++◌, None, OnOk, OnErr};
 ghost use Rattle.ds_words.specs.Event.{event_of};
-ghost use Rattle.ds_script.specs.Answer.{AnswersAsEvent, IsLineRefused, told_lines};
+ghost use Rattle.ds_script.specs.Answer.{AppendsEvent, told_lines};
 
 use crate::session::Session;
 use ds_held::Limits;
@@ -20,7 +19,7 @@ pub(crate) fn answer_event(
     command: ScriptCommand,
 ) -> Result<(), NoRoom>
     requires { event_of session.old.side command ≢ None }
-    ensures answered { OnOk result ((out : List ℕ) × (output.new.items ≡ output.old.items ++ out) × (AnswersAsEvent command session.old out session.new ⊎ ((is_plain command ≡ false) × IsLineRefused session.old out session.new))) }
+    ensures answered { OnOk result (AppendsEvent command output.old.items output.new.items session.old session.new) }
     ensures unanswered { OnErr result (output.new.items ≡ output.old.items) }
 {
     let wording = command.wording();

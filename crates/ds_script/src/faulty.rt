@@ -1,10 +1,11 @@
 //! A reader and a writer over memory that fail at one call, for tests.
 
-ghost use Rattle.std.specs.Prelude.{◌≡◌, [], Some};
+ghost use Rattle.std.specs.Prelude.{◌≡◌, ◌≢◌, [], Some};
 
+use crate::missed::Missed;
+use crate::streams::{Sink, Source};
 use std::alloc::Global;
-use std::io;
-use std::io::{ErrorKind, Read, Write};
+use std::io::{self, ErrorKind, Read, Write};
 
 /// Gives the bytes of a text, and fails at one call: a fake reader for tests.
 #[derive(Drop)]
@@ -30,18 +31,33 @@ impl<'a> FailRead<'a> {
     }
 }
 
-impl Read for FailRead<'_> {
+impl Source for FailRead<'_> {
     ghost remaining = { λ r. Some r.rest.now };
 
-    fn read(&mut self, buf: &mut [u8]) -> io::Result<usize> {
+    ghost reads = { λ s t. t.calls ≢ s.fail_at };
+
+    ghost fails = { λ s t. t.calls ≡ s.fail_at };
+
+    fn read(&mut self, buf: &mut [u8]) -> Result<usize, Missed> {
         self.calls = self.calls.wrapping_add(1);
         if self.calls == self.fail_at {
-            return Err(io::Error::from(ErrorKind::Other));
+            return Err(Missed::Failed);
         }
         let count = self.rest.len().min(buf.len()).min(self.most.max(1));
         buf[..count].copy_from_slice(&self.rest[..count]);
         self.rest = &self.rest[count..];
         Ok(count)
+    }
+}
+
+impl Read for FailRead<'_> {
+    ghost remaining = { λ r. Some r.rest.now };
+
+    fn read(&mut self, buf: &mut [u8]) -> io::Result<usize> {
+        match Source::read(self, buf) {
+            Ok(count) => Ok(count),
+            Err(_) => Err(io::Error::from(ErrorKind::Other)),
+        }
     }
 }
 
@@ -76,17 +92,32 @@ impl FailWrite {
     }
 }
 
+impl Sink for FailWrite {
+    ghost contents = { λ w. Some w.written.items };
+
+    ghost writes = { λ s t. t.calls ≢ s.fail_at };
+
+    fn write(&mut self, buf: &[u8]) -> Result<usize, Missed> {
+        self.calls = self.calls.wrapping_add(1);
+        if self.calls == self.fail_at {
+            return Err(Missed::Failed);
+        }
+        let count = buf.len().min(self.most);
+        match self.written.extend_from_slice(&buf[..count]) {
+            Ok(()) => Ok(count),
+            Err(_) => Err(Missed::Failed),
+        }
+    }
+}
+
 impl Write for FailWrite {
     ghost contents = { λ w. Some w.written.items };
 
     fn write(&mut self, buf: &[u8]) -> io::Result<usize> {
-        self.calls = self.calls.wrapping_add(1);
-        if self.calls == self.fail_at {
-            return Err(io::Error::from(ErrorKind::Other));
+        match Sink::write(self, buf) {
+            Ok(count) => Ok(count),
+            Err(_) => Err(io::Error::from(ErrorKind::Other)),
         }
-        let count = buf.len().min(self.most);
-        self.written.extend_from_slice(&buf[..count])?;
-        Ok(count)
     }
 
     fn flush(&mut self) -> io::Result<()> {

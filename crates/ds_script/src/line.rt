@@ -1,10 +1,10 @@
 //! One line, and its answer.
 
-ghost use Rattle.std.specs.Prelude.{◌≡◌, ◌++◌, ℕ, List, IfErr, OnOk, OnErr};
+ghost use Rattle.std.specs.Prelude.{◌≡◌, ℕ, List, IfErr, OnOk, OnErr};
 ghost use Rattle.ds_line.specs.LastNewline.{EndsLine};
 ghost use Rattle.ds_words.specs.Lines.{with_newline};
 ghost use Rattle.ds_words.specs.Command.{ReadsAs};
-ghost use Rattle.ds_script.specs.Answer.{MayStand, AnswersLine};
+ghost use Rattle.ds_script.specs.Answer.{MayStand, AppendsLine};
 ghost use Rattle.ds_script.specs.Progress.{IsUnendedFault, KeepsSession};
 
 use crate::answer::answer_command;
@@ -24,7 +24,7 @@ pub(crate) fn answer_line(
     output: &mut Vec<u8>,
 ) -> Result<(), CommandFault>
     requires { EndsLine line.now }
-    ensures ok { OnOk result ((out : List ℕ) × (output.new.items ≡ output.old.items ++ out) × ((text : List ℕ) → line.now ≡ with_newline text → AnswersLine before session.old text out session.new)) }
+    ensures ok { OnOk result (AppendsLine before line.now output.old.items output.new.items session.old session.new) }
     ensures err { OnErr result (output.new.items ≡ output.old.items) }
     ensures fault { IfErr result (λ fault. (text : List ℕ) → line.now ≡ with_newline text → IsUnendedFault before fault text) }
     ensures kept { IfErr result (λ fault. KeepsSession fault session.old session.new) }

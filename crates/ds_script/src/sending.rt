@@ -1,18 +1,21 @@
 //! Writing the answers that wait.
 
-ghost use Rattle.std.specs.Prelude.{◌≡◌, ◌++◌, [], ℕ, List, OnOk, OnErr};
+ghost use Rattle.std.specs.Prelude.{◌≡◌, [], OnOk, OnErr};
 ghost use Rattle.std.specs.Io.KnownBytes.{Appends};
+ghost use Rattle.ds_script.specs.Streams.{HasFailedWrite};
+ghost use Rattle.ds_script.specs.Transfer.{WritesPart, SendsFront};
 
+use crate::streams::Sink;
 use crate::transfer::{WriteFailed, write_out};
-use std::io::Write;
 
 /// The answers that wait for the next read are written earlier once they are so many bytes.
 const FULL: usize = 65536;
 
 /// Writes the answers that wait, where they are many.
-pub(crate) fn send_full<W: Write>(writer: &mut W, output: &mut Vec<u8>) -> Result<(), WriteFailed>
-    ensures ok { OnOk result ((sent : List ℕ) × (output.old.items ≡ sent ++ output.new.items) × Appends (W.contents writer.old) (W.contents writer.new) sent) }
-    ensures err { OnErr result ((sent left : List ℕ) × (output.old.items ≡ sent ++ left) × Appends (W.contents writer.old) (W.contents writer.new) sent) }
+pub(crate) fn send_full<W: Sink>(writer: &mut W, output: &mut Vec<u8>) -> Result<(), WriteFailed>
+    ensures ok { OnOk result (SendsFront (W.contents writer.old) (W.contents writer.new) output.old.items output.new.items) }
+    ensures err { OnErr result (WritesPart (W.contents writer.old) (W.contents writer.new) output.old.items) }
+    ensures cause { OnErr result (HasFailedWrite W.writes W.fails writer.new) }
 {
     if output.len() < FULL {
         return Ok(());
@@ -24,9 +27,10 @@ pub(crate) fn send_full<W: Write>(writer: &mut W, output: &mut Vec<u8>) -> Resul
 }
 
 /// Writes the answers that wait. Where the writer fails it has got a front of them.
-pub(crate) fn send<W: Write>(writer: &mut W, output: &mut Vec<u8>) -> Result<(), WriteFailed>
+pub(crate) fn send<W: Sink>(writer: &mut W, output: &mut Vec<u8>) -> Result<(), WriteFailed>
     ensures ok { OnOk result (Appends (W.contents writer.old) (W.contents writer.new) output.old.items × (output.new.items ≡ [])) }
-    ensures err { OnErr result ((sent left : List ℕ) × (output.old.items ≡ sent ++ left) × Appends (W.contents writer.old) (W.contents writer.new) sent) }
+    ensures err { OnErr result (WritesPart (W.contents writer.old) (W.contents writer.new) output.old.items) }
+    ensures cause { OnErr result (HasFailedWrite W.writes W.fails writer.new) }
 {
     match write_out(writer, output.as_slice()) {
         Ok(()) => {

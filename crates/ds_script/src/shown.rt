@@ -1,11 +1,10 @@
 //! The answers to `show` and `all`.
 
-ghost use Rattle.std.specs.Prelude.{◌≡◌, ◌<◌, ◌⊎◌, ◌++◌, [], ◌∷◌, List, ℕ, IfOk, OnOk, OnErr, Some, slice_get, length};
+ghost use Rattle.std.specs.Prelude.{◌≡◌, ◌<◌, ◌++◌, [], ◌∷◌, List, ℕ, IfOk, OnOk, OnErr, Some, slice_get, length};
 ghost use Rattle.std.specs.List.{flat_map};
 ghost use Rattle.ds_line.specs.ItemSpelling.{item_spelling};
 ghost use Rattle.ds_held.specs.Held.{held_items};
-ghost use Rattle.ds_script.specs.Answer.{picked, shown};
-ghost use Rattle.ds_words.specs.Reply.{refused_noroom};
+ghost use Rattle.ds_script.specs.Answer.{picked, shown, AppendsOrRefuses};
 ghost use Rattle.ds_entry.specs.Left.{is_put as leaves_value};
 
 use ds_entry::{Item, Items};
@@ -27,7 +26,7 @@ pub(crate) fn append_shown(
     output: &mut Vec<u8>,
     all: bool,
 ) -> Result<(), NoRoom>
-    ensures answered { OnOk result ((output.new.items ≡ output.old.items ++ refused_noroom) ⊎ (output.new.items ≡ output.old.items ++ shown (picked all (held_items held.now)))) }
+    ensures answered { OnOk result (AppendsOrRefuses (shown (picked all (held_items held.now))) output.old.items output.new.items) }
     ensures unanswered { OnErr result (output.new.items ≡ output.old.items) }
 {
     match held.all(alloc) {

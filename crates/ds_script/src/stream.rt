@@ -1,26 +1,31 @@
 //! A whole replay: from a reader's lines to a writer's answers.
 
-ghost use Rattle.std.specs.Prelude.{◌≡◌, [], ℕ, List, IfOk, IfErr, OnOk, length, vec_len};
+ghost use Rattle.std.specs.Prelude.{◌≡◌, ℕ, List, IfOk, IfErr, OnOk};
 ghost use Rattle.std.specs.Io.KnownBytes.{Appends, Consumes, IsAtEnd};
 ghost use Rattle.ds_script.specs.declared.report.BadLines.TheVariants.{End};
-ghost use Rattle.ds_script.specs.Session.{IsOpened};
 ghost use Rattle.ds_script.specs.Replay.{IsReplayed, StopsWith};
 ghost use Rattle.ds_script.specs.Progress.{Stops, Settles};
+ghost use Rattle.ds_script.specs.Causes.{HasCause, SettlesFor};
+ghost use Rattle.ds_script.specs.Taking.{KeepsWriter, IsAtStart};
 
 use crate::fault::ReplayFault;
+use crate::lines::Lines;
 use crate::report::{BadLines, Nobody, Report};
 use crate::session::{RING, Session};
-use crate::taking::{Replayed, Running};
+use crate::streams::{Sink, Source};
+use crate::taking::Replay;
+use crate::tally::Tally;
 use crate::transfer::{WriteFailed, write_out};
-use crate::turn::take_turn;
-use std::alloc::{AllocError, Global};
-use std::io::{Read, Write};
+use std::alloc::Global;
 
-/// The bytes that are asked for at once.
-const CHUNK: usize = 65536;
-
-/// The most reads of one replay.
-const READS: u64 = 4294967296;
+/// What a replay has come to.
+#[derive(Clone, Copy, Debug, PartialEq, Eq)]
+pub struct Replayed {
+    /// How many lines were answered.
+    pub lines: u64,
+    /// How many of them are no command's.
+    pub bad: u64,
+}
 
 /// Answers the lines of a script, one after the other, over a world of two stores that was just made: the store of side a has
 /// the incarnation 1 and that of side b 2, their first items have the position 0, and their journals keep 256 items, or as
@@ -32,9 +37,10 @@ const READS: u64 = 4294967296;
 /// brought are written together. A line that there is no memory for is answered `refused noroom`, and changes
 /// nothing. What is kept is bounded by the longest line and by what the world holds, whatever the length of the input.
 ///
-/// A fault ends it: a line that is no command's (no answer is written for it), a reader or a writer that fails, or want of
-/// memory for the buffers. All lines before were answered then, and but for a failed write all answers were written.
-pub fn replay<R: Read, W: Write>(
+/// A fault ends it: a line that is no command's (no answer is written for it), a read or a write of this call that failed, 2^32
+/// reads, or want of memory for the buffers. All lines before were answered then, and but for a failed write all answers were
+/// written.
+pub fn replay<R: Source, W: Sink>(
     alloc: Global,
     reader: &mut R,
     writer: &mut W,
@@ -47,6 +53,7 @@ pub fn replay<R: Read, W: Write>(
         × Consumes (R.remaining reader.old) (R.remaining reader.new) input
         × Appends (W.contents writer.old) (W.contents writer.new) output
         × StopsWith End fault (R.remaining reader.new) input output) }
+    ensures cause { IfErr result (λ fault. HasCause R.Source W.Sink fault reader.old reader.new writer.new) }
 {
     let done = replay_reporting(alloc, reader, writer, &mut Nobody, BadLines::End)?;
     Ok(done.lines)
@@ -58,7 +65,7 @@ pub fn replay<R: Read, W: Write>(
 ///
 /// Where bad lines don't end it, a line is kept until its end is read, and NoRoom comes also where that are more than
 /// 16777216 bytes.
-pub fn replay_reporting<R: Read, W: Write, B: Report>(
+pub fn replay_reporting<R: Source, W: Sink, B: Report>(
     alloc: Global,
     reader: &mut R,
     writer: &mut W,
@@ -73,62 +80,67 @@ pub fn replay_reporting<R: Read, W: Write, B: Report>(
         × Consumes (R.remaining reader.old) (R.remaining reader.new) input
         × Appends (W.contents writer.old) (W.contents writer.new) output
         × StopsWith bad_lines fault (R.remaining reader.new) input output) }
+    ensures cause { IfErr result (λ fault. HasCause R.Source W.Sink fault reader.old reader.new writer.new) }
 {
-    let Ok(mut chunk) = zeros(alloc) else {
+    let Ok(mut lines) = Lines::new(alloc) else {
         return Err(ReplayFault::NoRoom);
     };
-    let mut running = Running {
-        session: Session::open(alloc, RING)?,
+    let session = Session::open(alloc, RING)?;
+    let mut replay = Replay {
+        alloc,
+        writer,
+        report,
+        session,
         output: Vec::new(alloc),
-        done: Replayed { lines: 0, bad: 0 },
+        tally: Tally { lines: 0, bad: 0 },
         bad_lines,
     };
-    match run(alloc, reader, writer, report, &mut chunk, &mut running) {
-        Ok(()) => Ok(running.done),
-        Err(fault) => Err(settled(writer, &running.output, fault)),
+    let ran = replay.run(reader, &mut lines);
+    let Replay {
+        writer,
+        session: _session,
+        output,
+        tally,
+        ..
+    } = replay;
+    match ran {
+        Ok(()) => Ok(Replayed {
+            lines: tally.lines,
+            bad: tally.bad,
+        }),
+        Err(fault) => Err(settled(writer, &output, fault)),
     }
 }
 
-// Room for one read.
-fn zeros(alloc: Global) -> Result<Vec<u8>, AllocError>
-    ensures { IfOk result (λ chunk. vec_len chunk ≡ 65536) }
-{
-    Vec::from_elem(alloc, 0u8, CHUNK)
-}
-
-// Reads and answers until there is no more, or until no more can be read or answered.
-fn run<R: Read, W: Write, B: Report>(
-    alloc: Global,
-    reader: &mut R,
-    writer: &mut W,
-    report: &mut B,
-    chunk: &mut [u8],
-    running: &mut Running,
-) -> Result<(), ReplayFault>
-    requires chunk { length chunk.old ≡ 65536 }
-    requires start { IsOpened 256 running.old.session × (running.old.output.items ≡ []) × (running.old.done ≡ record { lines = 0; bad = 0 }) }
-    ensures ok { OnOk result ((input output : List ℕ)
-        × Consumes (R.remaining reader.old) (R.remaining reader.new) input × IsAtEnd (R.remaining reader.new)
-        × Appends (W.contents writer.old) (W.contents writer.new) output
-        × IsReplayed running.old.bad_lines input running.new.done.lines running.new.done.bad output) }
-    ensures err { IfErr result (λ fault. (input output : List ℕ)
-        × Consumes (R.remaining reader.old) (R.remaining reader.new) input
-        × Appends (W.contents writer.old) (W.contents writer.new) output
-        × Stops running.old.bad_lines fault (R.remaining reader.new) input output running.new.output.items) }
-{
-    let mut pending = Vec::new(alloc);
-    for _turn in 0..READS {
-        let more = take_turn(alloc, reader, writer, report, chunk, &mut pending, running)?;
-        if !more {
-            return Ok(());
+impl<W: Sink, B: Report> Replay<'_, W, B> {
+    // Reads and answers until there is no more, or until no more can be read or answered.
+    fn run<R: Source>(&mut self, reader: &mut R, lines: &mut Lines) -> Result<(), ReplayFault>
+        requires start { IsAtStart self.old lines.old }
+        ensures same { KeepsWriter self.old self.new }
+        ensures ok { OnOk result ((input output : List ℕ)
+            × Consumes (R.remaining reader.old) (R.remaining reader.new) input × IsAtEnd (R.remaining reader.new)
+            × Appends (W.contents self.old.writer.now) (W.contents self.new.writer.now) output
+            × IsReplayed self.old.bad_lines input self.new.tally.lines self.new.tally.bad output) }
+        ensures err { IfErr result (λ fault. (input output : List ℕ)
+            × Consumes (R.remaining reader.old) (R.remaining reader.new) input
+            × Appends (W.contents self.old.writer.now) (W.contents self.new.writer.now) output
+            × Stops self.old.bad_lines fault (R.remaining reader.new) input output self.new.output.items) }
+        ensures cause { IfErr result (λ fault. HasCause R.Source W.Sink fault reader.old reader.new self.new.writer.now) }
+    {
+        while lines.may_read() {
+            let more = self.take_turn(reader, lines)?;
+            if !more {
+                return Ok(());
+            }
         }
+        Err(ReplayFault::ReadFault)
     }
-    Err(ReplayFault::ReadFault)
 }
 
 // Writes the answers that wait where a fault ended the replay, and gives the fault. A writer that failed isn't asked again.
-fn settled<W: Write>(writer: &mut W, output: &[u8], fault: ReplayFault) -> ReplayFault
-    ensures { Settles result fault (W.contents writer.old) (W.contents writer.new) output.now }
+fn settled<W: Sink>(writer: &mut W, output: &[u8], fault: ReplayFault) -> ReplayFault
+    ensures settles { Settles result fault (W.contents writer.old) (W.contents writer.new) output.now }
+    ensures cause { SettlesFor W.Sink result fault writer.old writer.new }
 {
     match fault {
         ReplayFault::WriteFault => fault,

@@ -1,10 +1,12 @@
 //! Bytes from a reader and to a writer.
 
-ghost use Rattle.std.specs.Prelude.{◌≡◌, ◌≤◌, ◌<◌, ◌++◌, ◌+◌, [], List, ℕ, IfOk, OnOk, OnErr, length, take, drop, vec_len};
+ghost use Rattle.std.specs.Prelude.{◌≡◌, ◌≤◌, ◌<◌, ◌+◌, [], IfOk, OnOk, OnErr, length, drop, vec_len};
 ghost use Rattle.std.specs.Io.KnownBytes.{Appends};
-ghost use Rattle.ds_script.specs.Transfer.{Fills};
+ghost use Rattle.ds_script.specs.Streams.{HasFailedWrite};
+ghost use Rattle.ds_script.specs.Transfer.{Fills, FillsBy, WritesFront, WritesPart};
 
-use std::io::{ErrorKind, Read, Write};
+use crate::missed::Missed;
+use crate::streams::{Sink, Source};
 
 /// What became of one read.
 #[derive(Clone, Copy, Debug, PartialEq, Eq)]
@@ -22,10 +24,12 @@ pub enum Filled {
 }
 
 /// Reads once, and puts what came behind the bytes that wait.
-pub(crate) fn fill<R: Read>(reader: &mut R, chunk: &mut [u8], pending: &mut Vec<u8>) -> Filled
+pub(crate) fn fill<R: Source>(reader: &mut R, chunk: &mut [u8], pending: &mut Vec<u8>) -> Filled
     requires { 0 < length chunk.old }
     ensures fills { Fills result (R.remaining reader.old) (R.remaining reader.new) pending.old.items pending.new.items }
+    ensures told { FillsBy R.reads R.fails result reader.old reader.new }
     ensures most { vec_len pending.new ≤ vec_len pending.old + length chunk.old }
+    ensures chunk { length chunk.new ≡ length chunk.old }
 {
     match reader.read(chunk) {
         Ok(0) => Filled::End,
@@ -33,13 +37,8 @@ pub(crate) fn fill<R: Read>(reader: &mut R, chunk: &mut [u8], pending: &mut Vec<
             Ok(()) => Filled::More,
             Err(_) => Filled::NoRoom,
         },
-        Err(fault) => {
-            if fault.kind() == ErrorKind::Interrupted {
-                Filled::Interrupted
-            } else {
-                Filled::Failed
-            }
-        }
+        Err(Missed::Interrupted) => Filled::Interrupted,
+        Err(Missed::Failed) => Filled::Failed,
     }
 }
 
@@ -48,9 +47,10 @@ pub(crate) fn fill<R: Read>(reader: &mut R, chunk: &mut [u8], pending: &mut Vec<
 pub struct WriteFailed;
 
 /// Writes all of the text. Where the writer fails it has got a front of it.
-pub(crate) fn write_out<W: Write>(writer: &mut W, text: &[u8]) -> Result<(), WriteFailed>
+pub(crate) fn write_out<W: Sink>(writer: &mut W, text: &[u8]) -> Result<(), WriteFailed>
     ensures ok { OnOk result (Appends (W.contents writer.old) (W.contents writer.new) text.now) }
-    ensures err { OnErr result ((sent left : List ℕ) × (text.now ≡ sent ++ left) × Appends (W.contents writer.old) (W.contents writer.new) sent) }
+    ensures err { OnErr result (WritesPart (W.contents writer.old) (W.contents writer.new) text.now) }
+    ensures cause { OnErr result (HasFailedWrite W.writes W.fails writer.new) }
 {
     let mut rest = text;
     for _turn in 0..u64::MAX {
@@ -66,20 +66,17 @@ pub(crate) fn write_out<W: Write>(writer: &mut W, text: &[u8]) -> Result<(), Wri
 }
 
 // Writes once, and gives the number of bytes that were taken: 0 where a signal came in the way.
-fn write_once<W: Write>(writer: &mut W, text: &[u8]) -> Result<usize, WriteFailed>
-    ensures ok { IfOk result (λ count. (count ≤ length text.now) × Appends (W.contents writer.old) (W.contents writer.new) (take count text.now)) }
+fn write_once<W: Sink>(writer: &mut W, text: &[u8]) -> Result<usize, WriteFailed>
+    ensures ok { IfOk result (λ count. WritesFront (W.contents writer.old) (W.contents writer.new) count text.now) }
     ensures err { OnErr result (Appends (W.contents writer.old) (W.contents writer.new) []) }
+    ensures led { OnOk result (W.writes writer.old writer.new) }
+    ensures fails { OnErr result (W.fails writer.old writer.new) }
 {
     match writer.write(text) {
         Ok(0) => Err(WriteFailed),
         Ok(count) => Ok(count),
-        Err(fault) => {
-            if fault.kind() == ErrorKind::Interrupted {
-                Ok(0)
-            } else {
-                Err(WriteFailed)
-            }
-        }
+        Err(Missed::Interrupted) => Ok(0),
+        Err(Missed::Failed) => Err(WriteFailed),
     }
 }
 

@@ -1,71 +1,61 @@
 //! One read of a replay, and the answers to the lines that it brings.
 
-ghost use Rattle.std.specs.Prelude.{◌≡◌, ◌≤◌, ◌<◌, ◌+◌, ◌^◌, true, IfOk, IfErr, length, vec_len};
+ghost use Rattle.std.specs.Prelude.{◌≡◌, ◌<◌, ◌^◌, true, suc, IfOk};
 ghost use Rattle.ds_words.specs.Lines.{IsUnbroken};
-ghost use Rattle.ds_script.specs.Progress.{reached, Turns, TurnStops};
+ghost use Rattle.ds_script.specs.Taking.{KeepsWriter, TakesTurn, KeepsCount};
 
 use crate::fault::ReplayFault;
+use crate::lines::Lines;
 use crate::report::Report;
 use crate::sending::send;
-use crate::taking::{Running, take_last, take_whole};
-use crate::transfer::{Filled, fill};
-use std::alloc::Global;
-use std::io::{Read, Write};
+use crate::streams::{Sink, Source};
+use crate::taking::Replay;
+use crate::transfer::Filled;
 
-/// Writes the answers that wait, reads once, and answers all whole lines that are there then; or at the end the last line, whose
-/// answer it writes. Gives whether there may be more to read.
-pub(crate) fn take_turn<R: Read, W: Write, B: Report>(
-    alloc: Global,
-    reader: &mut R,
-    writer: &mut W,
-    report: &mut B,
-    chunk: &mut [u8],
-    pending: &mut Vec<u8>,
-    running: &mut Running,
-) -> Result<bool, ReplayFault>
-    requires chunk { 0 < length chunk.old }
-    requires pending { IsUnbroken pending.old.items }
-    requires few { running.old.done.lines + (vec_len pending.old + length chunk.old) < 2 ^ 62 }
-    requires bad { running.old.done.bad ≤ running.old.done.lines }
-    ensures ok { IfOk result (λ more. Turns more (R.remaining reader.old) (R.remaining reader.new) (W.contents writer.old) (W.contents writer.new) (reached running.old) pending.old.items (reached running.new) pending.new.items) }
-    ensures few { IfOk result (λ more. more ≡ true → running.new.done.lines + vec_len pending.new ≤ running.old.done.lines + (vec_len pending.old + length chunk.old)) }
-    ensures chunk { length chunk.new ≡ length chunk.old }
-    ensures err { IfErr result (λ fault. TurnStops fault (R.remaining reader.old) (R.remaining reader.new) (W.contents writer.old) (W.contents writer.new) (reached running.old) pending.old.items running.new.output.items) }
-{
-    send(writer, &mut running.output)?;
-    take_read(alloc, reader, writer, report, chunk, pending, running)
-}
+impl<W: Sink, B: Report> Replay<'_, W, B> {
+    /// Writes the answers that wait, reads once, and answers all whole lines that are there then; or at the end the last line, whose
+    /// answer it writes. Gives whether there may be more to read.
+    pub(crate) fn take_turn<R: Source>(
+        &mut self,
+        reader: &mut R,
+        lines: &mut Lines,
+    ) -> Result<bool, ReplayFault>
+        requires unbroken { IsUnbroken lines.old.rest }
+        requires count { self.old.tally.lines ≡ lines.old.count }
+        requires reads { lines.old.reads < 2 ^ 32 }
+        ensures same { KeepsWriter self.old self.new }
+        ensures turns { TakesTurn R.Source W.Sink reader.old reader.new self.old self.new lines.old.rest lines.new.rest result }
+        ensures more { IfOk result (λ more. more ≡ true → KeepsCount self.new lines.old lines.new) }
+    {
+        send(self.writer, &mut self.output)?;
+        self.take_read(reader, lines)
+    }
 
-// Reads once, and answers all whole lines that are there then; or at the end the last line, whose answer it writes.
-fn take_read<R: Read, W: Write, B: Report>(
-    alloc: Global,
-    reader: &mut R,
-    writer: &mut W,
-    report: &mut B,
-    chunk: &mut [u8],
-    pending: &mut Vec<u8>,
-    running: &mut Running,
-) -> Result<bool, ReplayFault>
-    requires chunk { 0 < length chunk.old }
-    requires pending { IsUnbroken pending.old.items }
-    requires few { running.old.done.lines + (vec_len pending.old + length chunk.old) < 2 ^ 62 }
-    requires bad { running.old.done.bad ≤ running.old.done.lines }
-    ensures ok { IfOk result (λ more. Turns more (R.remaining reader.old) (R.remaining reader.new) (W.contents writer.old) (W.contents writer.new) (reached running.old) pending.old.items (reached running.new) pending.new.items) }
-    ensures few { IfOk result (λ more. more ≡ true → running.new.done.lines + vec_len pending.new ≤ running.old.done.lines + (vec_len pending.old + length chunk.old)) }
-    ensures chunk { length chunk.new ≡ length chunk.old }
-    ensures err { IfErr result (λ fault. TurnStops fault (R.remaining reader.old) (R.remaining reader.new) (W.contents writer.old) (W.contents writer.new) (reached running.old) pending.old.items running.new.output.items) }
-{
-    match fill(reader, chunk, pending) {
-        Filled::More => {
-            take_whole(alloc, writer, report, pending, running)?;
-            Ok(true)
+    // Reads once, and answers all whole lines that are there then; or at the end the last line, whose answer it writes.
+    fn take_read<R: Source>(
+        &mut self,
+        reader: &mut R,
+        lines: &mut Lines,
+    ) -> Result<bool, ReplayFault>
+        requires unbroken { IsUnbroken lines.old.rest }
+        requires count { self.old.tally.lines ≡ lines.old.count }
+        requires reads { lines.old.reads < 2 ^ 32 }
+        ensures same { KeepsWriter self.old self.new }
+        ensures turns { TakesTurn R.Source W.Sink reader.old reader.new self.old self.new lines.old.rest lines.new.rest result }
+        ensures more { IfOk result (λ more. more ≡ true → KeepsCount self.new lines.old lines.new) }
+    {
+        match lines.read(reader) {
+            Filled::More => {
+                self.take_whole(lines)?;
+                Ok(true)
+            }
+            Filled::Interrupted => Ok(true),
+            Filled::End => {
+                self.take_last(lines)?;
+                Ok(false)
+            }
+            Filled::Failed => Err(ReplayFault::ReadFault),
+            Filled::NoRoom => Err(ReplayFault::NoRoom),
         }
-        Filled::Interrupted => Ok(true),
-        Filled::End => {
-            take_last(alloc, writer, report, pending, running)?;
-            Ok(false)
-        }
-        Filled::Failed => Err(ReplayFault::ReadFault),
-        Filled::NoRoom => Err(ReplayFault::NoRoom),
     }
 }

@@ -11,7 +11,7 @@ mod terminal;
 mod words;
 
 use ds_explain::explain;
-use ds_script::{BadLine, BadLines, ReplayFault, Replayed, Report, replay_reporting};
+use ds_script::{BadLine, BadLines, Plain, ReplayFault, Replayed, Report, replay_reporting};
 use std::io::{self, IsTerminal};
 use std::process::ExitCode;
 use std::rt::Runtime;
@@ -86,7 +86,7 @@ fn replay_input(
     terminals: Terminals,
     bad_lines: BadLines,
 ) -> Result<ExitCode, Failure> {
-    let mut reader = Typed::new(rt, terminals, bad_lines);
+    let mut reader = Plain(Typed::new(rt, terminals, bad_lines));
     let mut explainer = Explainer {
         rt,
         at_terminal: terminals.error,
@@ -96,7 +96,7 @@ fn replay_input(
     let replayed = replay_reporting(
         rt.alloc(),
         &mut reader,
-        &mut io::writer(rt),
+        &mut Plain(io::writer(rt)),
         &mut explainer,
         bad_lines,
     );

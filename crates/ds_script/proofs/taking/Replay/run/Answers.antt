@@ -1,0 +1,91 @@
+use Rattle.std.proofs.Common.{◌≡◌, ◌≢◌, ℕ, true, false, [], ap, sym, subst, ◌∙◌, inr, refl, arith, rules}
+use Rattle.std.proofs.lemmas.Result.{err_from_is_err_and}
+use Rattle.std.proofs.lemmas.List.Elements.{All-nil}
+use Rattle.ds_words.specs.Lines.{IsUnbroken}
+use Rattle.ds_script.specs.Streams.{CallsLead}
+use Rattle.ds_script.specs.Taking.{reached, written}
+use Rattle.ds_script.specs.declared.fault.ReplayFault.{ReplayFault}
+use Rattle.ds_script.proofs.ProgressLemmas.{where_known}
+use Rattle.ds_script.proofs.CauseLemmas.{leads_more, run_cause}
+use Rattle.ds_script.proofs.EndLemmas.{Stopped, come_none, come_turn, come_end, come_stop, come_over}
+use Rattle.ds_script.proofs.taking.Replay.run.Goals as goal
+
+pub loop-self-init : goal.loop-self-init
+loop-self-init g c =
+    let s = c.requires.start in
+    let from = g.R.Source.remaining c.args.reader.now in
+    let had = written g.W.Sink c.args.self.now in
+    let none : c.args.lines.now.rest ≡ [] = ap (λ l. l.rest) s.nothing in
+    record {
+      come = come_none from had (reached c.args.self.now) c.args.lines.now.rest s.opened s.waiting s.lines s.bad none;
+      unbroken = subst IsUnbroken (sym none) (All-nil (λ (x : ℕ). x ≢ 10));
+      count = s.lines ∙ sym (ap (λ l. l.count) s.nothing);
+      led = subst (λ (n : ℕ). CallsLead g.R.Source.reads n c.args.reader.now c.args.reader.now) (sym (ap (λ l. l.reads) s.nothing)) refl;
+      same = refl;
+    }
+
+pub returns-in_err-more-clause-err : goal.returns-in_err-more-clause-err
+returns-in_err-more-clause-err g c =
+    let i = c.loop-self.invariant in
+    let exit = err_from_is_err_and c.from_residual.result c.from_residual.ensures.1 in
+    let from = g.R.Source.remaining c.args.reader.now in
+    let mid = g.R.Source.remaining c.loop-self.reader in
+    let to = g.R.Source.remaining c.take_turn.new.reader in
+    let a = written g.W.Sink c.args.self.now in
+    let b = written g.W.Sink c.loop-self.self in
+    let d = written g.W.Sink c.take_turn.new.self in
+    let policy = c.args.self.now.bad_lines in
+    let output = c.take_turn.new.self.output.items in
+    let fault = c.in_err-more.field-0.0 in
+    where_known (λ (fault : ReplayFault). Stopped policy fault from to a d output) c.from_residual.result exit.0 fault exit.1 exit.2
+    (come_stop fault from mid to a b d policy (reached c.loop-self.self) c.loop-self.lines.rest output i.come i.unbroken (c.in_err-more.ensures).turns.1)
+
+pub returns-in_err-more-clause-cause : goal.returns-in_err-more-clause-cause
+returns-in_err-more-clause-cause g c =
+    let exit = err_from_is_err_and c.from_residual.result c.from_residual.ensures.1 in
+    rw (exit.1, exit.2) (run_cause g.R.Source g.W.Sink c.in_err-more.field-0.0 c.args.reader.now c.take_turn.new.reader c.take_turn.new.self.writer.now (c.in_err-more.ensures).turns.0)
+
+pub returns-then-not-more-clause-ok : goal.returns-then-not-more-clause-ok
+returns-then-not-more-clause-ok g c =
+    let i = c.loop-self.invariant in
+    let from = g.R.Source.remaining c.args.reader.now in
+    let mid = g.R.Source.remaining c.loop-self.reader in
+    let to = g.R.Source.remaining c.take_turn.new.reader in
+    let a = written g.W.Sink c.args.self.now in
+    let b = written g.W.Sink c.loop-self.self in
+    let d = written g.W.Sink c.take_turn.new.self in
+    let last : c.in_ok-more.more ≡ false = search rules in
+    come_end from mid to a b d c.args.self.now.bad_lines (reached c.loop-self.self) (reached c.take_turn.new.self) c.loop-self.lines.rest c.take_turn.new.lines.rest c.in_ok-more.more last i.come i.unbroken (c.in_ok-more.ensures).turns.1
+
+pub loop-self-preserved : goal.loop-self-preserved
+loop-self-preserved g c =
+    let i = c.loop-self.invariant in
+    let more : c.in_ok-more.more ≡ true = search rules in
+    let from = g.R.Source.remaining c.args.reader.now in
+    let mid = g.R.Source.remaining c.loop-self.reader in
+    let to = g.R.Source.remaining c.take_turn.new.reader in
+    let a = written g.W.Sink c.args.self.now in
+    let b = written g.W.Sink c.loop-self.self in
+    let d = written g.W.Sink c.take_turn.new.self in
+    let e = c.in_ok-more.ensures in
+    let t = come_turn from mid to a b d c.args.self.now.bad_lines (reached c.loop-self.self) (reached c.take_turn.new.self) c.loop-self.lines.rest c.take_turn.new.lines.rest c.in_ok-more.more more i.come e.turns.1 in
+    let next = e.more more in
+    record {
+      come = t.0;
+      unbroken = t.1;
+      count = next.count;
+      led = subst (λ (n : ℕ). CallsLead g.R.Source.reads n c.args.reader.now c.take_turn.new.reader) (sym next.reads) (c.loop-self.reader, i.led, e.turns.0);
+      same = e.same ∙ i.same;
+    }
+
+pub returns-clause-err : goal.returns-clause-err
+returns-clause-err g c =
+    let i = c.loop-self.invariant in
+    let from = g.R.Source.remaining c.args.reader.now in
+    let to = g.R.Source.remaining c.loop-self.reader in
+    let a = written g.W.Sink c.args.self.now in
+    let b = written g.W.Sink c.loop-self.self in
+    come_over from to a b c.args.self.now.bad_lines (reached c.loop-self.self) c.loop-self.lines.rest i.come i.unbroken
+
+pub returns-clause-cause : goal.returns-clause-cause
+returns-clause-cause g c = inr (c.loop-self.lines.reads, c.may_read.ensures.all c.loop-self-test.false, c.loop-self.invariant.led)

@@ -1,0 +1,19 @@
+-- What is written where a line is bad.
+use Rattle.std.specs.Prelude.{◌≡◌, ℕ, List, [], ◌++◌, Result, MatchResult}
+use Rattle.std.specs.Io.KnownBytes.{Appends}
+use Rattle.ds_script.specs.declared.fault.ReplayFault.{ReplayFault}
+use Rattle.ds_script.specs.declared.streams.Sink.{Ghosts as Writer}
+use Rattle.ds_script.specs.Replay.{badline}
+use Rattle.ds_script.specs.Progress.{EndsAtBad, TellsBad}
+use Rattle.ds_script.specs.Causes.{HasWriteCause}
+
+-- The line ends the script: the answers that waited are written, from `old` to `new`, and this is the fault.
+abbrev pub EndsFor : {W : Type 0} → Writer W → ReplayFault → (number place : ℕ) → (from to : W) → (old new : List ℕ) → Type 0
+EndsFor w fault number place from to old new =
+    HasWriteCause w fault to × EndsAtBad fault number place (w.contents from) (w.contents to) old new
+
+-- The line is passed over: its answer is written behind those that waited; or why it isn't.
+abbrev pub PassesOver : {W T : Type 0} → Writer W → (number place : ℕ) → (from to : W) → (old new : List ℕ) → Result T ReplayFault → Type 0
+PassesOver w number place from to old new result =
+    MatchResult result (λ _. Appends (w.contents from) (w.contents to) (old ++ badline number place) × (new ≡ []))
+    (λ fault. HasWriteCause w fault to × TellsBad fault number place (w.contents from) (w.contents to) old new)
