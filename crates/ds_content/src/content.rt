@@ -18,7 +18,7 @@ ghost use Rattle.ds_names.specs.Limits.{last_place};
 use ds_entry::Change;
 use ds_feed::{Cursor, Journal, OpenFault};
 use ds_held::{Held, Limits};
-use ds_index::Labelled;
+use ds_index::Indexed;
 use ds_names::{Generation, Key, Name};
 use ds_watch::{Masks, Subscriptions};
 use std::alloc::Global;
@@ -43,7 +43,7 @@ pub use showing::Shown;
 #[derive(Drop)]
 pub struct Content {
     alloc: Global,
-    held: Labelled<Masks>,
+    held: Indexed<Masks>,
     journal: Journal,
     stamp: u64,
     subscriptions: Subscriptions,
@@ -78,7 +78,7 @@ impl Content {
         let journal = Journal::new(alloc, incarnation, first, ring)?;
         Ok(Content {
             alloc,
-            held: Labelled::bounded(alloc, limits),
+            held: Indexed::bounded(alloc, limits),
             journal,
             stamp: first,
             subscriptions: Subscriptions::new(subs as usize),
@@ -93,7 +93,7 @@ impl Content {
         let limits = self.held.held().limits();
         let _cursor = self.journal.cursor();
         self.journal.restart(incarnation);
-        self.held = Labelled::bounded(self.alloc, limits);
+        self.held = Indexed::bounded(self.alloc, limits);
         self.stamp = self.journal.first();
         self.subscriptions = Subscriptions::new(limits.subs() as usize);
     }

@@ -1,3 +1,3 @@
 pub mod NamedLemmas
 pub mod IndexedLemmas
-pub mod LabelledLemmas
+pub mod HolderLemmas

@@ -5,7 +5,7 @@
 #![tactic(auto)]
 
 mod index;
-mod labelled;
+mod indexed;
 mod named;
 
-pub use labelled::Labelled;
+pub use indexed::Indexed;

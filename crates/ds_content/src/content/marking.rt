@@ -14,14 +14,14 @@ ghost use Rattle.ds_pattern.specs.Under.{is_under};
 ghost use Rattle.ds_entry.specs.Item.{passes};
 
 use ds_held::Held;
-use ds_index::Labelled;
+use ds_index::Indexed;
 use ds_names::NoRoom;
 use ds_pattern::{Asker, Filter};
 use ds_watch::Masks;
 use std::alloc::Global;
 
 // The masks beside the floor at the index.
-fn floor_masks(held: &Labelled<Masks>, index: usize) -> Option<Masks>
+fn floor_masks(held: &Indexed<Masks>, index: usize) -> Option<Masks>
     ensures here { (f : Floor) → slice_get (held_floors held.now.held) index ≡ Some f → result ≡ floor_mark_for held.now f.owner }
     ensures none { slice_get (held_floors held.now.held) index ≡ None → result ≡ None }
 {
@@ -32,7 +32,7 @@ fn floor_masks(held: &Labelled<Masks>, index: usize) -> Option<Masks>
 }
 
 // The masks beside the change at the index.
-fn change_masks(held: &Labelled<Masks>, index: usize) -> Option<Masks>
+fn change_masks(held: &Indexed<Masks>, index: usize) -> Option<Masks>
     ensures here { (c : ChangeRecord) → slice_get (held_changes held.now.held) index ≡ Some c → result ≡ mark_for held.now c.key }
     ensures none { slice_get (held_changes held.now.held) index ≡ None → result ≡ None }
 {
@@ -43,7 +43,7 @@ fn change_masks(held: &Labelled<Masks>, index: usize) -> Option<Masks>
 }
 
 /// The masks beside the item at the index, floors first and then changes in key order.
-pub(super) fn masks_of(held: &Labelled<Masks>, index: usize) -> Option<Masks>
+pub(super) fn masks_of(held: &Indexed<Masks>, index: usize) -> Option<Masks>
     ensures here { (i : items.Item) → slice_get (held_items held.now.held) index ≡ Some i → result ≡ masks_at held.now i }
     ensures none { slice_get (held_items held.now.held) index ≡ None → result ≡ None }
 {
@@ -56,7 +56,7 @@ pub(super) fn masks_of(held: &Labelled<Masks>, index: usize) -> Option<Masks>
 }
 
 // Other masks for the item at the index.
-fn set_masks(held: &mut Labelled<Masks>, index: usize, masks: Masks)
+fn set_masks(held: &mut Indexed<Masks>, index: usize, masks: Masks)
     ensures { IsSet held.old held.new index masks }
 {
     let floors = held.floor_count();
@@ -68,7 +68,7 @@ fn set_masks(held: &mut Labelled<Masks>, index: usize, masks: Masks)
 }
 
 // The item at the index was shown to the subscription with this number.
-fn show_one(held: &mut Labelled<Masks>, index: usize, sub: usize)
+fn show_one(held: &mut Indexed<Masks>, index: usize, sub: usize)
     requires { sub < 128 }
     ensures { IsRemarked held.old held.new index (shown_to sub) }
 {
@@ -78,7 +78,7 @@ fn show_one(held: &mut Labelled<Masks>, index: usize, sub: usize)
 }
 
 /// The first so many items were shown to the subscription with this number. It takes no memory.
-pub(super) fn show_first(held: &mut Labelled<Masks>, count: usize, sub: usize)
+pub(super) fn show_first(held: &mut Indexed<Masks>, count: usize, sub: usize)
     requires { sub < 128 }
     ensures { AreRemarked held.old held.new count (λ k. shown_to sub) }
 {
@@ -88,7 +88,7 @@ pub(super) fn show_first(held: &mut Labelled<Masks>, count: usize, sub: usize)
 }
 
 // The subscription with this number was made, and the item at the index is under its query or not.
-fn make_one(held: &mut Labelled<Masks>, index: usize, sub: usize, is_under: bool, initial: bool)
+fn make_one(held: &mut Indexed<Masks>, index: usize, sub: usize, is_under: bool, initial: bool)
     requires { sub < 128 }
     ensures { IsRemarked held.old held.new index (made_at sub is_under initial) }
 {
@@ -99,7 +99,7 @@ fn make_one(held: &mut Labelled<Masks>, index: usize, sub: usize, is_under: bool
 
 /// The subscription with this number was made, where the flags say which held items are under its query. It takes no
 /// memory.
-pub(super) fn make_all(held: &mut Labelled<Masks>, sub: usize, flags: &[bool], initial: bool)
+pub(super) fn make_all(held: &mut Indexed<Masks>, sub: usize, flags: &[bool], initial: bool)
     requires { sub < 128 }
     ensures { AreRemarked held.old held.new (length flags.now) (λ k. made_at sub (slice_index_or flags.now k false) initial) }
 {

@@ -15,7 +15,7 @@ use crate::content::Content;
 use crate::content::copying::copy_at;
 use crate::content::marking::{masks_of, show_first};
 use ds_entry::Items;
-use ds_index::Labelled;
+use ds_index::Indexed;
 use ds_names::NoRoom;
 use ds_watch::Masks;
 use std::alloc::Global;
@@ -32,7 +32,7 @@ pub struct Shown {
 fn show_unseen(
     alloc: Global,
     items: &mut Items,
-    held: &Labelled<Masks>,
+    held: &Indexed<Masks>,
     index: usize,
     sub: usize,
 ) -> Result<bool, NoRoom>
@@ -59,7 +59,7 @@ fn show_unseen(
 // The first `max` held items that are to be shown to the subscription with this number.
 fn first_unseen(
     alloc: Global,
-    held: &Labelled<Masks>,
+    held: &Indexed<Masks>,
     sub: usize,
     max: usize,
 ) -> Result<Shown, NoRoom>

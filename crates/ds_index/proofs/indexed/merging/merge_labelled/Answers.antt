@@ -3,8 +3,8 @@ use Rattle.ds_names.specs.declared.key.Key.{Key}
 use Rattle.ds_names.specs.Kind.{is_label}
 use Rattle.ds_held.specs.Held.{Holding}
 use Rattle.ds_index.specs.Indexed.{IsIndexed}
-use Rattle.ds_index.proofs.LabelledLemmas.{unlabelled_kept}
-use Rattle.ds_index.proofs.labelled.merging.merge_labelled.Goals as goal
+use Rattle.ds_index.proofs.HolderLemmas.{unlabelled_kept}
+use Rattle.ds_index.proofs.indexed.merging.merge_labelled.Goals as goal
 
 pub returns-then-not-is_label-clause-indexed : goal.returns-then-not-is_label-clause-indexed
 returns-then-not-is_label-clause-indexed g c =

@@ -28,12 +28,12 @@ mod merging;
 
 /// What a [`Marked`] holds, with the endpoint of each held label.
 #[derive(Drop)]
-pub struct Labelled<M> {
+pub struct Indexed<M> {
     held: Marked<M>,
     index: Index,
 }
 
-impl<M> Model for Labelled<M> {
+impl<M> Model for Indexed<M> {
     ghost use Rattle.std.specs.FinMap as map;
     ghost use Rattle.std.specs.Coded.{code_by, coded×};
     ghost use Rattle.ds_names.specs.Key.{name_cmp, key_cmp};
@@ -53,12 +53,12 @@ impl<M> Model for Labelled<M> {
     ghost invariant = { λ h. IsIndexed h.held.held.changes h.index.names };
 }
 
-impl<M: Drop> Labelled<M> {
+impl<M: Drop> Indexed<M> {
     /// A holder of nothing, with these limits. It takes no memory.
-    pub fn bounded(alloc: Global, limits: Limits) -> Labelled<M>
+    pub fn bounded(alloc: Global, limits: Limits) -> Indexed<M>
         ensures { result ≡ nothing_marked limits }
     {
-        Labelled {
+        Indexed {
             held: Marked::bounded(alloc, limits),
             index: Index::new(alloc),
         }

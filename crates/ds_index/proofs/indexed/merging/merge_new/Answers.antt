@@ -7,7 +7,7 @@ use Rattle.ds_held.specs.Merge.{after_merge}
 use Rattle.ds_index.specs.Named.{named_at}
 use Rattle.ds_index.specs.Indexed.{IsIndexed}
 use Rattle.ds_index.proofs.IndexedLemmas.{same_pair, new_indexed}
-use Rattle.ds_index.proofs.labelled.merging.merge_new.Goals as goal
+use Rattle.ds_index.proofs.indexed.merging.merge_new.Goals as goal
 
 pub returns-in-Ok-Taken-clause-indexed : goal.returns-in-Ok-Taken-clause-indexed
 returns-in-Ok-Taken-clause-indexed g c =

@@ -5,7 +5,7 @@ use Rattle.ds_entry.specs.Change.{ChangeRecord, IsChange}
 use Rattle.ds_held.specs.Held.{Holding, held_changes}
 use Rattle.ds_join.specs.Label.{names_endpoint}
 use Rattle.ds_index.proofs.IndexedLemmas.{name_found}
-use Rattle.ds_index.proofs.labelled.Labelled.name_of.Goals as goal
+use Rattle.ds_index.proofs.indexed.Indexed.name_of.Goals as goal
 
 pub returns : goal.returns
 returns g c =

@@ -8,7 +8,7 @@ use Rattle.ds_held.specs.Merge.{after_merge}
 use Rattle.ds_index.specs.Named.{named_at}
 use Rattle.ds_index.specs.Indexed.{endpoint_left, IsIndexed}
 use Rattle.ds_index.proofs.IndexedLemmas.{same_pair, over_indexed}
-use Rattle.ds_index.proofs.labelled.merging.merge_over.Goals as goal
+use Rattle.ds_index.proofs.indexed.merging.merge_over.Goals as goal
 
 pub returns-in-Ok-Taken-clause-indexed : goal.returns-in-Ok-Taken-clause-indexed
 returns-in-Ok-Taken-clause-indexed g c =

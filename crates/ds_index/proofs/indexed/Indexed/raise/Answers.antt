@@ -1,8 +1,8 @@
 use Rattle.std.proofs.Common.{sym, subst}
 use Rattle.ds_held.specs.Held.{Holding}
 use Rattle.ds_index.specs.Indexed.{IsIndexed}
-use Rattle.ds_index.proofs.LabelledLemmas.{raised_kept}
-use Rattle.ds_index.proofs.labelled.Labelled.raise.Goals as goal
+use Rattle.ds_index.proofs.HolderLemmas.{raised_kept}
+use Rattle.ds_index.proofs.indexed.Indexed.raise.Goals as goal
 
 pub invariant_of-self : goal.invariant_of-self
 invariant_of-self g c =
