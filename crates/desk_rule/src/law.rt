@@ -1,7 +1,8 @@
 //! The laws of the rule, by its definitions alone.
 
 ghost use Rattle.history.specs.History.{Stepped};
-ghost use Rattle.desk_rule.specs.Laws.{BitsAreOwed, HistoriesAgree, NoticesAgree, NoticesBalance, OneSeatHolds, PostedBitsStay, PostsAreOwed, WordsFollow};
+ghost use Rattle.desk_rule.specs.Laws.{BitsAreOwed, HistoriesAgree, NoticesAgree, NoticesBalance};
+ghost use Rattle.desk_rule.specs.Laws.{OneSeatHolds, PostedBitsStay, PostsAreOwed, WordsFollow};
 
 use history::Machine;
 

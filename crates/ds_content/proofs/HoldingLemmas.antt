@@ -134,16 +134,16 @@ taken_new count most c (Err (Clash v)) room a = a
 taken_new count most c (Err Full) room a = let l : count < most = room in let e : count ≡ most = a in absurd (omega (arith, l, e))
 taken_new count most c (Err NoRoom) room a = tt
 
-taken_by : (o : Option ChangeRecord) (count most : ℕ) (c : ChangeRecord) (r : Result Merge JoinFault) → HasRoom o count most c → AnswersFor o false count most c r → IsTakenOrNoRoom r
-taken_by None count most c r room a = taken_new count most c r room a
-taken_by (Some h) count most c r room a = taken_own h c r room a
+taken_or_full : (o : Option ChangeRecord) (count most : ℕ) (c : ChangeRecord) (r : Result Merge JoinFault) → HasRoom o count most c → AnswersFor o false count most c r → IsTakenOrNoRoom r
+taken_or_full None count most c r room a = taken_new count most c r room a
+taken_or_full (Some h) count most c r room a = taken_own h c r room a
 
 pub change_taken : (h : Holding) (sound : IsSound h) (c : ChangeRecord) (most : ℕ) (r : Result Merge JoinFault) → most ≡ h.limits.keys → HasRoom (held_at (held_items h) c.key) (length (changes_in (held_items h))) most c → is_void (held_items h) c ≡ false → MergeAnswer h c r → IsTakenOrNoRoom r
 change_taken h sound c most r e room kept answer =
     let void : is_void_at h c ≡ false = sym (void-is h sound c) ∙ kept in
     let here : HasRoom (held_for h c.key) (held_count h) h.limits.keys c =
     subst (λ n. HasRoom (held_for h c.key) (held_count h) n c) e (subst (λ n. HasRoom (held_for h c.key) n most c) (changes_counted h) (subst (λ o. HasRoom o (length (changes_in (held_items h))) most c) (held_at-is h sound c.key) room)) in
-    taken_by (held_for h c.key) (held_count h) h.limits.keys c r here (subst (λ b. AnswersFor (held_for h c.key) b (held_count h) h.limits.keys c r) void answer)
+    taken_or_full (held_for h c.key) (held_count h) h.limits.keys c r here (subst (λ b. AnswersFor (held_for h c.key) b (held_count h) h.limits.keys c r) void answer)
 
 -- only a change of a key that isn't held wants memory
 not_room : (r : Result Merge JoinFault) → r ≡ Err NoRoom → r ≡ Err NotOwner → ⊥

@@ -1,6 +1,8 @@
 pub mod Content
 pub mod Followed
 pub mod Stands
+pub mod Owed
+pub mod Given
 pub mod Standing
 pub mod Taken
 pub mod Kept

@@ -22,6 +22,10 @@ more_after keep left = cond keep (cond (left == 0) None (Some (left - 1))) (Some
 abbrev pub given_change : Bool → ℕ → ChangeRecord → List ChangeRecord
 given_change keep left c = cond (keep && not (left == 0)) (c ∷ []) []
 
+-- the same as items
+abbrev pub given_items : Bool → ℕ → ChangeRecord → List Item
+given_items keep left c = map change_item (given_change keep left c)
+
 -- of so many changes those under the scope were added to the items
 pub record ChangesArePaged (keep : Key → Bool) (changes : List ChangeRecord) (seen max left : ℕ) (start items : List Item) : Type 0 where
   pub items_are : items ≡ start ++ map change_item (admitted keep (take seen changes))

@@ -1,7 +1,7 @@
 -- What is to be shown to a subscription first.
-use Rattle.std.specs.Prelude.{◌≡◌, ℕ, ◌≤◌, ◌⊎◌, Bool, true, false, List, [], ◌∷◌, length, take, filter, slice_index_or, Some, None}
+use Rattle.std.specs.Prelude.{◌≡◌, ℕ, ◌≤◌, ◌⊎◌, Bool, true, false, List, [], ◌∷◌, ◌++◌, length, take, filter, slice_get, slice_index_or, Some, None}
 use Rattle.ds_entry.specs.declared.item.Item.{Item}
-use Rattle.ds_held.specs.Held.{held_items}
+use Rattle.ds_held.specs.Held.{Holding, held_items}
 use Rattle.ds_marked.specs.Marked.{MarkedHolding}
 use Rattle.ds_watch.specs.Followed.{Followed}
 use Rattle.ds_watch.specs.declared.masks.Masks.{Masks}
@@ -19,6 +19,10 @@ flagged (false ∷ flags) (i ∷ items) = flagged flags items
 abbrev pub AreUnseen : ContentRecord → ℕ → List Item → ℕ → Type 0
 AreUnseen content sub items passed = (f : Followed) → slice_index_or content.subscriptions sub None ≡ Some f → items ≡ flagged f.unseen (take passed content.held)
 
+-- the held item at the index, where there is one, was added where it passes the test
+abbrev pub IsItemAdded : Holding → ℕ → (Item → Bool) → List Item → List Item → Type 0
+IsItemAdded held index test old new = (i : Item) → slice_get (held_items held) index ≡ Some i → new ≡ old ++ filter test (i ∷ [])
+
 -- the item is still to be shown to the subscription at the place
 abbrev pub is_to_show : MarkedHolding Masks → ℕ → Item → Bool
 is_to_show h sub i = slice_index_or (unseen_at h i) sub false
@@ -28,3 +32,7 @@ pub record AreFirst (h : MarkedHolding Masks) (sub max : ℕ) (items : List Item
   pub shown : items ≡ filter (is_to_show h sub) (take passed (held_items h.held))
   pub few : length items ≤ max
   pub enough : (length items ≡ max) ⊎ (length (held_items h.held) ≤ passed)
+
+-- the held item at the index is one that is still to be shown to it
+abbrev pub IsToShowAt : MarkedHolding Masks → ℕ → ℕ → Type 0
+IsToShowAt h sub index = (i : Item) × (slice_get (held_items h.held) index ≡ Some i) × (is_to_show h sub i ≡ true)

@@ -1,8 +1,9 @@
 -- Which states of the machine a content stands for.
-use Rattle.std.specs.Prelude.{◌≡◌, map}
+use Rattle.std.specs.Prelude.{◌≡◌, ℕ, Some, map}
 use Rattle.std.specs.Option.{option_map}
 use Rattle.ds_feed.specs.Kept.{Keeps}
-use Rattle.ds_machine.specs.State.{State, held as held_in}
+use Rattle.ds_machine.specs.State.{State, held as held_in, subscription_at}
+use Rattle.ds_machine.specs.Subscription.{Subscription}
 use Rattle.ds_machine.specs.Reached.{IsReached}
 use Rattle.ds_machine.specs.Within.{IsWithin}
 use Rattle.ds_content.specs.Content.{ContentRecord}
@@ -18,3 +19,15 @@ pub record ContentStands (content : ContentRecord) (state : State) : Type 0 wher
   -- the state is one that the machine comes to, within its limits
   pub reached : IsReached state
   pub within : IsWithin state
+
+-- it holds in each state that the content stands for
+abbrev pub InEachState : ContentRecord → (State → Type 0) → Type 0
+InEachState content holds = (s : State) → ContentStands content s → holds s
+
+-- it holds there of the subscription with this number, where there is one
+abbrev pub InEachWith : ContentRecord → ℕ → (State → Subscription → Type 0) → Type 0
+InEachWith content sub holds = (s : State) (x : Subscription) → ContentStands content s → subscription_at s sub ≡ Some x → holds s x
+
+-- what becomes so of each state that the old content stands for is what the new content stands for
+abbrev pub StandsAfter : ContentRecord → (State → State) → ContentRecord → Type 0
+StandsAfter old becomes new = InEachState old (λ s. ContentStands new (becomes s))

@@ -1,8 +1,10 @@
 //! Laws of what stands for all that a store accepted, and of what follows for whoever holds the top of it.
 
-ghost use Rattle.ds_convergence.specs.WholeLaws.{SnapshotIsWhole, SinceExtends, SincesExtend, NothingIsWhole, MoreIsWhole, EarlierIsWhole, NarrowerIsWhole, WholeStays, FeedsGrow};
+ghost use Rattle.ds_convergence.specs.WholeLaws.{SnapshotIsWhole, SinceExtends, SincesExtend, NothingIsWhole, MoreIsWhole};
+ghost use Rattle.ds_convergence.specs.WholeLaws.{EarlierIsWhole, NarrowerIsWhole, WholeStays, FeedsGrow};
 ghost use Rattle.ds_convergence.specs.PageLaws.{PagesAreWhole};
-ghost use Rattle.ds_convergence.specs.CatchUp.{HoldsTheStores, HoldsAlike, HoldsATop, HoldsAtLeast, AnyHolderHoldsTheStores, MapHoldsItsQuery, GivenIsSent};
+ghost use Rattle.ds_convergence.specs.CatchUp.{HoldsTheStores, HoldsAlike, HoldsATop, HoldsAtLeast};
+ghost use Rattle.ds_convergence.specs.CatchUp.{AnyHolderHoldsTheStores, MapHoldsItsQuery, GivenIsSent};
 ghost use Rattle.ds_convergence.specs.Taking.{HolderTakes, NewMapIsMap, MapsTake};
 ghost use Rattle.ds_convergence.specs.Following.{FollowsFromSnapshot, FollowsFromPages};
 ghost use Rattle.ds_convergence.specs.Agreement.{HoldersAgree, TopUnderQuery, JoinOfHolders, JoinUnderQuery, MoreIsHeld};

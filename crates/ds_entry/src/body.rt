@@ -1,7 +1,8 @@
 //! What a change says of its key.
 
 ghost use Rattle.std.specs.Prelude.{◌≡◌, ◌<◌, ◌^◌, ◌↔◌, IsTrue, IfOk, IsOk};
-ghost use Rattle.ds_entry.specs.Change.{kind_of, is_of_kind, is_label_body, IsOfKind, IsLabelBody, IsValue, IsBody, IsInPlace, IsBodyInPlace};
+ghost use Rattle.ds_entry.specs.Change.{kind_of, is_of_kind, is_label_body, IsOfKind, IsLabelBody};
+ghost use Rattle.ds_entry.specs.Change.{IsValue, IsBody, IsInPlace, IsBodyInPlace};
 ghost use Rattle.ds_entry.specs.Left.{value_in};
 ghost use Rattle.std.specs.Option.{option_copied};
 

@@ -1,8 +1,9 @@
 //! Changes.
 
-ghost use Rattle.std.specs.Prelude.{◌≡◌, ◌<◌, ◌≤◌, ◌^◌, ◌↔◌, IsTrue, IsOk, IfOk, IfErr, MatchOption};
+ghost use Rattle.std.specs.Prelude.{◌≡◌, ◌<◌, ◌≤◌, ◌^◌, ◌↔◌, IsTrue, IsOk, IfOk, IfErr, IfNone, IfSome};
 ghost use Rattle.ds_names.specs.Name.{IsName, rs_name};
-ghost use Rattle.ds_entry.specs.Change.{ChangeRecord, change_of, IsChange, IsLabelChange, IsLabelBody, IsBelowSweeps, IsOfKind, IsBody, IsBodyInPlace};
+ghost use Rattle.ds_entry.specs.Change.{ChangeRecord, change_of, IsChange, IsLabelChange, IsLabelBody};
+ghost use Rattle.ds_entry.specs.Change.{IsBelowSweeps, IsOfKind, IsBody, IsBodyInPlace};
 ghost use Rattle.ds_entry.specs.ChangeFault.{IsEntryFault};
 
 use crate::body::Body;
@@ -124,7 +125,8 @@ impl Change {
 
 // The first cause for which the parts make no change.
 fn fault_of(key: &Key, owner: &Name, version: &Version, body: &Body) -> Option<EntryFault>
-    ensures { MatchOption result (IsChange (change_of key.now owner.now version.now body.now)) (λ fault. IsEntryFault fault (change_of key.now owner.now version.now body.now)) }
+    ensures none { IfNone result (IsChange (change_of key.now owner.now version.now body.now)) }
+    ensures fault { IfSome result (λ fault. IsEntryFault fault (change_of key.now owner.now version.now body.now)) }
 {
     let is_label = is_label_change(key, owner, version, body);
     let is_below = is_below_sweeps(version, body);

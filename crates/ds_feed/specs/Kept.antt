@@ -1,10 +1,11 @@
 -- What a journal keeps of a feed.
-use Rattle.std.specs.Prelude.{◌≡◌, ℕ, ◌-◌, ◌<◌, ◌≤◌, List, length, drop}
+use Rattle.std.specs.Prelude.{◌≡◌, ℕ, ◌-◌, ◌<◌, ◌≤◌, List, None, length, drop}
 use Rattle.ds_entry.specs.declared.item.Item.{Item}
 use Rattle.ds_feed.specs.declared.cursor.Cursor.{Cursor}
 use Rattle.ds_feed.specs.declared.journal.OpenFault.{OpenFault}
 use Rattle.ds_feed.specs.declared.journal.OpenFault.TheVariants.{BadRing, BadFirst, NoRoom}
-use Rattle.ds_feed.specs.Feed.{Feed, position}
+use Rattle.ds_feed.specs.Feed.{Feed, position, from}
+use Rattle.ds_feed.specs.Since.{fault_at}
 use Rattle.ds_names.specs.Limits.{last_place}
 
 -- what contracts see of a journal
@@ -49,3 +50,7 @@ abbrev pub IsJournalFault : OpenFault → ℕ → ℕ → Type 0
 IsJournalFault BadRing first ring = ¬ IsRing ring
 IsJournalFault BadFirst first ring = IsRing ring × (last_place < first)
 IsJournalFault NoRoom first ring = IsRing ring × (first ≤ last_place)
+
+-- nothing stands against the cursor, and what took effect from it on are the items that are kept from this index on
+abbrev pub IsStart : Kept → Feed → Cursor → ℕ → Type 0
+IsStart j f at i = (fault_at f at ≡ None) × (drop i j.items ≡ from f at.position)

@@ -4,7 +4,7 @@ ghost use Rattle.std.specs.Prelude.{◌≡◌, ◌≤◌, ◌<◌, ◌+◌, ◌+
 ghost use Rattle.ds_entry.specs.Item.{passes};
 ghost use Rattle.ds_feed.specs.Feed.{Feed, opening_feed, restarted, accepts, from, all_keys};
 ghost use Rattle.ds_feed.specs.Since.{place_fault, fault_at, IsGiven, IsSinceRefused};
-ghost use Rattle.ds_feed.specs.Kept.{Keeps, IsJournal, cursor_of, IsRing, IsJournalFault};
+ghost use Rattle.ds_feed.specs.Kept.{Keeps, IsJournal, IsStart, cursor_of, IsRing, IsJournalFault};
 ghost use Rattle.ds_names.specs.Limits.{last_place};
 
 use crate::cursor::Cursor;
@@ -194,7 +194,7 @@ impl Journal {
 
     // The index in the ring of the item that the cursor stands before.
     fn start(&self, cursor: Cursor) -> Result<usize, SinceFault>
-        ensures found { (f : Feed) → Keeps self.now f → IfOk result (λ i. (fault_at f cursor ≡ None) × (drop i self.now.items ≡ from f cursor.position)) }
+        ensures found { (f : Feed) → Keeps self.now f → IfOk result (IsStart self.now f cursor) }
         ensures within { IfOk result (λ i. i ≤ length self.now.items) }
         ensures room { IfOk result (λ i. cursor.position + length self.now.items ≤ last_place + i) }
         ensures refused { (f : Feed) → Keeps self.now f → IfErr result (λ fault. IsSinceRefused f cursor fault) }

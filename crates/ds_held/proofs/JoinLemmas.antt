@@ -15,7 +15,7 @@ use Rattle.ds_join.specs.declared.merge.Stop.{Stop}
 use Rattle.ds_join.specs.ItemTop.{IsTop}
 use Rattle.ds_join.proofs.ItemTopLemmas.{top_of_top}
 use Rattle.ds_held.specs.Held.{Holding, held_items, IsSound}
-use Rattle.ds_held.specs.Join.{ItemAnswer, after_item, IsItemRefused, AreMerged, IsJoinStopped}
+use Rattle.ds_held.specs.Join.{ItemAnswer, after_item, IsItemRefused, AreMerged, IsJoinStopped, JoinStopsBehind}
 use Rattle.ds_held.proofs.HeldLemmas.{held_is_top}
 use Rattle.ds_held.proofs.MergeLemmas.{merge_joins}
 use Rattle.ds_held.proofs.RaiseLemmas.{raise_joins}
@@ -133,6 +133,10 @@ pub merged_behind : {A : Type 0} (r : Result A Stop) (old : Holding) (xs ys : Li
 merged_behind (Ok a) old xs ys m new v w = merged_both old xs ys m new v w
 merged_behind (Err stop) old xs ys m new v w = tt
 
+pub stopped_behind : {A : Type 0} (r : Result A Stop) (ys : List Item) (m new : Holding) (n : ℕ) → IfErr r (JoinStopsBehind n m ys new) → (old : Holding) (xs : List Item) → AreMerged old xs m → n ≡ length xs → IfErr r (IsJoinStopped old (xs ++ ys) new)
+stopped_behind (Ok a) ys m new n s old xs w e = tt
+stopped_behind (Err stop) ys m new n s old xs w e = s old xs w e
+
 pub join_if_ok : {A : Type 0} (r : Result A Stop) (old : Holding) (items : List Item) (new : Holding) → IsSound old → OnOk r (AreMerged old items new) → OnOk r (IsTop (held_items new) (held_items old ++ items))
 join_if_ok (Ok a) old items new sound w = all_join old items new sound w
 join_if_ok (Err stop) old items new sound w = tt
@@ -140,3 +144,11 @@ join_if_ok (Err stop) old items new sound w = tt
 pub join_if_stopped : {A : Type 0} (r : Result A Stop) (old : Holding) (items : List Item) (new : Holding) → IsSound old → IfErr r (IsJoinStopped old items new) → IfErr r (λ (stop : Stop). IsTop (held_items new) (held_items old ++ take stop.done items))
 join_if_stopped (Ok a) old items new sound w = tt
 join_if_stopped (Err stop) old items new sound w = all_join old (take stop.done items) new sound w.merged
+
+all_sound : (old : Holding) (items : List Item) (new : Holding) → IsSound old → AreMerged old items new → IsSound new
+all_sound old [] new sound w = subst IsSound (sym w) sound
+all_sound old (i ∷ items) new sound w = all_sound (after_item old i (Ok w.0)) items new (item_sound old sound i w.0 w.1) w.2
+
+pub sound_behind : {A : Type 0} (r : Result A Stop) (old : Holding) (items : List Item) (new : Holding) → IsSound old → OnOk r (AreMerged old items new) → IfErr r (IsJoinStopped old items new) → IsSound new
+sound_behind (Ok a) old items new sound w s = all_sound old items new sound w
+sound_behind (Err stop) old items new sound w s = all_sound old (take stop.done items) new sound s.merged

@@ -1,5 +1,5 @@
 -- What joining with items does: each in turn is merged, or raised, as it stands.
-use Rattle.std.specs.Prelude.{◌≡◌, List, [], ◌∷◌, take, slice_get, Some, Result, Ok, Err}
+use Rattle.std.specs.Prelude.{◌≡◌, ℕ, List, [], ◌∷◌, ◌++◌, length, take, slice_get, Some, Result, Ok, Err}
 use Rattle.ds_entry.specs.declared.item.Item.{Item}
 use Rattle.ds_entry.specs.declared.item.Item.TheVariants.{Change as Changed, Floor as Floored}
 use Rattle.ds_join.specs.declared.merge.Merge.{Merge}
@@ -33,3 +33,7 @@ AreMerged old (i ∷ items) new = (answer : Merge) × ItemAnswer old i (Ok answe
 pub record IsJoinStopped (old : Holding) (items : List Item) (new : Holding) (stop : Stop) : Type 0 where
   pub merged : AreMerged old (take stop.done items) new
   pub refused : (next : Item) × (slice_get items stop.done ≡ Some next) × IsItemRefused new next stop.fault
+
+-- behind so many items of others, which came to what was held before these, the next one of all is refused
+abbrev pub JoinStopsBehind : ℕ → Holding → List Item → Holding → Stop → Type 0
+JoinStopsBehind before old items new stop = (start : Holding) (front : List Item) → AreMerged start front old → before ≡ length front → IsJoinStopped start (front ++ items) new stop

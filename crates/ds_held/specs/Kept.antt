@@ -1,10 +1,10 @@
 -- How lists of floors and changes are seen as a holding.
-use Rattle.std.specs.Prelude.{◌≡◌, if◌then◌else◌, ℕ, ◌<◌, ◌≤◌, List, [], ◌∷◌, map, filter, not, length, All, Result, Ok, Err, slice_set}
+use Rattle.std.specs.Prelude.{◌≡◌, if◌then◌else◌, ℕ, ◌<◌, ◌≤◌, List, [], ◌∷◌, map, filter, not, length, All, Option, Result, Ok, Err, slice_set}
 use Rattle.std.specs.List.{insert, HoldsAt}
 use Rattle.std.specs.List.Sorted.{IsPartitionPoint}
 use Rattle.std.specs.declared.cmp.Ordering.{Ordering}
 use Rattle.std.specs.declared.cmp.Ordering.TheVariants.{Less, Equal, Greater}
-use Rattle.std.specs.FinMap.{FinMap, from_entries, is_sorted}
+use Rattle.std.specs.FinMap.{FinMap, from_entries, get, is_sorted, len}
 use lib.Dec.{T}
 use Rattle.ds_names.specs.declared.key.Key.{Key}
 use Rattle.ds_names.specs.Key.{name_cmp, key_cmp}
@@ -18,7 +18,8 @@ use Rattle.ds_join.specs.declared.merge.Merge.TheVariants.{Taken, Known, Stale}
 use Rattle.ds_join.specs.declared.merge.JoinFault.{JoinFault}
 use Rattle.ds_join.specs.declared.merge.JoinFault.TheVariants.{NotOwner, Clash, Full, NoRoom}
 use Rattle.ds_held.specs.Limits.{LimitsRecord}
-use Rattle.ds_held.specs.Held.{Holding, IsSound}
+use Rattle.ds_held.specs.Held.{Holding, held_changes, held_for, IsSound}
+use Rattle.ds_held.specs.Raise.{AnswersFloor}
 
 -- each floor with its owner, and each change with its key
 abbrev pub owned : Floor → List ℕ × ℕ
@@ -114,3 +115,15 @@ module _ {M : Type 0} where
   marks_left f [] marks = []
   marks_left f (c ∷ cs) [] = []
   marks_left f (c ∷ cs) (m ∷ ms) = if voids f c then marks_left f cs ms else m ∷ marks_left f cs ms
+
+-- the answer to a floor where these floors are held
+abbrev pub FloorAnswer : List Floor → Floor → Result Merge JoinFault → Type 0
+FloorAnswer floors f answer = AnswersFloor (get (floors_map floors) f.owner) (len (floors_map floors)) f.generation answer
+
+-- a floor that is taken stands at its owner's place among the floors; after any other answer they are as before
+abbrev pub AreFloorsAfter : List Floor → Floor → Result Merge JoinFault → List Floor → Type 0
+AreFloorsAfter old f answer new = (place : Result ℕ ℕ) × IsFloorPlace old f.owner place × (new ≡ list_after old (put_at old place f) answer)
+
+-- what is found at a place is what is held for the key that has this place
+abbrev pub IsHeldAt : Holding → Result ℕ ℕ → Option ChangeRecord → Type 0
+IsHeldAt h place found = (key : Key) → IsPlace (held_changes h) key place → found ≡ held_for h key

@@ -5,3 +5,4 @@ pub mod Raise
 pub mod Join
 pub mod Kept
 pub mod Memory
+pub mod Coded

@@ -1,13 +1,13 @@
 //! Floors in the order of their owners' names.
 
-ghost use Rattle.std.specs.Prelude.{◌≡◌, ◌≤◌, ◌<◌, ℕ, Result, Ok, length, vec_len, slice_get, slice_index_or, slice_set};
-ghost use Rattle.std.specs.FinMap.{get, len};
+ghost use Rattle.std.specs.Prelude.{◌≡◌, ◌≤◌, ◌<◌, Ok, length, vec_len, slice_get, slice_index_or, slice_set};
+ghost use Rattle.std.specs.FinMap.{get};
 ghost use Rattle.std.specs.List.{insert};
 ghost use Rattle.ds_names.specs.Key.{name_cmp};
 ghost use Rattle.ds_held.specs.Held.{is_below};
-ghost use Rattle.ds_held.specs.Kept.{AreOwnersRising, IsFloorPlace, floors_map, list_after, put_at};
+ghost use Rattle.ds_held.specs.Kept.{AreFloorsAfter, AreOwnersRising, FloorAnswer, IsFloorPlace, floors_map, list_after};
 ghost use Rattle.ds_held.specs.Merge.{AnswersNew};
-ghost use Rattle.ds_held.specs.Raise.{AnswersFloor, AnswersHigher};
+ghost use Rattle.ds_held.specs.Raise.{AnswersHigher};
 
 use ds_entry::{Change, Floor};
 use ds_join::{JoinFault, Merge};
@@ -97,8 +97,8 @@ fn add(floors: &mut Vec<Floor>, i: usize, floor: Floor) -> Result<Merge, JoinFau
 pub(crate) fn raise(floors: &mut Vec<Floor>, floor: Floor) -> Result<Merge, JoinFault>
     requires rising { AreOwnersRising floors.old.items }
     requires few { length floors.old.items ≤ 64 }
-    ensures answer { AnswersFloor (get (floors_map floors.old.items) floor.owner) (len (floors_map floors.old.items)) floor.generation result }
-    ensures floors { (place : Result ℕ ℕ) × IsFloorPlace floors.old.items floor.owner place × (floors.new.items ≡ list_after floors.old.items (put_at floors.old.items place floor) result) }
+    ensures answer { FloorAnswer floors.old.items floor result }
+    ensures floors { AreFloorsAfter floors.old.items floor result floors.new.items }
 {
     match place_of(floors, &floor.owner) {
         Ok(i) => Ok(replace(floors, i, floor)),

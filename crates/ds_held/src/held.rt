@@ -8,7 +8,8 @@ ghost use Rattle.ds_entry.specs.declared.item.Item.TheVariants.{Change as Change
 ghost use Rattle.ds_join.specs.Reading.{comes_after};
 ghost use Rattle.ds_join.specs.ItemTop.{IsTop};
 ghost use Rattle.ds_join.specs.ItemJoin.{IsJoin};
-ghost use Rattle.ds_held.specs.Held.{held_changes, held_items, held_floors, held_for, held_count, floor_for, floor_count, is_void_at, nothing_held, IsSound};
+ghost use Rattle.ds_held.specs.Held.{held_changes, held_items, held_floors, held_for, held_count};
+ghost use Rattle.ds_held.specs.Held.{floor_for, floor_count, is_void_at, nothing_held, IsSound};
 ghost use Rattle.ds_held.specs.Join.{AreMerged, IsJoinStopped};
 ghost use Rattle.ds_held.specs.Limits.{larger};
 ghost use Rattle.ds_held.specs.Merge.{after_merge, IsMergeRefused, MergeAnswer};
@@ -43,22 +44,12 @@ pub struct Held {
 }
 
 impl Model for Held {
-    ghost use Rattle.std.specs.Prelude.{ℕ};
-    ghost use Rattle.std.specs.FinMap as map;
-    ghost use Rattle.std.specs.Coded.{code_by, coded×};
-    ghost use Rattle.ds_names.specs.Key.{name_cmp, key_cmp};
-    ghost use Rattle.ds_names.specs.contracts.key.Key.{the_row as key_row};
-    ghost use Rattle.ds_names.specs.contracts.name.Name.{the_row as name_row};
-    ghost use Rattle.ds_names.specs.contracts.endpoint.Generation.{the_row as generation_row};
-    ghost use Rattle.ds_entry.specs.Change.{ChangeRecord};
-    ghost use Rattle.ds_entry.specs.contracts.change.Change.{the_row as change_row};
-    ghost use Rattle.ds_held.specs.contracts.limits.Limits.{the_row as limits_row};
-    ghost use Rattle.ds_held.specs.Limits.{LimitsRecord};
     ghost use Rattle.ds_held.specs.Held.{Holding};
+    ghost use Rattle.ds_held.specs.Coded.{holding_code};
 
     ghost Value = { Holding };
 
-    ghost coded = { code_by (map.FinMap name_cmp ℕ × (map.FinMap key_cmp ChangeRecord × LimitsRecord)) (coded× (map.code name_row.coded generation_row.coded) (coded× (map.code key_row.coded change_row.coded) limits_row.coded)) (λ h. (h.floors, (h.changes, h.limits))) (λ p. record { floors = p.0; changes = p.1.0; limits = p.1.1 }) (λ h i. h) };
+    ghost coded = { holding_code };
 
     ghost use Rattle.ds_held.specs.Kept.{holding_of, AreKept};
 
@@ -250,13 +241,7 @@ impl Held {
         ensures sound { IsSound self.new }
     {
         let _most = other.limits.keys();
-        join_into(
-            alloc,
-            &mut self.floors,
-            &mut self.changes,
-            self.limits,
-            &other.floors,
-            &other.changes,
-        )
+        let _count = self.len();
+        join_into(alloc, self, &other.floors, &other.changes)
     }
 }

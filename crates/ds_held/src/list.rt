@@ -109,7 +109,8 @@ pub(crate) fn merge_into(
 ) -> Result<Merge, JoinFault>
     requires { AreKept floors.now changes.old.items limits }
     ensures answer { MergeAnswer (holding_of floors.now changes.old.items limits) change result }
-    ensures after { holding_of floors.now changes.new.items limits ≡ after_merge (holding_of floors.now changes.old.items limits) change result }
+    ensures after { holding_of floors.now changes.new.items limits
+        ≡ after_merge (holding_of floors.now changes.old.items limits) change result }
     ensures kept { AreKept floors.now changes.new.items limits }
     ensures change { IsChange change }
 {
@@ -131,7 +132,8 @@ pub(crate) fn merge_copy(
     requires { AreKept floors.now changes.old.items limits }
     ensures answer { OnOk result (MergeAnswer (holding_of floors.now changes.old.items limits) change.now result) }
     ensures refused { IfErr result (IsMergeRefused (holding_of floors.now changes.old.items limits) change.now) }
-    ensures after { holding_of floors.now changes.new.items limits ≡ after_merge (holding_of floors.now changes.old.items limits) change.now result }
+    ensures after { holding_of floors.now changes.new.items limits
+        ≡ after_merge (holding_of floors.now changes.old.items limits) change.now result }
     ensures kept { AreKept floors.now changes.new.items limits }
 {
     let place = place_of(changes, change.key());

@@ -20,7 +20,8 @@ pub(crate) fn raise_into(
 ) -> Result<Merge, JoinFault>
     requires { AreKept floors.old.items changes.old.items limits }
     ensures answer { RaiseAnswer (holding_of floors.old.items changes.old.items limits) floor result }
-    ensures after { holding_of floors.new.items changes.new.items limits ≡ after_raise (holding_of floors.old.items changes.old.items limits) floor result }
+    ensures after { holding_of floors.new.items changes.new.items limits
+        ≡ after_raise (holding_of floors.old.items changes.old.items limits) floor result }
     ensures kept { AreKept floors.new.items changes.new.items limits }
     ensures changes { changes.new.items ≡ list_after changes.old.items (left_by_floor floor changes.old.items) result }
 {
@@ -71,7 +72,8 @@ pub(crate) fn raise_beside<M: Drop>(
     requires kept { AreKept floors.old.items changes.old.items limits }
     requires each { length marks.old.items ≡ length changes.old.items }
     ensures answer { RaiseAnswer (holding_of floors.old.items changes.old.items limits) floor result }
-    ensures after { holding_of floors.new.items changes.new.items limits ≡ after_raise (holding_of floors.old.items changes.old.items limits) floor result }
+    ensures after { holding_of floors.new.items changes.new.items limits
+        ≡ after_raise (holding_of floors.old.items changes.old.items limits) floor result }
     ensures kept { AreKept floors.new.items changes.new.items limits }
     ensures changes { changes.new.items ≡ list_after changes.old.items (left_by_floor floor changes.old.items) result }
     ensures marks { marks.new.items ≡ list_after marks.old.items (marks_left floor changes.old.items marks.old.items) result }

@@ -14,7 +14,7 @@ use Rattle.ds_entry.proofs.Members.{In, In-from_Contains, Contains-from_In}
 use Rattle.ds_names.specs.Endpoint.{EndpointRecord}
 use Rattle.ds_names.specs.Key.{name_cmp}
 use Rattle.ds_index.specs.declared.named.Named.{Named}
-use Rattle.ds_index.specs.Named.{slot_of, generation_of, holder_cmp, named_cmp, is_label_behind, is_behind_in_slot, begins_behind, holds_endpoint, inserted_label}
+use Rattle.ds_index.specs.Named.{slot_of, generation_of, holder_cmp, named_cmp, is_label_behind, is_behind_in_slot, begins_behind, holds_endpoint, inserted_label, IsLabelPlace, IsNearLabel}
 use Rattle.ds_index.specs.Index.{IsAdded, IsReplaced}
 use Rattle.std.proofs.lemmas.Bool.{eqb-true}
 use Rattle.ds_names.proofs.Tests.{opposed, less_is, turned}
@@ -74,14 +74,11 @@ behind_partitioned p (x ∷ xs) s zero (suc j) d l w h = behind_down p x (get_or
 behind_partitioned p (x ∷ xs) s (suc i) zero d l w h = absurd (omega (arith, l))
 behind_partitioned p (x ∷ xs) s (suc i) (suc j) d l w h = behind_partitioned p xs s.1 i j d (omega (arith, l)) (omega (arith, w)) h
 
-abbrev pub IsPlaceOf : Named → List Named → ℕ → Type 0
-IsPlaceOf p xs i = IsPartitionPoint (λ q. is_label_behind p q ≡ true) (λ q. is_label_behind p q ≡ false) xs i
-
-place_within : (p x : Named) (xs : List Named) (i : ℕ) → IsPlaceOf p (x ∷ xs) (suc i) → IsPlaceOf p xs i
+place_within : (p x : Named) (xs : List Named) (i : ℕ) → IsLabelPlace p (x ∷ xs) (suc i) → IsLabelPlace p xs i
 place_within p x xs i h = (λ k d l w. h.0 (suc k) d (omega (arith, l)) (omega (arith, w)), λ k d l w. h.1 (suc k) d (omega (arith, l)) (omega (arith, w)))
 
 -- a label that is listed stands at its place
-pub place_is : (b : Named) (xs : List Named) (i : ℕ) → IsStrictlySortedBy named_cmp xs → In b xs → IsPlaceOf b xs i → slice_get xs i ≡ Some b
+pub place_is : (b : Named) (xs : List Named) (i : ℕ) → IsStrictlySortedBy named_cmp xs → In b xs → IsLabelPlace b xs i → slice_get xs i ≡ Some b
 unfolding IsStrictlySortedBy
 place_is b [] i s h p = absurd h
 place_is b (x ∷ xs) zero s (inl e) p = ap (λ y. Some y) (sym e)
@@ -92,20 +89,16 @@ place_is b (x ∷ xs) (suc i) s (inl e) p =
     absurd (not_itself b (subst (λ (y : Named). named_cmp y b ≡ Less) (sym e) (less_is (named_cmp x b) before)))
 place_is b (x ∷ xs) (suc i) s (inr h) p = place_is b xs i s.1 h (place_within b x xs i p)
 
-pub stands_at : (b : Named) (xs ys : List Named) (i : ℕ) → IsStrictlySortedBy named_cmp xs → Contains xs b → ys ≡ xs → IsPlaceOf b ys i → slice_get xs i ≡ Some b
-stands_at b xs ys i s h e p = place_is b xs i s (In-from_Contains b xs h) (subst (λ (l : List Named). IsPlaceOf b l i) e p)
+pub stands_at : (b : Named) (xs ys : List Named) (i : ℕ) → IsStrictlySortedBy named_cmp xs → Contains xs b → ys ≡ xs → IsLabelPlace b ys i → slice_get xs i ≡ Some b
+stands_at b xs ys i s h e p = place_is b xs i s (In-from_Contains b xs h) (subst (λ (l : List Named). IsLabelPlace b l i) e p)
 
-pub stands_within : (b : Named) (xs ys : List Named) (i n : ℕ) → IsStrictlySortedBy named_cmp xs → Contains xs b → ys ≡ xs → IsPlaceOf b ys i → n ≡ length xs → i < n
+pub stands_within : (b : Named) (xs ys : List Named) (i n : ℕ) → IsStrictlySortedBy named_cmp xs → Contains xs b → ys ≡ xs → IsLabelPlace b ys i → n ≡ length xs → i < n
 stands_within b xs ys i n s h e p long = subst (λ m. i < m) (sym long) (slice_get_within xs i b (stands_at b xs ys i s h e p))
 
 -- ---- a label between those beside an index
 -- what the label does with the one at the index
 abbrev pub behind_nth : Named → List Named → ℕ → Bool
 behind_nth p xs i = option_map_or (is_label_behind p) (slice_get xs i) false
-
--- it belongs directly before the one at the index, or directly behind it
-abbrev pub IsNear : Named → List Named → ℕ → Type 0
-IsNear p xs i = (j : ℕ) × IsPlaceOf p xs j × (i ≤ j) × (j ≤ i + 1)
 
 module _ (p : Named) (xs : List Named) (s : IsStrictlySortedBy named_cmp xs) where
   -- behind one label is behind all before it
@@ -129,21 +122,21 @@ module _ (p : Named) (xs : List Named) (s : IsStrictlySortedBy named_cmp xs) whe
           let first : is_label_behind p (get_or xs i d) ≡ true = behind_partitioned p xs s i k d l w e in
           opposed (behind_nth p xs i) (ap (λ o. option_map_or (is_label_behind p) o false) (slice_get-get_or xs i d here) ∙ first) b
 
-  between : (i : ℕ) → ((k : ℕ) (d : Named) → k < i → is_label_behind p (get_or xs k d) ≡ true) → behind_nth p xs (i + 1) ≡ false → IsNear p xs i
+  between : (i : ℕ) → ((k : ℕ) (d : Named) → k < i → is_label_behind p (get_or xs k d) ≡ true) → behind_nth p xs (i + 1) ≡ false → IsNearLabel p xs i
   between i low high = by_test (behind_nth p xs i) refl
     where
-      by_test : (t : Bool) → behind_nth p xs i ≡ t → IsNear p xs i
+      by_test : (t : Bool) → behind_nth p xs i ≡ t → IsNearLabel p xs i
       by_test true e = (i + 1, (λ k d l w. behind_all i e k d (omega (arith, l)), λ k d l w. behind_none (i + 1) high k d (omega (arith, l)) (omega (arith, w))), omega arith, omega arith)
       by_test false e = (i, (λ k d l w. low k d (omega (arith, l)), λ k d l w. behind_none i e k d (omega (arith, l)) (omega (arith, w))), omega arith, omega arith)
 
-  pub near_first : behind_nth p xs 1 ≡ false → IsNear p xs 0
+  pub near_first : behind_nth p xs 1 ≡ false → IsNearLabel p xs 0
   near_first high = between 0 (λ k d l. absurd (omega (arith, l))) high
 
-  pub near_next : (i j : ℕ) → j + 1 ≡ i → behind_nth p xs j ≡ true → behind_nth p xs (i + 1) ≡ false → IsNear p xs i
+  pub near_next : (i j : ℕ) → j + 1 ≡ i → behind_nth p xs j ≡ true → behind_nth p xs (i + 1) ≡ false → IsNearLabel p xs i
   near_next i j e low high = between i (λ k d l. behind_all j low k d (omega (arith, l, e))) high
 
 -- ---- one more label goes to its place
-pub inserted_there : (p : Named) (xs : List Named) (i : ℕ) → i ≤ length xs → IsPlaceOf p xs i → insert xs i p ≡ inserted_label p xs
+pub inserted_there : (p : Named) (xs : List Named) (i : ℕ) → i ≤ length xs → IsLabelPlace p xs i → insert xs i p ≡ inserted_label p xs
 inserted_there p [] zero w h = refl
 inserted_there p [] (suc i) w h = absurd (omega (arith, w))
 inserted_there p (x ∷ xs) zero w h = sym (ap (λ b. cond b (x ∷ inserted_label p xs) (p ∷ x ∷ xs)) (h.1 0 x (omega arith) (omega arith)))
@@ -152,7 +145,7 @@ inserted_there p (x ∷ xs) (suc i) w h =
     ∙ sym (ap (λ b. cond b (x ∷ inserted_label p xs) (p ∷ x ∷ xs)) (h.0 0 x (omega arith) (omega arith)))
 
 -- a label that belongs where another one stands takes its place
-pub set_there : (a b : Named) (xs : List Named) (i j : ℕ) → slice_get xs i ≡ Some b → IsPlaceOf a xs j → i ≤ j → j ≤ i + 1 → set xs i a ≡ inserted_label a (remove xs i)
+pub set_there : (a b : Named) (xs : List Named) (i j : ℕ) → slice_get xs i ≡ Some b → IsLabelPlace a xs j → i ≤ j → j ≤ i + 1 → set xs i a ≡ inserted_label a (remove xs i)
 set_there a b [] i j e p l m = absurd (cc)
 set_there a b (x ∷ []) zero j e p l m = refl
 set_there a b (x ∷ y ∷ ys) zero j e p l m = sym (ap (λ t. cond t (y ∷ inserted_label a ys) (a ∷ y ∷ ys)) (p.1 1 y (omega (arith, m)) (omega arith)))

@@ -1,6 +1,8 @@
 -- What an index lists, and how that changes.
-use Rattle.std.specs.Prelude.{◌≡◌, ◌≢◌, ℕ, ◌⊎◌, List, Contains}
+use Rattle.std.specs.Prelude.{◌≡◌, ◌≢◌, ℕ, ◌⊎◌, List, Some, Contains, slice_get}
+use Rattle.std.specs.List.{remove}
 use Rattle.ds_index.specs.declared.named.Named.{Named}
+use Rattle.ds_index.specs.Named.{inserted_label}
 
 -- the labels in their order, and for how many there is room
 pub record Listing : Type 0 where
@@ -21,3 +23,7 @@ pub record IsReplaced (old new : List Named) (before after : Named) : Type 0 whe
   pub keeps : (q : Named) → Contains old q → q ≢ before → Contains new q
   pub here : Contains new after
   pub only : (q : Named) → Contains new q → (q ≡ after) ⊎ (Contains old q × (q ≢ before))
+
+-- the one was taken out of the list where it stood, and the other put in where it belongs
+abbrev pub IsMovedLabel : List Named → List Named → Named → Named → Type 0
+IsMovedLabel old new before after = (place : ℕ) × (slice_get old place ≡ Some before) × (new ≡ inserted_label after (remove old place))

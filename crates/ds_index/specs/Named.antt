@@ -1,7 +1,8 @@
 -- Labels in the order of their endpoints.
-use Rattle.std.specs.Prelude.{ℕ, suc, Bool, cond, List, [], ◌∷◌, Option, Some, None}
+use Rattle.std.specs.Prelude.{◌≡◌, ℕ, suc, ◌+◌, ◌≤◌, Bool, true, false, cond, List, [], ◌∷◌, Option, Some, None}
 use Rattle.std.specs.declared.cmp.Ordering.{Ordering}
 use Rattle.std.specs.Ordering.{nat_cmp, ordering_then, is_eq, is_lt}
+use Rattle.std.specs.List.Sorted.{IsPartitionPoint}
 use Rattle.ds_names.specs.Endpoint.{EndpointRecord}
 use Rattle.ds_names.specs.Key.{name_cmp}
 use Rattle.ds_index.specs.declared.named.Named.{Named}
@@ -43,6 +44,14 @@ begins_behind e p = is_lt (holder_cmp p.endpoint (Some e))
 -- the label holds the endpoint
 abbrev pub holds_endpoint : EndpointRecord → Named → Bool
 holds_endpoint e p = is_eq (holder_cmp p.endpoint (Some e))
+
+-- the label's place in the list: it stands behind each before the place, and behind none from there on
+abbrev pub IsLabelPlace : Named → List Named → ℕ → Type 0
+IsLabelPlace p names place = IsPartitionPoint (λ q. is_label_behind p q ≡ true) (λ q. is_label_behind p q ≡ false) names place
+
+-- it may stand at the index, where another one stands now: its place is there or right behind
+abbrev pub IsNearLabel : Named → List Named → ℕ → Type 0
+IsNearLabel p names index = (place : ℕ) × IsLabelPlace p names place × (index ≤ place) × (place ≤ index + 1)
 
 -- the labels with one more, behind all that stand before it
 abbrev pub inserted_label : Named → List Named → List Named

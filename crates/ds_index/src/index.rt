@@ -1,12 +1,14 @@
 //! Labels by endpoint.
 
-ghost use Rattle.std.specs.Prelude.{◌≡◌, ◌<◌, ◌≤◌, ◌+◌, [], ℕ, Some, true, false, not, Contains, OnOk, length, slice_get, vec_len, vec_capacity};
+ghost use Rattle.std.specs.Prelude.{◌≡◌, ◌<◌, ◌≤◌, ◌+◌, [], ℕ, Some, true, false, not, Contains};
+ghost use Rattle.std.specs.Prelude.{OnOk, length, slice_get, vec_len, vec_capacity};
 ghost use Rattle.std.specs.Option.{option_copied, option_map, option_map_or};
-ghost use Rattle.std.specs.List.{find, remove};
-ghost use Rattle.std.specs.List.Sorted.{IsStrictlySortedBy, IsPartitionPoint};
+ghost use Rattle.std.specs.List.{find};
+ghost use Rattle.std.specs.List.Sorted.{IsStrictlySortedBy};
 ghost use Rattle.ds_index.specs.declared.named.Named.{Named};
 ghost use Rattle.ds_index.specs.Named.{named_cmp, holds_endpoint, begins_behind, is_label_behind, inserted_label};
-ghost use Rattle.ds_index.specs.Index.{IsAdded, IsReplaced};
+ghost use Rattle.ds_index.specs.Named.{IsLabelPlace, IsNearLabel};
+ghost use Rattle.ds_index.specs.Index.{IsAdded, IsMovedLabel, IsReplaced};
 
 use crate::named::{Named, begins_behind, is_behind, is_of};
 use ds_names::{Endpoint, Name, NoRoom};
@@ -69,7 +71,7 @@ fn first_of<'a>(names: &'a [Named], endpoint: Endpoint) -> Option<&'a Named>
 fn place_of(names: &[Named], named: &Named) -> usize
     requires { IsStrictlySortedBy named_cmp names.now }
     ensures bound { result ≤ length names.now }
-    ensures place { IsPartitionPoint (λ q. is_label_behind named.now q ≡ true) (λ q. is_label_behind named.now q ≡ false) names.now result }
+    ensures place { IsLabelPlace named.now names.now result }
 {
     names.partition_point(|other| is_behind(named, other))
 }
@@ -98,7 +100,7 @@ fn is_behind_nth(names: &[Named], index: usize, named: &Named) -> bool
 fn stays(names: &[Named], index: usize, named: &Named) -> bool
     requires sorted { IsStrictlySortedBy named_cmp names.now }
     requires within { index < length names.now }
-    ensures { result ≡ true → (place : ℕ) × IsPartitionPoint (λ q. is_label_behind named.now q ≡ true) (λ q. is_label_behind named.now q ≡ false) names.now place × (index ≤ place) × (place ≤ index + 1) }
+    ensures { result ≡ true → IsNearLabel named.now names.now index }
 {
     if index > 0 && !is_behind_nth(names, index - 1, named) {
         return false;
@@ -110,7 +112,7 @@ fn stays(names: &[Named], index: usize, named: &Named) -> bool
 fn replace(names: &mut Vec<Named>, before: &Named, after: Named)
     requires sorted { IsStrictlySortedBy named_cmp names.old.items }
     requires listed { Contains names.old.items before.now }
-    ensures { (place : ℕ) × (slice_get names.old.items place ≡ Some before.now) × (names.new.items ≡ inserted_label after (remove names.old.items place)) }
+    ensures { IsMovedLabel names.old.items names.new.items before.now after }
 {
     let old = place_of(names, before);
     if stays(names, old, &after) {

@@ -2,17 +2,16 @@
 
 ghost use Rattle.std.specs.Prelude.{◌≡◌, ◌≤◌, ◌++◌, ◌∷◌, [], Some, IfSome, OnOk, slice_get};
 ghost use Rattle.std.specs.Option.{option_map, option_copied};
-ghost use Rattle.std.specs.List.{find};
-ghost use Rattle.ds_names.specs.declared.key.Key.{Key};
-ghost use Rattle.ds_entry.specs.Change.{ChangeRecord, IsChange};
+ghost use Rattle.ds_entry.specs.Change.{IsChange};
 ghost use Rattle.ds_entry.specs.declared.item.Item.TheVariants.{Change as Changed, Floor as Floored};
 ghost use Rattle.ds_join.specs.ItemTop.{IsTop};
-ghost use Rattle.ds_join.specs.Label.{names_endpoint};
-ghost use Rattle.ds_held.specs.Held.{held_changes, held_floors, held_for, held_items, floor_count, IsSound};
-ghost use Rattle.ds_held.specs.Kept.{IsPlace};
+ghost use Rattle.ds_join.specs.Label.{first_name_of};
+ghost use Rattle.ds_held.specs.Held.{held_changes, held_floors, held_items, floor_count, IsSound};
+ghost use Rattle.ds_held.specs.Kept.{IsHeldAt, IsPlace};
 ghost use Rattle.ds_held.specs.Merge.{MergeAnswer, after_merge};
 ghost use Rattle.ds_held.specs.Raise.{RaiseAnswer, after_raise};
-ghost use Rattle.ds_marked.specs.Marked.{mark_for, floor_mark_for, nothing_marked, marks_after, marks_raised, floor_marks_after, remarked, floor_remarked, HasMarks};
+ghost use Rattle.ds_marked.specs.Marked.{mark_for, floor_mark_for, marks_after, marks_raised, floor_marks_after};
+ghost use Rattle.ds_marked.specs.Marked.{nothing_marked, remarked_at, floor_remarked_at, HasMarks, IsMarkAt};
 
 use crate::index::Index;
 use ds_entry::{Change, Floor};
@@ -34,19 +33,13 @@ pub struct Indexed<M> {
 }
 
 impl<M> Model for Indexed<M> {
-    ghost use Rattle.std.specs.FinMap as map;
-    ghost use Rattle.std.specs.Coded.{code_by, coded×};
-    ghost use Rattle.ds_names.specs.Key.{name_cmp, key_cmp};
-    ghost use Rattle.ds_names.specs.contracts.key.Key.{the_row as key_row};
-    ghost use Rattle.ds_names.specs.contracts.name.Name.{the_row as name_row};
-    ghost use Rattle.ds_held.specs.Held.{Holding};
-    ghost use Rattle.ds_held.specs.contracts.held.Held.{the_row as held_row};
+    ghost use Rattle.ds_marked.specs.Coded.{marked_code};
     ghost use Rattle.ds_marked.specs.Marked.{MarkedHolding};
     ghost use Rattle.ds_index.specs.Indexed.{IsIndexed};
 
     ghost Value = { MarkedHolding M };
 
-    ghost coded = { code_by (Holding × (map.FinMap key_cmp M × map.FinMap name_cmp M)) (coded× held_row.coded (coded× (map.code key_row.coded M.code) (map.code name_row.coded M.code))) (λ h. (h.held, (h.marks, h.floor_marks))) (λ p. record { held = p.0; marks = p.1.0; floor_marks = p.1.1 }) (λ h i. h) };
+    ghost coded = { marked_code M.code };
 
     ghost view = { λ h. h.held };
 
@@ -82,8 +75,8 @@ impl<M: Drop> Indexed<M> {
 
     /// The change that is held for the key whose place this is, and its mark.
     pub fn get_at(&self, place: Result<usize, usize>) -> Option<(&Change, &M)>
-        ensures change { (key : Key) → IsPlace (held_changes self.now.held) key place → option_map (λ p. p.0.now) result ≡ held_for self.now.held key }
-        ensures mark { (key : Key) → IsPlace (held_changes self.now.held) key place → option_map (λ p. p.1.now) result ≡ mark_for self.now key }
+        ensures change { IsHeldAt self.now.held place (option_map (λ p. p.0.now) result) }
+        ensures mark { IsMarkAt self.now place (option_map (λ p. p.1.now) result) }
         ensures sound { IsSound self.now.held }
         ensures valid { IfSome result (λ p. IsChange p.0.now) }
     {
@@ -122,7 +115,7 @@ impl<M: Drop> Indexed<M> {
     ///
     /// MINIX 3's DS names an endpoint by whichever label it finds first; that it is the least one is of this project.
     pub fn name_of(&self, endpoint: Endpoint) -> Option<&Name>
-        ensures { option_copied result ≡ option_map (λ (c : ChangeRecord). c.key.name) (find (names_endpoint endpoint) (held_changes self.now.held)) }
+        ensures { option_copied result ≡ first_name_of endpoint (held_changes self.now.held) }
     {
         let _count = self.held.held().len();
         self.index.name_of(endpoint)
@@ -165,7 +158,7 @@ impl<M: Drop> Indexed<M> {
     /// last one.
     pub fn set_mark(&mut self, index: usize, mark: M)
         ensures held { self.new.held ≡ self.old.held }
-        ensures marks { self.new.marks ≡ remarked self.old.marks (slice_get (held_changes self.old.held) index) mark }
+        ensures marks { self.new.marks ≡ remarked_at self.old index mark }
         ensures floor_marks { self.new.floor_marks ≡ self.old.floor_marks }
     {
         self.held.set_mark(index, mark);
@@ -176,7 +169,7 @@ impl<M: Drop> Indexed<M> {
     pub fn set_floor_mark(&mut self, index: usize, mark: M)
         ensures held { self.new.held ≡ self.old.held }
         ensures marks { self.new.marks ≡ self.old.marks }
-        ensures floor_marks { self.new.floor_marks ≡ floor_remarked self.old.floor_marks (slice_get (held_floors self.old.held) index) mark }
+        ensures floor_marks { self.new.floor_marks ≡ floor_remarked_at self.old index mark }
     {
         self.held.set_floor_mark(index, mark);
     }

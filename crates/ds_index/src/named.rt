@@ -2,7 +2,8 @@
 
 ghost use Rattle.std.specs.Prelude.{◌≡◌, ◌≢◌, true, false};
 ghost use Rattle.ds_names.specs.declared.kind.Kind.{Kind};
-ghost use Rattle.ds_index.specs.Named.{slot_of, generation_of, holder_cmp, is_label_behind, is_behind_in_slot, begins_behind, holds_endpoint};
+ghost use Rattle.ds_index.specs.Named.{slot_of, generation_of, holder_cmp, is_label_behind};
+ghost use Rattle.ds_index.specs.Named.{is_behind_in_slot, begins_behind, holds_endpoint};
 ghost use Rattle.ds_index.specs.Indexed.{endpoint_left};
 
 use ds_entry::{Body, Change, Value};

@@ -1,5 +1,7 @@
 -- The labels of an endpoint.
-use Rattle.std.specs.Prelude.{Bool, false, Option, Some}
+use Rattle.std.specs.Prelude.{ℕ, Bool, false, List, Option, Some}
+use Rattle.std.specs.List.{find}
+use Rattle.std.specs.Option.{option_map}
 use Rattle.ds_names.specs.Endpoint.{EndpointRecord, is_same_endpoint}
 use Rattle.ds_entry.specs.declared.body.Value.{Value}
 use Rattle.ds_entry.specs.declared.body.Value.TheVariants as values
@@ -14,3 +16,7 @@ is_label_of e _ = false
 -- the change leaves a live label that holds the endpoint
 abbrev pub names_endpoint : EndpointRecord → ChangeRecord → Bool
 names_endpoint e c = is_label_of e (value_of c)
+
+-- the name of the first of the changes that leaves such a label
+abbrev pub first_name_of : EndpointRecord → List ChangeRecord → Option (List ℕ)
+first_name_of e changes = option_map (λ (c : ChangeRecord). c.key.name) (find (names_endpoint e) changes)

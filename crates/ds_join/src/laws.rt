@@ -1,7 +1,8 @@
 //! The laws of tops and joins of items, over their definitions alone.
 
 ghost use Rattle.ds_join.specs.ItemJoin.{JoinIsCommutative, JoinIsAssociative, JoinIsIdempotent, JoinIsLeast};
-ghost use Rattle.ds_join.specs.ItemTopLaws.{TopExists, TopIsUnique, HeldIsItsTop, GreatestFloorIsHeld, NothingVoidIsHeld, TopsIsTop, TopOfTop, TopOfUnion, TopOfCovered};
+ghost use Rattle.ds_join.specs.ItemTopLaws.{TopExists, TopIsUnique, HeldIsItsTop, GreatestFloorIsHeld};
+ghost use Rattle.ds_join.specs.ItemTopLaws.{NothingVoidIsHeld, TopsIsTop, TopOfTop, TopOfUnion, TopOfCovered};
 
 /// The laws of tops of items: a single-numbered set has just one; what is held is its own; each owner's greatest floor
 /// is held, and nothing that a floor of the set makes void; `tops` gives it, where each change has the owner of those of

@@ -6,12 +6,15 @@ use Rattle.ds_entry.specs.Change.{ChangeRecord}
 use Rattle.ds_entry.specs.ChangeFault.{IsEntryFault}
 use Rattle.ds_entry.specs.Floor.{floor_of}
 use Rattle.ds_entry.specs.Void.{voids}
+use Rattle.ds_entry.specs.declared.body.Body.{Body}
 use Rattle.ds_entry.specs.declared.change.EntryFault.{EntryFault}
 use Rattle.ds_machine.specs.Order.{by_version, by_room}
-use Rattle.ds_machine.specs.Asking.{AskedChange}
+use Rattle.ds_machine.specs.Asking.{AskedChange, against_asked}
 use Rattle.ds_machine.specs.declared.refusal.Cause.{Cause}
 use Rattle.ds_machine.specs.declared.refusal.Cause.TheVariants.{Refused}
 use Rattle.ds_machine.specs.declared.refusal.Refusal.TheVariants.{Exists, NotFound}
+use Rattle.ds_judge.specs.Standing.{machine_standing}
+use Rattle.ds_judge.specs.declared.standing.Standing.{Standing}
 use Rattle.ds_judge.specs.declared.asked.Asked.{Asked}
 use Rattle.ds_judge.specs.declared.asked.Need.{Need}
 use Rattle.ds_judge.specs.declared.asked.Need.TheVariants.{NotLive, Any, Live}
@@ -36,6 +39,10 @@ request_of a = record { caller = a.caller; key = a.key; version = a.version; ove
 -- the cause where an entry is live and mustn't be, or isn't and must
 abbrev pub cause_by_need : Need → Bool → Option Cause
 cause_by_need need is_live = cond (is_live && not (over_live need)) (Some (Refused Exists)) (cond (not is_live && not (over_none need)) (Some (Refused NotFound)) None)
+
+-- the causes that stand against what a caller of this name asks for
+abbrev pub causes_against : Standing → Option (List ℕ) → Asked → Body → Cause → Bool
+causes_against t caller a body = against_asked (machine_standing t) caller (request_of a) body
 
 -- the causes that stand against a change of this version by what is held
 abbrev pub by_held : Version → List Cause

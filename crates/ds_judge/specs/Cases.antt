@@ -2,6 +2,7 @@
 use Rattle.std.specs.Prelude.{◌≡◌, ℕ, ◌<◌, ◌≤◌, Bool, true, ◌&&◌, cond, nat_le, Option, Some, None}
 use Rattle.ds_pattern.specs.declared.query.Query.{Query}
 use Rattle.ds_machine.specs.Calling as machine
+use Rattle.ds_machine.specs.Order.{first_refusal}
 use Rattle.ds_machine.specs.declared.refusal.Refusal.{Refusal}
 use Rattle.ds_machine.specs.declared.refusal.Refusal.TheVariants.{Worn}
 use Rattle.ds_judge.specs.declared.subscribe.SubscribeCase.{SubscribeCase}
@@ -15,6 +16,10 @@ machine_subscribe x query = record { places = x.places; taken = x.taken; stamp =
 -- a Check, with whether something is to be shown, and the last stamp
 abbrev pub machine_check : CheckCase → Bool → ℕ → machine.CheckCase
 machine_check x some stamp = record { places = x.places; taken = x.taken; some = some; stamp = stamp; sub = x.sub; max = x.max }
+
+-- the first refusal of a Check, where something is to be shown or isn't, and with this last stamp
+abbrev pub refusal_of_case : CheckCase → Bool → ℕ → Option Refusal
+refusal_of_case x some stamp = first_refusal (machine.against_check (machine_check x some stamp))
 
 -- what stands against showing something
 abbrev pub refusal_of_showing : Bool → ℕ → Option Refusal

@@ -1,5 +1,5 @@
 -- Refusals of patterns and of cursors.
-use Rattle.std.specs.Prelude.{◌≡◌, ◌⊎◌, Option, Some, None}
+use Rattle.std.specs.Prelude.{◌≡◌, ◌⊎◌, ℕ, Option, Some, None}
 use Rattle.std.specs.Option.{option_map}
 use Rattle.ds_pattern.specs.declared.pattern.PatternFault.{PatternFault}
 use Rattle.ds_pattern.specs.declared.pattern.PatternFault.TheVariants as patterns
@@ -8,6 +8,9 @@ use Rattle.ds_feed.specs.Since.{fault_at}
 use Rattle.ds_feed.specs.declared.cursor.Cursor.{Cursor}
 use Rattle.ds_feed.specs.declared.journal.SinceFault.{SinceFault}
 use Rattle.ds_feed.specs.declared.journal.SinceFault.TheVariants as faults
+use Rattle.ds_machine.specs.Calling.{against_since}
+use Rattle.ds_machine.specs.Order.{first_refusal}
+use Rattle.ds_machine.specs.declared.command.Scope.{Scope}
 use Rattle.ds_machine.specs.declared.refusal.Refusal.{Refusal}
 use Rattle.ds_machine.specs.declared.refusal.Refusal.TheVariants.{TooLong, BadPattern, OldCursor, Ahead, Behind, NoRoom}
 
@@ -28,7 +31,15 @@ refusal_of_journal faults.Ahead = Ahead
 refusal_of_journal faults.Behind = Behind
 refusal_of_journal faults.NoRoom = NoRoom
 
+-- the refusal of this cursor, where it is refused
+abbrev pub refusal_of_cursor : Feed → Cursor → Option Refusal
+refusal_of_cursor f at = option_map refusal_of_journal (fault_at f at)
+
+-- the first refusal of a Since from this cursor on
+abbrev pub refusal_of_since : Feed → Scope → Cursor → ℕ → Option Refusal
+refusal_of_since f scope at max = first_refusal (against_since f scope at max)
+
 -- the cursor is refused for this, or memory is wanting where it isn't refused
 abbrev pub IsJournalRefusal : Feed → Cursor → Refusal → Type 0
 IsJournalRefusal f at NoRoom = fault_at f at ≡ None
-IsJournalRefusal f at refusal = option_map refusal_of_journal (fault_at f at) ≡ Some refusal
+IsJournalRefusal f at refusal = refusal_of_cursor f at ≡ Some refusal

@@ -5,8 +5,8 @@ ghost use Rattle.std.specs.Option.{option_copied};
 ghost use Rattle.std.specs.List.{find};
 ghost use Rattle.ds_entry.specs.declared.body.Body.{Body};
 ghost use Rattle.ds_machine.specs.Order.{first_cause};
-ghost use Rattle.ds_machine.specs.Asking.{published, deleted, is_label_change, is_callers_version, is_live, change_asked, against_asked};
-ghost use Rattle.ds_judge.specs.Asked.{request_of, cause_by_need, by_held, is_void_under, NamesRs, MakesChange};
+ghost use Rattle.ds_machine.specs.Asking.{published, deleted, is_label_change, is_callers_version, is_live, change_asked};
+ghost use Rattle.ds_judge.specs.Asked.{request_of, causes_against, cause_by_need, by_held, is_void_under, NamesRs, MakesChange};
 ghost use Rattle.ds_judge.specs.Standing.{machine_standing};
 ghost use Rattle.ds_names.specs.Kind.{is_label};
 ghost use Rattle.ds_names.specs.Endpoint.{is_rs};
@@ -127,7 +127,7 @@ fn cause_by_need(need: Need, is_live: bool) -> Option<Cause>
 
 // The first cause by what is held, where the owner is the one who asks.
 fn cause_by_held(standing: &Standing<'_>, owner: &Name, asked: &Asked, body: &Body) -> Option<Cause>
-    ensures { result ≡ find (against_asked (machine_standing standing.now) (Some owner.now) (request_of asked.now) body.now) (by_held asked.now.version) }
+    ensures { result ≡ find (causes_against standing.now (Some owner.now) asked.now body.now) (by_held asked.now.version) }
 {
     if let Some(cause) = cause_by_version(standing, owner, asked.version, body) {
         return Some(cause);
@@ -145,7 +145,7 @@ fn first_cause_of(
     asked: &Asked,
     body: &Body,
 ) -> Option<Cause>
-    ensures { result ≡ first_cause (Some asked.now.version) (against_asked (machine_standing standing.now) caller (request_of asked.now) body.now) }
+    ensures { result ≡ first_cause (Some asked.now.version) (causes_against standing.now caller asked.now body.now) }
 {
     let is_label = asked.key.kind.is_label();
     if !body.is_of_kind(asked.key.kind) {
@@ -176,7 +176,7 @@ pub fn cause_of_asked(
     asked: &Asked,
     body: &Body,
 ) -> Option<Cause>
-    ensures first { result ≡ first_cause (Some asked.now.version) (against_asked (machine_standing standing.now) caller (request_of asked.now) body.now) }
+    ensures first { result ≡ first_cause (Some asked.now.version) (causes_against standing.now caller asked.now body.now) }
     ensures free { IfNone result (IsFree (machine_standing standing.now) (change_asked caller (request_of asked.now) body.now)) }
     ensures made { IfNone result (NamesRs caller asked.now.caller → MakesChange (change_asked caller (request_of asked.now) body.now)) }
 {

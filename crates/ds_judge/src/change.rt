@@ -1,12 +1,11 @@
 //! What stands against a change.
 
 ghost use Rattle.std.specs.Prelude.{◌≡◌, None, IfNone};
-ghost use Rattle.std.specs.List.{find};
 ghost use Rattle.ds_names.specs.declared.key.Key.{Key};
 ghost use Rattle.ds_entry.specs.Change.{change_of};
-ghost use Rattle.ds_machine.specs.Order.{first_cause, by_version};
+ghost use Rattle.ds_machine.specs.Order.{first_cause};
 ghost use Rattle.ds_machine.specs.Standing.{against_change, IsFree};
-ghost use Rattle.ds_judge.specs.Standing.{machine_standing, cause_by_room};
+ghost use Rattle.ds_judge.specs.Standing.{machine_standing, cause_by_version, cause_by_room};
 
 use crate::standing::Standing;
 use ds_entry::{Body, Change};
@@ -22,7 +21,7 @@ pub(crate) fn cause_by_version(
     version: Version,
     body: &Body,
 ) -> Option<Cause>
-    ensures { (key : Key) → result ≡ find (against_change (machine_standing standing.now) (change_of key owner.now version body.now)) (by_version (Some version)) }
+    ensures { (key : Key) → result ≡ cause_by_version (machine_standing standing.now) (change_of key owner.now version body.now) }
 {
     let Some(held) = standing.held else {
         return if standing.void {

@@ -2,9 +2,8 @@
 
 ghost use Rattle.std.specs.Prelude.{◌≡◌, ℕ, ◌<◌, Bool, true, None, IfNone};
 ghost use Rattle.std.specs.Option.{option_or};
-ghost use Rattle.ds_machine.specs.Order.{first_refusal};
-ghost use Rattle.ds_machine.specs.Calling.{against_check, is_no_max};
-ghost use Rattle.ds_judge.specs.Cases.{machine_check, refusal_of_showing, IsCheckable};
+ghost use Rattle.ds_machine.specs.Calling.{is_no_max};
+ghost use Rattle.ds_judge.specs.Cases.{refusal_of_case, refusal_of_showing, IsCheckable};
 ghost use Rattle.ds_names.specs.Limits.{last_place};
 
 use ds_machine::Refusal;
@@ -33,7 +32,7 @@ pub(crate) fn is_no_max(max: u32) -> bool
 /// The first refusal of a Check before it is known whether something is to be shown: BadSub, TooMany, NotFound. Behind it
 /// stands only what stands against showing.
 pub fn refusal_of_check(case: CheckCase) -> Option<Refusal>
-    ensures first { (some : Bool) (stamp : ℕ) → first_refusal (against_check (machine_check case some stamp)) ≡ option_or result (refusal_of_showing some stamp) }
+    ensures first { (some : Bool) (stamp : ℕ) → refusal_of_case case some stamp ≡ option_or result (refusal_of_showing some stamp) }
     ensures checkable { IfNone result (IsCheckable case) }
 {
     if case.sub >= case.places {

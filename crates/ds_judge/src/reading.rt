@@ -1,13 +1,11 @@
 //! What stands against a Since, a Snapshot, a Page and a Merge.
 
 ghost use Rattle.std.specs.Prelude.{◌≡◌, None, Err, IfOk, IfErr, OnOk, IfNone, ◌≤◌};
-ghost use Rattle.std.specs.Option.{option_map};
 ghost use Rattle.ds_feed.specs.declared.cursor.Cursor.{Cursor};
 ghost use Rattle.ds_feed.specs.Feed.{Feed};
-ghost use Rattle.ds_feed.specs.Since.{fault_at};
 ghost use Rattle.ds_machine.specs.Order.{first_refusal};
 ghost use Rattle.ds_machine.specs.Calling.{against_since, against_page, against_merge};
-ghost use Rattle.ds_judge.specs.Refused.{IsRefusedFor, refusal_of_journal};
+ghost use Rattle.ds_judge.specs.Refused.{IsRefusedFor, refusal_of_cursor, refusal_of_journal, refusal_of_since};
 ghost use Rattle.ds_judge.specs.Scopes.{scope_of};
 ghost use Rattle.ds_judge.specs.Last.{ReadsPattern};
 ghost use Rattle.ds_names.specs.Limits.{most_items};
@@ -49,8 +47,8 @@ pub fn scope_of_page(alloc: Global, scope: &Scope, max: u32) -> Result<ScopeFilt
 /// Page. What stands behind them is what the journal says of the cursor.
 pub fn scope_of_since(alloc: Global, scope: &Scope, max: u32) -> Result<ScopeFilter, Refusal>
     ensures read { IfOk result (λ filter. scope_of filter ≡ scope.now) }
-    ensures none { OnOk result ((f : Feed) (at : Cursor) → first_refusal (against_since f scope.now at max) ≡ option_map refusal_of_journal (fault_at f at)) }
-    ensures refused { IfErr result (λ refusal. (f : Feed) (at : Cursor) → IsRefusedFor (first_refusal (against_since f scope.now at max)) refusal) }
+    ensures none { OnOk result ((f : Feed) (at : Cursor) → refusal_of_since f scope.now at max ≡ refusal_of_cursor f at) }
+    ensures refused { IfErr result (λ refusal. (f : Feed) (at : Cursor) → IsRefusedFor (refusal_of_since f scope.now at max) refusal) }
     ensures last { result ≡ Err Refusal.NoRoom → (f : Feed) (at : Cursor) → ReadsPattern scope.now (against_since f scope.now at max) }
 {
     scope_of_page(alloc, scope, max)

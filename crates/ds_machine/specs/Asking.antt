@@ -1,7 +1,6 @@
 -- What stands against a Publish, a Delete and a Sweep.
 use Rattle.std.specs.Prelude.{ℕ, Bool, true, false, not, ◌&&◌, ◌==◌, nat_le, List, Option, Some, None, is_some, is_none, cond}
-use Rattle.std.specs.List.{find}
-use Rattle.std.specs.Option.{option_map, unwrap_or}
+use Rattle.std.specs.Option.{unwrap_or}
 use Rattle.ds_names.specs.declared.key.Key.{Key}
 use Rattle.ds_names.specs.Kind.{is_label}
 use Rattle.ds_names.specs.declared.version.Version.{Version}
@@ -10,7 +9,7 @@ use Rattle.ds_entry.specs.declared.body.Body.{Body}
 use Rattle.ds_entry.specs.declared.floor.Floor.{Floor}
 use Rattle.ds_entry.specs.declared.item.Item.{Item}
 use Rattle.ds_entry.specs.Change.{ChangeRecord, change_of, is_of_kind, is_label_body}
-use Rattle.ds_join.specs.Label.{names_endpoint}
+use Rattle.ds_join.specs.Label.{first_name_of}
 use Rattle.ds_machine.specs.Parts.{changes_in}
 use Rattle.ds_machine.specs.State.{State, held}
 use Rattle.ds_machine.specs.Order.{first_cause}
@@ -42,7 +41,7 @@ deleted caller key version = record { caller = caller; key = key; version = vers
 
 -- the name of an endpoint: RS is `rs`, another one the least name whose live label holds it
 abbrev pub name_of : List Item → EndpointRecord → Option (List ℕ)
-name_of held e = cond (is_rs e) (Some rs_name) (option_map (λ (c : ChangeRecord). c.key.name) (find (names_endpoint e) (changes_in held)))
+name_of held e = cond (is_rs e) (Some rs_name) (first_name_of e (changes_in held))
 
 -- a label isn't called `rs`, and its epoch isn't 0
 abbrev pub is_label_change : AskedChange → Body → Bool

@@ -1,10 +1,14 @@
 //! Laws of the machine's steps and runs, over its definitions alone.
 
-ghost use Rattle.ds_machine.specs.Effect.{OpeningIsReached, StepsStayReached, RunsStayReached, StepHasEffect, GoesOnSame, GoesOnLater, StepsGoOn, RunsGoOn, HeldIsTop, LearntIsHeld, KnownStaysHeld};
+ghost use Rattle.ds_machine.specs.Effect.{OpeningIsReached, StepsStayReached, RunsStayReached, StepHasEffect, GoesOnSame};
+ghost use Rattle.ds_machine.specs.Effect.{GoesOnLater, StepsGoOn, RunsGoOn, HeldIsTop, LearntIsHeld, KnownStaysHeld};
 ghost use Rattle.ds_machine.specs.Examples.{PublishRow, SweepRow, RingRow, PageRow, ChangingPagesRow, LastPlaceRow};
 ghost use Rattle.ds_machine.specs.FloorLaws.{AcceptedFloorStands, FloorStandsOverRuns};
-ghost use Rattle.ds_machine.specs.Says.{RefusedSays, ChangedSays, FoundSays, NamedSays, SweptSays, SubscribedSays, CheckedSays, JournaledSays, SnappedSays, PagedSays, MergedSays, MergeStoppedSays, OwedFits, OwedTells, RepliesFit};
-ghost use Rattle.ds_machine.specs.SubscriptionLaws.{StepKeepsSubscription, RunKeepsSubscription, StepStampsSubscription, RunStampsSubscription, StampTells, SubscribedLeaves, CheckedLeaves};
+ghost use Rattle.ds_machine.specs.Says.{RefusedSays, ChangedSays, FoundSays, NamedSays, SweptSays};
+ghost use Rattle.ds_machine.specs.Says.{SubscribedSays, CheckedSays, JournaledSays, SnappedSays, PagedSays};
+ghost use Rattle.ds_machine.specs.Says.{MergedSays, MergeStoppedSays, OwedFits, OwedTells, RepliesFit};
+ghost use Rattle.ds_machine.specs.SubscriptionLaws.{StepKeepsSubscription, RunKeepsSubscription, StepStampsSubscription};
+ghost use Rattle.ds_machine.specs.SubscriptionLaws.{RunStampsSubscription, StampTells, SubscribedLeaves, CheckedLeaves};
 ghost use Rattle.ds_machine.specs.Within.{OpeningIsWithin, StepsStayWithin, RunsStayWithin};
 
 /// The opening state is reached, and each step and each run leads from a state that is reached to another: its accepted

@@ -6,6 +6,7 @@ use Rattle.ds_names.specs.Key.{name_cmp, key_cmp}
 use Rattle.ds_entry.specs.Change.{ChangeRecord}
 use Rattle.ds_entry.specs.declared.floor.Floor.{Floor}
 use Rattle.ds_held.specs.Held.{Holding, held_changes, held_floors, IsSound}
+use Rattle.ds_marked.specs.Marked.{MarkedHolding}
 
 -- what each element stands under, with the mark at the same index
 module _ {K X M : Type 0} (key : X → K) where
@@ -30,6 +31,18 @@ module _ {M : Type 0} where
   -- from each owner the mark of its floor
   abbrev pub marks_beside_floors : List Floor → List M → FinMap name_cmp M
   marks_beside_floors floors marks = from_entries (marked_owners floors marks)
+
+  -- from each held key the mark that stands beside its change
+  abbrev pub marks_of : Holding → List M → FinMap key_cmp M
+  marks_of held marks = marks_beside (held_changes held) marks
+
+  -- from each owner the mark that stands beside its floor
+  abbrev pub floor_marks_of : Holding → List M → FinMap name_cmp M
+  floor_marks_of held marks = marks_beside_floors (held_floors held) marks
+
+  -- what is held, with these marks beside its changes, and those beside its floors
+  abbrev pub marked_by : Holding → List M → List M → MarkedHolding M
+  marked_by held marks floor_marks = record { held = held; marks = marks_of held marks; floor_marks = floor_marks_of held floor_marks }
 
   -- there is one mark for each change that is held, at its own key
   pub record IsBeside (held : Holding) (marks : List M) : Type 0 where

@@ -1,2 +1,4 @@
 pub mod Marked
 pub mod Beside
+pub mod Room
+pub mod Coded

@@ -1,5 +1,5 @@
 -- What a holder with marks holds: beside each change and each floor a mark of the caller's.
-use Rattle.std.specs.Prelude.{◌≡◌, List, ℕ, Option, Some, None, is_some, Result, Ok, Err}
+use Rattle.std.specs.Prelude.{◌≡◌, List, ℕ, Option, Some, None, is_some, slice_get, Result, Ok, Err}
 use Rattle.std.specs.FinMap.{FinMap, empty, get, insert}
 use Rattle.ds_names.specs.declared.key.Key.{Key}
 use Rattle.ds_names.specs.Key.{name_cmp, key_cmp}
@@ -9,7 +9,8 @@ use Rattle.ds_join.specs.declared.merge.Merge.{Merge}
 use Rattle.ds_join.specs.declared.merge.Merge.TheVariants.{Taken, Known, Stale}
 use Rattle.ds_join.specs.declared.merge.JoinFault.{JoinFault}
 use Rattle.ds_held.specs.Limits.{LimitsRecord}
-use Rattle.ds_held.specs.Held.{Holding, held_for, floor_for, nothing_held}
+use Rattle.ds_held.specs.Held.{Holding, held_changes, held_floors, held_for, floor_for, nothing_held}
+use Rattle.ds_held.specs.Kept.{IsPlace}
 use Rattle.ds_held.specs.Raise.{at_kept_keys}
 
 -- what is held, from each held key its mark, and from each owner the mark of its floor
@@ -66,3 +67,15 @@ module _ {M : Type 0} where
   abbrev pub floor_remarked : FinMap name_cmp M → Option Floor → M → FinMap name_cmp M
   floor_remarked old None mark = old
   floor_remarked old (Some f) mark = insert old f.owner mark
+
+  -- the marks with another one for the change at the index, where there is one
+  abbrev pub remarked_at : MarkedHolding M → ℕ → M → FinMap key_cmp M
+  remarked_at h index mark = remarked h.marks (slice_get (held_changes h.held) index) mark
+
+  -- and with another one for the floor at the index
+  abbrev pub floor_remarked_at : MarkedHolding M → ℕ → M → FinMap name_cmp M
+  floor_remarked_at h index mark = floor_remarked h.floor_marks (slice_get (held_floors h.held) index) mark
+
+  -- what is found at a place is the mark of the key that has this place
+  abbrev pub IsMarkAt : MarkedHolding M → Result ℕ ℕ → Option M → Type 0
+  IsMarkAt h place found = (key : Key) → IsPlace (held_changes h.held) key place → found ≡ mark_for h key

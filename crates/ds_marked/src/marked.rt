@@ -2,15 +2,15 @@
 
 ghost use Rattle.std.specs.Prelude.{◌≡◌, ◌≤◌, ◌++◌, ◌∷◌, [], Some, IfSome, OnOk, slice_get};
 ghost use Rattle.std.specs.Option.{option_map};
-ghost use Rattle.ds_names.specs.declared.key.Key.{Key};
 ghost use Rattle.ds_entry.specs.Change.{IsChange};
 ghost use Rattle.ds_entry.specs.declared.item.Item.TheVariants.{Change as Changed, Floor as Floored};
 ghost use Rattle.ds_join.specs.ItemTop.{IsTop};
-ghost use Rattle.ds_held.specs.Held.{held_changes, held_floors, held_items, held_for, floor_count, IsSound};
-ghost use Rattle.ds_held.specs.Kept.{IsPlace};
+ghost use Rattle.ds_held.specs.Held.{held_changes, held_floors, held_items, floor_count, IsSound};
+ghost use Rattle.ds_held.specs.Kept.{IsHeldAt, IsPlace};
 ghost use Rattle.ds_held.specs.Merge.{after_merge, MergeAnswer};
 ghost use Rattle.ds_held.specs.Raise.{after_raise, RaiseAnswer};
-ghost use Rattle.ds_marked.specs.Marked.{mark_for, floor_mark_for, marks_after, marks_raised, floor_marks_after, nothing_marked, remarked, floor_remarked, HasMarks};
+ghost use Rattle.ds_marked.specs.Marked.{mark_for, floor_mark_for, marks_after, marks_raised, floor_marks_after};
+ghost use Rattle.ds_marked.specs.Marked.{nothing_marked, remarked_at, floor_remarked_at, HasMarks, IsMarkAt};
 
 use ds_entry::{Change, Floor};
 use ds_held::{Held, Limits};
@@ -35,22 +35,16 @@ pub struct Marked<M> {
 }
 
 impl<M> Model for Marked<M> {
-    ghost use Rattle.std.specs.FinMap as map;
-    ghost use Rattle.std.specs.Coded.{code_by, coded×};
-    ghost use Rattle.ds_names.specs.Key.{name_cmp, key_cmp};
-    ghost use Rattle.ds_names.specs.contracts.key.Key.{the_row as key_row};
-    ghost use Rattle.ds_names.specs.contracts.name.Name.{the_row as name_row};
-    ghost use Rattle.ds_held.specs.Held.{Holding, held_changes, held_floors};
-    ghost use Rattle.ds_held.specs.contracts.held.Held.{the_row as held_row};
+    ghost use Rattle.ds_marked.specs.Coded.{marked_code};
     ghost use Rattle.ds_marked.specs.Marked.{MarkedHolding};
 
     ghost Value = { MarkedHolding M };
 
-    ghost coded = { code_by (Holding × (map.FinMap key_cmp M × map.FinMap name_cmp M)) (coded× held_row.coded (coded× (map.code key_row.coded M.code) (map.code name_row.coded M.code))) (λ h. (h.held, (h.marks, h.floor_marks))) (λ p. record { held = p.0; marks = p.1.0; floor_marks = p.1.1 }) (λ h i. h) };
+    ghost coded = { marked_code M.code };
 
-    ghost use Rattle.ds_marked.specs.Beside.{marks_beside, marks_beside_floors, IsBeside, IsBesideFloors};
+    ghost use Rattle.ds_marked.specs.Beside.{marked_by, IsBeside, IsBesideFloors};
 
-    ghost view = { λ h. record { held = h.held; marks = marks_beside (held_changes h.held) h.marks.items; floor_marks = marks_beside_floors (held_floors h.held) h.floor_marks.items } };
+    ghost view = { λ h. marked_by h.held h.marks.items h.floor_marks.items };
 
     ghost invariant = { λ h. IsBeside h.held h.marks.items × IsBesideFloors h.held h.floor_marks.items };
 }
@@ -88,8 +82,8 @@ impl<M: Drop> Marked<M> {
 
     /// The change that is held for the key whose place this is, and its mark.
     pub fn get_at(&self, place: Result<usize, usize>) -> Option<(&Change, &M)>
-        ensures change { (key : Key) → IsPlace (held_changes self.now.held) key place → option_map (λ p. p.0.now) result ≡ held_for self.now.held key }
-        ensures mark { (key : Key) → IsPlace (held_changes self.now.held) key place → option_map (λ p. p.1.now) result ≡ mark_for self.now key }
+        ensures change { IsHeldAt self.now.held place (option_map (λ p. p.0.now) result) }
+        ensures mark { IsMarkAt self.now place (option_map (λ p. p.1.now) result) }
         ensures sound { IsSound self.now.held }
         ensures valid { IfSome result (λ p. IsChange p.0.now) }
     {
@@ -172,7 +166,7 @@ impl<M: Drop> Marked<M> {
     /// last one.
     pub fn set_mark(&mut self, index: usize, mark: M)
         ensures held { self.new.held ≡ self.old.held }
-        ensures marks { self.new.marks ≡ remarked self.old.marks (slice_get (held_changes self.old.held) index) mark }
+        ensures marks { self.new.marks ≡ remarked_at self.old index mark }
         ensures floor_marks { self.new.floor_marks ≡ self.old.floor_marks }
     {
         set_at(&mut self.marks, index, mark);
@@ -183,7 +177,7 @@ impl<M: Drop> Marked<M> {
     pub fn set_floor_mark(&mut self, index: usize, mark: M)
         ensures held { self.new.held ≡ self.old.held }
         ensures marks { self.new.marks ≡ self.old.marks }
-        ensures floor_marks { self.new.floor_marks ≡ floor_remarked self.old.floor_marks (slice_get (held_floors self.old.held) index) mark }
+        ensures floor_marks { self.new.floor_marks ≡ floor_remarked_at self.old index mark }
     {
         set_at(&mut self.floor_marks, index, mark);
     }

@@ -1,6 +1,8 @@
 -- What an endpoint is, and its text.
 use Rattle.std.specs.Prelude.{ℕ, ◌≤◌, ◌==◌, ◌&&◌, Bool, List, ◌∷◌, ◌++◌}
+use Rattle.std.specs.Char.{is_ascii_digit}
 use Rattle.std.specs.Fmt.{decimal}
+use Rattle.ds_names.specs.Run.{Begins}
 
 -- a process slot, and how often a process was started before this one
 pub record EndpointRecord : Type 0 where
@@ -27,3 +29,7 @@ pub record IsEndpoint (e : EndpointRecord) : Type 0 where
 -- `generation/slot`, in decimals
 abbrev pub endpoint_text : EndpointRecord → List ℕ
 endpoint_text e = decimal e.generation ++ 47 ∷ decimal e.slot
+
+-- no text of an endpoint stands at the front of the bytes, its slot the longest run of digits
+abbrev pub NoEndpointBegins : List ℕ → Type 0
+NoEndpointBegins bytes = (e : EndpointRecord) (rest : List ℕ) → IsEndpoint e → ¬ Begins is_ascii_digit bytes (endpoint_text e) rest

@@ -5,4 +5,5 @@ pub mod Key
 pub mod Version
 pub mod Endpoint
 pub mod Run
+pub mod Decimal
 pub mod Limits

@@ -1,16 +1,16 @@
 //! Decimal numbers and single bytes at the front of a text.
 
-ghost use Rattle.std.specs.Prelude.{◌≡◌, ℕ, ◌<◌, ◌≤◌, ◌^◌, List, length, take, ◌≢◌, ◌∷◌, IfSome, IfNone};
+ghost use Rattle.std.specs.Prelude.{◌≡◌, ℕ, ◌<◌, ◌≤◌, ◌^◌, List, length, ◌≢◌, ◌∷◌, IfSome, IfNone};
 ghost use Rattle.std.specs.List.{prefix_len};
 ghost use Rattle.std.specs.Option.{SomeIff};
 ghost use Rattle.std.specs.Char.{is_ascii_digit};
 ghost use Rattle.std.specs.Fmt.{decimal};
-ghost use Rattle.std.specs.Str.Parse.{digits_value};
+ghost use Rattle.ds_names.specs.Decimal.{leading_number};
 ghost use Rattle.ds_names.specs.Run.{Begins};
 
 // The number that the digits at the front write, and how many they are. `None` where it is 2^64 or more.
 fn number_of(bytes: &[u8]) -> Option<(u64, usize)>
-    ensures { let len = prefix_len is_ascii_digit bytes.now in let value = digits_value 10 (take len bytes.now) in SomeIff result (value < 2 ^ 64) (value, len) }
+    ensures { SomeIff result (leading_number bytes.now < 2 ^ 64) (leading_number bytes.now, prefix_len is_ascii_digit bytes.now) }
 {
     let mut number: u64 = 0;
     for (at, b) in bytes.iter().enumerate() {

@@ -3,7 +3,7 @@
 ghost use Rattle.std.specs.Prelude.{◌≡◌, ℕ, ◌<◌, ◌≤◌, List, ◌≢◌, OnErr, IfSome, IfNone, IfOk, string_bytes};
 ghost use Rattle.std.specs.Option.{SomeIff};
 ghost use Rattle.std.specs.Char.{is_ascii_digit};
-ghost use Rattle.ds_names.specs.Endpoint.{EndpointRecord, IsEndpoint, endpoint_text, endpoint_of, is_rs};
+ghost use Rattle.ds_names.specs.Endpoint.{EndpointRecord, IsEndpoint, NoEndpointBegins, endpoint_text, endpoint_of, is_rs};
 ghost use Rattle.ds_names.specs.Run.{Begins};
 
 use crate::decimal::{read_byte, read_decimal};
@@ -156,7 +156,7 @@ impl Endpoint {
 pub fn read_endpoint(bytes: &[u8]) -> Option<(u32, u16, &[u8])>
     ensures found { IfSome result (λ r. Begins is_ascii_digit bytes.now (endpoint_text (endpoint_of r.0 r.1)) r.2.now) }
     ensures valid { IfSome result (λ r. IsEndpoint (endpoint_of r.0 r.1)) }
-    ensures none { IfNone result ((e : EndpointRecord) (rest : List ℕ) → IsEndpoint e → ¬ Begins is_ascii_digit bytes.now (endpoint_text e) rest) }
+    ensures none { IfNone result (NoEndpointBegins bytes.now) }
 {
     let (generation, rest) = read_decimal(bytes, 2097151)?;
     let rest = read_byte(rest, b'/')?;

@@ -4,10 +4,13 @@ ghost use Rattle.ds_replica.specs.Bringing.{EventsBringItems};
 ghost use Rattle.ds_replica.specs.CaughtUp.{WholeIsAll, HoldsTheStoresInWorlds, HoldsAtLeastInWorlds, LabelsAreNewestInWorlds};
 ghost use Rattle.ds_replica.specs.Checks.{ChecksAreWholeInWorlds};
 ghost use Rattle.ds_replica.specs.Growth.{NewsAreNew, LaterIsFront};
-ghost use Rattle.ds_replica.specs.Headline.{AccountFitsAtStart, EventsFit, EqualWhereKnown, EqualOverEvents, NothingClashesInWorlds, NothingStopsInWorlds};
+ghost use Rattle.ds_replica.specs.Headline.{AccountFitsAtStart, EventsFit, EqualWhereKnown};
+ghost use Rattle.ds_replica.specs.Headline.{EqualOverEvents, NothingClashesInWorlds, NothingStopsInWorlds};
 ghost use Rattle.ds_replica.specs.Messages.{SnapshotIsWholeInWorlds, SinceIsTurn, SinceExtendsInWorlds, PageIsTurn, CheckIsTurn};
-ghost use Rattle.ds_replica.specs.Rows.{ReplicasConverge, ReplicasDiffer, MapsCatchUp, MapsLag, MapsLead, ReplicasClash, MapsClash, OwnersChange};
-ghost use Rattle.ds_replica.specs.Turns.{TurnsAreRunInWorlds, WholeStaysInWorlds, KnownStays, NothingBelowFloorsInWorlds, FloorsStandInWorlds};
+ghost use Rattle.ds_replica.specs.Rows.{ReplicasConverge, ReplicasDiffer, MapsCatchUp, MapsLag};
+ghost use Rattle.ds_replica.specs.Rows.{MapsLead, ReplicasClash, MapsClash, OwnersChange};
+ghost use Rattle.ds_replica.specs.Turns.{TurnsAreRunInWorlds, WholeStaysInWorlds, KnownStays};
+ghost use Rattle.ds_replica.specs.Turns.{NothingBelowFloorsInWorlds, FloorsStandInWorlds};
 
 /// Of a world that was just made the empty account fits, and over every list of events the account that is extended by
 /// them.

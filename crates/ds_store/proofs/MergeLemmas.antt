@@ -30,7 +30,7 @@ use Rattle.ds_judge.specs.Last.{IsLast, MayLackItem}
 use Rattle.ds_content.specs.Content.{ContentRecord}
 use Rattle.ds_content.specs.Stands.{ContentStands}
 use Rattle.ds_content.proofs.EnterLemmas.{few_places}
-use Rattle.ds_store.specs.Merging.{MergesItem, StopsMerge, owed_after, count_taken, stale_by}
+use Rattle.ds_store.specs.Merging.{MergesItem, StopsMerge, owed_after, count_taken, count_stale}
 use Rattle.ds_names.specs.Limits.{most_items}
 use Rattle.ds_pattern.specs.Under.{is_under}
 use Rattle.ds_entry.specs.Item.{passes}
@@ -48,7 +48,7 @@ not_begun s = record { stop = refl; done = refl; taken = refl; stale = refl }
 pub judged : (k : Course) (c : Item) (o : Option Cause) → k.stop ≡ None → cause_of k.state c ≡ o → item_merged k c ≡ item_judged k c o
 judged k c o e f = ap₂ (λ stop x. option_map_or (λ (r : Refusal). k) stop (item_judged k c x)) e f
 
-pub item_done : (k : Course) (c : Item) (join : Merge) (t : State) (d n m : ℕ) → Reached k d n m → MergesItem k.state c (Ok join) t → Reached (item_merged k c) (d + 1) (n + count_taken join) (m + stale_by join) × ((item_merged k c).state ≡ t)
+pub item_done : (k : Course) (c : Item) (join : Merge) (t : State) (d n m : ℕ) → Reached k d n m → MergesItem k.state c (Ok join) t → Reached (item_merged k c) (d + 1) (n + count_taken join) (m + count_stale join) × ((item_merged k c).state ≡ t)
 item_done k c Taken t d n m r is =
     subst (λ (x : Course). Reached x (d + 1) (n + 1) (m + 0) × (x.state ≡ t)) (sym (judged k c None r.stop is.0)) (
       record { stop = r.stop; done = ap (λ x. x + 1) r.done; taken = omega (arith, r.taken, length-append k.taken (c ∷ [])); stale = omega (arith, r.stale) },
@@ -97,7 +97,7 @@ pub next_course : (s : State) (items : List Item) (i : ℕ) (c : Item) → slice
 next_course s items i c at =
     course_more s items i c (slice_get_within items i c at) ∙ ap (item_merged (course s (take i items))) (get_or_from_slice_get items i c c at)
 
-pub next_reached : (s : State) (items : List Item) (i : ℕ) (c : Item) (join : Merge) (t : State) (n m x y : ℕ) → slice_get items i ≡ Some c → Reached (course s (take i items)) i n m → MergesItem (course s (take i items)).state c (Ok join) t → x ≡ count_taken join → y ≡ stale_by join
+pub next_reached : (s : State) (items : List Item) (i : ℕ) (c : Item) (join : Merge) (t : State) (n m x y : ℕ) → slice_get items i ≡ Some c → Reached (course s (take i items)) i n m → MergesItem (course s (take i items)).state c (Ok join) t → x ≡ count_taken join → y ≡ count_stale join
     → Reached (course s (take (i + 1) items)) (i + 1) (n + x) (m + y) × (t ≡ (course s (take (i + 1) items)).state)
 next_reached s items i c join t n m x y at r is e f =
     let same = next_course s items i c at in
@@ -167,7 +167,7 @@ taken_within Taken n d x e h = omega (arith, e, h)
 taken_within Known n d x e h = omega (arith, e, h)
 taken_within Stale n d x e h = omega (arith, e, h)
 
-pub stale_within : (join : Merge) (n d x : ℕ) → x ≡ stale_by join → n ≤ d → n + x ≤ d + 1
+pub stale_within : (join : Merge) (n d x : ℕ) → x ≡ count_stale join → n ≤ d → n + x ≤ d + 1
 stale_within Taken n d x e h = omega (arith, e, h)
 stale_within Known n d x e h = omega (arith, e, h)
 stale_within Stale n d x e h = omega (arith, e, h)

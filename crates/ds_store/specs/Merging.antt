@@ -1,12 +1,11 @@
 -- What becomes of one item of a Merge.
-use Rattle.std.specs.Prelude.{◌≡◌, ◌⊎◌, ℕ, Bool, List, [], ◌∷◌, Some, None, Result, Ok, Err, map}
+use Rattle.std.specs.Prelude.{◌≡◌, ◌⊎◌, ℕ, Bool, List, [], ◌∷◌, Some, None, Result, Ok, Err}
 use Rattle.ds_entry.specs.declared.item.Item.{Item}
 use Rattle.ds_join.specs.declared.merge.Merge.{Merge}
 use Rattle.ds_join.specs.declared.merge.Merge.TheVariants as merges
-use Rattle.ds_watch.specs.Mask.{either, padded}
+use Rattle.ds_watch.specs.Mask.{either}
 use Rattle.ds_machine.specs.State.{State, takes_effect}
 use Rattle.ds_machine.specs.Standing.{cause_of}
-use Rattle.ds_machine.specs.Subscription.{is_owed}
 use Rattle.ds_machine.specs.declared.refusal.Cause.TheVariants as causes
 use Rattle.ds_machine.specs.declared.refusal.Refusal.{Refusal}
 use Rattle.ds_machine.specs.declared.refusal.Refusal.TheVariants as refusals
@@ -31,17 +30,13 @@ owed_after (Ok merges.Known) total more = total
 owed_after (Ok merges.Stale) total more = total
 owed_after (Err fault) total more = total
 
--- the subscriptions to which the item is owed, as the flags of a whole mask
-abbrev pub owed_flags : State → Item → List Bool
-owed_flags s i = padded (map (is_owed (i ∷ [])) s.subscriptions)
-
 -- how many items are taken by this, and how many are stale
 abbrev pub count_taken : Merge → ℕ
 count_taken merges.Taken = 1
 count_taken merges.Known = 0
 count_taken merges.Stale = 0
 
-abbrev pub stale_by : Merge → ℕ
-stale_by merges.Taken = 0
-stale_by merges.Known = 0
-stale_by merges.Stale = 1
+abbrev pub count_stale : Merge → ℕ
+count_stale merges.Taken = 0
+count_stale merges.Known = 0
+count_stale merges.Stale = 1

@@ -1,11 +1,7 @@
 -- What a call of a store says of the states that its content stands for.
 use Rattle.ds_machine.specs.State.{State}
 use Rattle.ds_content.specs.Content.{ContentRecord}
-use Rattle.ds_content.specs.Stands.{ContentStands}
-
--- it holds in each state that the content stands for
-abbrev pub InEachState : ContentRecord → (State → Type 0) → Type 0
-InEachState content holds = (s : State) → ContentStands content s → holds s
+use Rattle.ds_content.specs.Stands.{ContentStands, InEachState}
 
 -- from each state that the old content stands for it leads to one that the new content stands for
 abbrev pub ContentSteps : ContentRecord → (State → State → Type 0) → ContentRecord → Type 0

@@ -10,8 +10,8 @@ use Rattle.ds_machine.specs.declared.command.Command.{Command}
 use Rattle.ds_machine.specs.declared.reply.Reply.{Reply}
 use Rattle.ds_judge.specs.Last.{IsLast}
 use Rattle.ds_content.specs.Content.{ContentRecord}
-use Rattle.ds_content.specs.Stands.{ContentStands}
-use Rattle.ds_store.specs.Steps.{ContentSteps, InEachState}
+use Rattle.ds_content.specs.Stands.{ContentStands, InEachState}
+use Rattle.ds_store.specs.Steps.{ContentSteps}
 
 -- one step of the store's machine, in which want of memory is told behind every cause that stands, and where memory is taken
 pub record Answered (s : State) (command : Command) (reply : Reply) (t : State) : Type 0 where

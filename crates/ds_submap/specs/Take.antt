@@ -1,14 +1,15 @@
 -- What a map takes of items that come in order, and where it stops.
-use Rattle.std.specs.Prelude.{◌≡◌, ◌⊎◌, ◌≤◌, ◌<◌, Bool, true, false, List, [], ◌∷◌, All, length, filter, take, slice_get, Option, Some, None, Result, Ok, Err, IsTrue, IsFalse}
+use Rattle.std.specs.Prelude.{◌≡◌, ◌⊎◌, ◌≤◌, ◌<◌, Bool, true, false, List, [], ◌∷◌, ◌++◌, All, length, filter, take, slice_get, Option, Some, None, Result, Ok, Err, IsTrue, IsFalse}
 use Rattle.ds_names.specs.Kind.{names_kind}
 use Rattle.ds_entry.specs.declared.item.Item.{Item}
 use Rattle.ds_entry.specs.declared.item.Item.TheVariants.{Change as Changed, Floor as Floored}
+use Rattle.ds_join.specs.ItemTop.{IsTop}
 use Rattle.ds_join.specs.declared.merge.Merge.{Merge}
 use Rattle.ds_join.specs.declared.merge.Merge.TheVariants.{Taken, Known, Stale}
 use Rattle.ds_join.specs.declared.merge.JoinFault.{JoinFault}
 use Rattle.ds_join.specs.declared.merge.JoinFault.TheVariants.{NoRoom}
 use Rattle.ds_join.specs.declared.merge.Stop.{Stop}
-use Rattle.ds_held.specs.Held.{Holding, IsSound}
+use Rattle.ds_held.specs.Held.{Holding, held_items, IsSound}
 use Rattle.ds_held.specs.Join.{ItemAnswer, after_item, IsItemRefused}
 use Rattle.ds_pattern.specs.declared.query.Query.{Query}
 use Rattle.ds_pattern.specs.Under.{is_under}
@@ -76,6 +77,10 @@ pub record IsUnasked (q : Query) (front : List Item) (i : Item) (fault : JoinFau
 pub record IsTakeStopped (q : Query) (old : Holding) (items : List Item) (new : Holding) (stop : Stop) : Type 0 where
   pub front : AreTaken q old (take stop.done items) new
   pub refused : (next : Item) × (slice_get items stop.done ≡ Some next) × (IsRefusedUnder q new next stop.fault ⊎ IsUnasked q (take stop.done items) next stop.fault)
+
+-- what is held now is the top of what was held and of those of the items that are under the query, floors among them
+abbrev pub JoinsUnder : Query → Holding → List Item → Holding → Type 0
+JoinsUnder q old items new = IsTop (held_items new) (held_items old ++ under (is_under q) items)
 
 -- the items that were done: all of them, or those in front of the one that was refused
 abbrev pub done_items : Result Count Stop → List Item → List Item

@@ -9,7 +9,7 @@ ghost use Rattle.ds_join.specs.ItemTop.{IsTop};
 ghost use Rattle.ds_held.specs.Held.{held_for, held_items};
 ghost use Rattle.ds_pattern.specs.Patterns.{IsPattern, IsPatternFault};
 ghost use Rattle.ds_submap.specs.Map.{empty_map, endpoint_of_label, IsMap};
-ghost use Rattle.ds_submap.specs.Take.{done_items, AreCounted, IsTakeStopped};
+ghost use Rattle.ds_submap.specs.Take.{done_items, AreCounted, IsTakeStopped, JoinsUnder};
 ghost use Rattle.ds_submap.specs.Floors.{AreSwept, EachFloorStands};
 ghost use Rattle.ds_entry.specs.Under.{entries_of, under};
 ghost use Rattle.ds_pattern.specs.Under.{is_under};
@@ -45,7 +45,8 @@ impl Model for SubMap {
 
     ghost Value = { SubMapRecord };
 
-    ghost coded = { code_by (Query × Holding) (coded× query_row.coded held_row.coded) (λ m. (m.query, m.held)) (λ p. map_of p.0 p.1) (λ m i. m) };
+    ghost coded = { code_by (Query × Holding) (coded× query_row.coded held_row.coded)
+        (λ m. (m.query, m.held)) (λ p. map_of p.0 p.1) (λ m i. m) };
 
     ghost view = { λ m. map_of m.filter m.held };
 
@@ -72,7 +73,7 @@ impl SubMap {
     /// names it takes memory to ask for names; a floor needs none of that. A change is copied only where it is taken. It stops
     /// at the first item that is refused, and those before it stand.
     pub fn take(&mut self, alloc: Global, items: &Items) -> Result<Count, Stop>
-        ensures joined { IsTop (held_items self.new.held) (held_items self.old.held ++ under (is_under self.old.query) (done_items result items.now)) }
+        ensures joined { JoinsUnder self.old.query self.old.held (done_items result items.now) self.new.held }
         ensures counted { IfOk result (AreCounted self.old.query self.old.held items.now self.new.held) }
         ensures stopped { IfErr result (IsTakeStopped self.old.query self.old.held items.now self.new.held) }
         ensures floors { EachFloorStands (held_items self.old.held ++ done_items result items.now) (held_items self.new.held) }
@@ -83,7 +84,7 @@ impl SubMap {
 
     /// Takes items of a slice as `take` does those of a list, as where a part of a list is lent.
     pub fn take_slice(&mut self, alloc: Global, items: &[Item]) -> Result<Count, Stop>
-        ensures joined { IsTop (held_items self.new.held) (held_items self.old.held ++ under (is_under self.old.query) (done_items result items.now)) }
+        ensures joined { JoinsUnder self.old.query self.old.held (done_items result items.now) self.new.held }
         ensures counted { IfOk result (AreCounted self.old.query self.old.held items.now self.new.held) }
         ensures stopped { IfErr result (IsTakeStopped self.old.query self.old.held items.now self.new.held) }
         ensures floors { EachFloorStands (held_items self.old.held ++ done_items result items.now) (held_items self.new.held) }

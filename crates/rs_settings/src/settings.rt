@@ -1,6 +1,7 @@
 //! Settings, and how they are read.
 
-ghost use Rattle.std.specs.Prelude.{◌≡◌, ◌≢◌, ◌≤◌, ◌&&◌, All, IsTrue, IsOk, IfOk, IfErr, OnErr, IfSome, Ok, Err, [], nat_le, length, map, option_map};
+ghost use Rattle.std.specs.Prelude.{◌≡◌, ◌≢◌, ◌≤◌, ◌&&◌, All, IsTrue, IsOk, IfOk, IfErr, OnErr};
+ghost use Rattle.std.specs.Prelude.{IfSome, Ok, Err, [], nat_le, length, map, option_map};
 ghost use Rattle.std.specs.Option.{option_and_then};
 ghost use Rattle.toml.specs.Data.{get_member, as_array};
 ghost use Rattle.toml.specs.View.{view, table_view, array_view, items_view};
@@ -43,7 +44,8 @@ impl Model for Settings {
 
     ghost Value = { SettingsRecord };
 
-    ghost coded = { code_by (ℕ × ServiceList) (coded× coded_ℕ services_row.coded) (λ s. (s.slots, s.services)) (λ p. settings p.0 p.1) (λ s i. s) };
+    ghost coded = { code_by (ℕ × ServiceList) (coded× coded_ℕ services_row.coded)
+        (λ s. (s.slots, s.services)) (λ p. settings p.0 p.1) (λ s i. s) };
 
     ghost view = { λ s. settings s.slots s.services };
 

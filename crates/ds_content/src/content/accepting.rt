@@ -1,15 +1,15 @@
 //! Changes that take effect.
 
-ghost use Rattle.std.specs.Prelude.{◌≡◌, ◌∷◌, [], None, ◌⊎◌, map, IfOk, OnOk, OnErr};
+ghost use Rattle.std.specs.Prelude.{◌≡◌, ◌∷◌, [], None, ◌⊎◌, IfOk, OnOk, OnErr};
 ghost use Rattle.ds_entry.specs.Change.{ChangeRecord, IsBodyInPlace};
 ghost use Rattle.ds_entry.specs.declared.item.Item.TheVariants.{Change as Changed};
 ghost use Rattle.ds_held.specs.Kept.{IsPlace};
 ghost use Rattle.ds_machine.specs.Parts.{changes_in, held_at};
 ghost use Rattle.ds_machine.specs.State.{State, takes_effect};
-ghost use Rattle.ds_machine.specs.Subscription.{is_owed};
 ghost use Rattle.ds_watch.specs.Followed.{owed_for};
 ghost use Rattle.ds_watch.specs.Mask.{padded};
-ghost use Rattle.ds_content.specs.Stands.{ContentStands};
+ghost use Rattle.ds_content.specs.Stands.{ContentStands, StandsAfter};
+ghost use Rattle.ds_content.specs.Owed.{owed_flags};
 ghost use Rattle.ds_content.specs.Taken.{IsTakenOrNoRoom};
 ghost use Rattle.ds_content.specs.Standing.{standing_in};
 ghost use Rattle.ds_machine.specs.Standing.{IsFree};
@@ -26,7 +26,8 @@ impl Content {
     pub fn owed_at(&self, place: Result<usize, usize>, key: &Key) -> Result<Mask, NoRoom>
         requires { IsPlace (changes_in self.now.held) key.now place }
         ensures value { IfOk result (λ owed. owed ≡ padded (owed_for key.now self.now.subscriptions)) }
-        ensures owed { (s : State) (c : ChangeRecord) → ContentStands self.now s → c.key ≡ key.now → IfOk result (λ owed. owed ≡ padded (map (is_owed (Changed c ∷ [])) s.subscriptions)) }
+        ensures owed { (s : State) (c : ChangeRecord) → ContentStands self.now s → c.key ≡ key.now
+            → IfOk result (λ owed. owed ≡ owed_flags s (Changed c)) }
         ensures held { OnErr result (held_at self.now.held key.now ≡ None) }
     {
         let _held = self.held.held();
@@ -48,7 +49,7 @@ impl Content {
         requires place { IsPlace (changes_in self.old.held) change.key place }
         requires owed { owed ≡ padded (owed_for change.key self.old.subscriptions) }
         requires free { IsFree (standing_in self.old change) change }
-        ensures ok { OnOk result ((s : State) → ContentStands self.old s → ContentStands self.new (takes_effect s (Changed change ∷ []))) }
+        ensures ok { OnOk result (StandsAfter self.old (λ s. takes_effect s (Changed change ∷ [])) self.new) }
         ensures err { OnErr result (self.new ≡ self.old) }
         ensures wants { OnErr result ((held_at self.old.held change.key ≡ None) ⊎ (¬ IsBodyInPlace change.body)) }
     {

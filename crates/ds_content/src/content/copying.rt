@@ -1,9 +1,9 @@
 //! Copies of what is held.
 
-ghost use Rattle.std.specs.Prelude.{◌≡◌, ◌++◌, ◌∷◌, [], Some, None, filter, is_some, slice_get, IfOk, OnOk};
+ghost use Rattle.std.specs.Prelude.{◌≡◌, None, filter, is_some, slice_get, IfOk, OnOk};
 ghost use Rattle.ds_entry.specs.Item.{passes};
-ghost use Rattle.ds_entry.specs.declared.item.Item as entries;
 ghost use Rattle.ds_held.specs.Held.{held_items};
+ghost use Rattle.ds_content.specs.Shown.{IsItemAdded};
 
 use ds_entry::{Item, Items};
 use ds_feed::KeyScope;
@@ -38,7 +38,7 @@ fn add_at<S: KeyScope>(
     items: &mut Items,
 ) -> Result<bool, NoRoom>
     ensures there { IfOk result (λ there. there ≡ is_some (slice_get (held_items held.now) index)) }
-    ensures added { OnOk result ((i : entries.Item) → slice_get (held_items held.now) index ≡ Some i → items.new ≡ items.old ++ filter (passes (S.keeps scope.old)) (i ∷ [])) }
+    ensures added { OnOk result (IsItemAdded held.now index (passes (S.keeps scope.old)) items.old items.new) }
     ensures same { OnOk result (slice_get (held_items held.now) index ≡ None → items.new ≡ items.old) }
     ensures scope { S.keeps scope.new ≡ S.keeps scope.old }
 {

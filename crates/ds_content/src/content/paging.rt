@@ -3,13 +3,11 @@
 ghost use Rattle.std.specs.Prelude.{◌≡◌, ◌++◌, [], cond, map, take, length, nat_le, is_none, IfOk, OnOk};
 ghost use Rattle.std.specs.Option.{option_copied};
 ghost use Rattle.ds_entry.specs.Item.{passes};
-ghost use Rattle.ds_feed.specs.Kept.{cursor_of};
-ghost use Rattle.ds_feed.specs.Page.{page_of};
 ghost use Rattle.ds_held.specs.Held.{change_item, held_floors};
 ghost use Rattle.ds_held.specs.Kept.{floored};
-ghost use Rattle.ds_machine.specs.State.{State, held as held_in, cursor as cursor_behind};
-ghost use Rattle.ds_content.specs.Paging.{admitted, more_after, given_change};
-ghost use Rattle.ds_content.specs.Stands.{ContentStands};
+ghost use Rattle.ds_content.specs.Paging.{admitted, more_after, given_items};
+ghost use Rattle.ds_content.specs.Stands.{InEachState};
+ghost use Rattle.ds_content.specs.Given.{content_page, state_page};
 
 use crate::content::Content;
 use ds_entry::{Change, Item, Items};
@@ -45,7 +43,7 @@ fn add_change<S: KeyScope>(
     left: u32,
 ) -> Result<Option<u32>, NoRoom>
     ensures more { IfOk result (λ more. more ≡ more_after (S.keeps scope.old change.now.key) left) }
-    ensures added { OnOk result (items.new ≡ items.old ++ map change_item (given_change (S.keeps scope.old change.now.key) left change.now)) }
+    ensures added { OnOk result (items.new ≡ items.old ++ given_items (S.keeps scope.old change.now.key) left change.now) }
     ensures scope { S.keeps scope.new ≡ S.keeps scope.old }
 {
     if !scope.admits(change.key()) {
@@ -90,8 +88,8 @@ impl Content {
         after: Option<Key>,
         max: u32,
     ) -> Result<Page, NoRoom>
-        ensures given { IfOk result (λ page. page ≡ page_of (passes (S.keeps scope.old)) after max self.now.held (cursor_of self.now.journal)) }
-        ensures stands { (s : State) → ContentStands self.now s → IfOk result (λ page. page ≡ page_of (passes (S.keeps scope.old)) after max (held_in s) (cursor_behind s)) }
+        ensures given { IfOk result (λ page. page ≡ content_page self.now (passes (S.keeps scope.old)) after max) }
+        ensures stands { InEachState self.now (λ s. IfOk result (λ page. page ≡ state_page s (passes (S.keeps scope.old)) after max)) }
         ensures scope { S.keeps scope.new ≡ S.keeps scope.old }
     {
         let held = self.held.held();

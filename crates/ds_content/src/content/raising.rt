@@ -5,9 +5,9 @@ ghost use Rattle.ds_entry.specs.declared.floor.Floor as floors;
 ghost use Rattle.ds_entry.specs.declared.item.Item.TheVariants.{Floor as Floored};
 ghost use Rattle.ds_machine.specs.Parts.{floor_at};
 ghost use Rattle.ds_machine.specs.State.{State, takes_effect};
-ghost use Rattle.ds_machine.specs.Subscription.{is_owed};
 ghost use Rattle.ds_watch.specs.Mask.{padded};
-ghost use Rattle.ds_content.specs.Stands.{ContentStands};
+ghost use Rattle.ds_content.specs.Stands.{ContentStands, StandsAfter};
+ghost use Rattle.ds_content.specs.Owed.{owed_flags};
 ghost use Rattle.ds_content.specs.Standing.{floor_standing_in};
 ghost use Rattle.ds_machine.specs.Standing.{IsFloorFree};
 
@@ -21,7 +21,7 @@ impl Content {
     /// The subscriptions to which a floor is owed: all that are made.
     pub fn owed_by_floor(&self) -> Mask
         ensures value { result ≡ padded (map is_some self.now.subscriptions) }
-        ensures owed { (s : State) (f : floors.Floor) → ContentStands self.now s → result ≡ padded (map (is_owed (Floored f ∷ [])) s.subscriptions) }
+        ensures owed { (s : State) (f : floors.Floor) → ContentStands self.now s → result ≡ owed_flags s (Floored f) }
     {
         self.subscriptions.made()
     }
@@ -32,7 +32,7 @@ impl Content {
     pub fn raise(&mut self, floor: Floor, owed: Mask) -> Result<(), NoRoom>
         requires owed { owed ≡ padded (map is_some self.old.subscriptions) }
         requires free { IsFloorFree (floor_standing_in self.old floor) floor }
-        ensures ok { OnOk result ((s : State) → ContentStands self.old s → ContentStands self.new (takes_effect s (Floored floor ∷ []))) }
+        ensures ok { OnOk result (StandsAfter self.old (λ s. takes_effect s (Floored floor ∷ [])) self.new) }
         ensures err { OnErr result (self.new ≡ self.old) }
         ensures new_owner { OnErr result (floor_at self.old.held floor.owner ≡ None) }
     {

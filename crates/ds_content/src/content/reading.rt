@@ -2,11 +2,9 @@
 
 ghost use Rattle.std.specs.Prelude.{◌≡◌, IfOk, IfErr};
 ghost use Rattle.ds_entry.specs.Item.{passes};
-ghost use Rattle.ds_feed.specs.Kept.{cursor_of};
-ghost use Rattle.ds_feed.specs.Page.{snapshot_of};
 ghost use Rattle.ds_feed.specs.Since.{IsGiven, IsSinceRefused};
-ghost use Rattle.ds_machine.specs.State.{State, held, cursor as cursor_behind};
-ghost use Rattle.ds_content.specs.Stands.{ContentStands};
+ghost use Rattle.ds_content.specs.Stands.{InEachState};
+ghost use Rattle.ds_content.specs.Given.{content_snapshot, state_snapshot};
 
 use crate::content::Content;
 use crate::content::copying::all_under;
@@ -23,8 +21,8 @@ impl Content {
         cursor: Cursor,
         max: u32,
     ) -> Result<Since, SinceFault>
-        ensures given { (s : State) → ContentStands self.now s → IfOk result (IsGiven s.feed (passes (S.keeps scope.old)) cursor max) }
-        ensures refused { (s : State) → ContentStands self.now s → IfErr result (λ fault. IsSinceRefused s.feed cursor fault) }
+        ensures given { InEachState self.now (λ s. IfOk result (IsGiven s.feed (passes (S.keeps scope.old)) cursor max)) }
+        ensures refused { InEachState self.now (λ s. IfErr result (IsSinceRefused s.feed cursor)) }
         ensures scope { S.keeps scope.new ≡ S.keeps scope.old }
     {
         self.journal.since_under(self.alloc, scope, cursor, max)
@@ -33,8 +31,8 @@ impl Content {
     /// All that is held under the scope, floors first and then changes in key order, and the cursor behind all that took
     /// effect.
     pub fn snapshot<S: KeyScope>(&self, scope: &mut S) -> Result<Snapshot, NoRoom>
-        ensures given { IfOk result (λ snapshot. snapshot ≡ snapshot_of (passes (S.keeps scope.old)) self.now.held (cursor_of self.now.journal)) }
-        ensures stands { (s : State) → ContentStands self.now s → IfOk result (λ snapshot. snapshot ≡ snapshot_of (passes (S.keeps scope.old)) (held s) (cursor_behind s)) }
+        ensures given { IfOk result (λ snapshot. snapshot ≡ content_snapshot self.now (passes (S.keeps scope.old))) }
+        ensures stands { InEachState self.now (λ s. IfOk result (λ snapshot. snapshot ≡ state_snapshot s (passes (S.keeps scope.old)))) }
         ensures scope { S.keeps scope.new ≡ S.keeps scope.old }
     {
         let items = all_under(self.alloc, self.held.held(), scope)?;

@@ -1,14 +1,12 @@
 //! What is shown to subscriptions.
 
-ghost use Rattle.std.specs.Prelude.{◌≡◌, ◌<◌, ◌++◌, Some, None, true, ◌∷◌, [], cond, is_some, take, slice_get, slice_index_or, IfOk, OnOk, OnErr};
+ghost use Rattle.std.specs.Prelude.{◌≡◌, ◌<◌, ◌++◌, None, true, is_some, take, slice_get, slice_index_or, IfOk, OnOk, OnErr};
 ghost use Rattle.std.specs.List.{list_any};
-ghost use Rattle.ds_machine.specs.State.{State, subscribes, subscription_at, unseen};
-ghost use Rattle.ds_machine.specs.Subscription.{Subscription as Seer};
+ghost use Rattle.ds_machine.specs.State.{subscribes, unseen};
 ghost use Rattle.ds_machine.specs.Watching.{has_unseen};
-ghost use Rattle.ds_entry.specs.declared.item.Item as entries;
 ghost use Rattle.ds_held.specs.Held.{held_items};
-ghost use Rattle.ds_content.specs.Shown.{AreUnseen, AreFirst, is_to_show};
-ghost use Rattle.ds_content.specs.Stands.{ContentStands};
+ghost use Rattle.ds_content.specs.Shown.{AreUnseen, AreFirst, IsItemAdded, IsToShowAt, is_to_show};
+ghost use Rattle.ds_content.specs.Stands.{ContentStands, InEachWith};
 ghost use Rattle.ds_names.specs.Limits.{last_place};
 
 use crate::content::Content;
@@ -38,9 +36,9 @@ fn show_unseen(
 ) -> Result<bool, NoRoom>
     requires { sub < 128 }
     ensures there { IfOk result (λ there. there ≡ is_some (slice_get (held_items held.now.held) index)) }
-    ensures shown { OnOk result ((i : entries.Item) → slice_get (held_items held.now.held) index ≡ Some i → items.new ≡ items.old ++ cond (is_to_show held.now sub i) (i ∷ []) []) }
+    ensures shown { OnOk result (IsItemAdded held.now.held index (is_to_show held.now sub) items.old items.new) }
     ensures same { OnOk result (slice_get (held_items held.now.held) index ≡ None → items.new ≡ items.old) }
-    ensures refused { OnErr result ((i : entries.Item) × (slice_get (held_items held.now.held) index ≡ Some i) × (is_to_show held.now sub i ≡ true)) }
+    ensures refused { OnErr result (IsToShowAt held.now sub index) }
 {
     let content = held.held();
     let Some(masks) = masks_of(held, index) else {
@@ -88,8 +86,8 @@ impl Content {
     pub fn first_unseen(&self, sub: u32, max: u32) -> Result<Shown, NoRoom>
         requires { sub < self.now.limits.subs }
         ensures unseen { IfOk result (λ shown. AreUnseen self.now sub shown.items shown.passed) }
-        ensures first { (s : State) (seer : Seer) → ContentStands self.now s → subscription_at s sub ≡ Some seer → IfOk result (λ shown. shown.items ≡ take max (unseen s seer)) }
-        ensures refused { (s : State) (seer : Seer) → ContentStands self.now s → subscription_at s sub ≡ Some seer → OnErr result (has_unseen s seer ≡ true) }
+        ensures first { InEachWith self.now sub (λ s x. IfOk result (λ shown. shown.items ≡ take max (unseen s x))) }
+        ensures refused { InEachWith self.now sub (λ s x. OnErr result (has_unseen s x ≡ true)) }
     {
         let _held = self.held.held();
         first_unseen(self.alloc, &self.held, sub as usize, max as usize)
@@ -100,7 +98,7 @@ impl Content {
         requires made { is_some (slice_index_or self.old.subscriptions sub None) ≡ true }
         requires unseen { AreUnseen self.old sub shown.now.items shown.now.passed }
         requires room { self.old.stamp < last_place }
-        ensures { (s : State) (seer : Seer) → ContentStands self.old s → subscription_at s sub ≡ Some seer → ContentStands self.new (subscribes s sub seer.query (seer.shown ++ shown.now.items)) }
+        ensures { InEachWith self.old sub (λ s x. ContentStands self.new (subscribes s sub x.query (x.shown ++ shown.now.items))) }
     {
         let _held = self.held.held();
         show_first(&mut self.held, shown.passed, sub as usize);

@@ -2,9 +2,9 @@
 
 ghost use Rattle.std.specs.Prelude.{◌≡◌, ◌<◌, IfOk, OnOk, OnErr};
 ghost use Rattle.std.specs.List.{list_any};
-ghost use Rattle.ds_machine.specs.State.{State, subscribes};
+ghost use Rattle.ds_machine.specs.State.{subscribes};
 ghost use Rattle.ds_machine.specs.Watching.{shown_at_first};
-ghost use Rattle.ds_content.specs.Stands.{ContentStands};
+ghost use Rattle.ds_content.specs.Stands.{StandsAfter};
 ghost use Rattle.ds_names.specs.Limits.{last_place};
 ghost use Rattle.ds_pattern.specs.Under.{is_under};
 ghost use Rattle.ds_entry.specs.Item.{passes};
@@ -29,7 +29,7 @@ impl Content {
     pub fn subscribe(&mut self, sub: u32, filter: Filter, initial: bool) -> Result<bool, NoRoom>
         requires place { sub < self.old.limits.subs }
         requires room { self.old.stamp < last_place }
-        ensures ok { OnOk result ((s : State) → ContentStands self.old s → ContentStands self.new (subscribes s sub filter (shown_at_first self.old.held initial))) }
+        ensures ok { OnOk result (StandsAfter self.old (λ s. subscribes s sub filter (shown_at_first self.old.held initial)) self.new) }
         ensures some { IfOk result (λ some. some ≡ list_any (passes (is_under filter)) self.old.held) }
         ensures err { OnErr result (self.new ≡ self.old) }
     {

@@ -1,6 +1,6 @@
 //! Marks that are put at their places, where a change or a floor is taken.
 
-ghost use Rattle.std.specs.Prelude.{◌≡◌, ◌<◌, ◌≤◌, true, false, Ok, Err, MatchResult, slice_set, vec_len, vec_capacity, ⊤};
+ghost use Rattle.std.specs.Prelude.{◌≡◌, ◌<◌, ◌≤◌, true, false, Ok, Err, slice_set, vec_len, vec_capacity};
 ghost use Rattle.ds_entry.specs.Change.{IsChange};
 ghost use Rattle.ds_join.specs.declared.merge.JoinFault.TheVariants.{NoRoom};
 ghost use Rattle.ds_join.specs.declared.merge.Merge.TheVariants.{Taken};
@@ -8,8 +8,9 @@ ghost use Rattle.ds_held.specs.Held.{held_changes, held_floors, floor_count, IsS
 ghost use Rattle.ds_held.specs.Kept.{list_after, put_at, IsFloorPlace, IsPlace, IsPut};
 ghost use Rattle.ds_held.specs.Merge.{after_merge, MergeAnswer};
 ghost use Rattle.ds_held.specs.Raise.{after_raise, RaiseAnswer};
-ghost use Rattle.ds_marked.specs.Beside.{marks_beside, marks_beside_floors, IsBeside, IsBesideFloors};
+ghost use Rattle.ds_marked.specs.Beside.{marks_of, floor_marks_of, IsBeside, IsBesideFloors};
 ghost use Rattle.ds_marked.specs.Marked.{marks_after, marks_raised, floor_marks_after};
+ghost use Rattle.ds_marked.specs.Room.{FitsAt, HasRoomAt};
 
 use ds_entry::{Change, Floor};
 use ds_held::Held;
@@ -19,7 +20,7 @@ use ds_names::limits::MOST_FLOORS;
 // Makes room for a mark at a place.
 fn make_room<M>(marks: &mut Vec<M>, place: Result<usize, usize>) -> bool
     ensures items { marks.new.items ≡ marks.old.items }
-    ensures room { result ≡ true → MatchResult place (λ i. ⊤) (λ i. vec_len marks.new < vec_capacity marks.new) }
+    ensures room { result ≡ true → HasRoomAt place (vec_len marks.new) (vec_capacity marks.new) }
     ensures refused { result ≡ false → IsPut place (Err NoRoom) }
 {
     match place {
@@ -30,7 +31,7 @@ fn make_room<M>(marks: &mut Vec<M>, place: Result<usize, usize>) -> bool
 
 // Puts a mark at its place, for which there is room.
 fn put_mark<M: Drop>(marks: &mut Vec<M>, place: Result<usize, usize>, mark: M)
-    requires { MatchResult place (λ i. i < vec_len marks.old) (λ i. (i ≤ vec_len marks.old) × (vec_len marks.old < vec_capacity marks.old)) }
+    requires { FitsAt place (vec_len marks.old) (vec_capacity marks.old) }
     ensures { marks.new.items ≡ put_at marks.old.items place mark }
 {
     match place {
@@ -96,7 +97,7 @@ pub(super) fn merge_marked<M: Drop>(
     ensures after { held.new ≡ after_merge held.old change result }
     ensures change { IsChange change }
     ensures beside { IsBeside held.new marks.new.items }
-    ensures marks { marks_beside (held_changes held.new) marks.new.items ≡ marks_after (marks_beside (held_changes held.old) marks.old.items) change.key mark result }
+    ensures marks { marks_of held.new marks.new.items ≡ marks_after (marks_of held.old marks.old.items) change.key mark result }
 {
     match held.outlook(place, &change)? {
         Merge::Taken => put_marked(held, marks, place, change, mark),
@@ -107,7 +108,7 @@ pub(super) fn merge_marked<M: Drop>(
 // Makes room for the mark of a floor at a place. Where no owner more may have a floor, no room is wanted.
 fn make_floor_room<M>(held: &Held, marks: &mut Vec<M>, place: Result<usize, usize>) -> bool
     ensures items { marks.new.items ≡ marks.old.items }
-    ensures room { result ≡ true → floor_count held.now < 64 → MatchResult place (λ i. ⊤) (λ i. vec_len marks.new < vec_capacity marks.new) }
+    ensures room { result ≡ true → floor_count held.now < 64 → HasRoomAt place (vec_len marks.new) (vec_capacity marks.new) }
     ensures refused { result ≡ false → (floor_count held.now < 64) × IsPut place (Err NoRoom) }
 {
     if held.floor_count() < MOST_FLOORS {
@@ -124,7 +125,7 @@ fn keep_floor_mark<M: Drop>(
     mark: M,
     answer: &Result<Merge, JoinFault>,
 )
-    requires { answer.now ≡ Ok Taken → MatchResult place (λ i. i < vec_len marks.old) (λ i. (i ≤ vec_len marks.old) × (vec_len marks.old < vec_capacity marks.old)) }
+    requires { answer.now ≡ Ok Taken → FitsAt place (vec_len marks.old) (vec_capacity marks.old) }
     ensures { marks.new.items ≡ list_after marks.old.items (put_at marks.old.items place mark) answer.now }
 {
     match answer {
@@ -147,8 +148,9 @@ pub(super) fn raise_marked<M: Drop>(
     ensures after { held.new ≡ after_raise held.old floor result }
     ensures beside { IsBeside held.new marks.new.items }
     ensures floors { IsBesideFloors held.new floor_marks.new.items }
-    ensures marks { marks_beside (held_changes held.new) marks.new.items ≡ marks_raised held.old.changes (marks_beside (held_changes held.old) marks.old.items) floor result }
-    ensures floor_marks { marks_beside_floors (held_floors held.new) floor_marks.new.items ≡ floor_marks_after (marks_beside_floors (held_floors held.old) floor_marks.old.items) floor.owner mark result }
+    ensures marks { marks_of held.new marks.new.items ≡ marks_raised held.old.changes (marks_of held.old marks.old.items) floor result }
+    ensures floor_marks { floor_marks_of held.new floor_marks.new.items
+        ≡ floor_marks_after (floor_marks_of held.old floor_marks.old.items) floor.owner mark result }
 {
     let place = held.floor_place(&floor.owner);
     if !make_floor_room(held, floor_marks, place) {

@@ -9,11 +9,11 @@ ghost use Rattle.ds_machine.specs.State.{State};
 ghost use Rattle.ds_judge.specs.Asked.{request_of, MakesChange};
 ghost use Rattle.ds_judge.specs.Last.{MayLackAsked};
 ghost use Rattle.ds_judge.specs.Standing.{machine_standing};
-ghost use Rattle.ds_content.specs.Stands.{ContentStands};
+ghost use Rattle.ds_content.specs.Stands.{ContentStands, InEachState};
 ghost use Rattle.ds_content.specs.Standing.{standing_in};
 ghost use Rattle.ds_machine.specs.Standing.{IsFree};
 ghost use Rattle.ds_store.specs.Asking.{asked_here};
-ghost use Rattle.ds_store.specs.Steps.{ContentSteps, InEachState};
+ghost use Rattle.ds_store.specs.Steps.{ContentSteps};
 
 use crate::store::Store;
 use ds_entry::Body;

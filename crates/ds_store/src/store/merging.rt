@@ -10,10 +10,11 @@ ghost use Rattle.ds_machine.specs.Machine.{Step};
 ghost use Rattle.ds_machine.specs.Says.{IsReplyTo};
 ghost use Rattle.ds_judge.specs.Last.{IsLast, MayLackItem};
 ghost use Rattle.ds_judge.specs.Standing.{machine_standing};
-ghost use Rattle.ds_content.specs.Stands.{ContentStands};
+ghost use Rattle.ds_content.specs.Stands.{ContentStands, InEachState};
 ghost use Rattle.ds_content.specs.Standing.{standing_in, floor_standing_in};
-ghost use Rattle.ds_store.specs.Merging.{MergesItem, owed_after, owed_flags, stale_by, count_taken};
-ghost use Rattle.ds_store.specs.Steps.{ContentSteps, InEachState};
+ghost use Rattle.ds_store.specs.Merging.{MergesItem, owed_after, count_stale, count_taken};
+ghost use Rattle.ds_content.specs.Owed.{owed_flags};
+ghost use Rattle.ds_store.specs.Steps.{ContentSteps};
 
 use crate::store::Store;
 use ds_entry::{Change, Floor, Item};
@@ -140,8 +141,8 @@ impl Store {
                 }
             };
             done += 1;
-            taken += taken_by(join);
-            stale += stale_by(join);
+            taken += count_taken(join);
+            stale += count_stale(join);
         }
         Reply::Merged {
             done,
@@ -153,7 +154,7 @@ impl Store {
 }
 
 // How many items are taken by this.
-fn taken_by(join: Merge) -> usize
+fn count_taken(join: Merge) -> usize
     ensures { result ≡ count_taken join }
 {
     match join {
@@ -163,8 +164,8 @@ fn taken_by(join: Merge) -> usize
 }
 
 // How many items are stale by this.
-fn stale_by(join: Merge) -> usize
-    ensures { result ≡ stale_by join }
+fn count_stale(join: Merge) -> usize
+    ensures { result ≡ count_stale join }
 {
     match join {
         Merge::Stale => 1,

@@ -2,8 +2,8 @@ use Rattle.std.proofs.Common.{◌≡◌, List, length, ap, sym, ◌∙◌, subst
 use Rattle.std.specs.List.{remove}
 use Rattle.std.specs.List.Sorted.{IsStrictlySortedBy}
 use Rattle.ds_index.specs.declared.named.Named.{Named}
-use Rattle.ds_index.specs.Named.{named_cmp, inserted_label}
-use Rattle.ds_index.proofs.NamedLemmas.{IsNear, stands_at, stands_within, set_there, removed_sorted}
+use Rattle.ds_index.specs.Named.{IsNearLabel, named_cmp, inserted_label}
+use Rattle.ds_index.proofs.NamedLemmas.{stands_at, stands_within, set_there, removed_sorted}
 use Rattle.ds_index.proofs.index.replace.Goals as goal
 
 pub index_mut-requires : goal.index_mut-requires
@@ -26,7 +26,7 @@ stays-requires-clause-within c =
 pub returns-then-stays : goal.returns-then-stays
 returns-then-stays c =
     let here = stands_at c.args.before.now c.args.names.now.items c.deref.result.now c.place_of-old.result c.requires.sorted c.requires.listed c.deref.ensures.value c.place_of-old.ensures.place in
-    let near : IsNear c.args.after c.args.names.now.items c.place_of-old.result = subst (λ (l : List Named). IsNear c.args.after l c.place_of-old.result) c.deref-2.ensures.value (c.stays.ensures c.if-stays.true) in (
+    let near : IsNearLabel c.args.after c.args.names.now.items c.place_of-old.result = subst (λ (l : List Named). IsNearLabel c.args.after l c.place_of-old.result) c.deref-2.ensures.value (c.stays.ensures c.if-stays.true) in (
       c.place_of-old.result,
       here,
       set_there c.args.after c.args.before.now c.args.names.now.items c.place_of-old.result near.0 here near.1 near.2 near.3,

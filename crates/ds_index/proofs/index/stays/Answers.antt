@@ -1,5 +1,6 @@
 use Rattle.std.proofs.Common.{◌≡◌, ◌+◌, ◌-◌, false, true, sym, ◌∙◌, ap, subst, arith}
-use Rattle.ds_index.proofs.NamedLemmas.{behind_nth, IsNear, near_first, near_next}
+use Rattle.ds_index.specs.Named.{IsNearLabel}
+use Rattle.ds_index.proofs.NamedLemmas.{behind_nth, near_first, near_next}
 use Rattle.ds_index.proofs.index.stays.Goals as goal
 use Rattle.ds_index.proofs.index.stays.Goals.{else-index-gt0-via-then-index-gt0+else-not-is_behind_nth, else-index-gt0-via-else-index-gt0}
 use Rattle.std.proofs.lemmas.Bool.{not-true}
@@ -15,5 +16,5 @@ returns c = λ e.
           near_next p xs c.requires.sorted c.args.index (c.args.index - 1) (omega (arith, w.if-index-gt0.true)) low high)
       | else-index-gt0-via-else-index-gt0 w ↦
           (let none : c.args.index ≡ 0 = omega (arith, w.if-index-gt0.false) in
-          subst (IsNear p xs) (sym none) (near_first p xs c.requires.sorted (ap (λ n. behind_nth p xs (n + 1)) (sym none) ∙ high)))
+          subst (IsNearLabel p xs) (sym none) (near_first p xs c.requires.sorted (ap (λ n. behind_nth p xs (n + 1)) (sym none) ∙ high)))
     ]

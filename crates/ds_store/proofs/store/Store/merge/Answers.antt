@@ -54,8 +54,8 @@ loop-item-preserved c =
       counted = ap (λ n. n + 1) c.loop-item.invariant.counted;
       few = c.loop-item.invariant.few;
       within = omega (arith, within);
-      taken = taken_within c.in-Ok.join c.loop-item.taken i c.taken_by-taken.result c.taken_by-taken.ensures c.loop-item.invariant.taken;
-      stale = stale_within c.in-Ok.join c.loop-item.stale i c.stale_by-stale.result c.stale_by-stale.ensures c.loop-item.invariant.stale;
+      taken = taken_within c.in-Ok.join c.loop-item.taken i c.count_taken-taken.result c.count_taken-taken.ensures c.loop-item.invariant.taken;
+      stale = stale_within c.in-Ok.join c.loop-item.stale i c.count_stale-stale.result c.count_stale-stale.ensures c.loop-item.invariant.stale;
       owed = λ s stands.
           (let at = c.loop-item.invariant.reached s stands in
           let k = course s (take i items) in
@@ -67,7 +67,7 @@ loop-item-preserved c =
       reached = λ s stands.
           (let at = c.loop-item.invariant.reached s stands in
           let next = c.in-Ok.ensures.step (course s (take i items)).state at.1 in
-          let there = next_reached s items i it c.in-Ok.join next.0 c.loop-item.taken c.loop-item.stale c.taken_by-taken.result c.stale_by-stale.result item at.0 next.1 c.taken_by-taken.ensures c.stale_by-stale.ensures in
+          let there = next_reached s items i it c.in-Ok.join next.0 c.loop-item.taken c.loop-item.stale c.count_taken-taken.result c.count_stale-stale.result item at.0 next.1 c.count_taken-taken.ensures c.count_stale-stale.ensures in
           (there.0, subst (λ (t : State). ContentStands c.merge_item.new.self t) there.1 next.2));
     }
 
