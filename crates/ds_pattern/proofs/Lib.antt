@@ -1,4 +1,5 @@
 pub mod CrossingLemmas
+pub mod LookLemmas
 pub mod NarrowLemmas
 pub mod PrintableLemmas
 pub mod RegexLemmas

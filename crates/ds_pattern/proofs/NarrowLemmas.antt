@@ -1,12 +1,13 @@
--- In a text of ASCII a pattern whose classes were cut down, and whose groups were taken out, matches where it did.
-use Rattle.std.proofs.Common.{Vec, Box, Global, Result, Ok, Err, IfOk, ◌≡◌, ℕ, zero, suc, ◌+◌, ◌-◌, ◌*◌, ◌<◌, ◌≤◌, Bool, true, false, ◌&&◌, ◌||◌, List, [], ◌∷◌, ◌++◌, map, take, drop, length, get_or, Option, None, Some, is_some, if◌then◌else◌, nat_lt, refl, sym, ap, ◌∙◌, arith}
-use Rattle.std.specs.Prelude.{slice_index, slice_get, option_and_then, encode_utf8}
+-- In a text of ASCII a pattern whose classes and assertions were cut down, and whose groups were taken out, matches where it did.
+use Rattle.std.proofs.Common.{Vec, Box, Global, Result, Ok, Err, IfOk, ◌≡◌, ℕ, zero, suc, ◌+◌, ◌-◌, ◌*◌, ◌<◌, ◌≤◌, min, Bool, true, false, ◌&&◌, ◌||◌, List, [], ◌∷◌, ◌++◌, map, take, drop, length, get_or, Option, None, Some, is_some, if◌then◌else◌, nat_lt, ⊎_elim, refl, sym, ap, ◌∙◌, arith}
+use Rattle.std.specs.Prelude.{nat_le, slice_index, slice_get, option_and_then, encode_utf8}
 use Rattle.std.specs.Option.{option_or}
 use Rattle.std.specs.declared.alloc.AllocError.{AllocError}
 use Rattle.std.specs.Char.{len_utf8}
 use Rattle.std.specs.Str.{IsAscii, chars}
 use Rattle.std.proofs.lemmas.Str.{IsAscii-drop, chars-IsAscii}
 use Rattle.std.proofs.lemmas.List.{map-append, take_all}
+use Rattle.std.proofs.lemmas.Bool.{cases_lt, le-leb, lt-leb}
 use Rattle.std.proofs.lemmas.Bool.Decides.{nat_tests}
 use Rattle.std.proofs.Math.Seq.{take-suc}
 use native.Mathlib.Numerals.{unary_clauses}
@@ -20,7 +21,7 @@ use Rattle.regex_hir.specs.declared.look.Look.{Look}
 use Rattle.regex_hir.specs.declared.hir.Hir.{Hir}
 use Rattle.regex_hir.specs.declared.hir.Hir.TheVariants as hir
 use Rattle.regex_hir.proofs.MeaningLemmas.{meaning-Empty, meaning-Literal, meaning-Bytes, meaning-Chars, meaning-Look, meaning-Repetition, meaning-Capture, meaning-Concat, meaning-Alternation}
-use Rattle.ds_pattern.specs.Narrow.{SameAscii, SameInAscii, EachSame}
+use Rattle.ds_pattern.specs.Narrow.{SameAscii, SameInAscii, EachSame, HoldsInAscii}
 
 -- what follows is found after the one xs after the other
 abbrev Alike : Rest → Rest → Type 0
@@ -57,9 +58,9 @@ same_bytes : (rs : List Range) → SameInAscii (byte_in rs) (byte_in rs)
 unfolding attempt
 same_bytes rs text ascii k l alike i = chosen (is_some_and (slice_get text i) (in_ranges rs)) (k (i + 1)) None (l (i + 1)) None (alike (i + 1)) refl
 
-same_look : (at : Look) → SameInAscii (look at) (look at)
+same_look : (a b : Look) → HoldsInAscii a b → SameInAscii (look a) (look b)
 unfolding attempt
-same_look at text ascii k l alike i = chosen (holds at text i) (k i) None (l i) None (alike i) refl
+same_look a b one text ascii k l alike i = rw (one text ascii i) (chosen (holds b text i) (k i) None (l i) None (alike i) refl)
 
 same_cat : (a b c d : Re) → SameInAscii a b → SameInAscii c d → SameInAscii (cat a c) (cat b d)
 unfolding attempt
@@ -164,8 +165,8 @@ narrow_bytes new old same = rw (meaning-Bytes new, meaning-Bytes old, same) (sam
 pub narrow_chars : (new old : Class) → SameAscii new.ranges.items old.ranges.items → SameInAscii (meaning (hir.Chars new)) (meaning (hir.Chars old))
 narrow_chars new old members = rw (meaning-Chars new, meaning-Chars old) (same_chars new.ranges.items old.ranges.items members)
 
-pub narrow_look : (at : Look) → SameInAscii (meaning (hir.Look at)) (meaning (hir.Look at))
-narrow_look at = rw (meaning-Look at) (same_look at)
+pub narrow_look : (new old : Look) → HoldsInAscii new old → SameInAscii (meaning (hir.Look new)) (meaning (hir.Look old))
+narrow_look new old one = rw (meaning-Look new, meaning-Look old) (same_look new old one)
 
 pub narrow_repetition : (least : ℕ) (most : Option ℕ) (greedy : Bool) (new old : Box Hir Global) → SameInAscii (meaning new.value) (meaning old.value) →
     SameInAscii (meaning (hir.Repetition least most greedy new)) (meaning (hir.Repetition least most greedy old))
@@ -208,9 +209,19 @@ unfolding in_ranges
 in_more [] ss c = refl
 in_more (r ∷ rs) ss c = rw (in_more rs ss c) (or_in_turn (in_range r c) (in_ranges rs c) (in_ranges ss c))
 
--- a range more, and one that has no member below 128 fewer
-pub range_taken : (new old : List Range) (i : ℕ) (r : Range) → i < length old → get_or old i r ≡ r → SameAscii new (take i old) → SameAscii (new ++ r ∷ []) (take (i + 1) old)
-range_taken new old i r inside read same c small = rw (take_next old i r inside read, in_more (take i old) (r ∷ []) c, in_more new (r ∷ []) c, same c small) refl
+-- what is cut off a range isn't ASCII
+cut : (r : Range) (last c : ℕ) → last ≡ min r.1 0x7F → c ≤ 0x7F → in_ranges ((r.0, last) ∷ []) c ≡ in_ranges (r ∷ []) c
+unfolding in_ranges in_range
+cut r last c is small = rw (below r.1 last c is small) refl where
+  below : (end last c : ℕ) → last ≡ min end 0x7F → c ≤ 0x7F → nat_le c last ≡ nat_le c end
+  below end last c is small = ⊎_elim
+      (λ (beyond : end < c). lt-leb _ _ (omega (arith, is, beyond)) ∙ sym (lt-leb _ _ beyond))
+      (λ (within : c ≤ end). le-leb _ _ (omega (arith, is, within, small)) ∙ sym (le-leb _ _ within))
+      (cases_lt end c)
+
+-- a range more, cut down to ASCII, and one that has no member below 128 fewer
+pub range_taken : (new old : List Range) (i : ℕ) (r : Range) (last : ℕ) → i < length old → get_or old i r ≡ r → last ≡ min r.1 0x7F → SameAscii new (take i old) → SameAscii (new ++ (r.0, last) ∷ []) (take (i + 1) old)
+range_taken new old i r last inside read is same c small = rw (take_next old i r inside read, in_more (take i old) (r ∷ []) c, in_more new ((r.0, last) ∷ []) c, same c small, cut r last c is small) refl
 
 pub range_left : (new old : List Range) (i : ℕ) (r : Range) → i < length old → get_or old i r ≡ r → 0x7F < r.0 → SameAscii new (take i old) → SameAscii new (take (i + 1) old)
 range_left new old i r inside read high same c small = rw (take_next old i r inside read, in_more (take i old) (r ∷ []) c, outside r c small high) (same c small ∙ sym (or_false _))

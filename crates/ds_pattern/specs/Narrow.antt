@@ -3,10 +3,16 @@ use Rattle.std.specs.Prelude.{◌≡◌, ℕ, ◌≤◌, List, [], ◌∷◌, is
 use Rattle.std.specs.Str.{IsAscii}
 use Rattle.regex_class.specs.Ranges.{Range, in_ranges}
 use Rattle.regex_hir.specs.Re.{Re, Rest, attempt}
+use Rattle.regex_hir.specs.Looks.{holds}
+use Rattle.regex_hir.specs.declared.look.Look.{Look}
 
 -- both have the same members below 128
 abbrev pub SameAscii : List Range → List Range → Type 0
 SameAscii rs ss = (c : ℕ) → c ≤ 0x7F → in_ranges rs c ≡ in_ranges ss c
+
+-- at each place of a text of ASCII the one assertion holds where the other does
+abbrev pub HoldsInAscii : Look → Look → Type 0
+HoldsInAscii a b = (text : List ℕ) → IsAscii text → (i : ℕ) → holds a text i ≡ holds b text i
 
 -- in a text of ASCII the one pattern matches wherever the other does, whatever follows
 abbrev pub SameInAscii : Re → Re → Type 0

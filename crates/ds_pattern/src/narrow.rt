@@ -1,20 +1,22 @@
 //! Patterns cut down to what a name can meet.
 //!
-//! A name is ASCII, and nobody asks where a group matched. So a class of characters needs its members below 128 alone, and
-//! a capture group is what stands in it. `\w` is then four ranges in place of 700.
+//! A name is ASCII, and nobody asks where a group matched. So a class of characters needs its members below 128 alone, an
+//! assertion about words needs to know those of ASCII alone, and a capture group is what stands in it. `\w` is then four
+//! ranges in place of 700, and `\b` looks at two bytes in place of two characters.
 
-ghost use Rattle.std.specs.Prelude.{map, IfOk};
+ghost use Rattle.std.specs.Prelude.{map, IfOk, IsFalse};
 ghost use Rattle.regex_hir.specs.Meaning.{meaning};
-ghost use Rattle.ds_pattern.specs.Narrow.{EachSame, SameAscii, SameInAscii};
+ghost use Rattle.regex_nfa.specs.Sides.{is_unicode_look};
+ghost use Rattle.ds_pattern.specs.Narrow.{EachSame, HoldsInAscii, SameAscii, SameInAscii};
 
 use regex_class::Class;
-use regex_hir::Hir;
+use regex_hir::{Hir, Look};
 use std::alloc::{AllocError, Global};
 
 /// The last character of ASCII.
 const LAST_ASCII: u32 = 0x7f;
 
-/// The tree that matches the same names: its classes are of ASCII, and it has no groups.
+/// The tree that matches the same names: its classes and its assertions are of ASCII, and it has no groups.
 #[cycle(narrowed)]
 pub(crate) fn narrowed(alloc: Global, tree: &Hir) -> Result<Hir, AllocError>
     ensures { IfOk result (λ new. SameInAscii (meaning new) (meaning tree.now)) }
@@ -24,7 +26,7 @@ pub(crate) fn narrowed(alloc: Global, tree: &Hir) -> Result<Hir, AllocError>
         Hir::Literal(bytes) => Ok(Hir::Literal(Vec::from_slice(alloc, bytes)?)),
         Hir::Bytes(class) => Ok(Hir::Bytes(class.clone()?)),
         Hir::Chars(class) => Ok(Hir::Chars(of_ascii(alloc, class)?)),
-        Hir::Look(look) => Ok(Hir::Look(*look)),
+        Hir::Look(look) => Ok(Hir::Look(look_of_ascii(*look))),
         Hir::Repetition {
             min,
             max,
@@ -54,6 +56,22 @@ fn all_narrowed(alloc: Global, trees: &[Hir]) -> Result<Vec<Hir>, AllocError>
     Ok(all)
 }
 
+// The assertion that asks of words of ASCII what this one asks of words. It looks at bytes alone.
+fn look_of_ascii(look: Look) -> Look
+    ensures holds { HoldsInAscii result look }
+    ensures bytes { IsFalse (is_unicode_look result) }
+{
+    match look {
+        Look::WordUnicode => Look::WordAscii,
+        Look::WordUnicodeNegate => Look::WordAsciiNegate,
+        Look::WordStartUnicode => Look::WordStartAscii,
+        Look::WordEndUnicode => Look::WordEndAscii,
+        Look::WordStartHalfUnicode => Look::WordStartHalfAscii,
+        Look::WordEndHalfUnicode => Look::WordEndHalfAscii,
+        _ => look,
+    }
+}
+
 // The members below 128.
 fn of_ascii(alloc: Global, class: &Class) -> Result<Class, AllocError>
     ensures { IfOk result (λ new. SameAscii new.ranges.items class.now.ranges.items) }
@@ -62,7 +80,7 @@ fn of_ascii(alloc: Global, class: &Class) -> Result<Class, AllocError>
     for i in 0..class.ranges.len() {
         let (first, last) = class.ranges[i];
         if first <= LAST_ASCII {
-            ranges.push((first, last))?;
+            ranges.push((first, last.min(LAST_ASCII)))?;
         }
     }
     Class::new(ranges)

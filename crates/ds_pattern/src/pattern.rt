@@ -74,7 +74,7 @@ impl From<regex_syntax::Error> for PatternFault {
 /// How many bytes the table of a compiled pattern may take: 12 for each state of its automaton and 8 for each
 /// range of bytes that leads from one to another. It takes at most 24 bytes more. `bench/README.md` has what is
 /// measured beside it.
-pub const SIZE_LIMIT: usize = 1 << 15;
+pub const SIZE_LIMIT: usize = 12 << 10;
 
 /// A pattern over names: a text of at most 128 bytes of printable ASCII that `regex` reads, by itself and
 /// within `^(?:` and `)$`, and the automaton that is compiled of it, whose table keeps within the limit.
@@ -94,7 +94,7 @@ impl Model for Pattern {
 
     ghost view = { λ p. string_bytes p.text };
 
-    ghost invariant = { λ p. IsPattern (string_bytes p.text) × FindsWhole p.whole (string_bytes p.text) × (table_bytes p.whole ≤ 0x8018) };
+    ghost invariant = { λ p. IsPattern (string_bytes p.text) × FindsWhole p.whole (string_bytes p.text) × (table_bytes p.whole ≤ 0x3018) };
 }
 
 impl Pattern {
@@ -204,7 +204,7 @@ fn judge(alloc: Global, text: &str) -> Result<(), PatternFault>
 fn compile(alloc: Global, text: &str) -> Result<Nfa, PatternFault>
     requires { IsTrue (is_printable text.now) }
     ensures finds { IfOk result (λ whole. FindsWhole whole text.now) }
-    ensures small { IfOk result (λ whole. table_bytes whole ≤ 0x8018) }
+    ensures small { IfOk result (λ whole. table_bytes whole ≤ 0x3018) }
     ensures ok { OnOk result (IsTrue (is_regex (anchored text.now))) }
     ensures refused { IfErr result (λ fault. IsSyntaxFault fault (anchored text.now)) }
 {

@@ -15,7 +15,7 @@ pub narrowed-returns-in_ok-of_ascii-in-Chars : goal.narrowed-returns-in_ok-of_as
 narrowed-returns-in_ok-of_ascii-in-Chars t c = rw c.in-Chars.is (narrow_chars _ _ c.in_ok-of_ascii-in-Chars.ensures)
 
 pub narrowed-returns-in-Look : goal.narrowed-returns-in-Look
-narrowed-returns-in-Look t c = rw c.in-Look.is (narrow_look _)
+narrowed-returns-in-Look t c = rw c.in-Look.is (narrow_look _ _ c.look_of_ascii.ensures.holds)
 
 pub narrowed-returns-in_ok-new-in-Repetition : goal.narrowed-returns-in_ok-new-in-Repetition
 narrowed-returns-in_ok-new-in-Repetition t c = rw c.in-Repetition.is (narrow_repetition _ _ _ _ _ (rw (c.in_ok-new-in-Repetition.ensures.ok, sym c.deref-in-Repetition.ensures) c.in_ok-narrowed-in-Repetition.ensures))
