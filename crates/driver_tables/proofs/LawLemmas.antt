@@ -159,7 +159,7 @@ all_append P [] k h g = g
 all_append P (m ∷ l) k h g = (h.0, all_append P l k h.1 g)
 
 -- the request of an id is found by it
-find_itself : (requests : List Request) → IsDistinct (λ (r s : Request). r.id == s.id) requests → AllByRecursion (λ (r : Request). find (is_for r.id) requests ≡ Some r) requests
+pub find_itself : (requests : List Request) → IsDistinct (λ (r s : Request). r.id == s.id) requests → AllByRecursion (λ (r : Request). find (is_for r.id) requests ≡ Some r) requests
 unfolding IsDistinct
 find_itself [] h = tt
 find_itself (r ∷ requests) h = (ap (λ (b : Bool). cond b (Some r) (find (is_for r.id) requests)) (equal_itself r.id), later requests h.0 (find_itself requests h.1))

@@ -11,7 +11,7 @@ use Rattle.driver_tables.specs.declared.fault.TableFault.TheVariants.{OldEndpoin
 use Rattle.driver_tables.specs.declared.device.Class.{Class}
 use Rattle.driver_tables.specs.declared.device.Class.TheVariants.{Block, Network}
 use Rattle.driver_tables.specs.Driver.{Driver, driver_of, has_label}
-use Rattle.driver_tables.specs.Label.{endpoint_now, newest, is_same_state, is_old}
+use Rattle.driver_tables.specs.Label.{endpoint_now, is_same_state, is_old_for}
 use Rattle.driver_tables.specs.DriverTable.{DriverTable, Request, pending}
 use Rattle.driver_tables.specs.Doing.{does}
 use Rattle.ds_names.specs.Name.{is_same_name}
@@ -55,5 +55,5 @@ notes t label state = record t { states = t.states ++ (record { label = label; e
 abbrev pub changing : DriverTable → List ℕ → Option EndpointRecord → Result (List Move) TableFault × DriverTable
 changing t label state =
     if not (has_label t.units label) then (Ok [], t)
-    else if is_old (newest t.states label) (endpoint_now t.states label) state then (Err OldEndpoint, t)
+    else if is_old_for t.states label state then (Err OldEndpoint, t)
     else (Ok (moves_of t label state), does (notes t label state) (moves_of t label state))

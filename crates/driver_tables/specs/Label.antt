@@ -34,3 +34,7 @@ abbrev pub is_old : Option ℕ → Option EndpointRecord → Option EndpointReco
 is_old None now state = false
 is_old (Some g) now None = false
 is_old (Some g) now (Some e) = nat_lt e.generation g || ((e.generation == g) && not (is_same_state now (Some e)))
+
+-- a state of the label is old, by the states that were accepted
+abbrev pub is_old_for : List LabelState → List ℕ → Option EndpointRecord → Bool
+is_old_for states label state = is_old (newest states label) (endpoint_now states label) state

@@ -13,6 +13,7 @@ ghost use Rattle.driver_tables.specs.Stands.{TableStands};
 ghost use Rattle.driver_tables.specs.FileDriver.{file_driver};
 
 use crate::device::Class;
+use crate::drivers::Drivers;
 use crate::fault::TableFault;
 use crate::moves::{Move, Moves};
 use crate::table::Table;
@@ -116,5 +117,37 @@ impl FileTable {
         ensures unchanged { OnErr result (self.new ≡ self.old) }
     {
         self.table.reply(endpoint, id)
+    }
+}
+
+impl Drivers for FileTable {
+    ghost kept = { λ t. t };
+
+    fn unit_count(&self) -> usize {
+        self.table.unit_count()
+    }
+
+    fn label_at(&self, index: usize) -> Option<Name> {
+        self.table.label_at(index)
+    }
+
+    fn newest(&self, label: &Name) -> Option<Generation> {
+        FileTable::newest(self, label)
+    }
+
+    fn is_old(&self, label: &Name, state: &Option<Endpoint>) -> bool {
+        self.table.is_old(label, state)
+    }
+
+    fn changed(&mut self, label: &Name, state: Option<Endpoint>) -> Result<Moves, TableFault> {
+        FileTable::changed(self, label, state)
+    }
+
+    fn submit(&mut self, id: u64, unit: u8) -> Result<Move, TableFault> {
+        FileTable::submit(self, id, unit)
+    }
+
+    fn reply(&mut self, endpoint: Endpoint, id: u64) -> Result<Move, TableFault> {
+        FileTable::reply(self, endpoint, id)
     }
 }

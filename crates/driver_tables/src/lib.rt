@@ -7,6 +7,7 @@
 #![tactic(auto)]
 
 mod device;
+mod drivers;
 mod fault;
 mod file_table;
 mod laws;
@@ -16,6 +17,7 @@ mod request;
 mod state;
 mod table;
 
+pub use drivers::Drivers;
 pub use fault::TableFault;
 pub use file_table::{FileClass, FileTable};
 pub use laws::runs_keep_requests;

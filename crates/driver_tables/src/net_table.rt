@@ -13,6 +13,7 @@ ghost use Rattle.driver_tables.specs.Stands.{TableStands};
 ghost use Rattle.driver_tables.specs.Driver.{net_driver};
 
 use crate::device::Class;
+use crate::drivers::Drivers;
 use crate::fault::TableFault;
 use crate::moves::{Move, Moves};
 use crate::table::Table;
@@ -103,5 +104,37 @@ impl NetTable {
         ensures unchanged { OnErr result (self.new ≡ self.old) }
     {
         self.table.reply(endpoint, id)
+    }
+}
+
+impl Drivers for NetTable {
+    ghost kept = { λ t. t };
+
+    fn unit_count(&self) -> usize {
+        self.table.unit_count()
+    }
+
+    fn label_at(&self, index: usize) -> Option<Name> {
+        self.table.label_at(index)
+    }
+
+    fn newest(&self, label: &Name) -> Option<Generation> {
+        NetTable::newest(self, label)
+    }
+
+    fn is_old(&self, label: &Name, state: &Option<Endpoint>) -> bool {
+        self.table.is_old(label, state)
+    }
+
+    fn changed(&mut self, label: &Name, state: Option<Endpoint>) -> Result<Moves, TableFault> {
+        NetTable::changed(self, label, state)
+    }
+
+    fn submit(&mut self, id: u64, unit: u8) -> Result<Move, TableFault> {
+        NetTable::submit(self, id, unit)
+    }
+
+    fn reply(&mut self, endpoint: Endpoint, id: u64) -> Result<Move, TableFault> {
+        NetTable::reply(self, endpoint, id)
     }
 }

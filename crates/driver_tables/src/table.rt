@@ -1,7 +1,8 @@
 //! What the tables of both servers are made of.
 
-ghost use Rattle.std.specs.Prelude.{◌≡◌, OnErr};
-ghost use Rattle.driver_tables.specs.Label.{newest};
+ghost use Rattle.std.specs.Prelude.{◌≡◌, length, slice_get, OnErr};
+ghost use Rattle.std.specs.Option.{option_map};
+ghost use Rattle.driver_tables.specs.Label.{newest, is_old_for};
 ghost use Rattle.driver_tables.specs.DriverTable.{DriverTable, empty_table};
 ghost use Rattle.driver_tables.specs.Outcome.{AnswersAs, LeavesAs};
 ghost use Rattle.driver_tables.specs.Room.{LacksOnlyWhere, StateTakesMemory, RequestTakesMemory};
@@ -94,10 +95,32 @@ impl Table {
         Ok(moves)
     }
 
+    pub fn unit_count(&self) -> usize
+        ensures { (t : DriverTable) → TableStands self.now t → result ≡ length t.units }
+    {
+        self.devices.len()
+    }
+
+    pub fn label_at(&self, index: usize) -> Option<Name>
+        ensures { (t : DriverTable) → TableStands self.now t → result ≡ option_map (λ u. u.1.label) (slice_get t.units index) }
+    {
+        match self.devices.get_index(index) {
+            Some((_, device)) => Some(device.label),
+            None => None,
+        }
+    }
+
     pub fn newest(&self, label: &Name) -> Option<Generation>
         ensures { (t : DriverTable) → TableStands self.now t → result ≡ newest t.states label.now }
     {
         status(&self.devices, label).1
+    }
+
+    pub fn is_old(&self, label: &Name, state: &Option<Endpoint>) -> bool
+        ensures { (t : DriverTable) → TableStands self.now t → result ≡ is_old_for t.states label.now state.now }
+    {
+        let (endpoint, newest) = status(&self.devices, label);
+        is_old(newest, &endpoint, state)
     }
 
     pub fn submit(&mut self, id: u64, unit: u8) -> Result<Move, TableFault>

@@ -1,3 +1,4 @@
 pub mod FindLemmas
 pub mod KeptLemmas
 pub mod RunLemmas
+pub mod SaysLemmas

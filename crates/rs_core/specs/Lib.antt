@@ -9,4 +9,5 @@ pub mod Judging
 pub mod Step
 pub mod Kept
 pub mod Run
+pub mod Says
 pub mod Numbering

@@ -1,6 +1,7 @@
 //! Laws of the restart machine and of numbers.
 
 ghost use Rattle.rs_core.specs.Run.{StartsRise, LabelsAreSingleNumbered};
+ghost use Rattle.rs_core.specs.Says.{StepsSay, LabelsAreFound};
 ghost use Rattle.rs_core.specs.Numbering.{NumbersRise};
 
 /// The law of starts: over any events, each start has a generation above those of all earlier ones.
@@ -11,6 +12,14 @@ pub fn starts_rise()
 /// The law of labels: over any events, no two of the label changes that RS offers contradict each other.
 pub fn labels_are_single_numbered()
     ensures { LabelsAreSingleNumbered }
+{}
+
+/// The law of steps: at most one instance begins, with the next generation, and its label is put; else labels are only taken
+/// back, of instances that ran; whatever runs then ran before or began; there are five actions at most, and a copy of each takes
+/// no memory. A service that is found by a label has it.
+pub fn steps_say()
+    ensures steps { StepsSay }
+    ensures labels { LabelsAreFound }
 {}
 
 /// The law of numbers: a numberer gives no number twice.

@@ -21,7 +21,7 @@ mod state;
 pub use action::{Action, Actions};
 pub use event::Event;
 pub use fault::{NewFault, RsFault};
-pub use law::{labels_are_single_numbered, numbers_rise, starts_rise};
+pub use law::{labels_are_single_numbered, numbers_rise, starts_rise, steps_say};
 pub use numberer::{Numberer, SeqSpent};
 pub use rs::Rs;
 pub use state::{Pause, Running, State};

@@ -1,6 +1,6 @@
 //! Numbers of a process's changes.
 
-ghost use Rattle.std.specs.Prelude.{◌≡◌, ◌≤◌, ◌<◌, ◌+◌, IfOk, OnErr};
+ghost use Rattle.std.specs.Prelude.{◌≡◌, ◌≤◌, ◌<◌, ◌+◌, nat_lt, IfOk, OnErr};
 ghost use Rattle.rs_core.specs.Numbering.{numberer, Gives};
 
 use ds_names::{Generation, Version};
@@ -37,6 +37,27 @@ impl Numberer {
         ensures { result ≡ numberer generation seq }
     {
         Numberer { generation, seq }
+    }
+
+    /// The same numbers again, for one who judges before he draws: of the two, one is then let go.
+    pub fn copy(&self) -> Numberer
+        ensures { result ≡ self.now }
+    {
+        Numberer::of(self.generation, self.seq)
+    }
+
+    /// The generation whose numbers it gives.
+    pub fn generation(&self) -> Generation
+        ensures { result ≡ self.now.generation }
+    {
+        self.generation
+    }
+
+    /// Whether all numbers are given, so that `next` would be refused.
+    pub fn is_spent(&self) -> bool
+        ensures { result ≡ nat_lt 4294967294 self.now.next }
+    {
+        self.seq > 4294967294
     }
 
     /// The next version. SeqSpent behind number 4294967294, since no put has the greatest number. It takes no memory.

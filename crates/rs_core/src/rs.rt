@@ -10,6 +10,7 @@ ghost use Rattle.rs_core.specs.Machine.{asked, failures_of};
 ghost use Rattle.rs_core.specs.Judging.{refusal, asks, has_actions};
 ghost use Rattle.rs_core.specs.Step.{RsStep};
 ghost use Rattle.rs_core.specs.Kept.{IsNotAt, HaveTwoSlots};
+ghost use Rattle.rs_core.specs.Says.{place_of_label};
 
 mod asking;
 mod doing;
@@ -96,12 +97,38 @@ impl Rs {
 
     /// What RS knows of the service with the label. `None` where no service has it.
     pub fn state(&self, label: &Name) -> Option<State>
-        ensures { result ≡ option_map (state_at self.now) (service_place self.now (Sought.Label label.now)) }
+        ensures { result ≡ option_map (state_at self.now) (place_of_label self.now label.now) }
     {
         match self.place(Sought::Label(*label)) {
             Some(place) => Some(self.state_at(place)),
             None => None,
         }
+    }
+
+    /// The index in the settings of the service with the label. `None` where no service has it.
+    pub fn place_of(&self, label: &Name) -> Option<usize>
+        ensures value { result ≡ place_of_label self.now label.now }
+        ensures within { IfSome result (λ i. i < length self.now.states) }
+        ensures count { length self.now.states ≡ length self.now.settings.services }
+    {
+        let _ = &self.alloc;
+        self.place(Sought::Label(*label))
+    }
+
+    /// What stands against an event at a tick: `event` is then refused by it, and else for want of memory alone.
+    pub fn refusal(&self, event: &Event, tick: u64) -> Option<RsFault>
+        ensures { result ≡ refusal self.now event.now tick }
+    {
+        self.judge(event, tick).err()
+    }
+
+    /// The generation that the next start takes: 1 to 2097152, the last of which no start gets.
+    pub fn next_generation(&self) -> u32
+        ensures value { result ≡ self.now.next }
+        ensures some { 1 ≤ self.now.next }
+        ensures last { self.now.next ≤ 2097152 }
+    {
+        self.next
     }
 
     /// The key of the slot that the next start takes, unless it stops an instance itself: slot 16 has key 0.

@@ -1,8 +1,9 @@
 //! How a world's stores are asked.
 
-ghost use Rattle.std.specs.Prelude.{◌≡◌, true};
+ghost use Rattle.std.specs.Prelude.{◌≡◌, true, false};
 ghost use Rattle.ds_machine.specs.Says.{IsReplyTo};
 ghost use Rattle.ds_replica.specs.declared.event.Event.TheVariants.{Ask};
+ghost use Rattle.ds_replica.specs.declared.outcome.Outcome.TheVariants.{Replied};
 ghost use Rattle.ds_replica.specs.Happens.{gives_items};
 ghost use Rattle.ds_world.specs.Run.{EventLeads};
 ghost use Rattle.ds_world.specs.Steps.{StoreSteps, LastOf};
@@ -36,11 +37,22 @@ impl World {
         ensures leads { EventLeads (Ask side command) result self.old self.new }
         ensures told { IsTold (Ask side command) result self.old self.new }
     {
-        read_parts(&command);
         if gives_items(&command) {
+            read_parts(&command);
             return self.ask_for_items(side, command);
         }
-        Outcome::Replied(apply(&mut self.a, &mut self.b, side, command))
+        Outcome::Replied(self.reply(side, command))
+    }
+
+    /// Asks the store of a side a command to which no store gives items, and gives its reply: the event of an Ask with that
+    /// outcome, which no world refuses. It takes memory only where the store does.
+    pub fn reply(&mut self, side: Side, command: Command) -> Reply
+        requires { gives_items command ≡ false }
+        ensures leads { EventLeads (Ask side command) (Replied result) self.old self.new }
+        ensures told { IsTold (Ask side command) (Replied result) self.old self.new }
+    {
+        read_parts(&command);
+        apply(&mut self.a, &mut self.b, side, command)
     }
 
     // The same of a command to which a store gives items.
