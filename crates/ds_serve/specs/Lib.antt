@@ -1,0 +1,4 @@
+pub mod Asked
+pub mod News
+pub mod Following
+pub mod Laws
