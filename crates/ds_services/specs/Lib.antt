@@ -1,0 +1,12 @@
+pub mod System
+pub mod Drawing
+pub mod Turn
+pub mod Steps
+pub mod Effects
+pub mod Refusals
+pub mod Happening
+pub mod Start
+pub mod Numbers
+pub mod Laws
+pub mod Sending
+pub mod Wrong

@@ -1,0 +1,18 @@
+//! A system: RS beside a world of two stores, and the driver tables of a file and of a network server, by definitions alone: what
+//! can happen in it and what comes of that, and laws over every list of events.
+//!
+//! RS, which publishes its services' labels, and the servers that send to their drivers are MINIX 3's (Herder and others, DSN 2007;
+//! Tanenbaum and Woodhull, third edition); versions, replicas and messages are of this project.
+#![tactic(auto)]
+
+mod event;
+mod laws;
+mod outcome;
+mod replies;
+mod rounds;
+
+pub use event::{SystemEvent, Table};
+pub use laws::{systems_keep_laws, tables_send_to_no_older, wrong_turns_are_refused};
+pub use outcome::{SystemFault, SystemOutcome};
+pub use replies::Replies;
+pub use rounds::Rounds;

@@ -1,0 +1,64 @@
+//! Lists of replies.
+
+ghost use Rattle.std.specs.Prelude.{◌≡◌, ◌++◌, ◌∷◌, [], length, slice_get, OnOk, IfErr, OnErr};
+ghost use Rattle.std.specs.Option.{option_copied};
+
+use ds_machine::Reply;
+use std::alloc::{AllocFailed, Global};
+use std::marker::Model;
+
+/// Replies of a store, in their order.
+#[derive(Debug, Drop)]
+pub struct Replies {
+    replies: Vec<Reply>,
+}
+
+impl Model for Replies {
+    ghost use Rattle.std.specs.Prelude.{List};
+    ghost use Rattle.ds_machine.specs.declared.reply.Reply.{Reply};
+
+    ghost Value = { List Reply };
+
+    ghost view = { λ r. r.replies.items };
+}
+
+impl Replies {
+    /// No replies. It takes no memory.
+    pub fn new(alloc: Global) -> Replies
+        ensures { result ≡ [] }
+    {
+        Replies {
+            replies: Vec::new(alloc),
+        }
+    }
+
+    /// The replies of a `Vec`. It takes no memory.
+    pub fn of(replies: Vec<Reply>) -> Replies
+        ensures { result ≡ replies.items }
+    {
+        Replies { replies }
+    }
+
+    /// Adds a reply at the end. Where there is no room, the list is unchanged and the error gives the reply back.
+    pub fn push(&mut self, reply: Reply) -> Result<(), AllocFailed<Reply>>
+        ensures ok { OnOk result (self.new ≡ self.old ++ reply ∷ []) }
+        ensures err { OnErr result (self.new ≡ self.old) }
+        ensures back { IfErr result (λ back. back.value ≡ reply) }
+    {
+        self.replies.push(reply)
+    }
+
+    /// How many replies they are.
+    pub fn len(&self) -> usize
+        ensures { result ≡ length self.now }
+    {
+        self.replies.len()
+    }
+
+    /// The reply at an index from 0, `None` behind the last one.
+    pub fn get(&self, index: usize) -> Option<&Reply>
+        ensures { option_copied result ≡ slice_get self.now index }
+    {
+        self.replies.get(index)
+    }
+}

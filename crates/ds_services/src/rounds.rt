@@ -1,0 +1,64 @@
+//! Lists of rounds of moves.
+
+ghost use Rattle.std.specs.Prelude.{◌≡◌, ◌++◌, ◌∷◌, [], length, slice_get, OnOk, IfErr, OnErr};
+ghost use Rattle.std.specs.Option.{option_copied};
+
+use driver_tables::Moves;
+use std::alloc::{AllocFailed, Global};
+use std::marker::Model;
+
+/// The moves of each label that was followed, in order: of a Follow the file server's rounds first.
+#[derive(Debug, Drop)]
+pub struct Rounds {
+    rounds: Vec<Moves>,
+}
+
+impl Model for Rounds {
+    ghost use Rattle.std.specs.Prelude.{List};
+    ghost use Rattle.driver_tables.specs.declared.moves.Move.{Move};
+
+    ghost Value = { List (List Move) };
+
+    ghost view = { λ r. r.rounds.items };
+}
+
+impl Rounds {
+    /// No rounds. It takes no memory.
+    pub fn new(alloc: Global) -> Rounds
+        ensures { result ≡ [] }
+    {
+        Rounds {
+            rounds: Vec::new(alloc),
+        }
+    }
+
+    /// The rounds of a `Vec`. It takes no memory.
+    pub fn of(rounds: Vec<Moves>) -> Rounds
+        ensures { result ≡ rounds.items }
+    {
+        Rounds { rounds }
+    }
+
+    /// Adds a round at the end. Where there is no room, the list is unchanged and the error gives the round back.
+    pub fn push(&mut self, round: Moves) -> Result<(), AllocFailed<Moves>>
+        ensures ok { OnOk result (self.new ≡ self.old ++ round ∷ []) }
+        ensures err { OnErr result (self.new ≡ self.old) }
+        ensures back { IfErr result (λ back. back.value ≡ round) }
+    {
+        self.rounds.push(round)
+    }
+
+    /// How many rounds they are.
+    pub fn len(&self) -> usize
+        ensures { result ≡ length self.now }
+    {
+        self.rounds.len()
+    }
+
+    /// The round at an index from 0, `None` behind the last one.
+    pub fn get(&self, index: usize) -> Option<&Moves>
+        ensures { option_copied result ≡ slice_get self.now index }
+    {
+        self.rounds.get(index)
+    }
+}
