@@ -62,6 +62,26 @@ pub enum Expected {
     Holder,
     /// How many items of a message are given, or `*`.
     Count,
+    /// `up`, `down`, `refresh` or `restart`.
+    Request,
+    /// The label of a service or a driver.
+    Label,
+    /// The number of a tick.
+    Tick,
+    /// The number of a cause of death.
+    Cause,
+    /// `file` or `net`.
+    Server,
+    /// The number of a major device.
+    Major,
+    /// `block` or `character`.
+    Class,
+    /// The number of a port.
+    Port,
+    /// The number of a request.
+    Id,
+    /// The number of a major device or a port.
+    Unit,
     /// That the line had ended before: it is too long.
     Limit,
 }

@@ -3,7 +3,7 @@
 ghost use Rattle.std.specs.Prelude.{◌≡◌, ◌≢◌, ◌≤◌, List, ℕ, IfSome, IfNone, IsTrue, length, drop};
 ghost use Rattle.std.specs.List.{prefix_len, list_all};
 ghost use Rattle.std.specs.Char.{is_ascii_alphanumeric, is_ascii_digit};
-ghost use Rattle.ds_names.specs.Endpoint.{EndpointRecord, IsEndpoint, endpoint_text};
+ghost use Rattle.ds_names.specs.Endpoint.{IsEndpoint, NoEndpointBegins, endpoint_text};
 ghost use Rattle.ds_names.specs.Name.{is_name_byte, IsName};
 ghost use Rattle.ds_names.specs.Run.{Begins};
 ghost use Rattle.ds_names.specs.declared.kind.Kind.{Kind};
@@ -112,7 +112,7 @@ pub fn kind_at(bytes: &[u8]) -> Option<(Kind, &[u8])>
 pub fn endpoint_at(bytes: &[u8]) -> Option<(Endpoint, &[u8])>
     ensures found { IfSome result (λ r. Begins is_ascii_digit bytes.now (endpoint_text r.0) r.1.now) }
     ensures valid { IfSome result (λ r. IsEndpoint r.0) }
-    ensures none { IfNone result ((e : EndpointRecord) (rest : List ℕ) → IsEndpoint e → ¬ Begins is_ascii_digit bytes.now (endpoint_text e) rest) }
+    ensures none { IfNone result (NoEndpointBegins bytes.now) }
 {
     let (generation, slot, rest) = read_endpoint(bytes)?;
     let endpoint = Endpoint::of(Generation::of(generation)?, slot)?;

@@ -8,7 +8,8 @@ ghost use Rattle.ds_entry.specs.declared.body.Body.TheVariants.{Gone};
 ghost use Rattle.ds_line.specs.Part.{byte};
 ghost use Rattle.ds_line.specs.Spelling.{spelling};
 ghost use Rattle.ds_line.specs.FaultPlace.{IsFaultIn};
-ghost use Rattle.ds_line.specs.Reading.{HasOwner, HasVersion, HasBody, HasValue, up_to_kind, up_to_epoch, up_to_mark, up_to_value, ReadsChange};
+ghost use Rattle.ds_line.specs.Reading.{HasOwner, HasVersion, HasBody, HasValue, up_to_kind};
+ghost use Rattle.ds_line.specs.Reading.{up_to_epoch, up_to_mark, up_to_value, ReadsChange};
 
 use crate::expected::Expected;
 use crate::fault::LineFault;

@@ -29,7 +29,8 @@ abbrev all_words : List CommandWord
 all_words =
     words.Offer ∷ words.Show ∷ words.All ∷ words.Publish ∷ words.Delete ∷ words.Sweep ∷ words.Retrieve ∷ words.NameOf ∷ words.Subscribe
     ∷ words.Check ∷ words.Map ∷ words.Entries ∷ words.Ring ∷ words.Side ∷ words.Clear ∷ words.Restart ∷ words.Deliver ∷ words.Since
-    ∷ words.Snapshot ∷ words.Page ∷ []
+    ∷ words.Snapshot ∷ words.Page ∷ words.Settings ∷ words.Service ∷ words.Death ∷ words.Beat ∷ words.Tick ∷ words.Assign ∷ words.Follow
+    ∷ words.Submit ∷ words.Reply ∷ []
 
 abbrev alike : List ℕ → List ℕ → Bool
 alike [] [] = true

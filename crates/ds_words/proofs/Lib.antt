@@ -1,12 +1,12 @@
-pub mod ResultLemmas
 pub mod NewlineLemmas
 pub mod ItemLemmas
-pub mod MaskLemmas
 pub mod PieceLemmas
 pub mod QueryLemmas
 pub mod OneLemmas
 pub mod WorldPieceLemmas
+pub mod ServicePieceLemmas
 pub mod OpenLemmas
+pub mod DeviceLemmas
 pub mod ScopeLemmas
 pub mod RangeLemmas
 pub mod SlotLemmas

@@ -7,7 +7,7 @@ use Rattle.ds_replica.specs.declared.event.Event.{Event}
 use Rattle.ds_replica.specs.declared.event.Event.TheVariants as events
 use Rattle.ds_replica.specs.Bringing.{IsProperEvent}
 use Rattle.ds_words.specs.Proper.{LinesAreProper}
-use Rattle.ds_words.specs.declared.command.ScriptCommand.TheVariants.{Offer, Show, All, Publish, Delete, Sweep, Retrieve, NameOf, Subscribe, Check, Map, Entries, Ring, Side, Clear, Restart, Deliver, Since, Snapshot, Page}
+use Rattle.ds_words.specs.declared.command.ScriptCommand.TheVariants.{Offer, Show, All, Publish, Delete, Sweep, Retrieve, NameOf, Subscribe, Check, Map, Entries, Ring, Side, Clear, Restart, Deliver, Since, Snapshot, Page, Settings, Service, Death, Beat, Tick, Assign, Follow, Submit, Reply}
 
 -- the event is this one
 this : (proper event : Event) → IsProperEvent proper → Some proper ≡ Some event → IsProperEvent event
@@ -44,3 +44,12 @@ lines_are_proper (Deliver message holder count) side event is e = this (events.D
 lines_are_proper (Since scope cursor max) side event is e = this (events.Ask side (commands.Since _ cursor max)) event tt e
 lines_are_proper (Snapshot scope) side event is e = this (events.Ask side (commands.Snapshot _)) event tt e
 lines_are_proper (Page scope after max) side event is e = this (events.Ask side (commands.Page _ after max)) event tt e
+lines_are_proper (Settings text) side event is e = none event e
+lines_are_proper (Service request label tick) side event is e = none event e
+lines_are_proper (Death endpoint cause tick) side event is e = none event e
+lines_are_proper (Beat endpoint tick) side event is e = none event e
+lines_are_proper (Tick tick) side event is e = none event e
+lines_are_proper (Assign device label) side event is e = none event e
+lines_are_proper (Follow map) side event is e = none event e
+lines_are_proper (Submit server id unit map) side event is e = none event e
+lines_are_proper (Reply server endpoint id) side event is e = none event e

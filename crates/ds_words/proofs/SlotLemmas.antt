@@ -23,7 +23,11 @@ use Rattle.ds_words.specs.declared.slot.Slot.{Slot}
 use Rattle.ds_words.specs.declared.slot.Slot.TheVariants as slots
 use Rattle.ds_words.specs.Command.{IsVersion}
 use Rattle.ds_words.specs.Pieces.{an_endpoint, a_mode, an_initial, a_name, a_key, a_generation, a_version, a_number, a_place, a_kinds, a_pattern, a_value, an_end}
+use Rattle.ds_words.specs.ServicePieces.{a_request, a_server, a_unit}
 use Rattle.ds_words.specs.Table.{piece_of}
+use Rattle.ds_words.specs.declared.service.Device.TheVariants.{Net}
+use Rattle.ds_words.specs.declared.service.Request.TheVariants.{Up}
+use Rattle.ds_words.specs.declared.service.Server.TheVariants.{Net as NetServer}
 use Rattle.ds_words.specs.WorldPieces.{a_ring, a_side, a_holder, a_count}
 use Rattle.ds_words.proofs.NewlineLemmas.{unbroken_none}
 use Rattle.ds_words.proofs.OneLemmas.{one_byte, end_one, marked_one}
@@ -32,6 +36,8 @@ use Rattle.ds_words.proofs.PieceLemmas.{endpoint_is, endpoint_fixed, endpoint_on
 use Rattle.ds_words.proofs.QueryLemmas.{pattern_fixed, pattern_one}
 use Rattle.ds_words.proofs.RangeLemmas.{range_one, range_apart}
 use Rattle.ds_words.proofs.ScopeLemmas.{scope_one, scope_apart}
+use Rattle.ds_words.proofs.ServicePieceLemmas.{text_one, request_fixed, request_one, server_fixed, server_one, unit_fixed, unit_one}
+use Rattle.ds_words.proofs.DeviceLemmas.{device_one, device_apart}
 use Rattle.ds_words.proofs.WorldPieceLemmas.{ring_fixed, ring_one, side_fixed, side_one, holder_fixed, holder_one, count_fixed, count_one}
 
 -- ---- items
@@ -87,6 +93,15 @@ some_of k slots.Holder = (Store A, tt)
 some_of k slots.Count = (None, tt)
 some_of k slots.Scope = (AllKeys, tt)
 some_of k slots.Range = ((None, 0), (tt, omega arith))
+some_of k slots.Text = ([], unbroken_none)
+some_of k slots.Request = (Up, tt)
+some_of k slots.Label = (rs_name, rs_is_name)
+some_of k slots.Tick = (0, omega arith)
+some_of k slots.Cause = (0, omega arith)
+some_of k slots.Device = (Net 0, omega arith)
+some_of k slots.Server = (NetServer, tt)
+some_of k slots.Id = (0, omega arith)
+some_of k slots.Unit = (0, omega arith)
 some_of k slots.End = (tt, tt)
 
 -- two of it at one front are one
@@ -115,11 +130,21 @@ slot_one k slots.Holder = holder_one
 slot_one k slots.Count = count_one
 slot_one k slots.Scope = scope_one
 slot_one k slots.Range = range_one
+slot_one k slots.Text = text_one
+slot_one k slots.Request = request_one
+slot_one k slots.Label = name_one
+slot_one k slots.Tick = place_one
+slot_one k slots.Cause = place_one
+slot_one k slots.Device = device_one
+slot_one k slots.Server = server_one
+slot_one k slots.Id = place_one
+slot_one k slots.Unit = unit_one
 slot_one k slots.End = end_one
 
--- something can stand behind the slot: an item is the last of its line
+-- something can stand behind the slot: an item, and the rest of a line, are the last of their line
 abbrev pub IsInner : Slot → Type 0
 IsInner slots.Item = ⊥
+IsInner slots.Text = ⊥
 IsInner s = Unit {0}
 
 fixed_apart : (p : Piece) (n : ℕ) → Fixed p n → Apart p
@@ -154,4 +179,13 @@ slot_apart k slots.Holder inner = fixed_apart a_holder 2 holder_fixed
 slot_apart k slots.Count inner = fixed_apart a_count 2 count_fixed
 slot_apart k slots.Scope inner = scope_apart
 slot_apart k slots.Range inner = range_apart
+slot_apart k slots.Text inner = absurd inner
+slot_apart k slots.Request inner = fixed_apart a_request 2 request_fixed
+slot_apart k slots.Label inner = fixed_apart a_name 2 name_fixed
+slot_apart k slots.Tick inner = fixed_apart a_place 2 place_fixed
+slot_apart k slots.Cause inner = fixed_apart a_place 2 place_fixed
+slot_apart k slots.Device inner = device_apart
+slot_apart k slots.Server inner = fixed_apart a_server 2 server_fixed
+slot_apart k slots.Id inner = fixed_apart a_place 2 place_fixed
+slot_apart k slots.Unit inner = fixed_apart a_unit 2 unit_fixed
 slot_apart k slots.End inner = fixed_apart an_end 1 (λ x. refl)

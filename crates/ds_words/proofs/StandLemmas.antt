@@ -27,9 +27,13 @@ use Rattle.ds_words.specs.declared.word.Word.{Word as CommandWord}
 use Rattle.ds_words.specs.declared.word.Word.TheVariants as words
 use Rattle.ds_words.specs.Command.{IsCommand, command_word, behind_word, initial_word, mode_word}
 use Rattle.ds_words.specs.Table.{slots_of, piece_of, kind_after, row_of, line_of}
-use Rattle.ds_words.specs.World.{side_word, holder_word, count_part}
+use Rattle.store_words.specs.Outcome.{side_word}
+use Rattle.ds_words.specs.World.{holder_word, count_part}
 use Rattle.ds_words.specs.Page.{range_parts}
 use Rattle.ds_words.specs.Scope.{scope_parts}
+use Rattle.ds_words.specs.Service.{class_word, device_parts, request_word, server_word, text_parts}
+use Rattle.ds_words.specs.declared.service.Device.{Device}
+use Rattle.ds_words.specs.declared.service.Device.TheVariants.{File, Net}
 use Rattle.ds_words.proofs.OfferLemmas.{item_stands}
 use Rattle.ds_words.proofs.TableLemmas.{row}
 
@@ -101,6 +105,20 @@ range_before (Some key) max more parted h =
     spaced Name key.name (space ∷ part Word (kind_word key.kind) ∷ from_max) (inl refl)
     (spaced Word (kind_word key.kind) from_max (inl refl) (spaced Number (decimal max) more parted h))
 
+-- the bytes of a text, and a newline
+text_before : (text : List ℕ) (more : List Part) → AllStand more [] → AllStand ((text_parts text ++ newline ∷ []) ++ more) []
+text_before [] more h = byte_stands 10 more [] h
+text_before (b ∷ text) more h = byte_stands b ((text_parts text ++ newline ∷ []) ++ more) [] (text_before text more h)
+
+device_before : (device : Device) (more : List Part) → Parted more → AllStand more []
+    → AllStand (space ∷ (device_parts device ++ more)) []
+device_before (File major class) more parted h =
+    let from_class : List Part = space ∷ part Word (class_word class) ∷ more in
+    spaced Word (codes "file") (space ∷ part Number (decimal major) ∷ from_class) (inl refl)
+    (spaced Number (decimal major) from_class (inl refl) (spaced Word (class_word class) more parted h))
+device_before (Net port) more parted h =
+    spaced Word (codes "net") (space ∷ part Number (decimal port) ∷ more) (inl refl) (spaced Number (decimal port) more parted h)
+
 -- ---- slots
 
 slot_stands : (k : Kind) (s : Slot) (x : (piece_of k s).Of) (more : List Part) → Parted more → AllStand more []
@@ -138,6 +156,15 @@ slot_stands k slots.Holder holder more parted h = spaced Word (holder_word holde
 slot_stands k slots.Count count more parted h = count_before count more parted h
 slot_stands k slots.Scope scope more parted h = scope_before scope more parted h
 slot_stands k slots.Range x more parted h = range_before x.0 x.1 more parted h
+slot_stands k slots.Text text more parted h = byte_stands 32 ((text_parts text ++ newline ∷ []) ++ more) [] (text_before text more h)
+slot_stands k slots.Request request more parted h = spaced Word (request_word request) more parted h
+slot_stands k slots.Label name more parted h = spaced Name name more parted h
+slot_stands k slots.Tick n more parted h = spaced Number (decimal n) more parted h
+slot_stands k slots.Cause n more parted h = spaced Number (decimal n) more parted h
+slot_stands k slots.Device device more parted h = device_before device more parted h
+slot_stands k slots.Server server more parted h = spaced Word (server_word server) more parted h
+slot_stands k slots.Id n more parted h = spaced Number (decimal n) more parted h
+slot_stands k slots.Unit n more parted h = spaced Number (decimal n) more parted h
 slot_stands k slots.End x more parted h = byte_stands 10 more [] h
 
 slot_parted : (k : Kind) (s : Slot) (x : (piece_of k s).Of) (more : List Part) → Parted ((piece_of k s).parts x ++ more)
@@ -148,6 +175,7 @@ slot_parted k s x more = inl refl
 abbrev IsLast : Slot → Type 0
 IsLast slots.Item = Unit {0}
 IsLast slots.Value = Unit {0}
+IsLast slots.Text = Unit {0}
 IsLast slots.End = Unit {0}
 IsLast s = ⊥
 
@@ -159,6 +187,7 @@ slot_ends : (k : Kind) (s : Slot) (x : (piece_of k s).Of) → IsLast s → (piec
     → (front : List ℕ) × (texts ((piece_of k s).parts x) ≡ front ++ 10 ∷ [])
 slot_ends k slots.Item i last can = let e = item_ends i can in (32 ∷ e.front, ap (λ (t : List ℕ). 32 ∷ t) e.parts)
 slot_ends k slots.Value v last can = last_newline (space ∷ byte 61 ∷ space ∷ value_part v ∷ [])
+slot_ends k slots.Text text last can = last_newline (space ∷ text_parts text)
 slot_ends k slots.End x last can = ([], refl)
 slot_ends k s x last can = absurd last
 

@@ -15,7 +15,7 @@ use Rattle.ds_machine.specs.declared.command.Scope.{Scope}
 use Rattle.ds_machine.specs.declared.command.Scope.TheVariants.{All as AllKeys, Under}
 use Rattle.ds_pattern.specs.declared.query.Query.{Query}
 use Rattle.ds_words.specs.declared.command.ScriptCommand.{ScriptCommand}
-use Rattle.ds_words.specs.declared.command.ScriptCommand.TheVariants.{Offer, Show, All as Everything, Publish, Delete, Sweep, Retrieve, NameOf, Subscribe, Check, Map, Entries, Ring, Side as OnSide, Clear, Restart, Deliver, Since, Snapshot, Page}
+use Rattle.ds_words.specs.declared.command.ScriptCommand.TheVariants.{Offer, Show, All as Everything, Publish, Delete, Sweep, Retrieve, NameOf, Subscribe, Check, Map, Entries, Ring, Side as OnSide, Clear, Restart, Deliver, Since, Snapshot, Page, Settings, Service, Death, Beat, Tick, Assign, Follow, Submit, Reply}
 use Rattle.ds_words.specs.declared.slot.Slot.{Slot}
 use Rattle.ds_words.specs.declared.slot.Slot.TheVariants as slots
 use Rattle.ds_words.specs.declared.word.Word.{Word as CommandWord}
@@ -58,6 +58,15 @@ command_of words.Deliver x = Deliver x.0 x.1.0 x.1.1.0
 command_of words.Since x = Since x.0 (cursor_of x.1.0 x.1.1.0) x.1.1.1.0
 command_of words.Snapshot x = Snapshot x.0
 command_of words.Page x = Page x.0 x.1.0.0 x.1.0.1
+command_of words.Settings x = Settings x
+command_of words.Service x = Service x.0 x.1.0 x.1.1.0
+command_of words.Death x = Death x.0 x.1.0 x.1.1.0
+command_of words.Beat x = Beat x.0 x.1.0
+command_of words.Tick x = Tick x.0
+command_of words.Assign x = Assign x.0 x.1.0
+command_of words.Follow x = Follow x.0
+command_of words.Submit x = Submit x.0 x.1.0 x.1.1.0 x.1.1.1.0
+command_of words.Reply x = Reply x.0 x.1.0 x.1.1.0
 
 -- it is one, and its line is what the slots have
 made : (w : CommandWord) (x : (line_of w).Of) → (line_of w).Can x
@@ -82,6 +91,15 @@ made words.Deliver x can = ((can.0, can.1.0, can.1.1.0), refl, refl)
 made words.Since x can = ((can.0, can.1.0, can.1.1.0, can.1.1.1.0), refl, refl)
 made words.Snapshot x can = (can.0, refl, refl)
 made words.Page x can = ((can.0, can.1.0.0, can.1.0.1), refl, refl)
+made words.Settings x can = (can, refl, refl)
+made words.Service x can = ((can.1.0, can.1.1.0), refl, refl)
+made words.Death x can = ((can.0, can.1.0, can.1.1.0), refl, refl)
+made words.Beat x can = ((can.0, can.1.0), refl, refl)
+made words.Tick x can = (can.0, refl, refl)
+made words.Assign x can = ((can.0, can.1.0), refl, refl)
+made words.Follow x can = (can.0, refl, refl)
+made words.Submit x can = ((can.1.0, can.1.1.0, can.1.1.1.0), refl, refl)
+made words.Reply x can = ((can.1.0, can.1.1.0), refl, refl)
 
 -- ---- what stands in the slots of a command
 
@@ -129,6 +147,19 @@ row (Since scope cursor max) is = record {
 row (Snapshot scope) is = record { fields = (scope, tt); can = (is, tt); parts = refl; back = refl }
 row (Page scope after max) is =
     record { fields = (scope, ((after, max), tt)); can = (is.0, ((is.1, is.2), tt)); parts = refl; back = refl }
+row (Settings text) is = record { fields = text; can = is; parts = refl; back = refl }
+row (Service request label tick) is =
+    record { fields = (request, (label, (tick, tt))); can = (tt, (is.0, (is.1, tt))); parts = refl; back = refl }
+row (Death endpoint cause tick) is =
+    record { fields = (endpoint, (cause, (tick, tt))); can = (is.0, (is.1, (is.2, tt))); parts = refl; back = refl }
+row (Beat endpoint tick) is = record { fields = (endpoint, (tick, tt)); can = (is.0, (is.1, tt)); parts = refl; back = refl }
+row (Tick tick) is = record { fields = (tick, tt); can = (is, tt); parts = refl; back = refl }
+row (Assign device label) is = record { fields = (device, (label, tt)); can = (is.0, (is.1, tt)); parts = refl; back = refl }
+row (Follow map) is = record { fields = (map, tt); can = (is, tt); parts = refl; back = refl }
+row (Submit server id unit map) is =
+    record { fields = (server, (id, (unit, (map, tt)))); can = (tt, (is.0, (is.1, (is.2, tt)))); parts = refl; back = refl }
+row (Reply server endpoint id) is =
+    record { fields = (server, (endpoint, (id, tt))); can = (tt, (is.0, (is.1, tt))); parts = refl; back = refl }
 
 word_row : (w : CommandWord) (m : ScriptCommand) → IsCommand m → command_word m ≡ w → Row m w
 word_row w m is same = subst (λ (v : CommandWord). Row m v) same (row m is)

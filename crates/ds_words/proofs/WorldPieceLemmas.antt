@@ -18,7 +18,8 @@ use Rattle.ds_replica.specs.declared.event.Side.{Side}
 use Rattle.ds_replica.specs.declared.event.Side.TheVariants.{A, B}
 use Rattle.ds_replica.specs.declared.event.Holder.{Holder}
 use Rattle.ds_replica.specs.declared.event.Holder.TheVariants.{Store, Map}
-use Rattle.ds_words.specs.World.{side_word, holder_word, IsHolder, count_part, IsCount}
+use Rattle.store_words.specs.Outcome.{side_word}
+use Rattle.ds_words.specs.World.{holder_word, IsHolder, count_part, IsCount}
 use Rattle.ds_words.specs.WorldPieces.{a_ring, a_side, a_holder, a_count}
 use Rattle.ds_words.proofs.PieceLemmas.{one_part, no_part, number_part}
 use Rattle.ds_words.proofs.OneLemmas.{one_byte}

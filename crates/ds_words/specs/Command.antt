@@ -14,19 +14,22 @@ use Rattle.ds_line.specs.FaultPlace.{IsFaultPlace}
 use Rattle.ds_line.specs.Piece.{IsValueOf}
 use Rattle.ds_machine.specs.declared.command.Command.{Command}
 use Rattle.ds_machine.specs.declared.command.Command.TheVariants as commands
-use Rattle.ds_words.specs.Lines.{with_newline}
+use Rattle.ds_words.specs.Lines.{IsUnbroken}
+use Rattle.ds_line.specs.LastNewline.{with_newline}
 use Rattle.ds_words.specs.declared.fault.CommandFault.{CommandFault}
 use Rattle.ds_words.specs.declared.fault.CommandFault.TheVariants.{BadLine, NoRoom}
 use Rattle.ds_words.specs.declared.command.ScriptCommand.{ScriptCommand}
-use Rattle.ds_words.specs.declared.command.ScriptCommand.TheVariants.{Offer, Show, All, Publish, Delete, Sweep, Retrieve, NameOf, Subscribe, Check, Map, Entries, Ring, Side, Clear, Restart, Deliver, Since, Snapshot, Page}
+use Rattle.ds_words.specs.declared.command.ScriptCommand.TheVariants.{Offer, Show, All, Publish, Delete, Sweep, Retrieve, NameOf, Subscribe, Check, Map, Entries, Ring, Side, Clear, Restart, Deliver, Since, Snapshot, Page, Settings, Service, Death, Beat, Tick, Assign, Follow, Submit, Reply}
 use Rattle.ds_words.specs.declared.word.Word.{Word as CommandWord}
 use Rattle.ds_words.specs.declared.word.Word.TheVariants as words
 use Rattle.ds_words.specs.Key.{key_parts, version_parts}
 use Rattle.ds_words.specs.Page.{range_parts, IsAfter}
 use Rattle.ds_words.specs.Query.{IsQuery, query_parts}
 use Rattle.ds_words.specs.Scope.{scope_parts, IsScope, is_all, ScopeTakesMemory}
+use Rattle.ds_words.specs.Service.{device_parts, IsDevice, request_word, server_word, text_parts}
 use Rattle.ds_words.specs.Words.{text_of}
-use Rattle.ds_words.specs.World.{side_word, holder_word, IsHolder, count_part, IsCount}
+use Rattle.store_words.specs.Outcome.{side_word}
+use Rattle.ds_words.specs.World.{holder_word, IsHolder, count_part, IsCount}
 
 -- `first` for a subscription that is shown what is held already, else `later`
 abbrev pub initial_word : Bool → List ℕ
@@ -60,6 +63,15 @@ command_word (Deliver message holder count) = words.Deliver
 command_word (Since scope cursor max) = words.Since
 command_word (Snapshot scope) = words.Snapshot
 command_word (Page scope after max) = words.Page
+command_word (Settings text) = words.Settings
+command_word (Service request label tick) = words.Service
+command_word (Death endpoint cause tick) = words.Death
+command_word (Beat endpoint tick) = words.Beat
+command_word (Tick tick) = words.Tick
+command_word (Assign device label) = words.Assign
+command_word (Follow map) = words.Follow
+command_word (Submit server id unit map) = words.Submit
+command_word (Reply server endpoint id) = words.Reply
 
 -- and its text
 abbrev pub word_of : ScriptCommand → List ℕ
@@ -95,6 +107,23 @@ behind_word (Since scope cursor max) =
     space ∷ (scope_parts scope ++ space ∷ part Number (decimal cursor.incarnation) ∷ space ∷ part Number (decimal cursor.position) ∷ space ∷ part Number (decimal max) ∷ newline ∷ [])
 behind_word (Snapshot scope) = space ∷ (scope_parts scope ++ newline ∷ [])
 behind_word (Page scope after max) = space ∷ (scope_parts scope ++ space ∷ (range_parts after max ++ newline ∷ []))
+behind_word (Settings text) = space ∷ (text_parts text ++ newline ∷ [])
+behind_word (Service request label tick) =
+    space ∷ part Word (request_word request) ∷ space ∷ part Name label ∷ space ∷ part Number (decimal tick) ∷ newline ∷ []
+behind_word (Death endpoint cause tick) =
+    space ∷ part Endpoint (endpoint_text endpoint) ∷ space ∷ part Number (decimal cause) ∷ space ∷ part Number (decimal tick)
+    ∷ newline ∷ []
+behind_word (Beat endpoint tick) =
+    space ∷ part Endpoint (endpoint_text endpoint) ∷ space ∷ part Number (decimal tick) ∷ newline ∷ []
+behind_word (Tick tick) = space ∷ part Number (decimal tick) ∷ newline ∷ []
+behind_word (Assign device label) = space ∷ (device_parts device ++ space ∷ part Name label ∷ newline ∷ [])
+behind_word (Follow map) = space ∷ part Number (decimal map) ∷ newline ∷ []
+behind_word (Submit server id unit map) =
+    space ∷ part Word (server_word server) ∷ space ∷ part Number (decimal id) ∷ space ∷ part Number (decimal unit) ∷ space
+    ∷ part Number (decimal map) ∷ newline ∷ []
+behind_word (Reply server endpoint id) =
+    space ∷ part Word (server_word server) ∷ space ∷ part Endpoint (endpoint_text endpoint) ∷ space ∷ part Number (decimal id)
+    ∷ newline ∷ []
 
 -- the parts of a command's line: its word, and what it takes
 abbrev pub command_parts : ScriptCommand → List Part
@@ -128,8 +157,17 @@ IsCommand (Deliver message holder count) = (message < 2 ^ 64) × IsHolder holder
 IsCommand (Since scope cursor max) = IsScope scope × (cursor.incarnation < 2 ^ 64) × (cursor.position < 2 ^ 64) × (max < 2 ^ 32)
 IsCommand (Snapshot scope) = IsScope scope
 IsCommand (Page scope after max) = IsScope scope × IsAfter after × (max < 2 ^ 32)
+IsCommand (Settings text) = IsUnbroken text
+IsCommand (Service request label tick) = IsName label × (tick < 2 ^ 64)
+IsCommand (Death endpoint cause tick) = IsEndpoint endpoint × (cause < 2 ^ 64) × (tick < 2 ^ 64)
+IsCommand (Beat endpoint tick) = IsEndpoint endpoint × (tick < 2 ^ 64)
+IsCommand (Tick tick) = tick < 2 ^ 64
+IsCommand (Assign device label) = IsDevice device × IsName label
+IsCommand (Follow map) = map < 2 ^ 64
+IsCommand (Submit server id unit map) = (id < 2 ^ 64) × (unit ≤ 255) × (map < 2 ^ 64)
+IsCommand (Reply server endpoint id) = IsEndpoint endpoint × (id < 2 ^ 64)
 
--- the command has a text, a blob or a pattern
+-- the command has a text, a blob or a pattern, and one of settings some bytes of them
 abbrev pub CommandTakesMemory : ScriptCommand → Type 0
 CommandTakesMemory (Offer i) = ¬ IsItemInPlace i
 CommandTakesMemory (Publish caller key version value overwrite) = ¬ IsInPlace value
@@ -138,6 +176,7 @@ CommandTakesMemory (Map query) = Unit {0}
 CommandTakesMemory (Since scope cursor max) = ScopeTakesMemory scope
 CommandTakesMemory (Snapshot scope) = ScopeTakesMemory scope
 CommandTakesMemory (Page scope after max) = ScopeTakesMemory scope
+CommandTakesMemory (Settings text) = text ≢ []
 CommandTakesMemory _ = ⊥
 
 -- what the line asks of a store takes no memory: it has no item, no value and no pattern, or the line asks nothing
@@ -162,6 +201,15 @@ is_plain (Deliver message holder count) = true
 is_plain (Since scope cursor max) = is_all scope
 is_plain (Snapshot scope) = is_all scope
 is_plain (Page scope after max) = is_all scope
+is_plain (Settings text) = true
+is_plain (Service request label tick) = true
+is_plain (Death endpoint cause tick) = true
+is_plain (Beat endpoint tick) = true
+is_plain (Tick tick) = true
+is_plain (Assign device label) = true
+is_plain (Follow map) = true
+is_plain (Submit server id unit map) = true
+is_plain (Reply server endpoint id) = true
 
 -- the line has a scope
 abbrev pub has_scope : ScriptCommand → Bool
@@ -192,6 +240,15 @@ store_command (Deliver message holder count) = None
 store_command (Since scope cursor max) = Some (commands.Since scope cursor max)
 store_command (Snapshot scope) = Some (commands.Snapshot scope)
 store_command (Page scope after max) = Some (commands.Page scope after max)
+store_command (Settings text) = None
+store_command (Service request label tick) = None
+store_command (Death endpoint cause tick) = None
+store_command (Beat endpoint tick) = None
+store_command (Tick tick) = None
+store_command (Assign device label) = None
+store_command (Follow map) = None
+store_command (Submit server id unit map) = None
+store_command (Reply server endpoint id) = None
 
 -- ---- a line with its newline, where some of the commands may stand
 
@@ -200,7 +257,7 @@ pub record IsFaultAmong (May : ScriptCommand → Type 0) (bytes : List ℕ) (pla
   pub none : (command : ScriptCommand) → May command → bytes ≢ texts (command_parts command)
   pub first : IsFaultPlace May command_parts bytes place
 
--- what the reader of a line, newline included, answers: there is no room for texts, blobs and patterns alone
+-- what the reader of a line, newline included, answers: there is no room for texts, blobs, patterns and settings alone
 abbrev pub ReadsAs : (ScriptCommand → Type 0) → List ℕ → Result ScriptCommand CommandFault → Type 0
 ReadsAs May bytes (Ok command) = May command × (bytes ≡ texts (command_parts command))
 ReadsAs May bytes (Err (BadLine place expected)) = IsFaultAmong May bytes place
@@ -232,7 +289,7 @@ IsLineOf command line = IsLineAs IsCommand command line
 abbrev pub IsBadLine : List ℕ → ℕ → Type 0
 IsBadLine line place = IsBadLineAs IsCommand line place
 
--- why a line isn't read: it is bad, or it is a command's, and there is no room for its text, blob or pattern
+-- why a line isn't read: it is bad, or it is a command's, and there is no room for its text, blob, pattern or settings
 abbrev pub IsCommandLineFault : CommandFault → List ℕ → Type 0
 IsCommandLineFault (BadLine place expected) line = IsBadLine line place
 IsCommandLineFault NoRoom line = (command : ScriptCommand) × IsLineOf command line × CommandTakesMemory command

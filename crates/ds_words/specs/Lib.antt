@@ -8,9 +8,11 @@ pub mod Scope
 pub mod Page
 pub mod World
 pub mod WorldPieces
-pub mod Reply
+pub mod Service
+pub mod ServicePieces
+pub mod ServiceEvent
+pub mod Wording
 pub mod Later
 pub mod Event
 pub mod Proper
-pub mod Outcome
 pub mod Table

@@ -1,6 +1,7 @@
 -- The lines of an input.
 use Rattle.std.specs.Prelude.{◌≡◌, ◌≢◌, ℕ, suc, ◌<◌, List, [], ◌∷◌, ◌++◌, length, take}
 use Rattle.std.specs.List.{All, flat_map}
+use Rattle.ds_line.specs.LastNewline.{with_newline}
 
 -- no newline is in it
 abbrev pub IsUnbroken : List ℕ → Type 0
@@ -11,10 +12,6 @@ pub record BreaksAt (text : List ℕ) (n : ℕ) : Type 0 where
   pub within : n < length text
   pub line : IsUnbroken (take n text)
   pub parts : take (suc n) text ≡ take n text ++ 10 ∷ []
-
--- a line with its newline
-abbrev pub with_newline : List ℕ → List ℕ
-with_newline line = line ++ 10 ∷ []
 
 -- lines one behind the other, each with its newline
 abbrev pub joined : List (List ℕ) → List ℕ

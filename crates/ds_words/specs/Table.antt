@@ -16,6 +16,7 @@ use Rattle.ds_words.specs.Command.{IsCommand, command_word, behind_word}
 use Rattle.ds_words.specs.Page.{a_range}
 use Rattle.ds_words.specs.Pieces.{an_endpoint, a_mode, an_initial, a_name, a_key, a_generation, a_version, a_number, a_place, a_kinds, a_pattern, a_value, an_end}
 use Rattle.ds_words.specs.Scope.{a_scope}
+use Rattle.ds_words.specs.ServicePieces.{a_device, a_request, a_server, a_text, a_unit}
 use Rattle.ds_words.specs.WorldPieces.{a_ring, a_side, a_holder, a_count}
 
 -- what stands behind a word
@@ -40,6 +41,15 @@ slots_of words.Deliver = slots.Message ∷ slots.Holder ∷ slots.Count ∷ slot
 slots_of words.Since = slots.Scope ∷ slots.Incarnation ∷ slots.Position ∷ slots.Max ∷ slots.End ∷ []
 slots_of words.Snapshot = slots.Scope ∷ slots.End ∷ []
 slots_of words.Page = slots.Scope ∷ slots.Range ∷ slots.End ∷ []
+slots_of words.Settings = slots.Text ∷ []
+slots_of words.Service = slots.Request ∷ slots.Label ∷ slots.Tick ∷ slots.End ∷ []
+slots_of words.Death = slots.Endpoint ∷ slots.Cause ∷ slots.Tick ∷ slots.End ∷ []
+slots_of words.Beat = slots.Endpoint ∷ slots.Tick ∷ slots.End ∷ []
+slots_of words.Tick = slots.Tick ∷ slots.End ∷ []
+slots_of words.Assign = slots.Device ∷ slots.Label ∷ slots.End ∷ []
+slots_of words.Follow = slots.Map ∷ slots.End ∷ []
+slots_of words.Submit = slots.Server ∷ slots.Id ∷ slots.Unit ∷ slots.Map ∷ slots.End ∷ []
+slots_of words.Reply = slots.Server ∷ slots.Endpoint ∷ slots.Id ∷ slots.End ∷ []
 
 -- an item, which ends with its newline
 abbrev pub an_item : Piece
@@ -71,6 +81,15 @@ piece_of k slots.Holder = a_holder
 piece_of k slots.Count = a_count
 piece_of k slots.Scope = a_scope
 piece_of k slots.Range = a_range
+piece_of k slots.Text = a_text
+piece_of k slots.Request = a_request
+piece_of k slots.Label = a_name
+piece_of k slots.Tick = a_place
+piece_of k slots.Cause = a_place
+piece_of k slots.Device = a_device
+piece_of k slots.Server = a_server
+piece_of k slots.Id = a_place
+piece_of k slots.Unit = a_unit
 piece_of k slots.End = an_end
 
 -- the kind of the key that was read last, behind what the slot has

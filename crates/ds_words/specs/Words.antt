@@ -25,6 +25,15 @@ text_of words.Deliver = codes "deliver"
 text_of words.Since = codes "since"
 text_of words.Snapshot = codes "snapshot"
 text_of words.Page = codes "page"
+text_of words.Settings = codes "settings"
+text_of words.Service = codes "service"
+text_of words.Death = codes "death"
+text_of words.Beat = codes "beat"
+text_of words.Tick = codes "tick"
+text_of words.Assign = codes "assign"
+text_of words.Follow = codes "follow"
+text_of words.Submit = codes "submit"
+text_of words.Reply = codes "reply"
 
 -- the word is of a command to a world
 abbrev pub IsOfWorld : Word → Type 0
@@ -37,3 +46,16 @@ IsOfWorld words.Since = Unit {0}
 IsOfWorld words.Snapshot = Unit {0}
 IsOfWorld words.Page = Unit {0}
 IsOfWorld _ = ⊥
+
+-- the word is of a command to services or driver tables
+abbrev pub IsOfServices : Word → Type 0
+IsOfServices words.Settings = Unit {0}
+IsOfServices words.Service = Unit {0}
+IsOfServices words.Death = Unit {0}
+IsOfServices words.Beat = Unit {0}
+IsOfServices words.Tick = Unit {0}
+IsOfServices words.Assign = Unit {0}
+IsOfServices words.Follow = Unit {0}
+IsOfServices words.Submit = Unit {0}
+IsOfServices words.Reply = Unit {0}
+IsOfServices _ = ⊥

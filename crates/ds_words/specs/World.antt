@@ -1,16 +1,10 @@
--- The words of a world: of its sides, and of whom a message is given to.
-use Rattle.std.specs.Prelude.{ℕ, ◌<◌, ◌^◌, List, ◌∷◌, codes, Option, None, Some}
+-- The words of a world: of whom a message is given to.
+use Rattle.std.specs.Prelude.{ℕ, ◌<◌, ◌^◌, List, ◌∷◌, Option, None, Some}
 use Rattle.std.specs.Fmt.{decimal}
 use Rattle.ds_line.specs.Part.{Part, part, byte, Number}
-use Rattle.ds_replica.specs.declared.event.Side.{Side}
-use Rattle.ds_replica.specs.declared.event.Side.TheVariants.{A, B}
 use Rattle.ds_replica.specs.declared.event.Holder.{Holder}
 use Rattle.ds_replica.specs.declared.event.Holder.TheVariants.{Store, Map}
-
--- `a` or `b`
-abbrev pub side_word : Side → List ℕ
-side_word A = codes "a"
-side_word B = codes "b"
+use Rattle.store_words.specs.Outcome.{side_word}
 
 -- a side's word, or `m` and the number of a map
 abbrev pub holder_word : Holder → List ℕ

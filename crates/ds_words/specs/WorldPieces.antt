@@ -4,7 +4,8 @@ use Rattle.std.specs.Fmt.{decimal}
 use Rattle.ds_line.specs.Part.{part, Word, Number}
 use Rattle.ds_line.specs.Spelling.{space}
 use Rattle.ds_line.specs.Piece.{Piece}
-use Rattle.ds_words.specs.World.{side_word, holder_word, IsHolder, count_part, IsCount}
+use Rattle.store_words.specs.Outcome.{side_word}
+use Rattle.ds_words.specs.World.{holder_word, IsHolder, count_part, IsCount}
 use Rattle.ds_replica.specs.declared.event.Side.{Side}
 use Rattle.ds_replica.specs.declared.event.Holder.{Holder}
 

@@ -13,8 +13,9 @@ use std::alloc::Global;
 
 impl ScriptCommand {
     /// The store's command of the line, with copies of what the line has. `None` for a line that asks nothing of a
-    /// store: `show`, `all`, `map`, `entries`, `ring`, `side`, `clear`, `restart` and `deliver`. An `offer` is a Merge of one
-    /// item. NoRoom: out of memory for the copies of an item, a value or a pattern, and for no other line.
+    /// store: `show`, `all`, `map`, `entries`, `ring`, `side`, `clear`, `restart`, `deliver`, and those to services and driver
+    /// tables. An `offer` is a Merge of one item. NoRoom: out of memory for the copies of an item, a value or a pattern, and
+    /// for no other line.
     pub fn store_command(&self, alloc: Global) -> Result<Option<Command>, NoRoom>
         ensures command { IfOk result (λ command. command ≡ store_command self.now) }
         ensures room { OnErr result (is_plain self.now ≡ false) }

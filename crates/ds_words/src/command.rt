@@ -1,5 +1,7 @@
 //! The lines of a script.
 
+use crate::service::{Device, Request, Server};
+use crate::settings_text::SettingsText;
 use ds_entry::{Item, Value};
 use ds_feed::Cursor;
 use ds_machine::Scope;
@@ -107,5 +109,52 @@ pub enum ScriptCommand {
         scope: Scope,
         after: Option<Key>,
         max: u32,
+    },
+    /// `settings REST`: tells RS of its services. REST is the rest of the line, any bytes, as a settings text.
+    Settings {
+        text: SettingsText,
+    },
+    /// `service up LABEL TICK`, or `down`, `refresh` or `restart` for `up`: asks RS for a service.
+    Service {
+        request: Request,
+        label: Name,
+        tick: u64,
+    },
+    /// `death ENDPOINT CAUSE TICK`: tells RS that an instance died.
+    Death {
+        endpoint: Endpoint,
+        cause: u64,
+        tick: u64,
+    },
+    /// `beat ENDPOINT TICK`: tells RS that an instance lives.
+    Beat {
+        endpoint: Endpoint,
+        tick: u64,
+    },
+    /// `tick TICK`: tells RS that time passed.
+    Tick {
+        tick: u64,
+    },
+    /// `assign file MAJOR block LABEL`, or `character` for `block`, or `assign net PORT LABEL`: gives a device its driver.
+    Assign {
+        device: Device,
+        label: Name,
+    },
+    /// `follow J`: both tables follow what a map has of their drivers.
+    Follow {
+        map: u64,
+    },
+    /// `submit file ID UNIT J`, or `net` for `file`: a table follows a map, and has a new request for a unit.
+    Submit {
+        server: Server,
+        id: u64,
+        unit: u8,
+        map: u64,
+    },
+    /// `reply file ENDPOINT ID`, or `net` for `file`: a driver answers a request of a table.
+    Reply {
+        server: Server,
+        endpoint: Endpoint,
+        id: u64,
     },
 }

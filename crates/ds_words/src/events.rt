@@ -11,8 +11,8 @@ use std::alloc::Global;
 
 impl ScriptCommand {
     /// The event that the line is in a world whose store of this side is asked: what the line asks of a store is asked of
-    /// that one. `None` for the lines that let nothing happen: `show`, `all`, `entries`, `ring` and `side`. NoRoom: out of
-    /// memory for the list of an `offer`'s one item.
+    /// that one. `None` for the lines that let nothing happen there: `show`, `all`, `entries`, `ring`, `side`, and those to
+    /// services and driver tables. NoRoom: out of memory for the list of an `offer`'s one item.
     pub fn into_event(self, alloc: Global, side: Side) -> Result<Option<Event>, NoRoom>
         ensures event { IfOk result (λ event. event ≡ event_of side self) }
         ensures room { OnErr result (is_plain self ≡ false) }

@@ -2,7 +2,8 @@
 
 ghost use Rattle.std.specs.Prelude.{◌≡◌, ◌≤◌, ◌+◌, length, take, IfOk, IfErr};
 ghost use Rattle.ds_line.specs.LastNewline.{EndsLine};
-ghost use Rattle.ds_words.specs.Lines.{IsUnbroken, with_newline};
+ghost use Rattle.ds_words.specs.Lines.{IsUnbroken};
+ghost use Rattle.ds_line.specs.LastNewline.{with_newline};
 ghost use Rattle.ds_words.specs.Command.{ReadsCommand, IsLineOf, IsCommandLineFault};
 ghost use Rattle.ds_words.specs.Pieces.{TakesCommand};
 
@@ -14,6 +15,8 @@ use crate::lines::{
 };
 use crate::pieces::Rest;
 use crate::scope_lines::{page_at, since_at, snapshot_at};
+use crate::service_lines::{beat_at, death_at, service_at, settings_at, tick_at};
+use crate::table_lines::{assign_at, follow_at, reply_at, submit_at};
 use crate::word::{Word, word_of};
 use crate::world_lines::{clear_at, deliver_at, restart_at, ring_at, side_at};
 use ds_line::{Expected, PartFault, word_at};
@@ -26,7 +29,8 @@ pub const LONGEST_LINE: usize = 4096;
 ///
 /// Where the line is no command's it gives BadLine, with the place where the first part that can't be read begins, and
 /// that part; the newline is the last part. A line above 4096 bytes is bad at place 4096, whatever it holds. An unknown
-/// word is bad at place 0. NoRoom comes only where the line is a command's: only texts, blobs and patterns take memory.
+/// word is bad at place 0. NoRoom comes only where the line is a command's: only texts, blobs, patterns and some settings take
+/// memory.
 pub fn read_command(alloc: Global, line: &[u8]) -> Result<ScriptCommand, CommandFault>
     requires { IsUnbroken line.now }
     ensures found { IfOk result (λ command. IsLineOf command line.now) }
@@ -106,5 +110,14 @@ fn behind_word(alloc: Global, word: Word, rest: &mut Rest) -> Result<ScriptComma
         Word::Since => since_at(alloc, rest),
         Word::Snapshot => snapshot_at(alloc, rest),
         Word::Page => page_at(alloc, rest),
+        Word::Settings => settings_at(alloc, rest),
+        Word::Service => service_at(rest),
+        Word::Death => death_at(rest),
+        Word::Beat => beat_at(rest),
+        Word::Tick => tick_at(rest),
+        Word::Assign => assign_at(rest),
+        Word::Follow => follow_at(rest),
+        Word::Submit => submit_at(rest),
+        Word::Reply => reply_at(rest),
     }
 }

@@ -53,6 +53,25 @@ pub enum Slot {
     /// `AFTER MAX`: behind which key a page begins, `NAME KIND` or `-`, and how many changes it has at most. They are one,
     /// since what stands behind a `-` tells whether it is a name's.
     Range,
+    /// `REST`: the rest of the line, any bytes, with the newline of its line.
+    Text,
+    /// `up`, `down`, `refresh` or `restart`.
+    Request,
+    /// The label of a service or a driver: a name.
+    Label,
+    /// The number of a tick, below 2^64.
+    Tick,
+    /// The number of a cause of death, below 2^64.
+    Cause,
+    /// `file MAJOR block`, `file MAJOR character`, or `net PORT`: what a driver drives. MAJOR and PORT are 0 to 255. They are
+    /// one, since the first word tells what stands behind it.
+    Device,
+    /// `file` or `net`.
+    Server,
+    /// The number of a request, below 2^64.
+    Id,
+    /// The number of a major device or a port, 0 to 255.
+    Unit,
     /// The newline.
     End,
 }

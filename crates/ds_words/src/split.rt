@@ -7,7 +7,7 @@ ghost use Rattle.ds_words.specs.Lines.{IsUnbroken, BreaksAt};
 use memchr::memchr;
 
 // The place of the first newline.
-fn newline_place(text: &[u8]) -> Option<usize>
+pub(crate) fn newline_place(text: &[u8]) -> Option<usize>
     ensures { MatchOption result (IsUnbroken text.now) (BreaksAt text.now) }
 {
     memchr(b'\n', text)

@@ -2,6 +2,7 @@
 
 ghost use Rattle.std.specs.Prelude.{◌≡◌};
 ghost use Rattle.ds_words.specs.Table.{slots_of, IsByTable};
+ghost use Rattle.ds_words.specs.Words.{IsOfServices};
 ghost use Rattle.ds_words.specs.declared.word.Word.{Word};
 
 use crate::slot::Slot;
@@ -49,6 +50,25 @@ pub fn slots_of(word: Word) -> &'static [Slot]
         ],
         Word::Snapshot => &[Slot::Scope, Slot::End],
         Word::Page => &[Slot::Scope, Slot::Range, Slot::End],
+        _ => slots_of_services(word),
+    }
+}
+
+// What stands behind a word of a line to services or driver tables.
+fn slots_of_services(word: Word) -> &'static [Slot]
+    ensures { IsOfServices word → result.now ≡ slots_of word }
+{
+    match word {
+        Word::Settings => &[Slot::Text],
+        Word::Service => &[Slot::Request, Slot::Label, Slot::Tick, Slot::End],
+        Word::Death => &[Slot::Endpoint, Slot::Cause, Slot::Tick, Slot::End],
+        Word::Beat => &[Slot::Endpoint, Slot::Tick, Slot::End],
+        Word::Tick => &[Slot::Tick, Slot::End],
+        Word::Assign => &[Slot::Device, Slot::Label, Slot::End],
+        Word::Follow => &[Slot::Map, Slot::End],
+        Word::Submit => &[Slot::Server, Slot::Id, Slot::Unit, Slot::Map, Slot::End],
+        Word::Reply => &[Slot::Server, Slot::Endpoint, Slot::Id, Slot::End],
+        _ => &[],
     }
 }
 

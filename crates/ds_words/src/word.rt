@@ -1,7 +1,7 @@
 //! The words that commands begin with.
 
 ghost use Rattle.std.specs.Prelude.{◌≡◌, ◌≢◌, IfSome, IfNone};
-ghost use Rattle.ds_words.specs.Words.{text_of, IsOfWorld};
+ghost use Rattle.ds_words.specs.Words.{text_of, IsOfWorld, IsOfServices};
 ghost use Rattle.ds_words.specs.declared.word.Word.{Word};
 
 /// The word of a command.
@@ -27,6 +27,15 @@ pub enum Word {
     Since,
     Snapshot,
     Page,
+    Settings,
+    Service,
+    Death,
+    Beat,
+    Tick,
+    Assign,
+    Follow,
+    Submit,
+    Reply,
 }
 
 /// The command's word that a text is.
@@ -59,7 +68,10 @@ pub(crate) fn word_of(text: &[u8]) -> Option<Word>
     } else if text == b"all".as_slice() {
         Some(Word::All)
     } else {
-        world_word_of(text)
+        match world_word_of(text) {
+            Some(word) => Some(word),
+            None => service_word_of(text),
+        }
     }
 }
 
@@ -84,6 +96,34 @@ fn world_word_of(text: &[u8]) -> Option<Word>
         Some(Word::Snapshot)
     } else if text == b"page".as_slice() {
         Some(Word::Page)
+    } else {
+        None
+    }
+}
+
+// The word of a line to services or driver tables that a text is.
+fn service_word_of(text: &[u8]) -> Option<Word>
+    ensures found { IfSome result (λ word. text.now ≡ text_of word) }
+    ensures none { IfNone result ((word : Word) → IsOfServices word → text.now ≢ text_of word) }
+{
+    if text == b"settings".as_slice() {
+        Some(Word::Settings)
+    } else if text == b"service".as_slice() {
+        Some(Word::Service)
+    } else if text == b"death".as_slice() {
+        Some(Word::Death)
+    } else if text == b"beat".as_slice() {
+        Some(Word::Beat)
+    } else if text == b"tick".as_slice() {
+        Some(Word::Tick)
+    } else if text == b"assign".as_slice() {
+        Some(Word::Assign)
+    } else if text == b"follow".as_slice() {
+        Some(Word::Follow)
+    } else if text == b"submit".as_slice() {
+        Some(Word::Submit)
+    } else if text == b"reply".as_slice() {
+        Some(Word::Reply)
     } else {
         None
     }

@@ -6,7 +6,8 @@ ghost use Rattle.ds_line.specs.Piece.{Found, StopsIn};
 ghost use Rattle.ds_line.specs.declared.part_fault.PartFault.TheVariants.{NoRoom};
 ghost use Rattle.ds_replica.specs.declared.event.Holder.{Holder};
 ghost use Rattle.ds_replica.specs.declared.event.Side.{Side};
-ghost use Rattle.ds_words.specs.World.{side_word, holder_word, IsHolder};
+ghost use Rattle.store_words.specs.Outcome.{side_word};
+ghost use Rattle.ds_words.specs.World.{holder_word, IsHolder};
 ghost use Rattle.ds_words.specs.WorldPieces.{a_ring, a_side, a_holder, a_count};
 
 use crate::pieces::Rest;

@@ -1,0 +1,5 @@
+pub mod Refusal
+pub mod Process
+pub mod SettingsLines
+pub mod Actions
+pub mod Moves
