@@ -7,7 +7,7 @@ use std::fmt;
 use std::rt::Runtime;
 
 /// The words that lines begin with.
-const COMMANDS: [&str; 20] = [
+const COMMANDS: [&str; 29] = [
     "publish",
     "delete",
     "sweep",
@@ -28,6 +28,15 @@ const COMMANDS: [&str; 20] = [
     "clear",
     "restart",
     "ring",
+    "settings",
+    "service",
+    "death",
+    "beat",
+    "tick",
+    "assign",
+    "follow",
+    "submit",
+    "reply",
 ];
 
 /// The most bytes of a name.
@@ -49,7 +58,7 @@ pub fn explain(rt: &impl Runtime, at_terminal: bool, bad: &BadLine<'_>) {
     let rest = behind(bad.text, place);
     match bad.expected {
         Expected::Command => explain_word(rt, number, rest),
-        Expected::Name | Expected::Owner => explain_name(rt, bad, rest),
+        Expected::Name | Expected::Owner | Expected::Label => explain_name(rt, bad, rest),
         Expected::End if read_byte(rest, b'\r').is_some() => {
             let _ = eprintln!(rt;
                 "line {number}, byte {place}: the end of the line was expected, a carriage return stands there"
@@ -81,7 +90,7 @@ fn show_place(rt: &impl Runtime, bad: &BadLine<'_>) {
     let _ = eprintln!(rt; "{:>column$}", '^');
 }
 
-// A name that is empty or too long, or the owner of a label.
+// A name that is empty or too long, a service's label too, or the owner of a label.
 fn explain_name(rt: &impl Runtime, bad: &BadLine<'_>, rest: &[u8]) {
     let number = bad.number;
     let place = bad.place;
@@ -206,7 +215,24 @@ fn wanted_of_a_world(expected: Expected) -> &'static str {
         Expected::After => "AFTER was expected, NAME KIND or `-`",
         Expected::Message => "K was expected, the number of a message, counted from 0",
         Expected::Holder => "HOLDER was expected, `a`, `b`, or `m` and the number of a map",
-        _ => "COUNT was expected, a number of items or `*`",
+        Expected::Count => "COUNT was expected, a number of items or `*`",
+        _ => wanted_of_services(expected),
+    }
+}
+
+// What was expected, by a part of the lines to services and driver tables alone.
+fn wanted_of_services(expected: Expected) -> &'static str {
+    match expected {
+        Expected::Request => "`up`, `down`, `refresh` or `restart` was expected",
+        Expected::Label => "LABEL was expected, 1 to 64 letters, digits, `.`, `_` and `-`",
+        Expected::Tick => "TICK was expected, a number below 2^64",
+        Expected::Cause => "CAUSE was expected, a number below 2^64 (1 to 6 are causes)",
+        Expected::Server => "`file` or `net` was expected",
+        Expected::Major => "MAJOR was expected, 0 to 255",
+        Expected::Class => "`block` or `character` was expected",
+        Expected::Port => "PORT was expected, 0 to 255",
+        Expected::Id => "ID was expected, a number below 2^64",
+        _ => "UNIT was expected, 0 to 255",
     }
 }
 

@@ -12,18 +12,18 @@ pub leads_more : {S : Type 0} (calls : S → S → Type 0) (n : ℕ) (old mid ne
 leads_more {S} calls n old mid new led one = subst (λ (k : ℕ). CallsLead calls k old new) (sym (add-one n)) (mid, led, one)
 
 -- a fault of the lines that one read brought
-pub turn_cause : {R W : Type 0} (r : Reader R) (w : Writer W) (fault : ReplayFault) (reader : R) (writer : W) → HasWriteCause w fault writer → HasTurnCause r w fault reader writer
-turn_cause r w (BadLine number place expected) reader writer h = tt
-turn_cause r w ReadFault reader writer h = absurd h
-turn_cause r w WriteFault reader writer h = h
-turn_cause r w NoRoom reader writer h = tt
+pub turn_cause : {R W : Type 0} (r : Reader R) (w : Writer W) (fault : ReplayFault) (old new : R) (writer : W) → HasWriteCause w fault writer → HasTurnCause r w fault old new writer
+turn_cause r w (BadLine number place expected) old new writer h = tt
+turn_cause r w ReadFault old new writer h = absurd h
+turn_cause r w WriteFault old new writer h = h
+turn_cause r w NoRoom old new writer h = tt
 
--- that of a turn ends the script
-pub run_cause : {R W : Type 0} (r : Reader R) (w : Writer W) (fault : ReplayFault) (old new : R) (writer : W) → HasTurnCause r w fault new writer → HasCause r w fault old new writer
-run_cause r w (BadLine number place expected) old new writer h = tt
-run_cause r w ReadFault old new writer h = inl h
-run_cause r w WriteFault old new writer h = h
-run_cause r w NoRoom old new writer h = tt
+-- that of a turn ends the script, behind the reads before it
+pub run_cause : {R W : Type 0} (r : Reader R) (w : Writer W) (fault : ReplayFault) (n : ℕ) (old mid new : R) (writer : W) → CallsLead r.reads n old mid → HasTurnCause r w fault mid new writer → HasCause r w fault old new writer
+run_cause r w (BadLine number place expected) n old mid new writer led h = tt
+run_cause r w ReadFault n old mid new writer led h = (n, inl (mid, led, h))
+run_cause r w WriteFault n old mid new writer led h = h
+run_cause r w NoRoom n old mid new writer led h = tt
 
 -- either that is the fault behind the writing of what waited, or a write failed there
 pub either_cause : {R W : Type 0} (r : Reader R) (w : Writer W) (given fault : ReplayFault) (old new : R) (last : W) → HasCause r w fault old new last → (given ≡ fault) ⊎ ((given ≡ WriteFault) × HasFailedWrite w.writes w.fails last)

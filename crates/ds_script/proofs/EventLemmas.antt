@@ -1,19 +1,25 @@
 -- Commands, and what they are answered.
 use Rattle.std.proofs.Common.{◌≡◌, ◌≢◌, ℕ, false, ◌⊎◌, inl, inr, Option, Some, None, MatchOption, List, refl, sym, ap, subst, ◌∙◌}
 use Rattle.std.specs.List.{slice_get}
+use Rattle.ds_names.specs.Endpoint.{EndpointRecord}
 use Rattle.ds_submap.specs.Map.{SubMapRecord}
 use Rattle.ds_replica.specs.declared.event.Event.{Event}
 use Rattle.ds_replica.specs.declared.event.Side.{Side as OneSide}
 use Rattle.ds_replica.specs.declared.outcome.Outcome.{Outcome}
 use Rattle.ds_words.specs.Command.{is_plain}
 use Rattle.ds_words.specs.Event.{event_of}
-use Rattle.ds_words.specs.Outcome.{side_line}
-use Rattle.ds_words.specs.Reply.{wording, refused_noroom}
+use Rattle.store_words.specs.Outcome.{side_line}
+use Rattle.ds_words.specs.Wording.{wording}
+use Rattle.store_words.specs.Reply.{refused_noroom}
 use Rattle.ds_words.specs.declared.command.ScriptCommand.{ScriptCommand}
-use Rattle.ds_words.specs.declared.command.ScriptCommand.TheVariants.{Show, All, Entries, Ring, Side}
-use Rattle.ds_words.specs.declared.wording.Wording.{Wording}
+use Rattle.ds_words.specs.declared.command.ScriptCommand.TheVariants.{Show, All, Entries, Ring, Side, Settings, Service, Death, Beat, Tick, Assign, Follow, Submit, Reply}
+use Rattle.ds_words.specs.declared.service.Device.{Device}
+use Rattle.ds_words.specs.declared.service.Request.{Request}
+use Rattle.ds_words.specs.declared.service.Server.{Server}
+use Rattle.store_words.specs.declared.wording.Wording.{Wording}
 use Rattle.ds_script.specs.Session.{SessionContent, IsHappening, turned}
-use Rattle.ds_script.specs.Answer.{told_lines, entries_text, AnswersEvent, AnswersAsEvent, AnswersRing, AnswersCommand, IsLineRefused, AnswersOrRefuses}
+use Rattle.ds_script.specs.Answer.{told_lines, entries_text, AnswersEvent, AnswersAsEvent, AnswersByServers, AnswersRing, AnswersCommand, IsLineRefused, AnswersOrRefuses}
+use Rattle.ds_answers.specs.Services.{AnswersSettings}
 use Rattle.ds_script.proofs.LineLemmas.{plain_room}
 
 -- ---- events
@@ -22,14 +28,37 @@ some_is_not_none : {X : Type 0} (x : X) → Some x ≢ None
 some_is_not_none x = λ same. absurd (cc)
 
 -- all commands but these are events
-pub is_event : (side : OneSide) (command : ScriptCommand) → command ≢ Show → command ≢ All → ((map : ℕ) → command ≢ Entries map) → ((ring : ℕ) → command ≢ Ring ring) → ((to : OneSide) → command ≢ Side to)
+pub is_event : (side : OneSide) (command : ScriptCommand)
+    → command ≢ Show
+    → command ≢ All
+    → ((map : ℕ) → command ≢ Entries map)
+    → ((ring : ℕ) → command ≢ Ring ring)
+    → ((to : OneSide) → command ≢ Side to)
+    → ((text : List ℕ) → command ≢ Settings text)
+    → ((request : Request) (label : List ℕ) (tick : ℕ) → command ≢ Service request label tick)
+    → ((endpoint : EndpointRecord) (cause tick : ℕ) → command ≢ Death endpoint cause tick)
+    → ((endpoint : EndpointRecord) (tick : ℕ) → command ≢ Beat endpoint tick)
+    → ((tick : ℕ) → command ≢ Tick tick)
+    → ((device : Device) (label : List ℕ) → command ≢ Assign device label)
+    → ((map : ℕ) → command ≢ Follow map)
+    → ((server : Server) (id unit map : ℕ) → command ≢ Submit server id unit map)
+    → ((server : Server) (endpoint : EndpointRecord) (id : ℕ) → command ≢ Reply server endpoint id)
     → event_of side command ≢ None
-is_event side Show no_show no_all no_entries no_ring no_side = absurd (no_show refl)
-is_event side All no_show no_all no_entries no_ring no_side = absurd (no_all refl)
-is_event side (Entries map) no_show no_all no_entries no_ring no_side = absurd (no_entries map refl)
-is_event side (Ring ring) no_show no_all no_entries no_ring no_side = absurd (no_ring ring refl)
-is_event side (Side to) no_show no_all no_entries no_ring no_side = absurd (no_side to refl)
-is_event side command no_show no_all no_entries no_ring no_side = λ none. some_is_not_none _ none
+is_event side Show no_show no_all no_entries no_ring no_side no_settings no_service no_death no_beat no_tick no_assign no_follow no_submit no_reply = absurd (no_show refl)
+is_event side All no_show no_all no_entries no_ring no_side no_settings no_service no_death no_beat no_tick no_assign no_follow no_submit no_reply = absurd (no_all refl)
+is_event side (Entries map) no_show no_all no_entries no_ring no_side no_settings no_service no_death no_beat no_tick no_assign no_follow no_submit no_reply = absurd (no_entries map refl)
+is_event side (Ring ring) no_show no_all no_entries no_ring no_side no_settings no_service no_death no_beat no_tick no_assign no_follow no_submit no_reply = absurd (no_ring ring refl)
+is_event side (Side to) no_show no_all no_entries no_ring no_side no_settings no_service no_death no_beat no_tick no_assign no_follow no_submit no_reply = absurd (no_side to refl)
+is_event side (Settings text) no_show no_all no_entries no_ring no_side no_settings no_service no_death no_beat no_tick no_assign no_follow no_submit no_reply = absurd (no_settings text refl)
+is_event side (Service request label tick) no_show no_all no_entries no_ring no_side no_settings no_service no_death no_beat no_tick no_assign no_follow no_submit no_reply = absurd (no_service request label tick refl)
+is_event side (Death endpoint cause tick) no_show no_all no_entries no_ring no_side no_settings no_service no_death no_beat no_tick no_assign no_follow no_submit no_reply = absurd (no_death endpoint cause tick refl)
+is_event side (Beat endpoint tick) no_show no_all no_entries no_ring no_side no_settings no_service no_death no_beat no_tick no_assign no_follow no_submit no_reply = absurd (no_beat endpoint tick refl)
+is_event side (Tick tick) no_show no_all no_entries no_ring no_side no_settings no_service no_death no_beat no_tick no_assign no_follow no_submit no_reply = absurd (no_tick tick refl)
+is_event side (Assign device label) no_show no_all no_entries no_ring no_side no_settings no_service no_death no_beat no_tick no_assign no_follow no_submit no_reply = absurd (no_assign device label refl)
+is_event side (Follow map) no_show no_all no_entries no_ring no_side no_settings no_service no_death no_beat no_tick no_assign no_follow no_submit no_reply = absurd (no_follow map refl)
+is_event side (Submit server id unit map) no_show no_all no_entries no_ring no_side no_settings no_service no_death no_beat no_tick no_assign no_follow no_submit no_reply = absurd (no_submit server id unit map refl)
+is_event side (Reply server endpoint id) no_show no_all no_entries no_ring no_side no_settings no_service no_death no_beat no_tick no_assign no_follow no_submit no_reply = absurd (no_reply server endpoint id refl)
+is_event side command no_show no_all no_entries no_ring no_side no_settings no_service no_death no_beat no_tick no_assign no_follow no_submit no_reply = λ none. some_is_not_none _ none
 
 -- what is told of the command's event is its answer
 pub as_event : (command : ScriptCommand) (worded : Wording) (side : OneSide) (event : Event) (outcome : Outcome) (old new : SessionContent)
@@ -46,6 +75,15 @@ answers_it All old out new a = absurd a
 answers_it (Entries map) old out new a = absurd a
 answers_it (Ring ring) old out new a = absurd a
 answers_it (Side side) old out new a = absurd a
+answers_it (Settings text) old out new a = absurd a
+answers_it (Service request label tick) old out new a = absurd a
+answers_it (Death endpoint cause tick) old out new a = absurd a
+answers_it (Beat endpoint tick) old out new a = absurd a
+answers_it (Tick tick) old out new a = absurd a
+answers_it (Assign device label) old out new a = absurd a
+answers_it (Follow map) old out new a = absurd a
+answers_it (Submit server id unit map) old out new a = absurd a
+answers_it (Reply server endpoint id) old out new a = absurd a
 answers_it command old out new a = a
 
 pub event_answers : (command : ScriptCommand) (old : SessionContent) (out : List ℕ) (new : SessionContent)
@@ -68,3 +106,14 @@ ring_answers command ring old out new is (inr r) = subst (λ (k : ScriptCommand)
 
 pub side_answers : (command : ScriptCommand) (side : OneSide) (old new : SessionContent) → command ≡ Side side → new ≡ turned old side → AnswersOrRefuses command old (side_line side) new
 side_answers command side old new is same = subst (λ (k : ScriptCommand). AnswersOrRefuses k old (side_line side) new) (sym is) (inr (same, refl))
+
+-- ---- RS and the tables
+
+-- where the command is this one, its answer is that one's
+pub answers_as : (command same : ScriptCommand) (old : SessionContent) (out : List ℕ) (new : SessionContent) → command ≡ same → AnswersCommand same old out new → AnswersOrRefuses command old out new
+answers_as command same old out new is a = subst (λ (k : ScriptCommand). AnswersOrRefuses k old out new) (sym is) (inr a)
+
+pub settings_answers : (command : ScriptCommand) (text : List ℕ) (old : SessionContent) (out : List ℕ) (new : SessionContent) → command ≡ Settings text
+    → AnswersByServers (AnswersSettings text) old out new ⊎ IsLineRefused old out new → AnswersOrRefuses command old out new
+settings_answers command text old out new is (inl a) = answers_as command (Settings text) old out new is a
+settings_answers command text old out new is (inr r) = subst (λ (k : ScriptCommand). AnswersOrRefuses k old out new) (sym is) (inl (tt, r))

@@ -1,6 +1,6 @@
 -- What a script drives came of events, and what follows from that.
 use Rattle.std.proofs.Common.{◌≡◌, ℕ, suc, ◌≤◌, true, false, inl, inr, Option, None, Some, MatchOption, List, [], ◌∷◌, ◌++◌, refl, sym, ap, subst, ◌∙◌, arith, Contains}
-use Rattle.std.proofs.lemmas.List.Elements.{Contains-push_cases}
+use Rattle.std.proofs.lemmas.List.Elements.{Contains-push_cases, Contains-append_cases}
 use Rattle.ds_names.specs.declared.key.Key.{Key}
 use Rattle.ds_entry.proofs.Members.{Contains-nil}
 use Rattle.ds_entry.specs.declared.item.Item.{Item}
@@ -17,105 +17,165 @@ use Rattle.ds_replica.proofs.BringLemmas.{events_bring_items}
 use Rattle.ds_replica.proofs.EventLemmas.{events_fit}
 use Rattle.ds_replica.proofs.HolderLemmas as holders
 use Rattle.ds_replica.proofs.StartLemmas.{account_fits_at_start}
+use Rattle.ds_world.specs.World.{WorldRecord, WorldStands}
 use Rattle.ds_world.specs.Run.{EventLeads}
+use Rattle.rs_core.specs.State.{RsRecord}
+use Rattle.rs_core.specs.declared.event.Event as services
+use Rattle.rs_core.specs.declared.event.Event.TheVariants.{Death, Beat, Tick}
+use Rattle.driver_tables.specs.Stands.{TableRecord, TableStands}
+use Rattle.ds_answers.specs.Servers.{Servers, ServersRecord, ServersStand, with_rs}
+use Rattle.ds_answers.specs.Services.{AnswersSettings, ServicesAnswer}
+use Rattle.ds_answers.specs.Tables.{AnswersAssign, AnswersFollow, AnswersSubmit, AnswersReply}
+use Rattle.ds_answers.proofs.AskLemmas.{EventsGoOn, one_goes_on, told_go_on, told_proper}
 use Rattle.ds_words.specs.Command.{IsCommand}
 use Rattle.ds_words.specs.Event.{event_of}
-use Rattle.ds_words.specs.Reply.{wording}
+use Rattle.ds_words.specs.Wording.{wording}
+use Rattle.ds_words.specs.ServiceEvent.{request_event}
 use Rattle.ds_words.proofs.ProperLemmas.{lines_are_proper}
 use Rattle.ds_words.specs.declared.command.ScriptCommand.{ScriptCommand}
-use Rattle.ds_words.specs.declared.command.ScriptCommand.TheVariants.{Show, All, Entries, Ring, Side}
+use Rattle.ds_words.specs.declared.command.ScriptCommand.TheVariants.{Show, All, Entries, Ring, Side, Settings, Service, Assign, Follow, Submit, Reply}
+use Rattle.ds_words.specs.declared.command.ScriptCommand.TheVariants as lines
 use Rattle.ds_script.specs.declared.report.BadLines.{BadLines}
 use Rattle.ds_script.specs.Session.{SessionContent, IsOpened, seed, made, turned}
-use Rattle.ds_script.specs.Answer.{AnswersEvent, AnswersCommand, AnswersLine, picked, shown}
+use Rattle.ds_script.specs.Answer.{AnswersEvent, AnswersByServers, AnswersByServices, AnswersCommand, AnswersLine, items_of_map, picked, shown}
 use Rattle.ds_script.specs.Replay.{AnswersOrTells, AnswersLines}
-use Rattle.ds_script.specs.Laws.{CameOf, MakesEvents, LineMakesEvents, LinesMakeEvents, ScriptsAreEvents, ScriptHoldersAgree, ScriptLabelsAreNewest, ShowsAgree}
+use Rattle.ds_script.specs.Laws.{Past, past_of, no_past, with_events, CameOf, MakesService, MakesServers, MakesEvents, LineMakesEvents, LinesMakeEvents, ScriptsAreEvents, ScriptHoldersAgree, ScriptLabelsAreNewest, ShowsAgree}
 use Rattle.ds_script.proofs.LineLemmas.{may_command}
 use Rattle.ds_entry.specs.Under.{under}
-use Rattle.ds_replica.proofs.CheckLemmas.{happen_last}
 
--- ---- events
+-- ---- what a session came of
 
--- the session came of these events
-abbrev Came : SessionContent → List (Event × Outcome) → Type 0
-Came session events = (ring : ℕ) × (world : World) × CameOf events ring world session
+-- the session came of this past
+abbrev Came : SessionContent → Past → Type 0
+Came session past = (ring : ℕ) × (world : World) × CameOf past ring world session
 
-came_opened : (ring : ℕ) (session : SessionContent) → 1 ≤ ring → ring ≤ 4096 → IsOpened ring session → Came session []
-came_opened ring session least most opened = (ring, made ring, record { least = least; most = most; happened = refl; stands = opened.world })
+came_opened : (ring : ℕ) (session : SessionContent) → 1 ≤ ring → ring ≤ 4096 → IsOpened ring session → Came session no_past
+came_opened ring session least most opened =
+    (ring, made ring, record { least = least; most = most; happened = refl; stands = opened.world; servers = opened.servers })
 
-came_by : (event : Event) (outcome : Outcome) (old new : SessionContent) (events : List (Event × Outcome)) → EventLeads event outcome old.world new.world → Came old events → Came new (events ++ (event, outcome) ∷ [])
-came_by event outcome old new events leads came =
+-- behind these events, and with these servers
+came_further : (old new : SessionContent) (past : Past) (events : List (Event × Outcome)) (servers : Servers)
+    → EventsGoOn events old.world new.world → ServersStand new.servers servers → Came old past → Came new (past_of (past.events ++ events) servers)
+came_further old new past events servers leads stands came =
     let c = came.2 in
-    let next = leads came.1 c.stands in (
+    let next = leads (made came.0) came.1 past.events c.happened c.stands in (
       came.0,
       next.0,
       record {
         least = c.least;
         most = c.most;
-        happened = happen_last events (made came.0) came.1 next.0 event outcome c.happened next.1;
+        happened = next.1;
         stands = next.2;
+        servers = stands;
       },
     )
 
-came_same : (old new : SessionContent) (events : List (Event × Outcome)) → new ≡ old → Came old events → Came new events
-came_same old new events same came = subst (λ (s : SessionContent). Came s events) (sym same) came
+came_by : (event : Event) (outcome : Outcome) (old new : SessionContent) (past : Past) → EventLeads event outcome old.world new.world → new.servers ≡ old.servers → Came old past → Came new (with_events past ((event, outcome) ∷ []))
+came_by event outcome old new past leads same came =
+    came_further old new past ((event, outcome) ∷ []) past.servers (one_goes_on event outcome old.world new.world ((event, outcome) ∷ []) refl leads)
+    (subst (λ (v : ServersRecord). ServersStand v past.servers) (sym same) came.2.servers) came
 
-came_turned : (old new : SessionContent) (events : List (Event × Outcome)) (side : OneSide) → new ≡ turned old side → Came old events → Came new events
-came_turned old new events side same came =
+came_same : (old new : SessionContent) (past : Past) → new ≡ old → Came old past → Came new past
+came_same old new past same came = subst (λ (s : SessionContent). Came s past) (sym same) came
+
+came_turned : (old new : SessionContent) (past : Past) (side : OneSide) → new ≡ turned old side → Came old past → Came new past
+came_turned old new past side same came =
     let c = came.2 in
-    came_same (turned old side) new events same (came.0, came.1, record { least = c.least; most = c.most; happened = c.happened; stands = c.stands })
+    came_same (turned old side) new past same (came.0, came.1, record { least = c.least; most = c.most; happened = c.happened; stands = c.stands; servers = c.servers })
 
--- what a command, a line and lines make of the events before them, of which the session came that they leave
-abbrev Makes : (List (Event × Outcome) → Type 0) → SessionContent → Type 0
-Makes How new = (events : List (Event × Outcome)) × How events × Came new events
+-- the world stays, and RS and the tables are others
+came_served : (old new : SessionContent) (past : Past) (servers : Servers) → new.world ≡ old.world → ServersStand new.servers servers → Came old past → Came new (past_of past.events servers)
+came_served old new past servers same stands came =
+    let c = came.2 in (
+      came.0,
+      came.1,
+      record { least = c.least; most = c.most; happened = c.happened; stands = subst (λ (v : WorldRecord). WorldStands v came.1) (sym same) c.stands; servers = stands },
+    )
 
-made_event : (command : ScriptCommand) (old : SessionContent) (out : List ℕ) (new : SessionContent) (came : List (Event × Outcome)) (o : Option Event) (Else : List (Event × Outcome) → Type 0)
-    → MatchOption o ⊥ (λ event. AnswersEvent (wording command) event old out new) → Came old came
-    → Makes (λ events. MatchOption o (Else events) (λ event. (answer : AnswersEvent (wording command) event old out new) × (events ≡ came ++ (event, answer.outcome) ∷ []))) new
-made_event command old out new came None Else a before = absurd a
-made_event command old out new came (Some event) Else a before = (came ++ (event, a.outcome) ∷ [], (a, refl), came_by event a.outcome old new came a.happens.leads before)
+-- what a command, a line and lines make of the past before them, of which the session came that they leave
+abbrev Makes : (Past → Type 0) → SessionContent → Type 0
+Makes How new = (past : Past) × How past × Came new past
 
-made_command : (command : ScriptCommand) (old : SessionContent) (out : List ℕ) (new : SessionContent) (came : List (Event × Outcome)) → IsCommand command → AnswersCommand command old out new → Came old came → Makes (λ events. MakesEvents command old out new came events) new
-made_command Show old out new came is a before = (came, (a, refl), came_same old new came a.0 before)
-made_command All old out new came is a before = (came, (a, refl), came_same old new came a.0 before)
-made_command (Entries map) old out new came is a before = (came, (a, refl), came_same old new came a.0 before)
-made_command (Ring ring) old out new came is a before = ([], (a, refl), came_opened ring new (omega (arith, is.0)) is.1 a.0)
-made_command (Side side) old out new came is a before = (came, (a, refl), came_turned old new came side a.0 before)
-made_command command old out new came is a before = made_event command old out new came (event_of old.side command) (λ events. AnswersCommand command old out new × (events ≡ came)) a before
+made_event : (command : ScriptCommand) (old : SessionContent) (out : List ℕ) (new : SessionContent) (was : Past) (o : Option Event) (Else : Past → Type 0)
+    → MatchOption o ⊥ (λ event. AnswersEvent (wording command) event old out new) → Came old was
+    → Makes (λ now. MatchOption o (Else now) (λ event. (answer : AnswersEvent (wording command) event old out new) × (now ≡ with_events was ((event, answer.outcome) ∷ [])))) new
+made_event command old out new was None Else a before = absurd a
+made_event command old out new was (Some event) Else a before =
+    (with_events was ((event, a.outcome) ∷ []), (a, refl), came_by event a.outcome old new was a.happens.leads a.happens.servers before)
+
+made_servers : (R : Servers → List ℕ → Servers → Type 0) (old : SessionContent) (out : List ℕ) (new : SessionContent) (was : Past)
+    → (a : AnswersByServers R old out new) → Came old was → Makes (λ now. AnswersByServers R old out new × MakesServers R out was now) new
+made_servers R old out new was a before =
+    let led = a.0 was.servers before.2.servers in (past_of was.events led.0, (a, (led.1, refl)), came_served old new was led.0 a.1 led.2 before)
+
+made_service : (event : services.Event) (tick : ℕ) (old : SessionContent) (out : List ℕ) (new : SessionContent) (was : Past)
+    → AnswersByServices event tick old out new → Came old was → Makes (λ now. MakesService event tick old out new was now) new
+made_service event tick old out new was a before =
+    let answer = a.0 in
+    let stood = before.2.servers in
+    let after = new.servers.services in (
+      past_of (was.events ++ answer.events) (with_rs was.servers after),
+      (a, subst (λ (o : Option RsRecord). ServicesAnswer o event tick answer.answer after) (sym stood.services) answer.answers, refl),
+      came_further old new was answer.events (with_rs was.servers after) (told_go_on old.side answer.answer old.world new.world out answer.events answer.tells)
+          (record {
+            services = refl;
+            file = subst (λ (v : TableRecord). TableStands v was.servers.file) (sym answer.file) stood.file;
+            net = subst (λ (v : TableRecord). TableStands v was.servers.net) (sym answer.net) stood.net;
+          })
+          before,
+    )
+
+made_command : (command : ScriptCommand) (old : SessionContent) (out : List ℕ) (new : SessionContent) (was : Past) → IsCommand command → AnswersCommand command old out new → Came old was → Makes (λ now. MakesEvents command old out new was now) new
+made_command Show old out new was is a before = (was, (a, refl), came_same old new was a.0 before)
+made_command All old out new was is a before = (was, (a, refl), came_same old new was a.0 before)
+made_command (Entries map) old out new was is a before = (was, (a, refl), came_same old new was a.0 before)
+made_command (Ring ring) old out new was is a before = (no_past, (a, refl), came_opened ring new (omega (arith, is.0)) is.1 a.0)
+made_command (Side side) old out new was is a before = (was, (a, refl), came_turned old new was side a.0 before)
+made_command (Settings text) old out new was is a before = made_servers (AnswersSettings text) old out new was a before
+made_command (Service request label tick) old out new was is a before = made_service (request_event request label) tick old out new was a before
+made_command (lines.Death endpoint cause tick) old out new was is a before = made_service (Death endpoint cause) tick old out new was a before
+made_command (lines.Beat endpoint tick) old out new was is a before = made_service (Beat endpoint) tick old out new was a before
+made_command (lines.Tick tick) old out new was is a before = made_service Tick tick old out new was a before
+made_command (Assign device label) old out new was is a before = made_servers (AnswersAssign device label) old out new was a before
+made_command (Follow map) old out new was is a before = made_servers (AnswersFollow (items_of_map old map)) old out new was a before
+made_command (Submit server id unit map) old out new was is a before = made_servers (AnswersSubmit server id unit (items_of_map old map)) old out new was a before
+made_command (Reply server endpoint id) old out new was is a before = made_servers (AnswersReply server endpoint id) old out new was a before
+made_command command old out new was is a before = made_event command old out new was (event_of old.side command) (λ now. AnswersCommand command old out new × (now ≡ was)) a before
 
 -- ---- lines
 
-made_line : (policy : BadLines) (before : ℕ) (old : SessionContent) (line out : List ℕ) (bad : ℕ) (new : SessionContent) (came : List (Event × Outcome)) → AnswersLine before old line out new → bad ≡ 0 → Came old came → Makes (λ events. LineMakesEvents policy before old line out bad new came events) new
-made_line policy before old line out bad new came a none was =
+made_line : (policy : BadLines) (before : ℕ) (old : SessionContent) (line out : List ℕ) (bad : ℕ) (new : SessionContent) (was : Past) → AnswersLine before old line out new → bad ≡ 0 → Came old was → Makes (λ now. LineMakesEvents policy before old line out bad new was now) new
+made_line policy before old line out bad new was a none came =
     elim a.2 [
-      | inl refused ↦ (came, inl (a.0, a.1, none, inl (refused.0, refused.1, refl)), came_same old new came refused.1.0 was)
-      | inr answered ↦ let m = made_command a.0 old out new came (may_command before a.0 a.1.written) answered was in (m.0, inl (a.0, a.1, none, inr m.1), m.2)
+      | inl refused ↦ (was, inl (a.0, a.1, none, inl (refused.0, refused.1, refl)), came_same old new was refused.1.0 came)
+      | inr answered ↦ let m = made_command a.0 old out new was (may_command before a.0 a.1.written) answered came in (m.0, inl (a.0, a.1, none, inr m.1), m.2)
     ]
 
-made_told : (policy : BadLines) (before : ℕ) (old : SessionContent) (line out : List ℕ) (bad : ℕ) (new : SessionContent) (came : List (Event × Outcome)) → AnswersOrTells policy before old line out bad new → Came old came → Makes (λ events. LineMakesEvents policy before old line out bad new came events) new
-made_told policy before old line out bad new came a was =
+made_told : (policy : BadLines) (before : ℕ) (old : SessionContent) (line out : List ℕ) (bad : ℕ) (new : SessionContent) (was : Past) → AnswersOrTells policy before old line out bad new → Came old was → Makes (λ now. LineMakesEvents policy before old line out bad new was now) new
+made_told policy before old line out bad new was a came =
     elim a [
-      | inl answered ↦ made_line policy before old line out bad new came answered.0 answered.1 was
-      | inr told ↦ (came, inr (told, refl), came_same old new came told.1 was)
+      | inl answered ↦ made_line policy before old line out bad new was answered.0 answered.1 came
+      | inr told ↦ (was, inr (told, refl), came_same old new was told.1 came)
     ]
 
-made_lines : (policy : BadLines) (before : ℕ) (old : SessionContent) (ls : List (List ℕ)) (out : List ℕ) (bad : ℕ) (new : SessionContent) (came : List (Event × Outcome)) → AnswersLines policy before old ls out bad new → Came old came
-    → Makes (λ events. LinesMakeEvents policy before old ls out bad new came events) new
-made_lines policy before old [] out bad new came a was = (came, (a.0, a.1, a.2, refl), came_same old new came a.2 was)
-made_lines policy before old (line ∷ ls) out bad new came a was =
-    let one = made_told policy before old line a.1 a.3 a.0 came a.5 was in
+made_lines : (policy : BadLines) (before : ℕ) (old : SessionContent) (ls : List (List ℕ)) (out : List ℕ) (bad : ℕ) (new : SessionContent) (was : Past) → AnswersLines policy before old ls out bad new → Came old was
+    → Makes (λ now. LinesMakeEvents policy before old ls out bad new was now) new
+made_lines policy before old [] out bad new was a came = (was, (a.0, a.1, a.2, refl), came_same old new was a.2 came)
+made_lines policy before old (line ∷ ls) out bad new was a came =
+    let one = made_told policy before old line a.1 a.3 a.0 was a.5 came in
     let all = made_lines policy (suc before) a.0 ls a.2 a.4 new one.0 a.6 one.2 in
     (all.0, (a.0, a.1, a.2, a.3, a.4, one.0, one.1, all.1, a.7, a.8), all.2)
 
 pub scripts_are_events : ScriptsAreEvents
 scripts_are_events policy ls out bad start end opened a =
-    let m = made_lines policy 0 start ls out bad end [] a (came_opened 256 start (omega arith) (omega arith) opened) in
+    let m = made_lines policy 0 start ls out bad end no_past a (came_opened 256 start (omega arith) (omega arith) opened) in
     (m.0, m.1, m.2.0, m.2.1, m.2.2)
 
 -- ---- what is held
 
 pub holders_agree : ScriptHoldersAgree
-holders_agree events ring world session query h i came exact know =
-    holders.equal_over_events (seed 1 ring) (seed 2 ring) larger world events query h i (inr refl) came.happened exact know
+holders_agree past ring world session query h i came exact know =
+    holders.equal_over_events (seed 1 ring) (seed 2 ring) larger world past.events query h i (inr refl) came.happened exact know
 
 -- ---- what labels name
 -- what events name is in its ranges
@@ -132,46 +192,67 @@ one_more_proper came event outcome all one e h = elim (Contains-push_cases came 
   | inr q ↦ subst (λ (y : Event × Outcome). IsProperEvent y.0) q one
 ]
 
-proper_event : (command : ScriptCommand) (old : SessionContent) (out : List ℕ) (new : SessionContent) (came events : List (Event × Outcome)) (o : Option Event) (Else : Type 0)
-    → ((event : Event) → o ≡ Some event → IsProperEvent event)
-    → MatchOption o (Else × (events ≡ came)) (λ event. (answer : AnswersEvent (wording command) event old out new) × (events ≡ came ++ (event, answer.outcome) ∷ []))
-    → AllProper came → AllProper events
-proper_event command old out new came events None Else proper m all = subst AllProper (sym m.1) all
-proper_event command old out new came events (Some event) Else proper m all =
-    subst AllProper (sym m.1) (one_more_proper came event m.0.outcome all (proper event refl))
-
-proper_command : (command : ScriptCommand) (old : SessionContent) (out : List ℕ) (new : SessionContent) (came events : List (Event × Outcome))
-    → IsCommand command → MakesEvents command old out new came events → AllProper came → AllProper events
-proper_command (Ring ring) old out new came events is m all = subst AllProper (sym m.1) none_proper
-proper_command command old out new came events is m all =
-    proper_event command old out new came events (event_of old.side command) (AnswersCommand command old out new)
-    (λ event e. lines_are_proper command old.side event is e) m all
-
-proper_line : (policy : BadLines) (before : ℕ) (old : SessionContent) (line out : List ℕ) (bad : ℕ) (new : SessionContent) (came events : List (Event × Outcome))
-    → LineMakesEvents policy before old line out bad new came events → AllProper came → AllProper events
-proper_line policy before old line out bad new came events m all = elim m [
-  | inl read ↦
-      elim read.3 [
-        | inl refused ↦ subst AllProper (sym refused.2) all
-        | inr answered ↦ proper_command read.0 old out new came events (may_command before read.0 read.1.written) answered all
-      ]
-  | inr told ↦ subst AllProper (sym told.1) all
+more_proper : (came events : List (Event × Outcome)) → AllProper came → AllProper events → AllProper (came ++ events)
+more_proper came events all more e h = elim (Contains-append_cases came events e h) [
+  | inl k ↦ all e k
+  | inr k ↦ more e k
 ]
 
-proper_lines : (policy : BadLines) (before : ℕ) (old : SessionContent) (ls : List (List ℕ)) (out : List ℕ) (bad : ℕ) (new : SessionContent) (came events : List (Event × Outcome))
-    → LinesMakeEvents policy before old ls out bad new came events → AllProper came
-    → AllProper events
-proper_lines policy before old [] out bad new came events m all = subst AllProper (sym m.3) all
-proper_lines policy before old (line ∷ ls) out bad new came events m all =
-    proper_lines policy (suc before) m.0 ls m.2 m.4 new m.5 events m.7 (proper_line policy before old line m.1 m.3 m.0 came m.5 m.6 all)
+proper_event : (command : ScriptCommand) (old : SessionContent) (out : List ℕ) (new : SessionContent) (was now : Past) (o : Option Event) (Else : Type 0)
+    → ((event : Event) → o ≡ Some event → IsProperEvent event)
+    → MatchOption o (Else × (now ≡ was)) (λ event. (answer : AnswersEvent (wording command) event old out new) × (now ≡ with_events was ((event, answer.outcome) ∷ [])))
+    → AllProper was.events → AllProper now.events
+proper_event command old out new was now None Else proper m all = subst (λ (p : Past). AllProper p.events) (sym m.1) all
+proper_event command old out new was now (Some event) Else proper m all =
+    subst (λ (p : Past). AllProper p.events) (sym m.1) (one_more_proper was.events event m.0.outcome all (proper event refl))
+
+proper_service : (event : services.Event) (tick : ℕ) (old : SessionContent) (out : List ℕ) (new : SessionContent) (was now : Past)
+    → MakesService event tick old out new was now → AllProper was.events → AllProper now.events
+proper_service event tick old out new was now m all =
+    subst (λ (p : Past). AllProper p.events) (sym m.2)
+    (more_proper was.events m.0.0.events all (told_proper old.side m.0.0.answer old.world new.world out m.0.0.events m.0.0.tells))
+
+proper_command : (command : ScriptCommand) (old : SessionContent) (out : List ℕ) (new : SessionContent) (was now : Past)
+    → IsCommand command → MakesEvents command old out new was now → AllProper was.events → AllProper now.events
+proper_command (Ring ring) old out new was now is m all = subst (λ (p : Past). AllProper p.events) (sym m.1) none_proper
+proper_command (Settings text) old out new was now is m all = subst AllProper (sym m.1.1) all
+proper_command (Service request label tick) old out new was now is m all = proper_service (request_event request label) tick old out new was now m all
+proper_command (lines.Death endpoint cause tick) old out new was now is m all = proper_service (Death endpoint cause) tick old out new was now m all
+proper_command (lines.Beat endpoint tick) old out new was now is m all = proper_service (Beat endpoint) tick old out new was now m all
+proper_command (lines.Tick tick) old out new was now is m all = proper_service Tick tick old out new was now m all
+proper_command (Assign device label) old out new was now is m all = subst AllProper (sym m.1.1) all
+proper_command (Follow map) old out new was now is m all = subst AllProper (sym m.1.1) all
+proper_command (Submit server id unit map) old out new was now is m all = subst AllProper (sym m.1.1) all
+proper_command (Reply server endpoint id) old out new was now is m all = subst AllProper (sym m.1.1) all
+proper_command command old out new was now is m all =
+    proper_event command old out new was now (event_of old.side command) (AnswersCommand command old out new)
+    (λ event e. lines_are_proper command old.side event is e) m all
+
+proper_line : (policy : BadLines) (before : ℕ) (old : SessionContent) (line out : List ℕ) (bad : ℕ) (new : SessionContent) (was now : Past)
+    → LineMakesEvents policy before old line out bad new was now → AllProper was.events → AllProper now.events
+proper_line policy before old line out bad new was now m all = elim m [
+  | inl read ↦
+      elim read.3 [
+        | inl refused ↦ subst (λ (p : Past). AllProper p.events) (sym refused.2) all
+        | inr answered ↦ proper_command read.0 old out new was now (may_command before read.0 read.1.written) answered all
+      ]
+  | inr told ↦ subst (λ (p : Past). AllProper p.events) (sym told.1) all
+]
+
+proper_lines : (policy : BadLines) (before : ℕ) (old : SessionContent) (ls : List (List ℕ)) (out : List ℕ) (bad : ℕ) (new : SessionContent) (was now : Past)
+    → LinesMakeEvents policy before old ls out bad new was now → AllProper was.events
+    → AllProper now.events
+proper_lines policy before old [] out bad new was now m all = subst (λ (p : Past). AllProper p.events) (sym m.3) all
+proper_lines policy before old (line ∷ ls) out bad new was now m all =
+    proper_lines policy (suc before) m.0 ls m.2 m.4 new m.5 now m.7 (proper_line policy before old line m.1 m.3 m.0 was m.5 m.6 all)
 
 pub labels_are_newest : ScriptLabelsAreNewest
-labels_are_newest policy ls out bad start session events ring world told came =
+labels_are_newest policy ls out bad start session past ring world told came =
     let account = new_account (seed 1 ring) (seed 2 ring) larger in
     let fits = account_fits_at_start (seed 1 ring) (seed 2 ring) larger (inr refl) in
-    let proper = proper_lines policy 0 start ls out bad session [] events told none_proper in
-    let items = events_bring_items account (made ring) world events fits came.happened proper (λ i h. absurd (Contains-nil i h)) in
-    holders.labels_are_newest (extended_all account events) world (events_fit account (made ring) world events fits came.happened) items
+    let proper = proper_lines policy 0 start ls out bad session no_past past told none_proper in
+    let items = events_bring_items account (made ring) world past.events fits came.happened proper (λ i h. absurd (Contains-nil i h)) in
+    holders.labels_are_newest (extended_all account past.events) world (events_fit account (made ring) world past.events fits came.happened) items
 
 -- ---- what is shown
 under_all : (items : List Item) → under (λ (key : Key). true) items ≡ items

@@ -1,5 +1,6 @@
 pub mod LineLemmas
 pub mod EventLemmas
+pub mod ServerLemmas
 pub mod LawLemmas
 pub mod LinesLemmas
 pub mod CauseLemmas

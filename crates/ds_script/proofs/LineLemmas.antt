@@ -4,7 +4,7 @@ use Rattle.ds_machine.specs.declared.command.Scope.TheVariants.{Under}
 use Rattle.ds_words.specs.Command.{IsCommand, CommandTakesMemory, ReadsAs, is_plain}
 use Rattle.ds_words.specs.Later.{IsLater}
 use Rattle.ds_words.specs.declared.command.ScriptCommand.{ScriptCommand}
-use Rattle.ds_words.specs.declared.command.ScriptCommand.TheVariants.{Offer, Show, All, Publish, Subscribe, Map, Entries, Ring, Since, Snapshot, Page}
+use Rattle.ds_words.specs.declared.command.ScriptCommand.TheVariants.{Offer, Show, All, Publish, Subscribe, Map, Entries, Ring, Since, Snapshot, Page, Settings}
 use Rattle.ds_words.specs.declared.fault.CommandFault.{CommandFault}
 use Rattle.ds_script.specs.Answer.{MayStand, AnswerTakesRoom}
 
@@ -24,6 +24,7 @@ memory_room (Map query) takes = tt
 memory_room (Since (Under query) cursor max) takes = refl
 memory_room (Snapshot (Under query)) takes = refl
 memory_room (Page (Under query) after max) takes = refl
+memory_room (Settings text) takes = tt
 memory_room command takes = absurd takes
 
 -- so does what isn't plain
@@ -33,6 +34,7 @@ plain_room All e = tt
 plain_room (Entries map) e = tt
 plain_room (Ring ring) e = tt
 plain_room (Map query) e = tt
+plain_room (Settings text) e = tt
 plain_room command e = e
 
 -- ---- the first line, and those behind it

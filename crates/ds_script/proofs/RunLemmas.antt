@@ -5,7 +5,8 @@ use Rattle.std.proofs.KnownBytes.{Consumes-nil}
 use Rattle.std.proofs.lemmas.List.{drop_at}
 use Rattle.std.proofs.lemmas.List.Elements.{All-nil, All-append, All-push}
 use Rattle.std.proofs.lemmas.List.Concat.{flat_map-append}
-use Rattle.ds_words.specs.Lines.{IsUnbroken, with_newline, joined, unended}
+use Rattle.ds_words.specs.Lines.{IsUnbroken, joined, unended}
+use Rattle.ds_line.specs.LastNewline.{with_newline}
 use Rattle.ds_script.specs.declared.fault.ReplayFault.{ReplayFault}
 use Rattle.ds_script.specs.declared.fault.ReplayFault.TheVariants.{BadLine, ReadFault, WriteFault, NoRoom}
 use Rattle.ds_script.specs.declared.report.BadLines.TheVariants.{End}

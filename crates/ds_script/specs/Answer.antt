@@ -15,13 +15,20 @@ use Rattle.ds_replica.specs.declared.outcome.Outcome.{Outcome}
 use Rattle.ds_replica.specs.declared.outcome.Outcome.TheVariants.{Made}
 use Rattle.ds_words.specs.Command.{IsCommand, IsLineAs, is_plain}
 use Rattle.ds_words.specs.Later.{IsLater}
-use Rattle.ds_words.specs.Lines.{with_newline}
+use Rattle.ds_line.specs.LastNewline.{with_newline}
 use Rattle.ds_words.specs.Event.{event_of}
-use Rattle.ds_words.specs.Outcome.{outcome_lines, ring_line, side_line}
-use Rattle.ds_words.specs.Reply.{wording, reply_lines, refused_noroom}
+use Rattle.store_words.specs.Outcome.{outcome_lines, ring_line, side_line}
+use Rattle.ds_words.specs.Wording.{wording}
+use Rattle.store_words.specs.Reply.{reply_lines, refused_noroom}
 use Rattle.ds_words.specs.declared.command.ScriptCommand.{ScriptCommand}
 use Rattle.ds_words.specs.declared.command.ScriptCommand.TheVariants as lines
-use Rattle.ds_words.specs.declared.wording.Wording.{Wording}
+use Rattle.store_words.specs.declared.wording.Wording.{Wording}
+use Rattle.ds_words.specs.ServiceEvent.{request_event}
+use Rattle.rs_core.specs.declared.event.Event as services
+use Rattle.rs_core.specs.declared.event.Event.TheVariants.{Death, Beat, Tick}
+use Rattle.ds_answers.specs.Servers.{Servers, ServersLead}
+use Rattle.ds_answers.specs.Services.{AnswersSettings, AnswersService}
+use Rattle.ds_answers.specs.Tables.{map_items, AnswersAssign, AnswersFollow, AnswersSubmit, AnswersReply}
 use Rattle.ds_script.specs.Session.{SessionContent, IsOpened, IsHappening, turned, held_of}
 use Rattle.ds_entry.specs.Under.{entries_of}
 
@@ -62,6 +69,21 @@ pub record AnswersEvent (wording : Wording) (event : Event) (old : SessionConten
 abbrev pub AnswersAsEvent : ScriptCommand → SessionContent → List ℕ → SessionContent → Type 0
 AnswersAsEvent command old out new = MatchOption (event_of old.side command) ⊥ (λ event. AnswersEvent (wording command) event old out new)
 
+-- ---- RS and the driver tables
+
+-- from all RS and tables for which the session stands this leads to ones for which it then does, by this answer; the world stays
+abbrev pub AnswersByServers : (Servers → List ℕ → Servers → Type 0) → SessionContent → List ℕ → SessionContent → Type 0
+AnswersByServers R old out new = ServersLead (λ s t. R s out t) old.servers new.servers × (new.world ≡ old.world) × (new.side ≡ old.side)
+
+-- RS is told an event at a tick, and what it does is given to the store that is asked
+abbrev pub AnswersByServices : services.Event → ℕ → SessionContent → List ℕ → SessionContent → Type 0
+AnswersByServices event tick old out new =
+    AnswersService event tick old.side old.servers old.world out new.servers new.world × (new.side ≡ old.side)
+
+-- what the map of a number holds, if there is one
+abbrev pub items_of_map : SessionContent → ℕ → Option (List Item)
+items_of_map session map = map_items (slice_get session.world.maps map)
+
 -- ---- commands
 
 -- the session is opened again, with journals that keep so many items
@@ -79,20 +101,30 @@ AnswersCommand lines.All old out new = (new ≡ old) × (out ≡ shown (picked t
 AnswersCommand (lines.Entries map) old out new = (new ≡ old) × (out ≡ entries_text (slice_get old.world.maps map))
 AnswersCommand (lines.Ring ring) old out new = AnswersRing ring old out new
 AnswersCommand (lines.Side side) old out new = AnswersSide side old out new
+AnswersCommand (lines.Settings text) old out new = AnswersByServers (AnswersSettings text) old out new
+AnswersCommand (lines.Service request label tick) old out new = AnswersByServices (request_event request label) tick old out new
+AnswersCommand (lines.Death endpoint cause tick) old out new = AnswersByServices (Death endpoint cause) tick old out new
+AnswersCommand (lines.Beat endpoint tick) old out new = AnswersByServices (Beat endpoint) tick old out new
+AnswersCommand (lines.Tick tick) old out new = AnswersByServices Tick tick old out new
+AnswersCommand (lines.Assign device label) old out new = AnswersByServers (AnswersAssign device label) old out new
+AnswersCommand (lines.Follow map) old out new = AnswersByServers (AnswersFollow (items_of_map old map)) old out new
+AnswersCommand (lines.Submit server id unit map) old out new = AnswersByServers (AnswersSubmit server id unit (items_of_map old map)) old out new
+AnswersCommand (lines.Reply server endpoint id) old out new = AnswersByServers (AnswersReply server endpoint id) old out new
 AnswersCommand command old out new = AnswersAsEvent command old out new
 
 -- for want of memory a command is refused, and nothing changes
 abbrev pub IsLineRefused : SessionContent → List ℕ → SessionContent → Type 0
 IsLineRefused old out new = (new ≡ old) × (out ≡ refused_noroom)
 
--- The script itself takes memory for the command: for a copy of what is shown, for the stores' rings, or for what the line asks.
--- Where others are refused for want of memory, it is the world that refuses them.
+-- The script itself takes memory for the command: for a copy of what is shown, for the stores' rings, for what the line asks, or for
+-- settings. Where others are refused for want of memory, it is the world, RS or a table that refuses them.
 abbrev pub AnswerTakesRoom : ScriptCommand → Type 0
 AnswerTakesRoom lines.Show = Unit {0}
 AnswerTakesRoom lines.All = Unit {0}
 AnswerTakesRoom (lines.Entries map) = Unit {0}
 AnswerTakesRoom (lines.Ring ring) = Unit {0}
 AnswerTakesRoom (lines.Map query) = Unit {0}
+AnswerTakesRoom (lines.Settings text) = Unit {0}
 AnswerTakesRoom command = is_plain command ≡ false
 
 -- what a command is answered, memory or not
@@ -130,6 +162,19 @@ abbrev pub AppendsEvent : ScriptCommand → (before after : List ℕ) → (old n
 AppendsEvent command before after old new =
     (out : List ℕ) × (after ≡ before ++ out)
     × (AnswersAsEvent command old out new ⊎ ((is_plain command ≡ false) × IsLineRefused old out new))
+
+-- so is what RS and the tables answer a command
+abbrev pub AppendsByServers : (Servers → List ℕ → Servers → Type 0) → (before after : List ℕ) → (old new : SessionContent) → Type 0
+AppendsByServers R before after old new = (out : List ℕ) × (after ≡ before ++ out) × AnswersByServers R old out new
+
+-- so is what is answered to settings, or that they are refused
+abbrev pub AppendsSettings : List ℕ → (before after : List ℕ) → (old new : SessionContent) → Type 0
+AppendsSettings text before after old new =
+    (out : List ℕ) × (after ≡ before ++ out) × (AnswersByServers (AnswersSettings text) old out new ⊎ IsLineRefused old out new)
+
+-- so is what RS answers an event
+abbrev pub AppendsByServices : services.Event → ℕ → (before after : List ℕ) → (old new : SessionContent) → Type 0
+AppendsByServices event tick before after old new = (out : List ℕ) × (after ≡ before ++ out) × AnswersByServices event tick old out new
 
 -- so is this text, or that there is no memory for it
 abbrev pub AppendsOrRefuses : List ℕ → (before after : List ℕ) → Type 0

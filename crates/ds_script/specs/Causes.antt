@@ -4,7 +4,7 @@ use Rattle.ds_script.specs.declared.fault.ReplayFault.{ReplayFault}
 use Rattle.ds_script.specs.declared.fault.ReplayFault.TheVariants.{ReadFault, WriteFault}
 use Rattle.ds_script.specs.declared.streams.Source.{Ghosts as Reader}
 use Rattle.ds_script.specs.declared.streams.Sink.{Ghosts as Writer}
-use Rattle.ds_script.specs.Streams.{IsLeft, HasFailedRead, HasFailedWrite}
+use Rattle.ds_script.specs.Streams.{HasFailedRead, HasFailedWrite}
 
 -- ReadFault comes only where a read of this call failed, or 2^32 of them were made, and WriteFault only where a write failed.
 abbrev pub HasCause : {R W : Type 0} → Reader R → Writer W → ReplayFault → (old new : R) → W → Type 0
@@ -19,10 +19,10 @@ HasWriteCause w WriteFault writer = HasFailedWrite w.writes w.fails writer
 HasWriteCause w _ writer = Unit {0}
 
 -- where one read is made, ReadFault blames it
-abbrev pub HasTurnCause : {R W : Type 0} → Reader R → Writer W → ReplayFault → R → W → Type 0
-HasTurnCause r w ReadFault reader writer = IsLeft r.fails reader
-HasTurnCause r w WriteFault reader writer = HasFailedWrite w.writes w.fails writer
-HasTurnCause r w _ reader writer = Unit {0}
+abbrev pub HasTurnCause : {R W : Type 0} → Reader R → Writer W → ReplayFault → (old new : R) → W → Type 0
+HasTurnCause r w ReadFault old new writer = r.fails old new
+HasTurnCause r w WriteFault old new writer = HasFailedWrite w.writes w.fails writer
+HasTurnCause r w _ old new writer = Unit {0}
 
 -- Behind the writing of what waited the fault is the one before, or says that a write failed. After a write that failed nothing is
 -- written.

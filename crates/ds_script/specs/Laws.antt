@@ -1,4 +1,5 @@
--- What holds of every script: what it drives came of events, so that the laws over events are laws over scripts.
+-- What holds of every script: its world came of events, so that the laws over events are laws over scripts; and RS and the driver
+-- tables came of what its lines do to them.
 use Rattle.std.specs.Prelude.{◌≡◌, ℕ, suc, ◌+◌, ◌≤◌, ◌⊎◌, Bool, true, List, [], ◌∷◌, ◌++◌, MatchOption}
 use Rattle.ds_names.specs.declared.key.Key.{Key}
 use Rattle.ds_held.specs.Limits.{larger}
@@ -15,51 +16,101 @@ use Rattle.ds_replica.specs.CaughtUp.{MapsNameNewest}
 use Rattle.ds_replica.specs.Known.{known_at, new_account, extended_all}
 use Rattle.ds_replica.specs.World.{World}
 use Rattle.ds_words.specs.Command.{IsLineAs}
+use Rattle.ds_words.specs.ServiceEvent.{request_event}
 use Rattle.ds_words.specs.Event.{event_of}
-use Rattle.ds_words.specs.Reply.{wording}
+use Rattle.ds_words.specs.Wording.{wording}
 use Rattle.ds_words.specs.declared.command.ScriptCommand.{ScriptCommand}
 use Rattle.ds_words.specs.declared.command.ScriptCommand.TheVariants as lines
 use Rattle.ds_world.specs.World.{WorldStands}
+use Rattle.rs_core.specs.declared.event.Event as services
+use Rattle.rs_core.specs.declared.event.Event.TheVariants.{Death, Beat, Tick}
+use Rattle.ds_answers.specs.Servers.{Servers, ServersStand, no_servers, with_rs}
+use Rattle.ds_answers.specs.Services.{AnswersSettings, ServicesAnswer}
+use Rattle.ds_answers.specs.Tables.{AnswersAssign, AnswersFollow, AnswersSubmit, AnswersReply}
 use Rattle.ds_script.specs.declared.report.BadLines.{BadLines}
 use Rattle.ds_script.specs.declared.report.BadLines.TheVariants.{End}
 use Rattle.ds_script.specs.Session.{SessionContent, IsOpened, seed, made, turned}
-use Rattle.ds_script.specs.Answer.{AnswersEvent, AnswersCommand, IsLineRefused, AnswerTakesRoom, MayStand}
+use Rattle.ds_script.specs.Answer.{AnswersEvent, AnswersByServices, AnswersCommand, IsLineRefused, AnswerTakesRoom, MayStand, items_of_map}
 use Rattle.ds_script.specs.Replay.{TellsBadLine, AnswersLines}
 
--- ---- a script and its events
+-- ---- a script and what came of it
 
--- The session stands for a world that came of these events, from one that was just made, whose journals keep so many items.
-pub record CameOf (events : List (Event × Outcome)) (ring : ℕ) (world : World) (session : SessionContent) : Type 0 where
+-- what came of lines: the events of the world since it was made, with their outcomes, and RS and the driver tables
+pub record Past : Type 0 where
+  pub events : List (Event × Outcome)
+  pub servers : Servers
+
+abbrev pub past_of : List (Event × Outcome) → Servers → Past
+past_of events servers = record { events = events; servers = servers }
+
+-- nothing came yet
+abbrev pub no_past : Past
+no_past = past_of [] no_servers
+
+-- these events came behind those before
+abbrev pub with_events : Past → List (Event × Outcome) → Past
+with_events past events = record past { events = past.events ++ events }
+
+-- The session stands for a world that came of the events, from one that was just made, whose journals keep so many items, and for
+-- the past's RS and tables.
+pub record CameOf (past : Past) (ring : ℕ) (world : World) (session : SessionContent) : Type 0 where
   pub least : 1 ≤ ring
   pub most : ring ≤ 4096
-  pub happened : HappenAll (made ring) events world
+  pub happened : HappenAll (made ring) past.events world
   pub stands : WorldStands session.world world
+  pub servers : ServersStand session.servers past.servers
 
--- A command that was answered so makes these events of those before it: one that is an event comes behind them, with its outcome;
--- `ring` makes the world anew, of which nothing came yet; others let nothing happen.
-abbrev pub MakesEvents : ScriptCommand → SessionContent → List ℕ → SessionContent → List (Event × Outcome) → List (Event × Outcome) → Type 0
-MakesEvents (lines.Ring ring) old out new came events = AnswersCommand (lines.Ring ring) old out new × (events ≡ [])
-MakesEvents command old out new came events =
-    MatchOption (event_of old.side command) (AnswersCommand command old out new × (events ≡ came)) (λ event. (answer : AnswersEvent (wording command) event old out new) × (events ≡ came ++ (event, answer.outcome) ∷ []))
+-- An event of RS that was answered so is RS's step, and makes events of the world: what its actions ask of the store that is asked,
+-- with the replies, and no others.
+abbrev pub MakesService : services.Event → ℕ → SessionContent → List ℕ → SessionContent → Past → Past → Type 0
+MakesService event tick old out new was now =
+    (answer : AnswersByServices event tick old out new)
+    × ServicesAnswer was.servers.services event tick answer.0.answer now.servers.services
+    × (now ≡ past_of (was.events ++ answer.0.events) (with_rs was.servers now.servers.services))
+
+-- another line of RS or the tables does to them what it is answered, and makes no events
+abbrev pub MakesServers : (Servers → List ℕ → Servers → Type 0) → List ℕ → Past → Past → Type 0
+MakesServers R out was now = R was.servers out now.servers × (now.events ≡ was.events)
+
+-- A command that was answered so makes this of what came before it: one that is an event comes behind the events, with its outcome;
+-- those of RS and the tables do as above; `ring` makes all anew, of which nothing came yet; others let nothing happen.
+abbrev pub MakesEvents : ScriptCommand → SessionContent → List ℕ → SessionContent → Past → Past → Type 0
+MakesEvents (lines.Ring ring) old out new was now = AnswersCommand (lines.Ring ring) old out new × (now ≡ no_past)
+MakesEvents (lines.Settings text) old out new was now = AnswersCommand (lines.Settings text) old out new × MakesServers (AnswersSettings text) out was now
+MakesEvents (lines.Service request label tick) old out new was now = MakesService (request_event request label) tick old out new was now
+MakesEvents (lines.Death endpoint cause tick) old out new was now = MakesService (Death endpoint cause) tick old out new was now
+MakesEvents (lines.Beat endpoint tick) old out new was now = MakesService (Beat endpoint) tick old out new was now
+MakesEvents (lines.Tick tick) old out new was now = MakesService Tick tick old out new was now
+MakesEvents (lines.Assign device label) old out new was now =
+    AnswersCommand (lines.Assign device label) old out new × MakesServers (AnswersAssign device label) out was now
+MakesEvents (lines.Follow map) old out new was now = AnswersCommand (lines.Follow map) old out new × MakesServers (AnswersFollow (items_of_map old map)) out was now
+MakesEvents (lines.Submit server id unit map) old out new was now =
+    AnswersCommand (lines.Submit server id unit map) old out new × MakesServers (AnswersSubmit server id unit (items_of_map old map)) out was now
+MakesEvents (lines.Reply server endpoint id) old out new was now =
+    AnswersCommand (lines.Reply server endpoint id) old out new × MakesServers (AnswersReply server endpoint id) out was now
+MakesEvents command old out new was now =
+    MatchOption (event_of old.side command) (AnswersCommand command old out new × (now ≡ was))
+    (λ event. (answer : AnswersEvent (wording command) event old out new) × (now ≡ with_events was ((event, answer.outcome) ∷ [])))
 
 -- and so does a line; one that is refused for want of memory, or is bad, lets nothing happen
-abbrev pub LineMakesEvents : BadLines → ℕ → SessionContent → List ℕ → List ℕ → ℕ → SessionContent → List (Event × Outcome) → List (Event × Outcome) → Type 0
-LineMakesEvents policy before old line out bad new came events =
-    ((command : ScriptCommand) × IsLineAs (MayStand before) command line × (bad ≡ 0) × ((AnswerTakesRoom command × IsLineRefused old out new × (events ≡ came)) ⊎ MakesEvents command old out new came events))
-    ⊎ (TellsBadLine policy before old line out bad new × (events ≡ came))
+abbrev pub LineMakesEvents : BadLines → ℕ → SessionContent → List ℕ → List ℕ → ℕ → SessionContent → Past → Past → Type 0
+LineMakesEvents policy before old line out bad new was now =
+    ((command : ScriptCommand) × IsLineAs (MayStand before) command line × (bad ≡ 0) × ((AnswerTakesRoom command × IsLineRefused old out new × (now ≡ was)) ⊎ MakesEvents command old out new was now))
+    ⊎ (TellsBadLine policy before old line out bad new × (now ≡ was))
 
 -- and lines, one after the other
-abbrev pub LinesMakeEvents : BadLines → ℕ → SessionContent → List (List ℕ) → List ℕ → ℕ → SessionContent → List (Event × Outcome) → List (Event × Outcome) → Type 0
-LinesMakeEvents policy before old [] out bad new came events = (out ≡ []) × (bad ≡ 0) × (new ≡ old) × (events ≡ came)
-LinesMakeEvents policy before old (line ∷ lines) out bad new came events =
-    (mid : SessionContent) × (first rest : List ℕ) × (one more : ℕ) × (next : List (Event × Outcome)) × LineMakesEvents policy before old line first one mid came next × LinesMakeEvents policy (suc before) mid lines rest more new next events
+abbrev pub LinesMakeEvents : BadLines → ℕ → SessionContent → List (List ℕ) → List ℕ → ℕ → SessionContent → Past → Past → Type 0
+LinesMakeEvents policy before old [] out bad new was now = (out ≡ []) × (bad ≡ 0) × (new ≡ old) × (now ≡ was)
+LinesMakeEvents policy before old (line ∷ lines) out bad new was now =
+    (mid : SessionContent) × (first rest : List ℕ) × (one more : ℕ) × (next : Past) × LineMakesEvents policy before old line first one mid was next × LinesMakeEvents policy (suc before) mid lines rest more new next now
     × (out ≡ first ++ rest) × (bad ≡ one + more)
 
--- whatever the lines of a script are answered, the session behind them came of the events of these lines
+-- whatever the lines of a script are answered, the session behind them came of the events of these lines, and of what they did to RS
+-- and the tables
 abbrev pub ScriptsAreEvents : Type 0
 ScriptsAreEvents =
     (policy : BadLines) (lines : List (List ℕ)) (out : List ℕ) (bad : ℕ) (start end : SessionContent) → IsOpened 256 start → AnswersLines policy 0 start lines out bad end →
-    (events : List (Event × Outcome)) × LinesMakeEvents policy 0 start lines out bad end [] events × (ring : ℕ) × (world : World) × CameOf events ring world end
+    (past : Past) × LinesMakeEvents policy 0 start lines out bad end no_past past × (ring : ℕ) × (world : World) × CameOf past ring world end
 
 -- ---- what follows
 
@@ -67,17 +118,17 @@ ScriptsAreEvents =
 -- have one key, one owner and one version, but two bodies.
 abbrev pub ScriptHoldersAgree : Type 0
 ScriptHoldersAgree =
-    (events : List (Event × Outcome)) (ring : ℕ) (world : World) (session : SessionContent) (query : Key → Bool) (h i : Holder) → CameOf events ring world session →
-    let account = extended_all (new_account (seed 1 ring) (seed 2 ring) larger) events in
+    (past : Past) (ring : ℕ) (world : World) (session : SessionContent) (query : Key → Bool) (h i : Holder) → CameOf past ring world session →
+    let account = extended_all (new_account (seed 1 ring) (seed 2 ring) larger) past.events in
     AreExact account.brought → KnowSame query (known_at account h) (known_at account i) → HoldSame world query h i
 
 -- No label of a map that has all of a store, and nothing else, names an older generation, whatever the lines are: each asks to bring
 -- in changes and floors alone.
 abbrev pub ScriptLabelsAreNewest : Type 0
 ScriptLabelsAreNewest =
-    (policy : BadLines) (lines : List (List ℕ)) (out : List ℕ) (bad : ℕ) (start session : SessionContent) (events : List (Event × Outcome))
-    (ring : ℕ) (world : World) → LinesMakeEvents policy 0 start lines out bad session [] events → CameOf events ring world session →
-    MapsNameNewest (extended_all (new_account (seed 1 ring) (seed 2 ring) larger) events) world
+    (policy : BadLines) (lines : List (List ℕ)) (out : List ℕ) (bad : ℕ) (start session : SessionContent) (past : Past)
+    (ring : ℕ) (world : World) → LinesMakeEvents policy 0 start lines out bad session no_past past → CameOf past ring world session →
+    MapsNameNewest (extended_all (new_account (seed 1 ring) (seed 2 ring) larger) past.events) world
 
 -- Where both stores hold the same under the query of all keys, `show` answers the same at both sides.
 abbrev pub ShowsAgree : Type 0

@@ -24,9 +24,13 @@ CallsLead {S} calls (suc n) old new = (mid : S) × CallsLead calls n old mid × 
 abbrev pub IsLeft : {S : Type 0} → (S → S → Type 0) → S → Type 0
 IsLeft {S} calls now = (before : S) × calls before now
 
--- A read failed, and was the last one; or 2^32 reads were made, of which none failed.
+-- So many calls were made, one after the other, and then a last one.
+abbrev pub IsLastBehind : {S : Type 0} → (calls last : S → S → Type 0) → ℕ → S → S → Type 0
+IsLastBehind {S} calls last n old new = (mid : S) × CallsLead calls n old mid × last mid new
+
+-- Reads were made: behind some that didn't fail one failed, the last; or none of 2^32 failed.
 abbrev pub HasFailedRead : {R : Type 0} → (reads fails : R → R → Type 0) → (old new : R) → Type 0
-HasFailedRead reads fails old new = IsLeft fails new ⊎ ((n : ℕ) × (n ≡ 2 ^ 32) × CallsLead reads n old new)
+HasFailedRead reads fails old new = (n : ℕ) × (IsLastBehind reads fails n old new ⊎ ((n ≡ 2 ^ 32) × CallsLead reads n old new))
 
 -- A write failed, and was the last one; or that many writes were made, one after the other, of which none failed.
 abbrev pub HasFailedWrite : {W : Type 0} → (writes fails : W → W → Type 0) → W → Type 0

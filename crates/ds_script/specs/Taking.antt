@@ -1,7 +1,8 @@
 -- What the steps of a replay do: to what it drives and the answers that wait, and to the writer.
 use Rattle.std.specs.Prelude.{◌≡◌, ℕ, suc, Bool, List, [], ◌∷◌, Option, Result, MatchResult}
 use Rattle.std.specs.Io.KnownBytes.{IsAtEnd}
-use Rattle.ds_words.specs.Lines.{IsUnbroken, with_newline, unended}
+use Rattle.ds_words.specs.Lines.{IsUnbroken, unended}
+use Rattle.ds_line.specs.LastNewline.{with_newline}
 use Rattle.ds_script.specs.declared.fault.ReplayFault.{ReplayFault}
 use Rattle.ds_script.specs.declared.streams.Source.{Ghosts as Reader}
 use Rattle.ds_script.specs.declared.streams.Sink.{Ghosts as Writer}
@@ -100,7 +101,7 @@ TurnsBy r w from to old new pending rest more =
 -- that turn stopped
 abbrev pub StopsInTurn : {R W B : Type 0} → Reader R → Writer W → (from to : R) → Replay W B → Replay W B → List ℕ → ReplayFault → Type 0
 StopsInTurn r w from to old new pending fault =
-    HasTurnCause r w fault to new.writer.now
+    HasTurnCause r w fault from to new.writer.now
     × TurnStops fault (r.remaining from) (r.remaining to) (written w old) (written w new) (reached old) pending new.output.items
 
 -- One turn, whose answer says whether there may be more to read; or why it stopped.

@@ -2,16 +2,19 @@
 
 ghost use Rattle.std.specs.Prelude.{◌≡◌, ◌≤◌, OnOk, OnErr};
 ghost use Rattle.ds_words.specs.Command.{IsCommand};
+ghost use Rattle.ds_words.specs.ServiceEvent.{request_event};
 ghost use Rattle.ds_script.specs.Answer.{AppendsCommand, AppendsRing, AppendsSide};
 
 use crate::entries::append_entries;
 use crate::event::answer_event;
 use crate::session::Session;
 use crate::shown::append_shown;
-use ds_names::NoRoom;
+use ds_names::{Name, NoRoom};
 use ds_replica::Side;
-use ds_words::{ScriptCommand, append_noroom, append_ring, append_side};
+use ds_words::{Request, ScriptCommand};
+use rs_core::Event;
 use std::alloc::Global;
+use store_words::{append_noroom, append_ring, append_side};
 
 /// Carries a command out, and puts its answer behind those that wait.
 ///
@@ -33,6 +36,34 @@ pub(crate) fn answer_command(
         ScriptCommand::Entries { map } => append_entries(alloc, session.map(map), output),
         ScriptCommand::Ring { ring } => answer_ring(alloc, session, output, ring),
         ScriptCommand::Side { side } => answer_side(session, output, side),
+        ScriptCommand::Settings { text } => session.accept(alloc, text, output),
+        ScriptCommand::Service {
+            request,
+            label,
+            tick,
+        } => session.serve(alloc, requested(request, label), tick, output),
+        ScriptCommand::Death {
+            endpoint,
+            cause,
+            tick,
+        } => session.serve(alloc, Event::Death(endpoint, cause), tick, output),
+        ScriptCommand::Beat { endpoint, tick } => {
+            session.serve(alloc, Event::Beat(endpoint), tick, output)
+        }
+        ScriptCommand::Tick { tick } => session.serve(alloc, Event::Tick, tick, output),
+        ScriptCommand::Assign { device, label } => session.assign(device, label, output),
+        ScriptCommand::Follow { map } => session.follow(alloc, map, output),
+        ScriptCommand::Submit {
+            server,
+            id,
+            unit,
+            map,
+        } => session.submit(alloc, server, id, unit, map, output),
+        ScriptCommand::Reply {
+            server,
+            endpoint,
+            id,
+        } => session.reply(server, endpoint, id, output),
         asking => answer_event(alloc, session, output, asking),
     }
 }
@@ -55,6 +86,18 @@ fn answer_ring(
     append_ring(output, ring)?;
     *session = opened;
     Ok(())
+}
+
+// What RS is asked for the service of a label.
+fn requested(request: Request, label: Name) -> Event
+    ensures { result ≡ request_event request label }
+{
+    match request {
+        Request::Up => Event::Up(label),
+        Request::Down => Event::Stop(label),
+        Request::Refresh => Event::Refresh(label),
+        Request::Restart => Event::Restart(label),
+    }
 }
 
 // Turns to the store of a side.

@@ -8,8 +8,9 @@ use crate::session::Session;
 use ds_held::Limits;
 use ds_names::NoRoom;
 use ds_replica::Outcome;
-use ds_words::{ScriptCommand, Wording, append_noroom, append_outcome, append_reply};
+use ds_words::ScriptCommand;
 use std::alloc::Global;
+use store_words::{Wording, append_noroom, append_outcome, append_reply};
 
 /// Lets the event of a command happen, and puts what came of it behind the answers that wait.
 pub(crate) fn answer_event(

@@ -2,7 +2,7 @@
 
 ghost use Rattle.std.specs.Prelude.{◌≡◌, ℕ, List, IfErr, OnOk, OnErr};
 ghost use Rattle.ds_line.specs.LastNewline.{EndsLine};
-ghost use Rattle.ds_words.specs.Lines.{with_newline};
+ghost use Rattle.ds_line.specs.LastNewline.{with_newline};
 ghost use Rattle.ds_words.specs.Command.{ReadsAs};
 ghost use Rattle.ds_script.specs.Answer.{MayStand, AppendsLine};
 ghost use Rattle.ds_script.specs.Progress.{IsUnendedFault, KeepsSession};
@@ -11,8 +11,9 @@ use crate::answer::answer_command;
 use crate::session::Session;
 use ds_line::Expected;
 use ds_names::NoRoom;
-use ds_words::{CommandFault, LONGEST_LINE, ScriptCommand, append_noroom, read_line_behind};
+use ds_words::{CommandFault, LONGEST_LINE, ScriptCommand, read_line_behind};
 use std::alloc::Global;
+use store_words::append_noroom;
 
 /// Answers one line behind so many others, which comes with its newline and has no other. `Err` says that it is no
 /// command's, which changes nothing, or that there was no room for its answer.

@@ -5,6 +5,7 @@ ghost use Rattle.std.specs.Option.{option_copied};
 ghost use Rattle.ds_held.specs.Held.{held_items};
 ghost use Rattle.ds_script.specs.Session.{IsOpened, seed as described_seed, held_of, turned, IsHappening};
 
+use ds_answers::Servers;
 use ds_held::Held;
 use ds_machine::Reply;
 use ds_names::NoRoom;
@@ -14,14 +15,17 @@ use ds_world::World;
 use std::alloc::Global;
 use std::marker::Model;
 
+mod servers;
+
 /// How many of its last items the journal of each store keeps, where the first line doesn't say so.
 pub(crate) const RING: u32 = 256;
 
-/// What a script drives: a world, and the side whose store is asked.
+/// What a script drives: a world, the side whose store is asked, and RS with the driver tables.
 #[derive(Drop)]
 pub(crate) struct Session {
     world: World,
     side: Side,
+    servers: Servers,
 }
 
 impl Model for Session {
@@ -30,18 +34,20 @@ impl Model for Session {
     ghost use Rattle.ds_replica.specs.contracts.event.Side.{the_row as side_row};
     ghost use Rattle.ds_world.specs.World.{WorldRecord};
     ghost use Rattle.ds_world.specs.contracts.world.World.{the_row as world_row};
+    ghost use Rattle.ds_answers.specs.Servers.{ServersRecord};
+    ghost use Rattle.ds_answers.specs.contracts.servers.Servers.{the_row as servers_row};
     ghost use Rattle.ds_script.specs.Session.{SessionContent};
 
     ghost Value = { SessionContent };
 
-    ghost coded = { code_by (WorldRecord × Side) (coded× world_row.coded side_row.coded) (λ s. (s.world, s.side)) (λ p. record { world = p.0; side = p.1 }) (λ s i. s) };
+    ghost coded = { code_by (WorldRecord × (Side × ServersRecord)) (coded× world_row.coded (coded× side_row.coded servers_row.coded)) (λ s. (s.world, (s.side, s.servers))) (λ p. record { world = p.0; side = p.1.0; servers = p.1.1 }) (λ s i. s) };
 
-    ghost view = { λ s. record { world = s.world; side = s.side } };
+    ghost view = { λ s. record { world = s.world; side = s.side; servers = s.servers } };
 }
 
 impl Session {
     /// A world that was just made, whose stores have the incarnations 1 and 2 and keep so many of their last items, with no
-    /// maps and no messages; side a is asked. NoRoom: there is no memory for the stores' rings.
+    /// maps and no messages; side a is asked, no settings were accepted, and no unit is assigned. NoRoom: there is no memory for the stores' rings.
     pub(crate) fn open(alloc: Global, ring: u32) -> Result<Session, NoRoom>
         requires { (1 ≤ ring) × (ring ≤ 4096) }
         ensures opened { IfOk result (λ session. IsOpened ring session) }
@@ -50,6 +56,7 @@ impl Session {
             Ok(world) => Ok(Session {
                 world,
                 side: Side::A,
+                servers: Servers::new(alloc),
             }),
             // The rings are in their range, and the incarnations differ.
             Err(_) => Err(NoRoom),

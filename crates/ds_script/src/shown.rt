@@ -11,9 +11,9 @@ use ds_entry::{Item, Items};
 use ds_held::Held;
 use ds_line::{append_all, append_item};
 use ds_names::NoRoom;
-use ds_words::append_noroom;
 use itoa::Buffer;
 use std::alloc::Global;
+use store_words::append_noroom;
 
 /// Appends the answer to `show`, which are the puts, or to `all`, with floors and tombstones, or the refusal for want of
 /// memory.

@@ -37,9 +37,9 @@ pub struct Replayed {
 /// brought are written together. A line that there is no memory for is answered `refused noroom`, and changes
 /// nothing. What is kept is bounded by the longest line and by what the world holds, whatever the length of the input.
 ///
-/// A fault ends it: a line that is no command's (no answer is written for it), a read or a write of this call that failed, 2^32
-/// reads, or want of memory for the buffers. All lines before were answered then, and but for a failed write all answers were
-/// written.
+/// A fault ends it: a line that is no command's (no answer is written for it), a read of this call that failed behind others that
+/// didn't, 2^32 reads, a write that failed, which was the writer's last, or want of memory for the buffers. All lines before were
+/// answered then, and but for a failed write all answers were written.
 pub fn replay<R: Source, W: Sink>(
     alloc: Global,
     reader: &mut R,

@@ -12,6 +12,10 @@ each owner the highest floor, which ends what the owner left: a late or repeated
 driver's endpoint back, nor what the driver published. There are two such stores, side a and side b, and
 maps of subscribers; what a store prints of its items is a message, which any of them can be given.
 
+RS, the reincarnation server, which starts drivers and starts them again where they die, can be played over
+these stores, and so can a file server and a network server, which ask drivers and learn from a map where
+they are.
+
 A line that can't be read ends the script, and standard error says what was expected there;
 `dsctl replay --keep-going` goes on behind it. Somebody who types the script is greeted and prompted.
 
@@ -54,8 +58,37 @@ Lines of a script:
   offer FLOOR        raise a floor, whoever raised it elsewhere
   show               print the entries that stand, in order of their keys, then `shown N`
   all                print the floors, in order of their owners, and then the same with tombstones
+  settings REST      RS begins with the services of a settings text, the rest of the line, once:
+                     `services N slots S`
+  service up LABEL TICK
+                     RS starts a service; or with `down` for `up` stops it, with `refresh` replaces its
+                     instance by another, with `restart` starts it before its time
+  death ENDPOINT CAUSE TICK
+                     RS is told that an instance died: 1 exit or panic, 2 exception, 3 killed by a user,
+                     4 no heartbeat, 5 complaint, 6 update
+  beat ENDPOINT TICK RS is told that an instance lives
+  tick TICK          RS is told the time, and does the first thing that is due, if anything is
+  assign file MAJOR block LABEL
+                     a file server's unit has this block driver, or with `character` for `block` this
+                     character driver; `assign net PORT LABEL` is a network server's: `assigned`
+  follow J           both servers learn from a map where their drivers are now
+  submit file ID UNIT J
+                     the file server, or with `net` for `file` the network server, learns from a map,
+                     and then has a request for a unit
+  reply file ENDPOINT ID
+                     a driver answers a request, or with `net` for `file` one of the network server's:
+                     `answer ID done`
 
 `dsctl settings` shows what a settings text tells RS; `dsctl settings --help` has its fields.
+
+Behind `service`, `death`, `beat` and `tick` RS's actions are printed, and then `actions N`: `kill ENDPOINT`,
+`start LABEL ENDPOINT`, `ping ENDPOINT`, `offer CHANGE` and `sweep OWNER GENERATION`. The last two are asked of
+the store in RS's name, and its answer stands below each. TICK never goes back. Repeat a `tick` with one number
+until it answers `actions 0`.
+
+Behind `follow` and `submit` the servers' moves are printed, the file server's first, and then `moves N`:
+`send ID ENDPOINT`; `held ID` where a block driver isn't there; `answer ID fault` where any other isn't there,
+or died; and `start UNIT ENDPOINT` where a network driver came. ID is above all before it.
 
 The other answers are `taken`, `known` for a repeat, `stale`, and `refused` with a word. CALLER and
 ENDPOINT are GENERATION/SLOT; 0/2 is RS, which alone publishes labels and sweeps. An entry but a label
@@ -77,6 +110,13 @@ Two replicas, in six lines:
   side b                                  from now on b is asked
   snapshot *                              what b holds is message 1
   deliver 1 a *                           a is given it, and now both hold the same
+
+A driver that dies and is started again, in five lines:
+  settings service = [{label = \"disk\", class = \"block\", unit = 3, limit = 1}]
+  service up disk 0                       it is started, and its label published
+  death 1/16 1 5                          its label is deleted, and what it published is swept
+  tick 6                                  it is started in generation 2
+  show                                    the store names the living one
 
 A change is a line `NAME KIND OWNER EPOCH.SEQ = VALUE`, which puts a value, or `NAME KIND OWNER EPOCH.SEQ -`,
 which says that the entry is gone. Of two changes of one name and kind the one with the greater version
@@ -116,10 +156,19 @@ Lines of a script (`dsctl --help` explains them):
   offer ! OWNER GENERATION                        merge a floor
   show                                            print the entries
   all                                             print floors, tombstones too
+  settings REST                                   begin RS with a settings text
+  service up LABEL TICK                           or down, refresh, restart
+  death ENDPOINT CAUSE TICK                       tell RS of a death, by 1 to 6
+  beat ENDPOINT TICK                              tell RS of a heartbeat
+  tick TICK                                       tell RS the time
+  assign file MAJOR block LABEL                   or character; net PORT LABEL
+  follow J                                        learn where drivers are
+  submit file ID UNIT J                           the same, and ask one; or net
+  reply file ENDPOINT ID                          one answers; or net
 
 Limits: NAME 64 bytes, str 256, mem 1024, PATTERN 128, a line 4096; 4096 keys,
 64 floors, 128 subscriptions (SUB 0 to 127, eight a server), 64 maps, MAX 256,
-65536 messages, a ring of 4096.";
+65536 messages, a ring of 4096, 64 services, units 0 to 255, ticks to 2^62.";
 
 pub(crate) const AFTER_HELP: &str = "\
 Example session (lines behind `>` are typed, the others are printed):
@@ -163,6 +212,32 @@ Words behind `refused`, in the order in which they are judged:
   full            4096 keys are held, tombstones too, or 64 owners have floors
   noroom          memory was wanting, or PATTERN compiles to too much: `[a-z0-9]`
                   takes far less than `\\w`
+
+Of lines to RS:
+  tickback        TICK is below the last one that RS took
+  worn            TICK is above 2^62
+  unknownlabel    no service has this label, or there are no settings yet
+  badcause        CAUSE isn't 1 to 6
+  alreadyup       the service is up, or waits, where `restart` starts it at once
+  notup           the service isn't up; one that waits can be stopped, too, and one that
+                  waits or was given up can be restarted
+  oldendpoint     no service that is up is at ENDPOINT
+
+Of settings, after accepted ones `exists`, else as `dsctl settings --help` says:
+  toml            the text is no TOML document
+  unknownfield    a field has another name than there are
+  missing         a service has no label, no class or no unit
+  outofrange      a value is of another type, or out of its range
+  twolabels       two services have one label
+  twounits        two services have one unit
+  sharedname      two services publish one name
+
+Of the file server's and the network server's lines, behind `nomap`:
+  assigned        the unit has a driver: units are assigned once
+  twoids          ID isn't above all that were accepted before; the moves before stand
+  nodevice        no driver is assigned to UNIT; the moves before stand
+  notpending      there is no such request, or it was answered
+  oldendpoint     the request wasn't last sent to ENDPOINT
 
 Exit status:
   0  the whole script was answered, or the settings have no fault

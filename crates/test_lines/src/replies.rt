@@ -3,8 +3,9 @@
 use ds_entry::Value;
 use ds_held::Limits;
 use ds_machine::{Refusal, Reply};
-use ds_words::{read_command, split_line, write_reply};
+use ds_words::{read_command, split_line};
 use std::alloc::Global;
+use store_words::write_reply;
 
 /// Lines, and a reply to what each asks. One of the notices that the offer owes is for subscription 40.
 pub(crate) fn replies() -> [(&'static [u8], Reply); 3] {
@@ -31,5 +32,5 @@ pub(crate) fn told(alloc: Global, line: &[u8], reply: &Reply) -> Option<Vec<u8>>
         return None;
     }
     let command = read_command(alloc, line).ok()?;
-    write_reply(alloc, &command, reply, Limits::larger()).ok()
+    write_reply(alloc, command.wording(), reply, Limits::larger()).ok()
 }

@@ -13,11 +13,12 @@ use ds_held::Limits;
 use ds_machine::{Command, Refusal, Reply};
 use ds_names::{Endpoint, Key, Kind, Version};
 use ds_store::{Store, run};
-use ds_words::{ScriptCommand, Wording, append_reply};
+use ds_words::ScriptCommand;
 use std::alloc::Global;
 use std::io::Write;
 use std::rt::Runtime;
 use std::str::FromStr;
+use store_words::{Wording, append_reply};
 
 /// What a store is asked.
 #[derive(Drop)]

@@ -1,4 +1,4 @@
-use Rattle.std.proofs.Common.{◌≡◌, [], ℕ, List, subst, rules}
+use Rattle.std.proofs.Common.{◌≡◌, [], ℕ, List, sym, subst}
 use Rattle.std.specs.Io.KnownBytes.{Appends}
 use Rattle.std.proofs.KnownBytes.{Appends-nil, Consumes-nil}
 use Rattle.std.proofs.lemmas.Result.{err_from_is_err_and}
@@ -26,7 +26,7 @@ pub returns-in-Ok-ran-clause-answered : goal.returns-in-Ok-ran-clause-answered
 returns-in-Ok-ran-clause-answered g c =
     let a = (c.in-Ok-ran.ensures).ok in
     let had = g.W.Sink.contents c.args.writer.now in
-    let back : c.run-ran.new.self.writer.now ≡ c.writer-1.given.0 = search rules in
+    let back : c.run-ran.new.self.writer.now ≡ c.writer-1.given.0 = sym (c.writer-1.given.1 (sym c.run-ran.ensures.same)) in
     (a.0, a.1, a.2, a.3, subst (λ (w : g.row.W.Denot). Appends had (g.W.Sink.contents w) a.1) back a.4, a.5)
 
 pub returns-clause-stopped : goal.returns-clause-stopped
@@ -39,7 +39,7 @@ returns-clause-stopped g c =
     let policy = c.args.bad_lines in
     let output = c.run-ran.new.self.output.items in
     let settles = subst (λ (out : List ℕ). Settles c.settled.result c.in-Err.fault is has out) c.deref.ensures.value c.settled.ensures.settles in
-    let back : c.settled.new.writer ≡ c.writer-in-Err-1.given.0 = search rules in
+    let back : c.settled.new.writer ≡ c.writer-in-Err-1.given.0 = sym (c.writer-in-Err-1.given.1 (sym c.run-ran.ensures.same)) in
     subst (λ (w : g.row.W.Denot). Told policy c.settled.result from to had (g.W.Sink.contents w)) back
     (settled_stops policy c.in-Err.fault c.settled.result from to had is has output (c.in-Err.ensures).err settles)
 
@@ -49,6 +49,6 @@ returns-clause-cause g c =
     let last = c.settled.new.writer in
     let old = c.args.reader.now in
     let new = c.run-ran.new.reader in
-    let back : c.settled.new.writer ≡ c.writer-in-Err-1.given.0 = search rules in
+    let back : c.settled.new.writer ≡ c.writer-in-Err-1.given.0 = sym (c.writer-in-Err-1.given.1 (sym c.run-ran.ensures.same)) in
     subst (λ (w : g.row.W.Denot). HasCause g.R.Source g.W.Sink c.settled.result old new w) back
     (settled_cause g.R.Source g.W.Sink c.settled.result c.in-Err.fault old new mid last (c.in-Err.ensures).cause c.settled.ensures.cause)

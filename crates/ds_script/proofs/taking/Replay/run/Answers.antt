@@ -43,7 +43,8 @@ returns-in_err-more-clause-err g c =
 pub returns-in_err-more-clause-cause : goal.returns-in_err-more-clause-cause
 returns-in_err-more-clause-cause g c =
     let exit = err_from_is_err_and c.from_residual.result c.from_residual.ensures.1 in
-    rw (exit.1, exit.2) (run_cause g.R.Source g.W.Sink c.in_err-more.field-0.0 c.args.reader.now c.take_turn.new.reader c.take_turn.new.self.writer.now (c.in_err-more.ensures).turns.0)
+    let i = c.loop-self.invariant in
+    rw (exit.1, exit.2) (run_cause g.R.Source g.W.Sink c.in_err-more.field-0.0 c.loop-self.lines.reads c.args.reader.now c.loop-self.reader c.take_turn.new.reader c.take_turn.new.self.writer.now i.led (c.in_err-more.ensures).turns.0)
 
 pub returns-then-not-more-clause-ok : goal.returns-then-not-more-clause-ok
 returns-then-not-more-clause-ok g c =
@@ -88,4 +89,4 @@ returns-clause-err g c =
     come_over from to a b c.args.self.now.bad_lines (reached c.loop-self.self) c.loop-self.lines.rest i.come i.unbroken
 
 pub returns-clause-cause : goal.returns-clause-cause
-returns-clause-cause g c = inr (c.loop-self.lines.reads, c.may_read.ensures.all c.loop-self-test.false, c.loop-self.invariant.led)
+returns-clause-cause g c = (c.loop-self.lines.reads, inr (c.may_read.ensures.all c.loop-self-test.false, c.loop-self.invariant.led))

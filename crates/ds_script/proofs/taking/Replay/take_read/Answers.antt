@@ -16,7 +16,7 @@ returns-in_err-take_whole-in-More-clause-turns g c =
     let e = (c.in_err-take_whole-in-More.ensures).takes in
     let fault = c.in_err-take_whole-in-More.field-0.0 in
     rw (exit.1, exit.2) (
-      turn_cause g.R.Source g.W.Sink fault c.read.new.reader c.take_whole.new.self.writer.now e.0,
+      turn_cause g.R.Source g.W.Sink fault c.args.reader.now c.read.new.reader c.take_whole.new.self.writer.now e.0,
       turn_stops fault from to had has (reached c.args.self.now) c.args.lines.now.rest f.0 c.read.new.self.rest c.take_whole.new.self.output.items f.1 f.2 (e.1 to),
     )
 
@@ -49,7 +49,7 @@ returns-in_err-take_last-in-End-clause-turns g c =
     let e = (c.in_err-take_last-in-End.ensures).takes in
     let fault = c.in_err-take_last-in-End.field-0.0 in
     rw (exit.1, exit.2) (
-      turn_cause g.R.Source g.W.Sink fault c.read.new.reader c.take_last.new.self.writer.now e.0,
+      turn_cause g.R.Source g.W.Sink fault c.args.reader.now c.read.new.reader c.take_last.new.self.writer.now e.0,
       turn_stops_last fault from to had has (reached c.args.self.now) c.args.lines.now.rest c.read.new.self.rest c.take_last.new.self.output.items f.0 f.1 f.2 (e.1 to f.1),
     )
 
@@ -69,7 +69,7 @@ returns-in-Failed-clause-turns g c =
     let from = g.R.Source.remaining c.args.reader.now in
     let to = g.R.Source.remaining c.read.new.reader in
     let had = written g.W.Sink c.args.self.now in
-    ((c.args.reader.now, (c.in-Failed.ensures).told), turn_unread from to had (reached c.args.self.now) c.args.lines.now.rest f.0 c.requires.unbroken)
+    ((c.in-Failed.ensures).told, turn_unread from to had (reached c.args.self.now) c.args.lines.now.rest f.0 c.requires.unbroken)
 
 pub returns-in-NoRoom-clause-turns : goal.returns-in-NoRoom-clause-turns
 returns-in-NoRoom-clause-turns g c =

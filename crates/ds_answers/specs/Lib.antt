@@ -1,0 +1,5 @@
+pub mod Servers
+pub mod Services
+pub mod Tables
+pub mod Kept
+pub mod Waiting

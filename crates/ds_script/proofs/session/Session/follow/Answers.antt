@@ -1,0 +1,16 @@
+use Rattle.std.proofs.Common.{subst}
+use Rattle.store_words.proofs.ResultLemmas.{on_ok}
+use Rattle.ds_answers.specs.Tables.{AnswersFollow}
+use Rattle.ds_script.specs.Session.{SessionContent}
+use Rattle.ds_script.specs.Answer.{AppendsByServers, items_of_map}
+use Rattle.ds_script.proofs.ServerLemmas.{session_of, led}
+use Rattle.ds_script.proofs.session.Session.follow.Goals as goal
+
+pub returns-clause-answered : goal.returns-clause-answered
+returns-clause-answered c =
+    let s = c.self.inside in
+    let before = c.args.output.now.items in
+    let after = c.follow.new.output.items in
+    on_ok c.follow.result
+    (λ a. subst (λ (old : SessionContent). AppendsByServers (AnswersFollow (items_of_map old c.args.map)) before after old (session_of s.world s.side c.follow.new.servers)) c.self.view_is (led s.world s.side s.servers c.follow.new.servers before after (AnswersFollow (items_of_map (session_of s.world s.side s.servers) c.args.map)) a))
+    c.follow.ensures.answered

@@ -1,0 +1,148 @@
+//! What a script asks of RS and of the driver tables.
+
+ghost use Rattle.std.specs.Prelude.{◌≡◌, slice_get, OnOk, OnErr};
+ghost use Rattle.ds_answers.specs.Services.{AnswersSettings};
+ghost use Rattle.ds_answers.specs.Tables.{map_items, AnswersAssign, AnswersFollow, AnswersReply, AnswersSubmit};
+ghost use Rattle.ds_answers.specs.Waiting.{AppendsLed};
+ghost use Rattle.ds_script.specs.Answer.{AppendsByServers, AppendsByServices, AppendsSettings, items_of_map};
+
+use crate::session::Session;
+use ds_answers::{Servers, answer_event};
+use ds_names::{Endpoint, Name, NoRoom};
+use ds_words::{Device, Server, SettingsText};
+use ds_world::World;
+use rs_core::Event;
+use std::alloc::Global;
+
+impl Session {
+    /// Begins RS with settings, if there are none yet, and puts the answer behind those that wait.
+    pub(crate) fn accept(
+        &mut self,
+        alloc: Global,
+        text: SettingsText,
+        output: &mut Vec<u8>,
+    ) -> Result<(), NoRoom>
+        ensures answered { OnOk result (AppendsSettings text output.old.items output.new.items self.old self.new) }
+        ensures unanswered { OnErr result (output.new.items ≡ output.old.items) }
+    {
+        self.servers.accept(alloc, text.bytes(), output)
+    }
+
+    /// Tells RS an event at a tick, gives what it does to the store that is asked, and puts the answer behind those that wait.
+    pub(crate) fn serve(
+        &mut self,
+        alloc: Global,
+        event: Event,
+        tick: u64,
+        output: &mut Vec<u8>,
+    ) -> Result<(), NoRoom>
+        ensures answered { OnOk result (AppendsByServices event tick output.old.items output.new.items self.old self.new) }
+        ensures unanswered { OnErr result (output.new.items ≡ output.old.items) }
+    {
+        answer_event(
+            alloc,
+            &mut self.servers,
+            &mut self.world,
+            self.side,
+            event,
+            tick,
+            output,
+        )
+    }
+
+    /// Assigns a device, and puts the answer behind those that wait.
+    pub(crate) fn assign(
+        &mut self,
+        device: Device,
+        label: Name,
+        output: &mut Vec<u8>,
+    ) -> Result<(), NoRoom>
+        ensures answered { OnOk result (AppendsByServers (AnswersAssign device label) output.old.items output.new.items self.old self.new) }
+        ensures unanswered { OnErr result (output.new.items ≡ output.old.items) }
+    {
+        self.servers.assign(device, &label, output)
+    }
+
+    /// Has both tables follow a map, and puts the answer behind those that wait.
+    pub(crate) fn follow(
+        &mut self,
+        alloc: Global,
+        map: u64,
+        output: &mut Vec<u8>,
+    ) -> Result<(), NoRoom>
+        ensures answered { OnOk result (AppendsByServers (AnswersFollow (items_of_map self.old map)) output.old.items output.new.items self.old self.new) }
+        ensures unanswered { OnErr result (output.new.items ≡ output.old.items) }
+    {
+        follow(alloc, &mut self.servers, &self.world, map, output)
+    }
+
+    /// Has a table follow a map and take a request, and puts the answer behind those that wait.
+    pub(crate) fn submit(
+        &mut self,
+        alloc: Global,
+        server: Server,
+        id: u64,
+        unit: u8,
+        map: u64,
+        output: &mut Vec<u8>,
+    ) -> Result<(), NoRoom>
+        ensures answered { OnOk result (AppendsByServers (AnswersSubmit server id unit (items_of_map self.old map)) output.old.items output.new.items self.old self.new) }
+        ensures unanswered { OnErr result (output.new.items ≡ output.old.items) }
+    {
+        submit(
+            alloc,
+            &mut self.servers,
+            &self.world,
+            server,
+            id,
+            unit,
+            map,
+            output,
+        )
+    }
+
+    /// Gives a table a driver's reply, and puts the answer behind those that wait.
+    pub(crate) fn reply(
+        &mut self,
+        server: Server,
+        endpoint: Endpoint,
+        id: u64,
+        output: &mut Vec<u8>,
+    ) -> Result<(), NoRoom>
+        ensures answered { OnOk result (AppendsByServers (AnswersReply server endpoint id) output.old.items output.new.items self.old self.new) }
+        ensures unanswered { OnErr result (output.new.items ≡ output.old.items) }
+    {
+        self.servers.reply(server, endpoint, id, output)
+    }
+}
+
+// Has both tables follow the world's map of a number.
+fn follow(
+    alloc: Global,
+    servers: &mut Servers,
+    world: &World,
+    map: u64,
+    output: &mut Vec<u8>,
+) -> Result<(), NoRoom>
+    ensures answered { OnOk result (AppendsLed (AnswersFollow (map_items (slice_get world.now.maps map))) output.old.items output.new.items servers.old servers.new) }
+    ensures unanswered { OnErr result (output.new.items ≡ output.old.items) }
+{
+    servers.follow(alloc, world.map(map as usize), output)
+}
+
+// Has a table follow it, and take a request.
+fn submit(
+    alloc: Global,
+    servers: &mut Servers,
+    world: &World,
+    server: Server,
+    id: u64,
+    unit: u8,
+    map: u64,
+    output: &mut Vec<u8>,
+) -> Result<(), NoRoom>
+    ensures answered { OnOk result (AppendsLed (AnswersSubmit server id unit (map_items (slice_get world.now.maps map))) output.old.items output.new.items servers.old servers.new) }
+    ensures unanswered { OnErr result (output.new.items ≡ output.old.items) }
+{
+    servers.submit(alloc, server, id, unit, world.map(map as usize), output)
+}
