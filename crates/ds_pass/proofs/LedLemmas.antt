@@ -15,16 +15,11 @@ use Rattle.ds_machine.specs.declared.command.Command.{Command}
 use Rattle.ds_machine.specs.declared.reply.Reply.{Reply}
 use Rattle.ds_machine.proofs.FitLemmas.{replies_fit}
 use Rattle.ds_machine.proofs.KnownLemmas.{runs_stay_reached}
-use Rattle.ds_content.specs.Content.{ContentRecord}
 use Rattle.ds_store.specs.Turns.{Answered, Turn, commands_of, replies_of}
 use Rattle.ds_store.proofs.TurnLemmas.{histories_run, turns_answer, turns_run}
 use Rattle.ds_store.proofs.SettledLemmas.{histories_settle}
 use Rattle.ds_reader.specs.Asked.{Asked, Went}
-use Rattle.ds_pass.specs.Led.{Boxed, LedTo, pass_origin}
-
--- the content of a store on the heap
-abbrev is_content : {Z : Type 0} → Boxed Z → ContentRecord → Type 0
-is_content m content = m.value ≡ content
+use Rattle.ds_pass.specs.Led.{Boxed, LedTo, is_content, pass_origin}
 
 -- a history from where a pass has come goes on from there
 goes_on : (begun s : State) (seen more : List (Entry Command Reply)) (t : State) → IsReached begun → Run Answered begun seen s →

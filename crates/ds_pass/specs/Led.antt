@@ -17,6 +17,10 @@ use Rattle.ds_store.specs.Turns.{Answered}
 abbrev pub Boxed : Type 0 → Type 0
 Boxed Z = Box ContentRecord Z
 
+-- what it stands for, as a desk's machine: its content
+abbrev pub is_content : {Z : Type 0} → Boxed Z → ContentRecord → Type 0
+is_content m content = m.value ≡ content
+
 -- the history that the pass has seen leads to this state from one that the desk's store stood for when the desk was opened
 pub record LedTo {Z : Type 0} {G : Ghosts (View (Boxed Z) Command Reply)} (p : Pass (Boxed Z) Command Reply G) (s : State) : Type 0 where
   pub opened : Boxed Z

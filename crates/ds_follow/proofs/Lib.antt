@@ -1,0 +1,5 @@
+mod ShownLemmas
+mod MapLemmas
+pub mod FollowLemmas
+mod CountLemmas
+pub mod FitLemmas

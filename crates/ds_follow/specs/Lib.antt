@@ -1,0 +1,2 @@
+pub mod Follower
+pub mod Laws

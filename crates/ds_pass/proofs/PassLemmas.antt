@@ -1,0 +1,97 @@
+-- What a desk's calls say of a pass by plain values.
+use Rattle.std.proofs.Common.{◌≡◌, ℕ, true, List, [], ◌∷◌, ◌++◌, Option, Some, None, refl, ap, sym, ◌∙◌, subst, inr, arith, append-nil, append_assoc, length-append}
+use Rattle.std.specs.Prelude.{is_some}
+use Rattle.std.specs.Option.{option_map}
+use Rattle.history.specs.declared.entry.Entry.{Entry}
+use Rattle.history.specs.History.{calls_by, entry, Run}
+use Rattle.desk_rule.specs.declared.view.View.{View}
+use Rattle.desk.specs.declared.fault.DeskFault.{DeskFault}
+use Rattle.desk.specs.declared.pass.Sight.{Ghosts}
+use Rattle.desk.specs.Pass.{calls, history, number, opening, Pass}
+use Rattle.desk.specs.Calls.{Calls, FindsNoPlace, Sees}
+use Rattle.ds_machine.specs.State.{State}
+use Rattle.ds_machine.specs.declared.command.Command.{Command}
+use Rattle.ds_machine.specs.declared.reply.Reply.{Reply}
+use Rattle.ds_content.specs.Content.{ContentRecord}
+use Rattle.ds_content.specs.Stands.{ContentStands}
+use Rattle.ds_store.specs.Turns.{Turn}
+use Rattle.ds_store.proofs.TurnLemmas.{turns_run}
+use Rattle.ds_pass.specs.Called.{FoundWorn, Made, MadeCall}
+use Rattle.ds_pass.specs.Later.{SeesMoreByCalls, SeesMoreByLooks, SeesMoreByNotes}
+use Rattle.ds_pass.specs.Led.{Boxed, is_content}
+use Rattle.ds_pass.specs.Record.{HasJustItsCalls, HasLegalHistory, boxed_content, pass_record}
+use Rattle.ds_pass.proofs.LedLemmas.{same_origin}
+
+-- the first of some turns was one of a content that stood for some state
+first_stood : (es : List (Entry Command Reply)) (e : Entry Command Reply) (old new : ContentRecord) → Run Turn old (es ++ e ∷ []) new → (s : State) × ContentStands old s
+first_stood [] e old new run = run.1.stood
+first_stood (x ∷ es) e old new run = run.1.stood
+
+module _ {Z : Type 0} {G : Ghosts (View (Boxed Z) Command Reply)} (p q : Pass (Boxed Z) Command Reply G) where
+  same_opened : opening q ≡ opening p → option_map boxed_content (opening q) ≡ option_map boxed_content (opening p)
+  same_opened e = ap (λ (o : Option (Boxed Z)). option_map boxed_content o) e
+
+  -- ---- it looked, and called nothing
+  pub sees_made : Sees is_content Turn p q → Made (pass_record p) (pass_record q) []
+  sees_made s = record {
+    same = same_origin p q s.same;
+    same_opening = same_opened s.same.same_opening;
+    between = s.begins.0;
+    seen = sym s.begins.1;
+    longer = omega arith;
+    calls_are = s.same_calls ∙ sym (append-nil (calls p));
+    just = inr (subst (λ (n : ℕ). calls_by n (history q) ≡ calls q) (sym s.same.same_number) s.own);
+  }
+
+  pub found_worn : (fault : DeskFault) → FindsNoPlace is_content Turn fault p q → FoundWorn (pass_record p) (pass_record q) fault
+  found_worn fault f = record { fault_is = f.0; made = sees_made f.1; full = f.3 }
+
+  -- ---- it called
+  module _ (command : Command) (reply : Reply) (place : ℕ) (c : Calls is_content Turn p q command reply place) where
+    just_own : HasJustItsCalls (pass_record q)
+    just_own = subst (λ (n : ℕ). calls_by n (history q) ≡ calls q) (sym c.same.same_number) c.own
+
+    legal_from : (o : Option (Boxed Z)) → opening p ≡ o → is_some o ≡ true → HasLegalHistory (pass_record q)
+    legal_from None e some = absurd (cc)
+    legal_from (Some m) e some =
+        let run = c.legal m e m.value refl in
+        let turns = subst (λ (es : List (Entry Command Reply)). Run Turn m.value es run.0) c.ends run.1 in
+        let stood = first_stood (history p ++ c.between) (entry (number p) command reply) m.value run.0 turns in
+        record {
+          content = m.value;
+          opened_with = same_opened c.same.same_opening ∙ ap (λ (x : Option (Boxed Z)). option_map boxed_content x) e;
+          begun = stood.0;
+          stood = stood.1;
+          legal = λ s at. (let all = turns_run (history q) m.value run.0 run.1 s at in (all.0, all.1));
+          own = just_own;
+        }
+
+    pub call_made : is_some (opening p) ≡ true → MadeCall (pass_record p) (pass_record q) command reply place
+    call_made some = record {
+      made = record {
+        same = same_origin p q c.same;
+        same_opening = same_opened c.same.same_opening;
+        between = c.between ++ entry (number p) command reply ∷ [];
+        seen = c.ends ∙ append_assoc (history p) c.between (entry (number p) command reply ∷ []);
+        longer = omega (arith, length-append c.between (entry (number p) command reply ∷ []));
+        calls_are = c.one_more;
+        just = inr just_own;
+      };
+      between = c.between;
+      ends = c.ends;
+      at = c.at;
+      legal = legal_from (opening p) refl some;
+    }
+
+module _ {Z : Type 0} {G : Ghosts (View (Boxed Z) Command Reply)} (p : Pass (Boxed Z) Command Reply G) where
+  pub sees_by_calls : SeesMoreByCalls p
+  sees_by_calls q command reply place c = record {
+    same_opening = same_opened p q c.same.same_opening;
+    begins = (c.between ++ entry (number p) command reply ∷ [], sym (append_assoc (history p) c.between (entry (number p) command reply ∷ [])) ∙ sym c.ends);
+  }
+
+  pub sees_by_looks : SeesMoreByLooks p
+  sees_by_looks q s = record { same_opening = same_opened p q s.same.same_opening; begins = s.begins }
+
+  pub sees_by_notes : SeesMoreByNotes p
+  sees_by_notes q k = record { same_opening = same_opened p q k.same.same_opening; begins = ([], append-nil (history p) ∙ sym k.same_history) }

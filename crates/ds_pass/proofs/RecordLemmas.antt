@@ -1,0 +1,66 @@
+-- What calls add to what a pass has seen, by plain values.
+use Rattle.std.proofs.Common.{◌≡◌, ◌⊎◌, ℕ, ◌+◌, ◌≤◌, List, [], ◌∷◌, ◌++◌, length, refl, ap, sym, ◌∙◌, subst, inl, inr, arith, append-nil, append_assoc, length-append}
+use Rattle.history.specs.declared.entry.Entry.{Entry}
+use Rattle.history.specs.History.{entry, Run}
+use Rattle.history.proofs.RunLemmas.{run_end}
+use Rattle.desk_rule.proofs.ListLemmas.{prefix_trans}
+use Rattle.ds_machine.specs.State.{State}
+use Rattle.ds_machine.specs.declared.command.Command.{Command}
+use Rattle.ds_machine.specs.declared.reply.Reply.{Reply}
+use Rattle.ds_store.specs.Turns.{Answered}
+use Rattle.ds_pass.specs.Called.{Made, MadeCall}
+use Rattle.ds_pass.specs.Later.{MadeSeesMore, SeenMoreAgain}
+use Rattle.ds_pass.specs.Led.{PassOrigin}
+use Rattle.ds_pass.specs.Record.{HasJustItsCalls, PassRecord, place_behind}
+
+-- ---- calls one after the other
+pub made_none : (p : PassRecord) → Made p p []
+made_none p = record {
+  same = refl;
+  same_opening = refl;
+  between = [];
+  seen = sym (append-nil p.history);
+  longer = omega arith;
+  calls_are = sym (append-nil p.calls);
+  just = inl refl;
+}
+
+just_later : (p q r : PassRecord) → (q ≡ p) ⊎ HasJustItsCalls q → (r ≡ q) ⊎ HasJustItsCalls r → (r ≡ p) ⊎ HasJustItsCalls r
+just_later p q r a (inr just) = inr just
+just_later p q r (inl e) (inl f) = inl (f ∙ e)
+just_later p q r (inr just) (inl f) = inr (subst (λ (x : PassRecord). HasJustItsCalls x) (sym f) just)
+
+pub made_more : (p q r : PassRecord) (own more : List (Entry Command Reply)) → Made p q own → Made q r more → Made p r (own ++ more)
+made_more p q r own more a b = record {
+  same = b.same ∙ a.same;
+  same_opening = b.same_opening ∙ a.same_opening;
+  between = a.between ++ b.between;
+  seen = b.seen ∙ ap (λ (l : List (Entry Command Reply)). l ++ b.between) a.seen ∙ append_assoc p.history a.between b.between;
+  longer = omega (arith, length-append own more, length-append a.between b.between, a.longer, b.longer);
+  calls_are = b.calls_are ∙ ap (λ (l : List (Entry Command Reply)). l ++ more) a.calls_are ∙ append_assoc p.calls own more;
+  just = just_later p q r a.just b.just;
+}
+
+-- each of them has a place behind what was seen
+pub made_above : (p q : PassRecord) (own : List (Entry Command Reply)) → Made p q own → place_behind p + length own ≤ place_behind q
+made_above p q own a =
+    omega (arith, ap (λ (o : PassOrigin). o.first) a.same, ap (λ (l : List (Entry Command Reply)). length l) a.seen, length-append p.history a.between, a.longer)
+
+-- ---- a pass that has seen more
+pub made_sees_more : MadeSeesMore
+made_sees_more p q own a = record { same_opening = a.same_opening; begins = (a.between, sym a.seen) }
+
+pub seen_more_again : SeenMoreAgain
+seen_more_again p q r a b = record { same_opening = b.same_opening ∙ a.same_opening; begins = prefix_trans p.history q.history r.history a.begins b.begins }
+
+-- ---- one call
+module _ (p q : PassRecord) (command : Command) (reply : Reply) (place : ℕ) (c : MadeCall p q command reply place) where
+  -- nothing has been seen behind it
+  pub call_behind : place + 1 ≡ place_behind q
+  call_behind =
+      omega (arith, c.at, ap (λ (o : PassOrigin). o.first) c.made.same, ap (λ (l : List (Entry Command Reply)). length l) c.ends, length-append (p.history ++ c.between) (entry p.origin.number command reply ∷ []))
+
+  -- each run of what the pass has seen ends with it
+  pub call_last : (s t : State) → Run Answered s q.history t → (m : State) × Run Answered s (p.history ++ c.between) m × Answered m command reply t
+  call_last s t run =
+      run_end Answered s t (p.history ++ c.between) (entry p.origin.number command reply) (subst (λ (l : List (Entry Command Reply)). Run Answered s l t) c.ends run)

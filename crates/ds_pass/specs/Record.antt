@@ -1,0 +1,52 @@
+-- A pass by plain values: which one it is, what it has seen, and what it called.
+use Rattle.std.specs.Prelude.{◌≡◌, ℕ, ◌+◌, List, length, Option, Some}
+use Rattle.std.specs.Option.{option_map}
+use Rattle.history.specs.declared.entry.Entry.{Entry}
+use Rattle.history.specs.History.{calls_by, IsLegalFrom, Run}
+use Rattle.desk_rule.specs.declared.view.View.{View}
+use Rattle.desk.specs.declared.pass.Sight.{Ghosts}
+use Rattle.desk.specs.Pass.{calls, history, opening, Pass}
+use Rattle.ds_machine.specs.State.{State}
+use Rattle.ds_machine.specs.declared.command.Command.{Command}
+use Rattle.ds_machine.specs.declared.reply.Reply.{Reply}
+use Rattle.ds_content.specs.Content.{ContentRecord}
+use Rattle.ds_content.specs.Stands.{ContentStands}
+use Rattle.ds_store.specs.Turns.{Answered}
+use Rattle.ds_pass.specs.Led.{Boxed, PassOrigin, pass_origin}
+
+pub record PassRecord : Type 0 where
+  pub origin : PassOrigin
+  -- what the desk's store kept when the desk was opened
+  pub opened : Option ContentRecord
+  -- the history that the pass has seen, and the calls that it made
+  pub history : List (Entry Command Reply)
+  pub calls : List (Entry Command Reply)
+
+-- what a store on the heap keeps
+abbrev pub boxed_content : {Z : Type 0} → Boxed Z → ContentRecord
+boxed_content m = m.value
+
+abbrev pub pass_record : {Z : Type 0} {G : Ghosts (View (Boxed Z) Command Reply)} → Pass (Boxed Z) Command Reply G → PassRecord
+pass_record p = record { origin = pass_origin p; opened = option_map boxed_content (opening p); history = history p; calls = calls p }
+
+-- the first place behind what it has seen
+abbrev pub place_behind : PassRecord → ℕ
+place_behind p = p.origin.first + length p.history
+
+-- this is so in each state to which these calls lead from one that the desk's store stood for when the desk was opened
+abbrev pub AfterEach : PassRecord → List (Entry Command Reply) → (State → Type 0) → Type 0
+AfterEach p es holds =
+    (content : ContentRecord) → p.opened ≡ Some content → (s t : State) → ContentStands content s → Run Answered s es t → holds t
+
+-- the entries of the pass in what it has seen are just its calls
+abbrev pub HasJustItsCalls : PassRecord → Type 0
+HasJustItsCalls p = calls_by p.origin.number p.history ≡ p.calls
+
+-- what it has seen is a legal history, from each state that the desk's store stood for, and there was one
+pub record HasLegalHistory (p : PassRecord) : Type 0 where
+  pub content : ContentRecord
+  pub opened_with : p.opened ≡ Some content
+  pub begun : State
+  pub stood : ContentStands content begun
+  pub legal : IsLegalFrom ContentStands Answered content p.history
+  pub own : HasJustItsCalls p

@@ -1,0 +1,5 @@
+mod StandLemmas
+mod CheckLemmas
+mod OnlyLemmas
+mod GoneLemmas
+pub mod LawLemmas

@@ -1,0 +1,39 @@
+use Rattle.std.proofs.Common.{◌≡◌, ◌<◌, length, arith}
+use Rattle.ds_pass.specs.Record.{pass_record}
+use Rattle.ds_refresh.specs.Follower.{follower_of}
+use Rattle.ds_refresh.proofs.CheckLemmas.{map_ends, map_never_stops, map_stands}
+use Rattle.ds_refresh.proofs.calling.check.Goals as goal
+
+pub returns-then-len-lt256-clause-called : goal.returns-then-len-lt256-clause-called
+returns-then-len-lt256-clause-called g c =
+    let f = c.follower.inside in
+    let at = c.in-Checked in
+    let few : length at.items < 256 = omega (arith, c.len.ensures, c.if-len-lt256.true) in
+    let parts : c.args.follower.now ≡ follower_of f.sub f.stamp f.map = cc in
+    map_ends (pass_record c.args.pass.now) (pass_record c.ask_desk.new.pass) c.args.follower.now f.sub f.stamp f.map c.take.new.self c.args.stamp at.before at.after c.in_ok-reply.field-0.place at.items c.in_ok-reply.field-0.reply
+    parts c.requires.stamped c.requires.keeps c.in_ok-reply.ensures.called (cc) c.if-before-stamp.false c.in_default-take.ensures.query c.in_default-take.ensures.joined few
+
+pub returns-then-len-lt256-clause-keeps : goal.returns-then-len-lt256-clause-keeps
+returns-then-len-lt256-clause-keeps g c =
+    let f = c.follower.inside in
+    let at = c.in-Checked in
+    let parts : c.args.follower.now ≡ follower_of f.sub f.stamp f.map = cc in
+    map_stands (pass_record c.args.pass.now) (pass_record c.ask_desk.new.pass) c.args.follower.now f.sub f.stamp f.map c.take.new.self c.args.stamp at.before at.after c.in_ok-reply.field-0.place at.items c.in_ok-reply.field-0.reply
+    parts c.requires.stamped c.requires.keeps c.in_ok-reply.ensures.called (cc) c.if-before-stamp.false c.in_default-take.ensures.query c.in_default-take.ensures.joined
+
+pub returns-in-Checked-clause-keeps : goal.returns-in-Checked-clause-keeps
+returns-in-Checked-clause-keeps g c =
+    let f = c.follower.inside in
+    let at = c.in-Checked in
+    let parts : c.args.follower.now ≡ follower_of f.sub f.stamp f.map = cc in
+    map_stands (pass_record c.args.pass.now) (pass_record c.ask_desk.new.pass) c.args.follower.now f.sub f.stamp f.map c.take.new.self c.args.stamp at.before at.after c.in_ok-reply.field-0.place at.items c.in_ok-reply.field-0.reply
+    parts c.requires.stamped c.requires.keeps c.in_ok-reply.ensures.called (cc) c.if-before-stamp.false c.in_default-take.ensures.query c.in_default-take.ensures.joined
+
+pub unreachable-requires : goal.unreachable-requires
+unreachable-requires g c =
+    let f = c.follower.inside in
+    let at = c.in-Checked in
+    let parts : c.args.follower.now ≡ follower_of f.sub f.stamp f.map = cc in
+    c.in_default-fault.not-NoRoom
+    (map_never_stops (pass_record c.args.pass.now) (pass_record c.ask_desk.new.pass) c.args.follower.now f.sub f.stamp f.map c.take.new.self c.args.stamp at.before at.after c.in_ok-reply.field-0.place at.items c.in_ok-reply.field-0.reply
+    parts c.requires.stamped c.requires.keeps c.in_ok-reply.ensures.called (cc) c.if-before-stamp.false c.in-Err.stop c.held-is_map.ensures.map c.in-Err.ensures.joined c.in-Err.ensures.stopped)

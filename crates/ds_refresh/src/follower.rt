@@ -1,0 +1,74 @@
+//! A subscriber's map, and the subscription that it is kept by.
+
+ghost use Rattle.std.specs.Prelude.{◌≡◌, None, IfOk, IfErr};
+ghost use Rattle.ds_pattern.specs.Patterns.{IsPatternFault};
+ghost use Rattle.ds_refresh.specs.Follower.{follower_of, new_follower};
+
+use ds_pattern::{PatternFault, Query};
+use ds_submap::SubMap;
+use std::alloc::Global;
+use std::marker::Model;
+
+/// A map that follows a store by a subscription: new, standing, or lost.
+#[derive(Debug, Drop)]
+pub struct Follower {
+    pub(crate) sub: u32,
+    // The query of the map, to subscribe to.
+    pub(crate) query: Query,
+    pub(crate) map: SubMap,
+    // The last stamp of its subscription that it was told, while it stands.
+    pub(crate) stamp: Option<u64>,
+}
+
+impl Model for Follower {
+    ghost use Rattle.std.specs.Prelude.{◌≡◌, ℕ, Option};
+    ghost use Rattle.std.specs.Coded.{code_by, coded_option, coded_ℕ, coded×};
+    ghost use Rattle.ds_submap.specs.Map.{SubMapRecord};
+    ghost use Rattle.ds_submap.specs.contracts.map.SubMap.{the_row as map_row};
+    ghost use Rattle.ds_refresh.specs.Follower.{FollowerRecord, follower_of};
+
+    ghost Value = { FollowerRecord };
+
+    ghost coded = { code_by (ℕ × (Option ℕ × SubMapRecord)) (coded× coded_ℕ (coded× (coded_option coded_ℕ) map_row.coded)) (λ f. (f.sub, (f.stamp, f.map))) (λ p. follower_of p.0 p.1.0 p.1.1) (λ f i. f) };
+
+    ghost view = { λ f. follower_of f.sub f.stamp f.map };
+
+    ghost invariant = { λ f. f.map.query ≡ f.query };
+}
+
+impl Follower {
+    /// A follower to which nothing was told yet, of this subscription. It is refused as the query's pattern is.
+    pub fn new(alloc: Global, sub: u32, query: Query) -> Result<Follower, PatternFault>
+        ensures new { IfOk result (λ follower. follower ≡ new_follower sub query) }
+        ensures refused { IfErr result (λ fault. IsPatternFault fault query.text) }
+    {
+        let map = SubMap::new(alloc, &query)?;
+        Ok(Follower {
+            sub,
+            query,
+            map,
+            stamp: None,
+        })
+    }
+
+    /// The number of its subscription.
+    pub fn sub(&self) -> u32
+        ensures { result ≡ self.now.sub }
+    {
+        self.sub
+    }
+
+    /// Its map.
+    pub fn map(&self) -> &SubMap
+        ensures { result.now ≡ self.now.map }
+    {
+        &self.map
+    }
+
+    /// Makes it lost: the next refresh begins with an empty map and a new subscription.
+    pub fn lose(&mut self)
+        ensures { self.new ≡ follower_of self.old.sub None self.old.map }
+    {
+        self.stamp = None;
+    }
+}
