@@ -3,10 +3,17 @@ import behaviour
 from world_scripts import LINES, QUERIES, Script
 
 DRIVERS = [b"eth0", b"tty", b"disk"]
+SLOTS = range(900, 904)  # where RS puts none of its own services
 
 
 class Orderly(Script):
-    """RS and drivers who count on, each with names of its own, so that equal versions are equal changes."""
+    """RS and drivers who count on, each with names of its own, so that equal versions are equal changes.
+
+    Some drivers are started by lines, and others, of other names, by RS's own actions.
+    """
+
+    LABELS = [b"rtl8139", b"at_wini", b"console", b"mfs"]
+    RIVALS = 0
 
     def __init__(self, seed):
         super().__init__(seed)
@@ -14,8 +21,10 @@ class Orderly(Script):
         self.drivers = {}  # the generation and slot of each that was started, and the number that it has come to
         for query in QUERIES:
             self.ask(b"map " + query)
+        self.services.begin()
         while len(self.lines) < LINES:
             self.step()
+        self.services.hold()
         self.agreement()
         self.catch_up()
         stops = [it[0] for it in self.answers if it[0].startswith(b"stopped")]
@@ -24,7 +33,10 @@ class Orderly(Script):
     def step(self):
         """One line of anybody's."""
         chance = self.chance
-        if chance.random() < 0.45:
+        drawn = chance.random()
+        if drawn < 0.4:
+            line = self.services.line()
+        elif drawn < 0.65:
             line = self.of_world()
         else:
             line = chance.choice([self.start, self.end, self.late, *[self.put] * 8, self.subscriber])()
@@ -32,7 +44,7 @@ class Orderly(Script):
 
     def start(self):
         """RS starts a driver: it publishes its label here, or over there as well."""
-        name, slot = self.chance.choice(DRIVERS), self.chance.randrange(16, 20)
+        name, slot = self.chance.choice(DRIVERS), self.chance.choice(SLOTS)
         self.generation += 1
         self.drivers[name] = (self.generation, slot, 0)
         return b"publish 0/2 over %s label %d.0 = %d/%d" % (name, self.generation, self.generation, slot)

@@ -39,6 +39,20 @@ PARTS = [
     (b"deliver x a *", 8, b"K was expected"),
     (b"deliver 0 m01 *", 10, b"HOLDER was expected"),
     (b"deliver 0 a 4294967296", 12, b"COUNT was expected"),
+    (b"settings", 8, b"a space was expected"),
+    (b"service stop disk 0", 8, b"`up`, `down`, `refresh` or `restart` was expected"),
+    (b"service up ? 0", 11, b"LABEL was expected"),
+    (b"assign net 0 ", 13, b"LABEL was expected"),
+    (b"tick 05", 5, b"TICK was expected"),
+    (b"death disk 1 5", 6, b"ENDPOINT was expected"),
+    (b"death 1/16 exit 5", 11, b"CAUSE was expected"),
+    (b"assign disk 3", 7, b"`file` or `net` was expected"),
+    (b"assign file 256 block disk", 12, b"MAJOR was expected, 0 to 255"),
+    (b"assign file 3 disk", 14, b"`block` or `character` was expected"),
+    (b"assign net 256 eth0", 11, b"PORT was expected, 0 to 255"),
+    (b"reply file 1/16 -", 16, b"ID was expected"),
+    (b"submit file 9 256 0", 14, b"UNIT was expected, 0 to 255"),
+    (b"submit file 9 3 m0", 16, b"J was expected"),
 ]
 
 

@@ -3,8 +3,10 @@ import random
 
 import behaviour
 import model
+from service_scripts import Services
 
-LINES = 300
+LINES = 400
+OF_RS = (b"service", b"death", b"tick")  # the lines whose answers may start an instance
 SCOPES = [b"*", b"*", b"*", b'"m.*" 15', b'"eth0|id" 15', b'".*" 2', b'".*" 13', b'"eth0.*" 3', b'"" 15', b'"(" 15']
 QUERIES = [b'".*" 15', b'"eth0.*" 15', b'".*" 1', b'"[a-m].*" 14']
 
@@ -14,19 +16,23 @@ class Script:
 
     def __init__(self, seed):
         self.chance = random.Random(seed)
-        self.world = model.World()
+        self.session = model.Session()
+        self.world = self.session.world
         self.lines, self.answers = [], []
         self.faults = []  # what doesn't hold and should
         self.newest = {}  # by holder and label, the greatest generation that was shown since the holder began
         if self.chance.random() < 0.7:
             self.ask(b"ring %d" % self.chance.choice([1, 2, 3, 5, 8, 20, 256, 4096]))
+        self.services = Services(self, self.LABELS, self.RIVALS)
 
     def ask(self, line):
         """Writes a line, and gives its answer."""
         self.lines.append(line)
         command, taken = model.read(line, len(self.lines) == 1)
-        self.answers.append(self.world.answer(command, taken))
+        self.answers.append(self.session.answer(command, taken))
         self.watch(command, taken, self.answers[-1])
+        if command in OF_RS:
+            self.services.learn(self.answers[-1])
         return self.answers[-1]
 
     def watch(self, command, taken, answer):
@@ -105,16 +111,24 @@ class Script:
 
 
 class Disorderly(Script):
-    """Callers who use numbers twice and take each other's names, at both sides, and now and then a crowd of entries."""
+    """Callers who use numbers twice and take each other's names, at both sides, and now and then a crowd of entries.
+
+    They speak of RS's services, too.
+    """
+
+    LABELS = [b"eth0", b"tty", b"disk", b"mfs"]
+    RIVALS = 1
 
     def __init__(self, seed):
         super().__init__(seed)
         crowded = self.chance.random() < 0.1
+        self.services.begin()
         while len(self.lines) < LINES:
             if crowded and self.chance.random() < 0.02:
                 self.crowd()
-            is_worlds = self.chance.random() < 0.45
-            self.ask(self.of_world() if is_worlds else behaviour.command_by_chance(self.chance))
+            drawn = self.chance.random()
+            self.ask(self.services.line() if drawn < 0.45 else self.of_world() if drawn < 0.7 else behaviour.command_by_chance(self.chance))
+        self.services.hold()
         for line in (b"side a", b"all", b"side b", b"all", *(b"entries %d" % it for it in range(len(self.world.maps)))):
             self.ask(line)
 

@@ -1,10 +1,10 @@
-"""Seeded scripts over a world: two stores, the maps of subscribers, and messages between them.
+"""Seeded scripts over a world, RS and the driver tables.
 
-A script is drawn line by line, and the model answers each line at once, so that cursors, messages and maps are mostly such as
-there are. No holder may ever show an older generation of a driver than it did. Scripts of odd seeds are orderly: each change
-has a number of its own and each entry one owner. What holds in every orderly world is looked for in their answers: no delivery
-is stopped, replicas that exchanged their snapshots hold the same, and so does a map that was fed by a snapshot and what came
-after it, in any order.
+A script is drawn line by line, and the model answers each line at once, so that cursors, messages, maps, instances and requests
+are mostly such as there are. No holder may ever show an older generation of a driver than it did, and no table may send anything
+to an older one. Scripts of odd seeds are orderly: each change has a number of its own and each entry one owner. What holds in
+every orderly world is looked for in their answers: no delivery is stopped, replicas that exchanged their snapshots hold the same,
+and so does a map that was fed by a snapshot and what came after it, in any order.
 """
 import random
 

@@ -52,15 +52,7 @@ def growths(refuser, room, name, script):
     given = pathlib.Path(room) / name.replace(" ", "_")
     given.write_bytes(script.text())
     case = harness.Case(name, [], given, script.wanted())
-    wrong, count = refuser.counted(case)
-    if wrong:
-        return wrong
-    for n in range(1, count + 1):
-        ran, _ = refuser.run(case, growth=n)
-        wrong = refused(script, ran, refuser)
-        if wrong:
-            return f"growth {n}: {wrong}"
-    return None
+    return refuser.each_growth(case, lambda ran: refused(script, ran, refuser))
 
 
 def refused(script, ran, refuser):

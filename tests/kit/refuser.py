@@ -54,6 +54,17 @@ class Refuser:
             wrong = "no growth of memory was counted at all"
         return wrong, counts["growth"]
 
+    def each_growth(self, case, fault):
+        """Refuses each growth of a case in turn, and has each run judged. Says what was wrong with the first bad one, or answers None."""
+        wrong, count = self.counted(case)
+        if wrong:
+            return wrong
+        for n in range(1, count + 1):
+            wrong = fault(self.run(case, growth=n)[0])
+            if wrong:
+                return f"growth {n}: {wrong}"
+        return None
+
     def file(self, word):
         """A file of this process."""
         return os.path.join(self.room, f"{word}-{os.getpid()}")

@@ -13,8 +13,9 @@ MOST_NUMBER = 4294967295  # of a sequence number and of a u32
 MOST_TEXT = 256  # bytes of a str
 MOST_BLOB = 1024  # bytes of a mem
 MOST_WORD = 4294967295  # of the number of a subscription, and of how many items are asked for or delivered
-MOST_LONG = 18446744073709551615  # of the number of a map, a message or an incarnation, and of a position
+MOST_LONG = 18446744073709551615  # of a map, a message, an incarnation, a position, a tick, a cause and a request
 MOST_RING = 4096  # changes that a journal has room for
+MOST_UNIT = 255  # of a major number and of a port
 KINDS = [b"label", b"u32", b"str", b"mem"]  # in the order of keys
 NAME = re.compile(rb"[A-Za-z0-9._-]*")
 WORD = re.compile(rb"[A-Za-z0-9]*")
@@ -26,6 +27,7 @@ PATTERN = re.compile(rb'"(?:[^"\\\n]|\\["\\])*"|')
 BEGINNING = re.compile(rb"-(?![A-Za-z0-9._-])(?! (?:label|u32|str|mem)(?![A-Za-z0-9]))")  # a dash that begins no name
 ALL = re.compile(rb"\*")
 BYTE = re.compile(rb".?", re.DOTALL)
+REST = re.compile(rb".*", re.DOTALL)
 
 
 # An item: a change, its value as it is spelled and None for a tombstone, or the floor of an owner.
@@ -280,6 +282,52 @@ def side(reader):
     return word(reader, b"a", b"b")
 
 
+def server(reader):
+    """One of the two driver tables."""
+    return word(reader, b"file", b"net")
+
+
+def settings(reader):
+    """What a `settings` takes: all that stands behind the space."""
+    return (reader.part(REST, lambda it: True),)
+
+
+def service(reader):
+    """What a `service` takes: what RS is asked to do, of which service, and when."""
+    asked = word(reader, b"up", b"down", b"refresh", b"restart")
+    return asked, reader.behind_space(name), reader.behind_space(number, MOST_LONG)
+
+
+def death(reader):
+    """What a `death` takes."""
+    return endpoint(reader), reader.behind_space(number, MOST_LONG), reader.behind_space(number, MOST_LONG)
+
+
+def beat(reader):
+    """What a `beat` takes."""
+    return endpoint(reader), reader.behind_space(number, MOST_LONG)
+
+
+def assignment(reader):
+    """What an `assign` takes: whose table, the unit, its class, which none but a file server's units have, and the label."""
+    table = server(reader)
+    unit = reader.behind_space(number, MOST_UNIT)
+    kind = reader.behind_space(word, b"block", b"character") if table == b"file" else b"network"
+    return table, unit, kind, reader.behind_space(name)
+
+
+def submission(reader):
+    """What a `submit` takes: whose table, the request, its unit, and the map that is followed first."""
+    table = server(reader)
+    request = reader.behind_space(number, MOST_LONG)
+    return table, request, reader.behind_space(number, MOST_UNIT), reader.behind_space(number, MOST_LONG)
+
+
+def reply(reader):
+    """What a `reply` takes."""
+    return server(reader), reader.behind_space(endpoint), reader.behind_space(number, MOST_LONG)
+
+
 # What each command takes behind its word and a space; `show` and `all` take nothing.
 COMMANDS = {
     b"offer": offer,
@@ -302,6 +350,15 @@ COMMANDS = {
     b"deliver": delivery,
     b"clear": lambda reader: (number(reader, MOST_LONG),),
     b"restart": restart,
+    b"settings": settings,
+    b"service": service,
+    b"death": death,
+    b"beat": beat,
+    b"tick": lambda reader: (number(reader, MOST_LONG),),
+    b"assign": assignment,
+    b"follow": lambda reader: (number(reader, MOST_LONG),),
+    b"submit": submission,
+    b"reply": reply,
 }
 
 

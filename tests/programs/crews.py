@@ -52,18 +52,21 @@ class Crews:
         first, second = self.lines_of(1, 1), self.lines_of(threads, calls)
         case = harness.Case(given.name, [], given, first[0] + second[0])
         wanted = {case.output} | {line + second[0] for line in first} | {first[0] + line for line in second}
-        wrong, count = refuser.counted(case)
-        if wrong:
-            return wrong
         ended = answered = 0
-        for n in range(1, count + 1):
-            ran, _ = refuser.run(case, growth=n)
+
+        def refused(ran):
+            nonlocal ended, answered
             ended += ran.status == 3
             answered += ran.status == 0 and ran.output != case.output
             if ran.status == 3 and (ran.error != b"noroom\n" or ran.output not in (b"", first[0])):
-                return f"growth {n}: it ended with {ran.output[:200]!r}, {ran.error[:200]!r}"
+                return f"it ended with {ran.output[:200]!r}, {ran.error[:200]!r}"
             if ran.status != 3 and (ran.status, ran.error, ran.output in wanted) != (0, b"", True):
-                return f"growth {n}: status {ran.status}, output {ran.output[:200]!r}, standard error {ran.error[:200]!r}"
+                return f"status {ran.status}, output {ran.output[:200]!r}, standard error {ran.error[:200]!r}"
+            return None
+
+        wrong = refuser.each_growth(case, refused)
+        if wrong:
+            return wrong
         if not ended:
             return "no refused growth ended it"
         return None if answered or len(first) == 1 else "no refused growth was answered by name in a call"

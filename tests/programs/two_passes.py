@@ -148,21 +148,21 @@ def growths(refuser, room, name):
     given = pathlib.Path(room) / name
     given.write_bytes(text([name]))
     case = harness.Case(name, [], given, text(Row(ROWS[name]).lines))
-    wrong, count = refuser.counted(case)
+    answered = went_on = 0
+
+    def refused(ran):
+        nonlocal answered, went_on
+        if ran.status == 3:
+            return None if ran.error == b"noroom\n" and case.output.startswith(ran.output) else f"it ended with {ran.output[-200:]!r}, {ran.error!r}"
+        if ran.output == case.output:
+            return refuser.unseen_fault()
+        answered += 1
+        went_on += goes_on(ran.output.decode().splitlines())
+        return judged(ran, name)
+
+    wrong = refuser.each_growth(case, refused)
     if wrong:
         return wrong
-    answered = went_on = 0
-    for n in range(1, count + 1):
-        ran, _ = refuser.run(case, growth=n)
-        if ran.status == 3:
-            wrong = None if ran.error == b"noroom\n" and case.output.startswith(ran.output) else f"it ended with {ran.output[-200:]!r}, {ran.error!r}"
-        elif ran.output == case.output:
-            wrong = refuser.unseen_fault()
-        else:
-            wrong, answered = judged(ran, name), answered + 1
-            went_on += goes_on(ran.output.decode().splitlines())
-        if wrong:
-            return f"growth {n}: {wrong}"
     if not answered and "close" in {step for step, *_ in ROWS[name]}:
         return "no refused growth was answered by name in a line"
     if not went_on and name in CALLED_ON:

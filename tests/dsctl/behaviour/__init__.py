@@ -24,6 +24,8 @@ ALL = [
     limits.as_many_messages_as_there_may_be,
     limits.holders_that_begin_again,
     limits.hostile_patterns,
+    limits.a_driver_that_dies_twenty_thousand_times,
+    limits.ten_thousand_requests,
     streams.a_reader_that_fails,
     streams.a_reader_that_is_closed,
     streams.a_writer_that_is_full,
@@ -45,7 +47,7 @@ ALL = [
     second_opinion.every_front_of_a_line,
     second_opinion.every_byte_changed,
     second_opinion.every_byte_dropped_or_doubled,
-    second_opinion.words_that_are_not_there_yet,
+    second_opinion.lines_of_traces,
     second_opinion.scripts_by_chance,
     second_opinion.callers_by_chance,
 ]

@@ -94,9 +94,9 @@ def costly_subscriptions(program):
 def the_costliest_patterns(program):
     """Subscriptions at all places to the costliest patterns that were found, and new keys, which the last of them alone matches."""
     looks = rb"\\B" * 25
-    patterns = [rb"(?:%s-*){90}=" % looks, rb"a(?:%sa*){90}=" % looks, b"(?:(?:a{10}|a)?){200}=", b"(?:a?){1200}="]
+    patterns = [rb"(?:-*%s){33}=" % looks, rb"a(?:%sa*){33}=" % looks, b"(?:(?:a{10}|a)?){74}=", b"(?:a?){460}="]
     subscribes = [b'subscribe %d "%s" 15 later new\n' % (at, patterns[at % len(patterns)]) for at in range(127)]
-    subscribes += [b'subscribe 127 "(?:a?){1200}" 15 later new\n']
+    subscribes += [b'subscribe 127 "(?:a?){460}" 15 later new\n']
     names = [b"-" * 64, b"a" * 63 + b"b", b"ab" * 32, b"a" * 64]
     offers = [b"offer %s u32 o 1.%d = 1\n" % (name, at) for at, name in enumerate(names)]
     told = [b"subscribed %d\n" % stamp for stamp in range(1, 129)] + [b"taken\n"] * 4 + [b"owed 8" + b"0" * 31 + b"\n"]
@@ -190,3 +190,29 @@ def hostile_patterns(program):
     taken = [line for line in told[: len(patterns)] if line != b"refused noroom"]
     assert taken == [b"subscribed %d" % stamp for stamp in range(1, len(taken) + 1)], told
     assert told[len(patterns)] == b"taken" and 20 < len(taken) < len(patterns), told
+
+
+def a_driver_that_dies_twenty_thousand_times(program):
+    """A driver that publishes, dies and is started again, twenty thousand times, in little memory."""
+    script = [b'settings service = [{label = "disk", class = "block", unit = 3}]\n']
+    told = [b"services 1 slots 64\n"]
+    for at in range(1, 20001):
+        script.append(b"service restart disk %d\n" % at if at > 1 else b"service up disk 1\n")
+        told.append(b"start disk %d/16\noffer disk label rs %d.0 = %d/16\ntaken\nactions 2\n" % (at, at, at))
+        script.append(b"publish %d/16 new disk.size u32 %d.0 = 9\ndeath %d/16 1 %d\n" % (at, at, at, at))
+        told.append(b"taken\noffer disk label rs %d.1 -\ntaken\nsweep disk %d\nswept 1\nactions 2\n" % (at, at))
+    expect(end(begin(program, limit=MEMORY), b"".join(script)), b"".join(told), 0)
+
+
+def ten_thousand_requests(program):
+    """Ten thousand requests that are held, sent at once, sent again, and answered from the last to the first."""
+    ids = range(1, 10001)
+    script = [b'assign file 3 block disk\nmap "disk" 1\n', *(b"submit file %d 3 0\n" % it for it in ids)]
+    told = [b"assigned\nmap 0\n", *(b"held %d\nmoves 1\n" % it for it in ids)]
+    for generation in (1, 2):
+        script.append(b"publish 0/2 over disk label %d.0 = %d/16\nsnapshot *\ndeliver %d m0 *\nfollow 0\n" % (generation, generation, generation - 1))
+        told.append(b"taken\ndisk label rs %d.0 = %d/16\nsnapshot 1 1 %d\nmerged 1 1 0\n" % (generation, generation, generation))
+        told += [*(b"send %d %d/16\n" % (it, generation) for it in ids), b"moves 10000\n"]
+    script += [b"reply file 2/16 %d\n" % it for it in reversed(ids)]
+    told += [b"answer %d done\n" % it for it in reversed(ids)]
+    expect(end(begin(program, limit=2 * MEMORY), b"".join(script)), b"".join(told), 0)

@@ -1,4 +1,4 @@
-"""Lines that behaviours give the program: good ones of each kind, and such as aren't known yet."""
+"""Lines that behaviours give the program: good ones of each kind, and such as no script has."""
 
 PUT = b"offer eth0 label rs 3.0 = 3/17"
 TOMBSTONE = b"offer eth0 label rs 3.1 -"
@@ -39,16 +39,27 @@ GOOD = [
     b"deliver 0 a 4",
     b"clear 9",
     b"restart b 9",
+    b"settings slots = 8",
+    b'settings service=[{label="disk",class="block",unit=3}]',
+    b"service up disk 0",
+    b"service refresh disk 18446744073709551615",
+    b"death 1/16 1 5",
+    b"beat 1/16 5",
+    b"tick 6",
+    b"assign file 255 block disk",
+    b"assign file 4 character tty",
+    b"assign net 0 eth0",
+    b"follow 0",
+    b"submit file 9 3 0",
+    b"submit net 0 255 9",
+    b"reply file 1/16 9",
+    b"reply net 0/2 0",
 ]
-# A line of each command that isn't there yet.
-NOT_YET = b"""\
-settings service = []
-service up disk 0
-death 1/16 1 5
-beat 1/16 5
-tick 6
-assign file 3 block disk
-follow 0
-submit file 9 3 0
-reply file 1/16 9
+# Lines of traces, of which scripts have none.
+OF_TRACES = b"""\
+trace 1 1 0 256
+> 0 offer eth0 label rs 3.0 = 3/17
+< taken
+merge 1
++ eth0 label rs 3.0 = 3/17
 """

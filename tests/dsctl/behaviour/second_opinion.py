@@ -6,7 +6,7 @@ import model
 
 from .by_chance import change_by_chance, command_by_chance, floor_by_chance, name_by_chance
 from .running import expect
-from .samples import GOOD, NOT_YET, PUT
+from .samples import GOOD, OF_TRACES, PUT
 
 
 def agrees(program, script):
@@ -35,9 +35,9 @@ def every_byte_dropped_or_doubled(program):
     harness.at_once(lambda it: agrees(program, it + b"\n"), spoilt)
 
 
-def words_that_are_not_there_yet(program):
-    """A command that isn't known yet is a bad line at its first byte, also behind a good line."""
-    for line in NOT_YET.splitlines():
+def lines_of_traces(program):
+    """A line that only a trace has is a bad line at its first byte, also behind a good line."""
+    for line in OF_TRACES.splitlines():
         expect(harness.run([program], PUT + b"\n" + line + b"\n"), b"taken\nbadline 2 0\n", 1)
 
 

@@ -23,6 +23,25 @@ side a
 eth0 label rs 3.0 = 3/17
 shown 1
 """
+# What the five lines about a driver that dies are answered.
+FIVE_ANSWERED = b"""\
+services 1 slots 64
+start disk 1/16
+offer disk label rs 1.0 = 1/16
+taken
+actions 2
+offer disk label rs 1.1 -
+taken
+sweep disk 1
+swept 0
+actions 2
+start disk 2/16
+offer disk label rs 2.0 = 2/16
+taken
+actions 2
+disk label rs 2.0 = 2/16
+shown 1
+"""
 
 
 def the_manual_and_the_completions_are_current(program):
@@ -50,6 +69,9 @@ def does_as_its_help_shows(program):
     typed = [row[2:] for row in session if row.startswith("> ")]
     assert len(typed) == 4, f"the help shows {session}"
     expect(harness.run([program], script_of(typed)), script_of(row for row in session if not row.startswith("> ")), 0)
+    five = [re.split(" {2,}", row)[0] for row in rows_below("A driver that dies and is started again, in five lines", help_)]
+    assert len(five) == 5, f"the help shows {five}"
+    expect(harness.run([program], script_of(five)), FIVE_ANSWERED, 0)
 
 
 def rows_below(title, text):
@@ -80,7 +102,7 @@ def explains_each_refusal(program):
     told = re.findall(r"`(\w+)`", "".join(re.findall("^## .*$", document, re.MULTILINE)))
     help_ = harness.run([program, "--help"], b"").output.decode()
     missing = [word for word in told if not re.search(rf"^  {word} ", help_, re.MULTILINE)]
-    assert len(told) == 23 and not missing, f"{len(told)} words; not explained: {missing}"
+    assert len(told) == 41 and not missing, f"{len(told)} words; not explained: {missing}"
 
 
 def points_at_standard_input(program):

@@ -1,0 +1,180 @@
+"""All that a script drives: a world, the reincarnation server over it, and the tables of two servers that talk to drivers.
+
+What RS offers and sweeps is asked of the store that the script asks, in RS's name. A table learns of drivers from a map alone.
+"""
+import copy
+import tomllib
+
+from . import lines, restarts, tables
+from .store import LABEL, RS, Refused
+from .world import World
+
+REFUSALS = (Refused, restarts.Refused, restarts.Bad, tables.Refused)
+NO_ROOM = b"refused noroom"
+OF_SERVICES = (b"settings", b"service", b"death", b"beat", b"tick", b"assign", b"follow", b"submit", b"reply")
+LEAST_INTEGER, MOST_INTEGER = -(2**63), 2**63 - 1  # of a TOML document
+
+
+class Session:
+    """A world, RS once settings were accepted, and the tables by their words."""
+
+    def __init__(self):
+        self.world = World()
+        self.rs = None
+        self.tables = {b"file": tables.Table("file"), b"net": tables.Table("net")}
+        self.ample = None  # how many more steps of a command find memory, before one doesn't; None: all
+
+    def answer(self, command, taken, ample=None):
+        """Answers a command by the lines that a script prints.
+
+        Memory may be wanting for one step of it, behind so many that are ample: something that RS asks of the store, which is
+        refused so and changes nothing; or a label of which a table learns, or a request, which end the command there.
+        """
+        if command not in OF_SERVICES:
+            return self.world.answer(command, taken)
+        self.ample = ample
+        try:
+            return getattr(self, command.decode())(*taken)
+        except REFUSALS as refused:
+            return [refusal(refused)]
+
+    def is_wanting(self):
+        """Whether memory is wanting for this step."""
+        if self.ample is None:
+            return False
+        self.ample -= 1
+        return self.ample == -1
+
+    # ---- RS ----
+
+    def settings(self, text):
+        """RS begins with the services of a settings text, once."""
+        if self.rs:
+            raise Refused("exists")
+        self.rs = restarts.Rs(document(text), 1)
+        return [b"services %d slots %d" % (len(self.rs.services), self.rs.slots)]
+
+    def service(self, asked, label, tick):
+        """RS is asked to start a service, to stop it, to replace its instance, or to start it before its time."""
+        return self.event("unknownlabel", "stop" if asked == b"down" else asked.decode(), label.decode(), tick)
+
+    def death(self, endpoint, cause, tick):
+        """RS is told that an instance died."""
+        return self.event("oldendpoint", "death", endpoint, cause, tick)
+
+    def beat(self, endpoint, tick):
+        """RS is told that an instance lives."""
+        return self.event("oldendpoint", "beat", endpoint, tick)
+
+    def tick(self, tick):
+        """RS is told the time."""
+        return self.event(None, "tick", tick)
+
+    def event(self, without, *event):
+        """The actions of an event, each with the store's answer below it, and their number. Before there are settings RS knows nobody."""
+        if self.rs is None and without:
+            raise Refused(without)
+        actions = self.rs.event(*event) if self.rs else []
+        shown = [line for it in actions for line in (it.encode(), *self.asked_by(it.encode()))]
+        return shown + [b"actions %d" % len(actions)]
+
+    def asked_by(self, action):
+        """What the store answers to an action: a label is published or deleted, an owner is swept, and all else isn't the store's."""
+        verb, *words = action.split(b" ")
+        if verb not in (b"offer", b"sweep"):
+            return []
+        if self.is_wanting():
+            return [NO_ROOM]
+        if verb == b"sweep":
+            return self.world.answer(b"sweep", (RS, words[0], int(words[1])))
+        change = lines.item(b" ".join(words))
+        if change.value is None:
+            return self.world.answer(b"delete", (RS, change.key, change.version))
+        return self.world.answer(b"publish", (RS, change.key, change.version, change.value, True))
+
+    # ---- the driver tables ----
+
+    def assign(self, table, unit, kind, label):
+        """A table gets a unit."""
+        self.tables[table].assign(unit, kind.decode(), label)
+        return [b"assigned"]
+
+    def follow(self, number):
+        """Both tables learn what a map holds of their drivers."""
+        held, moves = self.world.map_of(number).held.held, []
+        try:
+            for table in self.tables.values():
+                self.learn(table, held, moves)
+        except REFUSALS as refused:
+            return [*told(moves), refusal(refused)]
+        return counted(moves)
+
+    def submit(self, table, request, unit, number):
+        """A table learns what a map holds, and then takes a request; where that is refused, what it did before stands."""
+        table, held, moves = self.tables[table], self.world.map_of(number).held.held, []
+        try:
+            self.learn(table, held, moves)
+            if self.ample is not None:
+                copy.deepcopy(table).submit(request, unit)  # want of memory is told last
+            if self.is_wanting():
+                raise Refused("noroom")
+            moves.append(table.submit(request, unit))
+        except REFUSALS as refused:
+            return [*told(moves), refusal(refused)]
+        return counted(moves)
+
+    def learn(self, table, held, moves):
+        """A table learns of each label that it has a unit for, in order of assignment, what is held of it, and moves accordingly.
+
+        What is older than what the table knows is passed over: a tombstone of an earlier generation, and an endpoint that is none
+        any more.
+        """
+        for label in dict.fromkeys(label for _, label in table.units.values()):
+            if (label, LABEL) not in held:
+                continue
+            _, (epoch, _), value = held[label, LABEL]
+            if value is None and epoch < (table.newest(label) or 0):
+                continue
+            if self.is_wanting():
+                raise Refused("noroom")
+            try:
+                moves += table.changed(label, None if value is None else lines.numbers_of(value))
+            except tables.Refused:
+                pass
+
+    def reply(self, table, endpoint, request):
+        """A driver answers a request."""
+        return told([self.tables[table].reply(endpoint, request)])
+
+
+def document(text):
+    """What a settings text has at the top; Bad where it is no TOML document. An integer of more than 64 bits is none."""
+    try:
+        read = tomllib.loads(text.decode())
+    except (UnicodeDecodeError, tomllib.TOMLDecodeError, RecursionError):
+        raise restarts.Bad("toml") from None
+    if not is_within(read):
+        raise restarts.Bad("toml")
+    return read
+
+
+def is_within(read):
+    """Whether each integer of a TOML value has at most 64 bits."""
+    if isinstance(read, (dict, list)):
+        return all(map(is_within, read.values() if isinstance(read, dict) else read))
+    return not isinstance(read, int) or LEAST_INTEGER <= read <= MOST_INTEGER
+
+
+def told(moves):
+    """The lines of moves."""
+    return [tables.told(it).encode() for it in moves]
+
+
+def counted(moves):
+    """The lines of moves, and then their number."""
+    return told(moves) + [b"moves %d" % len(moves)]
+
+
+def refusal(refused):
+    """The line of a refusal. Of a fault of settings it tells the word alone, and not of which service."""
+    return b"refused " + (refused.args[0] if isinstance(refused, restarts.Bad) else str(refused)).encode()
