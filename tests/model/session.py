@@ -124,12 +124,12 @@ class Session:
         return counted(moves)
 
     def learn(self, table, held, moves):
-        """A table learns of each label that it has a unit for, in order of assignment, what is held of it, and moves accordingly.
+        """A table learns of the label of each unit, in order of assignment, what is held of it, and moves accordingly.
 
         What is older than what the table knows is passed over: a tombstone of an earlier generation, and an endpoint that is none
         any more.
         """
-        for label in dict.fromkeys(label for _, label in table.units.values()):
+        for _, label in table.units.values():
             if (label, LABEL) not in held:
                 continue
             _, (epoch, _), value = held[label, LABEL]
