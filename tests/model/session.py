@@ -129,7 +129,8 @@ class Session:
         What is older than what the table knows is passed over: a tombstone of an earlier generation, and an endpoint that is none
         any more.
         """
-        for _, label in table.units.values():
+        labels = [label for _, label in table.units.values()]
+        for label in dict.fromkeys(labels) if self.ample is None else labels:  # a second unit of a label changes nothing more
             if (label, LABEL) not in held:
                 continue
             _, (epoch, _), value = held[label, LABEL]
