@@ -33,7 +33,8 @@ pub fn answer_event(
     tick: u64,
     output: &mut Vec<u8>,
 ) -> Result<(), NoRoom>
-    ensures answered { OnOk result (AppendsService event tick side output.old.items output.new.items servers.old world.old servers.new world.new) }
+    ensures answered { OnOk result (AppendsService event tick side
+        output.old.items output.new.items servers.old world.old servers.new world.new) }
     ensures unanswered { OnErr result (output.new.items ≡ output.old.items) }
 {
     let start = output.len();

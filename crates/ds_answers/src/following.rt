@@ -27,7 +27,8 @@ impl Servers {
         map: Option<&SubMap>,
         output: &mut Vec<u8>,
     ) -> Result<(), NoRoom>
-        ensures answered { OnOk result (AppendsLed (AnswersFollow (map_items (option_copied map.entry))) output.old.items output.new.items self.old self.new) }
+        ensures answered { OnOk result (AppendsLed (AnswersFollow (map_items (option_copied map.entry)))
+            output.old.items output.new.items self.old self.new) }
         ensures unanswered { OnErr result (output.new.items ≡ output.old.items) }
     {
         let Some(map) = map else {
@@ -49,7 +50,8 @@ impl Servers {
         map: Option<&SubMap>,
         output: &mut Vec<u8>,
     ) -> Result<(), NoRoom>
-        ensures answered { OnOk result (AppendsLed (AnswersSubmit server id unit (map_items (option_copied map.entry))) output.old.items output.new.items self.old self.new) }
+        ensures answered { OnOk result (AppendsLed (AnswersSubmit server id unit (map_items (option_copied map.entry)))
+            output.old.items output.new.items self.old self.new) }
         ensures unanswered { OnErr result (output.new.items ≡ output.old.items) }
     {
         let Some(map) = map else {
@@ -120,7 +122,8 @@ fn submits<T: Drivers>(
     unit: u8,
     rounds: &mut Vec<Moves>,
 ) -> Result<Option<Move>, TableFault>
-    ensures { FollowedAndTaken (held_items map.now.held) id unit (T.kept table.old) (T.kept table.new) rounds.old.items rounds.new.items (own_moves result) }
+    ensures { FollowedAndTaken (held_items map.now.held) id unit (T.kept table.old) (T.kept table.new)
+        rounds.old.items rounds.new.items (own_moves result) }
 {
     match follow(table, map, rounds) {
         None => own_move(table.submit(id, unit)),

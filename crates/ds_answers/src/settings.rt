@@ -22,7 +22,8 @@ impl Servers {
     /// A text for which there is no memory is refused by name, and changes nothing. `Err` says that there was no room for the answer
     /// itself, and none of it stands then.
     pub fn accept(&mut self, alloc: Global, text: &[u8], output: &mut Vec<u8>) -> Result<(), NoRoom>
-        ensures answered { OnOk result (AppendsLedOrRefuses (AnswersSettings text.now) output.old.items output.new.items self.old self.new) }
+        ensures answered { OnOk result (AppendsLedOrRefuses (AnswersSettings text.now)
+            output.old.items output.new.items self.old self.new) }
         ensures unanswered { OnErr result (output.new.items ≡ output.old.items) }
     {
         if self.services.is_some() {

@@ -19,7 +19,7 @@ use Rattle.ds_line.specs.Piece.{Breaks}
 use Rattle.ds_line.specs.FloorPiece.{a_floor}
 use Rattle.ds_line.specs.ItemFault.{HasNoItem, IsItemFault, IsItemFaultIn}
 use Rattle.ds_line.specs.FaultPlace.{IsFaultIn}
-use Rattle.ds_line.specs.LastNewline.{EndsLine}
+use Rattle.ds_lines.specs.Lines.{EndsLine}
 use Rattle.ds_line.specs.declared.fault.LineFault.{LineFault}
 use Rattle.ds_line.specs.declared.fault.LineFault.TheVariants.{BadLine, NoRoom}
 use Rattle.ds_line.proofs.OpeningLemmas.{text_at}

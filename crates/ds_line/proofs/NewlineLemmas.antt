@@ -19,7 +19,7 @@ use Rattle.ds_entry.specs.declared.body.Body.TheVariants.{Put, Gone}
 use Rattle.ds_entry.specs.Change.{ChangeRecord, IsValue, IsBody, IsChange}
 use Rattle.ds_line.specs.Part.{Name, Word, Number, Part, part, byte, texts, is_hex_byte}
 use Rattle.ds_line.specs.Spelling.{space, newline, kind_word, escaped_byte, escaped, quoted, value_part, body_parts, spelling}
-use Rattle.ds_line.specs.LastNewline.{EndsLine}
+use Rattle.ds_lines.specs.Lines.{EndsLine}
 use Rattle.ds_line.proofs.QuoteLemmas.{shape}
 use Rattle.ds_line.proofs.DigitLemmas.{hex_run}
 use Rattle.ds_line.proofs.OpeningLemmas.{word_is_word}
@@ -28,7 +28,7 @@ use Rattle.ds_line.proofs.OpeningLemmas.{word_is_word}
 abbrev pub Unbroken : List ℕ → Type 0
 Unbroken bytes = All (λ (b : ℕ). b ≢ 10) bytes
 
-unbroken_run : (run : ℕ → Bool) → run 10 ≡ false → (bytes : List ℕ) → list_all run bytes ≡ true → Unbroken bytes
+pub unbroken_run : (run : ℕ → Bool) → run 10 ≡ false → (bytes : List ℕ) → list_all run bytes ≡ true → Unbroken bytes
 unbroken_run run not_one bytes all k d lt = λ same. false≢true (sym not_one ∙ ap run (sym same) ∙ AllPass-from_list_all run bytes all k d lt)
 
 pub unbroken_name : (n : List ℕ) → list_all is_name_byte n ≡ true → Unbroken n
@@ -38,12 +38,12 @@ unbroken_name n all = unbroken_run is_name_byte refl n all
 pub unbroken_decimal : (n : ℕ) → n < 2 ^ 64 → Unbroken (decimal n)
 unbroken_decimal n lt = unbroken_run is_ascii_digit refl (decimal n) (digits_decimal own n lt)
 
-unbroken_endpoint : (a : EndpointRecord) → IsEndpoint a → Unbroken (endpoint_text a)
+pub unbroken_endpoint : (a : EndpointRecord) → IsEndpoint a → Unbroken (endpoint_text a)
 unbroken_endpoint a is =
     All-append (λ (b : ℕ). b ≢ 10) (decimal a.generation) (47 ∷ decimal a.slot) (unbroken_decimal a.generation (omega (arith, is.generation)))
     (All-cons (λ (b : ℕ). b ≢ 10) 47 (decimal a.slot) (λ same. omega (arith, same)) (unbroken_decimal a.slot (omega (arith, is.slot))))
 
-unbroken_one : (b : ℕ) (rest : List ℕ) → b ≢ 10 → Unbroken rest → Unbroken (b ∷ rest)
+pub unbroken_one : (b : ℕ) (rest : List ℕ) → b ≢ 10 → Unbroken rest → Unbroken (b ∷ rest)
 unbroken_one b rest other more = All-cons (λ (x : ℕ). x ≢ 10) b rest other more
 
 unbroken_byte : (b : ℕ) → is_text_byte b ≡ true → Unbroken (escaped_byte b)
@@ -66,7 +66,7 @@ unbroken_quoted text all =
     let quote : Unbroken (34 ∷ []) = unbroken_one 34 [] (λ same. omega (arith, same)) (All-nil (λ (x : ℕ). x ≢ 10)) in
     unbroken_one 34 (escaped text ++ 34 ∷ []) (λ same. omega (arith, same)) (All-append (λ (x : ℕ). x ≢ 10) (escaped text) (34 ∷ []) (unbroken_escaped text all) quote)
 
-unbroken_value : (v : Value) → IsValue v → Unbroken (value_part v).text
+pub unbroken_value : (v : Value) → IsValue v → Unbroken (value_part v).text
 unbroken_value (values.Label e) is = unbroken_endpoint e is
 unbroken_value (values.U32 n) is = unbroken_decimal n (omega (arith, is))
 unbroken_value (values.Str t) is = unbroken_quoted t is.printable

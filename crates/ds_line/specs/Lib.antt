@@ -1,7 +1,6 @@
 pub mod Part
 pub mod Spelling
 pub mod FaultPlace
-pub mod LastNewline
 pub mod Reading
 pub mod Piece
 pub mod ItemSpelling

@@ -1,15 +1,11 @@
 -- Why a script ends by its reader or its writer.
-use Rattle.std.proofs.Common.{◌≡◌, ℕ, ◌+◌, ◌⊎◌, sym, subst, inl, inr, add-one}
+use Rattle.std.proofs.Common.{◌≡◌, ℕ, ◌⊎◌, sym, subst, inl, inr}
 use Rattle.ds_script.specs.declared.fault.ReplayFault.{ReplayFault}
 use Rattle.ds_script.specs.declared.fault.ReplayFault.TheVariants.{BadLine, ReadFault, WriteFault, NoRoom}
-use Rattle.ds_script.specs.declared.streams.Source.{Ghosts as Reader}
-use Rattle.ds_script.specs.declared.streams.Sink.{Ghosts as Writer}
-use Rattle.ds_script.specs.Streams.{CallsLead, HasFailedWrite}
+use Rattle.ds_lines.specs.declared.streams.Source.{Ghosts as Reader}
+use Rattle.ds_lines.specs.declared.streams.Sink.{Ghosts as Writer}
+use Rattle.ds_lines.specs.Streams.{CallsLead, HasFailedWrite}
 use Rattle.ds_script.specs.Causes.{HasCause, HasWriteCause, HasTurnCause, SettlesFor}
-
--- one more call
-pub leads_more : {S : Type 0} (calls : S → S → Type 0) (n : ℕ) (old mid new : S) → CallsLead calls n old mid → calls mid new → CallsLead calls (n + 1) old new
-leads_more {S} calls n old mid new led one = subst (λ (k : ℕ). CallsLead calls k old new) (sym (add-one n)) (mid, led, one)
 
 -- a fault of the lines that one read brought
 pub turn_cause : {R W : Type 0} (r : Reader R) (w : Writer W) (fault : ReplayFault) (old new : R) (writer : W) → HasWriteCause w fault writer → HasTurnCause r w fault old new writer

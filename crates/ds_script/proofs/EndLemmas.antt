@@ -1,10 +1,10 @@
 -- A replay from its start to its end.
 use Rattle.std.specs.List.{All}
-use Rattle.std.proofs.Common.{◌≡◌, ◌≢◌, ℕ, suc, ◌≤◌, Bool, true, false, List, [], ◌∷◌, ◌++◌, length, Option, refl, sym, ap, subst, ◌∙◌, ◌⊎◌, inl, inr, arith, append_assoc, append-nil}
+use Rattle.std.proofs.Common.{◌≡◌, ◌≢◌, ℕ, suc, ◌+◌, Bool, true, false, List, [], ◌∷◌, ◌++◌, length, Option, refl, sym, ap, subst, ◌∙◌, ◌⊎◌, inl, inr, arith, append_assoc, append-nil}
 use Rattle.std.specs.Io.KnownBytes.{Appends, Consumes, IsAtEnd}
 use Rattle.std.proofs.KnownBytes.{Appends-nil, Appends-trans, Consumes-nil, Consumes-trans}
 use Rattle.std.proofs.lemmas.List.Elements.{All-nil}
-use Rattle.ds_words.specs.Lines.{IsUnbroken, joined, unended, HasLines}
+use Rattle.ds_lines.specs.Lines.{IsUnbroken, joined, unended, HasLines}
 use Rattle.ds_script.specs.declared.fault.ReplayFault.{ReplayFault}
 use Rattle.ds_script.specs.declared.fault.ReplayFault.TheVariants.{BadLine, ReadFault, WriteFault, NoRoom}
 use Rattle.ds_script.specs.declared.report.BadLines.{BadLines}
@@ -21,13 +21,16 @@ are_answers : (policy : BadLines) (lines : List (List ℕ)) (bad : ℕ) (output 
 are_answers policy [] bad output start end opened a = (a.0, a.1)
 are_answers policy (line ∷ lines) bad output start end opened a = (start, end, opened, a)
 
+none_both : (n a b : ℕ) → n ≡ a + b → a ≡ 0 → b ≡ 0 → n ≡ 0
+none_both n a b sum first rest = omega arith
+
 -- none is bad where a bad line ends the replay
 pub none_bad : (before : ℕ) (old new : SessionContent) (lines : List (List ℕ)) (out : List ℕ) (bad : ℕ) → AnswersLines End before old lines out bad new → bad ≡ 0
 none_bad before old new [] out bad a = a.1
 none_bad before old new (line ∷ lines) out bad a =
     let rest : a.4 ≡ 0 = none_bad (suc before) a.0 new lines a.2 a.4 a.6 in
     elim a.5 [
-      | inl one ↦ omega (arith, one.1, rest, a.8)
+      | inl one ↦ none_both bad a.3 a.4 a.8 one.1 rest
       | inr told ↦ (let never : End ≡ GoOn = told.0 in cc)
     ]
 

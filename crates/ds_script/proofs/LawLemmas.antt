@@ -9,7 +9,6 @@ use Rattle.ds_held.specs.Limits.{larger}
 use Rattle.ds_replica.specs.declared.event.Event.{Event}
 use Rattle.ds_replica.specs.declared.event.Side.{Side as OneSide}
 use Rattle.ds_replica.specs.declared.outcome.Outcome.{Outcome}
-use Rattle.ds_replica.specs.Happens.{Happens, HappenAll}
 use Rattle.ds_replica.specs.Bringing.{IsProperEvent}
 use Rattle.ds_replica.specs.Known.{new_account, extended_all}
 use Rattle.ds_replica.specs.World.{World}

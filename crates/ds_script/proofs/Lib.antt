@@ -2,7 +2,6 @@ pub mod LineLemmas
 pub mod EventLemmas
 pub mod ServerLemmas
 pub mod LawLemmas
-pub mod LinesLemmas
 pub mod CauseLemmas
 pub mod ProgressLemmas
 pub mod RunLemmas

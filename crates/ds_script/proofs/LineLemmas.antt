@@ -1,5 +1,5 @@
 -- Lines, and the commands that may stand on them.
-use Rattle.std.proofs.Common.{◌≡◌, ◌≢◌, ℕ, zero, suc, false, List, Some, Result, refl, arith}
+use Rattle.std.proofs.Common.{◌≡◌, ◌≢◌, ℕ, zero, suc, false, List, Result, refl, arith}
 use Rattle.ds_machine.specs.declared.command.Scope.TheVariants.{Under}
 use Rattle.ds_words.specs.Command.{IsCommand, CommandTakesMemory, ReadsAs, is_plain}
 use Rattle.ds_words.specs.Later.{IsLater}

@@ -1,5 +1,5 @@
 -- Lines that are answered, one after the other, bad ones too.
-use Rattle.std.proofs.Common.{◌≡◌, ℕ, suc, ◌+◌, ◌≤◌, List, [], ◌∷◌, ◌++◌, length, Option, Result, Ok, Err, MatchResult, OnOk, IfOk, IfErr, refl, sym, ap, subst, ◌∙◌, inl, inr, arith, append_assoc, append-nil, length-append}
+use Rattle.std.proofs.Common.{◌≡◌, ℕ, suc, ◌+◌, List, [], ◌∷◌, ◌++◌, length, Option, Result, Ok, Err, MatchResult, IfErr, refl, sym, ap, subst, ◌∙◌, inl, inr, arith, append_assoc, append-nil, length-append}
 use Rattle.std.specs.Io.KnownBytes.{Appends}
 use Rattle.std.proofs.KnownBytes.{Appends-nil, Appends-trans}
 use Rattle.ds_script.specs.declared.fault.ReplayFault.{ReplayFault}
@@ -22,19 +22,39 @@ where_both (Err e) f g p = g e p
 pub where_known : {T E : Type 0} (Q : E → Type 0) (r : Result T E) (y e : E) → r ≡ Err y → y ≡ e → Q e → IfErr r Q
 where_known {T} {E} Q r y e at is q = subst (λ (s : Result T E). IfErr s Q) (sym at) (subst Q (sym is) q)
 
+-- ---- counts
+
+pub same_sum : (a b : ℕ) → a ≡ b → a ≡ b + 0
+same_sum a b same = omega arith
+
+pub none_more : (a b : ℕ) → a ≡ b + 0 → a ≡ b
+none_more a b same = omega arith
+
+none_first : (x y : ℕ) → x ≡ 0 → y ≡ x + y
+none_first x y none = omega arith
+
+one_first : (a b n : ℕ) → a ≡ b + suc n → a ≡ suc b + n
+one_first a b n same = omega arith
+
+sum_behind : (a b c y : ℕ) → a ≡ b + c → a + y ≡ b + (c + y)
+sum_behind a b c y same = omega arith
+
+sums : (a b c x y : ℕ) → b ≡ a + x → c ≡ b + y → c ≡ a + (x + y)
+sums a b c x y first then = omega arith
+
 -- ---- answers to lines
 
 lines_both : (policy q : BadLines) (n k x y : ℕ) (a b c : SessionContent) (ls ms : List (List ℕ)) (o p : List ℕ) → q ≡ policy → k ≡ n + length ls → AnswersLines policy n a ls o x b → AnswersLines q k b ms p y c → AnswersLines policy n a (ls ++ ms) (o ++ p) (x + y) c
 lines_both policy q n k x y a b c [] ms o p same e u v =
-    let behind : k ≡ n = omega (arith, e) in
-    let sum : y ≡ x + y = omega (arith, u.1) in
+    let behind : k ≡ n = none_more k n e in
+    let sum : y ≡ x + y = none_first x y u.1 in
     let v0 : AnswersLines policy k b ms p y c = subst (λ (r : BadLines). AnswersLines r k b ms p y c) same v in
     let v1 : AnswersLines policy n b ms p y c = subst (λ (j : ℕ). AnswersLines policy j b ms p y c) behind v0 in
     let v2 : AnswersLines policy n a ms p y c = subst (λ (h : SessionContent). AnswersLines policy n h ms p y c) u.2 v1 in
     let v3 : AnswersLines policy n a ms p (x + y) c = subst (λ (z : ℕ). AnswersLines policy n a ms p z c) sum v2 in
     subst (λ (t : List ℕ). AnswersLines policy n a ms (t ++ p) (x + y) c) (sym u.0) v3
 lines_both policy q n k x y a b c (l ∷ ls) ms o p same e u v =
-    (u.0, u.1, u.2 ++ p, u.3, u.4 + y, u.5, lines_both policy q (suc n) k u.4 y u.0 b c ls ms u.2 p same (omega (arith, e)) u.6 v, ap (λ t. t ++ p) u.7 ∙ append_assoc u.1 u.2 p, omega (arith, u.8))
+    (u.0, u.1, u.2 ++ p, u.3, u.4 + y, u.5, lines_both policy q (suc n) k u.4 y u.0 b c ls ms u.2 p same (one_first k n (length ls) e) u.6 v, ap (λ t. t ++ p) u.7 ∙ append_assoc u.1 u.2 p, sum_behind x u.3 u.4 y u.8)
 
 -- ---- how far a replay has come
 
@@ -45,7 +65,7 @@ waits old waiting = record old { waiting = waiting }
 -- some of the answers that wait are written, and nothing else changes
 pub takes_kept : (had has : Option (List ℕ)) (old new : Reached) (sent : List ℕ) → old.waiting ≡ sent ++ new.waiting → Appends had has sent → new.session ≡ old.session → new.lines ≡ old.lines → new.bad ≡ old.bad → new.policy ≡ old.policy → TakesLines had has old [] new
 takes_kept had has old new sent split written session lines bad policy =
-    record { output = []; sent = sent; bad = 0; answers = (refl, refl, session); split = append-nil old.waiting ∙ split; written = written; counted = omega (arith, lines); told = omega (arith, bad); policy = policy }
+    record { output = []; sent = sent; bad = 0; answers = (refl, refl, session); split = append-nil old.waiting ∙ split; written = written; counted = same_sum new.lines old.lines lines; told = same_sum new.bad old.bad bad; policy = policy }
 
 pub takes_sent : (had has : Option (List ℕ)) (old : Reached) (sent left : List ℕ) → old.waiting ≡ sent ++ left → Appends had has sent → TakesLines had has old [] (waits old left)
 takes_sent had has old sent left split written = takes_kept had has old (waits old left) sent split written refl refl refl refl
@@ -66,11 +86,11 @@ takes_line had old new out text grown line counted told policy =
       output = out;
       sent = [];
       bad = 0;
-      answers = (new.session, out, [], 0, 0, inl (line, refl), (refl, refl, refl), sym (append-nil out), omega arith);
+      answers = (new.session, out, [], 0, 0, inl (line, refl), (refl, refl, refl), sym (append-nil out), refl);
       split = sym grown;
       written = Appends-nil had;
-      counted = omega (arith, counted);
-      told = omega (arith, told);
+      counted = counted;
+      told = same_sum new.bad old.bad told;
       policy = policy;
     }
 
@@ -83,11 +103,11 @@ takes_bad had has old new number place sent text goes bad numbered split written
       output = out;
       sent = sent;
       bad = 1;
-      answers = (new.session, out, [], 1, 0, inr (goes, same, refl, place, bad, ap (λ (n : ℕ). badline n place) numbered), (refl, refl, refl), sym (append-nil out), omega arith);
+      answers = (new.session, out, [], 1, 0, inr (goes, same, refl, place, bad, ap (λ (n : ℕ). badline n place) numbered), (refl, refl, refl), sym (append-nil out), refl);
       split = split;
       written = written;
-      counted = omega (arith, counted);
-      told = omega (arith, told);
+      counted = counted;
+      told = told;
       policy = policy;
     }
 
@@ -101,8 +121,8 @@ takes_then a b c old mid new ls ms p q =
       answers = lines_both old.policy mid.policy old.lines mid.lines p.bad q.bad old.session mid.session new.session ls ms p.output q.output p.policy p.counted p.answers q.answers;
       split = sym (append_assoc old.waiting p.output q.output) ∙ ap (λ t. t ++ q.output) p.split ∙ append_assoc p.sent mid.waiting q.output ∙ ap (λ t. p.sent ++ t) q.split ∙ sym (append_assoc p.sent q.sent new.waiting);
       written = Appends-trans a b c p.sent q.sent p.written q.written;
-      counted = omega (arith, p.counted, q.counted, length-append ls ms);
-      told = omega (arith, p.told, q.told);
+      counted = sums old.lines mid.lines new.lines (length ls) (length ms) p.counted q.counted ∙ ap (λ n. old.lines + n) (sym (length-append ls ms));
+      told = sums old.bad mid.bad new.bad p.bad q.bad p.told q.told;
       policy = q.policy ∙ p.policy;
     }
 
@@ -112,7 +132,7 @@ takes_behind a b c old mid new ls p q = subst (λ (ms : List (List ℕ)). TakesL
 
 -- no line was answered, so the count is what it was
 pub same_count : (had has : Option (List ℕ)) (old new : Reached) → TakesLines had has old [] new → new.lines ≡ old.lines
-same_count had has old new p = omega (arith, p.counted)
+same_count had has old new p = none_more new.lines old.lines p.counted
 
 -- ---- a line that isn't answered
 

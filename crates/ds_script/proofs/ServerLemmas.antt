@@ -1,5 +1,5 @@
 -- What RS and the tables of a session are answered, the session is.
-use Rattle.std.proofs.Common.{◌≡◌, ℕ, List, inl, inr, refl, ap}
+use Rattle.std.proofs.Common.{ℕ, List, inl, inr, refl, ap}
 use Rattle.rs_core.specs.declared.event.Event as services
 use Rattle.ds_replica.specs.declared.event.Side.{Side}
 use Rattle.ds_world.specs.World.{WorldRecord}

@@ -15,7 +15,7 @@ use Rattle.ds_replica.specs.declared.outcome.Outcome.{Outcome}
 use Rattle.ds_replica.specs.declared.outcome.Outcome.TheVariants.{Made}
 use Rattle.ds_words.specs.Command.{IsCommand, IsLineAs, is_plain}
 use Rattle.ds_words.specs.Later.{IsLater}
-use Rattle.ds_line.specs.LastNewline.{with_newline}
+use Rattle.ds_lines.specs.Lines.{with_newline}
 use Rattle.ds_words.specs.Event.{event_of}
 use Rattle.store_words.specs.Outcome.{outcome_lines, ring_line, side_line}
 use Rattle.ds_words.specs.Wording.{wording}

@@ -1,6 +1,3 @@
-pub mod Streams
-pub mod Transfer
-pub mod Reading
 pub mod Session
 pub mod Answer
 pub mod Replay

@@ -2,7 +2,7 @@
 use Rattle.std.specs.Prelude.{◌≡◌, ℕ, List, [], ◌++◌, Result, MatchResult}
 use Rattle.std.specs.Io.KnownBytes.{Appends}
 use Rattle.ds_script.specs.declared.fault.ReplayFault.{ReplayFault}
-use Rattle.ds_script.specs.declared.streams.Sink.{Ghosts as Writer}
+use Rattle.ds_lines.specs.declared.streams.Sink.{Ghosts as Writer}
 use Rattle.ds_script.specs.Replay.{badline}
 use Rattle.ds_script.specs.Progress.{EndsAtBad, TellsBad}
 use Rattle.ds_script.specs.Causes.{HasWriteCause}

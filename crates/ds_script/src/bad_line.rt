@@ -6,9 +6,8 @@ ghost use Rattle.ds_script.specs.Passing.{EndsFor, PassesOver};
 
 use crate::fault::ReplayFault;
 use crate::report::{BadLine, Report};
-use crate::sending::send;
-use crate::streams::Sink;
 use ds_line::append_all;
+use ds_lines::{Sink, send};
 use ds_names::NoRoom;
 use itoa::Buffer;
 

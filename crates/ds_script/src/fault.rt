@@ -1,7 +1,7 @@
 //! Why a replay ends early.
 
-use crate::transfer::WriteFailed;
 use ds_line::Expected;
+use ds_lines::WriteFailed;
 use ds_names::NoRoom;
 use thiserror::Error;
 

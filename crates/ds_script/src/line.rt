@@ -1,8 +1,7 @@
 //! One line, and its answer.
 
 ghost use Rattle.std.specs.Prelude.{◌≡◌, ℕ, List, IfErr, OnOk, OnErr};
-ghost use Rattle.ds_line.specs.LastNewline.{EndsLine};
-ghost use Rattle.ds_line.specs.LastNewline.{with_newline};
+ghost use Rattle.ds_lines.specs.Lines.{EndsLine, with_newline};
 ghost use Rattle.ds_words.specs.Command.{ReadsAs};
 ghost use Rattle.ds_script.specs.Answer.{MayStand, AppendsLine};
 ghost use Rattle.ds_script.specs.Progress.{IsUnendedFault, KeepsSession};
@@ -10,8 +9,9 @@ ghost use Rattle.ds_script.specs.Progress.{IsUnendedFault, KeepsSession};
 use crate::answer::answer_command;
 use crate::session::Session;
 use ds_line::Expected;
+use ds_lines::LONGEST_LINE;
 use ds_names::NoRoom;
-use ds_words::{CommandFault, LONGEST_LINE, ScriptCommand, read_line_behind};
+use ds_words::{CommandFault, ScriptCommand, read_line_behind};
 use std::alloc::Global;
 use store_words::append_noroom;
 

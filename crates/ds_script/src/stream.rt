@@ -9,13 +9,11 @@ ghost use Rattle.ds_script.specs.Causes.{HasCause, SettlesFor};
 ghost use Rattle.ds_script.specs.Taking.{KeepsWriter, IsAtStart};
 
 use crate::fault::ReplayFault;
-use crate::lines::Lines;
 use crate::report::{BadLines, Nobody, Report};
 use crate::session::{RING, Session};
-use crate::streams::{Sink, Source};
 use crate::taking::Replay;
 use crate::tally::Tally;
-use crate::transfer::{WriteFailed, write_out};
+use ds_lines::{Lines, Sink, Source, WriteFailed, write_out};
 use std::alloc::Global;
 
 /// What a replay has come to.

@@ -1,21 +1,18 @@
 //! Lines of a replay, one after the other.
 
 ghost use Rattle.std.specs.Prelude.{◌≡◌, ◌<◌, ◌+◌, ◌^◌, suc, OnOk};
-ghost use Rattle.ds_line.specs.LastNewline.{EndsLine};
-ghost use Rattle.ds_words.specs.Lines.{IsUnbroken};
+ghost use Rattle.ds_lines.specs.Lines.{EndsLine, IsUnbroken};
 ghost use Rattle.ds_script.specs.Taking.{KeepsWriter, TakesLine, TakesBad, TakesWhole, TakesFront, TakesLast, TakesUnended};
 
 use crate::bad_line::{end_at, pass_over};
 use crate::fault::ReplayFault;
 use crate::line::answer_line;
-use crate::lines::Lines;
 use crate::report::{BadLine, BadLines, Report};
-use crate::sending::{send, send_full};
 use crate::session::Session;
-use crate::streams::Sink;
 use crate::tally::Tally;
 use ds_line::Expected;
-use ds_words::{CommandFault, LONGEST_LINE};
+use ds_lines::{LONGEST_LINE, Lines, Sink, send, send_full};
+use ds_words::CommandFault;
 use std::alloc::Global;
 
 /// The most bytes that are kept of a line whose end wasn't read, where bad lines don't end the replay.

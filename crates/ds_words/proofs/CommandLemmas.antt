@@ -6,7 +6,7 @@ use Rattle.std.specs.Char.{is_ascii_alphanumeric}
 use Rattle.std.proofs.lemmas.List.Elements.{All-head, All-tail}
 use Rattle.ds_names.specs.Run.{Begins}
 use Rattle.ds_line.specs.Part.{texts, Word}
-use Rattle.ds_line.specs.LastNewline.{EndsLine}
+use Rattle.ds_lines.specs.Lines.{EndsLine}
 use Rattle.ds_line.specs.FaultPlace.{Stand}
 use Rattle.ds_line.specs.Piece.{Found, Breaks, StopsIn}
 use Rattle.ds_line.specs.declared.part_fault.PartFault.TheVariants.{BadPart}

@@ -4,7 +4,7 @@ use Rattle.ds_line.specs.Part.{texts}
 use Rattle.ds_line.specs.FaultPlace.{Stand}
 use Rattle.ds_line.specs.Piece.{Found}
 use Rattle.ds_words.specs.declared.command.ScriptCommand.{ScriptCommand}
-use Rattle.ds_line.specs.LastNewline.{with_newline}
+use Rattle.ds_lines.specs.Lines.{with_newline}
 use Rattle.ds_words.specs.Command.{command_word, behind_word, IsLineOf}
 use Rattle.ds_words.specs.Pieces.{taken_by}
 use Rattle.ds_words.specs.Words.{text_of}

@@ -1,4 +1,3 @@
-pub mod NewlineLemmas
 pub mod ItemLemmas
 pub mod PieceLemmas
 pub mod QueryLemmas

@@ -13,9 +13,9 @@ use Rattle.ds_line.proofs.OpeningLemmas.{text_at}
 use Rattle.ds_line.proofs.PieceLemmas.{Fixed, One, one_by, byte_found}
 use Rattle.ds_line.proofs.QuoteLemmas.{shape, byte_one, goes_on, unquoted, quoted_one}
 use Rattle.ds_pattern.specs.declared.query.Query.{Query}
-use Rattle.ds_words.specs.Lines.{IsUnbroken}
+use Rattle.ds_lines.specs.Lines.{IsUnbroken}
 use Rattle.ds_words.specs.Pieces.{a_pattern, IsWrittenText, FindsPattern}
-use Rattle.ds_words.proofs.NewlineLemmas.{unbroken_none, unbroken_more}
+use Rattle.ds_lines.proofs.NewlineLemmas.{unbroken_none, unbroken_more}
 use Rattle.ds_words.proofs.PieceLemmas.{one_part, no_part}
 
 -- ---- texts without newlines

@@ -11,7 +11,7 @@ use Rattle.ds_line.specs.declared.part_fault.PartFault.TheVariants.{BadPart, NoR
 use Rattle.ds_line.proofs.PieceLemmas.{One, behind, byte_stops, part_missing, stops_from, then_breaks, both_found, count_fits}
 use Rattle.ds_line.proofs.PartLemmas.{byte_begins}
 use Rattle.ds_pattern.specs.declared.query.Query.{Query}
-use Rattle.ds_words.specs.Lines.{IsUnbroken}
+use Rattle.ds_lines.specs.Lines.{IsUnbroken}
 use Rattle.ds_words.specs.Pieces.{a_pattern, a_kinds, FindsPattern}
 use Rattle.ds_machine.specs.declared.command.Scope.{Scope}
 use Rattle.ds_machine.specs.declared.command.Scope.TheVariants.{All, Under}

@@ -19,7 +19,7 @@ use Rattle.ds_line.specs.declared.part_fault.PartFault.TheVariants.{BadPart}
 use Rattle.ds_line.proofs.OpeningLemmas.{text_at}
 use Rattle.ds_line.proofs.PartLemmas.{part_one, byte_begins}
 use Rattle.ds_line.proofs.PieceLemmas.{Fixed, One, one_by, after_byte, byte_found, byte_stops, stops_from}
-use Rattle.ds_words.specs.Lines.{IsUnbroken, BreaksAt}
+use Rattle.ds_lines.specs.Lines.{IsUnbroken, BreaksAt}
 use Rattle.ds_words.specs.Service.{class_word, request_word, server_word, text_parts}
 use Rattle.ds_words.specs.ServicePieces.{a_class, a_request, a_server, a_text, a_unit}
 use Rattle.ds_words.specs.declared.service.Request.{Request}

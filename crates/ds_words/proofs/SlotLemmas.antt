@@ -29,7 +29,7 @@ use Rattle.ds_words.specs.declared.service.Device.TheVariants.{Net}
 use Rattle.ds_words.specs.declared.service.Request.TheVariants.{Up}
 use Rattle.ds_words.specs.declared.service.Server.TheVariants.{Net as NetServer}
 use Rattle.ds_words.specs.WorldPieces.{a_ring, a_side, a_holder, a_count}
-use Rattle.ds_words.proofs.NewlineLemmas.{unbroken_none}
+use Rattle.ds_lines.proofs.NewlineLemmas.{unbroken_none}
 use Rattle.ds_words.proofs.OneLemmas.{one_byte, end_one, marked_one}
 use Rattle.ds_words.proofs.OpenLemmas.{Apart}
 use Rattle.ds_words.proofs.PieceLemmas.{endpoint_is, endpoint_fixed, endpoint_one, mode_fixed, mode_one, initial_fixed, initial_one, name_fixed, name_one, key_fixed, key_one, generation_fixed, generation_one, version_fixed, version_one, number_fixed, number_one, place_fixed, place_one, kinds_fixed, kinds_one}

@@ -14,8 +14,7 @@ use Rattle.ds_line.specs.FaultPlace.{IsFaultPlace}
 use Rattle.ds_line.specs.Piece.{IsValueOf}
 use Rattle.ds_machine.specs.declared.command.Command.{Command}
 use Rattle.ds_machine.specs.declared.command.Command.TheVariants as commands
-use Rattle.ds_words.specs.Lines.{IsUnbroken}
-use Rattle.ds_line.specs.LastNewline.{with_newline}
+use Rattle.ds_lines.specs.Lines.{IsUnbroken, with_newline}
 use Rattle.ds_words.specs.declared.fault.CommandFault.{CommandFault}
 use Rattle.ds_words.specs.declared.fault.CommandFault.TheVariants.{BadLine, NoRoom}
 use Rattle.ds_words.specs.declared.command.ScriptCommand.{ScriptCommand}

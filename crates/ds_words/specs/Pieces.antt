@@ -14,7 +14,7 @@ use Rattle.ds_line.specs.Spelling.{space, newline, kind_word, escaped, quoted, b
 use Rattle.ds_line.specs.Piece.{Piece, Found, StopsIn, IsValueOf}
 use Rattle.ds_line.specs.declared.part_fault.PartFault.{PartFault}
 use Rattle.ds_line.specs.declared.part_fault.PartFault.TheVariants.{BadPart, NoRoom}
-use Rattle.ds_words.specs.Lines.{IsUnbroken}
+use Rattle.ds_lines.specs.Lines.{IsUnbroken}
 use Rattle.ds_words.specs.declared.command.ScriptCommand.{ScriptCommand}
 use Rattle.ds_words.specs.Command.{IsCommand, IsVersion, CommandTakesMemory, command_word, behind_word, initial_word, mode_word}
 use Rattle.ds_words.specs.Key.{key_parts, version_parts}

@@ -4,7 +4,7 @@ use Rattle.std.specs.Fmt.{decimal}
 use Rattle.ds_line.specs.Part.{Part, part, Number, Quoted}
 use Rattle.ds_line.specs.Spelling.{space, quoted}
 use Rattle.ds_pattern.specs.declared.query.Query.{Query}
-use Rattle.ds_words.specs.Lines.{IsUnbroken}
+use Rattle.ds_lines.specs.Lines.{IsUnbroken}
 
 -- the pattern in quotes, and the mask of the kinds
 abbrev pub query_parts : Query → List Part

@@ -5,7 +5,7 @@ use Rattle.driver_tables.specs.declared.file_table.FileClass.{FileClass}
 use Rattle.ds_line.specs.Part.{part, Word, Number}
 use Rattle.ds_line.specs.Spelling.{space, newline}
 use Rattle.ds_line.specs.Piece.{Piece}
-use Rattle.ds_words.specs.Lines.{IsUnbroken}
+use Rattle.ds_lines.specs.Lines.{IsUnbroken}
 use Rattle.ds_words.specs.Service.{class_word, device_parts, IsDevice, request_word, server_word, text_parts}
 use Rattle.ds_words.specs.declared.service.Device.{Device}
 use Rattle.ds_words.specs.declared.service.Request.{Request}

@@ -2,7 +2,7 @@
 
 ghost use Rattle.std.specs.Prelude.{◌≡◌, ◌≢◌, ◌↔◌, ℕ, List, IsTrue};
 ghost use Rattle.std.specs.Char.{is_ascii_alphanumeric};
-ghost use Rattle.ds_line.specs.LastNewline.{EndsLine};
+ghost use Rattle.ds_lines.specs.Lines.{EndsLine};
 ghost use Rattle.ds_names.specs.Run.{Begins};
 ghost use Rattle.ds_words.specs.Command.{ReadsCommand};
 ghost use Rattle.ds_words.specs.Later.{ReadsLater};

@@ -4,7 +4,7 @@ ghost use Rattle.std.specs.Prelude.{◌≡◌, ◌≢◌, ◌++◌, ℕ, List, I
 ghost use Rattle.ds_line.specs.Spelling.{escaped, escaped_byte, quoted};
 ghost use Rattle.ds_line.specs.Piece.{StopsIn};
 ghost use Rattle.ds_line.specs.declared.part_fault.PartFault.TheVariants.{NoRoom as TheStopForRoom};
-ghost use Rattle.ds_words.specs.Lines.{IsUnbroken};
+ghost use Rattle.ds_lines.specs.Lines.{IsUnbroken};
 ghost use Rattle.ds_words.specs.Pieces.{a_pattern, IsWrittenText, FindsPattern};
 
 use crate::pieces::Rest;
@@ -67,7 +67,8 @@ fn written_byte_at(bytes: &[u8]) -> Option<(u8, &[u8])>
 // Reads the text in quotes at the front, and gives what is written between the quotes with what comes behind them.
 // `None` where no text without a newline is written there.
 pub(crate) fn quoted_at(bytes: &[u8]) -> Option<(&[u8], &[u8])>
-    ensures found { IfSome result (λ r. (text : List ℕ) × IsUnbroken text × (r.0.now ≡ escaped text) × (bytes.now ≡ quoted text ++ r.1.now)) }
+    ensures found { IfSome result (λ r. (text : List ℕ) × IsUnbroken text × (r.0.now ≡ escaped text)
+        × (bytes.now ≡ quoted text ++ r.1.now)) }
     ensures none { IfNone result ((text rest : List ℕ) → IsUnbroken text → bytes.now ≢ quoted text ++ rest) }
 {
     let written = read_byte(bytes, b'"')?;

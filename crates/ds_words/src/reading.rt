@@ -1,9 +1,7 @@
 //! Reading the lines of commands.
 
 ghost use Rattle.std.specs.Prelude.{◌≡◌, ◌≤◌, ◌+◌, length, take, IfOk, IfErr};
-ghost use Rattle.ds_line.specs.LastNewline.{EndsLine};
-ghost use Rattle.ds_words.specs.Lines.{IsUnbroken};
-ghost use Rattle.ds_line.specs.LastNewline.{with_newline};
+ghost use Rattle.ds_lines.specs.Lines.{EndsLine, IsUnbroken, with_newline};
 ghost use Rattle.ds_words.specs.Command.{ReadsCommand, IsLineOf, IsCommandLineFault};
 ghost use Rattle.ds_words.specs.Pieces.{TakesCommand};
 
@@ -20,10 +18,8 @@ use crate::table_lines::{assign_at, follow_at, reply_at, submit_at};
 use crate::word::{Word, word_of};
 use crate::world_lines::{clear_at, deliver_at, restart_at, ring_at, side_at};
 use ds_line::{Expected, PartFault, word_at};
+use ds_lines::LONGEST_LINE;
 use std::alloc::Global;
-
-/// The most bytes of a line, its newline not counted.
-pub const LONGEST_LINE: usize = 4096;
 
 /// Reads the command of a line, which comes without its newline and has none in it.
 ///

@@ -11,9 +11,9 @@ ghost use Rattle.ds_words.specs.declared.service.Server.{Server};
 
 use crate::pieces::Rest;
 use crate::service::{Device, Request, Server};
-use crate::split::newline_place;
 use driver_tables::FileClass;
 use ds_line::{Expected, PartFault, stop_at, word_at};
+use ds_lines::newline_place;
 use ds_names::read_decimal;
 
 impl<'a> Rest<'a> {

@@ -2,7 +2,7 @@
 
 ghost use Rattle.std.specs.Prelude.{◌≡◌};
 ghost use Rattle.ds_words.specs.Table.{slots_of, IsByTable};
-ghost use Rattle.ds_words.specs.Words.{IsOfServices};
+ghost use Rattle.ds_words.specs.Words.{IsOfServices, IsOfWorld};
 ghost use Rattle.ds_words.specs.declared.word.Word.{Word};
 
 use crate::slot::Slot;
@@ -36,9 +36,20 @@ pub fn slots_of(word: Word) -> &'static [Slot]
         ],
         Word::Check => &[Slot::Sub, Slot::Max, Slot::End],
         Word::Map => &[Slot::Pattern, Slot::Kinds, Slot::End],
-        Word::Entries | Word::Clear => &[Slot::Map, Slot::End],
+        Word::Entries => &[Slot::Map, Slot::End],
+        _ => slots_of_world(word),
+    }
+}
+
+// What stands behind a word of a line to a world, or to services or driver tables.
+fn slots_of_world(word: Word) -> &'static [Slot]
+    ensures world { IsOfWorld word → result.now ≡ slots_of word }
+    ensures services { IsOfServices word → result.now ≡ slots_of word }
+{
+    match word {
         Word::Ring => &[Slot::Ring, Slot::End],
         Word::Side => &[Slot::Side, Slot::End],
+        Word::Clear => &[Slot::Map, Slot::End],
         Word::Restart => &[Slot::Side, Slot::Incarnation, Slot::End],
         Word::Deliver => &[Slot::Message, Slot::Holder, Slot::Count, Slot::End],
         Word::Since => &[

@@ -4,7 +4,7 @@ use Rattle.std.specs.Int.{w128, to_be_bytes, bytes_high_first}
 use Rattle.std.proofs.lemmas.Bool.{ne_eqb}
 use Rattle.hex.specs.Hex.{encode_lower}
 use Rattle.ds_held.specs.Limits.{LimitsRecord, IsLimits}
-use Rattle.ds_line.specs.LastNewline.{with_newline}
+use Rattle.ds_lines.specs.Lines.{with_newline}
 use Rattle.store_words.specs.Reply.{mask_hex, owed_line}
 use Rattle.store_words.proofs.ResultLemmas.{on_ok}
 

@@ -8,7 +8,7 @@ use Rattle.ds_replica.specs.declared.outcome.EventFault.{EventFault}
 use Rattle.ds_replica.specs.declared.outcome.EventFault.TheVariants as faults
 use Rattle.ds_replica.specs.declared.outcome.Outcome.{Outcome}
 use Rattle.ds_replica.specs.declared.outcome.Outcome.TheVariants.{Replied, Made, MapMade, Merged, Stopped, Cleared, Restarted, Refused}
-use Rattle.ds_line.specs.LastNewline.{with_newline}
+use Rattle.ds_lines.specs.Lines.{with_newline}
 use Rattle.store_words.specs.Reply.{reply_lines, merged, stopped, owed_line}
 use Rattle.store_words.specs.declared.wording.Wording.{Wording}
 use Rattle.store_words.specs.declared.wording.Wording.TheVariants.{AsMerge}

@@ -5,7 +5,6 @@ use Rattle.std.specs.Fmt.{decimal}
 use Rattle.std.specs.Int.{bytes_high_first}
 use Rattle.hex.specs.Hex.{encode_lower}
 use Rattle.ds_names.specs.declared.version.Version.{Version}
-use Rattle.ds_entry.specs.declared.item.Item.{Item}
 use Rattle.ds_line.specs.Spelling.{value_part}
 use Rattle.ds_line.specs.ItemSpelling.{item_spelling}
 use Rattle.ds_feed.specs.declared.cursor.Cursor.{Cursor}
@@ -17,10 +16,11 @@ use Rattle.ds_machine.specs.declared.refusal.Refusal.{Refusal}
 use Rattle.ds_machine.specs.declared.refusal.Refusal.TheVariants as refusals
 use Rattle.ds_machine.specs.declared.reply.Reply.{Reply}
 use Rattle.ds_machine.specs.declared.reply.Reply.TheVariants.{Changed, Known, Swept, Found, Named, Subscribed, Checked, Journaled, Snapped, Paged, Merged, MergeStopped, Refused}
+use Rattle.ds_machine.specs.Given.{shown_by}
 use Rattle.ds_machine.specs.Owed.{owed_by}
 use Rattle.store_words.specs.declared.wording.Wording.{Wording}
 use Rattle.store_words.specs.declared.wording.Wording.TheVariants.{AsOffer, AsMerge}
-use Rattle.ds_line.specs.LastNewline.{with_newline}
+use Rattle.ds_lines.specs.Lines.{with_newline}
 
 -- the word of a refusal: its name in lower case
 abbrev pub refusal_word : Refusal → List ℕ
@@ -122,14 +122,6 @@ mask_hex limits mask = encode_lower (bytes_high_first (limits.subs / 8) mask)
 -- a line for what is owed, unless nothing is
 abbrev pub owed_line : LimitsRecord → ℕ → List ℕ
 owed_line limits mask = if mask == 0 then [] else with_newline (codes "owed " ++ mask_hex limits mask)
-
--- the items that the reply gives, floors and tombstones too
-abbrev pub shown_by : Reply → List Item
-shown_by (Checked items before after) = items
-shown_by (Journaled since) = since.items
-shown_by (Snapped snapshot) = snapshot.items
-shown_by (Paged page) = page.items
-shown_by _ = []
 
 -- the lines of the reply: those of the items that it gives, its words, and what is owed
 abbrev pub reply_lines : Wording → Reply → LimitsRecord → List ℕ

@@ -4,9 +4,10 @@ ghost use Rattle.std.specs.Prelude.{◌≡◌, ◌≤◌, ◌++◌, drop, codes,
 ghost use Rattle.std.specs.List.{flat_map};
 ghost use Rattle.hex.specs.Hex.{encode_lower};
 ghost use Rattle.ds_line.specs.ItemSpelling.{item_spelling};
-ghost use Rattle.ds_line.specs.LastNewline.{with_newline};
+ghost use Rattle.ds_lines.specs.Lines.{with_newline};
+ghost use Rattle.ds_machine.specs.Given.{shown_by};
 ghost use Rattle.store_words.specs.declared.wording.Wording.TheVariants.{AsOffer, AsMerge};
-ghost use Rattle.store_words.specs.Reply.{refusal_word, refusal_words, refused, merged, stopped, reply_words, shown_by, owed_line, reply_lines, refused_noroom};
+ghost use Rattle.store_words.specs.Reply.{refusal_word, refusal_words, refused, merged, stopped, reply_words, owed_line, reply_lines, refused_noroom};
 
 use crate::shown::{append_checked, append_journaled, append_paged, append_snapped};
 use crate::wording::Wording;
@@ -66,7 +67,8 @@ pub fn append_noroom(buffer: &mut Vec<u8>) -> Result<(), NoRoom>
 
 // Appends the lines of a reply but for what is owed, or nothing.
 fn append_words(buffer: &mut Vec<u8>, wording: Wording, reply: &Reply) -> Result<(), NoRoom>
-    ensures written { OnOk result (buffer.new.items ≡ buffer.old.items ++ (flat_map item_spelling (shown_by reply.now) ++ with_newline (reply_words wording reply.now))) }
+    ensures written { OnOk result (buffer.new.items
+        ≡ buffer.old.items ++ (flat_map item_spelling (shown_by reply.now) ++ with_newline (reply_words wording reply.now))) }
     ensures unchanged { OnErr result (buffer.new.items ≡ buffer.old.items) }
 {
     match reply {
@@ -161,7 +163,8 @@ fn append_refused(buffer: &mut Vec<u8>, refusal: Refusal) -> Result<(), NoRoom>
 
 // Appends some texts and the words of a refusal as one line, or nothing.
 fn append_refusal(buffer: &mut Vec<u8>, before: &[&[u8]], refusal: Refusal) -> Result<(), NoRoom>
-    ensures written { OnOk result (buffer.new.items ≡ buffer.old.items ++ (flat_map (λ text. text.now) before.now ++ with_newline (refusal_words refusal))) }
+    ensures written { OnOk result (buffer.new.items
+        ≡ buffer.old.items ++ (flat_map (λ text. text.now) before.now ++ with_newline (refusal_words refusal))) }
     ensures unchanged { OnErr result (buffer.new.items ≡ buffer.old.items) }
 {
     let start = buffer.len();
@@ -242,7 +245,8 @@ fn append_owed(buffer: &mut Vec<u8>, mask: u128, limits: Limits) -> Result<(), N
 // Appends the line of a mask, without its first bytes, or nothing.
 fn append_mask(buffer: &mut Vec<u8>, bytes: &[u8; 16], first: usize) -> Result<(), NoRoom>
     requires { first ≤ 16 }
-    ensures written { OnOk result (buffer.new.items ≡ buffer.old.items ++ with_newline (codes "owed " ++ encode_lower (drop first bytes.now))) }
+    ensures written { OnOk result (buffer.new.items
+        ≡ buffer.old.items ++ with_newline (codes "owed " ++ encode_lower (drop first bytes.now))) }
     ensures unchanged { OnErr result (buffer.new.items ≡ buffer.old.items) }
 {
     let bytes = &bytes[first..];

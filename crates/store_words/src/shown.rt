@@ -3,7 +3,7 @@
 ghost use Rattle.std.specs.Prelude.{◌≡◌, ◌++◌, List, ℕ, OnOk, OnErr, length};
 ghost use Rattle.std.specs.List.{flat_map};
 ghost use Rattle.ds_line.specs.ItemSpelling.{item_spelling};
-ghost use Rattle.ds_line.specs.LastNewline.{with_newline};
+ghost use Rattle.ds_lines.specs.Lines.{with_newline};
 ghost use Rattle.store_words.specs.Reply.{checked_text, since_text, snapped, page_mark, page_text};
 
 use ds_entry::Items;
@@ -20,7 +20,8 @@ pub(crate) fn append_checked(
     before: u64,
     after: u64,
 ) -> Result<(), NoRoom>
-    ensures written { OnOk result (buffer.new.items ≡ buffer.old.items ++ (flat_map item_spelling items.now ++ with_newline (checked_text (length items.now) before after))) }
+    ensures written { OnOk result (buffer.new.items
+        ≡ buffer.old.items ++ (flat_map item_spelling items.now ++ with_newline (checked_text (length items.now) before after))) }
     ensures unchanged { OnErr result (buffer.new.items ≡ buffer.old.items) }
 {
     let mut count_digits = Buffer::new();
@@ -39,7 +40,8 @@ pub(crate) fn append_checked(
 /// Appends the lines of the items that took effect from a cursor on, and the line that counts them and gives the cursor
 /// behind them, or nothing.
 pub(crate) fn append_journaled(buffer: &mut Vec<u8>, since: &Since) -> Result<(), NoRoom>
-    ensures written { OnOk result (buffer.new.items ≡ buffer.old.items ++ (flat_map item_spelling since.now.items ++ with_newline (since_text since.now))) }
+    ensures written { OnOk result (buffer.new.items
+        ≡ buffer.old.items ++ (flat_map item_spelling since.now.items ++ with_newline (since_text since.now))) }
     ensures unchanged { OnErr result (buffer.new.items ≡ buffer.old.items) }
 {
     let mut count_digits = Buffer::new();
@@ -60,7 +62,8 @@ pub(crate) fn append_journaled(buffer: &mut Vec<u8>, since: &Since) -> Result<()
 /// Appends the lines of the items that are held, and the line that counts them and gives the cursor at that time, or
 /// nothing.
 pub(crate) fn append_snapped(buffer: &mut Vec<u8>, snapshot: &Snapshot) -> Result<(), NoRoom>
-    ensures written { OnOk result (buffer.new.items ≡ buffer.old.items ++ (flat_map item_spelling snapshot.now.items ++ with_newline (snapped snapshot.now))) }
+    ensures written { OnOk result (buffer.new.items
+        ≡ buffer.old.items ++ (flat_map item_spelling snapshot.now.items ++ with_newline (snapped snapshot.now))) }
     ensures unchanged { OnErr result (buffer.new.items ≡ buffer.old.items) }
 {
     let mut count_digits = Buffer::new();
@@ -89,7 +92,8 @@ pub(crate) fn append_snapped(buffer: &mut Vec<u8>, snapshot: &Snapshot) -> Resul
 /// Appends the lines of the items on a page, and the line that counts them and gives whether it is the last one and the
 /// cursor at its time, or nothing.
 pub(crate) fn append_paged(buffer: &mut Vec<u8>, page: &Page) -> Result<(), NoRoom>
-    ensures written { OnOk result (buffer.new.items ≡ buffer.old.items ++ (flat_map item_spelling page.now.items ++ with_newline (page_text page.now))) }
+    ensures written { OnOk result (buffer.new.items
+        ≡ buffer.old.items ++ (flat_map item_spelling page.now.items ++ with_newline (page_text page.now))) }
     ensures unchanged { OnErr result (buffer.new.items ≡ buffer.old.items) }
 {
     let mut count_digits = Buffer::new();
@@ -124,7 +128,8 @@ fn page_mark(last: bool) -> &'static [u8]
 
 // Appends the line of each item, and some texts behind them, or nothing.
 fn append_listed(buffer: &mut Vec<u8>, items: &Items, texts: &[&[u8]]) -> Result<(), NoRoom>
-    ensures written { OnOk result (buffer.new.items ≡ buffer.old.items ++ (flat_map item_spelling items.now ++ flat_map (λ text. text.now) texts.now)) }
+    ensures written { OnOk result (buffer.new.items
+        ≡ buffer.old.items ++ (flat_map item_spelling items.now ++ flat_map (λ text. text.now) texts.now)) }
     ensures unchanged { OnErr result (buffer.new.items ≡ buffer.old.items) }
 {
     let start = buffer.len();

@@ -2,8 +2,9 @@
 
 use ds_entry::Value;
 use ds_held::Limits;
+use ds_lines::split_line;
 use ds_machine::{Refusal, Reply};
-use ds_words::{read_command, split_line};
+use ds_words::read_command;
 use std::alloc::Global;
 use store_words::write_reply;
 

@@ -1,7 +1,8 @@
 //! A script with its answers, and each read and each write of it failing in turn.
 
 use ds_line::Expected;
-use ds_script::{FailRead, FailWrite, ReplayFault, replay};
+use ds_lines::{FailRead, FailWrite};
+use ds_script::{ReplayFault, replay};
 use std::alloc::Global;
 
 /// A script, its answers, and how it ends.

@@ -70,7 +70,8 @@ impl Session {
         map: u64,
         output: &mut Vec<u8>,
     ) -> Result<(), NoRoom>
-        ensures answered { OnOk result (AppendsByServers (AnswersFollow (items_of_map self.old map)) output.old.items output.new.items self.old self.new) }
+        ensures answered { OnOk result (AppendsByServers (AnswersFollow (items_of_map self.old map))
+            output.old.items output.new.items self.old self.new) }
         ensures unanswered { OnErr result (output.new.items ≡ output.old.items) }
     {
         follow(alloc, &mut self.servers, &self.world, map, output)
@@ -86,7 +87,8 @@ impl Session {
         map: u64,
         output: &mut Vec<u8>,
     ) -> Result<(), NoRoom>
-        ensures answered { OnOk result (AppendsByServers (AnswersSubmit server id unit (items_of_map self.old map)) output.old.items output.new.items self.old self.new) }
+        ensures answered { OnOk result (AppendsByServers (AnswersSubmit server id unit (items_of_map self.old map))
+            output.old.items output.new.items self.old self.new) }
         ensures unanswered { OnErr result (output.new.items ≡ output.old.items) }
     {
         submit(
@@ -109,7 +111,8 @@ impl Session {
         id: u64,
         output: &mut Vec<u8>,
     ) -> Result<(), NoRoom>
-        ensures answered { OnOk result (AppendsByServers (AnswersReply server endpoint id) output.old.items output.new.items self.old self.new) }
+        ensures answered { OnOk result (AppendsByServers (AnswersReply server endpoint id)
+            output.old.items output.new.items self.old self.new) }
         ensures unanswered { OnErr result (output.new.items ≡ output.old.items) }
     {
         self.servers.reply(server, endpoint, id, output)
@@ -124,7 +127,8 @@ fn follow(
     map: u64,
     output: &mut Vec<u8>,
 ) -> Result<(), NoRoom>
-    ensures answered { OnOk result (AppendsLed (AnswersFollow (map_items (slice_get world.now.maps map))) output.old.items output.new.items servers.old servers.new) }
+    ensures answered { OnOk result (AppendsLed (AnswersFollow (map_items (slice_get world.now.maps map)))
+        output.old.items output.new.items servers.old servers.new) }
     ensures unanswered { OnErr result (output.new.items ≡ output.old.items) }
 {
     servers.follow(alloc, world.map(map as usize), output)
@@ -141,7 +145,8 @@ fn submit(
     map: u64,
     output: &mut Vec<u8>,
 ) -> Result<(), NoRoom>
-    ensures answered { OnOk result (AppendsLed (AnswersSubmit server id unit (map_items (slice_get world.now.maps map))) output.old.items output.new.items servers.old servers.new) }
+    ensures answered { OnOk result (AppendsLed (AnswersSubmit server id unit (map_items (slice_get world.now.maps map)))
+        output.old.items output.new.items servers.old servers.new) }
     ensures unanswered { OnErr result (output.new.items ≡ output.old.items) }
 {
     servers.submit(alloc, server, id, unit, world.map(map as usize), output)

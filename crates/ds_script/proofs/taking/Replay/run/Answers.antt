@@ -1,12 +1,12 @@
-use Rattle.std.proofs.Common.{◌≡◌, ◌≢◌, ℕ, true, false, [], ap, sym, subst, ◌∙◌, inr, refl, arith, rules}
+use Rattle.std.proofs.Common.{◌≡◌, ◌≢◌, ℕ, true, false, [], ap, sym, subst, ◌∙◌, inr, refl, rules}
 use Rattle.std.proofs.lemmas.Result.{err_from_is_err_and}
 use Rattle.std.proofs.lemmas.List.Elements.{All-nil}
-use Rattle.ds_words.specs.Lines.{IsUnbroken}
-use Rattle.ds_script.specs.Streams.{CallsLead}
+use Rattle.ds_lines.specs.Lines.{IsUnbroken}
+use Rattle.ds_lines.specs.Streams.{CallsLead}
 use Rattle.ds_script.specs.Taking.{reached, written}
 use Rattle.ds_script.specs.declared.fault.ReplayFault.{ReplayFault}
 use Rattle.ds_script.proofs.ProgressLemmas.{where_known}
-use Rattle.ds_script.proofs.CauseLemmas.{leads_more, run_cause}
+use Rattle.ds_script.proofs.CauseLemmas.{run_cause}
 use Rattle.ds_script.proofs.EndLemmas.{Stopped, come_none, come_turn, come_end, come_stop, come_over}
 use Rattle.ds_script.proofs.taking.Replay.run.Goals as goal
 

@@ -1,4 +1,3 @@
-use Rattle.std.proofs.Common.{[]}
 use Rattle.std.proofs.lemmas.Result.{err_from_is_err_and}
 use Rattle.ds_script.specs.Taking.{reached, written}
 use Rattle.ds_script.proofs.CauseLemmas.{turn_cause}

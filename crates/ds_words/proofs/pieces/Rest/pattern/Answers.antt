@@ -1,7 +1,7 @@
 use Rattle.std.proofs.Common.{ℕ, List, []}
 use Rattle.std.proofs.lemmas.Result.{err_from_is_err_and}
-use Rattle.ds_words.specs.Lines.{IsUnbroken}
-use Rattle.ds_words.proofs.NewlineLemmas.{unbroken_none}
+use Rattle.ds_lines.specs.Lines.{IsUnbroken}
+use Rattle.ds_lines.proofs.NewlineLemmas.{unbroken_none}
 use Rattle.ds_words.proofs.PieceLemmas.{one_part, no_byte}
 use Rattle.ds_words.proofs.QueryLemmas.{pattern_part, no_pattern, pattern_found}
 use Rattle.ds_words.proofs.pieces.Rest.pattern.Goals as goal

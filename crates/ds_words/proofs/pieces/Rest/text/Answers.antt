@@ -1,7 +1,7 @@
 use Rattle.std.proofs.Common.{[]}
 use Rattle.std.proofs.lemmas.Result.{err_from_is_err_and}
-use Rattle.ds_words.specs.Lines.{BreaksAt}
-use Rattle.ds_words.proofs.NewlineLemmas.{unbroken_none}
+use Rattle.ds_lines.specs.Lines.{BreaksAt}
+use Rattle.ds_lines.proofs.NewlineLemmas.{unbroken_none}
 use Rattle.ds_words.proofs.PieceLemmas.{no_byte}
 use Rattle.ds_words.proofs.ServicePieceLemmas.{text_rest, no_newline, text_found}
 use Rattle.ds_words.proofs.pieces.Rest.text.Goals as goal
