@@ -1,6 +1,6 @@
 //! Lists of items.
 
-ghost use Rattle.std.specs.Prelude.{◌≡◌, ◌++◌, ◌∷◌, [], length, slice_get, OnOk, IfErr, OnErr, IfOk};
+ghost use Rattle.std.specs.Prelude.{◌≡◌, ◌≤◌, ◌++◌, ◌∷◌, [], length, take, drop, slice_get, OnOk, IfErr, OnErr, IfOk};
 ghost use Rattle.std.specs.Option.{option_copied};
 
 use crate::item::Item;
@@ -41,6 +41,18 @@ impl Items {
         ensures back { IfErr result (λ back. back.value ≡ item) }
     {
         self.items.push(item)
+    }
+
+    /// Cuts it in two: it keeps the items before the index, and gives those from there on. Where there is no room, it is
+    /// unchanged.
+    pub fn split_off(&mut self, at: usize) -> Result<Items, NoRoom>
+        requires { at ≤ length self.old }
+        ensures kept { OnOk result (self.new ≡ take at self.old) }
+        ensures rest { IfOk result (λ rest. rest ≡ drop at self.old) }
+        ensures err { OnErr result (self.new ≡ self.old) }
+    {
+        let items = self.items.split_off(at)?;
+        Ok(Items { items })
     }
 
     /// How many items it has.

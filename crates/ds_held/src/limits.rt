@@ -1,7 +1,7 @@
 //! How much may be held.
 
 ghost use Rattle.std.specs.Prelude.{◌≡◌};
-ghost use Rattle.ds_held.specs.Limits.{IsLimits, larger, limits_for};
+ghost use Rattle.ds_held.specs.Limits.{IsLimits, larger, limits_for, smaller};
 
 use std::marker::Model;
 
@@ -34,6 +34,16 @@ impl Limits {
             Some(Limits { subs, keys })
         } else {
             None
+        }
+    }
+
+    /// 64 subscriptions and 1024 keys.
+    pub fn smaller() -> Limits
+        ensures { result ≡ smaller }
+    {
+        Limits {
+            subs: 64,
+            keys: 1024,
         }
     }
 

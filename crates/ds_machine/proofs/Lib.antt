@@ -10,3 +10,7 @@ pub mod FitLemmas
 pub mod SaysLemmas
 pub mod CountLemmas
 pub mod WithinLemmas
+pub mod OneStepLemmas
+pub mod GivenLemmas
+pub mod TakenLemmas
+pub mod BatchLemmas

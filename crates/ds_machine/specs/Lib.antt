@@ -16,4 +16,8 @@ pub mod Says
 pub mod Owed
 pub mod SubscriptionLaws
 pub mod FloorLaws
+pub mod OneStep
+pub mod Given
+pub mod Taken
+pub mod Batches
 pub mod Examples

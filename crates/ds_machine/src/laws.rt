@@ -1,14 +1,18 @@
 //! Laws of the machine's steps and runs, over its definitions alone.
 
+ghost use Rattle.ds_machine.specs.Batches.{FreeAreTaken, FreeInParts, FreeAreAnswered, PlacesAreFree, OwedInParts};
 ghost use Rattle.ds_machine.specs.Effect.{OpeningIsReached, StepsStayReached, RunsStayReached, StepHasEffect, GoesOnSame};
 ghost use Rattle.ds_machine.specs.Effect.{GoesOnLater, StepsGoOn, RunsGoOn, HeldIsTop, LearntIsHeld, KnownStaysHeld};
 ghost use Rattle.ds_machine.specs.Examples.{PublishRow, SweepRow, RingRow, PageRow, ChangingPagesRow, LastPlaceRow};
 ghost use Rattle.ds_machine.specs.FloorLaws.{AcceptedFloorStands, FloorStandsOverRuns};
+ghost use Rattle.ds_machine.specs.Given.{GivenWasAccepted, FewAreDone};
+ghost use Rattle.ds_machine.specs.OneStep.{StepsAreOne, OutcomesWantNone, OneItemWantsAlike};
 ghost use Rattle.ds_machine.specs.Says.{RefusedSays, ChangedSays, FoundSays, NamedSays, SweptSays};
 ghost use Rattle.ds_machine.specs.Says.{SubscribedSays, CheckedSays, JournaledSays, SnappedSays, PagedSays};
 ghost use Rattle.ds_machine.specs.Says.{MergedSays, MergeStoppedSays, OwedFits, OwedTells, RepliesFit};
 ghost use Rattle.ds_machine.specs.SubscriptionLaws.{StepKeepsSubscription, RunKeepsSubscription, StepStampsSubscription};
 ghost use Rattle.ds_machine.specs.SubscriptionLaws.{RunStampsSubscription, StampTells, SubscribedLeaves, CheckedLeaves};
+ghost use Rattle.ds_machine.specs.Taken.{PlacesAreTaken};
 ghost use Rattle.ds_machine.specs.Within.{OpeningIsWithin, StepsStayWithin, RunsStayWithin};
 
 /// The opening state is reached, and each step and each run leads from a state that is reached to another: its accepted
@@ -92,4 +96,34 @@ pub fn rows_are_answered()
     ensures pages { PageRow }
     ensures changing { ChangingPagesRow }
     ensures last { LastPlaceRow }
+{}
+
+/// A step is one by the state, the command, and where memory was wanted: nowhere, for the whole command, or behind so many items
+/// of a Merge. A Merge of one item for which memory is wanted changes nothing, and owes nothing, whichever of the last two it is.
+pub fn steps_are_one()
+    ensures one { StepsAreOne }
+    ensures outcome { OutcomesWantNone }
+    ensures single { OneItemWantsAlike }
+{}
+
+/// What a reply gives had been accepted, and a Merge that was stopped has done no more items than one may have.
+pub fn given_was_accepted()
+    ensures given { GivenWasAccepted }
+    ensures few { FewAreDone }
+{}
+
+/// Where no floor was accepted, changes of different keys, each of which takes the place of the held one of its key, all take
+/// effect.
+pub fn places_are_taken()
+    ensures free { PlacesAreFree }
+    ensures taken { PlacesAreTaken }
+{}
+
+/// Where nothing stands against each of some items when it comes, a Merge takes all of them, in one or in parts, and owes for
+/// each part what is owed for it.
+pub fn free_items_are_taken()
+    ensures taken { FreeAreTaken }
+    ensures parts { FreeInParts }
+    ensures answered { FreeAreAnswered }
+    ensures owed { OwedInParts }
 {}

@@ -3,3 +3,4 @@ pub mod LookLemmas
 pub mod NarrowLemmas
 pub mod PrintableLemmas
 pub mod RegexLemmas
+pub mod StarLemmas

@@ -8,6 +8,7 @@
 
 mod asker;
 mod filter;
+mod laws;
 mod narrow;
 mod pattern;
 mod query;
@@ -15,6 +16,7 @@ mod threads;
 
 pub use asker::Asker;
 pub use filter::Filter;
+pub use laws::dot_star_is_a_pattern;
 pub use pattern::{Pattern, PatternFault, SIZE_LIMIT};
 pub use query::{PatternText, Query};
 pub use threads::filters_cross_threads;

@@ -198,7 +198,7 @@ judged_known s a body e r h =
     passed (against_asked (standing_of s (asked_in s a body)) (name_of (held s) a.caller) a body) is_known (map causes.Refused by_command) (by_version (Some a.version) ++ map causes.Refused by_room) (causes.Refused r) causes.Known e refl refl
     (Contains-map causes.Refused by_command r h)
 
-one_item : (i : Item) → IsItem i → AreItems (i ∷ [])
+pub one_item : (i : Item) → IsItem i → AreItems (i ∷ [])
 one_item i f j h = subst IsItem (sym (Contains-single i j h)) f
 
 no_items : AreItems []

@@ -1,4 +1,5 @@
 pub mod ZipLemmas
+pub mod HappenLemmas
 pub mod StartLemmas
 pub mod LeftLemmas
 pub mod GoneLemmas

@@ -1,5 +1,5 @@
 -- The worked rows.
-use Rattle.std.proofs.Common.{◌≡◌, ◌⊎◌, ℕ, ◌≤◌, true, false, List, [], ◌∷◌, ◌++◌, length, filter, Some, None, refl, ap, sym, ◌∙◌, subst, inl, inr, arith, codes, Contains}
+use Rattle.std.proofs.Common.{◌≡◌, ◌⊎◌, ℕ, ◌≤◌, true, false, List, [], ◌∷◌, length, filter, Some, None, refl, ap, sym, ◌∙◌, subst, inl, inr, arith, codes, Contains}
 use Rattle.ds_names.specs.Endpoint.{endpoint_of}
 use Rattle.ds_names.specs.Name.{is_name_byte, is_same_name, rs_name}
 use Rattle.ds_entry.specs.Change.{ChangeRecord}
@@ -27,11 +27,10 @@ use Rattle.ds_machine.specs.declared.refusal.Refusal.{Refusal}
 use Rattle.ds_machine.specs.declared.refusal.Refusal.TheVariants.{Clash}
 use Rattle.ds_machine.specs.declared.reply.Reply.TheVariants.{Merged as AllMerged, MergeStopped}
 use Rattle.ds_machine.proofs.PartLemmas.{changed_same}
+use Rattle.ds_replica.proofs.HappenLemmas.{happen_then}
 use Rattle.ds_replica.specs.declared.event.Side.{Side}
-use Rattle.ds_replica.specs.declared.event.Event.{Event}
 use Rattle.ds_replica.specs.declared.event.Event.TheVariants.{NewMap, Deliver}
 use Rattle.ds_replica.specs.declared.event.Holder.TheVariants.{Map}
-use Rattle.ds_replica.specs.declared.outcome.Outcome.{Outcome}
 use Rattle.ds_replica.specs.declared.outcome.Outcome.TheVariants.{MapMade, Merged}
 use Rattle.ds_replica.specs.World.{World, MapState, store_at, with_state, with_items}
 use Rattle.ds_replica.specs.Happens.{Asks, ask_outcome, items_given, HappenAll}
@@ -364,11 +363,6 @@ replicas_clash = record {
   differ = λ q. apart (sym q);
   stops = (refl, record { items = other ∷ []; there = refl; tally = clashed; taken = record { after = takes_effect (opening 3 0 4 larger) (one ∷ []); takes = stopped (takes_effect (opening 3 0 4 larger) (one ∷ [])) other (inl (inl (record { reply_is = refl; state_is = refl }))); world_is = refl }; outcome_is = refl });
 }
-
--- and then these events happen
-happen_then : (xs ys : List (Event × Outcome)) (w mid new : World) → HappenAll w xs mid → HappenAll mid ys new → HappenAll w (xs ++ ys) new
-happen_then [] ys w mid new h k = subst (λ (v : World). HappenAll v ys new) h k
-happen_then (e ∷ es) ys w mid new h k = (h.0, h.1, happen_then es ys h.0 mid new h.2 k)
 
 module _ (query : Query) (asks : AsksFor query irq) where
   abbrev map_of : List Item → MapState

@@ -1,6 +1,10 @@
 //! What comes of an event.
 
+ghost use Rattle.std.specs.Prelude.{◌≡◌, IfOk};
+
 use ds_machine::{Refusal, Reply};
+use ds_names::NoRoom;
+use std::alloc::Global;
 use thiserror::Error;
 
 /// What came of an event. Of this project.
@@ -68,4 +72,36 @@ pub enum EventFault {
     /// Memory is wanting.
     #[error("out of memory")]
     NoRoom,
+}
+
+impl Outcome {
+    /// The same outcome again.
+    pub fn copy(&self, alloc: Global) -> Result<Outcome, NoRoom>
+        ensures { IfOk result (λ copy. copy ≡ self.now) }
+    {
+        match self {
+            Outcome::Replied(reply) => Ok(Outcome::Replied(reply.copy(alloc)?)),
+            Outcome::Made { message } => Ok(Outcome::Made { message: *message }),
+            Outcome::MapMade { map } => Ok(Outcome::MapMade { map: *map }),
+            Outcome::Merged {
+                done,
+                taken,
+                stale,
+                owed,
+            } => Ok(Outcome::Merged {
+                done: *done,
+                taken: *taken,
+                stale: *stale,
+                owed: *owed,
+            }),
+            Outcome::Stopped { done, fault, owed } => Ok(Outcome::Stopped {
+                done: *done,
+                fault: *fault,
+                owed: *owed,
+            }),
+            Outcome::Cleared => Ok(Outcome::Cleared),
+            Outcome::Restarted => Ok(Outcome::Restarted),
+            Outcome::Refused(fault) => Ok(Outcome::Refused(*fault)),
+        }
+    }
 }

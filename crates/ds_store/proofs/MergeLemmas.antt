@@ -1,9 +1,8 @@
 -- How a merge goes on.
-use Rattle.std.proofs.Common.{◌≡◌, ℕ, zero, suc, ◌+◌, ◌-◌, ◌<◌, ◌≤◌, Bool, true, false, List, [], ◌∷◌, ◌++◌, map, length, take, drop, get_or, fold, replicate, Option, Some, None, Ok, Err, refl, ap, ap₂, sym, ◌∙◌, subst, inl, inr, arith, length-append, ◌⊎◌, not, cond, nat_le, ◌||◌}
+use Rattle.std.proofs.Common.{◌≡◌, ℕ, zero, suc, ◌+◌, ◌-◌, ◌<◌, ◌≤◌, Bool, true, false, List, [], ◌∷◌, ◌++◌, map, length, take, drop, get_or, fold, replicate, Option, Some, None, Ok, Err, refl, ap, ap₂, sym, ◌∙◌, subst, inl, inr, arith, length-append, ◌⊎◌, ◌||◌}
 use Rattle.std.proofs.lemmas.List.Sums.{fold_more, fold-append}
 use Rattle.std.proofs.lemmas.List.{take-append-drop, take_all, length-map}
 use Rattle.std.proofs.lemmas.List.Folds.{list_any-append}
-use Rattle.std.proofs.lemmas.Bool.Decides.{nat_tests}
 use Rattle.std.proofs.lemmas.Option.{slice_get_within, slice_get_read, get_or_from_slice_get, slice_get_cases}
 use Rattle.std.specs.Prelude.{slice_get}
 use Rattle.std.specs.Option.{option_map_or}
@@ -25,6 +24,7 @@ use Rattle.ds_machine.specs.declared.refusal.Cause.{Cause}
 use Rattle.ds_machine.specs.declared.refusal.Cause.TheVariants as causes
 use Rattle.ds_machine.specs.declared.refusal.Refusal.{Refusal}
 use Rattle.ds_machine.specs.declared.refusal.Refusal.TheVariants as refusals
+use Rattle.ds_machine.proofs.BatchLemmas.{none_stands}
 use Rattle.ds_judge.specs.Passed.{passed_as}
 use Rattle.ds_judge.specs.Last.{IsLast, MayLackItem}
 use Rattle.ds_content.specs.Content.{ContentRecord}
@@ -106,11 +106,6 @@ next_reached s items i c join t n m x y at r is e f =
       sym done.1 ∙ ap (λ (k : Course). k.state) (sym same),
     )
 
-none_against : (n : ℕ) → n ≤ most_items → first_refusal (against_merge n) ≡ None
-none_against n few =
-    let e : nat_le n most_items ≡ true = grind (arith, nat_tests) in
-    ap (λ b. cond (not b) (Some refusals.TooMany) None) e
-
 -- ---- the answers
 pub merge_stopped : (s : State) (items : List Item) (i : ℕ) (c : Item) (fault : Refusal) (t : State) (n m o : ℕ) → o ≡ owed s (course s (take i items)).taken → length items ≤ most_items → slice_get items i ≡ Some c
     → Reached (course s (take i items)) i n m → MergesItem (course s (take i items)).state c (Err fault) t → Step s (Merges items) (MergeStopped i fault o) t
@@ -138,9 +133,9 @@ merge_stopped s items i c fault t n m o owes few at r is = by_fault is.1
         let there : course s items ≡ record k { stop = Some fault } =
         course_stopped s items i c fault (slice_get_within items i c at) r.stop (subst (λ (x : Item). StopsMerge k.state x fault) (sym this) stop) in
         let reply : (merging s items (first_refusal (against_merge (length items)))).0 ≡ MergeStopped i fault o =
-        ap (λ x. (merging s items x).0) (none_against (length items) few) ∙ ap (merge_reply s) there ∙ ap₂ (λ d b. MergeStopped d fault b) r.done (sym nothing) in
+        ap (λ x. (merging s items x).0) (none_stands (length items) few) ∙ ap (merge_reply s) there ∙ ap₂ (λ d b. MergeStopped d fault b) r.done (sym nothing) in
         let state : (merging s items (first_refusal (against_merge (length items)))).1 ≡ k.state =
-        ap (λ x. (merging s items x).1) (none_against (length items) few) ∙ ap (λ (x : Course). x.state) there in
+        ap (λ x. (merging s items x).1) (none_stands (length items) few) ∙ ap (λ (x : Course). x.state) there in
         inl (inl (record { reply_is = sym reply; state_is = is.0 ∙ sym state }))
 
 pub merge_done : (s : State) (items : List Item) (i n m o : ℕ) → o ≡ owed s (course s (take i items)).taken → length items ≤ most_items → slice_get items i ≡ None → i ≤ length items
@@ -154,9 +149,9 @@ merge_done s items i n m o owes few gone within r =
     ap (λ stop. option_map_or (λ (fault : Refusal). MergeStopped k.done fault (owed s k.taken)) stop (Merged k.done (length k.taken) k.stale (owed s k.taken))) r.stop
     ∙ ap₂ (λ d l. Merged d l k.stale (owed s k.taken)) r.done r.taken ∙ ap₂ (λ l b. Merged i n l b) r.stale nothing in
     let reply : (merging s items (first_refusal (against_merge (length items)))).0 ≡ Merged i n m o =
-    ap (λ x. (merging s items x).0) (none_against (length items) few) ∙ ap (merge_reply s) whole ∙ counts in
+    ap (λ x. (merging s items x).0) (none_stands (length items) few) ∙ ap (merge_reply s) whole ∙ counts in
     let state : (merging s items (first_refusal (against_merge (length items)))).1 ≡ k.state =
-    ap (λ x. (merging s items x).1) (none_against (length items) few) ∙ ap (λ (x : Course). x.state) whole in
+    ap (λ x. (merging s items x).1) (none_stands (length items) few) ∙ ap (λ (x : Course). x.state) whole in
     inl (inl (record { reply_is = sym reply; state_is = sym state }))
   where
     past : (xs : List Item) (j : ℕ) → slice_get xs j ≡ None → length xs ≤ j

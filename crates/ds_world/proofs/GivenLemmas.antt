@@ -19,16 +19,12 @@ use Rattle.ds_replica.specs.Known.{Account, store_of, extended, extended_all}
 use Rattle.ds_replica.specs.Fits.{Fits}
 use Rattle.ds_replica.specs.Messages.{IsAsked, account_after, feed_of, IsMessage}
 use Rattle.ds_replica.proofs.EventLemmas.{events_fit}
+use Rattle.ds_replica.proofs.HappenLemmas.{happen_split}
 use Rattle.ds_replica.proofs.MessageLemmas.{check_is_turn}
 use Rattle.ds_replica.proofs.CheckLemmas.{checks_are_whole}
 use Rattle.ds_replica.proofs.ClashLemmas.{nothing_stops}
 use Rattle.ds_world.specs.Account.{NothingStops}
 use Rattle.ds_world.specs.Messages.{WasGiven, ChecksAreTurns, AllChecksAreWhole}
-
--- events that happened one after the other, in two parts
-happen_split : (xs ys : List (Event × Outcome)) (w new : World) → HappenAll w (xs ++ ys) new → (mid : World) × HappenAll w xs mid × HappenAll mid ys new
-happen_split [] ys w new h = (w, refl, h)
-happen_split (x ∷ xs) ys w new h = let t = happen_split xs ys h.0 new h.2 in (t.0, (h.0, h.1, t.1), t.2)
 
 extended_append : (xs ys : List (Event × Outcome)) (account : Account) → extended_all account (xs ++ ys) ≡ extended_all (extended_all account xs) ys
 extended_append [] ys account = refl

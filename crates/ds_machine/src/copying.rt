@@ -1,0 +1,107 @@
+//! The same reply again.
+
+ghost use Rattle.std.specs.Prelude.{◌≡◌, IfOk};
+ghost use Rattle.ds_machine.specs.declared.reply.Reply.TheVariants.{Checked, Merged, MergeStopped};
+
+use crate::refusal::Refusal;
+use crate::reply::Reply;
+use ds_entry::Items;
+use ds_feed::{Page, Since, Snapshot};
+use ds_names::NoRoom;
+use std::alloc::Global;
+
+// What a check shows.
+fn checked(items: Items, before: u64, after: u64) -> Reply
+    ensures { result ≡ Checked items before after }
+{
+    Reply::Checked {
+        items,
+        before,
+        after,
+    }
+}
+
+// What came of a Merge of which all items were done.
+fn merged(done: usize, taken: usize, stale: usize, owed: u128) -> Reply
+    ensures { result ≡ Merged done taken stale owed }
+{
+    Reply::Merged {
+        done,
+        taken,
+        stale,
+        owed,
+    }
+}
+
+// What came of one that stopped.
+fn stopped(done: usize, fault: Refusal, owed: u128) -> Reply
+    ensures { result ≡ MergeStopped done fault owed }
+{
+    Reply::MergeStopped { done, fault, owed }
+}
+
+fn since_again(alloc: Global, since: &Since) -> Result<Since, NoRoom>
+    ensures { IfOk result (λ copy. copy ≡ since.now) }
+{
+    Ok(Since {
+        items: since.items.copy(alloc)?,
+        cursor: since.cursor,
+    })
+}
+
+fn snapshot_again(alloc: Global, snapshot: &Snapshot) -> Result<Snapshot, NoRoom>
+    ensures { IfOk result (λ copy. copy ≡ snapshot.now) }
+{
+    Ok(Snapshot {
+        items: snapshot.items.copy(alloc)?,
+        cursor: snapshot.cursor,
+    })
+}
+
+fn page_again(alloc: Global, page: &Page) -> Result<Page, NoRoom>
+    ensures { IfOk result (λ copy. copy ≡ page.now) }
+{
+    Ok(Page {
+        items: page.items.copy(alloc)?,
+        last: page.last,
+        cursor: page.cursor,
+    })
+}
+
+impl Reply {
+    /// The same reply again.
+    pub fn copy(&self, alloc: Global) -> Result<Reply, NoRoom>
+        ensures { IfOk result (λ copy. copy ≡ self.now) }
+    {
+        match self {
+            Reply::Changed { owed } => Ok(Reply::Changed { owed: *owed }),
+            Reply::Known => Ok(Reply::Known),
+            Reply::Swept { count, owed } => Ok(Reply::Swept {
+                count: *count,
+                owed: *owed,
+            }),
+            Reply::Found(value) => Ok(Reply::Found(value.copy(alloc)?)),
+            Reply::Named(name) => Ok(Reply::Named(*name)),
+            Reply::Subscribed { stamp, owed } => Ok(Reply::Subscribed {
+                stamp: *stamp,
+                owed: *owed,
+            }),
+            Reply::Checked {
+                items,
+                before,
+                after,
+            } => Ok(checked(items.copy(alloc)?, *before, *after)),
+            Reply::Journaled(since) => Ok(Reply::Journaled(since_again(alloc, since)?)),
+            Reply::Snapped(snapshot) => Ok(Reply::Snapped(snapshot_again(alloc, snapshot)?)),
+            Reply::Paged(page) => Ok(Reply::Paged(page_again(alloc, page)?)),
+            Reply::Merged {
+                done,
+                taken,
+                stale,
+                owed,
+            } => Ok(merged(*done, *taken, *stale, *owed)),
+            Reply::MergeStopped { done, fault, owed } => Ok(stopped(*done, *fault, *owed)),
+            Reply::Refused(refusal) => Ok(Reply::Refused(*refusal)),
+        }
+    }
+}
