@@ -27,6 +27,7 @@ use Rattle.ds_replica.specs.Known.{Account, new_account, extended_all}
 use Rattle.ds_replica.specs.Fits.{Fits}
 use Rattle.ds_replica.proofs.StartLemmas.{account_fits_at_start}
 use Rattle.ds_replica.proofs.EventLemmas.{events_fit}
+use Rattle.ds_replica.proofs.HappenLemmas.{happen_then, happen_split}
 use Rattle.ds_replica.proofs.BringLemmas.{events_bring_items}
 use Rattle.ds_replica.proofs.HolderLemmas.{equal_where_known, nothing_clashes, holds_the_stores, labels_are_newest}
 use Rattle.ds_replica.proofs.ClashLemmas.{nothing_stops}
@@ -44,14 +45,6 @@ use Rattle.ds_services.proofs.AccountLemmas.{extended_twice, all_brought}
 use Rattle.ds_services.proofs.EventLemmas.{IsSound, WorldLeads, event_leads, run_sound, run_tables}
 
 -- ---- events of the world, joined and cut
-happen_join : (w m n : World) (xs ys : WorldEvents) → HappenAll w xs m → HappenAll m ys n → HappenAll w (xs ++ ys) n
-happen_join w m n [] ys h g = subst (λ (z : World). HappenAll z ys n) h g
-happen_join w m n (x ∷ xs) ys h g = (h.0, h.1, happen_join h.0 m n xs ys h.2 g)
-
-happen_cut : (w n : World) (xs ys : WorldEvents) → HappenAll w (xs ++ ys) n → (m : World) × HappenAll w xs m × HappenAll m ys n
-happen_cut w n [] ys h = (w, refl, h)
-happen_cut w n (x ∷ xs) ys h = let r = happen_cut h.0 n xs ys h.2 in (r.0, (h.0, h.1, r.1), r.2)
-
 proper_join : (xs ys : WorldEvents) → AreProper xs → AreProper ys → AreProper (xs ++ ys)
 proper_join xs ys p q e h = elim (Contains-append_cases xs ys e h) [ inl i ↦ p e i | inr i ↦ q e i ]
 
@@ -62,7 +55,7 @@ run_leads s (e ∷ es) t run =
     let rest = run_leads run.0 es t run.2 in
     record {
       proper = proper_join e.steps.events (all_events es) one.proper rest.proper;
-      happen = happen_join s.world run.0.world t.world e.steps.events (all_events es) one.happen rest.happen;
+      happen = happen_then e.steps.events (all_events es) s.world run.0.world t.world one.happen rest.happen;
     }
 
 -- ---- a new system
@@ -118,7 +111,7 @@ brought_single account s k =
 none_contradicted : (account : Account) (w n : World) (events : WorldEvents) → Fits account w → HappenAll w events n → AreSingleNumbered (extended_all account events).brought → NoneIsContradicted events
 none_contradicted account w n events f h single front back k holder count done fault owed is =
     let all : HappenAll w (front ++ (Deliver k holder count, Stopped done fault owed) ∷ back) n = subst (λ (z : WorldEvents). HappenAll w z n) (sym is) h in
-    let cut = happen_cut w n front ((Deliver k holder count, Stopped done fault owed) ∷ back) all in
+    let cut = happen_split front ((Deliver k holder count, Stopped done fault owed) ∷ back) w n all in
     nothing_stops (extended_all account front) cut.0 cut.2.0 k holder count done fault owed (events_fit account w cut.0 front f cut.1)
     (single_part (extended_all account front).brought (extended_all account events).brought (later front ((Deliver k holder count, Stopped done fault owed) ∷ back) is) single) cut.2.1
   where

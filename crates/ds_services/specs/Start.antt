@@ -1,9 +1,8 @@
 -- A system that was just made.
-use Rattle.std.specs.Prelude.{◌≡◌, ℕ, ◌≤◌, true, List, [], ◌∷◌, length, replicate, codes, Option, Some, None}
+use Rattle.std.specs.Prelude.{◌≡◌, ℕ, ◌≤◌, List, [], ◌∷◌, length, replicate, codes, Option, Some, None}
 use Rattle.std.specs.List.{filter_map, fold}
 use Rattle.ds_held.specs.Limits.{larger}
 use Rattle.ds_pattern.specs.declared.query.Query.{Query}
-use Rattle.ds_pattern.specs.Patterns.{is_pattern}
 use Rattle.ds_pattern.specs.Under.{query_of}
 use Rattle.rs_settings.specs.declared.class.Class.{Class}
 use Rattle.rs_settings.specs.declared.class.Class.TheVariants.{Block, Character, Network, Server}
@@ -77,9 +76,9 @@ pub record IsNew (settings : SettingsRecord) (a b : Seed) (next : ℕ) (s : Syst
   pub net : s.net ≡ assigned_all (filter_map net_unit settings.services)
   pub made : s.made ≡ []
 
--- there is such a system for all settings that were checked, whatever the seeds, if the text of the maps' query is a pattern
+-- there is such a system for all settings that were checked, whatever the seeds
 abbrev pub NewSystemsExist : Type 0
-NewSystemsExist = (settings : SettingsRecord) (a b : Seed) (next : ℕ) → IsSettings settings → 1 ≤ next → is_pattern (codes ".*") ≡ true → (s : System) × IsNew settings a b next s
+NewSystemsExist = (settings : SettingsRecord) (a b : Seed) (next : ℕ) → IsSettings settings → 1 ≤ next → (s : System) × IsNew settings a b next s
 
 -- the account of a system that was made of these seeds and in which this happened
 abbrev pub account_since : Seed → Seed → List SystemEntry → Account

@@ -8,7 +8,7 @@ ghost use Rattle.ds_services.specs.Wrong.{WrongTurns};
 /// Over every list of events of a system whose settings were checked, with no other premise: what RS and the services made, and all
 /// that Asks brought into the stores, is single-numbered, and each number was drawn once. So replicas and maps that know the same
 /// hold the same, a map that has all of a store holds what the store holds, its labels name no older generation, and no delivery
-/// is stopped by a clash or by another owner. There is a new system for all such settings, if `.*` is a pattern.
+/// is stopped by a clash or by another owner. There is a new system for all such settings.
 pub fn systems_keep_laws()
     ensures start { NewSystemsExist }
     ensures laws { SystemsKeepLaws }

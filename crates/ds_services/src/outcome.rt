@@ -1,11 +1,15 @@
 //! What comes of an event of a system.
 
+ghost use Rattle.std.specs.Prelude.{◌≡◌, IfOk};
+
 use crate::replies::Replies;
 use crate::rounds::Rounds;
 use driver_tables::{Move, TableFault};
 use ds_machine::Reply;
+use ds_names::NoRoom;
 use ds_replica::Outcome;
 use rs_core::{Actions, RsFault};
+use std::alloc::Global;
 use thiserror::Error;
 
 /// What came of an event of a system. Of this project.
@@ -29,6 +33,28 @@ pub enum SystemOutcome {
     Happened(Outcome),
     /// The event was refused, and nothing changed.
     Refused(SystemFault),
+}
+
+impl SystemOutcome {
+    /// The same outcome again.
+    pub fn copy(&self, alloc: Global) -> Result<SystemOutcome, NoRoom>
+        ensures { IfOk result (λ copy. copy ≡ self.now) }
+    {
+        match self {
+            SystemOutcome::Acted { actions, replies } => Ok(SystemOutcome::Acted {
+                actions: actions.copy(alloc)?,
+                replies: replies.copy(alloc)?,
+            }),
+            SystemOutcome::Replied(reply) => Ok(SystemOutcome::Replied(reply.copy(alloc)?)),
+            SystemOutcome::Moved { rounds, own, fault } => Ok(SystemOutcome::Moved {
+                rounds: rounds.copy(alloc)?,
+                own: *own,
+                fault: *fault,
+            }),
+            SystemOutcome::Happened(outcome) => Ok(SystemOutcome::Happened(outcome.copy(alloc)?)),
+            SystemOutcome::Refused(fault) => Ok(SystemOutcome::Refused(*fault)),
+        }
+    }
 }
 
 /// Why a system refuses an event, in the order in which the causes of one event are judged. Nothing changed.

@@ -1,9 +1,10 @@
 //! Lists of replies.
 
-ghost use Rattle.std.specs.Prelude.{◌≡◌, ◌++◌, ◌∷◌, [], length, slice_get, OnOk, IfErr, OnErr};
+ghost use Rattle.std.specs.Prelude.{◌≡◌, ◌++◌, ◌∷◌, [], length, slice_get, OnOk, IfErr, OnErr, IfOk};
 ghost use Rattle.std.specs.Option.{option_copied};
 
 use ds_machine::Reply;
+use ds_names::NoRoom;
 use std::alloc::{AllocFailed, Global};
 use std::marker::Model;
 
@@ -60,5 +61,16 @@ impl Replies {
         ensures { option_copied result ≡ slice_get self.now index }
     {
         self.replies.get(index)
+    }
+
+    /// The same replies again, in the same order.
+    pub fn copy(&self, alloc: Global) -> Result<Replies, NoRoom>
+        ensures { IfOk result (λ copy. copy ≡ self.now) }
+    {
+        let mut replies = Vec::new(alloc);
+        for reply in &self.replies {
+            replies.push(reply.copy(alloc)?)?;
+        }
+        Ok(Replies { replies })
     }
 }

@@ -1,9 +1,10 @@
 //! Lists of rounds of moves.
 
-ghost use Rattle.std.specs.Prelude.{◌≡◌, ◌++◌, ◌∷◌, [], length, slice_get, OnOk, IfErr, OnErr};
+ghost use Rattle.std.specs.Prelude.{◌≡◌, ◌++◌, ◌∷◌, [], length, slice_get, OnOk, IfErr, OnErr, IfOk};
 ghost use Rattle.std.specs.Option.{option_copied};
 
 use driver_tables::Moves;
+use ds_names::NoRoom;
 use std::alloc::{AllocFailed, Global};
 use std::marker::Model;
 
@@ -60,5 +61,16 @@ impl Rounds {
         ensures { option_copied result ≡ slice_get self.now index }
     {
         self.rounds.get(index)
+    }
+
+    /// The same rounds again, in the same order.
+    pub fn copy(&self, alloc: Global) -> Result<Rounds, NoRoom>
+        ensures { IfOk result (λ copy. copy ≡ self.now) }
+    {
+        let mut rounds = Vec::new(alloc);
+        for round in &self.rounds {
+            rounds.push(round.copy(alloc)?)?;
+        }
+        Ok(Rounds { rounds })
     }
 }

@@ -1,0 +1,6 @@
+mod AskLemmas
+mod ServeLemmas
+mod WriteLemmas
+mod TurnLemmas
+mod BeginLemmas
+mod RunLemmas

@@ -1,0 +1,83 @@
+-- Runs of a system's events, and what holds since it was new.
+use Rattle.std.proofs.Common.{◌≡◌, List, [], ◌∷◌, ◌++◌, map, refl, ap, ◌∙◌, subst}
+use Rattle.history.proofs.RunLemmas.{path_push, path_join, path_cut}
+use Rattle.ds_services.specs.declared.event.SystemEvent.{SystemEvent}
+use Rattle.ds_services.specs.declared.outcome.SystemOutcome.{SystemOutcome}
+use Rattle.ds_services.specs.System.{System}
+use Rattle.ds_services.specs.Happening.{SystemDoes, SystemEntry, SystemRun}
+use Rattle.ds_services.proofs.LawLemmas.{systems_keep_laws}
+use Rattle.ds_services.proofs.OlderLemmas.{no_send_to_older}
+use Rattle.ds_services.proofs.ApartLemmas.{labels_are_apart}
+use Rattle.ds_system.specs.Stands.{SystemRecord, SystemEventLeads}
+use Rattle.ds_system.specs.Since.{SystemRunLeads, SystemPast, IsRightAmong, HoldsOfPast, SystemLawsHold}
+
+-- the step of a run
+abbrev Entered : System → SystemEntry → System → Type 0
+Entered s e t = SystemDoes s e.event e.outcome e.steps t
+
+-- ---- runs
+pub run_none : (value : SystemRecord) → SystemRunLeads [] [] value value
+run_none value s st = (s, [], record { events_are = refl; outcomes_are = refl }, refl, st)
+
+mapped : {X : Type 0} (f : SystemEntry → X) (entries : List SystemEntry) (xs : List X) (e : SystemEntry) → map f entries ≡ xs → map f (entries ++ e ∷ []) ≡ xs ++ f e ∷ []
+mapped {X} f entries xs e q = over entries ∙ ap (λ (l : List X). l ++ f e ∷ []) q
+  where
+    over : (l : List SystemEntry) → map f (l ++ e ∷ []) ≡ map f l ++ f e ∷ []
+    over [] = refl
+    over (z ∷ l) = ap (λ (k : List X). f z ∷ k) (over l)
+
+-- one more event behind a run
+pub run_more : (a b c : SystemRecord) (es : List SystemEvent) (os : List SystemOutcome) (event : SystemEvent) (outcome : SystemOutcome) → SystemRunLeads es os a b → SystemEventLeads event outcome b c → SystemRunLeads (es ++ event ∷ []) (os ++ outcome ∷ []) a c
+run_more a b c es os event outcome led one s st =
+    let first = led s st in
+    let next = one first.0 first.4 in
+    let e : SystemEntry = record { event = event; outcome = outcome; steps = next.1 } in (
+      next.0,
+      first.1 ++ e ∷ [],
+      record { events_are = mapped (λ (e : SystemEntry). e.event) first.1 es e first.2.events_are; outcomes_are = mapped (λ (e : SystemEntry). e.outcome) first.1 os e first.2.outcomes_are },
+      path_push Entered s first.0 next.0 first.1 e first.3 next.2,
+      next.3,
+    )
+
+-- ---- since a system was new
+-- each entry among all that happened
+right_among : (past : SystemPast) (front back : List SystemEntry) (entry : SystemEntry) → past.entries ≡ front ++ entry ∷ back → IsRightAmong past front entry back
+right_among past front back entry e =
+    let cut = path_cut Entered past.start past.now front (entry ∷ back) (subst (λ (l : List SystemEntry). SystemRun past.start l past.now) e past.run) in
+    record {
+      before = cut.0;
+      after = cut.2.0;
+      led = cut.1;
+      leads = cut.2.2;
+      right = no_send_to_older past.settings past.a past.b past.next past.start cut.0 cut.2.0 front entry past.is_new cut.1 cut.2.1;
+    }
+
+holds_of : (past : SystemPast) → HoldsOfPast past
+holds_of past = record {
+  laws = systems_keep_laws past.settings past.a past.b past.next past.start past.now past.entries past.is_new past.run;
+  turns = right_among past;
+  apart = labels_are_apart past.settings past.a past.b past.next past.start past.now past.entries past.is_new past.run;
+}
+
+pub laws_hold : (old new : SystemRecord) (es : List SystemEvent) (os : List SystemOutcome) → SystemRunLeads es os old new → SystemLawsHold es os old new
+laws_hold old new es os led past st =
+    let went = led past.now st in
+    let later : SystemPast = record {
+      settings = past.settings;
+      a = past.a;
+      b = past.b;
+      next = past.next;
+      start = past.start;
+      is_new = past.is_new;
+      entries = past.entries ++ went.1;
+      now = went.0;
+      run = path_join Entered past.start past.now went.0 past.entries went.1 past.run went.3;
+    } in
+    record {
+      entries = went.1;
+      are = went.2;
+      later = later;
+      goes_on = record { settings_are = refl; a_is = refl; b_is = refl; next_is = refl; start_is = refl; entries_are = refl };
+      stands = went.4;
+      holds = holds_of later;
+    }

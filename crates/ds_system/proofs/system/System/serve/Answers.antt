@@ -1,0 +1,32 @@
+use Rattle.std.proofs.Common.{◌≡◌, List, ◌++◌, Some, sym, ap, subst, ◌∙◌}
+use Rattle.ds_entry.specs.Change.{ChangeRecord}
+use Rattle.ds_machine.specs.declared.reply.Reply.{Reply}
+use Rattle.rs_core.specs.Judging.{refusal}
+use Rattle.rs_core.specs.Run.{offers}
+use Rattle.rs_core.proofs.SaysLemmas.{steps_say}
+use Rattle.ds_services.specs.declared.event.SystemEvent.TheVariants as events
+use Rattle.ds_services.specs.declared.outcome.SystemOutcome.TheVariants.{Acted, Refused}
+use Rattle.ds_services.specs.declared.outcome.SystemFault.TheVariants as refusals
+use Rattle.ds_system.specs.Stands.{SystemRecord, system_of, SystemEventLeads}
+use Rattle.ds_system.proofs.ServeLemmas.{stands_fault, rs_refused, acted}
+use Rattle.ds_system.proofs.system.System.serve.Goals as goal
+
+pub pass_on-requires-clause-in_place : goal.pass_on-requires-clause-in_place
+pass_on-requires-clause-in_place c = (steps_say c.self.inside.rs c.event.new.self c.args.event c.args.tick c.in-Ok-event.actions c.in-Ok-event.ensures.step).in_place
+
+pub returns-in-Some : goal.returns-in-Some
+returns-in-Some c =
+    let i = c.self.inside in
+    let e : refusal i.rs c.args.event c.args.tick ≡ Some c.in-Some.fault = sym c.refusal.ensures ∙ c.in-Some.is in
+    subst (λ (v : SystemRecord). SystemEventLeads (events.Service c.args.event c.args.tick c.args.side) (Refused (refusals.Service c.in-Some.fault)) v v) c.self.view_is
+    (rs_refused (system_of i.rs i.numberers.items i.world i.file i.net i.made.items) c.args.event c.args.tick c.args.side c.in-Some.fault (stands_fault i.rs c.args.event c.args.tick c.in-Some.fault e))
+
+pub returns-in-Ok-event : goal.returns-in-Ok-event
+returns-in-Ok-event c =
+    let i = c.self.inside in
+    let acts = c.in-Ok-event.actions in
+    let made : c.pass_on.new.made.items ≡ i.made.items ++ offers acts = c.pass_on.ensures.made ∙ ap (λ (l : List ChangeRecord). l ++ offers acts) c.reserve.ensures.items in
+    subst (λ (r : List Reply). SystemEventLeads (events.Service c.args.event c.args.tick c.args.side) (Acted acts r) c.args.self.now (system_of c.event.new.self i.numberers.items c.pass_on.new.world i.file i.net c.pass_on.new.made.items)) (sym c.of.ensures)
+    (subst (λ (l : List ChangeRecord). SystemEventLeads (events.Service c.args.event c.args.tick c.args.side) (Acted acts c.pass_on.new.replies.items) c.args.self.now (system_of c.event.new.self i.numberers.items c.pass_on.new.world i.file i.net l)) (sym made)
+    (subst (λ (v : SystemRecord). SystemEventLeads (events.Service c.args.event c.args.tick c.args.side) (Acted acts c.pass_on.new.replies.items) v (system_of c.event.new.self i.numberers.items c.pass_on.new.world i.file i.net (i.made.items ++ offers acts))) c.self.view_is
+    (acted (system_of i.rs i.numberers.items i.world i.file i.net i.made.items) c.args.event c.args.tick c.args.side c.event.new.self c.pass_on.new.world acts c.pass_on.new.replies.items c.in-Ok-event.ensures.step c.pass_on.ensures.asked)))

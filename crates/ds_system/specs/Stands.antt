@@ -1,0 +1,49 @@
+-- What callers see of a system, and for which systems of the definitions it stands.
+use Rattle.std.specs.Prelude.{◌≡◌, List}
+use Rattle.ds_entry.specs.Change.{ChangeRecord}
+use Rattle.rs_core.specs.State.{RsRecord}
+use Rattle.rs_core.specs.Numbering.{NumbererRecord}
+use Rattle.driver_tables.specs.Stands.{TableRecord, TableStands}
+use Rattle.ds_world.specs.World.{WorldRecord, WorldStands}
+use Rattle.ds_services.specs.declared.event.Table.{Table}
+use Rattle.ds_services.specs.declared.event.Table.TheVariants.{File, Net}
+use Rattle.ds_services.specs.declared.event.SystemEvent.{SystemEvent}
+use Rattle.ds_services.specs.declared.outcome.SystemOutcome.{SystemOutcome}
+use Rattle.ds_services.specs.System.{System}
+use Rattle.ds_services.specs.Steps.{Steps}
+use Rattle.ds_services.specs.Happening.{SystemDoes}
+
+pub record SystemRecord : Type 0 where
+  pub rs : RsRecord
+  pub numberers : List NumbererRecord
+  pub world : WorldRecord
+  pub file : TableRecord
+  pub net : TableRecord
+  pub made : List ChangeRecord
+
+-- the record of these parts
+abbrev pub system_of : RsRecord → List NumbererRecord → WorldRecord → TableRecord → TableRecord → List ChangeRecord → SystemRecord
+system_of rs numberers world file net made = record { rs = rs; numberers = numberers; world = world; file = file; net = net; made = made }
+
+-- what is kept of a server's table
+abbrev pub kept_table : SystemRecord → Table → TableRecord
+kept_table value File = value.file
+kept_table value Net = value.net
+
+-- the value with another table of a server
+abbrev pub keeping_table : SystemRecord → Table → TableRecord → SystemRecord
+keeping_table value File t = record value { file = t }
+keeping_table value Net t = record value { net = t }
+
+-- RS, the numbers and what was made are the system's; the world and the tables stand for its own
+pub record SystemStands (value : SystemRecord) (s : System) : Type 0 where
+  pub rs : s.rs ≡ value.rs
+  pub numberers : s.numberers ≡ value.numberers
+  pub world : WorldStands value.world s.world
+  pub file : TableStands value.file s.file
+  pub net : TableStands value.net s.net
+  pub made : s.made ≡ value.made
+
+-- from each system that the old value stands for, the event leads with this outcome to one that the new value stands for
+abbrev pub SystemEventLeads : SystemEvent → SystemOutcome → SystemRecord → SystemRecord → Type 0
+SystemEventLeads event outcome old new = (s : System) → SystemStands old s → (t : System) × (steps : Steps) × SystemDoes s event outcome steps t × SystemStands new t

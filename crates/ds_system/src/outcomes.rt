@@ -1,0 +1,64 @@
+//! Lists of outcomes.
+
+ghost use Rattle.std.specs.Prelude.{◌≡◌, ◌++◌, ◌∷◌, [], length, slice_get, OnOk, IfErr, OnErr};
+ghost use Rattle.std.specs.Option.{option_copied};
+
+use ds_services::SystemOutcome;
+use std::alloc::{AllocFailed, Global};
+use std::marker::Model;
+
+/// What came of a system's events, in their order.
+#[derive(Debug, Drop)]
+pub struct SystemOutcomes {
+    outcomes: Vec<SystemOutcome>,
+}
+
+impl Model for SystemOutcomes {
+    ghost use Rattle.std.specs.Prelude.{List};
+    ghost use Rattle.ds_services.specs.declared.outcome.SystemOutcome.{SystemOutcome};
+
+    ghost Value = { List SystemOutcome };
+
+    ghost view = { λ o. o.outcomes.items };
+}
+
+impl SystemOutcomes {
+    /// A list of no outcomes. It takes no memory.
+    pub fn new(alloc: Global) -> SystemOutcomes
+        ensures { result ≡ [] }
+    {
+        SystemOutcomes {
+            outcomes: Vec::new(alloc),
+        }
+    }
+
+    /// The outcomes of a `Vec`. It takes no memory.
+    pub fn of(outcomes: Vec<SystemOutcome>) -> SystemOutcomes
+        ensures { result ≡ outcomes.items }
+    {
+        SystemOutcomes { outcomes }
+    }
+
+    /// Adds an outcome at the end. Where there is no room, the list is unchanged and the error gives the outcome back.
+    pub fn push(&mut self, outcome: SystemOutcome) -> Result<(), AllocFailed<SystemOutcome>>
+        ensures ok { OnOk result (self.new ≡ self.old ++ outcome ∷ []) }
+        ensures err { OnErr result (self.new ≡ self.old) }
+        ensures back { IfErr result (λ back. back.value ≡ outcome) }
+    {
+        self.outcomes.push(outcome)
+    }
+
+    /// How many outcomes it has.
+    pub fn len(&self) -> usize
+        ensures { result ≡ length self.now }
+    {
+        self.outcomes.len()
+    }
+
+    /// The outcome at an index from 0, `None` behind the last one.
+    pub fn get(&self, index: usize) -> Option<&SystemOutcome>
+        ensures { option_copied result ≡ slice_get self.now index }
+    {
+        self.outcomes.get(index)
+    }
+}

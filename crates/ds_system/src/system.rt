@@ -1,0 +1,141 @@
+//! Systems.
+
+ghost use Rattle.std.specs.Prelude.{◌≡◌, ◌≤◌, [], length, vec_capacity, IfOk, IfErr, OnOk, OnErr};
+ghost use Rattle.ds_world.specs.Run.{most_events};
+ghost use Rattle.ds_system.specs.Stands.{SystemEventLeads};
+ghost use Rattle.ds_system.specs.Since.{SystemRunLeads, SystemLawsHold, IsSystemRunFault};
+
+use crate::events::SystemEvents;
+use crate::outcomes::SystemOutcomes;
+use driver_tables::{FileTable, NetTable};
+use ds_entry::{Body, Change};
+use ds_services::{SystemEvent, SystemOutcome};
+use ds_world::{World, WorldFault};
+use rs_core::{Numberer, Rs};
+use std::alloc::Global;
+use std::marker::Model;
+
+mod asking;
+mod moving;
+mod serving;
+mod starting;
+mod writing;
+
+/// The most events of one run.
+const MOST_EVENTS: usize = 65536;
+
+/// RS, the numbers that its services draw, a world of two stores with map 0 of the file server and map 1 of the network server, both
+/// driver tables, and the changes that RS and the services made.
+#[derive(Drop)]
+pub struct System {
+    alloc: Global,
+    rs: Rs,
+    // For each service of the settings the numbers of its instance that drew one last.
+    numberers: Vec<Numberer>,
+    world: World,
+    file: FileTable,
+    net: NetTable,
+    made: Vec<Change>,
+}
+
+impl Model for System {
+    ghost use Rattle.std.specs.Prelude.{◌≡◌, List, length};
+    ghost use Rattle.std.specs.Coded.{code_by, coded×, coded_list};
+    ghost use Rattle.ds_entry.specs.Change.{ChangeRecord};
+    ghost use Rattle.ds_entry.specs.contracts.change.Change.{the_row as change_row};
+    ghost use Rattle.rs_core.specs.State.{RsRecord};
+    ghost use Rattle.rs_core.specs.contracts.rs.Rs.{the_row as rs_row};
+    ghost use Rattle.rs_core.specs.Numbering.{NumbererRecord};
+    ghost use Rattle.rs_core.specs.contracts.numberer.Numberer.{the_row as numberer_row};
+    ghost use Rattle.driver_tables.specs.Stands.{TableRecord};
+    ghost use Rattle.driver_tables.specs.contracts.file_table.FileTable.{the_row as file_row};
+    ghost use Rattle.driver_tables.specs.contracts.net_table.NetTable.{the_row as net_row};
+    ghost use Rattle.ds_world.specs.World.{WorldRecord};
+    ghost use Rattle.ds_world.specs.contracts.world.World.{the_row as world_row};
+    ghost use Rattle.ds_system.specs.Stands.{SystemRecord, system_of};
+
+    ghost Value = { SystemRecord };
+
+    ghost coded = { code_by (RsRecord × (List NumbererRecord × (WorldRecord × (TableRecord × (TableRecord × List ChangeRecord))))) (coded× rs_row.coded (coded× (coded_list numberer_row.coded) (coded× world_row.coded (coded× file_row.coded (coded× net_row.coded (coded_list change_row.coded)))))) (λ s. (s.rs, (s.numberers, (s.world, (s.file, (s.net, s.made)))))) (λ p. system_of p.0 p.1.0 p.1.1.0 p.1.1.1.0 p.1.1.1.1.0 p.1.1.1.1.1) (λ s i. s) };
+
+    ghost view = { λ s. system_of s.rs s.numberers.items s.world s.file s.net s.made.items };
+
+    ghost invariant = { λ s. length s.numberers.items ≡ length s.rs.settings.services };
+}
+
+impl System {
+    /// Lets the events happen in their order, and gives what came of each. A refused event changes nothing, and the next one
+    /// follows; what RS decided and the numbers that were drawn stand, also where a store refuses what was made of them.
+    ///
+    /// Whatever happened since the system was new, in however many runs, the laws of systems hold of all of it, with no premise but
+    /// that the settings were checked: what Asks brought into the stores is single-numbered, so replicas and maps that know the same
+    /// hold the same, and no delivery is stopped by a clash or by another owner; and no Send and no Start of either server goes to
+    /// an older generation.
+    ///
+    /// TooMany above 65536 events, and NoRoom where there is no room for the outcomes: then nothing happens at all.
+    pub fn run(&mut self, events: SystemEvents) -> Result<SystemOutcomes, WorldFault>
+        ensures one_each { IfOk result (λ outcomes. length outcomes ≡ length events) }
+        ensures few { OnOk result (length events ≤ most_events) }
+        ensures done { IfOk result (λ outcomes. SystemRunLeads events outcomes self.old self.new) }
+        ensures laws { IfOk result (λ outcomes. SystemLawsHold events outcomes self.old self.new) }
+        ensures refused { IfErr result (λ fault. IsSystemRunFault fault events) }
+        ensures unchanged { OnErr result (self.new ≡ self.old) }
+    {
+        if events.len() > MOST_EVENTS {
+            return Err(WorldFault::TooMany);
+        }
+        let Ok(outcomes) = Vec::with_capacity(self.alloc, events.len()) else {
+            return Err(WorldFault::NoRoom);
+        };
+        Ok(self.happen_all(events, outcomes))
+    }
+
+    // Lets the events happen. There is room for their outcomes.
+    fn happen_all(
+        &mut self,
+        events: SystemEvents,
+        mut outcomes: Vec<SystemOutcome>,
+    ) -> SystemOutcomes
+        requires none { outcomes.items ≡ [] }
+        requires room { length events ≤ vec_capacity outcomes }
+        ensures one_each { length result ≡ length events }
+        ensures done { SystemRunLeads events result self.old self.new }
+    {
+        for event in events.into_list() {
+            outcomes.push_reserved(self.happen(event));
+        }
+        SystemOutcomes::of(outcomes)
+    }
+
+    // Lets an event happen, and gives what came of it. A refused event changes nothing.
+    fn happen(&mut self, event: SystemEvent) -> SystemOutcome
+        ensures { SystemEventLeads event result self.old self.new }
+    {
+        match event {
+            SystemEvent::Service { event, tick, side } => self.serve(event, tick, side),
+            SystemEvent::Put {
+                label,
+                key,
+                value,
+                side,
+            } => self.write(label, &key, Body::Put(value), side),
+            SystemEvent::Remove { label, key, side } => self.write(label, &key, Body::Gone, side),
+            SystemEvent::Again { change, side } => self.again(change, side),
+            SystemEvent::World(event) => self.pass(event),
+            SystemEvent::Follow => self.follow(),
+            SystemEvent::Submit { table, id, unit } => self.submit(table, id, unit),
+            SystemEvent::Answered {
+                table,
+                endpoint,
+                id,
+            } => self.answered(table, endpoint, id),
+        }
+    }
+
+    /// The world, of which everything can be read.
+    pub fn world(&self) -> &World
+        ensures { result.now ≡ self.now.world }
+    {
+        &self.world
+    }
+}

@@ -1,0 +1,82 @@
+//! What goes to a store beside what RS and the services make: a change that was made once more, and the world's own events.
+
+ghost use Rattle.std.specs.Prelude.{◌≡◌, ◌∷◌, [], slice_get, IfOk};
+ghost use Rattle.std.specs.Option.{option_copied};
+ghost use Rattle.ds_entry.specs.Change.{IsChange};
+ghost use Rattle.ds_entry.specs.declared.item.Item.TheVariants.{Change as Changed};
+ghost use Rattle.ds_services.specs.Steps.{is_barred, is_bringing};
+ghost use Rattle.ds_services.specs.declared.event.SystemEvent.TheVariants as events;
+ghost use Rattle.ds_system.specs.Stands.{SystemEventLeads};
+
+use crate::system::System;
+use ds_entry::{Change, Item, Items};
+use ds_machine::Command;
+use ds_names::NoRoom;
+use ds_replica::{Event, Side};
+use ds_services::{SystemFault, SystemOutcome};
+use std::alloc::Global;
+
+// A list of one change.
+fn alone(alloc: Global, change: &Change) -> Result<Items, NoRoom>
+    ensures alone { IfOk result (λ items. items ≡ Changed change.now ∷ []) }
+    ensures change { IsChange change.now }
+{
+    let mut items = Items::new(alloc);
+    items.push(Item::Change(change.copy(alloc)?))?;
+    Ok(items)
+}
+
+// Whether the command brings something in.
+fn is_bringing(command: &Command) -> bool
+    ensures { result ≡ is_bringing command.now }
+{
+    match command {
+        Command::Publish { .. }
+        | Command::Delete { .. }
+        | Command::Sweep { .. }
+        | Command::Merge { .. } => true,
+        _ => false,
+    }
+}
+
+// Whether the event is an Ask of such a command, which only RS and the services may make.
+fn is_barred(event: &Event) -> bool
+    ensures { result ≡ is_barred event.now }
+{
+    match event {
+        Event::Ask { command, .. } => is_bringing(command),
+        _ => false,
+    }
+}
+
+impl System {
+    // The change of a number, of those that were made.
+    fn made_at(&self, number: usize) -> Option<&Change>
+        ensures { option_copied result ≡ slice_get self.now.made number }
+    {
+        self.made.get(number)
+    }
+
+    // A change that was made comes once more.
+    pub(super) fn again(&mut self, change: usize, side: Side) -> SystemOutcome
+        ensures { SystemEventLeads (events.Again change side) result self.old self.new }
+    {
+        let Some(made) = self.made_at(change) else {
+            return SystemOutcome::Refused(SystemFault::NoMessage);
+        };
+        match alone(self.alloc, made) {
+            Ok(items) => SystemOutcome::Replied(self.world.reply(side, Command::Merge { items })),
+            Err(NoRoom) => SystemOutcome::Refused(SystemFault::NoRoom),
+        }
+    }
+
+    // An event of the world.
+    pub(super) fn pass(&mut self, event: Event) -> SystemOutcome
+        ensures { SystemEventLeads (events.World event) result self.old self.new }
+    {
+        if is_barred(&event) {
+            return SystemOutcome::Refused(SystemFault::NotAllowed);
+        }
+        SystemOutcome::Happened(self.world.happen(event))
+    }
+}

@@ -1,0 +1,76 @@
+//! What both servers do: they follow their maps, take requests and replies.
+
+ghost use Rattle.std.specs.Prelude.{◌≡◌};
+ghost use Rattle.ds_services.specs.declared.event.Table.TheVariants.{File, Net};
+ghost use Rattle.ds_services.specs.declared.event.SystemEvent.TheVariants as events;
+ghost use Rattle.ds_system.specs.Stands.{SystemEventLeads};
+
+use crate::system::System;
+use crate::turning::{FILE_MAP, NET_MAP, moved, replies, servers_follow, submits};
+use ds_names::Endpoint;
+use ds_services::{Rounds, SystemOutcome, Table};
+
+impl System {
+    // Both servers look at the labels in their maps, the file server first.
+    pub(super) fn follow(&mut self) -> SystemOutcome
+        ensures { SystemEventLeads events.Follow result self.old self.new }
+    {
+        let mut rounds = Vec::new(self.alloc);
+        let fault = servers_follow(&mut self.file, &mut self.net, &self.world, &mut rounds);
+        SystemOutcome::Moved {
+            rounds: Rounds::of(rounds),
+            own: None,
+            fault,
+        }
+    }
+
+    // A server looks at the labels in its map, and takes a request.
+    pub(super) fn submit(&mut self, table: Table, id: u64, unit: u8) -> SystemOutcome
+        ensures { SystemEventLeads (events.Submit table id unit) result self.old self.new }
+    {
+        match table {
+            Table::File => self.file_submitted(id, unit),
+            Table::Net => self.net_submitted(id, unit),
+        }
+    }
+
+    fn file_submitted(&mut self, id: u64, unit: u8) -> SystemOutcome
+        ensures { SystemEventLeads (events.Submit File id unit) result self.old self.new }
+    {
+        let mut rounds = Vec::new(self.alloc);
+        let answer = submits(&mut self.file, &self.world, FILE_MAP, id, unit, &mut rounds);
+        moved(Rounds::of(rounds), answer)
+    }
+
+    fn net_submitted(&mut self, id: u64, unit: u8) -> SystemOutcome
+        ensures { SystemEventLeads (events.Submit Net id unit) result self.old self.new }
+    {
+        let mut rounds = Vec::new(self.alloc);
+        let answer = submits(&mut self.net, &self.world, NET_MAP, id, unit, &mut rounds);
+        moved(Rounds::of(rounds), answer)
+    }
+
+    // A driver replies to a request.
+    pub(super) fn answered(&mut self, table: Table, endpoint: Endpoint, id: u64) -> SystemOutcome
+        ensures { SystemEventLeads (events.Answered table endpoint id) result self.old self.new }
+    {
+        match table {
+            Table::File => self.file_answered(endpoint, id),
+            Table::Net => self.net_answered(endpoint, id),
+        }
+    }
+
+    fn file_answered(&mut self, endpoint: Endpoint, id: u64) -> SystemOutcome
+        ensures { SystemEventLeads (events.Answered File endpoint id) result self.old self.new }
+    {
+        let answer = replies(&mut self.file, endpoint, id);
+        moved(Rounds::new(self.alloc), answer)
+    }
+
+    fn net_answered(&mut self, endpoint: Endpoint, id: u64) -> SystemOutcome
+        ensures { SystemEventLeads (events.Answered Net endpoint id) result self.old self.new }
+    {
+        let answer = replies(&mut self.net, endpoint, id);
+        moved(Rounds::new(self.alloc), answer)
+    }
+}

@@ -1,0 +1,109 @@
+//! What RS is told, and does.
+
+ghost use Rattle.std.specs.Prelude.{◌≡◌, ◌<◌, ◌≤◌, ◌+◌, ◌++◌, ◌∷◌, [], length, vec_len, vec_capacity};
+ghost use Rattle.std.specs.List.{AllByRecursion};
+ghost use Rattle.rs_core.specs.Action.{IsActionInPlace};
+ghost use Rattle.rs_core.specs.Run.{offers};
+ghost use Rattle.ds_serve.specs.Asked.{command_of as command_for, commands};
+ghost use Rattle.ds_services.specs.declared.event.SystemEvent.TheVariants as events;
+ghost use Rattle.ds_system.specs.Stands.{SystemEventLeads};
+ghost use Rattle.ds_system.specs.Effects.{AskedIfAny, AllAsked};
+
+use crate::system::System;
+use ds_entry::Change;
+use ds_machine::Reply;
+use ds_replica::Side;
+use ds_serve::command_of;
+use ds_services::{Replies, SystemFault, SystemOutcome};
+use ds_world::World;
+use rs_core::{Action, Actions, Event, RsFault};
+use std::alloc::Global;
+
+/// The most that RS does at one event: a kill, a label taken back, a sweep, a start and a label put.
+const MOST_ACTIONS: usize = 5;
+
+// Adds the change that an action offers to what was made. There is room for one.
+fn note(alloc: Global, made: &mut Vec<Change>, action: &Action)
+    requires in_place { IsActionInPlace action.now }
+    requires room { vec_len made.old < vec_capacity made.old }
+    ensures items { made.new.items ≡ made.old.items ++ offers (action.now ∷ []) }
+    ensures capacity { vec_capacity made.new ≡ vec_capacity made.old }
+{
+    if let Action::Offer(change) = action {
+        let Ok(copy) = change.copy(alloc) else {
+            unreachable!()
+        };
+        made.push_reserved(copy);
+    }
+}
+
+// Asks the store of a side what an action asks of one, if anything, and adds the reply. There is room for one.
+fn ask(world: &mut World, side: Side, action: &Action, replies: &mut Vec<Reply>)
+    requires in_place { IsActionInPlace action.now }
+    requires room { vec_len replies.old < vec_capacity replies.old }
+    ensures asked { AskedIfAny side (command_for action.now) replies.old.items replies.new.items world.old world.new }
+    ensures capacity { vec_capacity replies.new ≡ vec_capacity replies.old }
+{
+    if let Some(command) = command_of(action) {
+        replies.push_reserved(world.reply(side, command));
+    }
+}
+
+// Gives RS's label changes and sweeps to the store of a side, in their order. There is room for what is made and for the replies.
+fn pass_on(
+    alloc: Global,
+    world: &mut World,
+    made: &mut Vec<Change>,
+    actions: &Actions,
+    side: Side,
+    replies: &mut Vec<Reply>,
+)
+    requires in_place { AllByRecursion IsActionInPlace actions.now }
+    requires room { vec_len made.old + length actions.now ≤ vec_capacity made.old }
+    requires space { length actions.now ≤ vec_capacity replies.old }
+    requires none { replies.old.items ≡ [] }
+    ensures made { made.new.items ≡ made.old.items ++ offers actions.now }
+    ensures asked { AllAsked side (commands actions.now) replies.new.items world.old world.new }
+{
+    for index in 0..actions.len() {
+        let Some(action) = actions.get(index) else {
+            unreachable!()
+        };
+        note(alloc, made, action);
+        ask(world, side, action, replies);
+    }
+}
+
+impl System {
+    // RS is told something. Where memory is wanting it is told nothing.
+    pub(super) fn serve(&mut self, event: Event, tick: u64, side: Side) -> SystemOutcome
+        ensures { SystemEventLeads (events.Service event tick side) result self.old self.new }
+    {
+        if let Some(fault) = self.rs.refusal(&event, tick) {
+            return SystemOutcome::Refused(SystemFault::Service(fault));
+        }
+        let Ok(()) = self.made.reserve(MOST_ACTIONS) else {
+            return SystemOutcome::Refused(SystemFault::Service(RsFault::NoRoom));
+        };
+        let Ok(mut replies) = Vec::with_capacity(self.alloc, MOST_ACTIONS) else {
+            return SystemOutcome::Refused(SystemFault::Service(RsFault::NoRoom));
+        };
+        match self.rs.event(event, tick) {
+            Ok(actions) => {
+                pass_on(
+                    self.alloc,
+                    &mut self.world,
+                    &mut self.made,
+                    &actions,
+                    side,
+                    &mut replies,
+                );
+                SystemOutcome::Acted {
+                    actions,
+                    replies: Replies::of(replies),
+                }
+            }
+            Err(fault) => SystemOutcome::Refused(SystemFault::Service(fault)),
+        }
+    }
+}

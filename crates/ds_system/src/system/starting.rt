@@ -1,0 +1,136 @@
+//! How a system begins.
+
+ghost use Rattle.std.specs.Prelude.{◌≡◌, [], length, replicate, IfOk, IfErr, OnOk};
+ghost use Rattle.std.specs.List.{filter_map};
+ghost use Rattle.rs_settings.specs.Settings.{IsSettings};
+ghost use Rattle.rs_core.specs.Numbering.{numberer};
+ghost use Rattle.driver_tables.specs.Stands.{TableStands};
+ghost use Rattle.ds_world.specs.Seeds.{AreSeeds, IsSeedFault};
+ghost use Rattle.ds_services.specs.Start.{file_unit, net_unit, assigned_all};
+ghost use Rattle.ds_system.specs.Stands.{system_of};
+ghost use Rattle.ds_system.specs.Since.{IsJustNew};
+ghost use Rattle.ds_system.specs.Begin.{resting_rs, begin_fault_of, HasBothMaps, BeginsOver, CanBegin, IsBeginFault};
+
+use crate::beginning::{Parts, parts_of, with_maps};
+use crate::fault::BeginFault;
+use crate::system::System;
+use ds_names::NoRoom;
+use ds_replica::Seed;
+use ds_world::{SeedFault, World};
+use rs_core::Rs;
+use rs_settings::Settings;
+use std::alloc::Global;
+
+// A world of two seeds in which both servers' maps were made.
+fn opened(alloc: Global, a: Seed, b: Seed) -> Result<World, SeedFault>
+    ensures maps { IfOk result (λ world. HasBothMaps a b world) }
+    ensures fits { OnOk result (AreSeeds a b) }
+    ensures refused { IfErr result (λ fault. IsSeedFault fault a b) }
+{
+    match World::new(alloc, a, b) {
+        Ok(world) => match with_maps(alloc, world) {
+            Ok(made) => Ok(made),
+            Err(NoRoom) => Err(SeedFault::NoRoom),
+        },
+        Err(fault) => Err(fault),
+    }
+}
+
+// RS of which every service is down. Only memory can be wanting.
+fn resting(alloc: Global, settings: Settings, next: u32) -> Result<Rs, NoRoom>
+    ensures { IfOk result (λ rs. rs ≡ resting_rs settings next) }
+{
+    match Rs::new(alloc, settings, next) {
+        Ok(rs) => Ok(rs),
+        Err(_) => Err(NoRoom),
+    }
+}
+
+// What has all parts is a system: nothing fails here.
+fn joined(alloc: Global, rs: Rs, world: World, parts: Parts) -> System
+    requires { length parts.numberers.items ≡ length rs.settings.services }
+    ensures { result ≡ system_of rs parts.numberers.items world parts.file parts.net [] }
+{
+    System {
+        alloc,
+        rs,
+        numberers: parts.numberers,
+        world,
+        file: parts.file,
+        net: parts.net,
+        made: Vec::new(alloc),
+    }
+}
+
+// The system of these parts over a world.
+fn over_parts(
+    alloc: Global,
+    settings: Settings,
+    next: u32,
+    world: World,
+    parts: Parts,
+) -> Result<System, NoRoom>
+    requires checked { IsSettings settings }
+    requires numberers { parts.numberers.items ≡ replicate (length settings.services) (numberer 0 0) }
+    requires file { TableStands parts.file (assigned_all (filter_map file_unit settings.services)) }
+    requires net { TableStands parts.net (assigned_all (filter_map net_unit settings.services)) }
+    ensures { IfOk result (λ system. BeginsOver settings next world system) }
+{
+    match resting(alloc, settings, next) {
+        Ok(rs) => Ok(joined(alloc, rs, world, parts)),
+        Err(NoRoom) => Err(NoRoom),
+    }
+}
+
+// The system of the settings over a world.
+fn over(alloc: Global, settings: Settings, next: u32, world: World) -> Result<System, NoRoom>
+    ensures { IfOk result (λ system. BeginsOver settings next world system) }
+{
+    match parts_of(alloc, &settings) {
+        Ok(parts) => over_parts(alloc, settings, next, world, parts),
+        Err(NoRoom) => Err(NoRoom),
+    }
+}
+
+// The fault of a world's seeds, as one of a system that begins.
+fn begin_fault(fault: SeedFault) -> BeginFault
+    ensures { result ≡ begin_fault_of fault }
+{
+    match fault {
+        SeedFault::BadRing => BeginFault::BadRing,
+        SeedFault::BadFirst => BeginFault::BadFirst,
+        SeedFault::OldIncarnation => BeginFault::OldIncarnation,
+        SeedFault::NoRoom => BeginFault::NoRoom,
+    }
+}
+
+impl System {
+    /// A system that begins: every service is down, both stores are empty and opened with their seeds, both servers' maps of all labels
+    /// are made, each table has the settings' units in their order, and no change was made. `next` is the generation of RS's first
+    /// start.
+    ///
+    /// OutOfRange unless `next` is 1 to 2097152, as of `Rs::new`; then BadRing, BadFirst and OldIncarnation, as of `World::new`; NoRoom
+    /// comes last.
+    pub fn new(
+        alloc: Global,
+        settings: Settings,
+        a: Seed,
+        b: Seed,
+        next: u32,
+    ) -> Result<System, BeginFault>
+        ensures first { IfOk result (λ system. IsJustNew settings a b next system) }
+        ensures fits { OnOk result (CanBegin a b next) }
+        ensures refused { IfErr result (λ fault. IsBeginFault fault a b next) }
+    {
+        if next < 1 || next > 2097152 {
+            return Err(BeginFault::OutOfRange);
+        }
+        match opened(alloc, a, b) {
+            Ok(world) => match over(alloc, settings, next, world) {
+                Ok(system) => Ok(system),
+                Err(NoRoom) => Err(BeginFault::NoRoom),
+            },
+            Err(fault) => Err(begin_fault(fault)),
+        }
+    }
+}
