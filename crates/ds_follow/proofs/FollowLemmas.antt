@@ -38,7 +38,7 @@ use Rattle.ds_follow.proofs.ShownLemmas.{few_are_all, none_covers_news, shown_fo
 pub stays_reached : (es : List (Entry Command Reply)) (s t : State) → IsReached s → Run Answered s es t → IsReached t
 stays_reached es s t r run = runs_stay_reached s t (commands_of es) (replies_of es) r (histories_run es s t run)
 
-later : (es : List (Entry Command Reply)) (s t : State) → IsReached s → Run Answered s es t → GoesOn s t
+pub later : (es : List (Entry Command Reply)) (s t : State) → IsReached s → Run Answered s es t → GoesOn s t
 later es s t r run = runs_go_on s t (commands_of es) (replies_of es) r (histories_run es s t run)
 
 -- a later store, in which the subscription is as it was

@@ -3,3 +3,4 @@ mod MapLemmas
 pub mod FollowLemmas
 mod CountLemmas
 pub mod FitLemmas
+pub mod MergedLemmas

@@ -1,2 +1,3 @@
 pub mod Follower
 pub mod Laws
+pub mod Merged

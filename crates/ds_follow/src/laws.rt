@@ -1,6 +1,7 @@
-//! The laws of followers.
+//! The laws of followers, and of what was merged.
 
 ghost use Rattle.ds_follow.specs.Laws.{ChecksFit, FollowsAlone, FollowsCheck, FollowsFirst, FollowsOn, TellsOthers, TellsOwn};
+ghost use Rattle.ds_follow.specs.Merged.{MergedStaysHeld};
 
 /// A law: what keeps a map up with a store is the subscriber's own Subscribe and its own Checks.
 ///
@@ -15,4 +16,10 @@ pub fn followers_follow()
     ensures others { TellsOthers }
     ensures own { TellsOwn }
     ensures fit { ChecksFit }
+{}
+
+/// A law: what a store holds of items that were merged into it stays held, whatever is asked: of each change its version or a
+/// greater one, or a floor that makes it void, and of each floor one that is at least as great.
+pub fn merged_items_stay()
+    ensures { MergedStaysHeld }
 {}

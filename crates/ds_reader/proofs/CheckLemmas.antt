@@ -4,6 +4,7 @@ use Rattle.std.specs.List.{All}
 use Rattle.std.proofs.lemmas.List.{length_push}
 use Rattle.std.proofs.lemmas.List.Elements.{All-nil, All-push}
 use Rattle.ds_entry.specs.declared.item.Item.{Item}
+use Rattle.ds_entry.specs.Under.{under}
 use Rattle.ds_join.specs.ItemTop.{IsPartOf}
 use Rattle.ds_feed.specs.Feed as feeds
 use Rattle.ds_feed.specs.Feed.{Feed}
@@ -27,6 +28,7 @@ use Rattle.ds_reader.specs.Laws.{ReaderLaws}
 use Rattle.ds_reader.specs.ReadWhole.{IsReadWhole}
 use Rattle.ds_reader.specs.declared.reading.Reading.{Reading}
 use Rattle.ds_reader.proofs.StateLemmas.{asked_on, went_on, went_reached}
+use Rattle.ds_reader.proofs.UnderLemmas.{checks_passed, part_under}
 
 -- how far a reader has come: the store has gone on, so many checks gave these items, each as many as it asked for, and the
 -- subscription was left with this stamp
@@ -216,8 +218,10 @@ module _ (laws : ReaderLaws) (stood : State → Type 0) (s : State) (sub : ℕ) 
         let law = laws.checked_whole s.feed t.feed (is_under query) gone.grown.0 k.turns turn gone.grown.2
         (laws.news s.feed.accepted gone.grown.0 gone.grown.1) are is_turn few in
         record {
-          among = subst (λ (l : List Item). IsPartOf l t.feed.accepted) all_items
-              (laws.checks.among s.feed t.feed (is_under query) [] (k.turns ++ turn ∷ []) all);
+          among = subst (λ (l : List Item). IsPartOf l (under (is_under query) t.feed.accepted)) all_items
+              (part_under (is_under query) (gathered.checked (k.turns ++ turn ∷ [])) t.feed.accepted
+              (laws.checks.among s.feed t.feed (is_under query) [] (k.turns ++ turn ∷ []) all)
+              (checks_passed s.feed t.feed (is_under query) [] (k.turns ++ turn ∷ []) all));
           whole =
               subst (λ (r : ℕ). IsWhole t.feed (is_under query) (given t.feed.accepted (items ++ more)) r)
               (sym (ap (λ (f : Feed). feeds.position f) shown.placed.feed_is))

@@ -4,3 +4,4 @@ pub mod CheckLemmas
 pub mod SinceLemmas
 pub mod PageLemmas
 pub mod StopLemmas
+pub mod UnderLemmas

@@ -5,6 +5,7 @@ use Rattle.std.proofs.lemmas.List.{length_push}
 use Rattle.std.proofs.lemmas.List.Elements.{All-nil, All-push}
 use Rattle.ds_names.specs.declared.key.Key.{Key}
 use Rattle.ds_entry.specs.declared.item.Item.{Item}
+use Rattle.ds_entry.specs.Under.{under}
 use Rattle.ds_join.specs.ItemTop.{IsPartOf}
 use Rattle.ds_feed.specs.declared.cursor.Cursor.{Cursor}
 use Rattle.ds_feed.specs.declared.reading.Page.{Page}
@@ -29,6 +30,7 @@ use Rattle.ds_reader.specs.ReadWhole.{IsReadWhole}
 use Rattle.ds_reader.specs.declared.reading.Reading.{Reading}
 use Rattle.ds_reader.proofs.StateLemmas.{no_earlier, went_on, went_reached}
 use Rattle.ds_join.proofs.ItemTopLemmas.{part_union}
+use Rattle.ds_reader.proofs.UnderLemmas.{ArePassed, both_passed, page_passed, pages_passed, part_under, sinces_passed}
 
 -- a page is of the size that was asked for
 abbrev pub IsAsked : Reading → PageTurn → Type 0
@@ -177,8 +179,14 @@ module _ (laws : ReaderLaws) (stood : State → Type 0) (s : State) (reading : R
         (part_union page.items (journaled caught.turns) known
         (laws.pages.turn_among u.feed (is_under query) (key_after None k.turns) turn p.is)
         (laws.sinces.among u.feed (is_under query) (unwrap_or from page.cursor) caught.turns caught.are)) in
+        let passed : ArePassed (is_under query) (paged k.turns ++ (page.items ++ journaled caught.turns)) =
+        both_passed (is_under query) (paged k.turns) (page.items ++ journaled caught.turns)
+        (pages_passed u.feed (is_under query) None (next_position s) k.turns p.open_ones.are)
+        (both_passed (is_under query) page.items (journaled caught.turns)
+        (page_passed u.feed (is_under query) (key_after None k.turns) turn p.is)
+        (sinces_passed u.feed (is_under query) (unwrap_or from page.cursor) caught.turns caught.are)) in
         record {
-          among = subst (λ (x : List Item). IsPartOf x known) same part;
+          among = subst (λ (x : List Item). IsPartOf x (under (is_under query) known)) same (part_under (is_under query) _ known part passed);
           whole =
               subst (λ (r : ℕ). IsWhole u.feed (is_under query) (given known all) r) caught.to_end
               (subst (λ (c : Cursor). IsWhole u.feed (is_under query) (given known all) (cursor_after c caught.turns).position)

@@ -15,8 +15,8 @@ use ds_entry::Items;
 use std::alloc::Global;
 
 /// Reads a store by a subscription, which is made with INITIAL, over whatever it was before: it checks until a Check gives
-/// fewer items than it asked for, while others go on. The items leave out nothing of what took effect under the query up to
-/// the store's cursor then. By the stamps it tells whether another took the subscription over.
+/// fewer items than it asked for, while others go on. The items are all under the query, and leave out nothing of what took
+/// effect under it up to the store's cursor then. By the stamps it tells whether another took the subscription over.
 ///
 /// Where it gives up, the store has gone on, by its own questions and by what others asked. It is `Refused` just where the
 /// store refused the Subscribe, with which it begins, or the next Check, by this cause, and `Unfinished` just where there were

@@ -33,7 +33,7 @@ fn go_behind_item(key: &mut Option<Key>, item: &Item)
 }
 
 /// Goes on to the key of the last change among the items, if there is one.
-pub(crate) fn go_behind(key: &mut Option<Key>, items: &Items)
+pub fn go_behind(key: &mut Option<Key>, items: &Items)
     ensures { key.new ≡ last_key key.old items.now }
 {
     for index in 0..items.len() {

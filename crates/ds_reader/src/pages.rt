@@ -44,8 +44,8 @@ fn catch_up<A: Asks>(
     Err(ReadFault::Unfinished)
 }
 
-/// Reads a store by pages, while others go on, and then by the journal from the first page's cursor on. The items leave out
-/// nothing of what took effect under the query up to the store's cursor then.
+/// Reads a store by pages, while others go on, and then by the journal from the first page's cursor on. The items are all under
+/// the query, and leave out nothing of what took effect under it up to the store's cursor then.
 ///
 /// Where it gives up, the store has gone on by what others asked. It is `Refused` just where the store refused the next page, or
 /// the next question to the journal, by this cause, and `Unfinished` just where as many questions of one kind as may be were

@@ -14,14 +14,19 @@ pub(crate) fn label_key(name: &[u8]) -> Option<Key> {
     })
 }
 
-/// RS publishes where a label is now, over an earlier generation.
+/// RS publishes that a label is in slot 17 now, over an earlier generation.
 pub(crate) fn start(name: &[u8], generation: u32) -> Option<Command> {
+    start_in(name, generation, 17)
+}
+
+/// RS publishes that a label is in this slot now.
+pub(crate) fn start_in(name: &[u8], generation: u32, slot: u16) -> Option<Command> {
     let epoch = Generation::of(generation)?;
     Some(Command::Publish {
         caller: Endpoint::rs(),
         key: label_key(name)?,
         version: Version { epoch, seq: 0 },
-        value: Value::Label(Endpoint::of(epoch, 17)?),
+        value: Value::Label(Endpoint::of(epoch, slot)?),
         overwrite: true,
     })
 }

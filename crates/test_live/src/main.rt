@@ -1,22 +1,33 @@
-//! `test_live`: a follower that one pass of a desk refreshes while another changes the store, for tests.
+//! `test_live`: a follower that one pass of a desk refreshes while another changes the store, and what one desk's store has given to
+//! another's, for tests.
 //!
-//! The program reads nothing. It prints what each refresh answers and how many items the map then has, and at the end of each row
-//! whether the map is what the closed desk's store holds. Status 0: done. 1: memory or writing failed, or a row couldn't go on.
+//! The program reads nothing. It prints what each refresh and each exchange answers, a word and a number a line, and at the end of
+//! each row whether what was told is what was held: 1, or 0. Status 0: done. 1: memory or writing failed, or a row couldn't go on.
 #![tactic(auto)]
 
 mod commands;
+mod exchanges;
 mod rows;
 mod steps;
 mod subscriber;
+mod tell;
 
+use std::alloc::Global;
 use std::process::ExitCode;
+use std::sync::Wait;
 
 fn main(rt: HostRuntime) -> ExitCode {
-    if rows::follow_a_driver(&rt, rt.alloc()).is_none() {
-        return ExitCode::FAILURE;
-    }
-    match rows::follow_many(&rt, rt.alloc()) {
+    match run(&rt, rt.alloc()) {
         Some(()) => ExitCode::SUCCESS,
         None => ExitCode::FAILURE,
     }
+}
+
+// Row by row.
+fn run<R: Print + Wait>(rt: &R, alloc: Global) -> Option<()> {
+    rows::follow_a_driver(rt, alloc)?;
+    rows::follow_many(rt, alloc)?;
+    exchanges::exchange_one(rt, alloc)?;
+    exchanges::exchange_many(rt, alloc)?;
+    exchanges::exchange_behind(rt, alloc)
 }

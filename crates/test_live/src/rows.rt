@@ -7,9 +7,11 @@ ghost use Rattle.ds_pass.specs.Record.{pass_record};
 ghost use Rattle.ds_refresh.specs.KeepsUp.{KeepsUpWith};
 
 use crate::commands::{label_key, query, start, sweep, take_over};
-use crate::steps::{call, compare, open_two};
+use crate::steps::{both, call, held_at_end, open_two, start_many};
 use crate::subscriber::{Subscriber, bring_up, lose, take};
+use crate::tell::tell;
 use desk::{Desk, Pass};
+use ds_pattern::Query;
 use ds_refresh::Follower;
 use ds_store::Store;
 use std::alloc::Global;
@@ -30,19 +32,7 @@ pub(crate) fn follow_a_driver<R: Print + Wait>(rt: &R, alloc: Global) -> Option<
     tell_label(rt, &subscriber.follower, b"eth0")?;
     call(rt, &desk, &mut one, take_over(alloc, 0))?;
     let subscriber = begin_again(rt, alloc, &desk, subscriber)?;
-    let Subscriber {
-        pass: two,
-        follower,
-    } = subscriber;
-    compare(
-        rt,
-        alloc,
-        desk,
-        one,
-        two,
-        &follower,
-        query(alloc, b"eth.*")?,
-    )
+    compare_map(rt, alloc, desk, one, subscriber, query(alloc, b"eth.*")?)
 }
 
 // The driver is swept and comes back, and another one starts.
@@ -77,42 +67,36 @@ fn begin_again<R: Print + Wait>(
 pub(crate) fn follow_many<R: Print + Wait>(rt: &R, alloc: Global) -> Option<()> {
     let (desk, mut one, two) = open_two(alloc)?;
     let subscriber = Subscriber::new(alloc, two, 8, query(alloc, b".*")?)?;
-    start_many(rt, &desk, &mut one)?;
+    start_many(rt, &desk, &mut one, 0..300)?;
     let subscriber = bring_up(rt, alloc, &desk, subscriber, 2)?;
     let subscriber = bring_up(rt, alloc, &desk, subscriber, 2)?;
+    compare_map(rt, alloc, desk, one, subscriber, query(alloc, b".*")?)
+}
+
+// Prints the generation of the endpoint that the map has of a label.
+fn tell_label(rt: &impl Print, follower: &Follower, name: &[u8]) -> Option<()> {
+    let label = label_key(name)?;
+    let endpoint = follower.map().label(&label.name)?;
+    tell(rt, "generation", endpoint.generation().number() as u64)
+}
+
+// Closes the desk, and prints whether the map is what its store then holds under the query.
+fn compare_map(
+    rt: &impl Print,
+    alloc: Global,
+    desk: Desk<Box<Store>>,
+    one: Pass<Box<Store>>,
+    subscriber: Subscriber,
+    query: Query,
+) -> Option<()>
+    requires one { desk_of one ≡ identity desk }
+    requires two { desk_of subscriber.pass ≡ identity desk }
+{
     let Subscriber {
         pass: two,
         follower,
     } = subscriber;
-    compare(rt, alloc, desk, one, two, &follower, query(alloc, b".*")?)
-}
-
-// RS starts 300 drivers.
-fn start_many<W: Wait>(rt: &W, desk: &Desk<Box<Store>>, pass: &mut Pass<Box<Store>>) -> Option<()>
-    requires { desk_of pass.old ≡ identity desk.now }
-    ensures { desk_of pass.new ≡ identity desk.now }
-{
-    for index in 0..300u32 {
-        call(rt, desk, pass, start(&numbered(index), 1))?;
-    }
-    Some(())
-}
-
-// A name of a letter and three digits.
-fn numbered(index: u32) -> [u8; 4] {
-    [b'n', digit(index / 100), digit(index / 10), digit(index)]
-}
-
-fn digit(number: u32) -> u8 {
-    b'0' + (number % 10) as u8
-}
-
-// Prints the endpoint that the map has of a label.
-fn tell_label(rt: &impl Print, follower: &Follower, name: &[u8]) -> Option<()> {
-    let label = label_key(name)?;
-    let Some(endpoint) = follower.map().label(&label.name) else {
-        return println!(rt; "no label").ok();
-    };
-    let (generation, slot) = (endpoint.generation().number(), endpoint.slot());
-    println!(rt; "label {generation}/{slot}").ok()
+    let held = held_at_end(alloc, desk, both(alloc, one, two)?, query)?;
+    let mapped = follower.map().held().all(alloc).ok()?;
+    tell(rt, "map equal", (mapped == held) as u64)
 }

@@ -6,6 +6,7 @@ ghost use Rattle.desk.specs.Pass.{desk_of};
 ghost use Rattle.ds_pass.specs.Record.{pass_record};
 ghost use Rattle.ds_refresh.specs.KeepsUp.{KeepsUpWith};
 
+use crate::tell::{tell, tell_fault};
 use desk::{Desk, Pass};
 use ds_pattern::Query;
 use ds_refresh::{Follower, Fresh, refresh};
@@ -61,8 +62,8 @@ pub(crate) fn take<R: Print>(
     let Ok(taken) = desk.take(&mut pass, 0) else {
         return None;
     };
-    let (bits, floor) = (taken.bits, taken.floor);
-    println!(rt; "taken {bits}, floor {floor}").ok()?;
+    tell(rt, "taken", taken.bits as u64)?;
+    tell(rt, "floor", taken.floor)?;
     Some(Subscriber { pass, follower })
 }
 
@@ -83,13 +84,11 @@ pub(crate) fn bring_up<R: Print + Wait>(
         mut pass,
         mut follower,
     } = subscriber;
-    let fresh = refresh(rt, alloc, desk, &mut pass, &mut follower, limit);
-    let keys = follower.map().held().len();
-    match fresh {
-        Ok(Fresh::UpTo(place)) => println!(rt; "limit {limit}: up to {place}, keys {keys}"),
-        Ok(Fresh::More) => println!(rt; "limit {limit}: more, keys {keys}"),
-        Err(fault) => println!(rt; "limit {limit}: {fault}"),
+    match refresh(rt, alloc, desk, &mut pass, &mut follower, limit) {
+        Ok(Fresh::UpTo(place)) => tell(rt, "up to", place)?,
+        Ok(Fresh::More) => tell(rt, "more, limit", limit as u64)?,
+        Err(fault) => tell_fault(rt, fault)?,
     }
-    .ok()?;
+    tell(rt, "keys", follower.map().held().len() as u64)?;
     Some(Subscriber { pass, follower })
 }

@@ -1,0 +1,5 @@
+mod TellingLemmas
+mod GivingLemmas
+mod PageLemmas
+mod WholeLemmas
+mod BothLemmas

@@ -1,0 +1,58 @@
+-- One question to the store that tells.
+use Rattle.std.specs.Prelude.{◌≡◌, ℕ, ◌*◌, ◌^◌, ◌≤◌, List, [], ◌∷◌, length, Option, None}
+use Rattle.history.specs.declared.entry.Entry.{Entry}
+use Rattle.ds_names.specs.declared.key.Key.{Key}
+use Rattle.ds_feed.specs.declared.cursor.Cursor.{Cursor}
+use Rattle.ds_feed.specs.declared.reading.Since as readings
+use Rattle.ds_feed.specs.declared.reading.Page.{Page as Leaf}
+use Rattle.ds_convergence.specs.Paged.{last_key}
+use Rattle.ds_machine.specs.declared.command.Command.{Command}
+use Rattle.ds_machine.specs.declared.reply.Reply.{Reply}
+use Rattle.ds_machine.specs.declared.reply.Reply.TheVariants.{Journaled, Paged}
+use Rattle.ds_pass.specs.Called.{Made}
+use Rattle.ds_pass.specs.Record.{HasLegalHistory, PassRecord}
+use Rattle.ds_exchange.specs.Giving.{GivesAll}
+use Rattle.ds_exchange.specs.Telling.{IsOpenPage, all_told, first_told, page_asked, since_asked}
+
+-- it was asked, or nothing was
+abbrev pub IsAtMostOne : List (Entry Command Reply) → Command → Type 0
+IsAtMostOne [] command = Unit {0}
+IsAtMostOne (e ∷ es) command = (e.command ≡ command) × (es ≡ [])
+
+pub record AsksOnce (p q : PassRecord) (command : Command) : Type 0 where
+  pub own : List (Entry Command Reply)
+  pub made : Made p q own
+  pub once : IsAtMostOne own command
+
+-- it was asked, and got this reply
+pub record GetsTold (p q : PassRecord) (command : Command) (reply : Reply) : Type 0 where
+  pub call : Entry Command Reply
+  pub made : Made p q (call ∷ [])
+  pub legal : HasLegalHistory q
+  pub command_is : call.command ≡ command
+  pub reply_is : call.reply ≡ reply
+
+abbrev pub TellsSince : PassRecord → PassRecord → Cursor → readings.Since → Type 0
+TellsSince p q from since = GetsTold p q (since_asked from) (Journaled since)
+
+abbrev pub TellsPage : PassRecord → PassRecord → Option Key → Leaf → Type 0
+TellsPage p q after page = GetsTold p q (page_asked after) (Paged page)
+
+-- ---- page after page
+
+-- pages, the first behind this key and each other one behind the last key that was told, none of them the last; the next one is
+-- behind that key
+abbrev pub AsksOpenPages : Option Key → List (Entry Command Reply) → Option Key → Type 0
+AsksOpenPages after [] next = next ≡ after
+AsksOpenPages after (e ∷ es) next =
+    (e.command ≡ page_asked after) × ((page : Leaf) × IsOpenPage e page × AsksOpenPages (last_key after page.items) es next)
+
+-- so far they were told and given, and counted
+pub record GoesByPages (p q r s : PassRecord) (after : Option Key) (first : Option Cursor) (done taken : ℕ) : Type 0 where
+  pub own : List (Entry Command Reply)
+  pub made : Made p q own
+  pub asks : AsksOpenPages None own after
+  pub gives : GivesAll r s (all_told own) taken
+  pub done_is : done ≡ length (all_told own)
+  pub bound : done ≤ 2 ^ 64 * length own
+  pub first_is : first ≡ first_told own

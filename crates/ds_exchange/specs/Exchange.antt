@@ -1,0 +1,28 @@
+-- What an exchange does: from p to q is the pass that asks, from r to s the one that gives.
+use Rattle.std.specs.Prelude.{◌≡◌, List, length, Option}
+use Rattle.history.specs.declared.entry.Entry.{Entry}
+use Rattle.ds_feed.specs.declared.cursor.Cursor.{Cursor}
+use Rattle.ds_machine.specs.declared.command.Command.{Command}
+use Rattle.ds_machine.specs.declared.reply.Reply.{Reply}
+use Rattle.ds_pass.specs.Called.{Made}
+use Rattle.ds_pass.specs.Record.{HasLegalHistory, PassRecord}
+use Rattle.ds_exchange.specs.declared.exchange.Exchanged.{Exchanged}
+use Rattle.ds_exchange.specs.Telling.{AsksInTurn, EndsTelling, all_told}
+use Rattle.ds_exchange.specs.Giving.{GivesAll, GivesOnly}
+
+-- no more was called than these questions, and Merges of what was told
+pub record ExchangesOnly (p q r s : PassRecord) (from : Option Cursor) : Type 0 where
+  pub own : List (Entry Command Reply)
+  pub made : Made p q own
+  pub asks : AsksInTurn from own
+  pub gives : GivesOnly r s (all_told own)
+
+-- all was told, and all that was told is given and counted
+pub record Exchanges (p q r s : PassRecord) (from : Option Cursor) (x : Exchanged) : Type 0 where
+  pub own : List (Entry Command Reply)
+  pub made : Made p q own
+  pub legal : HasLegalHistory q
+  pub asks : AsksInTurn from own
+  pub ends : EndsTelling from own x.cursor x.more
+  pub gives : GivesAll r s (all_told own) x.taken
+  pub done : x.done ≡ length (all_told own)
