@@ -1,0 +1,28 @@
+use Rattle.std.proofs.Common.{sym, subst}
+use Rattle.trace_words.specs.Head.{HasNoHead}
+use Rattle.trace_check.specs.Walking.{IsFault}
+use Rattle.trace_check.proofs.FaultLemmas.{carried}
+use Rattle.trace_check.proofs.HeadLemmas.{head_wrong, head_long, ends_there}
+use Rattle.trace_check.proofs.walk.Walk.head.Goals as goal
+
+pub returns-in_err-next_line-clause-fails : goal.returns-in_err-next_line-clause-fails
+returns-in_err-next_line-clause-fails g c =
+    let old = c.args.self.now in
+    let from = g.R.Source.remaining c.args.reader.now in
+    carried c.from_residual.result c.in_err-next_line.field-0.0 _ c.from_residual.ensures.1
+    (λ bytes count w. head_long bytes old.lines old.lines old.store old.header from from count w c.in_err-next_line.field-0.0 (c.in_err-next_line.ensures.long bytes w.front w.at))
+
+pub returns-then-not-branch-clause-none : goal.returns-then-not-branch-clause-none
+returns-then-not-branch-clause-none g c bytes count w =
+    let old = c.args.self.now in
+    let from = g.R.Source.remaining c.args.reader.now in
+    ends_there bytes old.lines old.lines old.store old.header from from count w c.next_line.new.lines.count (c.in_ok-next_line.ensures.none c.if-not-branch.true bytes w.front w.at)
+
+pub returns-in-Err-clause-fails : goal.returns-in-Err-clause-fails
+returns-in-Err-clause-fails g c bytes count w =
+    let old = c.args.self.now in
+    let new = c.next_line.new.lines in
+    let there = c.in_ok-next_line.ensures.there c.if-not-branch.false bytes w.front w.at in
+    subst (IsFault bytes) (sym c.of_line.ensures)
+    (head_wrong bytes old.lines new old.store old.header (g.R.Source.remaining c.args.reader.now) (g.R.Source.remaining c.next_line.new.reader) count w there.0 c.in-Err.fault c.count.result there.1 there.2
+    (λ bad. subst (HasNoHead old.header.format) c.line.ensures (c.in-Err.ensures.none bad)) c.count.ensures.value)

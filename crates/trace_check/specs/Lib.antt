@@ -1,0 +1,3 @@
+pub mod Sweeping
+pub mod Walking
+pub mod Steps

@@ -1,0 +1,206 @@
+-- What each part of a walk does, wherever in whatever input it is. `from` and `to` are what the reader has before and after it.
+use Rattle.std.specs.Prelude.{◌≡◌, ◌≢◌, ℕ, suc, ◌<◌, ◌≤◌, Bool, true, List, [], ◌∷◌, ◌++◌, length, Option, IfSome}
+use Rattle.ds_content.specs.Content.{ContentRecord}
+use Rattle.ds_content.specs.Stands.{ContentStands}
+use Rattle.ds_entry.specs.declared.item.Item.{Item}
+use Rattle.ds_lines.specs.Lines.{with_newline}
+use Rattle.ds_lines.specs.Reading.{LinesContent}
+use Rattle.ds_machine.specs.Machine.{StopsForRoom}
+use Rattle.ds_machine.specs.State.{State}
+use Rattle.ds_machine.specs.declared.command.Command.{Command}
+use Rattle.ds_machine.specs.declared.reply.Reply.{Reply}
+use Rattle.ds_names.specs.Limits.{most_items}
+use Rattle.ds_words.specs.declared.command.ScriptCommand.{ScriptCommand}
+use Rattle.ds_words.specs.declared.command.ScriptCommand.TheVariants as commands
+use Rattle.store_words.specs.declared.wording.Wording.{Wording}
+use Rattle.trace_words.specs.declared.asked.Asked.{Asked}
+use Rattle.trace_words.specs.declared.asked.Asked.TheVariants as askeds
+use Rattle.trace_words.specs.declared.asked.Head.{Head}
+use Rattle.trace_words.specs.declared.verdict.Verdict.TheVariants as verdicts
+use Rattle.trace_words.specs.Noroom.{stopped_line}
+use Rattle.trace_words.specs.Text.{marked}
+use Rattle.trace_words.specs.Verdict.{IsVerdict}
+use Rattle.trace_words.specs.Walk.{IsPlaceInEntry}
+use Rattle.trace_check.specs.declared.fault.WalkFault.{WalkFault}
+use Rattle.trace_check.specs.declared.place.Place.{Place}
+use Rattle.trace_check.specs.declared.sweep.Sweep.{Sweep}
+use Rattle.trace_check.specs.declared.walk.Walk.{Walk}
+use Rattle.trace_check.specs.Walking.{IsAt, HasLine, IsRead, IsLongFault, IsShort, Walks, IsFault, Heads, Lists, HasAsked, Hears, IsEnded, IsThere, GoesOnSaying, IsToBeSaid, IsStopFault, IsForStore}
+
+-- ---- lines
+
+-- the next line is gone to
+abbrev pub ComesToLine : LinesContent → Option (List ℕ) → LinesContent → Option (List ℕ) → Type 0
+ComesToLine old from new to = (bytes front : List ℕ) → IsAt bytes front old from → (line : List ℕ) × (new.line ≡ with_newline line) × HasLine bytes front line new to
+
+-- it isn't, for it is too long, or can't be read
+abbrev pub ComesToLong : Place → LinesContent → Option (List ℕ) → WalkFault → Type 0
+ComesToLong place old from fault = (bytes front : List ℕ) → IsAt bytes front old from → IsLongFault place bytes front fault
+
+-- there is none
+abbrev pub FindsNone : LinesContent → Option (List ℕ) → ℕ → Type 0
+FindsNone old from number = (bytes front : List ℕ) → IsAt bytes front old from → IsRead bytes front number
+
+-- where a line of this sort has to stand, none does
+abbrev pub MissesLine : Bool → LinesContent → Option (List ℕ) → WalkFault → Type 0
+MissesLine is_reply old from fault = (bytes front : List ℕ) → IsAt bytes front old from → IsPlaceInEntry front is_reply IsShort → IsFault bytes fault
+
+-- ---- the text of a reply
+
+-- all of it stands there, the first line of which was gone to
+abbrev pub SaysAll : LinesContent → Option (List ℕ) → LinesContent → Option (List ℕ) → List ℕ → Type 0
+SaysAll old from new to text =
+    (bytes base here : List ℕ) → HasLine bytes base here old from → old.line ≡ with_newline here → IsEnded text → 0 < length text →
+    IsAt bytes (base ++ marked text) new to
+
+-- it doesn't
+abbrev pub MissesReply : LinesContent → Option (List ℕ) → List ℕ → WalkFault → Type 0
+MissesReply old from text fault =
+    (bytes base here : List ℕ) → HasLine bytes base here old from → old.line ≡ with_newline here → IsToBeSaid base here text → IsFault bytes fault
+
+-- what is left of it stands behind what was given of it
+abbrev pub SaysRest : LinesContent → Option (List ℕ) → LinesContent → Option (List ℕ) → List ℕ → Type 0
+SaysRest old from new to text =
+    (bytes base whole given : List ℕ) → whole ≡ (given ++ 10 ∷ []) ++ text → IsEnded whole → IsAt bytes (base ++ marked (given ++ 10 ∷ [])) old from →
+    IsAt bytes (base ++ marked whole) new to
+
+-- it doesn't
+abbrev pub MissesRest : LinesContent → Option (List ℕ) → List ℕ → WalkFault → Type 0
+MissesRest old from text fault =
+    (bytes base whole given : List ℕ) → whole ≡ (given ++ 10 ∷ []) ++ text → GoesOnSaying base whole → IsAt bytes (base ++ marked (given ++ 10 ∷ [])) old from →
+    IsFault bytes fault
+
+-- another line stands there
+abbrev pub MissesSaid : LinesContent → List ℕ → WalkFault → Type 0
+MissesSaid lines line fault =
+    (bytes base here : List ℕ) (remaining : Option (List ℕ)) → HasLine bytes base here lines remaining → lines.line ≡ with_newline here →
+    IsPlaceInEntry base true (IsThere here line) → IsFault bytes fault
+
+-- ---- entries
+
+-- the walk is behind so many entries
+abbrev pub WalksAt : List ℕ → Walk → Option (List ℕ) → ℕ → Type 0
+WalksAt bytes w remaining count = Walks bytes w.lines w.store w.header remaining count
+
+-- the fault is the verdict on what the reader has, if that is known
+abbrev pub IsFaultOfKnown : Option (List ℕ) → WalkFault → Type 0
+IsFaultOfKnown from fault = IfSome from (λ bytes. IsFault bytes fault)
+
+-- one more entry is gone through
+abbrev pub GoesPast : Walk → Option (List ℕ) → Walk → Option (List ℕ) → Type 0
+GoesPast old from new to = (bytes : List ℕ) (count : ℕ) → WalksAt bytes old from count → WalksAt bytes new to (suc count)
+
+-- there is none, and the trace is legal
+abbrev pub EndsLegal : Walk → Option (List ℕ) → Type 0
+EndsLegal old from = (bytes : List ℕ) (count : ℕ) → WalksAt bytes old from count → IsVerdict bytes (verdicts.Legal count)
+
+-- the fault is the verdict on the input
+abbrev pub FailsFrom : Walk → Option (List ℕ) → WalkFault → Type 0
+FailsFrom old from fault = (bytes : List ℕ) (count : ℕ) → WalksAt bytes old from count → IsFault bytes fault
+
+-- ---- what is asked
+
+-- behind the first line of an entry
+abbrev pub HeadsAt : List ℕ → Walk → Option (List ℕ) → ℕ → ℕ → Head → Type 0
+HeadsAt bytes w remaining count pass head = Heads bytes w.lines w.store w.header remaining count pass head
+
+-- behind some items of a Merge
+abbrev pub ListsAt : List ℕ → Walk → Option (List ℕ) → (count pass most : ℕ) → List Item → Type 0
+ListsAt bytes w remaining count pass most items = Lists bytes w.lines w.store w.header remaining count pass most items
+
+-- behind all that an entry asks
+abbrev pub AsksAt : List ℕ → Walk → Option (List ℕ) → ℕ → ℕ → Asked → Type 0
+AsksAt bytes w remaining count pass asked = HasAsked bytes w.lines w.store w.header remaining count pass asked
+
+-- at the first line of the reply
+abbrev pub HearsAt : List ℕ → Walk → Option (List ℕ) → ℕ → ℕ → Asked → Type 0
+HearsAt bytes w remaining count pass asked = Hears bytes w.lines w.store w.header remaining count pass asked
+
+-- the first line of one more entry is read
+abbrev pub ReadsHead : Walk → Option (List ℕ) → Walk → Option (List ℕ) → ℕ × Head → Type 0
+ReadsHead old from new to r = (bytes : List ℕ) (count : ℕ) → WalksAt bytes old from count → HeadsAt bytes new to count r.0 r.1
+
+-- and then all that the entry asks
+abbrev pub ReadsAsked : Walk → Option (List ℕ) → Head → Walk → Option (List ℕ) → Asked → Type 0
+ReadsAsked old from head new to asked = (bytes : List ℕ) (count pass : ℕ) → HeadsAt bytes old from count pass head → AsksAt bytes new to count pass asked
+
+abbrev pub FailsBehindHead : Walk → Option (List ℕ) → Head → WalkFault → Type 0
+FailsBehindHead old from head fault = (bytes : List ℕ) (count pass : ℕ) → HeadsAt bytes old from count pass head → IsFault bytes fault
+
+-- all items of a Merge are read
+abbrev pub ReadsItems : Walk → Option (List ℕ) → ℕ → Walk → Option (List ℕ) → List Item → Type 0
+ReadsItems old from most new to items =
+    (bytes : List ℕ) (count pass : ℕ) → ListsAt bytes old from count pass most [] → (length items ≡ most) × ListsAt bytes new to count pass most items
+
+abbrev pub FailsInItems : Walk → Option (List ℕ) → ℕ → WalkFault → Type 0
+FailsInItems old from most fault = (bytes : List ℕ) (count pass : ℕ) → ListsAt bytes old from count pass most [] → IsFault bytes fault
+
+-- one more is
+abbrev pub AddsOne : Walk → Option (List ℕ) → List Item → Walk → Option (List ℕ) → List Item → Type 0
+AddsOne old from before new to after =
+    (bytes : List ℕ) (count pass most : ℕ) → length before < most → ListsAt bytes old from count pass most before →
+    (length after ≡ suc (length before)) × ListsAt bytes new to count pass most after
+
+abbrev pub FailsAtItem : Walk → Option (List ℕ) → List Item → WalkFault → Type 0
+FailsAtItem old from before fault = (bytes : List ℕ) (count pass most : ℕ) → length before < most → ListsAt bytes old from count pass most before → IsFault bytes fault
+
+-- ---- the reply
+
+-- what a sweep asks
+abbrev pub swept_line : Sweep → Asked
+swept_line swept = askeds.Line (commands.Sweep swept.caller swept.owner swept.generation)
+
+-- behind what is asked, the reply is gone through
+abbrev pub GoesBehind : Walk → Option (List ℕ) → ℕ → Asked → Walk → Option (List ℕ) → Type 0
+GoesBehind old from pass asked new to = (bytes : List ℕ) (count : ℕ) → AsksAt bytes old from count pass asked → WalksAt bytes new to (suc count)
+
+abbrev pub FailsBehind : Walk → Option (List ℕ) → ℕ → Asked → WalkFault → Type 0
+FailsBehind old from pass asked fault = (bytes : List ℕ) (count : ℕ) → AsksAt bytes old from count pass asked → IsFault bytes fault
+
+-- from its first line on
+abbrev pub GoesPastReply : Walk → Option (List ℕ) → ℕ → Asked → Walk → Option (List ℕ) → Type 0
+GoesPastReply old from pass asked new to = (bytes : List ℕ) (count : ℕ) → HearsAt bytes old from count pass asked → WalksAt bytes new to (suc count)
+
+abbrev pub FailsAtReply : Walk → Option (List ℕ) → ℕ → Asked → WalkFault → Type 0
+FailsAtReply old from pass asked fault = (bytes : List ℕ) (count : ℕ) → HearsAt bytes old from count pass asked → IsFault bytes fault
+
+-- that to a command on one line
+abbrev pub PassesLine : Walk → Option (List ℕ) → ℕ → ScriptCommand → Walk → Option (List ℕ) → Type 0
+PassesLine old from pass command new to = GoesPastReply old from pass (askeds.Line command) new to
+
+-- that to a sweep
+abbrev pub PassesSweep : Walk → Option (List ℕ) → ℕ → Sweep → Walk → Option (List ℕ) → Type 0
+PassesSweep old from pass swept new to = GoesPastReply old from pass (swept_line swept) new to
+
+-- that of a Merge, whatever its pass
+abbrev pub PassesMerge : Walk → Option (List ℕ) → List Item → Walk → Option (List ℕ) → Type 0
+PassesMerge old from items new to = (bytes : List ℕ) (count pass : ℕ) → HearsAt bytes old from count pass (askeds.Merge items) → WalksAt bytes new to (suc count)
+
+abbrev pub FailsAtMerge : Walk → Option (List ℕ) → List Item → WalkFault → Type 0
+FailsAtMerge old from items fault = (bytes : List ℕ) (count pass : ℕ) → HearsAt bytes old from count pass (askeds.Merge items) → IsFault bytes fault
+
+-- that to whatever asks the store for the command
+abbrev pub PassesFor : Wording → Command → Walk → Option (List ℕ) → Walk → Option (List ℕ) → Type 0
+PassesFor wording command old from new to =
+    (bytes : List ℕ) (count pass : ℕ) (asked : Asked) → IsForStore old.header.format asked wording command old.lines.line → HearsAt bytes old from count pass asked →
+    WalksAt bytes new to (suc count)
+
+abbrev pub FailsFor : Wording → Command → Walk → Option (List ℕ) → WalkFault → Type 0
+FailsFor wording command old from fault =
+    (bytes : List ℕ) (count pass : ℕ) (asked : Asked) → IsForStore old.header.format asked wording command old.lines.line → HearsAt bytes old from count pass asked →
+    IsFault bytes fault
+
+-- ---- a Merge that is stopped
+
+-- the line stops a Merge of so many items behind none of them
+abbrev pub StopsNowhere : List ℕ → ℕ → Type 0
+StopsNowhere line count = (done : ℕ) → done < count → count ≤ most_items → line ≢ stopped_line done
+
+-- the reply is that of a Merge that memory stopped behind so many items
+abbrev pub StopsMidway : ContentRecord → List Item → ℕ → Reply → ContentRecord → Type 0
+StopsMidway old items done reply new =
+    (s : State) → ContentStands old s → length items ≤ most_items → (t : State) × StopsForRoom s items reply t done × ContentStands new t
+
+-- a refusal stops it earlier, or there is no room
+abbrev pub FailsToStop : ContentRecord → List Item → (done number : ℕ) → WalkFault → Type 0
+FailsToStop old items done number fault = (s : State) → ContentStands old s → length items ≤ most_items → IsStopFault s items done number fault

@@ -1,0 +1,16 @@
+//! Recorded traces of one store, judged against the store's machine.
+//!
+//! What a trace is, and which verdict belongs to it, `trace_words` says. Here a store is opened by the header of a trace and asked
+//! what its entries ask, one after the other, and what it replies has to stand in the trace.
+#![tactic(auto)]
+
+mod expected;
+mod fault;
+mod place;
+mod stopping;
+mod sweep;
+mod verifying;
+mod walk;
+
+pub use trace_words::Verdict;
+pub use verifying::verify;

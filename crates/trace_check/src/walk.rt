@@ -1,0 +1,133 @@
+//! A walk through a trace, entry by entry.
+
+ghost use Rattle.std.specs.Prelude.{◌≡◌, ◌++◌, ◌∷◌, [], true, false, IfOk, IfErr, IfSome, IfNone, OnOk};
+ghost use Rattle.trace_check.specs.Steps.{WalksAt, IsFaultOfKnown, GoesPast, EndsLegal, FailsFrom, ReadsHead, ReadsAsked, FailsBehindHead, ReadsItems, FailsInItems, AddsOne, FailsAtItem};
+
+mod judging;
+
+use crate::fault::WalkFault;
+use crate::place::{Place, next_line, wanted_line};
+use ds_entry::{Item, Items};
+use ds_lines::{Lines, Source};
+use ds_names::NoRoom;
+use ds_store::Store;
+use std::alloc::Global;
+use trace_words::{Asked, Head, Header, read_head, read_header, read_plus};
+
+/// A walk under way: where it is in the input, the store that answers, and what it was opened with.
+#[derive(Drop)]
+pub(crate) struct Walk {
+    alloc: Global,
+    lines: Lines,
+    store: Store,
+    header: Header,
+}
+
+impl Walk {
+    /// Reads the header, and opens a store by it.
+    pub fn begin<R: Source>(alloc: Global, reader: &mut R) -> Result<Walk, WalkFault>
+        ensures begins { IfOk result (λ walk. IfSome (R.remaining reader.old) (λ bytes. WalksAt bytes walk (R.remaining reader.new) 0)) }
+        ensures fails { IfErr result (λ fault. IsFaultOfKnown (R.remaining reader.old) fault) }
+    {
+        let mut lines = Lines::new(alloc)?;
+        match next_line(&mut lines, reader, Place::Form) {
+            Ok(true) => {}
+            Ok(false) => return Err(WalkFault::BadLineAt(1)),
+            Err(fault) => return Err(fault),
+        }
+        let Some(header) = read_header(lines.line()) else {
+            return Err(WalkFault::BadLineAt(1));
+        };
+        let opened = Store::open_with(
+            alloc,
+            header.incarnation,
+            header.first,
+            header.ring,
+            header.limits,
+        );
+        let Ok(store) = opened else {
+            return Err(WalkFault::NoRoom);
+        };
+        Ok(Walk {
+            alloc,
+            lines,
+            store,
+            header,
+        })
+    }
+
+    /// Goes through one entry. Gives whether there was one.
+    pub fn next<R: Source>(&mut self, reader: &mut R) -> Result<bool, WalkFault>
+        ensures goes { IfOk result (λ s. s ≡ true → GoesPast self.old (R.remaining reader.old) self.new (R.remaining reader.new)) }
+        ensures ends { IfOk result (λ s. s ≡ false → EndsLegal self.old (R.remaining reader.old)) }
+        ensures fails { IfErr result (λ fault. FailsFrom self.old (R.remaining reader.old) fault) }
+    {
+        let Some((pass, head)) = self.head(reader)? else {
+            return Ok(false);
+        };
+        let asked = self.asked(reader, head)?;
+        self.judge(reader, pass, asked)?;
+        Ok(true)
+    }
+
+    // Reads the first line of an entry, if there is one.
+    fn head<R: Source>(&mut self, reader: &mut R) -> Result<Option<(u64, Head)>, WalkFault>
+        ensures some { IfOk result (λ o. IfSome o (ReadsHead self.old (R.remaining reader.old) self.new (R.remaining reader.new))) }
+        ensures none { IfOk result (λ o. IfNone o (EndsLegal self.old (R.remaining reader.old))) }
+        ensures fails { IfErr result (λ fault. FailsFrom self.old (R.remaining reader.old) fault) }
+    {
+        if !next_line(&mut self.lines, reader, Place::Form)? {
+            return Ok(None);
+        }
+        match read_head(self.alloc, self.lines.line(), self.header.format) {
+            Ok(read) => Ok(Some(read)),
+            Err(fault) => Err(WalkFault::of_line(fault, self.lines.count())),
+        }
+    }
+
+    // Reads what else is asked on lines of its own.
+    fn asked<R: Source>(&mut self, reader: &mut R, head: Head) -> Result<Asked, WalkFault>
+        ensures goes { IfOk result (ReadsAsked self.old (R.remaining reader.old) head self.new (R.remaining reader.new)) }
+        ensures fails { IfErr result (FailsBehindHead self.old (R.remaining reader.old) head) }
+    {
+        match head {
+            Head::Line(command) => Ok(Asked::Line(command)),
+            Head::Merge(count) => Ok(Asked::Merge(self.items(reader, count)?)),
+        }
+    }
+
+    // Reads the items of a Merge.
+    fn items<R: Source>(&mut self, reader: &mut R, most: u64) -> Result<Items, WalkFault>
+        ensures goes { IfOk result (ReadsItems self.old (R.remaining reader.old) most self.new (R.remaining reader.new)) }
+        ensures fails { IfErr result (FailsInItems self.old (R.remaining reader.old) most) }
+    {
+        let mut items = Items::new(self.alloc);
+        for _index in 0..most {
+            self.item(reader, &mut items)?;
+        }
+        Ok(items)
+    }
+
+    // Reads one more item.
+    fn item<R: Source>(&mut self, reader: &mut R, items: &mut Items) -> Result<(), WalkFault>
+        ensures goes { IfOk result (λ u. AddsOne self.old (R.remaining reader.old) items.old self.new (R.remaining reader.new) items.new) }
+        ensures fails { IfErr result (FailsAtItem self.old (R.remaining reader.old) items.old) }
+    {
+        wanted_line(&mut self.lines, reader, Place::Form)?;
+        match read_plus(self.alloc, self.lines.line(), self.header.format) {
+            Ok(item) => {
+                push(items, item)?;
+                Ok(())
+            }
+            Err(fault) => Err(WalkFault::of_line(fault, self.lines.count())),
+        }
+    }
+}
+
+// Adds an item at the end, or nothing.
+fn push(items: &mut Items, item: Item) -> Result<(), NoRoom>
+    ensures { OnOk result (items.new ≡ items.old ++ item ∷ []) }
+{
+    items.push(item)?;
+    Ok(())
+}

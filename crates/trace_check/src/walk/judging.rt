@@ -1,0 +1,145 @@
+//! What a walk does at a reply.
+
+ghost use Rattle.std.specs.Prelude.{◌≡◌, ◌≢◌, ◌<◌, length, IfOk, IfErr};
+ghost use Rattle.trace_words.specs.declared.asked.Asked.TheVariants as askeds;
+ghost use Rattle.trace_words.specs.Noroom.{noroom_line, stopped_line};
+ghost use Rattle.trace_check.specs.Steps.{GoesBehind, FailsBehind, GoesPastReply, FailsAtReply, PassesLine, PassesSweep, PassesMerge, FailsAtMerge, PassesFor, FailsFor, swept_line};
+
+use super::Walk;
+use crate::expected::expect;
+use crate::fault::WalkFault;
+use crate::place::{Place, wanted_line};
+use crate::stopping::{stop_of, stopped, wants_room};
+use crate::sweep::{Sweep, older, sweep_older};
+use ds_entry::Items;
+use ds_lines::Source;
+use ds_machine::Command;
+use ds_words::ScriptCommand;
+use store_words::{Wording, append_reply};
+use trace_words::{Asked, Format, is_noroom};
+
+impl Walk {
+    /// Reads the reply to what was asked, which the store has to give.
+    pub(crate) fn judge<R: Source>(
+        &mut self,
+        reader: &mut R,
+        pass: u64,
+        asked: Asked,
+    ) -> Result<(), WalkFault>
+        ensures goes { IfOk result (λ u. GoesBehind self.old (R.remaining reader.old) pass asked self.new (R.remaining reader.new)) }
+        ensures fails { IfErr result (FailsBehind self.old (R.remaining reader.old) pass asked) }
+    {
+        wanted_line(&mut self.lines, reader, Place::Reply)?;
+        self.answered(reader, pass, asked)
+    }
+
+    // Judges the reply whose first line the walk is at. One for want of memory may stand there, and then nothing changed.
+    fn answered<R: Source>(
+        &mut self,
+        reader: &mut R,
+        pass: u64,
+        asked: Asked,
+    ) -> Result<(), WalkFault>
+        ensures goes { IfOk result (λ u. GoesPastReply self.old (R.remaining reader.old) pass asked self.new (R.remaining reader.new)) }
+        ensures fails { IfErr result (FailsAtReply self.old (R.remaining reader.old) pass asked) }
+    {
+        if is_noroom(self.lines.line()) {
+            return Ok(());
+        }
+        match asked {
+            Asked::Line(command) => self.judge_line(reader, pass, command),
+            Asked::Merge(items) => self.judge_merge(reader, items),
+        }
+    }
+
+    // Judges the reply to a command that stands on one line.
+    fn judge_line<R: Source>(
+        &mut self,
+        reader: &mut R,
+        pass: u64,
+        command: ScriptCommand,
+    ) -> Result<(), WalkFault>
+        requires { self.old.lines.line ≢ noroom_line }
+        ensures goes { IfOk result (λ u. PassesLine self.old (R.remaining reader.old) pass command self.new (R.remaining reader.new)) }
+        ensures fails { IfErr result (FailsAtReply self.old (R.remaining reader.old) pass (askeds.Line command)) }
+    {
+        match older(&command, self.header.format) {
+            Some(swept) => self.judge_sweep(reader, pass, swept),
+            None => {
+                let wording = command.wording();
+                match command.into_store_command(self.alloc)? {
+                    Some(command) => self.ask(reader, wording, command),
+                    None => Err(WalkFault::NoRoom),
+                }
+            }
+        }
+    }
+
+    // Judges the reply to a Merge.
+    fn judge_merge<R: Source>(&mut self, reader: &mut R, items: Items) -> Result<(), WalkFault>
+        requires { self.old.lines.line ≢ noroom_line }
+        ensures goes { IfOk result (λ u. PassesMerge self.old (R.remaining reader.old) items self.new (R.remaining reader.new)) }
+        ensures fails { IfErr result (FailsAtMerge self.old (R.remaining reader.old) items) }
+    {
+        match stop_of(self.lines.line(), items.len()) {
+            Some(done) => self.judge_stopped(reader, &items, done),
+            None => self.ask(reader, Wording::AsMerge, Command::Merge { items }),
+        }
+    }
+
+    // A Merge that is stopped for want of memory behind so many items: those are merged.
+    fn judge_stopped<R: Source>(
+        &mut self,
+        reader: &mut R,
+        items: &Items,
+        done: usize,
+    ) -> Result<(), WalkFault>
+        requires few { done < length items.now }
+        requires line { self.old.lines.line ≡ stopped_line done }
+        ensures goes { IfOk result (λ u. PassesMerge self.old (R.remaining reader.old) items.now self.new (R.remaining reader.new)) }
+        ensures fails { IfErr result (FailsAtMerge self.old (R.remaining reader.old) items.now) }
+    {
+        let number = self.lines.count();
+        let reply = stopped(self.alloc, &mut self.store, items, done, number)?;
+        let mut text = Vec::new(self.alloc);
+        append_reply(&mut text, Wording::AsMerge, &reply, self.header.limits)?;
+        expect(&mut self.lines, reader, text.as_slice())
+    }
+
+    // A sweep of format 1.
+    fn judge_sweep<R: Source>(
+        &mut self,
+        reader: &mut R,
+        pass: u64,
+        swept: Sweep,
+    ) -> Result<(), WalkFault>
+        requires line { self.old.lines.line ≢ noroom_line }
+        requires format { self.old.header.format ≡ Format.One }
+        ensures goes { IfOk result (λ u. PassesSweep self.old (R.remaining reader.old) pass swept self.new (R.remaining reader.new)) }
+        ensures fails { IfErr result (FailsAtReply self.old (R.remaining reader.old) pass (swept_line swept)) }
+    {
+        let reply = sweep_older(self.alloc, &mut self.store, swept)?;
+        let mut text = Vec::new(self.alloc);
+        append_reply(&mut text, Wording::AsMerge, &reply, self.header.limits)?;
+        expect(&mut self.lines, reader, text.as_slice())
+    }
+
+    // HasAsked the store, whose reply has to stand there.
+    fn ask<R: Source>(
+        &mut self,
+        reader: &mut R,
+        wording: Wording,
+        command: Command,
+    ) -> Result<(), WalkFault>
+        ensures goes { IfOk result (λ u. PassesFor wording command self.old (R.remaining reader.old) self.new (R.remaining reader.new)) }
+        ensures fails { IfErr result (FailsFor wording command self.old (R.remaining reader.old)) }
+    {
+        let reply = self.store.apply(command);
+        if wants_room(&reply) {
+            return Err(WalkFault::NoRoom);
+        }
+        let mut text = Vec::new(self.alloc);
+        append_reply(&mut text, wording, &reply, self.header.limits)?;
+        expect(&mut self.lines, reader, text.as_slice())
+    }
+}

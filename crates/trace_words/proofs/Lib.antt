@@ -1,0 +1,14 @@
+pub mod SplitLemmas
+pub mod NumberLemmas
+pub mod HeaderLemmas
+pub mod AskedLemmas
+pub mod CommandEndLemmas
+pub mod WalkLemmas
+pub mod TellLemmas
+pub mod MarkLemmas
+pub mod OneReplyLemmas
+pub mod TombstoneLemmas
+pub mod TracedLemmas
+pub mod EntryLemmas
+pub mod PlaceLemmas
+pub mod HistoryLemmas

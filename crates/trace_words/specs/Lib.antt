@@ -1,0 +1,9 @@
+pub mod Text
+pub mod Head
+pub mod Noroom
+pub mod Sweep
+pub mod Legal
+pub mod Verdict
+pub mod Walk
+pub mod OneReply
+pub mod History

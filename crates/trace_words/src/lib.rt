@@ -1,0 +1,22 @@
+//! The text of a trace: what its lines say, which texts are legal traces, and what a text is that is none.
+//!
+//! A trace is a header, and then entries: what was asked, on lines that begin with `>` and `+`, and what was answered, on lines that
+//! begin with `<`. It is legal if its entries are a legal history: each reply is one that the machine gives, in the state that the
+//! entries before it left. The format is of this project.
+#![tactic(auto)]
+
+mod asked;
+mod header;
+mod laws;
+mod number;
+mod replies;
+mod verdict;
+
+pub use asked::{Asked, AskedFault, Head, read_head, read_plus};
+pub use header::{Format, Header, read_header};
+pub use laws::{
+    entries_lead_on, first_lines_tell, headers_are_judged, heads_are_judged, places_are_judged,
+    replies_are_one, tombstones_are_taken, traced_states_stay, traces_are_histories,
+};
+pub use replies::{is_marked, is_noroom, stopped_at};
+pub use verdict::Verdict;

@@ -1,0 +1,93 @@
+"""Seeded traces of one store, in both formats.
+
+A trace is drawn entry by entry, and the model's store answers each, so that it is legal; want of memory stands in some replies.
+Then one line of it is changed, left out, doubled or exchanged with the next.
+"""
+import random
+
+from by_chance import command_by_chance
+from model import lines, traces
+
+
+def trace_of(seed):
+    """The lines of a trace: of odd seeds in format 1."""
+    chance = random.Random(seed)
+    numbers = b"%d %d %d" % (chance.choice([1, 7]), chance.choice([0, 0, 0, 5, 2**62 - 4]), chance.choice([1, 3, 256]))
+    limits = chance.choice([b"64 1024", b"128 4096"])
+    given = [b"trace 1 " + numbers if seed % 2 else b"trace 2 %s %s" % (numbers, limits)]
+    trace = traces.Trace(given[0])
+    trace.header()
+    for _ in range(chance.randrange(1, 14)):
+        given += entry_by_chance(chance, trace)
+    return given
+
+
+def entry_by_chance(chance, trace):
+    """The lines of one entry, whose reply is the store's or want of memory."""
+    mark = b"> %d " % chance.randrange(64)
+    if chance.random() < 0.2:
+        items = [item_by_chance(chance, trace) for _ in range(chance.randrange(5))]
+        asked = [mark + b"merge %d" % len(items), *(b"+ " + it for it in items)]
+        read = [lines.item(it) for it in items]
+        done = chance.randrange(len(items)) if items and chance.random() < 0.2 else None
+        if chance.random() < 0.05:
+            return asked + [b"< refused noroom"]
+        told = trace.store.merge(read[:done])
+        if done is not None and told[0].startswith(b"merged"):  # else what stopped it before stops the whole Merge there, too
+            told[0] = b"stopped %d noroom" % done
+        return asked + [b"< " + it for it in told]
+    command = line_by_chance(chance, trace)
+    if chance.random() < 0.05:
+        return [mark + command, b"< refused noroom"]
+    return [mark + command, *(b"< " + it for it in trace.store.answer(*lines.read(command)))]
+
+
+def line_by_chance(chance, trace):
+    """The line of a command that a trace of the format may have."""
+    while True:
+        line = command_by_chance(chance)
+        if chance.random() < 0.15:
+            where = b"%d %d" % (trace.store.incarnation, trace.store.first + chance.randrange(8))
+            scope = chance.choice([b"*", b'"m.*|eth0" 15'])
+            line = chance.choice([b"since %s %s 3" % (scope, where), b"snapshot " + scope, b"page %s - 2" % scope])
+        command, taken = lines.read(line)
+        if command in traces.ASKED and (command != b"offer" or trace.is_carried(taken[0])):
+            return line
+
+
+def item_by_chance(chance, trace):
+    """The line of an item that a Merge of the format may have."""
+    while True:
+        command, _, line = command_by_chance(chance).partition(b" ")
+        if command == b"offer" and trace.is_carried(lines.item(line)):
+            return line
+
+
+def forged(seed, given):
+    """The lines with one of them changed, left out, doubled or exchanged with the next."""
+    chance, given = random.Random(seed), given[:]
+    at = chance.randrange(len(given))
+    how = chance.randrange(4)
+    if how == 0:
+        line = given[at]
+        place = chance.randrange(max(line.find(b'"'), 0) or len(line) or 1)  # before a pattern, which Python may read otherwise
+        byte = chance.choice(b"0123456789a <>+!-.=x")
+        given[at] = line[:place] + bytes([byte]) + line[place + 1 :]
+    elif how == 1:
+        del given[at]
+    elif how == 2:
+        given.insert(at, given[at])
+    else:
+        given[at : at + 2] = reversed(given[at : at + 2])
+    return given
+
+
+def text_of(given):
+    """The text of a trace."""
+    return b"".join(it + b"\n" for it in given)
+
+
+def texts_of(seed):
+    """The text of the trace of a seed, and of that trace forged."""
+    given = trace_of(seed)
+    return text_of(given), text_of(forged(seed, given))
