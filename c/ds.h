@@ -1,0 +1,146 @@
+/* The data store for C: MINIX 3's DS with generations, versions and floors, as docs/c.md describes it.
+ *
+ * A program keeps a handle, opens a store in it, asks it one request after the other, fetches the text of each answer in
+ * pieces, and closes it. All memory that crosses is the caller's: no call keeps a pointer that it was given, and none gives
+ * memory that the caller would have to free. What the store itself takes it gives back at ds_close.
+ *
+ * What the caller keeps right, since no call can see it:
+ *   - a handle begins as DS_CLOSED, and nothing but these calls reads, writes or copies what stands in it;
+ *   - its address, and that of a request, an answer and a struct ds_given, is never NULL; the address of a buffer may be
+ *     NULL where its length is 0;
+ *   - a length is no more than what the buffer has, and no two of the buffers of one call overlap;
+ *   - there is one call at a time on a handle, by one thread.
+ * Every other misuse is answered by a word.
+ *
+ * Link libds_c.a and the toolchain's liblibc_c.a, which calls malloc, realloc and free. */
+#ifndef DS_H
+#define DS_H
+
+#include <stddef.h>
+#include <stdint.h>
+
+#ifdef __cplusplus
+extern "C" {
+#endif
+
+/* What may be asked. Each needs the parts that stand behind it; the others may be anything. */
+enum ds_command {
+    DS_PUBLISH,   /* caller, key, version, value, overwrite: puts a value under the key */
+    DS_DELETE,    /* caller, key, version: leaves a tombstone under the key of a live entry */
+    DS_SWEEP,     /* caller (RS), name (of the owner), value (a generation): raises the owner's floor */
+    DS_RETRIEVE,  /* key: the value of a live entry */
+    DS_NAMEOF,    /* generation, slot: the least name whose live label holds this endpoint */
+    DS_SUBSCRIBE, /* sub, kinds, text (a pattern), initial, overwrite */
+    DS_CHECK,     /* sub, max: the first items that the subscription was not shown yet */
+    DS_SINCE,     /* scope, incarnation, position, max: what took effect from a cursor on */
+    DS_SNAPSHOT,  /* scope: all that is held */
+    DS_PAGE,      /* scope, behind (with name), max: a part of what is held */
+    DS_MERGE      /* text (the lines of items): takes over what another store or server gave */
+};
+
+enum ds_kinds { DS_LABEL = 1, DS_U32 = 2, DS_STR = 4, DS_MEM = 8 };
+
+/* A request. Begin with zeros, and set what the command needs. */
+struct ds_request {
+    uint64_t incarnation, position; /* the cursor of a since */
+    uint64_t text_at, text_length;  /* where in the texts of the call its text stands: a string, memory, a pattern, or lines */
+    uint32_t command;               /* of enum ds_command */
+    uint32_t generation;            /* with slot: the caller, or whose name is asked for; at most 2097151 */
+    uint32_t epoch, seq;            /* the version; an epoch is at most 2097151 */
+    uint32_t value;                 /* a number; with value_slot a label's endpoint; a sweep's generation */
+    uint32_t sub, max;              /* max: 1 to 256 */
+    uint16_t slot, value_slot;      /* at most 1023 */
+    uint8_t kinds;                  /* one of enum ds_kinds for a key, a sum of them for a pattern */
+    uint8_t overwrite;              /* 1: a live entry, or a subscription, may be replaced */
+    uint8_t initial;                /* 1: the subscription is to be shown what is held already */
+    uint8_t under;                  /* the scope. 0: everything; 1: what the pattern and the kinds match */
+    uint8_t behind;                 /* 0: the first page; else it begins behind the key of name and this kind */
+    uint8_t name_length;            /* of the name: 1 to 64 letters, digits, dots, underscores and dashes */
+    char name[64];                  /* with kinds the key; of a sweep the owner */
+};
+
+/* Which answer it is. */
+enum ds_word {
+    DS_CHANGED,    /* it took effect */
+    DS_KNOWN,      /* it was held already */
+    DS_SWEPT,      /* count: how many live entries were dropped */
+    DS_FOUND,      /* kind; a number: value; a label: value and value_slot; a string or memory: one piece of text */
+    DS_NAMED,      /* one piece of text, the name */
+    DS_SUBSCRIBED, /* after: the stamp */
+    DS_CHECKED,    /* a piece of text for each item; before, after: the stamps */
+    DS_JOURNALED,  /* a piece of text for each item; before, after: the cursor's incarnation and its position */
+    DS_SNAPPED,    /* the same */
+    DS_PAGED,      /* the same; last: 1 where no more follows */
+    DS_MERGED,     /* count: items done; taken, stale: of these */
+    DS_STOPPED,    /* a merge: count items are done, and the next one was refused, by refusal */
+    DS_REFUSED,    /* by refusal; nothing changed */
+    DS_NOREQUEST   /* no command has such parts, or the text is not within the texts; nothing changed */
+};
+
+/* Why a request was refused, in the order in which the store judges; behind them, why a call was. */
+enum ds_refusal {
+    DS_BADSUB = 1, DS_TOOMANY, DS_TOOLONG, DS_BADPATTERN, DS_BADKIND, DS_BADLABEL, DS_BADVERSION, DS_NOCALLER, DS_NOTALLOWED,
+    DS_NOTOWNER, DS_CLASH, DS_STALE, DS_EXISTS, DS_NOTFOUND, DS_OLDCURSOR, DS_AHEAD, DS_BEHIND, DS_FULL, DS_WORN, DS_NOROOM,
+    DS_BADRING, DS_BADFIRST,
+    DS_ISCLOSED, DS_ISOPEN
+};
+
+struct ds_answer {
+    uint64_t count, taken, stale;
+    uint64_t before, after;
+    uint64_t pieces;        /* how many pieces of text it has, which ds_items gives */
+    uint32_t word;          /* of enum ds_word */
+    uint32_t refusal;       /* 0, or of enum ds_refusal */
+    uint32_t epoch, seq;    /* the version of a clash */
+    uint32_t value;
+    uint16_t value_slot;
+    uint8_t kind, last;
+    uint8_t owed[16];       /* the subscriptions that are owed a notice, a bit for each: ds_is_owed */
+};
+
+/* Why ds_items gave no more: there is no more, the next piece does not fit, or memory for it was wanting. */
+enum ds_stop { DS_WHOLE = 0, DS_TOOSMALL = 1, DS_WANTING = 20 };
+
+/* How many pieces ds_items gave, how many bytes they have together, and why no more. */
+struct ds_given {
+    uint64_t count, length;
+    uint32_t stop; /* of enum ds_stop */
+};
+
+/* The subscription is owed a notice by the answer. */
+static inline int ds_is_owed(const struct ds_answer *answer, unsigned sub) {
+    return sub < 128 && (answer->owed[sub / 8] >> sub % 8 & 1);
+}
+
+struct ds_handle { void *private_; };
+#define DS_CLOSED { NULL }
+
+/* Opens a store of this incarnation in a closed handle; each run of a store has another incarnation, so that no cursor is
+ * taken for one of a run before. Its first item will have the position first, at most 2^62; its journal keeps the last ring
+ * items, 1 to 4096.
+ * Answers 0; DS_ISOPEN where a store is open in the handle, which stays; else DS_BADRING, DS_BADFIRST or DS_NOROOM, the
+ * first of these that holds, and the handle stays closed. */
+uint32_t ds_open(struct ds_handle *handle, uint64_t incarnation, uint64_t first, uint32_t ring);
+
+/* Lets the store answer the request, whose text stands in texts, and writes the answer. The request and the texts may be
+ * changed or freed afterwards.
+ * Answers 0, or DS_ISCLOSED, and then the answer is as it was. */
+uint32_t ds_call(struct ds_handle *handle, const struct ds_request *request, const char *texts, size_t texts_length,
+                 struct ds_answer *answer);
+
+/* Gives the text of the last answer from piece number first on (they count from 0): as many pieces as fit into room, whole,
+ * one behind the other, and says in given how many these are. A piece is a name, a string, memory, or the line of an item,
+ * with its newline, as docs/formats.md has it; the lines of one store's answer may be the text of another's DS_MERGE.
+ * Nothing is lost where room is too small: the next piece is number first + given->count, for as long as no other request
+ * was asked.
+ * Answers 0, or DS_ISCLOSED, and then room and given are as they were. */
+uint32_t ds_items(struct ds_handle *handle, size_t first, char *room, size_t room_length, struct ds_given *given);
+
+/* Closes the handle, and gives all its memory back. Answers 0, or DS_ISCLOSED. */
+uint32_t ds_close(struct ds_handle *handle);
+
+#ifdef __cplusplus
+}
+#endif
+
+#endif

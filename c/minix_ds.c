@@ -1,0 +1,202 @@
+/* MINIX 3's calls of the data store, over ds.h. See minix_ds.h. */
+#include "minix_ds.h"
+#include <errno.h>
+#include <stdio.h>
+#include <string.h>
+
+enum { LONGEST = 4096 }; /* bytes of an item's line, which is the longest piece of text */
+
+static int error_of(uint32_t refusal) {
+    switch (refusal) {
+    case 0: return 0;
+    case DS_NOCALLER: case DS_NOTALLOWED: case DS_NOTOWNER: return -EPERM;
+    case DS_EXISTS: return -EEXIST;
+    case DS_NOTFOUND: return -ESRCH;
+    case DS_FULL: case DS_WORN: return -ENOSPC;
+    case DS_NOROOM: return -ENOMEM;
+    default: return -EINVAL; /* what DS has no word for, too: an older version, a clash */
+    }
+}
+
+/* Asks the store, keeps whom it owes a notice, and gives the error. */
+static int asked(struct ds_caller *caller, const struct ds_request *request, const void *text, size_t length, struct ds_answer *answer) {
+    caller->refusal = ds_call(caller->store, request, text, length, answer);
+    if (caller->refusal) return -EIO;
+    if (answer->word == DS_NOREQUEST) return -EINVAL;
+    for (size_t i = 0; i < sizeof answer->owed; i++) caller->owed[i] |= answer->owed[i];
+    caller->refusal = answer->refusal;
+    return error_of(answer->refusal);
+}
+
+/* A request of the caller for a key. */
+static int named(struct ds_request *to, uint32_t command, const struct ds_caller *caller, const char *name, uint8_t kind) {
+    size_t length = strlen(name);
+    if (length > sizeof to->name) return -E2BIG;
+    memset(to, 0, sizeof *to);
+    to->command = command, to->kinds = kind;
+    to->generation = caller->endpoint / 1024, to->slot = (uint16_t)(caller->endpoint % 1024);
+    to->name_length = (uint8_t)length;
+    memcpy(to->name, name, length);
+    return 0;
+}
+
+/* A change of the caller's own: it has the caller's generation, and the next number. A number is used up where it took effect. */
+static int changed(struct ds_caller *caller, struct ds_request *request, const void *text, size_t length) {
+    struct ds_answer answer;
+    request->epoch = request->generation, request->seq = caller->seq + 1;
+    request->text_length = length;
+    int error = asked(caller, request, text, length, &answer);
+    if (!error && answer.word == DS_CHANGED) caller->seq++;
+    return error;
+}
+
+int ds_publish_label(struct ds_caller *caller, const char *label, ds_endpoint_t endpoint, int flags) {
+    struct ds_request request;
+    struct ds_answer answer;
+    int error = named(&request, DS_PUBLISH, caller, label, DS_LABEL);
+    if (error) return error;
+    request.epoch = request.value = endpoint / 1024, request.value_slot = (uint16_t)(endpoint % 1024);
+    request.overwrite = (flags & DSF_OVERWRITE) != 0;
+    return asked(caller, &request, NULL, 0, &answer);
+}
+
+static int publish(struct ds_caller *caller, const char *name, uint8_t kind, uint32_t value, const void *text, size_t length, int flags) {
+    struct ds_request request;
+    int error = named(&request, DS_PUBLISH, caller, name, kind);
+    if (error) return error;
+    request.value = value, request.overwrite = (flags & DSF_OVERWRITE) != 0;
+    return changed(caller, &request, text, length);
+}
+
+int ds_publish_u32(struct ds_caller *caller, const char *name, uint32_t value, int flags) {
+    return publish(caller, name, DS_U32, value, NULL, 0, flags);
+}
+
+int ds_publish_str(struct ds_caller *caller, const char *name, const char *value, int flags) {
+    size_t length = strlen(value);
+    return length > 256 ? -E2BIG : publish(caller, name, DS_STR, 0, value, length, flags);
+}
+
+int ds_publish_mem(struct ds_caller *caller, const char *name, const void *value, size_t length, int flags) {
+    return length > 1024 ? -E2BIG : publish(caller, name, DS_MEM, 0, value, length, flags);
+}
+
+/* Retrieves an entry, and the text of it, of at most *length bytes. */
+static int retrieve(struct ds_caller *caller, const char *name, uint8_t kind, struct ds_answer *answer, char *text, size_t *length) {
+    struct ds_request request;
+    struct ds_given given;
+    int error = named(&request, DS_RETRIEVE, caller, name, kind);
+    if (!error) error = asked(caller, &request, NULL, 0, answer);
+    if (error || answer->pieces == 0) return error;
+    if (ds_items(caller->store, 0, text, *length, &given)) return -EIO;
+    if (given.count == 0) return given.stop == DS_WANTING ? -ENOMEM : -E2BIG;
+    *length = given.length;
+    return 0;
+}
+
+int ds_retrieve_label_name(struct ds_caller *caller, char *name, ds_endpoint_t endpoint) {
+    struct ds_request request = {0};
+    struct ds_answer answer;
+    struct ds_given given;
+    request.command = DS_NAMEOF, request.generation = endpoint / 1024, request.slot = (uint16_t)(endpoint % 1024);
+    int error = asked(caller, &request, NULL, 0, &answer);
+    if (error) return error;
+    if (ds_items(caller->store, 0, name, DS_MAX_KEYLEN - 1, &given) || given.count == 0) return -EIO;
+    name[given.length] = '\0';
+    return 0;
+}
+
+int ds_retrieve_label_endpt(struct ds_caller *caller, const char *label, ds_endpoint_t *endpoint) {
+    struct ds_answer answer;
+    size_t none = 0;
+    int error = retrieve(caller, label, DS_LABEL, &answer, NULL, &none);
+    if (!error) *endpoint = DS_ENDPOINT(answer.value, answer.value_slot);
+    return error;
+}
+
+int ds_retrieve_u32(struct ds_caller *caller, const char *name, uint32_t *value) {
+    struct ds_answer answer;
+    size_t none = 0;
+    int error = retrieve(caller, name, DS_U32, &answer, NULL, &none);
+    if (!error) *value = answer.value;
+    return error;
+}
+
+int ds_retrieve_str(struct ds_caller *caller, const char *name, char *value, size_t length) {
+    struct ds_answer answer;
+    int error = retrieve(caller, name, DS_STR, &answer, value, &length);
+    if (!error) value[length] = '\0';
+    return error;
+}
+
+int ds_retrieve_mem(struct ds_caller *caller, const char *name, void *value, size_t *length) {
+    struct ds_answer answer;
+    return retrieve(caller, name, DS_MEM, &answer, value, length);
+}
+
+/* RS deletes a label in the generation that the label has; its number is 1. */
+int ds_delete_label(struct ds_caller *caller, const char *label) {
+    struct ds_request request;
+    struct ds_answer answer;
+    ds_endpoint_t endpoint;
+    int error = ds_retrieve_label_endpt(caller, label, &endpoint);
+    if (!error) error = named(&request, DS_DELETE, caller, label, DS_LABEL);
+    if (error) return error;
+    request.epoch = endpoint / 1024, request.seq = 1;
+    return asked(caller, &request, NULL, 0, &answer);
+}
+
+static int deleted(struct ds_caller *caller, const char *name, uint8_t kind) {
+    struct ds_request request;
+    int error = named(&request, DS_DELETE, caller, name, kind);
+    return error ? error : changed(caller, &request, NULL, 0);
+}
+
+int ds_delete_u32(struct ds_caller *caller, const char *name) { return deleted(caller, name, DS_U32); }
+int ds_delete_str(struct ds_caller *caller, const char *name) { return deleted(caller, name, DS_STR); }
+int ds_delete_mem(struct ds_caller *caller, const char *name) { return deleted(caller, name, DS_MEM); }
+
+int ds_subscribe(struct ds_caller *caller, const char *pattern, int flags) {
+    struct ds_request request = {0};
+    struct ds_answer answer;
+    request.command = DS_SUBSCRIBE, request.sub = caller->sub;
+    request.kinds = (uint8_t)(flags & DSF_MASK_TYPE ? flags & DSF_MASK_TYPE : DS_LABEL | DS_U32 | DS_STR | DS_MEM);
+    request.initial = (flags & DSF_INITIAL) != 0, request.overwrite = (flags & DSF_OVERWRITE) != 0;
+    request.text_length = strlen(pattern);
+    return asked(caller, &request, pattern, request.text_length, &answer);
+}
+
+/* The parts of an item's line: NAME KIND OWNER .., or ! OWNER GENERATION. */
+static int parsed(char *line, char *key, int *type, char *owner) {
+    char kind[8];
+    if (sscanf(line, "! %64s", key) == 1) {
+        *type = 0;
+        strcpy(owner, key);
+        return 0;
+    }
+    if (sscanf(line, "%64s %7s %64s", key, kind, owner) != 3) return -EIO;
+    *type = !strcmp(kind, "label") ? DS_LABEL : !strcmp(kind, "u32") ? DS_U32 : !strcmp(kind, "str") ? DS_STR : DS_MEM;
+    return 0;
+}
+
+int ds_check(struct ds_caller *caller, char *key, int *type, ds_endpoint_t *owner) {
+    struct ds_request request = {0};
+    struct ds_answer answer;
+    struct ds_given given;
+    char line[LONGEST + 1], name[DS_MAX_KEYLEN];
+    request.command = DS_CHECK, request.sub = caller->sub, request.max = 1;
+    int error = asked(caller, &request, NULL, 0, &answer);
+    if (error) return error;
+    if (answer.pieces == 0) return -ENOENT;
+    if (ds_items(caller->store, 0, line, LONGEST, &given)) return -EIO;
+    if (given.count == 0) return -ENOMEM; /* the item was shown: a later check shows what comes after it */
+    line[given.length] = '\0';
+    error = parsed(line, key, type, name);
+    if (error) return error;
+    *owner = 2; /* RS, who has no label */
+    if (strcmp(name, "rs")) {
+        error = ds_retrieve_label_endpt(caller, name, owner);
+        if (error) *owner = 0; /* an owner that is gone has no endpoint */
+    }
+    return 0;
+}

@@ -1,0 +1,3 @@
+pub mod ItemsLemmas
+pub mod AskedLemmas
+pub mod GivingLemmas

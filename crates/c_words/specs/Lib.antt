@@ -1,0 +1,5 @@
+pub mod Request
+pub mod Asked
+pub mod Lines
+pub mod Pieces
+pub mod Answer

@@ -1,0 +1,20 @@
+//! What C asks of a store and is told: requests to commands, replies to answers, and texts into buffers of the caller's.
+//!
+//! The commands are MINIX 3's data store's (DS) and those of this project; the structs that cross are of this project.
+#![tactic(auto)]
+
+mod answer;
+mod giving;
+mod lines;
+mod parts;
+mod reading;
+mod request;
+mod telling;
+mod texts;
+
+pub use answer::{Answer, Word};
+pub use giving::{Given, give};
+pub use reading::{Asked, read_request};
+pub use request::Request;
+pub use telling::{answer_of, no_room, refusal_number};
+pub use texts::text_of;

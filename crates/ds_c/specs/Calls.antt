@@ -1,0 +1,61 @@
+-- What the calls on a handle answer, and what they leave in it.
+use Rattle.std.specs.Prelude.{◌≡◌, ℕ, List, drop, Option, None, Some}
+use Rattle.ds_held.specs.Limits.{larger}
+use Rattle.ds_machine.specs.State.{opening}
+use Rattle.ds_machine.specs.declared.refusal.Refusal.{Refusal}
+use Rattle.ds_content.specs.Stands.{ContentStands}
+use Rattle.ds_store.specs.Opening.{IsOpenRefusal}
+use Rattle.c_words.specs.declared.request.Request.{Request}
+use Rattle.c_words.specs.declared.answer.Answer.{Answer}
+use Rattle.c_words.specs.declared.giving.Given.{Given}
+use Rattle.c_words.specs.Answer.{refusal_number}
+use Rattle.c_words.specs.Asked.{request_text}
+use Rattle.c_words.specs.Pieces.{GivesPieces}
+use Rattle.c_session.specs.declared.session.Session.{Session}
+use Rattle.c_session.specs.Called.{Called, kept_pieces}
+
+-- the words of the calls; 1 to 22 are the store's refusals
+abbrev pub done : ℕ
+done = 0
+
+abbrev pub is_closed : ℕ
+is_closed = 23
+
+abbrev pub is_open : ℕ
+is_open = 24
+
+-- the word is the number of a refusal for which no store is opened, which holds of these numbers
+pub record IsOpenWord (first ring word : ℕ) : Type 0 where
+  pub refusal : Refusal
+  pub why : IsOpenRefusal refusal first ring
+  pub word_is : word ≡ refusal_number refusal
+
+-- a session was opened, whose store stands for the opening of the machine, or none, for the first reason that stands
+abbrev pub Opened : ℕ → ℕ → ℕ → ℕ → Option Session → Type 0
+Opened incarnation first ring word None = IsOpenWord first ring word
+Opened incarnation first ring word (Some s) = (word ≡ done) × ContentStands s.store (opening incarnation first ring larger) × (s.last ≡ None)
+
+-- a call that opens: an open handle stays as it is
+abbrev pub Opens : ℕ → ℕ → ℕ → Option Session → ℕ → Option Session → Type 0
+Opens incarnation first ring None word new = Opened incarnation first ring word new
+Opens incarnation first ring (Some old) word new = (word ≡ is_open) × (new ≡ Some old)
+
+-- what an open handle holds was asked
+abbrev pub AskedOf : Session → Request → List ℕ → ℕ → Answer → Option Session → Type 0
+AskedOf old r texts word answer None = ⊥
+AskedOf old r texts word answer (Some new) = (word ≡ done) × Called old r (request_text r texts) answer new
+
+-- a call that asks: a closed handle, and the answer's place, stay as they are
+abbrev pub Calls : Option Session → Request → List ℕ → Answer → ℕ → Answer → Option Session → Type 0
+Calls None r texts before word answer new = (word ≡ is_closed) × (answer ≡ before) × (new ≡ None)
+Calls (Some old) r texts before word answer new = AskedOf old r texts word answer new
+
+-- a call that fetches the text of the last answer: a closed handle gives nothing
+abbrev pub Fetches : Option Session → ℕ → List ℕ → Given → ℕ → List ℕ → Given → Type 0
+Fetches None first old before word room given = (word ≡ is_closed) × (room ≡ old) × (given ≡ before)
+Fetches (Some s) first old before word room given = (word ≡ done) × GivesPieces (drop first (kept_pieces s)) old given room
+
+-- a call that closes
+abbrev pub Closes : Option Session → ℕ → Option Session → Type 0
+Closes None word new = (word ≡ is_closed) × (new ≡ None)
+Closes (Some old) word new = (word ≡ done) × (new ≡ None)

@@ -1,0 +1,22 @@
+-- What a handle owns.
+use Rattle.core.specs.declared.option.Option.{Option}
+use Rattle.core.specs.declared.option.Option.TheVariants.{None, Some}
+use base.Fml.{Fml, feq}
+use denote.RawPtr.{Ptr, null_ptr}
+use Rattle.std_alloc.specs.Box.Ownership.{box_owns}
+use mir.Syntax.{Ty}
+use Rattle.std.specs.declared.alloc.Global.{Global}
+use Rattle.std.specs.contracts.impls.GlobalAllocator.TheImpl.{ghosts}
+use Rattle.c_session.specs.contracts.session.Session.{the_row}
+
+-- the token by which the heap knows a block, which is the same whoever holds a handle to the heap
+abbrev pub any_heap : Global
+any_heap = record { memory = record { seal = tt } }
+
+abbrev pub chunk : Ty → Ptr → Fml
+chunk = ghosts.dealloc_token any_heap
+
+-- null where the handle is closed, and else a box of the thing
+abbrev pub holds : Ptr → Option the_row.Denot → Fml
+holds at None = feq Ptr at null_ptr
+holds at (Some x) = box_owns chunk the_row at x

@@ -1,0 +1,101 @@
+/* Memory that runs out at each allocation in turn, alone or with all behind it. Every answer is that of a run with memory, or
+ * says that there was none; no text is lost; and the handle goes on. Link with -Wl,--wrap=malloc,--wrap=realloc. */
+#include "ds.h"
+#include <stdio.h>
+#include <stdlib.h>
+#include <string.h>
+
+void *__real_malloc(size_t);
+void *__real_realloc(void *, size_t);
+static long left = -1, asked;
+static int once;
+
+static int fails(void) {
+    asked++;
+    if (left < 0) return 0;
+    if (left == 0) {
+        if (once) left = -1;
+        return 1;
+    }
+    left--;
+    return 0;
+}
+void *__wrap_malloc(size_t n);
+void *__wrap_realloc(void *p, size_t n);
+void *__wrap_malloc(size_t n) { return fails() ? NULL : __real_malloc(n); }
+void *__wrap_realloc(void *p, size_t n) { return fails() ? NULL : __real_realloc(p, n); }
+
+enum { CALLS = 40 };
+static struct ds_request ask[CALLS];
+static const char texts[] = "eth.*a value of some length, which is a string";
+static struct ds_handle store = DS_CLOSED;
+
+static void prepare(void) {
+    for (int i = 0; i < CALLS; i++) {
+        struct ds_request *to = &ask[i];
+        char name[16];
+        to->slot = 2;
+        if (i % 4 == 0) {
+            to->command = DS_PUBLISH, to->kinds = DS_LABEL, to->overwrite = 1;
+            to->epoch = to->value = (uint32_t)i + 1, to->value_slot = (uint16_t)(16 + i);
+        } else if (i % 4 == 1) {
+            to->command = DS_PUBLISH, to->kinds = DS_STR, to->generation = to->epoch = (uint32_t)i, to->slot = (uint16_t)(15 + i);
+            to->text_at = 5, to->text_length = 41;
+        } else if (i % 4 == 2) {
+            to->command = DS_SUBSCRIBE, to->sub = (uint32_t)i, to->kinds = 15, to->initial = to->overwrite = 1, to->text_length = 5;
+        } else {
+            to->command = i % 8 == 3 ? DS_CHECK : DS_SNAPSHOT, to->sub = (uint32_t)i - 1, to->max = 256, to->kinds = 15;
+        }
+        to->name_length = (uint8_t)snprintf(name, sizeof name, "eth%d%s", i / 4, i % 4 == 1 ? ".s" : "");
+        memcpy(to->name, name, to->name_length);
+    }
+}
+
+/* All pieces of the last answer's text are fetched, however often memory is wanting on the way. */
+static int whole(const struct ds_answer *answer, long *wanting) {
+    char room[128];
+    struct ds_given given;
+    for (size_t first = 0; first < answer->pieces; first += given.count) {
+        if (ds_items(&store, first, room, sizeof room, &given)) return 0;
+        if (given.count == 0 && given.stop != DS_WANTING) return 0;
+        if (given.stop == DS_WANTING) ++*wanting, left = -1;
+    }
+    return 1;
+}
+
+int main(void) {
+    prepare();
+    static struct ds_answer full[CALLS];
+    struct ds_answer said;
+    long wanting = 0, bad = 0;
+    if (ds_open(&store, 1, 0, 256)) return 1;
+    int words[16] = {0};
+    for (int i = 0; i < CALLS; i++) {
+        ds_call(&store, &ask[i], texts, sizeof texts - 1, &full[i]);
+        words[full[i].word]++;
+        bad += !whole(&full[i], &wanting);
+    }
+    ds_close(&store);
+    printf("with memory: changed %d, subscribed %d, checked %d, snapped %d, refused %d\n", words[DS_CHANGED], words[DS_SUBSCRIBED], words[DS_CHECKED], words[DS_SNAPPED], words[DS_REFUSED]);
+    long all = asked, unopened = 0, noroom = 0;
+    for (once = 0; once < 2; once++)
+        for (long n = 0; n < all; n++) {
+            left = n;
+            uint32_t open = ds_open(&store, 1, 0, 256);
+            unopened += open == DS_NOROOM, bad += open != 0 && open != DS_NOROOM;
+            int missing = 0;
+            for (int i = 0; i < CALLS && !open; i++) {
+                if (ds_call(&store, &ask[i], texts, sizeof texts - 1, &said)) bad++;
+                if (said.word == DS_REFUSED && said.refusal == DS_NOROOM) noroom++, missing = 1;
+                else if (said.word != full[i].word && !missing) bad++;
+                bad += !whole(&said, &wanting);
+            }
+            left = -1;
+            struct ds_request again = {.command = DS_PUBLISH, .slot = 2, .kinds = DS_LABEL, .epoch = 9, .value = 9, .value_slot = 9, .name_length = 1, .name = "z"};
+            uint32_t word = ds_call(&store, &again, texts, 0, &said);
+            bad += open ? word != DS_ISCLOSED : word != 0 || said.word != DS_CHANGED;
+            bad += ds_close(&store) != (open ? (uint32_t)DS_ISCLOSED : 0u);
+        }
+    printf("each refused: some not opened %d, some without room %d, some texts waited %d; wrong %ld\n", unopened > 0, noroom > 0, wanting > 0, bad);
+    return bad != 0;
+}
