@@ -7,9 +7,9 @@ _dsctl() {
         esac
     done
     case $command in
-        replay) words="--keep-going -h --help" ;;
+        replay) words="--keep-going --stop -h --help" ;;
         settings) words="-h --help" ;;
     esac
     COMPREPLY=($(compgen -W "$words" -- "${COMP_WORDS[COMP_CWORD]}"))
 }
-complete -F _dsctl dsctl
+complete -o default -F _dsctl dsctl

@@ -8,6 +8,13 @@ from typing import List, Tuple
 
 ROOT = pathlib.Path(__file__).resolve().parents[2]
 MADE = "made by tests/dsctl/manual from the program's help"
+EXAMPLES = ("Example session", "Two replicas", "A driver that dies")  # how the paragraphs begin that show something
+SEE_ALSO = [
+    "\\fBrlwrap\\fR(1), which adds history and editing: \\fBrlwrap dsctl\\fR.",
+    ".PP",
+    "In the documents of Pengtawis: docs/formats.md, all lines and answers; docs/refusals.md, a session that shows each refusal;",
+    "docs/minix.md, for somebody who knows MINIX 3; examples/README.md, scripts and pictures of what they do.",
+]
 ESCAPES = {"\\": "\\e", "-": "\\-", "`": "\\(ga", "'": "\\(aq", "^": "\\(ha", "~": "\\(ti"}
 
 
@@ -59,17 +66,30 @@ def shown(text):
 
 
 def paragraphs(text):
-    """The lines of a text: rows that stand further in are shown as they are."""
+    """The lines of a text: rows that stand further in are shown as they are, from the margin on, since they are as wide as a terminal."""
     lines, plain = [], False
     for line in text.split("\n"):
         row = line.startswith("  ")
         if row and not plain:
-            lines.append(".nf")
+            lines += [".nf", ".in 0"]
         elif plain and not row:
-            lines.append(".fi")
+            lines += [".fi", ".in"]
         plain = row
         lines.append(shown(line) if line.strip() else ".PP")
-    return lines + [".fi"] * plain
+    return lines + [".fi", ".in"] * plain
+
+
+def blocks(text):
+    """The paragraphs of a text, by whether they are shown among the examples, the statuses or elsewhere."""
+    found = {"EXAMPLES": [], "EXIT STATUS": [], "": []}
+    for block in text.split("\n\n"):
+        if block.startswith(EXAMPLES):
+            found["EXAMPLES"].append(block)
+        elif block.startswith("Exit status:\n"):
+            found["EXIT STATUS"].append(block.partition("\n")[2])
+        else:
+            found[""].append(block)
+    return {title: "\n\n".join(it) for title, it in found.items()}
 
 
 def entries(rows):
@@ -79,17 +99,20 @@ def entries(rows):
 
 def manual(version, whole, parts):
     """The manual page."""
-    about = parts["replay"][0].about
     short = whole["short"].about.split("\n")[0]
     help_ = whole["long"]
     lines = [f'.\\" {MADE}', f'.TH DSCTL 1 "" "{version}" "User Commands"', ".SH NAME", shown(f"dsctl - {short[0].lower()}{short[1:]}"), ".SH SYNOPSIS"]
     for usage in [help_.usage] + [it.usage for it, _ in parts.values()]:
         lines += [f"\\fB{shown(usage)}\\fR", ".br"]
-    lines += [".SH DESCRIPTION", *paragraphs(help_.about), ".SH OPTIONS", *entries(help_.options), ".SH COMMANDS"]
+    about, rest = blocks(help_.about), blocks(help_.rest)
+    description, title, lines_of_scripts = about[""].partition("Lines of a script:\n")
+    lines += [".SH DESCRIPTION", *paragraphs(description.strip()), ".SH OPTIONS", *entries(help_.options), ".SH COMMANDS"]
     for name, (it, _) in parts.items():
         lines += [f".SS {name}", *paragraphs(it.about), *entries(it.options)]
-    lines += [".SH LINES", *paragraphs(parts["replay"][0].rest), ".SH ANSWERS AND STATUSES", *paragraphs(help_.rest)]
-    assert about, "replay says nothing of itself"
+    limits = parts["replay"][0].rest.rpartition("\n\n")[2]
+    lines += [".SH LINES", *paragraphs(title + lines_of_scripts), ".PP", *paragraphs(limits)]
+    lines += [".SH REFUSALS", *paragraphs(rest[""]), ".SH EXIT STATUS", *paragraphs(rest["EXIT STATUS"])]
+    lines += [".SH EXAMPLES", *paragraphs(f"{rest['EXAMPLES']}\n\n{about['EXAMPLES']}"), ".SH SEE ALSO", *SEE_ALSO]
     return "\n".join(lines) + "\n"
 
 
@@ -115,7 +138,7 @@ _dsctl() {{
 {cases}    esac
     COMPREPLY=($(compgen -W "$words" -- "${{COMP_WORDS[COMP_CWORD]}}"))
 }}
-complete -F _dsctl dsctl
+complete -o default -F _dsctl dsctl
 """
 
 
@@ -141,10 +164,16 @@ _dsctl() {{
         _arguments {arguments(whole["long"].options)}
         return
     fi
-    case $words[2] in
+    shift words
+    (( CURRENT-- ))
+    case $words[1] in
 {cases}    esac
 }}
-compdef _dsctl dsctl
+if [[ $funcstack[1] = _dsctl ]]; then
+    _dsctl "$@"
+else
+    compdef _dsctl dsctl
+fi
 """
 
 

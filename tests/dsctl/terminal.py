@@ -51,7 +51,27 @@ class Seen:
     status: int
 
 
-def session(program, words, typed, streams=("stdin", "stdout", "stderr")):
+def pieces(program, typed):
+    """Runs the program at a terminal, and types one piece after the other, each once the one before was read, and then ^D."""
+    ours, theirs = pty.openpty()
+    started = subprocess.Popen([program], stdin=theirs, stdout=theirs, stderr=theirs)
+    os.close(theirs)
+    seen = b""
+    for piece in [*typed, b"\x04"]:
+        time.sleep(0.2)
+        os.write(ours, piece)
+    try:
+        while read := shown(ours):
+            seen += read
+        started.wait(timeout=10)
+    finally:
+        started.kill()
+        started.wait()
+        os.close(ours)
+    return Seen(seen.replace(b"\r\n", b"\n"), started.returncode)
+
+
+def session(program, words, typed, streams=("stdin", "stdout", "stderr"), prompt=PROMPT):
     """Runs the program with the streams at a terminal, and types each line once it asks for one, and then ^D."""
     ours, theirs = pty.openpty()
     others = {it: subprocess.PIPE for it in ("stdout", "stderr") if it not in streams}
@@ -60,7 +80,7 @@ def session(program, words, typed, streams=("stdin", "stdout", "stderr")):
     seen, before, late, waiting = b"", 0, time.monotonic() + harness.SECONDS, [*typed, b"\x04"]
     try:
         while time.monotonic() < late:
-            if waiting and seen[before:].endswith(PROMPT):
+            if waiting and seen[before:].replace(b"\r\n", b"\n").endswith(prompt):
                 before = len(seen)
                 os.write(ours, waiting.pop(0))
             elif select.select([ours], [], [], 0.1)[0]:

@@ -1,107 +1,137 @@
-//! What `dsctl` says of itself: its help.
+//! What `dsctl` says of itself: its help, and every line of a script.
 
 pub(crate) const ABOUT: &str =
     "Answers a script of data store commands, in the manner of MINIX 3's DS";
 
 pub(crate) const LONG_ABOUT: &str = "\
-Replays a script against a data store in the manner of MINIX 3's DS, and prints each answer.
+Replays a script against a data store in the manner of MINIX 3's DS, and prints
+each answer.
 
-The script is read from standard input, one command a line, and each answer is printed before the next
-line is waited for. The store keeps, for each name and kind, the change with the greatest version, and for
-each owner the highest floor, which ends what the owner left: a late or repeated message never brings a dead
-driver's endpoint back, nor what the driver published. There are two such stores, side a and side b, and
-maps of subscribers; what a store prints of its items is a message, which any of them can be given.
+The script is read from standard input, one command a line, and each answer is
+printed before the next line is waited for. The store keeps, for each name and
+kind, the change with the greatest version, and for each owner the highest
+floor, which ends what the owner left: a late or repeated message never brings
+a dead driver's endpoint back, nor what the driver published. There are two
+such stores, side a and side b, and maps of subscribers; what a store prints of
+its items is a message, which any of them can be given.
 
-RS, the reincarnation server, which starts drivers and starts them again where they die, can be played over
-these stores, and so can a file server and a network server, which ask drivers and learn from a map where
-they are.
+RS, the reincarnation server, which starts drivers and starts them again where
+they die, can be played over these stores, and so can a file server and a
+network server, which ask drivers and learn from a map where they are.
 
-A line that can't be read ends the script, and standard error says what was expected there;
-`dsctl replay --keep-going` goes on behind it. Somebody who types the script is greeted and prompted.
+A line that can't be read ends the script, and standard error says what was
+expected there; `dsctl replay --keep-going` goes on behind it. There are no
+comments and no blank lines. Somebody who types the script is greeted and
+prompted, and a bad line ends nothing; `dsctl replay --stop` ends it there, too.
+At the prompt `help` or `?` shows the lines, `quit` or `exit` ends, as ^D does.
 
 Lines of a script:
   publish CALLER new NAME KIND EPOCH.SEQ = VALUE
-                     put a value in the caller's name; over a live entry with `over` for `new`
+                     put a value in the caller's name; over a live entry with
+                     `over` for `new`
   delete CALLER NAME KIND EPOCH.SEQ
                      end a live entry of the caller's
   sweep CALLER OWNER GENERATION
-                     raise the floor under what a dead owner left, labels aside; the answer is
-                     `swept N`, N being the puts that it drops
+                     raise the floor under what a dead owner left, labels
+                     aside; the answer is `swept N`, N being the puts that it
+                     drops
   retrieve NAME KIND ask for a value: `found VALUE`
   nameof ENDPOINT    ask which label holds an endpoint: `named NAME`
   subscribe SUB PATTERN KINDS first new
-                     follow what is under a query: all that is held and all that changes, or with
-                     `later` for `first` what changes alone; in the place of another subscription
-                     with `over` for `new`. The answer is `subscribed STAMP`
-  check SUB MAX      print the first MAX floors and changes that weren't shown to the subscription,
-                     then `checked N BEFORE AFTER`, its stamp before and after
+                     follow what is under a query: all that is held and all
+                     that changes, or with `later` for `first` what changes
+                     alone; in the place of another subscription with `over`
+                     for `new`. The answer is `subscribed STAMP`
+  check SUB MAX      print the first MAX floors and changes that weren't shown
+                     to the subscription, then `checked N BEFORE AFTER`, its
+                     stamp before and after
   since SCOPE INCARNATION POSITION MAX
-                     print the first MAX items that took effect from a cursor on, then
-                     `since N INCARNATION POSITION`, with the cursor to go on from
-  snapshot SCOPE     print the floors and all that is held, then `snapshot N INCARNATION POSITION`
+                     print the first MAX items that took effect from a cursor
+                     on, then `since N INCARNATION POSITION`, with the cursor
+                     to go on from
+  snapshot SCOPE     print the floors and all that is held, then
+                     `snapshot N INCARNATION POSITION`
   page SCOPE AFTER MAX
-                     print the first MAX changes that are held behind the key NAME KIND, or with `-`
-                     for it the floors and the first MAX, then `page N more INCARNATION POSITION`, or
-                     `last` for `more`
+                     print the first MAX changes that are held behind the key
+                     NAME KIND, or with `-` for it the floors and the first
+                     MAX, then `page N more INCARNATION POSITION`, or `last`
+                     for `more`
   deliver K HOLDER COUNT
-                     give the first COUNT items of message K, or with `*` all, to `a`, `b` or `mJ`:
-                     `merged DONE TAKEN STALE`, or `stopped DONE` and why
+                     give the first COUNT items of message K, or with `*` all,
+                     to `a`, `b` or `mJ`: `merged DONE TAKEN STALE`, or
+                     `stopped DONE` and why
   side a             ask store a from now on, or with `b` the other one
   restart a INCARNATION
-                     begin store a again, empty, or with `b` the other one: `restarted`
-  ring N             on the first line alone: how many items both stores remember for `since`, 256
-                     where it isn't said
+                     begin store a again, empty, or with `b` the other one:
+                     `restarted`
+  ring N             on the first line alone: how many items both stores
+                     remember for `since`, 256 where it isn't said
   map PATTERN KINDS  make a map of what is under a query: `map J`
   entries J          print the entries of a map, then `shown N`
   clear J            take away what a map holds: `cleared`
   offer CHANGE       merge one change, whoever made it
   offer FLOOR        raise a floor, whoever raised it elsewhere
-  show               print the entries that stand, in order of their keys, then `shown N`
-  all                print the floors, in order of their owners, and then the same with tombstones
-  settings REST      RS begins with the services of a settings text, the rest of the line, once:
-                     `services N slots S`
+  show               print the entries that stand, in order of their keys, then
+                     `shown N`
+  all                print the floors, in order of their owners, and then the
+                     same with tombstones
+  settings REST      RS begins with the services of a settings text, the rest
+                     of the line, once: `services N slots S`
   service up LABEL TICK
-                     RS starts a service; or with `down` for `up` stops it, with `refresh` replaces its
-                     instance by another, with `restart` starts it before its time
+                     RS starts a service; or with `down` for `up` stops it,
+                     with `refresh` replaces its instance by another, with
+                     `restart` starts it before its time
   death ENDPOINT CAUSE TICK
-                     RS is told that an instance died: 1 exit or panic, 2 exception, 3 killed by a user,
-                     4 no heartbeat, 5 complaint, 6 update
+                     RS is told that an instance died: 1 exit or panic,
+                     2 exception, 3 killed by a user, 4 no heartbeat,
+                     5 complaint, 6 update
   beat ENDPOINT TICK RS is told that an instance lives
-  tick TICK          RS is told the time, and does the first thing that is due, if anything is
+  tick TICK          RS is told the time, and does the first thing that is due,
+                     if anything is
   assign file MAJOR block LABEL
-                     a file server's unit has this block driver, or with `character` for `block` this
-                     character driver; `assign net PORT LABEL` is a network server's: `assigned`
+                     a file server's unit has this block driver, or with
+                     `character` for `block` this character driver;
+                     `assign net PORT LABEL` is a network server's: `assigned`
   follow J           both servers learn from a map where their drivers are now
   submit file ID UNIT J
-                     the file server, or with `net` for `file` the network server, learns from a map,
-                     and then has a request for a unit
+                     the file server, or with `net` for `file` the network
+                     server, learns from a map, and then has a request for a
+                     unit
   reply file ENDPOINT ID
-                     a driver answers a request, or with `net` for `file` one of the network server's:
-                     `answer ID done`
+                     a driver answers a request, or with `net` for `file` one
+                     of the network server's: `answer ID done`
 
-`dsctl settings` shows what a settings text tells RS; `dsctl settings --help` has its fields.
+`dsctl settings` shows what a settings text tells RS; `dsctl settings --help`
+has its fields.
 
-Behind `service`, `death`, `beat` and `tick` RS's actions are printed, and then `actions N`: `kill ENDPOINT`,
-`start LABEL ENDPOINT`, `ping ENDPOINT`, `offer CHANGE` and `sweep OWNER GENERATION`. The last two are asked of
-the store in RS's name, and its answer stands below each. TICK never goes back. Repeat a `tick` with one number
-until it answers `actions 0`.
+Behind `service`, `death`, `beat` and `tick` RS's actions are printed, and then
+`actions N`: `kill ENDPOINT`, `start LABEL ENDPOINT`, `ping ENDPOINT`,
+`offer CHANGE` and `sweep OWNER GENERATION`. The last two are asked of the store
+in RS's name, and its answer stands below each. TICK never goes back. Repeat a
+`tick` with one number until it answers `actions 0`.
 
-Behind `follow` and `submit` the servers' moves are printed, the file server's first, and then `moves N`:
-`send ID ENDPOINT`; `held ID` where a block driver isn't there; `answer ID fault` where any other isn't there,
-or died; and `start UNIT ENDPOINT` where a network driver came. ID is above all before it.
+Behind `follow` and `submit` the servers' moves are printed, the file server's
+first, and then `moves N`: `send ID ENDPOINT`; `held ID` where a block driver
+isn't there; `answer ID fault` where any other isn't there, or died; and
+`start UNIT ENDPOINT` where a network driver came. ID is above all before it.
 
-The other answers are `taken`, `known` for a repeat, `stale`, and `refused` with a word. CALLER and
-ENDPOINT are GENERATION/SLOT; 0/2 is RS, which alone publishes labels and sweeps. An entry but a label
-has its caller's generation as its epoch.
+The other answers are `taken`, `known` for a repeat, `stale`, and `refused` with
+a word. CALLER and ENDPOINT are GENERATION/SLOT; 0/2 is RS, which alone
+publishes labels and sweeps. An entry but a label has its caller's generation as
+its epoch.
 
-SUB is 0 to 127, eight for each of 16 servers; MAX is 1 to 256. PATTERN is a regular expression in quotes that
-matches a whole name, with \\\" and \\\\ for a quote and a backslash; KINDS is the sum of 1 for label, 2 for
-u32, 4 for str and 8 for mem; J counts maps from 0, 64 at most. Behind an answer stands `owed MASK` where
-something came under the queries of some subscriptions: in hex, with the bit of each SUB.
+SUB is 0 to 127, eight for each of 16 servers; MAX is 1 to 256. PATTERN is a
+regular expression in quotes that matches a whole name, with \\\" and \\\\ for a
+quote and a backslash; KINDS is the sum of 1 for label, 2 for u32, 4 for str and
+8 for mem; J counts maps from 0, 64 at most. Behind an answer stands `owed MASK`
+where something came under the queries of some subscriptions: in hex, with the
+bit of each SUB.
 
-SCOPE is `*`, or PATTERN KINDS. Each `check`, `since`, `snapshot` and `page` that isn't refused makes the next
-message, K, counted from 0, of what it printed; it can be delivered late, twice and in any order. A cursor is an
-INCARNATION, at first 1 of side a and 2 of side b, and a POSITION, the number of what took effect before it.
+SCOPE is `*`, or PATTERN KINDS. Each `check`, `since`, `snapshot` and `page`
+that isn't refused makes the next message, K, counted from 0, of what it
+printed; it can be delivered late, twice and in any order. A cursor is an
+INCARNATION, at first 1 of side a and 2 of side b, and a POSITION, the number of
+what took effect before it.
 
 Two replicas, in six lines:
   publish 0/2 new eth0 label 3.0 = 3/17   at side a, where a script begins
@@ -109,27 +139,30 @@ Two replicas, in six lines:
   deliver 0 b *                           b is given all of it
   side b                                  from now on b is asked
   snapshot *                              what b holds is message 1
-  deliver 1 a *                           a is given it, and now both hold the same
+  deliver 1 a *                           a is given it: both hold the same
 
 A driver that dies and is started again, in five lines:
   settings service = [{label = \"disk\", class = \"block\", unit = 3, limit = 1}]
-  service up disk 0                       it is started, and its label published
-  death 1/16 1 5                          its label is deleted, and what it published is swept
+  service up disk 0                       it is started, its label published
+  death 1/16 1 5                          its label and what it published end
   tick 6                                  it is started in generation 2
   show                                    the store names the living one
 
-A change is a line `NAME KIND OWNER EPOCH.SEQ = VALUE`, which puts a value, or `NAME KIND OWNER EPOCH.SEQ -`,
-which says that the entry is gone. Of two changes of one name and kind the one with the greater version
-EPOCH.SEQ stands. The kinds and their values:
-  label  GENERATION/SLOT, the endpoint of a driver; the owner is rs, the epoch its generation,
-         the sequence number 0 for a put and 1 for a tombstone
+A change is a line `NAME KIND OWNER EPOCH.SEQ = VALUE`, which puts a value, or
+`NAME KIND OWNER EPOCH.SEQ -`, which says that the entry is gone. Of two changes
+of one name and kind the one with the greater version EPOCH.SEQ stands. The
+kinds and their values:
+  label  GENERATION/SLOT, the endpoint of a driver; the owner is rs, the epoch
+         its generation, the sequence number 0 for a put and 1 for a tombstone
   u32    a number up to 4294967295
-  str    \"text\" of up to 256 printable characters; \\\" and \\\\ stand for a quote and a backslash
+  str    \"text\" of up to 256 printable characters; \\\" and \\\\ stand for a
+         quote and a backslash
   mem    up to 1024 bytes in lower-case hex
 
-A floor is a line `! OWNER GENERATION`: what the owner published in generations up to this one is void, labels
-aside. It is dropped, tombstones too, and is stale where it comes later. A floor is under every query, and is
-shown to each subscription once.";
+A floor is a line `! OWNER GENERATION`: what the owner published in generations
+up to this one is void, labels aside. It is dropped, tombstones too, and is
+stale where it comes later. A floor is under every query, and is shown to each
+subscription once.";
 
 /// Every line of a script in one row, for whoever has forgotten one.
 pub(crate) const LINES: &str = "\
@@ -169,115 +202,3 @@ Lines of a script (`dsctl --help` explains them):
 Limits: NAME 64 bytes, str 256, mem 1024, PATTERN 128, a line 4096; 4096 keys,
 64 floors, 128 subscriptions (SUB 0 to 127, eight a server), 64 maps, MAX 256,
 65536 messages, a ring of 4096, 64 services, units 0 to 255, ticks to 2^62.";
-
-pub(crate) const AFTER_HELP: &str = "\
-Example session (lines behind `>` are typed, the others are printed):
-  > publish 0/2 new eth0 label 3.0 = 3/17
-  taken
-  > publish 3/17 new mtu u32 3.0 = 1500
-  taken
-  > offer eth0 label rs 2.0 = 2/9
-  stale
-  > show
-  eth0 label rs 3.0 = 3/17
-  mtu u32 eth0 3.0 = 1500
-  shown 2
-
-Words behind `refused`, in the order in which they are judged:
-  messagesfull    65536 messages are there: no check, since, snapshot or page any more
-  badsub          SUB is above 127
-  nomessage       there is no message K: answered checks, sinces, snapshots and pages
-                  are counted from 0
-  mapsfull        64 maps are there already
-  nomap           there is no map J: `map` makes them, and counts from 0
-  oldincarnation  INCARNATION isn't above all that there were, 1 and 2 at the start
-  toomany         MAX is 0, or above 256: ask for 256, and again; or COUNT is above the
-                  number of items
-  toolong         PATTERN is above 128 bytes
-  badpattern      PATTERN is no regular expression over printable ASCII
-  badlabel        a label is published as GENERATION.0 = GENERATION/SLOT, deleted as
-                  GENERATION.1, and never named `rs`
-  badversion      EPOCH isn't the caller's generation, or SEQ is 4294967295
-  nocaller        no live label has the endpoint CALLER: the caller is dead, or RS
-                  hasn't published it yet
-  notallowed      labels and sweeps are RS's: CALLER is 0/2
-  notowner        the entry is another's: choose another name
-  clash           this very version has another value: count on
-  stale           a greater version is held, or a floor makes the change void: it comes too late
-  exists          say `over` to replace it
-  notfound        there is no such live entry, label or subscription
-  oldcursor       INCARNATION is another store's, or an earlier one
-  ahead           POSITION is above the store's
-  behind          the ring doesn't reach back to POSITION: ask for a snapshot, or pages
-  full            4096 keys are held, tombstones too, or 64 owners have floors
-  noroom          memory was wanting, or PATTERN compiles to too much: `[a-z0-9]`
-                  takes far less than `\\w`
-
-Of lines to RS:
-  tickback        TICK is below the last one that RS took
-  worn            TICK is above 2^62
-  unknownlabel    no service has this label, or there are no settings yet
-  badcause        CAUSE isn't 1 to 6
-  alreadyup       the service is up, or waits, where `restart` starts it at once
-  notup           the service isn't up; one that waits can be stopped, too, and one that
-                  waits or was given up can be restarted
-  oldendpoint     no service that is up is at ENDPOINT
-
-Of settings, after accepted ones `exists`, else as `dsctl settings --help` says:
-  toml            the text is no TOML document
-  unknownfield    a field has another name than there are
-  missing         a service has no label, no class or no unit
-  outofrange      a value is of another type, or out of its range
-  twolabels       two services have one label
-  twounits        two services have one unit
-  sharedname      two services publish one name
-
-Of the file server's and the network server's lines, behind `nomap`:
-  assigned        the unit has a driver: units are assigned once
-  twoids          ID isn't above all that were accepted before; the moves before stand
-  nodevice        no driver is assigned to UNIT; the moves before stand
-  notpending      there is no such request, or it was answered
-  oldendpoint     the request wasn't last sent to ENDPOINT
-
-Exit status:
-  0  the whole script was answered, or the settings have no fault
-  1  a line can't be read: `badline LINE PLACE` is printed, lines counted from 1 and bytes from 0,
-     and standard error says what was expected; or the settings have a fault: `bad WORD INDEX` is
-     printed
-  2  the words of the command line are wrong
-  3  memory, reading or writing failed: standard error has `noroom`, `readfault` or `writefault`";
-
-pub(crate) const KEEP_GOING_ABOUT: &str = "Print a bad line and go on; status 1 at the end";
-
-pub(crate) const SETTINGS_ABOUT: &str = "Show what a settings text tells RS, or its first fault";
-
-pub(crate) const SETTINGS_LONG_ABOUT: &str = "\
-Shows what a settings text tells the reincarnation server (RS) of its services, or the text's first fault.
-
-The text is a TOML document on standard input. Nothing is printed before all of it is judged. For each
-service there is a line `service LABEL CLASS UNIT period P limit L publishes N`, with `-` for the unit of a
-server, and then one line `services N slots S`. Where there is a fault, it is `bad WORD INDEX` alone, INDEX
-being that of the service, from 0, and left out where the fault is none of a service.
-
-At the top:
-  slots      process slots that RS may use, 1 to 1008; 64 where it isn't there
-  [[service]]  up to 64 services
-
-Of a service:
-  label      its name, 1 to 64 letters, digits, `.`, `_` and `-`; not `rs`
-  class      \"block\", \"character\", \"network\" or \"server\"
-  unit       0 to 255: its major number, or its port if it is a network service; a server has none
-  period     ticks from one ping to the next, 0 to 1000000; 0, for none, where it isn't there
-  limit      how many failures in a row RS answers by another start, 0 to 1000; 0 where it isn't there
-  publishes  the names that it may publish in the data store, 64 at most
-
-No two services have one label, no two block or character services one major number, no two network
-services one port, and no name is published twice.
-
-The words of faults, in the order in which they are judged:
-  toml          the text is no TOML document
-  unknownfield  a field has another name than these
-  missing       a service has no label, no class or no unit
-  outofrange    a value is of another type, or out of its range
-  twolabels, twounits, sharedname
-                two services have one label, one unit, one published name: INDEX is the second's";

@@ -5,30 +5,24 @@
 //! status. 0: done. 1: refused input. 2: usage. 3: memory, reading or writing failed, and standard error says which.
 #![tactic(auto)]
 
+mod answers;
+mod failure;
 mod help;
+mod help_words;
 mod settings;
 mod terminal;
 mod words;
 
-use ds_explain::explain;
-use ds_script::{BadLine, BadLines, Plain, ReplayFault, Replayed, Report, replay_reporting};
+use answers::Answers;
+use ds_explain::{Audience, explain};
+use ds_lines::Plain;
+use ds_script::{BadLine, BadLines, ReplayFault, Replayed, Report, replay_reporting};
+use failure::Failure;
 use std::io::{self, IsTerminal};
 use std::process::ExitCode;
 use std::rt::Runtime;
 use terminal::{Terminals, Typed};
-use thiserror::Error;
 use words::Words;
-
-/// What ends the program with status 3, by the word that standard error gets.
-#[derive(Clone, Copy, Debug, PartialEq, Eq, Error)]
-enum Failure {
-    #[error("noroom")]
-    NoRoom,
-    #[error("readfault")]
-    ReadFault,
-    #[error("writefault")]
-    WriteFault,
-}
 
 fn main(rt: HostRuntime) -> ExitCode {
     let terminals = Terminals {
@@ -38,7 +32,7 @@ fn main(rt: HostRuntime) -> ExitCode {
     match run(&rt, terminals) {
         Ok(status) => status,
         Err(failure) => {
-            let _ = eprintln!(rt; "{failure}");
+            failure.tell(&rt, terminals.error);
             ExitCode::from(3)
         }
     }
@@ -47,13 +41,21 @@ fn main(rt: HostRuntime) -> ExitCode {
 // Judges the words before any input is read, and then does what they ask for.
 fn run(rt: &(impl Runtime + AllocGlobal), terminals: Terminals) -> Result<ExitCode, Failure> {
     match words::read(rt) {
-        Words::Replay => replay_input(rt, terminals, BadLines::End),
-        Words::ReplayOn => replay_input(rt, terminals, BadLines::GoOn),
-        Words::Settings => settings::show_input(rt),
+        Words::Replay(told) => replay_input(rt, terminals, bad_lines(told, terminals)),
+        Words::Settings => settings::show_input(rt, terminals),
         Words::Shown => Ok(ExitCode::SUCCESS),
         Words::Usage => Ok(ExitCode::from(2)),
         Words::NoRoom => Err(Failure::NoRoom),
-        Words::WriteFault => Err(Failure::WriteFault),
+        Words::WriteFault => Err(Failure::WriteFault(None)),
+    }
+}
+
+// What becomes of bad lines: what was asked for. Else somebody who types loses nothing by one, and a script ends there.
+fn bad_lines(told: Option<BadLines>, terminals: Terminals) -> BadLines {
+    match told {
+        Some(bad_lines) => bad_lines,
+        None if terminals.are_both() => BadLines::GoOn,
+        None => BadLines::End,
     }
 }
 
@@ -61,22 +63,22 @@ fn run(rt: &(impl Runtime + AllocGlobal), terminals: Terminals) -> Result<ExitCo
 #[derive(Drop)]
 struct Explainer<'a, R> {
     rt: &'a R,
-    at_terminal: bool,
+    audience: Audience,
     bad_lines: BadLines,
-    unwritten: bool,
+    unwritten: Option<io::Error>,
 }
 
-impl<R: Runtime> Report for Explainer<'_, R> {
+impl<R: Runtime + AllocGlobal> Report for Explainer<'_, R> {
     fn bad_line(&mut self, line: &BadLine<'_>) {
         if self.bad_lines == BadLines::End {
             let number = line.number;
             let place = line.place;
-            self.unwritten = println!(self.rt; "badline {number} {place}").is_err();
-            if self.unwritten {
+            if let Err(error) = println!(self.rt; "badline {number} {place}") {
+                self.unwritten = Some(error);
                 return;
             }
         }
-        explain(self.rt, self.at_terminal, line);
+        explain(self.rt, self.audience, line);
     }
 }
 
@@ -87,25 +89,28 @@ fn replay_input(
     bad_lines: BadLines,
 ) -> Result<ExitCode, Failure> {
     let mut reader = Plain(Typed::new(rt, terminals, bad_lines));
+    let mut writer = Plain(Answers::new(io::writer(rt)));
     let mut explainer = Explainer {
         rt,
-        at_terminal: terminals.error,
+        audience: terminals.audience(),
         bad_lines,
-        unwritten: false,
+        unwritten: None,
     };
     let replayed = replay_reporting(
         rt.alloc(),
         &mut reader,
-        &mut Plain(io::writer(rt)),
+        &mut writer,
         &mut explainer,
         bad_lines,
     );
     match replayed {
         Ok(Replayed { bad: 0, .. }) => Ok(ExitCode::SUCCESS),
-        Err(ReplayFault::BadLine { .. }) if explainer.unwritten => Err(Failure::WriteFault),
+        Err(ReplayFault::BadLine { .. }) if explainer.unwritten.is_some() => {
+            Err(Failure::WriteFault(explainer.unwritten))
+        }
         Ok(_) | Err(ReplayFault::BadLine { .. }) => Ok(ExitCode::from(1)),
-        Err(ReplayFault::ReadFault) => Err(Failure::ReadFault),
-        Err(ReplayFault::WriteFault) => Err(Failure::WriteFault),
+        Err(ReplayFault::ReadFault) => Err(Failure::ReadFault(reader.0.fault)),
+        Err(ReplayFault::WriteFault) => Err(Failure::WriteFault(writer.0.fault)),
         Err(ReplayFault::NoRoom) => Err(Failure::NoRoom),
     }
 }

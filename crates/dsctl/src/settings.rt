@@ -1,24 +1,30 @@
 //! What a settings text tells RS, or its first fault.
 
-use crate::Failure;
+use crate::failure::Failure;
+use crate::terminal::{Terminals, greet_to_settings};
+use ds_explain::explain_settings;
 use rs_settings::{Class, Service, Settings, SettingsCause, SettingsFault, read};
 use std::io::{self, BufWriter, ErrorKind, Read, Write};
 use std::process::ExitCode;
 use std::rt::Runtime;
 
 /// Reads the settings on standard input, and prints their services, or their first fault. Nothing is printed before
-/// the whole text is judged.
-pub(crate) fn show_input(rt: &(impl Runtime + AllocGlobal)) -> Result<ExitCode, Failure> {
+/// the whole text is judged. Somebody who types them is greeted.
+pub(crate) fn show_input(
+    rt: &(impl Runtime + AllocGlobal),
+    terminals: Terminals,
+) -> Result<ExitCode, Failure> {
+    greet_to_settings(rt, terminals);
     let mut text = Vec::new(rt.alloc());
     if let Err(error) = rt.reader().read_to_end(&mut text) {
         return Err(match error.kind() {
             ErrorKind::OutOfMemory => Failure::NoRoom,
-            _ => Failure::ReadFault,
+            _ => Failure::ReadFault(Some(error)),
         });
     }
     match read(rt.alloc(), text.as_slice()) {
         Ok(settings) => show(rt, &settings),
-        Err(fault) => show_fault(rt, fault),
+        Err(fault) => show_fault(rt, text.as_slice(), fault),
     }
 }
 
@@ -29,12 +35,17 @@ fn show(rt: &(impl Runtime + AllocGlobal), settings: &Settings) -> Result<ExitCo
     };
     match write_settings(&mut writer, settings) {
         Ok(()) => Ok(ExitCode::SUCCESS),
-        Err(_) => Err(Failure::WriteFault),
+        Err(error) => Err(Failure::WriteFault(Some(error))),
     }
 }
 
-// Prints the fault of a text, which is a refused input, unless memory was wanting.
-fn show_fault(rt: &impl Runtime, fault: SettingsFault) -> Result<ExitCode, Failure> {
+// Prints the fault of a text, which is a refused input, unless memory was wanting, and says on standard error which field it is
+// about.
+fn show_fault(
+    rt: &(impl Runtime + AllocGlobal),
+    text: &[u8],
+    fault: SettingsFault,
+) -> Result<ExitCode, Failure> {
     let Some(word) = word_of(fault.cause) else {
         return Err(Failure::NoRoom);
     };
@@ -42,9 +53,12 @@ fn show_fault(rt: &impl Runtime, fault: SettingsFault) -> Result<ExitCode, Failu
         Some(index) => println!(rt; "bad {word} {index}"),
         None => println!(rt; "bad {word}"),
     };
-    match printed {
+    if let Err(error) = printed {
+        return Err(Failure::WriteFault(Some(error)));
+    }
+    match explain_settings(rt, text, fault) {
         Ok(()) => Ok(ExitCode::from(1)),
-        Err(_) => Err(Failure::WriteFault),
+        Err(_) => Err(Failure::NoRoom),
     }
 }
 

@@ -1,13 +1,16 @@
-//! What somebody at a terminal sees beside the answers: a greeting and a prompt, on standard error.
+//! What somebody at a terminal sees beside the answers, on standard error: a greeting, a prompt, and help where they ask for it.
 
+use crate::help::LINES;
+use ds_explain::Audience;
 use ds_script::BadLines;
 use std::io::{self, Read};
 use std::rt::Runtime;
 
-const GREETING: &str =
-    "dsctl: lines as in dsctl -h, ^D ends. Past bad lines: dsctl replay --keep-going";
+const GREETING: &str = "dsctl: `help` shows the lines, ^D ends. A bad line ends nothing";
 
-const GREETING_ON: &str = "dsctl: lines as in dsctl -h, ^D ends. A bad line ends nothing";
+const GREETING_TO_STOP: &str = "dsctl: `help` shows the lines, ^D ends, and so does a bad line";
+
+const GREETING_OF_SETTINGS: &str = "dsctl: a TOML text, as in dsctl settings --help, ^D ends";
 
 /// Which of the streams are terminals.
 #[derive(Clone, Copy, Debug)]
@@ -17,18 +20,40 @@ pub(crate) struct Terminals {
 }
 
 impl Terminals {
-    /// Whether somebody types the script and sees what standard error is told.
+    /// Whether somebody types the input and sees what standard error is told.
     pub(crate) fn are_both(&self) -> bool {
         self.input && self.error
     }
+
+    /// Who reads what is said of bad lines.
+    pub(crate) fn audience(&self) -> Audience {
+        if self.are_both() {
+            Audience::Prompt
+        } else if self.error {
+            Audience::Terminal
+        } else {
+            Audience::File
+        }
+    }
 }
 
-/// Standard input, with a prompt before each read where somebody types it.
+/// Greets somebody who types settings.
+pub(crate) fn greet_to_settings(rt: &impl Runtime, terminals: Terminals) {
+    if terminals.are_both() {
+        let _ = eprintln!(rt; "{GREETING_OF_SETTINGS}");
+    }
+}
+
+/// Standard input, with a prompt before each line where somebody types it. Of a failed read it keeps why.
+///
+/// At the prompt an empty line, `help`, `?`, `quit` and `exit` are taken here, and are no lines of the script.
 #[derive(Drop)]
 pub(crate) struct Typed<'a, R: Runtime> {
     rt: &'a R,
     reader: R::Reader,
     prompts: bool,
+    begins_line: bool,
+    pub(crate) fault: Option<io::Error>,
 }
 
 impl<'a, R: Runtime> Typed<'a, R> {
@@ -37,8 +62,8 @@ impl<'a, R: Runtime> Typed<'a, R> {
         let prompts = terminals.are_both();
         if prompts {
             let greeting = match bad_lines {
-                BadLines::End => GREETING,
-                BadLines::GoOn => GREETING_ON,
+                BadLines::End => GREETING_TO_STOP,
+                BadLines::GoOn => GREETING,
             };
             let _ = eprintln!(rt; "{greeting}");
         }
@@ -46,19 +71,79 @@ impl<'a, R: Runtime> Typed<'a, R> {
             rt,
             reader: rt.reader(),
             prompts,
+            begins_line: true,
+            fault: None,
         }
+    }
+
+    // Prompts, where somebody types and a line begins.
+    fn prompt(&self) {
+        if self.prompts && self.begins_line {
+            let _ = eprint!(self.rt; "> ");
+        }
+    }
+
+    // What is meant by what was read. Help is shown where it was asked for.
+    fn meaning(&mut self, read: &[u8]) -> Meaning {
+        if !self.prompts {
+            return Meaning::Line;
+        }
+        let began_line = self.begins_line;
+        self.begins_line = read.last().copied() == Some(b'\n');
+        if read.is_empty() {
+            let _ = eprintln!(self.rt; "");
+            return Meaning::End;
+        }
+        if !began_line || !self.begins_line {
+            return Meaning::Line;
+        }
+        let meaning = meaning_of(read.trim_ascii());
+        if meaning == Meaning::Help {
+            let _ = eprintln!(self.rt; "{LINES}\n\n{AT_THE_PROMPT}");
+        }
+        meaning
+    }
+}
+
+// What a line means to the prompt.
+#[derive(Clone, Copy, Debug, PartialEq, Eq)]
+enum Meaning {
+    Line,
+    Nothing,
+    Help,
+    End,
+}
+
+const AT_THE_PROMPT: &str = "At the prompt: help or ? shows this, quit or exit or ^D ends.";
+
+fn meaning_of(word: &[u8]) -> Meaning {
+    if word.is_empty() {
+        Meaning::Nothing
+    } else if word == b"help".as_slice() || word == b"?".as_slice() {
+        Meaning::Help
+    } else if word == b"quit".as_slice() || word == b"exit".as_slice() {
+        Meaning::End
+    } else {
+        Meaning::Line
     }
 }
 
 impl<R: Runtime> Read for Typed<'_, R> {
     fn read(&mut self, buf: &mut [u8]) -> io::Result<usize> {
-        if self.prompts {
-            let _ = eprint!(self.rt; "> ");
+        for _asked in 0..u64::MAX {
+            self.prompt();
+            match self.reader.read(buf) {
+                Ok(count) => match self.meaning(&buf[..count]) {
+                    Meaning::Line => return Ok(count),
+                    Meaning::End => return Ok(0),
+                    Meaning::Nothing | Meaning::Help => {}
+                },
+                Err(error) => {
+                    self.fault = Some(error);
+                    return Err(error);
+                }
+            }
         }
-        let read = self.reader.read(buf);
-        if self.prompts && matches!(read, Ok(0)) {
-            let _ = eprintln!(self.rt; "");
-        }
-        read
+        Ok(0)
     }
 }

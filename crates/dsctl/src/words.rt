@@ -1,10 +1,12 @@
 //! The words of the command line.
 
-use crate::help::{
-    ABOUT, AFTER_HELP, KEEP_GOING_ABOUT, LINES, LONG_ABOUT, SETTINGS_ABOUT, SETTINGS_LONG_ABOUT,
+use crate::help::{ABOUT, LINES, LONG_ABOUT};
+use crate::help_words::{
+    AFTER_HELP, KEEP_GOING_ABOUT, SETTINGS_ABOUT, SETTINGS_LONG_ABOUT, STOP_ABOUT,
 };
 use clap::error::ErrorKind;
 use clap::{Arg, ArgAction, ArgMatches, Command, Error};
+use ds_script::BadLines;
 use std::alloc::{AllocError, Global};
 use std::io;
 use std::rt::Runtime;
@@ -12,10 +14,8 @@ use std::rt::Runtime;
 /// What the words ask for, or how they were answered.
 #[derive(Clone, Copy, Debug, PartialEq, Eq)]
 pub enum Words {
-    /// To answer a script, up to a line that can't be read.
-    Replay,
-    /// To answer it behind such lines too.
-    ReplayOn,
+    /// To answer a script; and what is to become of a line that can't be read, if that was said.
+    Replay(Option<BadLines>),
     /// To show what settings tell RS.
     Settings,
     /// Help or the version was asked for, and stands on standard output.
@@ -57,13 +57,18 @@ fn parse<'a>(alloc: Global, words: &'a [String]) -> Result<Words, Error> {
     let matches: ArgMatches<'a> = program.try_get_matches_from(words)?;
     Ok(match matches.subcommand() {
         Some(("settings", _)) => Words::Settings,
-        Some(("replay", given)) if given.get_flag(KEEP_GOING) => Words::ReplayOn,
-        _ => Words::Replay,
+        Some(("replay", given)) if given.get_flag(KEEP_GOING) => {
+            Words::Replay(Some(BadLines::GoOn))
+        }
+        Some(("replay", given)) if given.get_flag(STOP) => Words::Replay(Some(BadLines::End)),
+        _ => Words::Replay(None),
     })
 }
 
-// The option to go on behind lines that can't be read.
+// The options to go on behind lines that can't be read, and to end there.
 const KEEP_GOING: &str = "keep-going";
+
+const STOP: &str = "stop";
 
 // The command line of the program.
 fn command<'a>(alloc: Global) -> Result<Command<'a>, AllocError> {
@@ -84,14 +89,20 @@ fn program<'a>(alloc: Global) -> Command<'a> {
 }
 
 fn replay<'a>(alloc: Global) -> Result<Command<'a>, AllocError> {
-    let keep_going = Arg::new(alloc, KEEP_GOING)
-        .long(KEEP_GOING)
-        .action(ArgAction::SetTrue)
-        .help(KEEP_GOING_ABOUT);
     let replay = Command::new(alloc, "replay")
         .about("Answer a script; no subcommand means this one")
         .after_help(LINES);
-    replay.arg(keep_going)
+    let stop = flag(alloc, STOP, STOP_ABOUT).conflicts_with(KEEP_GOING)?;
+    let replay = replay.arg(flag(alloc, KEEP_GOING, KEEP_GOING_ABOUT))?;
+    replay.arg(stop)
+}
+
+// An option without a value.
+fn flag<'a>(alloc: Global, name: &'a str, about: &'a str) -> Arg<'a> {
+    Arg::new(alloc, name)
+        .long(name)
+        .action(ArgAction::SetTrue)
+        .help(about)
 }
 
 fn settings<'a>(alloc: Global) -> Command<'a> {
@@ -100,12 +111,37 @@ fn settings<'a>(alloc: Global) -> Command<'a> {
         .long_about(SETTINGS_LONG_ABOUT)
 }
 
-// What somebody is told who may have named a file.
-const STANDARD_INPUT: &str =
-    "A script is read from standard input, and not by its name: dsctl < SCRIPT";
+// What somebody is told who named a file.
+const SCRIPT: &str = "A script is read from standard input, and not by its name: dsctl < SCRIPT";
 
-// What somebody is told who asked to go on before saying what for.
-const BEHIND_REPLAY: &str = "--keep-going stands behind a word: dsctl replay --keep-going";
+const TEXT: &str = "A text is read from standard input, and not by its name: dsctl settings < TEXT";
+
+// What somebody is told who said what becomes of bad lines before saying of what.
+const BEHIND_REPLAY: &str =
+    "--keep-going and --stop stand behind a word, as in dsctl replay --keep-going";
+
+// What somebody is told who asked for help by a word.
+const HELP: &str = "Help is an option: dsctl --help, or dsctl settings --help";
+
+// What is said of words that are none of the program's, beside what `clap` has to say.
+fn tip(given: &[String]) -> Option<&'static str> {
+    let first = given.get(1)?.as_str();
+    if first == "--keep-going" || first == "--stop" {
+        return Some(BEHIND_REPLAY);
+    }
+    if first == "help" {
+        return Some(HELP);
+    }
+    if !given.iter().skip(1).any(|word| names_file(word.as_str())) {
+        return None;
+    }
+    Some(if first == "settings" { TEXT } else { SCRIPT })
+}
+
+// Whether a word looks like the name of a file.
+fn names_file(word: &str) -> bool {
+    !word.starts_with('-') && (word.contains('.') || word.contains('/'))
+}
 
 // Prints what `clap` has to say: a usage fault on standard error, help or the version on standard output.
 fn answer(rt: &impl Runtime, error: &Error, given: &[String]) -> Words {
@@ -117,11 +153,9 @@ fn answer(rt: &impl Runtime, error: &Error, given: &[String]) -> Words {
         error.kind(),
         ErrorKind::InvalidSubcommand | ErrorKind::UnknownArgument
     ) {
-        let tip = match given.get(1).map(|word| word.as_str()) {
-            Some("--keep-going") => BEHIND_REPLAY,
-            _ => STANDARD_INPUT,
-        };
-        let _ = eprintln!(rt; "{tip}");
+        if let Some(tip) = tip(given) {
+            let _ = eprintln!(rt; "{tip}");
+        }
     }
     match (error.use_stderr(), printed) {
         (true, _) => Words::Usage,

@@ -7,15 +7,13 @@ import terminal
 
 from .running import expect
 
-GREETING = b"dsctl: lines as in dsctl -h, ^D ends. "
+GREETING = b"dsctl: `help` shows the lines, ^D ends. A bad line ends nothing\n"
 
 
 def greets_and_prompts(program):
     """Somebody who types the script is greeted, prompted before each line, and answered."""
     ran = terminal.session(program, [], [b"show\n", b"all\n"])
-    greeting, _, rest = ran.seen.partition(b"> ")
-    assert greeting.startswith(GREETING) and b"dsctl replay --keep-going" in greeting, f"{ran}"
-    assert (rest, ran.status) == (b"show\nshown 0\n> all\nshown 0\n> \n", 0), f"{ran}"
+    assert (ran.seen, ran.status) == (GREETING + b"> show\nshown 0\n> all\nshown 0\n> \n", 0), f"{ran}"
 
 
 def points_at_the_place(program):
@@ -23,17 +21,86 @@ def points_at_the_place(program):
     line = b'map "a" 16\n'
     told = b"line 1, byte 8: KINDS was expected, 1 to 15 (label 1, u32 2, str 4, mem 8)\n"
     ran = terminal.session(program, [], [line])
-    wanted = b'> map "a" 16\nbadline 1 8\n  map "a" 16\n' + b" " * 10 + b"^\n" + told
+    wanted = b'> map "a" 16\nbadline 1 8\n  map "a" 16\n' + b" " * 10 + b"^\n" + told + b"> \n"
     assert ran.seen.endswith(wanted) and ran.status == 1, f"{ran}"
     expect(harness.run([program], line), b"badline 1 8\n", 1, told)
 
 
 def goes_on_at_a_terminal(program):
-    """With --keep-going a line that can't be read is answered, and the next one is asked for."""
-    ran = terminal.session(program, ["replay", "--keep-going"], [b"shwo\n", b"show\n"])
-    told = b"line 1, byte 0: `shwo` is no command, the nearest is `show`: see --help\n"
+    """At a terminal a line that can't be read is answered, and the next one is asked for; with --keep-going too."""
+    told = b"line 1, byte 0: `shwo` is no command, the nearest is `show`: see help\n"
     wanted = b"> shwo\nbadline 1 0\n  shwo\n  ^\n" + told + b"> show\nshown 0\n> \n"
-    assert ran.seen.endswith(wanted) and ran.status == 1, f"{ran}"
+    for words in ([], ["replay"], ["replay", "--keep-going"]):
+        ran = terminal.session(program, words, [b"shwo\n", b"show\n"])
+        assert (ran.seen, ran.status) == (GREETING + wanted, 1), f"{words}: {ran}"
+
+
+def stops_where_it_is_asked_to(program):
+    """With --stop a line that can't be read ends the script at a terminal, as it does elsewhere with and without it."""
+    ran = terminal.session(program, ["replay", "--stop"], [b"show\n", b"shwo\n"])
+    told = b"line 2, byte 0: `shwo` is no command, the nearest is `show`: see help\n"
+    wanted = b"> show\nshown 0\n> shwo\nbadline 2 0\n  shwo\n  ^\n" + told
+    assert ran.seen.endswith(b"ends, and so does a bad line\n" + wanted) and ran.status == 1, f"{ran}"
+    expect(harness.run([program, "replay", "--stop"], b"show\nshwo\nshow\n"), b"shown 0\nbadline 2 0\n", 1)
+
+
+def takes_words_of_its_own_at_the_prompt(program):
+    """At the prompt an empty line is nothing, `help` and `?` show the lines, `quit` and `exit` end: none is a line of the script."""
+    lines = harness.run([program, "-h"], b"").output.partition(b"Lines of a script")[2]
+    for word in (b"help", b"?", b" help  "):
+        ran = terminal.session(program, [], [b"\n", b"  \n", word + b"\n", b"shwo\n"])
+        assert lines in ran.seen and b"badline 1 0" in ran.seen and ran.status == 1, f"{word}: {ran}"
+    for word in (b"quit", b"exit"):
+        ran = terminal.session(program, [], [b"show\n", word + b"\n"])
+        assert (ran.seen, ran.status) == (GREETING + b"> show\nshown 0\n> " + word + b"\n", 0), f"{ran}"
+    for word in (b"help", b"?", b"quit", b"exit", b""):
+        expect(harness.run([program], word + b"\n"), b"badline 1 0\n", 1)
+
+
+def takes_a_line_in_two_pieces(program):
+    """A line that ^D cut in two is one line, whatever the second piece is, and no word of the prompt's."""
+    ran = terminal.pieces(program, [b"sh", b"\x04", b"ow\n", b"cle", b"\x04", b"help\n"])
+    assert b"shown 0\n" in ran.seen and b"badline 2 0" in ran.seen and ran.status == 1, f"{ran}"
+
+
+def names_the_keys_of_a_terminal(program):
+    """The bytes of a cursor key are told by its name, wherever they stand, and end nothing."""
+    for bytes_, name, place in ((b"\x1b[A", b"Up", 0), (b"\x1bOB", b"Down", 0), (b"show\x1b[C", b"Right", 4), (b"nameof 3/1\x1b[D", b"Left", 10)):
+        ran = terminal.session(program, [], [bytes_ + b"\n", b"show\n"])
+        told = b"line 1, byte %d: the key %s stands there: `rlwrap dsctl` adds history and editing\n> show\nshown 0\n> \n" % (place, name)
+        assert ran.seen.endswith(told) and ran.status == 1, f"{name}: {ran}"
+
+
+def greets_who_types_settings(program):
+    """Somebody who types settings is told what is waited for."""
+    ran = terminal.session(program, ["settings"], [], prompt=b"ends\n")
+    assert (ran.seen, ran.status) == (b"dsctl: a TOML text, as in dsctl settings --help, ^D ends\nservices 0 slots 64\n", 0), f"{ran}"
+
+
+def says_why_at_a_terminal(program):
+    """Behind `readfault` and `writefault` a terminal is told why; a file gets the word alone."""
+    seen = told_at_a_terminal(program, ["sh", "-c", '"$0" < /'])
+    assert seen == b"readfault\nthe input can't be read: Is a directory (os error 21)\n", seen
+    seen = told_at_a_terminal(program, ["sh", "-c", '"$0" settings < /'])
+    assert seen == b"readfault\nthe input can't be read: Is a directory (os error 21)\n", seen
+    seen = told_at_a_terminal(program, ["sh", "-c", '(sleep 0.3; echo show; echo show) | "$0" | true'])
+    assert seen == b"writefault\nnobody reads the answers any more\n", seen
+    seen = told_at_a_terminal(program, ["sh", "-c", 'echo show | "$0" > /dev/full'])
+    assert seen == b"writefault\nthe answers can't be written: No space left on device (os error 28)\n", seen
+    expect(harness.run(["sh", "-c", 'echo show | "$0" > /dev/full', program], b""), b"", 3, b"writefault\n")
+
+
+def told_at_a_terminal(program, words):
+    """What a command tells on standard error, which is a terminal."""
+    ours, theirs = os.openpty()
+    started = subprocess.Popen([*words, program], stdin=subprocess.DEVNULL, stdout=subprocess.DEVNULL, stderr=theirs)
+    os.close(theirs)
+    started.wait(timeout=harness.SECONDS)
+    seen = b""
+    while read := terminal.shown(ours):
+        seen += read
+    os.close(ours)
+    return seen.replace(b"\r\n", b"\n")
 
 
 def is_silent_where_one_stream_is_no_terminal(program):

@@ -50,6 +50,17 @@ def the_manual_and_the_completions_are_current(program):
     assert not stale, f"not what `tests/dsctl/manual {program}` writes: {', '.join(stale)}"
 
 
+def the_manual_fits_a_terminal(program):
+    """The manual page has the sections that readers look for, and no row that is shown as it is is longer than a terminal's."""
+    page = manual.made(program)[manual.ROOT / "man" / "dsctl.1"]
+    titles = re.findall(r"^\.SH (.*)$", page, re.MULTILINE)
+    missing = {"NAME", "SYNOPSIS", "DESCRIPTION", "OPTIONS", "COMMANDS", "EXIT STATUS", "EXAMPLES", "SEE ALSO"} - set(titles)
+    assert not missing and len(set(titles)) == len(titles), f"{missing} of {titles}"
+    rows = [row for block in re.findall(r"^\.nf\n(.*?)^\.fi$", page, re.DOTALL | re.MULTILINE) for row in block.split("\n")]
+    lengths = [len(re.sub(r"\\\(..|\\.", "x", row)) for row in rows]
+    assert rows and max(lengths) <= 80, f"{rows[lengths.index(max(lengths))]!r}"
+
+
 def tells_how_it_is_used(program):
     """`--help` names the subcommand, the lines and an answer, `--version` a version; both leave the input alone."""
     for word, wanted in (("--help", (b"dsctl", b"replay", b"offer", b"publish", b"subscribe", b"check", b"show", b"taken")), ("--version", (b"dsctl ", b"."))):
@@ -86,13 +97,15 @@ def script_of(rows):
 
 
 def reminds_in_rows_of_eighty_columns(program):
-    """`-h` and `replay --help` have each line of a script in one row, no longer than a terminal's."""
+    """`-h` and `replay --help` have each line of a script in one row, and no help has a longer row than a terminal."""
     forms = {line.split()[0].decode() for line in GOOD}
     for words in (["-h"], ["replay", "-h"], ["replay", "--help"]):
         ran = harness.run([program, *words], b"")
         rows = ran.output.decode().splitlines()
         assert (ran.status, ran.error) == (0, b""), f"{words}: status {ran.status}, standard error {ran.error[:200]!r}"
         assert forms <= {row.split()[0] for row in rows if row.startswith("  ")}, f"{words}: {ran.output!r}"
+    for words in (["-h"], ["--help"], ["replay", "-h"], ["replay", "--help"], ["settings", "-h"], ["settings", "--help"]):
+        rows = harness.run([program, *words], b"").output.decode().splitlines()
         assert max(map(len, rows)) <= 80, f"{words}: a row of {max(map(len, rows))} columns"
 
 
@@ -106,7 +119,20 @@ def explains_each_refusal(program):
 
 
 def points_at_standard_input(program):
-    """Who names a script as a word is told how it is given, and who asks to go on before any word, where that stands."""
-    for word, tip in (("script.ds", b"dsctl < SCRIPT"), ("--keep-going", b"dsctl replay --keep-going")):
-        ran = harness.run([program, word], b"")
-        assert (ran.status, ran.output) == (2, b"") and tip in ran.error, f"{ran}"
+    """Who names a file as a word is told how it is given, and who asks to go on before any word, where that stands; others aren't."""
+    settings = b"dsctl settings < TEXT"
+    tips = [(["script.ds"], b"dsctl < SCRIPT"), (["replay", "a/script"], b"dsctl < SCRIPT"), (["settings", "machine.toml"], settings)]
+    tips += [(["--keep-going"], b"dsctl replay --keep-going"), (["--stop"], b"dsctl replay --keep-going")]
+    for words, tip in tips:
+        ran = harness.run([program, *words], b"")
+        assert (ran.status, ran.output) == (2, b"") and tip in ran.error, f"{words}: {ran}"
+    for words in (["--hlep"], ["repaly"], ["replay", "--keep"], ["settings", "--hlep"], ["replay", "--stop", "--keep-going"]):
+        ran = harness.run([program, *words], b"")
+        assert (ran.status, ran.output) == (2, b"") and b"standard input" not in ran.error, f"{words}: {ran}"
+
+
+def tells_of_help_by_other_words(program):
+    """Who asks for help by a word is told which one it is."""
+    for words in (["help"], ["help", "replay"]):
+        ran = harness.run([program, *words], b"")
+        assert (ran.status, ran.output) == (2, b"") and b"dsctl --help" in ran.error, f"{words}: {ran}"

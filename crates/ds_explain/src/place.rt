@@ -1,0 +1,67 @@
+//! Where in a settings text something stands.
+
+use ds_names::is_name_byte;
+
+/// The line that has the byte at a place, from 1.
+pub(crate) fn line_at(text: &[u8], place: usize) -> usize {
+    let before = text.get(..place).unwrap_or(text);
+    before
+        .iter()
+        .filter(|byte| **byte == b'\n')
+        .count()
+        .saturating_add(1)
+}
+
+/// The line, from 1, that gives a field its value first, behind the header of the service, if it has one.
+pub(crate) fn field_line(text: &[u8], service: Option<usize>, field: &[u8]) -> Option<usize> {
+    let begin = match service {
+        Some(index) => service_place(text, index).unwrap_or(0),
+        None => 0,
+    };
+    for place in begin..text.len() {
+        if gives(text, place, field) {
+            return Some(line_at(text, place));
+        }
+    }
+    None
+}
+
+/// The line, from 1, of the header of a service, if it has one.
+pub(crate) fn service_line(text: &[u8], service: Option<usize>) -> Option<usize> {
+    let place = service_place(text, service?)?;
+    Some(line_at(text, place))
+}
+
+// Where the header of a service stands, as `[[service]]`.
+fn service_place(text: &[u8], index: usize) -> Option<usize> {
+    let mut seen = 0usize;
+    for place in 0..text.len() {
+        if text[place..].starts_with(b"[[service]]") {
+            if seen == index {
+                return Some(place);
+            }
+            seen = seen.saturating_add(1);
+        }
+    }
+    None
+}
+
+// Whether a field stands at a place, and behind it an equals sign, or the end of a header.
+fn gives(text: &[u8], place: usize, field: &[u8]) -> bool {
+    let Some(rest) = text.get(place..) else {
+        return false;
+    };
+    if place > 0 && text.get(place - 1).is_some_and(|byte| is_name_byte(*byte)) {
+        return false;
+    }
+    if !rest.starts_with(field) {
+        return false;
+    }
+    match rest.get(field.len()..) {
+        Some(behind) => matches!(
+            behind.trim_ascii_start().first().copied(),
+            Some(b'=') | Some(b']')
+        ),
+        None => false,
+    }
+}

@@ -1,0 +1,112 @@
+//! What is said of a settings text that has a fault: which field, of which service, in which line.
+
+use crate::field::{field_of, fields_known};
+use crate::nearest::nearest;
+use crate::place::{field_line, line_at, service_line};
+use crate::plain::Plain;
+use ds_names::NoRoom;
+use rs_settings::{SettingsCause, SettingsFault};
+use std::fmt;
+use std::rt::Runtime;
+use toml::Table;
+
+/// Says on standard error which field the first fault of a settings text is about, in one line: of the service with its number, from
+/// 0, and in which line of the text, from 1, where it is found there. That standard error takes it isn't asked for.
+///
+/// `Err` says that there was no memory to read the text again.
+pub fn explain_settings(
+    rt: &(impl Runtime + AllocGlobal),
+    text: &[u8],
+    fault: SettingsFault,
+) -> Result<(), NoRoom> {
+    let Ok(document) = std::str::from_utf8(text) else {
+        let _ = eprintln!(rt; "the text is no UTF-8");
+        return Ok(());
+    };
+    match toml::table_from_str(rt.alloc(), document) {
+        Ok(table) => {
+            explain_field(rt, text, &table, fault);
+            Ok(())
+        }
+        Err(error) => {
+            let Some(span) = error.span() else {
+                return Err(NoRoom);
+            };
+            let line = line_at(text, span.start);
+            let message = error.message();
+            let _ = eprintln!(rt; "line {line}: {message}");
+            Ok(())
+        }
+    }
+}
+
+// Says what is wrong with a field of a document.
+fn explain_field(rt: &impl Runtime, text: &[u8], table: &Table, fault: SettingsFault) {
+    let fields = match fault.index {
+        Some(index) => service_at(table, index),
+        None => Some(table),
+    };
+    let field = match fields {
+        Some(fields) => field_of(fields, fault),
+        None => "service",
+    };
+    let line = match fault.cause {
+        SettingsCause::Missing => service_line(text, fault.index),
+        _ => field_line(text, fault.index, field.as_bytes()),
+    };
+    let place = Place {
+        service: fault.index,
+        line,
+    };
+    let shown = Plain(field.as_bytes());
+    let wrong = wrong(fault.cause);
+    let near = match fault.cause {
+        SettingsCause::UnknownField => nearest(field.as_bytes(), fields_known(fault.index)),
+        _ => None,
+    };
+    let _ = match near {
+        Some(near) => eprintln!(rt; "{place}: `{shown}` {wrong}, the nearest is `{near}`"),
+        None => eprintln!(rt; "{place}: `{shown}` {wrong}"),
+    };
+}
+
+// The fields of a service of a document.
+fn service_at(table: &Table, index: usize) -> Option<&Table> {
+    let services = match table.get("service") {
+        Some(value) => value.as_array()?,
+        None => return None,
+    };
+    match services.get(index) {
+        Some(service) => service.as_table(),
+        None => None,
+    }
+}
+
+// What a cause says of a field.
+fn wrong(cause: SettingsCause) -> &'static str {
+    match cause {
+        SettingsCause::UnknownField => "is no field",
+        SettingsCause::Missing => "is missing",
+        SettingsCause::TwoLabels | SettingsCause::TwoUnits => "is another service's too",
+        SettingsCause::SharedName => "has a name that is published twice",
+        _ => "is of another type, or out of its range",
+    }
+}
+
+// Where a fault is: of which service, and in which line.
+#[derive(Clone, Copy)]
+struct Place {
+    service: Option<usize>,
+    line: Option<usize>,
+}
+
+impl fmt::Display for Place {
+    fn fmt<W: fmt::Write>(&self, f: &mut fmt::Formatter<W>) -> fmt::Result {
+        match (self.service, self.line) {
+            (Some(service), Some(line)) => write!(f, "service {service}, line {line}"),
+            (Some(service), None) => write!(f, "service {service}"),
+            (None, Some(line)) => write!(f, "line {line}"),
+            (None, None) => f.write_str("at the top"),
+        }
+    }
+}
