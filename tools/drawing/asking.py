@@ -1,0 +1,89 @@
+"""What a script's run did: each line with its answer, and what every holder holds behind it.
+
+The program is asked once, for more than the script: behind each line what both stores and all maps hold. That makes no message and
+changes nothing, so nothing is needed of the program but its answers.
+"""
+import re
+import subprocess
+from dataclasses import dataclass
+from typing import Dict, List
+
+SHOWN = re.compile(r"shown \d+")
+OWED = re.compile(r"owed [0-9a-f]{32}")
+REFUSED = re.compile(r"refused \w+")
+BAD_LINE = re.compile(r"badline \d+ (\d+)")
+STORES = ("a", "b")
+
+
+@dataclass
+class Row:
+    """A line of a script, what it was answered, and what is held behind it."""
+
+    number: int
+    line: str
+    answer: List[str]
+    held: Dict[str, List[str]]  # by the holder: `a`, `b`, `m0`, ..; the lines of its items
+    side: str  # which store is asked
+
+    @property
+    def words(self):
+        return self.line.split(" ")
+
+    @property
+    def last(self):
+        """The line of the answer that says what came of it."""
+        return [it for it in self.answer if not OWED.fullmatch(it)][-1]
+
+    @property
+    def is_refused(self):
+        return self.last.startswith(("refused ", "badline "))
+
+
+class Unanswered(Exception):
+    """Why there is nothing to draw."""
+
+
+def run(program, script):
+    """The rows of a script; a line that can't be read is the last one."""
+    lines, asked, maps, side = script.splitlines(), [], [], "a"
+    for number, line in enumerate(lines):
+        words = line.split(" ")
+        side = words[1] if words[0] == "side" and words[1:] in (["a"], ["b"]) else side
+        maps.append((maps[-1] if maps else 0) + (words[0] == "map"))
+        asked += [line, "side a", "all", "side b", "all", *(f"entries {it}" for it in range(maps[number])), f"side {side}"]
+    told = subprocess.run(program, input="".join(it + "\n" for it in asked), capture_output=True, text=True)
+    if told.returncode not in (0, 1):
+        raise Unanswered(f"{program[0]} ended with status {told.returncode}: {told.stderr.strip()}")
+    return list(rows_of(lines, maps, iter(told.stdout.splitlines())))
+
+
+def rows_of(lines, maps, said):
+    """The rows, taken from what the program said."""
+    side, held = "a", {"a": [], "b": []}
+    for number, line in enumerate(lines):
+        answer = [next(said)]
+        bad = BAD_LINE.fullmatch(answer[0])
+        if bad:
+            yield Row(number + 1, line, [f"badline {number + 1} {bad[1]}"], held, side)
+            return
+        answer += iter(lambda: next(said), "side a")
+        side = line.split(" ")[1] if answer[0] in ("side a", "side b") else side
+        held = {"a": items(said), "b": next(said) and items(said)}
+        for at in range(maps[number]):
+            found = items(said)
+            if found is not None:
+                held[f"m{at}"] = found
+        next(said)
+        yield Row(number + 1, line, answer, held, side)
+
+
+def items(said):
+    """The items that one holder shows, or None where it is refused."""
+    found = []
+    for line in said:
+        if SHOWN.fullmatch(line):
+            return found
+        if REFUSED.fullmatch(line):
+            return None
+        found.append(line)
+    raise Unanswered("the program's answers ended early")

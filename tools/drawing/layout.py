@@ -1,0 +1,209 @@
+"""Where everything of a picture stands: the lanes from left to right, the rows from top to bottom, what is held in blocks."""
+import re
+import textwrap
+from dataclasses import dataclass, field
+from typing import Dict, List, Optional
+
+from . import asking, story
+from .sizes import CHIP, LINE, MONO, SMALL, STEP, TINY, WIDTH, chip_width, mono_width, sans_width
+
+LEAST_ROW, TOP, SIDE = 24, 48, 14  # units of the picture
+TEXT = 392  # how wide the lines and their answers are
+LEGEND = 790  # how wide the words below are
+BAND, GAP = 118, 46  # the least width of a holder's band, and what is between two
+FEW = 3  # so many items are shown whole wherever one of them changes
+
+
+@dataclass
+class Chip:
+    """A thing that is held, or a word about it."""
+
+    text: str
+    tone: Optional[int] = None
+    is_floor: bool = False
+    is_gone: bool = False
+    is_new: bool = True
+    is_bad: bool = False
+    place: tuple = (0, 0)  # within its block
+
+
+@dataclass
+class Block:
+    """What a holder holds behind a row that changed it, or what is said of it there."""
+
+    row: int
+    chips: List[Chip] = field(default_factory=list)
+    height: int = 0
+    changes: bool = False  # whether what is held did
+
+
+def chip_of(item, is_new):
+    """An item's chip: a floor is filled."""
+    if item.startswith("! "):
+        return Chip(item, int(item.split(" ")[2]), is_floor=True, is_new=is_new)
+    name, _kind, _owner, version, rest = item.split(" ", 4)
+    value = rest[2:] if rest.startswith("= ") else "gone"
+    text = f"{name} {value}" if len(value) <= 24 else f"{name} {value[:14]}.. ({len(value)})"
+    return Chip(text, int(version.split(".")[0]), is_gone=rest == "-", is_new=is_new)
+
+
+def chips_of(held, before):
+    """The chips of what is held, floors and labels first; of much only what changed."""
+    held = sorted(held, key=lambda it: (not it.startswith("! "), " label " not in it))
+    fresh = [it for it in held if it not in before]
+    if not held:
+        return [Chip("nothing")]
+    if len(held) <= FEW:
+        return [chip_of(it, it in fresh) for it in held]
+    dropped = len([it for it in before if it.split(" ")[:2] not in [other.split(" ")[:2] for other in held]])
+    more = [f"{dropped} dropped"] * (dropped > 0) + [f"{len(held) - len(fresh)} as before"] * (len(fresh) < len(held))
+    return [chip_of(it, True) for it in fresh] + [Chip(it) for it in more]
+
+
+class Layout:
+    """The places of a run's picture."""
+
+    def __init__(self, rows, shown):
+        self.rows, self.shown, self.story = rows, shown, story.Teller(rows).story
+        self.story.strokes = [it for it in self.story.strokes if it.row in shown]
+        self.story.notes = [it for it in self.story.notes if it.row in shown]
+        self.blocks = {holder: list(self.blocks_of(holder)) for holder in self.holders()}
+        self.servers = [it for it in story.SERVERS.values() if any(note.lane == it for note in self.story.notes) or any(it in (one.begin, one.end) for one in self.story.strokes)]
+        self.set_lanes()
+        self.set_rows()
+
+    # ---- lanes ----
+
+    def holders(self):
+        """The stores that ever hold or are asked something, and the maps."""
+        told = {it.end for it in self.story.strokes} | {it.lane for it in self.story.notes} | {row.side for row in self.rows}
+        used = [it for it in asking.STORES if it in told or any(row.held[it] for row in self.rows)]
+        return used + sorted({it for row in self.rows for it in row.held if it[0] == "m"}, key=lambda it: int(it[1:]))
+
+    def subscribers(self, side):
+        """The lanes of the subscriptions at a store."""
+        told = [it for one in self.story.strokes for it in (one.begin, one.end)] + [it.lane for it in self.story.notes]
+        found = {it for it in told if it and it.startswith(f"sub {side} ")}
+        return sorted(found, key=lambda it: int(it.split(" ")[2]))
+
+    def set_lanes(self):
+        """Gives each lane its middle and its width."""
+        self.middle, self.wide, self.title, self.tag = {}, {}, {}, {}
+        self.labels = list(dict.fromkeys(it.label for it in self.story.lives))
+        x = SIDE + TEXT
+        x = self.lane(story.RS, "RS", x, 44)
+        for label in self.labels:
+            tag = self.tag[story.driver(label)] = max(chip_width(it.endpoint) for it in self.story.lives if it.label == label)
+            x = self.lane(story.driver(label), label, x, max(sans_width(label, LINE, True), tag) + 12)
+        for server in self.servers:
+            x = self.lane(server, server, x + 22, self.server_width(server)) + 6
+        band = self.band_width()
+        for holder in self.holders():
+            x = self.lane(holder, f"map {holder[1:]}" if holder[0] == "m" else f"store {holder}", x + GAP, band)
+            for it in self.subscribers(holder):
+                x = self.lane(it, f"sub. {it.split(' ')[2]}", x + 14, 54)
+        is_last_maker = any(self.right(it) + 20 > x for it, _ in self.story.makers)
+        self.width = max(x + SIDE + 12 * is_last_maker, LEGEND)
+
+    def lane(self, key, title, left, wide):
+        self.middle[key], self.wide[key], self.title[key] = left + wide / 2, wide, title
+        return left + wide
+
+    def server_width(self, server):
+        """The width of a server's lane, whose words stand at its right half."""
+        words = [sans_width(it.word, TINY) for it in self.story.notes if it.lane == server]
+        return 2 * max([46, *(it + 10 for it in words)])
+
+    def strip_titles(self):
+        """The name of each strip and where it stands, where there are several and all have room."""
+        if len(self.labels) < 2 or any(sans_width(it, TINY) > self.wide[self.holders()[0]] / len(self.labels) - 2 for it in self.labels):
+            return []
+        strips = [(holder, self.wide[holder] / len(self.labels)) for holder in self.holders()]
+        return [(self.left(holder) + wide * (place + 0.5), it) for holder, wide in strips for place, it in enumerate(self.labels)]
+
+    def band_width(self):
+        """As wide as the widest chip and a strip for each label want, and as there is room for."""
+        chips = [chip_width(chip.text) for blocks in self.blocks.values() for block in blocks for chip in block.chips]
+        count = max(1, len(self.holders()))
+        lanes = 44 + sum(max(sans_width(it, LINE, True), 40) + 12 for it in self.labels) + sum(28 + self.server_width(it) for it in self.servers)
+        subs = 68 * sum(len(self.subscribers(it)) for it in self.holders())
+        room = (WIDTH - 2 * SIDE - TEXT - lanes - subs) / count - GAP
+        return max([BAND, *(it + 12 for it in chips), min(room, 190)])
+
+    # ---- what is held ----
+
+    def blocks_of(self, holder):
+        """A block behind each row that changes what a holder holds, or says something of it."""
+        before = None
+        for number, row in enumerate(self.rows):
+            if number not in self.shown:
+                continue
+            notes = [Chip(it.word, is_bad=it.is_bad) for it in self.story.notes if it.row == number and it.lane == holder]
+            held = row.held.get(holder)
+            changes = held is not None and held != (before or [])
+            if changes or notes:
+                yield Block(number, notes + (chips_of(held, before or []) if changes else []), changes=changes)
+            before = held if held is not None else before
+
+    def fill(self, block, wide):
+        """Gives the chips of a block their places, one behind the other."""
+        x, y = 6, 4
+        for chip in block.chips:
+            if x > 6 and x + chip_width(chip.text) > wide - 6:
+                x, y = 6, y + CHIP + 3
+            chip.place = (x, y)
+            x += chip_width(chip.text) + 4
+        block.height = y + CHIP + 4
+
+    # ---- rows ----
+
+    def set_rows(self):
+        """Gives each row its top: below the one before, and below each block that a new one of its holder would cover."""
+        self.tops, self.texts, self.folds, free, y = [], {}, [], {}, TOP
+        for number, row in enumerate(self.rows):
+            if number not in self.shown:
+                self.tops.append(y)
+                continue
+            y = self.fold(number, y)
+            starting = {it: block for it, blocks in self.blocks.items() for block in blocks if block.row == number}
+            y = max([y, *(free.get(it, 0) for it in starting)])
+            self.tops.append(y)
+            for holder, block in starting.items():
+                self.fill(block, self.wide[holder])
+                free[holder] = y + block.height + 2
+            self.texts[number] = self.wrapped(row)
+            steps = [it.step for it in (*self.story.strokes, *self.story.notes) if it.row == number]
+            y += max(LEAST_ROW, 10 + 13 * len(self.texts[number]), 10 + STEP * (max(steps, default=0) + 1))
+        self.bottom = max([y, *free.values()])
+        self.height = self.bottom + 74
+
+    def fold(self, number, y):
+        """Room above a row for how many lines before it aren't shown."""
+        before = max((it for it in self.texts), default=-1)
+        if number - before == 1:
+            return y
+        self.folds.append((y + 13, before + 2, number))
+        return y + 20
+
+    def wrapped(self, row):
+        """A row's line, as often broken as it has to be beside its answer."""
+        room = TEXT - 30 - sans_width(row.last, SMALL) - 14
+        count = max(20, int(room / mono_width("x", MONO)))
+        return textwrap.wrap(row.line, count, subsequent_indent="  ", break_on_hyphens=False, drop_whitespace=True) or [""]
+
+    def first_shown(self, life):
+        """Where a life begins of which its birth may not be shown, or None where nothing of it is."""
+        if life.born[0] in self.shown:
+            return life.born
+        row = min((it for it in self.shown if it > life.born[0]), default=None)
+        return None if row is None or life.died and life.died[0] <= row else (row, 0)
+
+    def y(self, row, step=0):
+        """Where something within a row stands."""
+        return self.tops[row] + 13 + STEP * step
+
+    def left(self, lane):
+        return self.middle[lane] - self.wide[lane] / 2
+
+    def right(self, lane):
+        return self.middle[lane] + self.wide[lane] / 2

@@ -1,0 +1,242 @@
+"""The picture of a run as SVG, in light and in dark."""
+from html import escape
+
+from . import story
+from .layout import TEXT, TOP, SIDE
+from .look import STYLE, TONES
+from .sizes import CHIP, LINE, MONO, SMALL, TINY, chip_width, sans_width
+
+LEGEND = [
+    ("Across a band there is a strip for each driver, in the tone of the generation that its holder takes for living;",
+     "hatched where RS knows better. A strip may lag behind, but never goes back to an older tone."),
+    ("Filled: a floor, which ends what its owner left. In a circle: the number of a message. Dashed: from the dead, or nothing new.",
+     "A bar at the end of an arrow: refused or stale. A triangle at a subscription: a notice is owed to it."),
+]
+
+
+class Picture:
+    """Draws what a layout has placed, from the ground up: arrows lie behind the bands that they pass."""
+
+    def __init__(self, layout, name):
+        self.layout, self.out, self.name = layout, [], name
+
+    def svg(self):
+        self.rules()
+        self.strokes()
+        self.bands()
+        self.lives()
+        self.heads()
+        self.lines()
+        self.legend()
+        wide, high = f"{self.layout.width:.0f}", f"{self.layout.height:.0f}"
+        head = f'<svg xmlns="http://www.w3.org/2000/svg" width="{wide}" height="{high}" viewBox="0 0 {wide} {high}" role="img">'
+        title = f"<title>{escape(self.name)}: what its lines did</title>"
+        return "\n".join([head, title, f"<style>{STYLE}</style>", HATCH, '<rect class="paper" width="100%" height="100%"/>', *self.out, "</svg>", ""])
+
+    # ---- parts ----
+
+    def text(self, x, y, text, look="ink", size=SMALL, anchor="start", is_mono=False):
+        looks = look + (" mono" if is_mono else "")
+        shown = escape("".join(it if it.isprintable() or it == "\u00a0" else "?" for it in text))
+        self.out.append(f'<text class="{looks}" x="{x:.1f}" y="{y:.1f}" font-size="{size}" text-anchor="{anchor}">{shown}</text>')
+
+    def rect(self, x, y, wide, high, look, more=""):
+        self.out.append(f'<rect class="{look}" x="{x:.1f}" y="{y:.1f}" width="{wide:.1f}" height="{high:.1f}"{more}/>')
+
+    def path(self, steps, look):
+        self.out.append(f'<path class="{look}" d="{steps}"/>')
+
+    # ---- the ground ----
+
+    def rules(self):
+        """A line above each row, as far as the picture goes."""
+        it = self.layout
+        for number in it.texts:
+            self.path(f"M{SIDE} {it.tops[number]:.1f} H{it.width - SIDE:.1f}", "rule")
+        self.path(f"M{it.middle[story.RS]:.1f} {TOP - 6} V{it.bottom:.1f}", "lane")
+        for lane in it.middle:
+            if lane in it.servers or lane.startswith("sub "):
+                self.path(f"M{it.middle[lane]:.1f} {TOP - 6} V{it.bottom:.1f}", "lane")
+
+    def ends(self, stroke):
+        """Where a stroke begins and ends, and to which side it goes."""
+        it = self.layout
+        there = it.middle[stroke.end]
+        if stroke.begin is None:
+            return self.near(stroke.end, -1) - 26, self.near(stroke.end, -1), 1
+        if stroke.begin == stroke.end:
+            return self.near(stroke.end, -1) - 40, self.near(stroke.end, -1), 1
+        sign = 1 if it.middle[stroke.begin] < there else -1
+        end = there - it.tag[stroke.end] / 2 if stroke.is_start else self.near(stroke.end, -sign)
+        return self.near(stroke.begin, sign), end, sign
+
+    def near(self, lane, sign):
+        """The edge of a lane at one side."""
+        it = self.layout
+        if lane in it.blocks:
+            return it.middle[lane] + sign * it.wide[lane] / 2
+        return it.middle[lane] + sign * (6 if lane in it.tag else 1)
+
+    def look_of(self, stroke):
+        if stroke.is_vain:
+            return "vain"
+        return "plain" if stroke.tone is None else f"s{stroke.tone % TONES}"
+
+    def strokes(self):
+        for it in self.layout.story.strokes:
+            begin, end, sign = self.ends(it)
+            y = self.layout.y(it.row, it.step)
+            dashed = " dashed" if it.is_late or it.is_vain else ""
+            self.path(f"M{begin:.1f} {y:.1f} H{end - sign * 4:.1f}", f"stroke {self.look_of(it)}{dashed}")
+
+    # ---- bands ----
+
+    def bands(self):
+        for holder in self.layout.blocks:
+            self.strips(holder)
+            for block in self.layout.blocks[holder]:
+                self.block(holder, block)
+        for holder, row in self.layout.story.breaks:
+            y = self.layout.tops[row]
+            self.path(f"M{self.layout.left(holder):.1f} {y:.1f} H{self.layout.right(holder):.1f}", "break")
+
+    def strips(self, holder):
+        """Within a band a strip for each label, in the tone of the generation that the holder takes for living."""
+        it = self.layout
+        wide = it.wide[holder] / max(1, len(it.labels))
+        for place, label in enumerate(it.labels or [""]):
+            begin, before = None, None
+            for number in range(len(it.rows) + 1):
+                state = self.state(holder, label, number)
+                if state != before:
+                    if before:
+                        self.strip(it.left(holder) + wide * place, wide, begin, number, before)
+                    begin, before = number, state
+
+    def state(self, holder, label, number):
+        """The tone of a label's strip at a row, and whether RS knows better; None where there is no band."""
+        it = self.layout
+        if number == len(it.rows) or holder not in it.rows[number].held:
+            return None
+        known = next((found for item in it.rows[number].held[holder] if (found := story.LABEL.match(item)) and found[1] == label), None)
+        if known is None or not known[4]:
+            return ("none", False)
+        life = next((one for one in it.story.lives if one.label == label and one.endpoint == known[4]), None)
+        lives = life is not None and life.born[0] <= number and (life.died is None or life.died[0] > number)
+        return (f"p{int(known[2]) % TONES}", not lives)
+
+    def strip(self, x, wide, begin, end, state):
+        tops = self.layout.tops + [self.layout.bottom]
+        look, is_hatched = state
+        self.rect(x, tops[begin], wide, tops[end] - tops[begin], look)
+        if is_hatched:
+            self.rect(x, tops[begin], wide, tops[end] - tops[begin], "hatched")
+
+    def block(self, holder, block):
+        x, y = self.layout.left(holder), self.layout.tops[block.row]
+        if block.changes:
+            self.path(f"M{x:.1f} {y:.1f} H{x + self.layout.wide[holder]:.1f}", "cut")
+        for chip in block.chips:
+            self.chip(x + chip.place[0], y + chip.place[1], chip)
+
+    def chip(self, x, y, chip):
+        tone = None if chip.tone is None else chip.tone % TONES
+        if tone is None:
+            self.text(x + 2, y + 11, chip.text, "bad" if chip.is_bad else "faint", TINY, is_mono=True)
+            return
+        frame = f"f{tone} s{tone}" if chip.is_floor else f"paper s{tone}" + (" dashed" if chip.is_gone else "")
+        self.rect(x, y, chip_width(chip.text), CHIP, f"{frame} chip{'' if chip.is_new else ' old'}", ' rx="4"')
+        self.text(x + 4, y + 11, chip.text, "on" if chip.is_floor else f"f{tone}", TINY, is_mono=True)
+
+    # ---- drivers ----
+
+    def lives(self):
+        it = self.layout
+        for life in it.story.lives:
+            born = it.first_shown(life)
+            if born is None:
+                continue
+            x, tone = it.middle[life.lane], life.generation % TONES
+            top, wide = it.y(*born) - CHIP / 2, it.tag[life.lane]
+            bottom = it.y(*life.died) if life.died else it.bottom
+            self.rect(x - 4, top, 8, max(bottom - top, CHIP), f"f{tone}")
+            self.rect(x - wide / 2, top, wide, CHIP, f"f{tone}", ' rx="4"')
+            self.text(x, top + 11, life.endpoint, "on", TINY, "middle", True)
+            if life.died:
+                self.path(f"M{x - 6:.1f} {bottom - 6:.1f} l12 12 m0 -12 l-12 12", f"cross s{tone}")
+
+    # ---- the ends of arrows, and words ----
+
+    def heads(self):
+        for it in self.layout.story.strokes:
+            begin, end, sign = self.ends(it)
+            y = self.layout.y(it.row, it.step)
+            tone = "fvain" if it.is_vain else "fplain" if it.tone is None else f"f{it.tone % TONES}"
+            if it.is_stopped or it.is_vain:
+                self.path(f"M{end - sign * 3:.1f} {y - 6:.1f} v12", "bar" if it.is_stopped else "bar vain")
+            else:
+                self.path(f"M{end:.1f} {y:.1f} l{-sign * 8} -4 v8 z", tone)
+            if it.message is not None:
+                self.circle(end - sign * 20, y, it.message)
+            elif it.word:
+                self.word(it, begin, end, sign, y)
+        for number, (lane, row) in enumerate(self.layout.story.makers):
+            if row in self.layout.texts and self.layout.rows[row].words[0] != "check":
+                self.circle(self.layout.right(lane) + 11, self.layout.y(row), number)
+        for note in self.layout.story.notes:
+            if note.lane not in self.layout.blocks:
+                self.aside(note)
+
+    def circle(self, x, y, number):
+        self.out.append(f'<circle class="paper plain" cx="{x:.1f}" cy="{y:.1f}" r="8"/>')
+        self.text(x, y + 3.5, str(number), "ink", TINY, "middle")
+
+    def word(self, stroke, begin, end, sign, y):
+        """A word on a stroke, on a ground of its own."""
+        wide = sans_width(stroke.word, TINY) + 4
+        x = min(begin, end) + abs(end - begin) / 2
+        if stroke.begin in self.layout.servers or stroke.end in self.layout.servers:
+            server = stroke.begin if stroke.begin in self.layout.servers else stroke.end
+            x = self.layout.middle[server] - 8 - wide / 2 - (10 if stroke.end == server else 0)
+        self.rect(x - wide / 2, y - 6, wide, 12, "paper")
+        self.text(x, y + 3, stroke.word, "ink", TINY, "middle")
+
+    def aside(self, note):
+        """A word at the right of a lane's line."""
+        x = self.layout.middle[note.lane]
+        y = self.layout.y(note.row, note.step)
+        if note.lane.startswith("sub "):
+            self.path(f"M{x + 7:.1f} {y - 4:.1f} l10 0 l-5 8 z", "fbad")
+            return
+        self.text(x + 6, y + 3.5, note.word, "bad" if note.is_bad else "ink", TINY)
+
+    def lines(self):
+        """The head of each lane, and each line with its answer."""
+        it = self.layout
+        self.text(SIDE + 24, 26, "line", "ink strong", LINE)
+        self.text(SIDE + TEXT - 10, 26, "answer", "ink strong", LINE, "end")
+        for lane, title in it.title.items():
+            self.text(it.middle[lane], 26, title, "ink strong", LINE, "middle")
+        for x, label in it.strip_titles():
+            self.text(x, 39, label, "faint", TINY, "middle")
+        for y, first, last in it.folds:
+            self.text(SIDE + 24, y, f"lines {first} to {last} aren't shown" if first < last else f"line {first} isn't shown", "faint", TINY)
+        for number, texts in it.texts.items():
+            row, y = it.rows[number], it.tops[number] + 16
+            self.text(SIDE + 16, y, str(row.number), "faint", TINY, "end")
+            for place, text in enumerate(texts):
+                self.text(SIDE + 24, y + 13 * place, text.replace(" ", "\u00a0"), "ink", MONO, is_mono=True)
+            self.text(SIDE + TEXT - 10, y, row.last, "bad" if story.stops(row.last) or row.is_refused else "faint", SMALL, "end")
+
+    def legend(self):
+        y = self.layout.bottom + 20
+        for rows in LEGEND:
+            for row in rows:
+                self.text(SIDE + 24, y, row, "faint", SMALL)
+                y += 13
+
+
+HATCH = (
+    '<defs><pattern id="hatch" width="7" height="7" patternUnits="userSpaceOnUse" patternTransform="rotate(45)">'
+    '<path class="hatch" d="M0 0 V7"/></pattern></defs>'
+)
