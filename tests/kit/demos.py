@@ -13,8 +13,6 @@ class Script:
     A library may do without a growth that it asked for, so that every answer is as with ample memory.
     """
 
-    part = None  # the line that begins these commands, where a program has several parts
-
     def __init__(self, seed, model):
         self.random = random.Random(seed)
         self.new_model = model
@@ -33,8 +31,7 @@ class Script:
         raise NotImplementedError
 
     def text(self):
-        lines = [self.part, *self.lines] if self.part else self.lines
-        return "".join(line + "\n" for line in lines).encode()
+        return "".join(line + "\n" for line in self.lines).encode()
 
     def wanted(self):
         return "".join(line + "\n" for answers in self.answers for line in answers).encode()

@@ -15,6 +15,7 @@ EXAMPLES = TESTS.parent / "examples"
 DOCUMENTS = TESTS.parent / "docs"
 SESSION = re.compile(r"(?<=\n\n)    > .*\n(?:    .*\n)*")  # within a document
 BAD_LINE = re.compile(rb"^badline (\d+) (\d+)$", re.MULTILINE)  # within answers
+BAD_SETTINGS = re.compile(rb"bad \w+( \d+)?\n")  # all that is printed of settings with a fault
 SECONDS = 120  # the longest that one run may take, on a busy machine too
 
 
@@ -132,7 +133,10 @@ def fault(case, ran):
 
 
 def unexplained(output, error):
-    """Says that standard error hasn't just a line for each bad line of the output, or answers None."""
+    """Says that standard error hasn't just a line for each bad line of the output, or one for bad settings, or answers None."""
+    if BAD_SETTINGS.fullmatch(output):
+        is_one = error.count(b"\n") == 1 and error.endswith(b"\n")
+        return None if is_one else f"standard error is {error[:200]!r}, wanted one line"
     wanted = [b"line %s, byte %s: " % it for it in BAD_LINE.findall(output)]
     told = error.splitlines()
     if len(told) == len(wanted) and all(map(bytes.startswith, told, wanted)):
@@ -142,7 +146,10 @@ def unexplained(output, error):
 
 def named(ran, word):
     """Whether a run ended with status 3 and the word, which stands behind what is said of bad lines."""
-    return ran.status == 3 and ran.error.endswith(word) and not unexplained(ran.output, ran.error[: -len(word)])
+    if ran.status != 3 or not ran.error.endswith(word):
+        return False
+    is_before_any = BAD_SETTINGS.fullmatch(ran.output) and ran.error == word  # there was no memory to say more of the settings
+    return bool(is_before_any) or not unexplained(ran.output, ran.error[: -len(word)])
 
 
 def session_fault(program, session):

@@ -3,6 +3,7 @@
 A bad line is named by the byte where its first part begins that can't be read. Each reader gives what its part says, a
 value as it is spelled.
 """
+import functools
 import re
 from collections import namedtuple
 
@@ -362,8 +363,12 @@ COMMANDS = {
 }
 
 
+@functools.lru_cache(maxsize=16384)
 def read(line, is_first=False):
-    """Reads a line without its newline: its command word, and what the command takes. The first line alone may be a `ring`."""
+    """Reads a line without its newline: its command word, and what the command takes. The first line alone may be a `ring`.
+
+    What was read last is kept: scripts repeat lines, each script is read as it is and with bad lines, and items are read from lines.
+    """
     if len(line) > LONGEST:
         raise BadLine(LONGEST)
     reader = Reader(line)

@@ -257,7 +257,8 @@ class Session:
         except Refused as refused:
             return line, [f"refused {refused}"]
         except Bad as bad:
-            return line, [f"bad {bad}"]
+            word, *index = bad.args
+            return line, [f"refused {word}", *(f"service {it}" for it in index)]
 
     def _answers(self, verb, args):
         if verb == "settings":
@@ -272,8 +273,6 @@ class Session:
             raise Refused("nosettings")
         if verb == "state":
             return [told(self.rs.states.get(args[0], ("unknown",)))]
-        if verb == "service":
-            return [self._service(args[0])]
         if verb == "key":
             return [f"key {self.rs.keys.next_key()}"]
         actions = self.rs.event(verb, *args)
@@ -287,11 +286,3 @@ class Session:
             raise Refused("seqspent")
         self.numbers[1] += 1
         return f"number {generation}.{number}"
-
-    def _service(self, index):
-        services = list(self.rs.services.values())
-        if index >= len(services):
-            return "unknown"
-        it = services[index]
-        unit = "-" if it["unit"] is None else it["unit"]
-        return " ".join(["service", it["label"], it["class"], str(unit), "period", str(it["period"]), "limit", str(it["limit"]), "publishes", *it["publishes"]])

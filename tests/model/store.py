@@ -11,6 +11,7 @@ MOST_FLOORS = 64
 MOST_SUBSCRIPTIONS = 128
 MOST_CHECKED = 256  # items of one check
 MOST_PATTERN = 128  # bytes
+LAST_PLACE = 2**62  # of positions and stamps
 RS = (0, 2)  # the endpoint of RS
 LABEL = 0  # the place of the kind `label`
 
@@ -55,16 +56,42 @@ class Store:
     """What is held: a dictionary from keys to (owner, version, value), the value being None for a tombstone.
 
     `floors` is a dictionary from owners to generations, `subscriptions` one from numbers. `accepted` has all that took effect,
-    each with its key, a floor with None, and its line; `ring` says how many of the last ones a cursor reaches.
+    each with its key, a floor with None, and its line, at the positions from `first` on; `ring` says how many of the last ones a
+    cursor reaches.
     """
 
-    def __init__(self, ring=256, incarnation=1):
-        self.ring, self.incarnation = ring, incarnation
+    def __init__(self, ring=256, incarnation=1, first=0, subs=MOST_SUBSCRIPTIONS, keys=MOST_KEYS):
+        self.ring, self.incarnation, self.first, self.subs, self.keys = ring, incarnation, first, subs, keys
         self.accepted = []
         self.held = {}
         self.floors = {}
-        self.stamp = 0
+        self.stamp = first
         self.subscriptions = {}
+
+    def position(self):
+        """The position of the next item."""
+        return self.first + len(self.accepted)
+
+    def accept(self, key, line):
+        """One more item takes effect, if a position is left for it."""
+        if self.position() >= LAST_PLACE:
+            raise Refused("worn")
+        self.accepted.append((key, line))
+
+    def next_stamp(self):
+        """One more stamp, if one is left."""
+        if self.stamp >= LAST_PLACE:
+            raise Refused("worn")
+        self.stamp += 1
+        return self.stamp
+
+    def mask(self, numbers):
+        """The line of a mask with these bits, or none where there are none."""
+        return self.mask_line(sum(1 << number for number in numbers))
+
+    def mask_line(self, bits):
+        """The line of a mask, a byte for eight subscriptions, or none where it is 0."""
+        return [b"owed %0*x" % (self.subs // 4, bits)] if bits else []
 
     def answer(self, command, taken):
         """Answers a command by the lines that a script prints."""
@@ -87,12 +114,12 @@ class Store:
                 try:
                     told, *masks = self.offer(item)
                 except Refused as fault:
-                    return [b"stopped %d %s" % (done, str(fault).encode())] + mask_line(owed)
+                    return [b"stopped %d %s" % (done, str(fault).encode())] + self.mask_line(owed)
                 taken += told == b"taken"
                 stale += told == b"stale"
                 owed |= sum(int(it.split()[1], 16) for it in masks)
             done += 1
-        return [b"merged %d %d %d" % (done, taken, stale)] + mask_line(owed)
+        return [b"merged %d %d %d" % (done, taken, stale)] + self.mask_line(owed)
 
     def take(self, key, owner, version, value, overwrite=True, is_deletion=False):
         """Takes a change over, or says what stands against it."""
@@ -110,10 +137,10 @@ class Store:
             raise Refused("exists")
         if is_deletion and not is_live:
             raise Refused("notfound")
-        if not has and len(self.held) == MOST_KEYS:
+        if not has and len(self.held) == self.keys:
             raise Refused("full")
+        self.accept(key, line_of(key, owner, version, value))
         self.held[key] = (owner, version, value)
-        self.accepted.append((key, line_of(key, owner, version, value)))
         return [b"taken"] + self.owed(key)
 
     def take_floor(self, owner, generation):
@@ -124,7 +151,7 @@ class Store:
         if generation == standing:
             return [b"known"]
         self.raise_floor(owner, generation)
-        return [b"taken"] + mask(self.subscriptions)
+        return [b"taken"] + self.mask(self.subscriptions)
 
     # ---- floors ----
 
@@ -136,8 +163,8 @@ class Store:
         """Raises the floor of an owner, and gives how many puts it dropped: tombstones are dropped, too."""
         if owner not in self.floors and len(self.floors) == MOST_FLOORS:
             raise Refused("full")
+        self.accept(None, b"! %s %d" % (owner, generation))
         self.floors[owner] = generation
-        self.accepted.append((None, b"! %s %d" % (owner, generation)))
         dropped = [key for key, (of, version, _) in self.held.items() if self.is_void(key, of, version)]
         return sum(self.held.pop(key)[2] is not None for key in dropped)
 
@@ -180,13 +207,13 @@ class Store:
             raise Refused("notallowed")
         if generation <= self.floors.get(owner, -1):
             return [b"swept 0"]
-        return [b"swept %d" % self.raise_floor(owner, generation)] + mask(self.subscriptions)
+        return [b"swept %d" % self.raise_floor(owner, generation)] + self.mask(self.subscriptions)
 
     # ---- subscriptions ----
 
     def owed(self, key):
         """The line of the subscriptions that have the key under their query, if there are any."""
-        return mask(number for number, it in self.subscriptions.items() if it.query.admits(key))
+        return self.mask(number for number, it in self.subscriptions.items() if it.query.admits(key))
 
     def under(self, query):
         """The lines of the floors, which are under every query, and then of the changes under this one, each in order."""
@@ -194,19 +221,19 @@ class Store:
 
     def subscribe(self, sub, query, initial, overwrite):
         """Begins to follow a query, from what is held on or from now on."""
-        if sub >= MOST_SUBSCRIPTIONS:
+        if sub >= self.subs:
             raise Refused("badsub")
         asked = Query(*query)
         if sub in self.subscriptions and not overwrite:
             raise Refused("exists")
-        self.stamp += 1
+        stamp = self.next_stamp()
         there = self.under(asked)
-        self.subscriptions[sub] = Subscription(asked, self.stamp, set() if initial else set(there))
-        return [b"subscribed %d" % self.stamp] + mask([sub] if initial and there else [])
+        self.subscriptions[sub] = Subscription(asked, stamp, set() if initial else set(there))
+        return [b"subscribed %d" % self.stamp] + self.mask([sub] if initial and there else [])
 
     def check(self, sub, most):
         """Shows the first items that weren't shown."""
-        if sub >= MOST_SUBSCRIPTIONS:
+        if sub >= self.subs:
             raise Refused("badsub")
         if not 1 <= most <= MOST_CHECKED:
             raise Refused("toomany")
@@ -216,8 +243,7 @@ class Store:
         unseen = [line for line in self.under(subscription.query) if line not in subscription.shown]
         shown, before = unseen[:most], subscription.stamp
         if shown:
-            self.stamp += 1
-            subscription.stamp = self.stamp
+            subscription.stamp = self.next_stamp()
             subscription.shown.update(shown)
         return shown + [b"checked %d %d %d" % (len(shown), before, subscription.stamp)]
 
@@ -226,15 +252,15 @@ class Store:
     def since(self, incarnation, position, most, scope):
         """What took effect under the scope from a cursor on, and the cursor behind it."""
         is_under = asked_under(scope, most)
-        end = len(self.accepted)
+        end = self.position()
         if incarnation != self.incarnation:
             raise Refused("oldcursor")
         if position > end:
             raise Refused("ahead")
-        if position + min(self.ring, end) < end:
+        if position + min(self.ring, len(self.accepted)) < end:
             raise Refused("behind")
         given = []
-        for key, line in self.accepted[position:]:
+        for key, line in self.accepted[position - self.first:]:
             if len(given) == most:
                 break
             position += 1
@@ -245,7 +271,7 @@ class Store:
         """All that is held under the scope."""
         is_under = asked_under(scope)
         given = self.floor_lines() + [line_of(key, *self.held[key]) for key in sorted(self.held) if is_under(key)]
-        return given + [b"snapshot %d %d %d" % (len(given), self.incarnation, len(self.accepted))]
+        return given + [b"snapshot %d %d %d" % (len(given), self.incarnation, self.position())]
 
     def page(self, most, after, scope):
         """The first changes that are held under the scope behind a key; behind None all floors too."""
@@ -253,11 +279,11 @@ class Store:
         left = [key for key in sorted(self.held) if is_under(key) and (after is None or key > after)]
         given = (self.floor_lines() if after is None else []) + [line_of(key, *self.held[key]) for key in left[:most]]
         mark = b"more" if len(left) > most else b"last"
-        return given + [b"page %d %s %d %d" % (len(given), mark, self.incarnation, len(self.accepted))]
+        return given + [b"page %d %s %d %d" % (len(given), mark, self.incarnation, self.position())]
 
     def restart(self, incarnation):
         """Begins again with nothing, as another incarnation."""
-        self.__init__(self.ring, incarnation)
+        self.__init__(self.ring, incarnation, self.first, self.subs, self.keys)
         return [b"restarted"]
 
     # ---- questions ----
@@ -314,16 +340,6 @@ def asked_under(scope, most=1):
 def counted(shown):
     """The lines, and then their number."""
     return shown + [b"shown %d" % len(shown)]
-
-
-def mask(numbers):
-    """The line of a mask with these bits, or none where there are none."""
-    return mask_line(sum(1 << number for number in numbers))
-
-
-def mask_line(bits):
-    """The line of a mask, or none where it is 0."""
-    return [b"owed %032x" % bits] if bits else []
 
 
 def answered(asked, command, taken):

@@ -96,31 +96,3 @@ def spelled(endpoint):
 def told(move):
     """A move as it is printed."""
     return " ".join(spelled(it) if isinstance(it, tuple) else str(it) for it in move)
-
-
-class Tables:
-    """Both tables, which answer commands as `test_services` does its lines."""
-
-    def __init__(self):
-        self.tables = {"file": Table("file"), "net": Table("net")}
-
-    def answer(self, verb, server, *args):
-        """The lines that answer a command, and the line that asks for it."""
-        table = self.tables[server]
-        line = " ".join([verb, server] + [spelled(it) if it is None or isinstance(it, tuple) else str(it) for it in args])
-        try:
-            return line, self._answers(table, verb, args)
-        except Refused as refused:
-            return line, [f"refused {refused}"]
-
-    def _answers(self, table, verb, args):
-        if verb == "assign":
-            table.assign(args[0], args[1] if len(args) == 3 else "network", args[-1])
-            return ["assigned"]
-        if verb == "changed":
-            moves = table.changed(*args)
-            return [told(it) for it in moves] + [f"moves {len(moves)}"]
-        if verb == "newest":
-            newest = table.newest(*args)
-            return [f"newest {'-' if newest is None else newest}"]
-        return [told(table.submit(*args) if verb == "submit" else table.reply(*args))]

@@ -16,8 +16,6 @@ FAULTS = 400  # settings with something wrong
 class Script(demos.Script):
     """Settings and events drawn by a seed."""
 
-    part = "rs"
-
     def __init__(self, seed):
         super().__init__(seed, Session)
         self.now = 0
@@ -70,10 +68,8 @@ class Script(demos.Script):
             self.ask("beat", self.endpoint(), self.when())
         elif drawn < 0.94:
             self.ask("state", self.label())
-        elif drawn < 0.97:
-            self.ask("key")
         else:
-            self.ask("service", self.random.randrange(9))
+            self.ask("key")
 
     def tick(self):
         """A tick, now and then repeated until it has no actions or is refused, as a caller would."""

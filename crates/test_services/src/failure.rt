@@ -1,5 +1,6 @@
 //! What ends the program before its input does.
 
+use ds_names::NoRoom;
 use std::alloc::AllocError;
 use std::io;
 
@@ -32,6 +33,12 @@ impl From<io::Error> for Failure {
 
 impl From<AllocError> for Failure {
     fn from(_: AllocError) -> Failure {
+        Failure::NoRoom
+    }
+}
+
+impl From<NoRoom> for Failure {
+    fn from(_: NoRoom) -> Failure {
         Failure::NoRoom
     }
 }

@@ -1,21 +1,21 @@
-//! `test_services`: the reincarnation server and the driver tables, line by line, for tests that compare them with a model outside.
+//! `test_services`: the reincarnation server, line by line, for tests that compare it with a model outside, and rows of what no line
+//! of a script reaches.
 //!
-//! A line `rs` or `tables` of standard input begins a part, whose lines stand behind it: settings with which RS begins, events,
-//! and questions about what RS knows; or what a file server's table or a network server's is told and asked. What is answered is
-//! printed, and nothing is decided here. A line `rows` prints copies of settings, of RS's actions and of the tables' moves.
-//! Status 0: done. 1: a line that can't be read. 3: memory, reading or writing failed, and standard error says which.
+//! Lines of standard input are settings with which RS begins, events, and questions about what RS knows. What is answered is
+//! printed, and nothing is decided here. A line `rows` prints copies of settings, of RS's actions and of a table's moves, and which
+//! generation a table knows of a label. Status 0: done. 1: a line that can't be read. 3: memory, reading or writing failed, and
+//! standard error says which.
 #![tactic(auto)]
 
+mod command;
 mod failure;
-mod part;
 mod rows;
-mod rs;
-mod tables;
-mod words;
+mod session;
+mod telling;
 
 use failure::Failure;
-use part::Part;
-use std::io::{BufRead, BufReader};
+use session::Session;
+use std::io::{self, BufRead, BufReader, Write};
 use std::process::ExitCode;
 use std::rt::Runtime;
 
@@ -33,13 +33,16 @@ fn main(rt: HostRuntime) -> ExitCode {
 
 // Takes the lines in turn, up to the first that can't be read.
 fn run(rt: &(impl Runtime + AllocGlobal)) -> Result<(), Failure> {
-    let mut part = Part::None;
+    let mut session = Session::new(rt.alloc());
+    let mut text = Vec::new(rt.alloc());
     let Ok(reader) = BufReader::new(rt.alloc(), rt.reader()) else {
         return Err(Failure::NoRoom);
     };
     for line in reader.lines(rt.alloc()) {
         let line = line.map_err(Failure::of_reading)?;
-        part.take(rt, rt.alloc(), line.as_str())?;
+        text.clear();
+        session.take(&mut text, line.as_str())?;
+        io::writer(rt).write_all(text.as_slice())?;
     }
     Ok(())
 }

@@ -2,8 +2,9 @@
 
 use crate::failure::Failure;
 use ds_entry::{Item, Items};
+use ds_lines::split_line;
 use ds_names::Name;
-use ds_words::{CommandFault, ScriptCommand, read_command, split_line};
+use ds_words::{CommandFault, ScriptCommand, read_command};
 use std::alloc::Global;
 
 /// A line, and the commands of the lines between it and `end`, where it begins a block.

@@ -1,9 +1,8 @@
 //! What the reincarnation server is asked.
 
-use crate::words::{read_endpoint, read_name, read_number};
-use ds_names::{Generation, Name};
+use ds_names::{Endpoint, Generation, Name};
 use rs_core::Event;
-use std::str::Split;
+use std::str::{FromStr, Split};
 
 /// What a line asks for.
 #[derive(Clone, Copy)]
@@ -14,14 +13,14 @@ pub(crate) enum Command {
     Event { event: Event, tick: u64 },
     /// `state LABEL`: what RS knows of the service.
     State(Name),
-    /// `service INDEX`: what the settings say of it.
-    Service(usize),
     /// `key`: the key of the slot that is free next.
     Key,
     /// `numbers GENERATION SEQ`: a numberer begins.
     Numbers { generation: Generation, seq: u32 },
     /// `number`: the numberer's next number.
     Number,
+    /// `rows`: what is made once.
+    Rows,
 }
 
 /// The command of a line, if it is one. What stands behind it isn't looked at.
@@ -31,13 +30,13 @@ pub(crate) fn read_command(line: &str) -> Option<Command> {
         "settings" => Some(Command::Settings(read_number(&mut words)?)),
         "key" => Some(Command::Key),
         "number" => Some(Command::Number),
+        "rows" => Some(Command::Rows),
         "numbers" => {
             let generation = Generation::of(read_number(&mut words)?)?;
             let seq = read_number(&mut words)?;
             Some(Command::Numbers { generation, seq })
         }
         "state" => Some(Command::State(read_name(&mut words)?)),
-        "service" => Some(Command::Service(read_number(&mut words)?)),
         verb => {
             let event = read_event(verb, &mut words)?;
             let tick = read_number(&mut words)?;
@@ -54,12 +53,27 @@ fn read_event(verb: &str, words: &mut Split<'_, char>) -> Option<Event> {
         "refresh" => Some(Event::Refresh(read_name(words)?)),
         "restart" => Some(Event::Restart(read_name(words)?)),
         "death" => {
-            let endpoint = read_endpoint(words.next()?)?;
+            let endpoint = read_endpoint(words)?;
             let cause = read_number(words)?;
             Some(Event::Death(endpoint, cause))
         }
-        "beat" => Some(Event::Beat(read_endpoint(words.next()?)?)),
+        "beat" => Some(Event::Beat(read_endpoint(words)?)),
         "tick" => Some(Event::Tick),
         _ => None,
     }
+}
+
+fn read_endpoint(words: &mut Split<'_, char>) -> Option<Endpoint> {
+    Endpoint::read(words.next()?.as_bytes()).ok()
+}
+
+fn read_name(words: &mut Split<'_, char>) -> Option<Name> {
+    Name::read(words.next()?.as_bytes()).ok()
+}
+
+fn read_number<T: FromStr>(words: &mut Split<'_, char>) -> Option<T>
+where
+    T::Err: Drop,
+{
+    words.next()?.parse().ok()
 }

@@ -1,5 +1,0 @@
-//! The reincarnation server.
-
-pub(crate) mod answer;
-mod command;
-mod printing;

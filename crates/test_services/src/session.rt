@@ -1,0 +1,151 @@
+//! Lines, given to RS.
+
+use crate::command::{Command, read_command};
+use crate::failure::Failure;
+use crate::rows::tell_rows;
+use crate::telling::{
+    add_number, tell, tell_new_fault, tell_number, tell_settings_fault, tell_state,
+};
+use ds_names::{Name, NoRoom};
+use rs_core::{Event, Numberer, Rs};
+use rs_settings::read;
+use service_words::{append_action, append_action_count, append_rs_fault, append_settings};
+use std::alloc::{AllocError, Global};
+
+const NO_SETTINGS: &[u8] = b"refused nosettings";
+
+/// Settings whose lines are still read.
+#[derive(Drop)]
+struct Draft {
+    next: u32,
+    text: String,
+}
+
+/// RS, once settings were accepted, and a numberer, once one began.
+#[derive(Drop)]
+pub(crate) struct Session {
+    alloc: Global,
+    draft: Option<Draft>,
+    rs: Option<Rs>,
+    numbers: Option<Numberer>,
+}
+
+impl Session {
+    /// Neither of them yet.
+    pub(crate) fn new(alloc: Global) -> Session {
+        Session {
+            alloc,
+            draft: None,
+            rs: None,
+            numbers: None,
+        }
+    }
+
+    /// Takes a line of settings, or answers a command.
+    pub(crate) fn take(&mut self, text: &mut Vec<u8>, line: &str) -> Result<(), Failure> {
+        match self.draft.take() {
+            Some(draft) => self.read_on(text, draft, line),
+            None => self.answer(text, line),
+        }
+    }
+
+    // A line of settings, or their end, at which RS begins.
+    fn read_on(&mut self, text: &mut Vec<u8>, mut draft: Draft, line: &str) -> Result<(), Failure> {
+        if line == "end" {
+            self.begin(text, &draft)?;
+        } else {
+            add_line(&mut draft, line)?;
+            self.draft = Some(draft);
+        }
+        Ok(())
+    }
+
+    // Answers a command; settings are answered behind their last line.
+    fn answer(&mut self, text: &mut Vec<u8>, line: &str) -> Result<(), Failure> {
+        match read_command(line).ok_or(Failure::BadLine)? {
+            Command::Settings(next) => {
+                let draft = String::new(self.alloc);
+                self.draft = Some(Draft { next, text: draft });
+            }
+            Command::Numbers { generation, seq } => {
+                self.numbers = Some(Numberer::of(generation, seq));
+                tell(text, b"numbers")?;
+            }
+            Command::Number => tell_next(text, &mut self.numbers)?,
+            Command::Rows => tell_rows(text, self.alloc)?,
+            Command::Event { event, tick } => tell_event(text, &mut self.rs, event, tick)?,
+            Command::State(label) => tell_service(text, &self.rs, &label)?,
+            Command::Key => tell_key(text, &self.rs)?,
+        }
+        Ok(())
+    }
+
+    // RS begins anew; where that is refused, the one that there was goes on.
+    fn begin(&mut self, text: &mut Vec<u8>, draft: &Draft) -> Result<(), NoRoom> {
+        let settings = match read(self.alloc, draft.text.as_bytes()) {
+            Ok(settings) => settings,
+            Err(fault) => return tell_settings_fault(text, &fault),
+        };
+        let count = settings.services().len();
+        let slots = settings.slots();
+        match Rs::new(self.alloc, settings, draft.next) {
+            Ok(rs) => {
+                self.rs = Some(rs);
+                append_settings(text, count, slots)
+            }
+            Err(fault) => tell_new_fault(text, fault),
+        }
+    }
+}
+
+fn add_line(draft: &mut Draft, line: &str) -> Result<(), AllocError> {
+    draft.text.push_str(line)?;
+    draft.text.push('\n')
+}
+
+fn tell_next(text: &mut Vec<u8>, numbers: &mut Option<Numberer>) -> Result<(), NoRoom> {
+    match numbers {
+        Some(numbers) => tell_number(text, numbers.next()),
+        None => tell(text, b"refused nonumbers"),
+    }
+}
+
+fn tell_service(text: &mut Vec<u8>, rs: &Option<Rs>, label: &Name) -> Result<(), NoRoom> {
+    match rs {
+        Some(rs) => tell_state(text, rs.state(label)),
+        None => tell(text, NO_SETTINGS),
+    }
+}
+
+fn tell_key(text: &mut Vec<u8>, rs: &Option<Rs>) -> Result<(), NoRoom> {
+    match rs {
+        Some(rs) => {
+            add_number(text, b"key ", rs.next_key() as u64)?;
+            tell(text, b"")
+        }
+        None => tell(text, NO_SETTINGS),
+    }
+}
+
+// A line for each action of an event, and one for all.
+fn tell_event(
+    text: &mut Vec<u8>,
+    rs: &mut Option<Rs>,
+    event: Event,
+    tick: u64,
+) -> Result<(), NoRoom> {
+    let Some(rs) = rs else {
+        return tell(text, NO_SETTINGS);
+    };
+    let actions = match rs.event(event, tick) {
+        Ok(actions) => actions,
+        Err(fault) => return append_rs_fault(text, fault),
+    };
+    let count = actions.len();
+    for i in 0..count {
+        if let Some(action) = actions.get(i) {
+            append_action(text, action)?;
+        }
+    }
+    append_action_count(text, count)
+}

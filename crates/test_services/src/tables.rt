@@ -1,4 +1,0 @@
-//! The driver tables.
-
-pub(crate) mod answer;
-mod command;
