@@ -111,9 +111,10 @@ class Services:
         return b"beat %d/%d %d" % (*self.endpoint(), self.when())
 
     def published(self):
-        """An instance publishes an entry under its label, and counts on; one that died does so late."""
+        """An instance publishes an entry under its label, and counts on; one that died does so late, under a name that no other has."""
         generation, slot = self.endpoint()
-        label = next((label for label, state in self.session.rs.states.items() if state[1:2] == ((generation, slot),)), "old") if self.session.rs else "old"
+        states = self.session.rs.states if self.session.rs else {}
+        label = next((label for label, state in states.items() if state[1:2] == ((generation, slot),)), f"old{generation}")
         number = self.numbers[generation, slot] = self.numbers.get((generation, slot), -1) + 1
         kind, value = behaviour.value_by_chance(self.chance)
         entry = self.chance.choice([b"mtu", b"mac", b"id"])

@@ -144,3 +144,20 @@ class Disorderly(Script):
         items = len(self.world.messages[last])
         for holder in [b"a", b"b", *(b"m%d" % it for it in range(len(self.world.maps)))]:
             self.ask(b"deliver %d %s %d" % (last, holder, chance.choice([items, chance.randrange(items)])))
+
+
+class Full(Script):
+    """Every unit of both tables has one of many drivers, and requests for all of them wait while drivers die and come back."""
+
+    LABELS = [b"driver%d" % n for n in range(24)]
+    RIVALS = 0
+
+    def __init__(self, seed):
+        super().__init__(seed)
+        self.services.begin()
+        for unit in self.chance.sample(range(256), 256):
+            self.ask(b"assign file %d %s %s" % (unit, self.chance.choice([b"block", b"block", b"character"]), self.chance.choice(self.LABELS)))
+            self.ask(b"assign net %d %s" % (unit, self.chance.choice(self.LABELS)))
+        for _ in range(2 * LINES):
+            self.ask(self.services.line())
+        self.services.hold()
