@@ -105,7 +105,7 @@ module _ {M C R : Type 0} (steps : M → C → R → M → Type 0) (owes : R →
   }
 
   pub hold_allowed : (slots id : ℕ) (me : AtSeat M C R) (word new k : ℕ) → word ≡ 2 * k → new ≡ word + 1 → k < 2 ^ 62 → 0 < length me.0.passes
-      → Allows Holds slots id me 0 (λ n. either (n == word) new n) (hold steps (step slots 0 word new none) me)
+      → Allows Holds slots id me 0 (λ n. either (n == word) new n) (hold steps owes (step slots 0 word new none) me)
   hold_allowed slots id me word new k even next room some_pass s r _ at _ =
       let v : V = me.0 in let f = r.seated id v at in let n : ℕ = length r.history in let found : ℕ = get_or s.words 0 0 in
       dite (ℕ_discrete found word)
@@ -122,7 +122,9 @@ module _ {M C R : Type 0} (steps : M → C → R → M → Type 0) (owes : R →
             (held s r id v at some_pass free (omega arith) (set s.homes 0 none) (ap (λ l. set l 0 none) home.1)),
         (
           (λ _. (looked steps owes opening first passes s r id v true at, (h, refl, λ m e. subst (λ (y : M). Run steps y r.history r.machine) (sym (f.opened m e).0) r.legal))),
-          λ miss. absurd (miss hit),
+          (λ miss. absurd (miss hit)),
+          word_small steps owes opening first passes s r,
+          tells_turn s r id v at,
         ),
       ))
       (λ miss. (
@@ -131,7 +133,12 @@ module _ {M C R : Type 0} (steps : M → C → R → M → Type 0) (owes : R →
         tt,
         stays steps owes opening first passes s r id v (after_look v v.holding r.history r.order) at (sits_looked steps owes opening first passes r.history r.order r.turn r.seat_of id v v.holding f (λ h. (f.holds h).0)) refl refl _
             (ap (λ b. set s.words 0 (either b new found)) (ne_eqb found word miss) ∙ word_same steps owes opening first passes s),
-        ((λ hit. absurd (miss hit)), λ _. (looked steps owes opening first passes s r id v v.holding at, refl)),
+        (
+          (λ hit. absurd (miss hit)),
+          (λ _. (looked steps owes opening first passes s r id v v.holding at, refl)),
+          word_small steps owes opening first passes s r,
+          tells_turn s r id v at,
+        ),
       ))
 
   ended_word : (s : State S V) (r : Holds s) (j : ℕ) → r.turn ≡ some j → (get_or s.words 0 0 + 1) % 2 ^ 64 ≡ 2 * (first + (length r.history + 1)) + 0

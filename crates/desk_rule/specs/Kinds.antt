@@ -139,9 +139,9 @@ module _ {M C R : Type 0} (steps : M → C → R → M → Type 0) where
   abbrev pub TakesTurn : AtSeat M C R → ℕ → AtSeat M C R → Type 0
   TakesTurn m r m' = Looks steps m.0 r true m'.0 × GetsMachine m.0 m.1 m'.0 m'.1
 
-  -- where the word was as expected the turn is held; else it was looked at, and no more
-  abbrev pub hold : Step (Option (Home M C R)) → AtSeat M C R → ℕ → AtSeat M C R → Type 0
-  hold st m r m' = (r ≡ st.first → TakesTurn m r m') × (r ≢ st.first → LooksAlone m r m')
+  -- where the word was as expected the turn is held; else it was looked at, and no more. Either way its low bit tells of the turn as it was
+  abbrev pub hold : (R → ℕ) → Step (Option (Home M C R)) → AtSeat M C R → ℕ → AtSeat M C R → Type 0
+  hold owes st m r m' = (r ≡ st.first → TakesTurn m r m') × (r ≢ st.first → LooksAlone m r m') × (r ≤ 2 ^ 63) × TellsTurn steps owes m.0 r
 
 module _ {M C R : Type 0} where
   -- the call that the slot's last call names ends the history

@@ -20,7 +20,7 @@ impl<M: Machine> Play<Slot<M>, DeskView<M>> for Look {
 pub struct Hold;
 
 impl<M: Machine> Play<Slot<M>, DeskView<M>> for Hold {
-    ghost then = { hold (Stepped M.stands M.steps) };
+    ghost then = { hold (Stepped M.stands M.steps) M.owes };
 }
 
 /// One more in word 0, which ends the turn.

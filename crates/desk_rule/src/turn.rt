@@ -1,16 +1,16 @@
 //! A turn: it is held, the machine comes out of the slot and goes back, and the turn ends.
 
-ghost use Rattle.std.specs.Prelude.{◌≡◌, ◌≢◌, ℕ, ◌+◌, ◌*◌, ◌^◌, ◌<◌, [], ◌∷◌, length, is_some, Some, None, true};
+ghost use Rattle.std.specs.Prelude.{◌≡◌, ◌≢◌, ℕ, ◌+◌, ◌*◌, ◌^◌, ◌<◌, ◌≤◌, [], ◌∷◌, length, is_some, Some, None, true};
 ghost use Rattle.history.specs.History.{Run, Stepped};
-ghost use Rattle.desk_rule.specs.Kinds.{EntersCall, LooksAlone, TakesTurn};
+ghost use Rattle.desk_rule.specs.Kinds.{EntersCall, LooksAlone, TakesTurn, TellsTurn};
 ghost use Rattle.desk_rule.specs.Seat.{EndsTurn, HoldsTurn, IsAtTable, SameSeat};
 
 use crate::play::{EndTurn, Hold};
 use crate::table::{DeskSeat, DeskShared, Home};
 use history::Machine;
 
-/// Takes the turn if word 0 still is `word`, which says that it is free. Gives the word as it was; another one tells how far
-/// the history goes, as a look does, and no more.
+/// Takes the turn if word 0 still is `word`, which says that it is free. Gives the word as it was, which tells all that a look
+/// tells: how far the history goes, and whether the turn was held. Where it was another word, nothing else was done.
 pub fn hold<M: Machine>(shared: &DeskShared<M>, seat: &mut DeskSeat<M>, word: u64) -> u64
     requires at { IsAtTable shared.now.table_id seat.old }
     requires some_pass { 0 < length seat.old.me.0.passes }
@@ -18,11 +18,14 @@ pub fn hold<M: Machine>(shared: &DeskShared<M>, seat: &mut DeskSeat<M>, word: u6
     ensures same { SameSeat seat.old seat.new }
     ensures held { result ≡ word → TakesTurn (Stepped M.stands M.steps) seat.old.me result seat.new.me }
     ensures missed { result ≢ word → LooksAlone (Stepped M.stands M.steps) seat.old.me result seat.new.me }
+    ensures below { result ≤ 2 ^ 63 }
+    ensures turn { TellsTurn (Stepped M.stands M.steps) M.owes seat.old.me.0 result }
 {
     shared.compare_exchange::<Hold>(seat, 0, word, word + 1)
 }
 
-/// Takes the machine out of the slot: it is as the history that the seat has seen left it.
+/// Takes out of the slot just what it held: the machine as the history that the seat has seen left it, and the call that was put
+/// back with it.
 pub fn machine_out<M: Machine>(
     shared: &DeskShared<M>,
     seat: &mut DeskSeat<M>,
@@ -30,6 +33,7 @@ pub fn machine_out<M: Machine>(
     requires at { IsAtTable shared.now.table_id seat.old }
     requires holds { HoldsTurn (Stepped M.stands M.steps) seat.old }
     ensures same { SameSeat seat.old seat.new }
+    ensures held { seat.old.me.1 ≡ (0, Some result) ∷ [] }
     ensures out { seat.new.me ≡ (seat.old.me.0, (0, None) ∷ []) }
     ensures machine { (m : M) → seat.old.me.0.opening ≡ Some m → Run (Stepped M.stands M.steps) m seat.old.me.0.seen result.machine }
 {

@@ -77,9 +77,10 @@ impl Moves {
         self.moves.get(index)
     }
 
-    /// The same moves in the same order.
+    /// The same moves in the same order. The copy of none takes no memory.
     pub fn copy(&self, alloc: Global) -> Result<Moves, NoRoom>
-        ensures { IfOk result (λ moves. moves ≡ self.now) }
+        ensures same { IfOk result (λ moves. moves ≡ self.now) }
+        ensures room { OnErr result (self.now ≢ []) }
     {
         let mut moves = Vec::new(alloc);
         for step in &self.moves {

@@ -1,6 +1,6 @@
 //! Worlds.
 
-ghost use Rattle.std.specs.Prelude.{◌≡◌, ◌≤◌, [], ◌∷◌, length, slice_get, vec_capacity, IfOk, IfErr, IfSome, OnOk, OnErr};
+ghost use Rattle.std.specs.Prelude.{◌≡◌, ◌≢◌, ◌≤◌, [], ◌∷◌, length, slice_get, vec_capacity, IfOk, IfErr, IfSome, OnOk, OnErr};
 ghost use Rattle.std.specs.Option.{option_copied};
 ghost use Rattle.ds_held.specs.Limits.{larger};
 ghost use Rattle.ds_submap.specs.Map.{IsMap};
@@ -90,7 +90,8 @@ impl World {
     /// Lets the events happen in their order, and gives what came of each. A refused event changes nothing, and the next one
     /// follows.
     ///
-    /// TooMany above 65536 events, and NoRoom where there is no room for the outcomes: then nothing happens at all.
+    /// TooMany above 65536 events, and NoRoom where there is no room for the outcomes: then nothing happens at all. A run of no events
+    /// takes no memory.
     pub fn run(&mut self, events: Events) -> Result<Outcomes, WorldFault>
         ensures one_each { IfOk result (λ outcomes. length outcomes ≡ length events) }
         ensures few { OnOk result (length events ≤ most_events) }
@@ -101,6 +102,7 @@ impl World {
         ensures laws { IfOk result (λ outcomes. LawsHold self.old (paired events outcomes) self.new) }
         ensures turns { IfOk result (λ outcomes. TurnsAreRun self.old (paired events outcomes) self.new) }
         ensures refused { IfErr result (λ fault. IsRunFault fault events) }
+        ensures room { IfErr result (λ fault. fault ≡ WorldFault.NoRoom → events ≢ []) }
         ensures unchanged { OnErr result (self.new ≡ self.old) }
     {
         answers_say();

@@ -90,9 +90,10 @@ impl Actions {
         self.actions.get(index)
     }
 
-    /// The same actions again, in the same order.
+    /// The same actions again, in the same order. The copy of none takes no memory.
     pub fn copy(&self, alloc: Global) -> Result<Actions, NoRoom>
-        ensures { IfOk result (λ actions. actions ≡ self.now) }
+        ensures same { IfOk result (λ actions. actions ≡ self.now) }
+        ensures room { OnErr result (self.now ≢ []) }
     {
         let mut actions = Vec::new(alloc);
         for action in &self.actions {

@@ -23,7 +23,7 @@ use crate::slots::Slots;
 use crate::state::State;
 use ds_names::Name;
 use rs_settings::{Service, Settings};
-use std::alloc::Global;
+use std::alloc::{AllocError, Global};
 use std::marker::Model;
 
 /// RS: what it knows of each service, and the process slots that its instances have.
@@ -55,16 +55,16 @@ impl Model for Rs {
 
 impl Rs {
     /// RS before any event: every service is down. `next` is the generation of the first start; OutOfRange unless it
-    /// is 1 to 2097152.
+    /// is 1 to 2097152. NoRoom comes behind it, and only where there is a service: RS without any takes no memory.
     pub fn new(alloc: Global, settings: Settings, next: u32) -> Result<Rs, NewFault>
         ensures value { IfOk result (λ rs. rs ≡ rs_of settings (replicate (length settings.services) State.Down) 0 next (slots_with [] 0)) }
         ensures range { IsErrOf result NewFault.OutOfRange ↔ (next < 1 ⊎ 2097152 < next) }
+        ensures room { IfErr result (λ fault. fault ≡ NewFault.NoRoom → settings.services ≢ []) }
     {
         if next < 1 || next > 2097152 {
             return Err(NewFault::OutOfRange);
         }
-        let count = settings.services().len();
-        let Ok(states) = vec![in alloc; State::Down; count] else {
+        let Ok(states) = all_down(alloc, settings.services().len()) else {
             return Err(NewFault::NoRoom);
         };
         Ok(Rs {
@@ -178,4 +178,15 @@ impl Rs {
             None => unreachable!(),
         }
     }
+}
+
+// The states of so many services that are down. Where there are none, it takes no memory.
+fn all_down(alloc: Global, count: usize) -> Result<Vec<State>, AllocError>
+    ensures down { IfOk result (λ states. states.items ≡ replicate count State.Down) }
+    ensures room { OnErr result (0 < count) }
+{
+    if count == 0 {
+        return Ok(Vec::new(alloc));
+    }
+    vec![in alloc; State::Down; count]
 }
