@@ -13,10 +13,10 @@ use Rattle.ds_convergence.specs.Paged.{last_key}
 use Rattle.ds_machine.specs.declared.command.Command.{Command}
 use Rattle.ds_machine.specs.declared.reply.Reply.{Reply}
 use Rattle.ds_machine.specs.declared.reply.Reply.TheVariants.{Journaled, Paged}
-use Rattle.ds_pass.specs.Called.{Made}
+use Rattle.ds_pass.specs.Called.{AsksOnce, IsAtMostOne, Made}
 use Rattle.ds_pass.specs.Record.{PassRecord}
 use Rattle.ds_pass.proofs.RecordLemmas.{made_more, made_none}
-use Rattle.ds_exchange.specs.Asking.{AsksOnce, AsksOpenPages, GoesByPages, IsAtMostOne, TellsPage, TellsSince}
+use Rattle.ds_exchange.specs.Asking.{AsksOpenPages, GoesByPages, TellsPage, TellsSince}
 use Rattle.ds_exchange.specs.Exchange.{Exchanges, ExchangesOnly}
 use Rattle.ds_exchange.specs.Giving.{GivesAll, GivesOnly}
 use Rattle.ds_exchange.specs.Telling.{AsksInTurn, AsksPages, IsOpenPage, all_told, cursor_told, first_told, items_told, page_asked, since_asked}

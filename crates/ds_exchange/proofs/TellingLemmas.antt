@@ -10,9 +10,9 @@ use Rattle.ds_feed.specs.declared.reading.Page.{Page as Leaf}
 use Rattle.ds_machine.specs.declared.command.Command.{Command}
 use Rattle.ds_machine.specs.declared.reply.Reply.{Reply}
 use Rattle.ds_machine.specs.declared.reply.Reply.TheVariants.{Journaled, Paged}
-use Rattle.ds_pass.specs.Called.{FoundWorn, MadeCall}
+use Rattle.ds_pass.specs.Called.{AsksOnce, FoundWorn, MadeCall}
 use Rattle.ds_pass.specs.Record.{PassRecord}
-use Rattle.ds_exchange.specs.Asking.{AsksOnce, GetsTold, TellsPage, TellsSince}
+use Rattle.ds_exchange.specs.Asking.{GetsTold, TellsPage, TellsSince}
 use Rattle.ds_exchange.specs.Telling.{page_asked, since_asked}
 
 pub once_worn : (p q : PassRecord) (command : Command) (fault : DeskFault) → FoundWorn p q fault → AsksOnce p q command

@@ -14,16 +14,6 @@ use Rattle.ds_pass.specs.Record.{HasLegalHistory, PassRecord}
 use Rattle.ds_exchange.specs.Giving.{GivesAll}
 use Rattle.ds_exchange.specs.Telling.{IsOpenPage, all_told, first_told, page_asked, since_asked}
 
--- it was asked, or nothing was
-abbrev pub IsAtMostOne : List (Entry Command Reply) → Command → Type 0
-IsAtMostOne [] command = Unit {0}
-IsAtMostOne (e ∷ es) command = (e.command ≡ command) × (es ≡ [])
-
-pub record AsksOnce (p q : PassRecord) (command : Command) : Type 0 where
-  pub own : List (Entry Command Reply)
-  pub made : Made p q own
-  pub once : IsAtMostOne own command
-
 -- it was asked, and got this reply
 pub record GetsTold (p q : PassRecord) (command : Command) (reply : Reply) : Type 0 where
   pub call : Entry Command Reply

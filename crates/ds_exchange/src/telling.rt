@@ -5,9 +5,10 @@ ghost use Rattle.desk.specs.Desk.{identity};
 ghost use Rattle.desk.specs.Pass.{desk_of};
 ghost use Rattle.ds_machine.specs.Says.{IsPageReply, IsSinceReply};
 ghost use Rattle.ds_machine.specs.declared.refusal.Refusal.{Refusal};
+ghost use Rattle.ds_pass.specs.Called.{AsksOnce};
 ghost use Rattle.ds_pass.specs.Faults.{IsFaultOf, TellsRefusal};
 ghost use Rattle.ds_pass.specs.Record.{pass_record, place_behind};
-ghost use Rattle.ds_exchange.specs.Asking.{AsksOnce, TellsPage, TellsSince};
+ghost use Rattle.ds_exchange.specs.Asking.{TellsPage, TellsSince};
 ghost use Rattle.ds_exchange.specs.Telling.{page_asked, since_asked};
 
 use desk::{Desk, Pass};

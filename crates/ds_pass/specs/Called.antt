@@ -31,3 +31,13 @@ pub record FoundWorn (p q : PassRecord) (fault : DeskFault) : Type 0 where
   pub fault_is : fault ≡ Worn
   pub made : Made p q []
   pub full : place_behind q ≡ 2 ^ 62
+
+-- it was called, or nothing was
+abbrev pub IsAtMostOne : List (Entry Command Reply) → Command → Type 0
+IsAtMostOne [] command = Unit {0}
+IsAtMostOne (e ∷ es) command = (e.command ≡ command) × (es ≡ [])
+
+pub record AsksOnce (p q : PassRecord) (command : Command) : Type 0 where
+  pub own : List (Entry Command Reply)
+  pub made : Made p q own
+  pub once : IsAtMostOne own command

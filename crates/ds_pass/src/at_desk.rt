@@ -43,7 +43,9 @@ impl<'a, W: Wait> AtDesk<'a, W> {
 impl<'a, W: Wait> Asks for AtDesk<'a, W> {
     ghost use Rattle.std.specs.Prelude.{◌≡◌, ◌^◌};
     ghost use Rattle.desk.specs.Calls.{next_place};
+    ghost use Rattle.ds_pass.specs.Called.{AsksOnce};
     ghost use Rattle.ds_pass.specs.Led.{LedTo, PassOrigin, pass_origin};
+    ghost use Rattle.ds_pass.specs.Record.{pass_record};
 
     ghost Origin = { PassOrigin };
 
@@ -52,6 +54,8 @@ impl<'a, W: Wait> Asks for AtDesk<'a, W> {
     ghost stands = { λ it s. LedTo it.pass s };
 
     ghost is_worn = { λ it. next_place it.pass ≡ 2 ^ 62 };
+
+    ghost asks_once = { λ old command new. AsksOnce (pass_record old.pass) (pass_record new.pass) command };
 
     fn ask(&mut self, command: Command) -> Option<Reply> {
         match self.desk.call(self.rt, &mut self.pass, command) {

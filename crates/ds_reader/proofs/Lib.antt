@@ -4,4 +4,5 @@ pub mod CheckLemmas
 pub mod SinceLemmas
 pub mod PageLemmas
 pub mod StopLemmas
+pub mod QuestionLemmas
 pub mod UnderLemmas

@@ -10,6 +10,8 @@ use Rattle.ds_machine.specs.declared.command.Command.{Command}
 use Rattle.ds_machine.specs.declared.command.Command.TheVariants.{Subscribe, Check}
 use Rattle.ds_machine.specs.declared.reply.Reply.{Reply}
 use Rattle.ds_machine.specs.declared.reply.Reply.TheVariants.{Subscribed, Checked}
+use Rattle.ds_content.specs.Content.{ContentRecord}
+use Rattle.ds_store.specs.Steps.{ContentSteps}
 use Rattle.ds_store.specs.Turns.{Answered}
 
 -- a run of the store's machine leads from the one state to the other
@@ -28,6 +30,14 @@ pub record Asked (s : State) (command : Command) (reply : Reply) (t : State) : T
   pub mid : State
   pub went : Went s mid
   pub answered : Answered mid command reply t
+
+-- the store made one step by the command, and nothing else was done to it
+abbrev pub StepsOnce : ContentRecord → Command → ContentRecord → Type 0
+StepsOnce old command new = (reply : Reply) × ContentSteps old (λ s t. Answered s command reply t) new
+
+-- others asked, and then it made that step
+abbrev pub StepsAmongOthers : ContentRecord → Command → ContentRecord → Type 0
+StepsAmongOthers old command new = (mid : ContentRecord) × ContentSteps old Goes mid × StepsOnce mid command new
 
 -- ---- of one who asks, before the call and after it: `stands` says which states the store may be in, for all that he knows
 

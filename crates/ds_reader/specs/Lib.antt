@@ -1,4 +1,5 @@
 pub mod Asked
+pub mod Questions
 pub mod ReadWhole
 pub mod CaughtUp
 pub mod GivesUp

@@ -27,6 +27,7 @@ pub(crate) struct Shown {
 pub(crate) fn subscribe<A: Asks>(asked: &mut A, sub: u32, query: Query) -> Result<u64, ReadFault>
     ensures made { IfOk result (λ stamp. GetsStamp A.stands asked.old sub query stamp asked.new) }
     ensures refused { IfErr result (λ fault. StopsThere A.stands A.is_worn asked.old (subscribe_anew sub query) fault asked.new) }
+    ensures only { A.asks_once asked.old (subscribe_anew sub query) asked.new }
     ensures same { A.origin_of asked.new ≡ A.origin_of asked.old }
 {
     let Some(reply) = asked.ask(Command::Subscribe {
@@ -48,6 +49,7 @@ pub(crate) fn subscribe<A: Asks>(asked: &mut A, sub: u32, query: Query) -> Resul
 pub(crate) fn check<A: Asks>(asked: &mut A, sub: u32, max: u32) -> Result<Shown, ReadFault>
     ensures shown { IfOk result (λ shown. GetsShown A.stands asked.old sub max shown.items shown.before shown.after asked.new) }
     ensures refused { IfErr result (λ fault. StopsThere A.stands A.is_worn asked.old (commands.Check sub max) fault asked.new) }
+    ensures only { A.asks_once asked.old (commands.Check sub max) asked.new }
     ensures same { A.origin_of asked.new ≡ A.origin_of asked.old }
 {
     let Some(reply) = asked.ask(Command::Check { sub, max }) else {
@@ -77,6 +79,7 @@ pub(crate) fn page<A: Asks>(
 ) -> Result<Page, ReadFault>
     ensures given { IfOk result (λ page. GetsReply A.stands asked.old (commands.Page scope after max) (Paged page) asked.new) }
     ensures refused { IfErr result (λ fault. StopsThere A.stands A.is_worn asked.old (commands.Page scope after max) fault asked.new) }
+    ensures only { A.asks_once asked.old (commands.Page scope after max) asked.new }
     ensures same { A.origin_of asked.new ≡ A.origin_of asked.old }
 {
     let Some(reply) = asked.ask(Command::Page { scope, after, max }) else {
@@ -98,6 +101,7 @@ pub(crate) fn since<A: Asks>(
 ) -> Result<Since, ReadFault>
     ensures given { IfOk result (λ since. GetsReply A.stands asked.old (commands.Since scope cursor max) (Journaled since) asked.new) }
     ensures refused { IfErr result (λ fault. StopsThere A.stands A.is_worn asked.old (commands.Since scope cursor max) fault asked.new) }
+    ensures only { A.asks_once asked.old (commands.Since scope cursor max) asked.new }
     ensures same { A.origin_of asked.new ≡ A.origin_of asked.old }
 {
     let Some(reply) = asked.ask(Command::Since { scope, cursor, max }) else {

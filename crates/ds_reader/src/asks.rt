@@ -12,6 +12,7 @@ use ds_store::Store;
 /// machine.
 pub trait Asks {
     ghost use Rattle.ds_machine.specs.State.{State};
+    ghost use Rattle.ds_machine.specs.declared.command.Command.{Command};
 
     // What no question changes of the one who asks, as which pass it is, and of which desk.
     ghost Origin: { Type 0 };
@@ -24,12 +25,17 @@ pub trait Asks {
     // Nothing can be asked any more.
     ghost is_worn: { Self → Type 0 };
 
+    // What one question makes of the one who asks: this command was asked once, if anything was, and the store was asked nothing
+    // else but by others.
+    ghost asks_once: { Self → Command → Self → Type 0 };
+
     /// Asks the command, when others may have asked since the last one. `None` where nothing can be asked any more; then
     /// only others have.
     fn ask(&mut self, command: Command) -> Option<Reply>
         ensures asked { IfSome result (λ reply. GetsReply stands self.old command reply self.new) }
         ensures fits { IfSome result (λ reply. IsReplyTo command reply) }
         ensures went { result ≡ None → OthersAsked stands self.old self.new }
+        ensures once { asks_once self.old command self.new }
         ensures same { origin_of self.new ≡ origin_of self.old }
         ensures worn { result ≡ None → is_worn self.new };
 }
@@ -37,6 +43,7 @@ pub trait Asks {
 // A store that nobody else asks.
 impl Asks for Store {
     ghost use Rattle.ds_content.specs.Stands.{ContentStands};
+    ghost use Rattle.ds_reader.specs.Asked.{StepsOnce};
 
     ghost Origin = { Unit {0} };
 
@@ -45,6 +52,8 @@ impl Asks for Store {
     ghost stands = { ContentStands };
 
     ghost is_worn = { λ _. ⊥ };
+
+    ghost asks_once = { StepsOnce };
 
     fn ask(&mut self, command: Command) -> Option<Reply> {
         Some(self.apply(command))

@@ -3,6 +3,7 @@
 ghost use Rattle.std.specs.Prelude.{◌≡◌, Err, IfOk, IfErr};
 ghost use Rattle.ds_reader.specs.Asked.{ComesTo};
 ghost use Rattle.ds_reader.specs.GivesUp.{StopsChecks};
+ghost use Rattle.ds_reader.specs.Questions.{AsksByChecks};
 ghost use Rattle.ds_reader.specs.ReadWhole.{IsReadWhole};
 
 use crate::asking::{check, subscribe};
@@ -16,7 +17,8 @@ use std::alloc::Global;
 
 /// Reads a store by a subscription, which is made with INITIAL, over whatever it was before: it checks until a Check gives
 /// fewer items than it asked for, while others go on. The items are all under the query, and leave out nothing of what took
-/// effect under it up to the store's cursor then. By the stamps it tells whether another took the subscription over.
+/// effect under it up to the store's cursor then. By the stamps it tells whether another took the subscription over. It asks the
+/// store this Subscribe and Checks, and nothing else.
 ///
 /// Where it gives up, the store has gone on, by its own questions and by what others asked. It is `Refused` just where the
 /// store refused the Subscribe, with which it begins, or the next Check, by this cause, and `Unfinished` just where there were
@@ -30,6 +32,7 @@ pub fn read_by_checks<A: Asks>(
 ) -> Result<Items, ReadFault>
     ensures whole { IfOk result (λ items. ComesTo A.stands asked.old asked.new (λ _ t. IsReadWhole t reading.now.query items)) }
     ensures stopped { IfErr result (λ fault. ComesTo A.stands asked.old asked.new (λ s t. StopsChecks s t sub reading.now fault)) }
+    ensures only { AsksByChecks A.asks_once sub reading.now asked.old asked.new }
     ensures worn { result ≡ Err ReadFault.Worn → A.is_worn asked.new }
     ensures same { A.origin_of asked.new ≡ A.origin_of asked.old }
 {

@@ -28,6 +28,7 @@ pub struct Among<O> {
 
 impl<O: Others> Asks for Among<O> {
     ghost use Rattle.ds_content.specs.Stands.{ContentStands};
+    ghost use Rattle.ds_reader.specs.Asked.{StepsAmongOthers};
 
     ghost Origin = { Unit {0} };
 
@@ -36,6 +37,8 @@ impl<O: Others> Asks for Among<O> {
     ghost stands = { λ it s. ContentStands it.store s };
 
     ghost is_worn = { λ _. ⊥ };
+
+    ghost asks_once = { λ old command new. StepsAmongOthers old.store command new.store };
 
     fn ask(&mut self, command: Command) -> Option<Reply> {
         self.others.ask(&mut self.store);

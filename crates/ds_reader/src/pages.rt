@@ -4,6 +4,7 @@ ghost use Rattle.std.specs.Prelude.{◌≡◌, Err, IfOk, OnOk, IfErr};
 ghost use Rattle.ds_reader.specs.Asked.{ComesTo};
 ghost use Rattle.ds_reader.specs.CaughtUp.{IsCaughtUp};
 ghost use Rattle.ds_reader.specs.GivesUp.{StopsPages, StopsSinces};
+ghost use Rattle.ds_reader.specs.Questions.{AsksByPages, AsksFew, IsSinceOf};
 ghost use Rattle.ds_reader.specs.ReadWhole.{IsReadWhole};
 
 use crate::asking::{page, since};
@@ -27,6 +28,7 @@ fn catch_up<A: Asks>(
 ) -> Result<(), ReadFault>
     ensures caught { OnOk result (ComesTo A.stands asked.old asked.new (λ _ t. IsCaughtUp t reading.now.query from items.old items.new)) }
     ensures stopped { IfErr result (λ fault. ComesTo A.stands asked.old asked.new (λ _ t. StopsSinces t reading.now from fault)) }
+    ensures only { AsksFew A.asks_once (IsSinceOf reading.now) reading.now.questions asked.old asked.new }
     ensures worn { result ≡ Err ReadFault.Worn → A.is_worn asked.new }
     ensures same { A.origin_of asked.new ≡ A.origin_of asked.old }
 {
@@ -45,7 +47,8 @@ fn catch_up<A: Asks>(
 }
 
 /// Reads a store by pages, while others go on, and then by the journal from the first page's cursor on. The items are all under
-/// the query, and leave out nothing of what took effect under it up to the store's cursor then.
+/// the query, and leave out nothing of what took effect under it up to the store's cursor then. It asks the store for pages and
+/// then its journal, and nothing else.
 ///
 /// Where it gives up, the store has gone on by what others asked. It is `Refused` just where the store refused the next page, or
 /// the next question to the journal, by this cause, and `Unfinished` just where as many questions of one kind as may be were
@@ -58,6 +61,7 @@ pub fn read_by_pages<A: Asks>(
 ) -> Result<Items, ReadFault>
     ensures whole { IfOk result (λ items. ComesTo A.stands asked.old asked.new (λ _ t. IsReadWhole t reading.now.query items)) }
     ensures stopped { IfErr result (λ fault. ComesTo A.stands asked.old asked.new (λ s t. StopsPages s t reading.now fault)) }
+    ensures only { AsksByPages A.asks_once reading.now asked.old asked.new }
     ensures worn { result ≡ Err ReadFault.Worn → A.is_worn asked.new }
     ensures same { A.origin_of asked.new ≡ A.origin_of asked.old }
 {

@@ -6,6 +6,7 @@ use Rattle.ds_machine.specs.declared.reply.Reply.TheVariants as replies
 use Rattle.ds_reader.specs.Asked.{Asked, subscribe_anew}
 use Rattle.ds_reader.specs.ReadWhole.{IsReadWhole}
 use Rattle.ds_reader.proofs.CheckLemmas.{Checking, begun, all_full, checked_on, gone, overtaken, read_whole}
+use Rattle.ds_reader.proofs.QuestionLemmas.{by_checks, checks_more, has_begun}
 use Rattle.ds_reader.proofs.StopLemmas.{stops_check, stops_subscribe}
 use Rattle.ds_reader.proofs.checks.read_by_checks.Goals as goal
 
@@ -18,6 +19,8 @@ returns-in_err-stamp-clause-stopped g c =
 pub loop-question-init : goal.loop-question-init
 loop-question-init g c = (
   c.subscribe.ensures.same,
+  has_begun g.A.Asks.asks_once c.args.sub c.args.reading.now c.args.asked.now c.subscribe.new.asked _ c.in_ok-query.ensures
+      c.subscribe.ensures.only,
   λ s stands.
       (let reading = c.args.reading.now in
       let stood = g.A.Asks.stands c.subscribe.new.asked in
@@ -35,7 +38,7 @@ returns-in_err-shown-clause-stopped g c =
     let exit = err_from_is_err_and c.from_residual-in_err-shown.result c.from_residual-in_err-shown.ensures.1 in
     let q = c.loop-question in
     rw (exit.1, exit.2) (λ s stands. stops_check c.laws.ensures g.A.Asks.stands g.A.Asks.is_worn q.asked c.check.new.asked s c.args.sub
-    q.stamp q._question c.args.reading.now q.items c.in_err-shown.field-0.0 c.in_err-shown.ensures.refused (q.invariant.1 s stands))
+    q.stamp q._question c.args.reading.now q.items c.in_err-shown.field-0.0 c.in_err-shown.ensures.refused (q.invariant.2 s stands))
 
 pub returns-then-shown-stamp-clause-stopped : goal.returns-then-shown-stamp-clause-stopped
 returns-then-shown-stamp-clause-stopped g c = λ s stands.
@@ -43,7 +46,7 @@ returns-then-shown-stamp-clause-stopped g c = λ s stands.
     let reading = c.args.reading.now in
     let stood = g.A.Asks.stands q.asked in
     let shown = c.in_ok-shown.shown in
-    let k = q.invariant.1 s stands in
+    let k = q.invariant.2 s stands in
     let a = c.in_ok-shown.ensures.shown k.now k.stands in
     let over = overtaken c.laws.ensures stood s c.args.sub q.stamp q._question reading q.items shown.items k a.0 shown.before shown.after
     a.1 c.if-shown-stamp.true in (
@@ -61,7 +64,7 @@ returns-in_err-append-clause-stopped g c =
     (let q = c.loop-question in
     let reading = c.args.reading.now in
     let shown = c.in_ok-shown.shown in
-    let k = q.invariant.1 s stands in
+    let k = q.invariant.2 s stands in
     let a = c.in_ok-shown.ensures.shown k.now k.stands in (
       a.0,
       gone c.laws.ensures (g.A.Asks.stands q.asked) s c.args.sub reading.query q.items shown.items reading.max q.stamp q._question k a.0
@@ -76,7 +79,7 @@ returns-then-len-reading-clause-whole g c = λ s stands.
     let reading = c.args.reading.now in
     let stood = g.A.Asks.stands q.asked in
     let shown = c.in_ok-shown.shown in
-    let k = q.invariant.1 s stands in
+    let k = q.invariant.2 s stands in
     let a = c.in_ok-shown.ensures.shown k.now k.stands in
     let few : length shown.items < reading.max = omega (arith, c.len.ensures, c.if-len-reading.true) in (
       a.0,
@@ -91,13 +94,15 @@ returns-then-len-reading-clause-whole g c = λ s stands.
 pub loop-question-preserved : goal.loop-question-preserved
 loop-question-preserved g c = (
   c.check.ensures.same ∙ c.loop-question.invariant.0,
+  checks_more g.A.Asks.asks_once c.args.sub c.args.reading.now c.loop-question._question c.args.asked.now c.loop-question.asked
+      c.check.new.asked c.loop-question.invariant.1 c.check.ensures.only,
   λ s stands.
       (let q = c.loop-question in
       let reading = c.args.reading.now in
       let stood = g.A.Asks.stands q.asked in
       let next = g.A.Asks.stands c.check.new.asked in
       let shown = c.in_ok-shown.shown in
-      let k = q.invariant.1 s stands in
+      let k = q.invariant.2 s stands in
       let a = c.in_ok-shown.ensures.shown k.now k.stands in
       let full : reading.max ≤ length shown.items = omega (arith, c.len.ensures, c.if-len-reading.false) in
       subst (λ (l : List Item). Checking next s c.args.sub reading.max reading.query l shown.after (q._question + 1))
@@ -109,7 +114,7 @@ loop-question-preserved g c = (
 pub returns-clause-stopped : goal.returns-clause-stopped
 returns-clause-stopped g c = λ s stands.
     let q = c.loop-question in
-    let k = q.invariant.1 s stands in
+    let k = q.invariant.2 s stands in
     let last : q._question ≡ c.args.reading.now.questions = omega (arith, c.loop-question-test.false, q.auto._question-end) in (
       k.now,
       k.goes,
@@ -120,3 +125,48 @@ returns-clause-stopped g c = λ s stands.
         k.count_is ∙ last,
       ),
     )
+
+-- ---- what it asked
+pub returns-in_err-stamp-clause-only : goal.returns-in_err-stamp-clause-only
+returns-in_err-stamp-clause-only g c =
+    let reading = c.args.reading.now in
+    by_checks g.A.Asks.asks_once c.args.sub reading 0 c.args.asked.now c.subscribe.new.asked (omega arith)
+    (has_begun g.A.Asks.asks_once c.args.sub reading c.args.asked.now c.subscribe.new.asked _ c.in_ok-query.ensures c.subscribe.ensures.only)
+
+pub returns-in_err-shown-clause-only : goal.returns-in_err-shown-clause-only
+returns-in_err-shown-clause-only g c =
+    let q = c.loop-question in
+    let reading = c.args.reading.now in
+    by_checks g.A.Asks.asks_once c.args.sub reading (q._question + 1) c.args.asked.now c.check.new.asked (omega (arith, c.loop-question-test.true))
+    (checks_more g.A.Asks.asks_once c.args.sub reading q._question c.args.asked.now q.asked c.check.new.asked q.invariant.1
+    c.check.ensures.only)
+
+pub returns-then-shown-stamp-clause-only : goal.returns-then-shown-stamp-clause-only
+returns-then-shown-stamp-clause-only g c =
+    let q = c.loop-question in
+    let reading = c.args.reading.now in
+    by_checks g.A.Asks.asks_once c.args.sub reading (q._question + 1) c.args.asked.now c.check.new.asked (omega (arith, c.loop-question-test.true))
+    (checks_more g.A.Asks.asks_once c.args.sub reading q._question c.args.asked.now q.asked c.check.new.asked q.invariant.1
+    c.check.ensures.only)
+
+pub returns-in_err-append-clause-only : goal.returns-in_err-append-clause-only
+returns-in_err-append-clause-only g c =
+    let q = c.loop-question in
+    let reading = c.args.reading.now in
+    by_checks g.A.Asks.asks_once c.args.sub reading (q._question + 1) c.args.asked.now c.check.new.asked (omega (arith, c.loop-question-test.true))
+    (checks_more g.A.Asks.asks_once c.args.sub reading q._question c.args.asked.now q.asked c.check.new.asked q.invariant.1
+    c.check.ensures.only)
+
+pub returns-then-len-reading-clause-only : goal.returns-then-len-reading-clause-only
+returns-then-len-reading-clause-only g c =
+    let q = c.loop-question in
+    let reading = c.args.reading.now in
+    by_checks g.A.Asks.asks_once c.args.sub reading (q._question + 1) c.args.asked.now c.check.new.asked (omega (arith, c.loop-question-test.true))
+    (checks_more g.A.Asks.asks_once c.args.sub reading q._question c.args.asked.now q.asked c.check.new.asked q.invariant.1
+    c.check.ensures.only)
+
+pub returns-clause-only : goal.returns-clause-only
+returns-clause-only g c =
+    let q = c.loop-question in
+    let small : q._question ≤ c.args.reading.now.questions = omega (arith, c.loop-question-test.false, q.auto._question-end) in
+    by_checks g.A.Asks.asks_once c.args.sub c.args.reading.now q._question c.args.asked.now q.asked small q.invariant.1

@@ -5,14 +5,17 @@ use Rattle.ds_feed.specs.Since.{IsGiven}
 use Rattle.ds_machine.specs.declared.command.Scope.{Scope}
 use Rattle.ds_machine.specs.Scope.{is_kept}
 use Rattle.ds_reader.specs.CaughtUp.{IsCaughtUp}
+use Rattle.ds_reader.specs.Questions.{IsSinceOf}
 use Rattle.ds_reader.proofs.StateLemmas.{journaled_there}
 use Rattle.ds_reader.proofs.SinceLemmas.{Catching, caught_on, caught_up, gone, not_begun}
+use Rattle.ds_reader.proofs.QuestionLemmas.{fewer, none_asked, sinces_more}
 use Rattle.ds_reader.proofs.StopLemmas.{stops_since}
 use Rattle.ds_reader.proofs.pages.catch_up.Goals as goal
 
 pub loop-question-init : goal.loop-question-init
 loop-question-init g c = (
   refl,
+  none_asked g.A.Asks.asks_once (IsSinceOf c.args.reading.now) 0 c.args.asked.now,
   λ s stands.
       (not_begun c.laws.ensures (g.A.Asks.stands c.args.asked.now) s c.args.reading.now c.args.from c.args.items.now stands),
 )
@@ -20,13 +23,15 @@ loop-question-init g c = (
 pub loop-question-preserved : goal.loop-question-preserved
 loop-question-preserved g c = (
   c.since.ensures.same ∙ c.loop-question.invariant.0,
+  sinces_more g.A.Asks.asks_once c.args.reading.now c.loop-question._question c.args.asked.now c.loop-question.asked c.since.new.asked _
+      c.loop-question.at c.in_ok-scope.ensures c.loop-question.invariant.1 c.since.ensures.only,
   λ s stands.
       (let reading = c.args.reading.now in
       let q = c.loop-question in
       let stood = g.A.Asks.stands q.asked in
       let next = g.A.Asks.stands c.since.new.asked in
       let given = c.in_ok-given.given in
-      let k = q.invariant.1 s stands in
+      let k = q.invariant.2 s stands in
       let a = c.in_ok-given.ensures.given k.now k.stands in
       let there = journaled_there c.laws.ensures k.now a.0 _ q.at reading.max given a.1 in
       let is = subst (λ (x : Scope). IsGiven a.0.feed (is_kept x) q.at reading.max given) c.in_ok-scope.ensures there.0 in
@@ -40,7 +45,7 @@ loop-question-preserved g c = (
 pub returns-in_err-scope-clause-stopped : goal.returns-in_err-scope-clause-stopped
 returns-in_err-scope-clause-stopped g c =
     let exit = err_from_is_err_and c.from_residual.result c.from_residual.ensures.1 in
-    rw (exit.1, exit.2) (λ s stands. (let k = c.loop-question.invariant.1 s stands in (k.now, k.goes, k.stands, tt)))
+    rw (exit.1, exit.2) (λ s stands. (let k = c.loop-question.invariant.2 s stands in (k.now, k.goes, k.stands, tt)))
 
 pub returns-in_err-given-clause-stopped : goal.returns-in_err-given-clause-stopped
 returns-in_err-given-clause-stopped g c =
@@ -49,7 +54,7 @@ returns-in_err-given-clause-stopped g c =
     rw (exit.1, exit.2) (λ s stands.
     stops_since c.laws.ensures g.A.Asks.stands g.A.Asks.is_worn q.asked c.since.new.asked s c.args.reading.now _ c.args.from q.at
     c.args.items.now q.items q._question c.in_err-given.field-0.0 c.in_ok-scope.ensures c.in_err-given.ensures.refused
-    (q.invariant.1 s stands))
+    (q.invariant.2 s stands))
 
 pub returns-in_err-append-clause-stopped : goal.returns-in_err-append-clause-stopped
 returns-in_err-append-clause-stopped g c =
@@ -57,7 +62,7 @@ returns-in_err-append-clause-stopped g c =
     rw (exit.1, exit.2) (λ s stands.
     (let reading = c.args.reading.now in
     let q = c.loop-question in
-    let k = q.invariant.1 s stands in
+    let k = q.invariant.2 s stands in
     let a = c.in_ok-given.ensures.given k.now k.stands in
     let there = journaled_there c.laws.ensures k.now a.0 _ q.at reading.max c.in_ok-given.given a.1 in (
       a.0,
@@ -72,7 +77,7 @@ returns-then-len-reading-clause-caught g c = λ s stands.
     let q = c.loop-question in
     let stood = g.A.Asks.stands q.asked in
     let given = c.in_ok-given.given in
-    let k = q.invariant.1 s stands in
+    let k = q.invariant.2 s stands in
     let a = c.in_ok-given.ensures.given k.now k.stands in
     let there = journaled_there c.laws.ensures k.now a.0 _ q.at reading.max given a.1 in
     let is = subst (λ (x : Scope). IsGiven a.0.feed (is_kept x) q.at reading.max given) c.in_ok-scope.ensures there.0 in
@@ -86,7 +91,45 @@ returns-then-len-reading-clause-caught g c = λ s stands.
 
 pub returns-clause-stopped : goal.returns-clause-stopped
 returns-clause-stopped g c = λ s stands.
-    let k = c.loop-question.invariant.1 s stands in
+    let k = c.loop-question.invariant.2 s stands in
     let last : c.loop-question._question ≡ c.args.reading.now.questions = omega
     (arith, c.loop-question-test.false, c.loop-question.auto._question-end) in
     (k.now, k.goes, k.stands, (k.turns, k.all, k.count_is ∙ last))
+
+-- ---- what it asked
+pub returns-in_err-scope-clause-only : goal.returns-in_err-scope-clause-only
+returns-in_err-scope-clause-only g c =
+    let q = c.loop-question in
+    let reading = c.args.reading.now in
+    fewer g.A.Asks.asks_once (IsSinceOf reading) q._question reading.questions c.args.asked.now q.asked (omega (arith, c.loop-question-test.true)) q.invariant.1
+
+pub returns-in_err-given-clause-only : goal.returns-in_err-given-clause-only
+returns-in_err-given-clause-only g c =
+    let q = c.loop-question in
+    let reading = c.args.reading.now in
+    fewer g.A.Asks.asks_once (IsSinceOf reading) (q._question + 1) reading.questions c.args.asked.now c.since.new.asked (omega (arith, c.loop-question-test.true))
+    (sinces_more g.A.Asks.asks_once reading q._question c.args.asked.now q.asked c.since.new.asked _ q.at c.in_ok-scope.ensures
+    q.invariant.1 c.since.ensures.only)
+
+pub returns-in_err-append-clause-only : goal.returns-in_err-append-clause-only
+returns-in_err-append-clause-only g c =
+    let q = c.loop-question in
+    let reading = c.args.reading.now in
+    fewer g.A.Asks.asks_once (IsSinceOf reading) (q._question + 1) reading.questions c.args.asked.now c.since.new.asked (omega (arith, c.loop-question-test.true))
+    (sinces_more g.A.Asks.asks_once reading q._question c.args.asked.now q.asked c.since.new.asked _ q.at c.in_ok-scope.ensures
+    q.invariant.1 c.since.ensures.only)
+
+pub returns-then-len-reading-clause-only : goal.returns-then-len-reading-clause-only
+returns-then-len-reading-clause-only g c =
+    let q = c.loop-question in
+    let reading = c.args.reading.now in
+    fewer g.A.Asks.asks_once (IsSinceOf reading) (q._question + 1) reading.questions c.args.asked.now c.since.new.asked (omega (arith, c.loop-question-test.true))
+    (sinces_more g.A.Asks.asks_once reading q._question c.args.asked.now q.asked c.since.new.asked _ q.at c.in_ok-scope.ensures
+    q.invariant.1 c.since.ensures.only)
+
+pub returns-clause-only : goal.returns-clause-only
+returns-clause-only g c =
+    let q = c.loop-question in
+    let reading = c.args.reading.now in
+    let small : q._question ≤ reading.questions = omega (arith, c.loop-question-test.false, q.auto._question-end) in
+    fewer g.A.Asks.asks_once (IsSinceOf reading) q._question reading.questions c.args.asked.now q.asked small q.invariant.1

@@ -1,4 +1,4 @@
-use Rattle.std.proofs.Common.{◌≡◌, ◌+◌, ◌++◌, List, Option, Some, None, arith, refl, sym, ◌∙◌, subst, inl, inr}
+use Rattle.std.proofs.Common.{◌≡◌, ◌+◌, ◌++◌, ◌≤◌, List, Option, Some, None, arith, refl, sym, ◌∙◌, subst, inl, inr}
 use Rattle.std.specs.Option.{unwrap_or}
 use Rattle.std.proofs.lemmas.Result.{err_from_is_err_and}
 use Rattle.ds_names.specs.declared.key.Key.{Key}
@@ -11,14 +11,17 @@ use Rattle.ds_machine.specs.Scope.{is_kept}
 use Rattle.ds_machine.specs.State.{held, cursor}
 use Rattle.ds_reader.specs.CaughtUp.{IsCaughtUp}
 use Rattle.ds_reader.specs.GivesUp.{StopsSinces}
+use Rattle.ds_reader.specs.Questions.{IsPageOf}
 use Rattle.ds_reader.proofs.StateLemmas.{paged_there}
 use Rattle.ds_reader.proofs.PageLemmas.{Paging, all_paged, gone, not_begun, paged_on, read_whole}
+use Rattle.ds_reader.proofs.QuestionLemmas.{by_both, by_pages, none_asked, pages_more}
 use Rattle.ds_reader.proofs.StopLemmas.{stops_page}
 use Rattle.ds_reader.proofs.pages.read_by_pages.Goals as goal
 
 pub loop-question-init : goal.loop-question-init
 loop-question-init g c = (
   refl,
+  none_asked g.A.Asks.asks_once (IsPageOf c.args.reading.now) 0 c.args.asked.now,
   λ s stands.
       (let stood = g.A.Asks.stands c.args.asked.now in
       subst (λ (l : List Item). Paging stood s c.args.reading.now l None None 0) (sym c.new-items.ensures)
@@ -28,11 +31,13 @@ loop-question-init g c = (
 pub loop-question-preserved : goal.loop-question-preserved
 loop-question-preserved g c = (
   c.page.ensures.same ∙ c.loop-question.invariant.0,
+  pages_more g.A.Asks.asks_once c.args.reading.now c.loop-question._question c.args.asked.now c.loop-question.asked c.page.new.asked _
+      c.loop-question.after c.in_ok-scope.ensures c.loop-question.invariant.1 c.page.ensures.only,
   λ s stands.
       (let reading = c.args.reading.now in
       let q = c.loop-question in
       let next = g.A.Asks.stands c.page.new.asked in
-      let k = q.invariant.1 s stands in
+      let k = q.invariant.2 s stands in
       let given = c.in_ok-given.given in
       let a = c.in_ok-given.ensures.given k.now k.stands in
       let there = paged_there c.laws.ensures k.now a.0 _ q.after reading.max given a.1 in
@@ -50,7 +55,7 @@ loop-question-preserved g c = (
 
 pub returns-clause-stopped : goal.returns-clause-stopped
 returns-clause-stopped g c = λ s stands.
-    let k = c.loop-question.invariant.1 s stands in
+    let k = c.loop-question.invariant.2 s stands in
     let last : c.loop-question._question ≡ c.args.reading.now.questions = omega
     (arith, c.loop-question-test.false, c.loop-question.auto._question-end) in
     (k.now, k.goes, k.stands, inl (k.turns, k.all, k.count_is ∙ last))
@@ -58,7 +63,7 @@ returns-clause-stopped g c = λ s stands.
 pub returns-in_err-scope-clause-stopped : goal.returns-in_err-scope-clause-stopped
 returns-in_err-scope-clause-stopped g c =
     let exit = err_from_is_err_and c.from_residual.result c.from_residual.ensures.1 in
-    rw (exit.1, exit.2) (λ s stands. (let k = c.loop-question.invariant.1 s stands in (k.now, k.goes, k.stands, inl tt)))
+    rw (exit.1, exit.2) (λ s stands. (let k = c.loop-question.invariant.2 s stands in (k.now, k.goes, k.stands, inl tt)))
 
 pub returns-in_err-given-clause-stopped : goal.returns-in_err-given-clause-stopped
 returns-in_err-given-clause-stopped g c =
@@ -66,14 +71,14 @@ returns-in_err-given-clause-stopped g c =
     let q = c.loop-question in
     rw (exit.1, exit.2) (λ s stands.
     stops_page c.laws.ensures g.A.Asks.stands g.A.Asks.is_worn q.asked c.page.new.asked s c.args.reading.now _ q.items q.after q.from
-    q._question c.in_err-given.field-0.0 c.in_ok-scope.ensures c.in_err-given.ensures.refused (q.invariant.1 s stands))
+    q._question c.in_err-given.field-0.0 c.in_ok-scope.ensures c.in_err-given.ensures.refused (q.invariant.2 s stands))
 
 pub returns-in_err-append-clause-stopped : goal.returns-in_err-append-clause-stopped
 returns-in_err-append-clause-stopped g c =
     let exit = err_from_is_err_and c.from_residual-in_err-append.result c.from_residual-in_err-append.ensures.1 in
     rw (exit.1, exit.2) (λ s stands.
     (let q = c.loop-question in
-    let k = q.invariant.1 s stands in
+    let k = q.invariant.2 s stands in
     let a = c.in_ok-given.ensures.given k.now k.stands in
     let there = paged_there c.laws.ensures k.now a.0 _ q.after c.args.reading.now.max c.in_ok-given.given a.1 in (
       a.0,
@@ -90,7 +95,7 @@ returns-in_err-catch_up-clause-stopped g c =
     let q = c.loop-question in
     let stood = g.A.Asks.stands q.asked in
     let given = c.in_ok-given.given in
-    let k = q.invariant.1 s stands in
+    let k = q.invariant.2 s stands in
     let a = c.in_ok-given.ensures.given k.now k.stands in
     let there = paged_there c.laws.ensures k.now a.0 _ q.after reading.max given a.1 in
     let is = subst (λ (x : Scope). given ≡ page_of (is_kept x) q.after reading.max (held a.0) (cursor a.0)) c.in_ok-scope.ensures there.0 in
@@ -113,7 +118,7 @@ returns-then-given-clause-whole g c = λ s stands.
     let q = c.loop-question in
     let stood = g.A.Asks.stands q.asked in
     let given = c.in_ok-given.given in
-    let k = q.invariant.1 s stands in
+    let k = q.invariant.2 s stands in
     let a = c.in_ok-given.ensures.given k.now k.stands in
     let there = paged_there c.laws.ensures k.now a.0 _ q.after reading.max given a.1 in
     let is = subst (λ (x : Scope). given ≡ page_of (is_kept x) q.after reading.max (held a.0) (cursor a.0)) c.in_ok-scope.ensures there.0 in
@@ -128,3 +133,49 @@ returns-then-given-clause-whole g c = λ s stands.
       read_whole c.laws.ensures stood s reading q.items q.after q.from q._question k a.0 there.1 given is c.if-given.true b.0
           c.catch_up.new.items b.1 caught,
     )
+
+-- ---- what it asked
+pub returns-in_err-scope-clause-only : goal.returns-in_err-scope-clause-only
+returns-in_err-scope-clause-only g c =
+    let q = c.loop-question in
+    by_pages g.A.Asks.asks_once c.args.reading.now q._question c.args.asked.now q.asked (omega (arith, c.loop-question-test.true)) q.invariant.1
+
+pub returns-in_err-given-clause-only : goal.returns-in_err-given-clause-only
+returns-in_err-given-clause-only g c =
+    let q = c.loop-question in
+    let reading = c.args.reading.now in
+    by_pages g.A.Asks.asks_once reading (q._question + 1) c.args.asked.now c.page.new.asked (omega (arith, c.loop-question-test.true))
+    (pages_more g.A.Asks.asks_once reading q._question c.args.asked.now q.asked c.page.new.asked _ q.after c.in_ok-scope.ensures
+    q.invariant.1 c.page.ensures.only)
+
+pub returns-in_err-append-clause-only : goal.returns-in_err-append-clause-only
+returns-in_err-append-clause-only g c =
+    let q = c.loop-question in
+    let reading = c.args.reading.now in
+    by_pages g.A.Asks.asks_once reading (q._question + 1) c.args.asked.now c.page.new.asked (omega (arith, c.loop-question-test.true))
+    (pages_more g.A.Asks.asks_once reading q._question c.args.asked.now q.asked c.page.new.asked _ q.after c.in_ok-scope.ensures
+    q.invariant.1 c.page.ensures.only)
+
+pub returns-in_err-catch_up-clause-only : goal.returns-in_err-catch_up-clause-only
+returns-in_err-catch_up-clause-only g c =
+    let q = c.loop-question in
+    let reading = c.args.reading.now in
+    by_both g.A.Asks.asks_once reading (q._question + 1) c.args.asked.now c.page.new.asked c.catch_up.new.asked
+    (omega (arith, c.loop-question-test.true))
+    (pages_more g.A.Asks.asks_once reading q._question c.args.asked.now q.asked c.page.new.asked _ q.after c.in_ok-scope.ensures
+    q.invariant.1 c.page.ensures.only) c.catch_up.ensures.only
+
+pub returns-then-given-clause-only : goal.returns-then-given-clause-only
+returns-then-given-clause-only g c =
+    let q = c.loop-question in
+    let reading = c.args.reading.now in
+    by_both g.A.Asks.asks_once reading (q._question + 1) c.args.asked.now c.page.new.asked c.catch_up.new.asked
+    (omega (arith, c.loop-question-test.true))
+    (pages_more g.A.Asks.asks_once reading q._question c.args.asked.now q.asked c.page.new.asked _ q.after c.in_ok-scope.ensures
+    q.invariant.1 c.page.ensures.only) c.catch_up.ensures.only
+
+pub returns-clause-only : goal.returns-clause-only
+returns-clause-only g c =
+    let q = c.loop-question in
+    let small : q._question ≤ c.args.reading.now.questions = omega (arith, c.loop-question-test.false, q.auto._question-end) in
+    by_pages g.A.Asks.asks_once c.args.reading.now q._question c.args.asked.now q.asked small q.invariant.1

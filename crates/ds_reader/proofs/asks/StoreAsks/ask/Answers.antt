@@ -12,3 +12,11 @@ returns-clause-asked c = λ s stands.
       },
       x.2,
     )
+
+pub returns-clause-once : goal.returns-clause-once
+returns-clause-once c = (
+  c.apply.result,
+  λ s stands.
+      (let x = c.apply.ensures.step s stands in
+      (x.0, record { step = x.1; last = c.apply.ensures.last s stands }, x.2)),
+)

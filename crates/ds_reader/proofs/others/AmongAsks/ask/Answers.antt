@@ -12,3 +12,15 @@ returns-clause-asked g c = λ s stands.
       },
       x.2,
     )
+
+pub returns-clause-once : goal.returns-clause-once
+returns-clause-once g c = (
+  _,
+  c.ask.ensures,
+  (
+    c.apply.result,
+    λ s stands.
+        (let x = c.apply.ensures.step s stands in
+        (x.0, record { step = x.1; last = c.apply.ensures.last s stands }, x.2)),
+  ),
+)
