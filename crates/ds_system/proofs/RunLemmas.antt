@@ -48,6 +48,7 @@ right_among past front back entry e =
       before = cut.0;
       after = cut.2.0;
       led = cut.1;
+      does = cut.2.1;
       leads = cut.2.2;
       right = no_send_to_older past.settings past.a past.b past.next past.start cut.0 cut.2.0 front entry past.is_new cut.1 cut.2.1;
     }

@@ -9,7 +9,7 @@ use Rattle.ds_world.specs.Run.{most_events}
 use Rattle.ds_services.specs.declared.event.SystemEvent.{SystemEvent}
 use Rattle.ds_services.specs.declared.outcome.SystemOutcome.{SystemOutcome}
 use Rattle.ds_services.specs.System.{System}
-use Rattle.ds_services.specs.Happening.{SystemEntry, SystemRun}
+use Rattle.ds_services.specs.Happening.{SystemDoes, SystemEntry, SystemRun}
 use Rattle.ds_services.specs.Start.{IsNew, account_since}
 use Rattle.ds_services.specs.Laws.{SystemLaws}
 use Rattle.ds_services.specs.Sending.{sent_over, TurnsAreRight}
@@ -66,12 +66,13 @@ pub record PastGrowsBy (past : SystemPast) (entries : List SystemEntry) (later :
   pub start_is : later.start ≡ past.start
   pub entries_are : later.entries ≡ past.entries ++ entries
 
--- the entry leads from a system that the entries before it led to, to one from which those behind it lead on; and its turns are
--- right, after all that each table sent before it
+-- the entry leads, by what its event does, from a system that the entries before it led to, to one from which those behind it lead
+-- on; and its turns are right, after all that each table sent before it
 pub record IsRightAmong (past : SystemPast) (front : List SystemEntry) (entry : SystemEntry) (back : List SystemEntry) : Type 0 where
   pub before : System
   pub after : System
   pub led : SystemRun past.start front before
+  pub does : SystemDoes before entry.event entry.outcome entry.steps after
   pub leads : SystemRun after back past.now
   pub right : TurnsAreRight before entry (sent_over front) after
 

@@ -1,8 +1,10 @@
 //! Lists of events.
 
-ghost use Rattle.std.specs.Prelude.{◌≡◌, ◌++◌, ◌∷◌, [], length, slice_get, OnOk, IfErr, OnErr};
+ghost use Rattle.std.specs.Prelude.{◌≡◌, ◌++◌, ◌∷◌, [], length, slice_get, OnOk, IfErr, OnErr, IfOk};
 ghost use Rattle.std.specs.Option.{option_copied};
 
+use crate::copying::event_again;
+use ds_names::NoRoom;
 use ds_services::SystemEvent;
 use std::alloc::{AllocFailed, Global};
 use std::marker::Model;
@@ -60,5 +62,16 @@ impl SystemEvents {
         ensures { option_copied result ≡ slice_get self.now index }
     {
         self.events.get(index)
+    }
+
+    /// The same events again, in the same order.
+    pub fn copy(&self, alloc: Global) -> Result<SystemEvents, NoRoom>
+        ensures { IfOk result (λ copy. copy ≡ self.now) }
+    {
+        let mut events = Vec::new(alloc);
+        for event in &self.events {
+            events.push(event_again(alloc, event)?)?;
+        }
+        Ok(SystemEvents { events })
     }
 }

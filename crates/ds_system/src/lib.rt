@@ -6,6 +6,7 @@
 #![tactic(auto)]
 
 mod beginning;
+mod copying;
 mod events;
 mod fault;
 mod outcomes;

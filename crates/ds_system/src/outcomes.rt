@@ -1,8 +1,9 @@
 //! Lists of outcomes.
 
-ghost use Rattle.std.specs.Prelude.{◌≡◌, ◌++◌, ◌∷◌, [], length, slice_get, OnOk, IfErr, OnErr};
+ghost use Rattle.std.specs.Prelude.{◌≡◌, ◌++◌, ◌∷◌, [], length, slice_get, OnOk, IfErr, OnErr, IfOk};
 ghost use Rattle.std.specs.Option.{option_copied};
 
+use ds_names::NoRoom;
 use ds_services::SystemOutcome;
 use std::alloc::{AllocFailed, Global};
 use std::marker::Model;
@@ -60,5 +61,16 @@ impl SystemOutcomes {
         ensures { option_copied result ≡ slice_get self.now index }
     {
         self.outcomes.get(index)
+    }
+
+    /// The same outcomes again, in the same order.
+    pub fn copy(&self, alloc: Global) -> Result<SystemOutcomes, NoRoom>
+        ensures { IfOk result (λ copy. copy ≡ self.now) }
+    {
+        let mut outcomes = Vec::new(alloc);
+        for outcome in &self.outcomes {
+            outcomes.push(outcome.copy(alloc)?)?;
+        }
+        Ok(SystemOutcomes { outcomes })
     }
 }

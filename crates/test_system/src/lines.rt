@@ -1,0 +1,149 @@
+//! The events of a system, line by line.
+//!
+//! `put LABEL NAME KIND VALUE` is a Put, its value a number, or else a text; `remove LABEL NAME KIND` a Remove; `again N` an Again.
+//! Other lines are those of scripts: to RS, to the driver tables, whose maps are their own, whatever number the line has; and all
+//! that a world can be asked. `side a` and `side b` say at which store what follows is asked. `N times LINE` is so many such events.
+
+use crate::failure::Failure;
+use ds_entry::{Text, Value};
+use ds_lines::split_line;
+use ds_names::{Key, Kind, Name};
+use ds_replica::Side;
+use ds_services::{SystemEvent, Table};
+use ds_system::SystemEvents;
+use ds_words::{ScriptCommand, Server, read_command};
+use std::alloc::Global;
+use std::str::{FromStr, Split};
+
+/// The events of the lines.
+pub(crate) fn read_events(alloc: Global, lines: &str) -> Result<SystemEvents, Failure> {
+    let mut events = SystemEvents::new(alloc);
+    let mut side = Side::A;
+    for line in lines.lines() {
+        match line {
+            "side a" => side = Side::A,
+            "side b" => side = Side::B,
+            _ => add_events(&mut events, alloc, side, line)?,
+        }
+    }
+    Ok(events)
+}
+
+// The event of a line, as many times as it says.
+fn add_events(
+    events: &mut SystemEvents,
+    alloc: Global,
+    side: Side,
+    line: &str,
+) -> Result<(), Failure> {
+    let (count, line) = line.split_once(" times ").unwrap_or(("1", line));
+    let count: u32 = count.parse().ok().ok_or(Failure::BadLine)?;
+    for _ in 0..count {
+        events.push(read_event(alloc, side, line)?)?;
+    }
+    Ok(())
+}
+
+fn read_event(alloc: Global, side: Side, line: &str) -> Result<SystemEvent, Failure> {
+    if let Some(event) = read_own(alloc, side, line) {
+        return Ok(event);
+    }
+    if split_line(line.as_bytes()).is_some() {
+        return Err(Failure::BadLine);
+    }
+    event_of(alloc, side, read_command(alloc, line.as_bytes())?)
+}
+
+// The event of a line that no script has.
+fn read_own(alloc: Global, side: Side, line: &str) -> Option<SystemEvent> {
+    let mut words = line.split(' ');
+    match words.next()? {
+        "put" => Some(SystemEvent::Put {
+            label: read_name(&mut words)?,
+            key: read_key(&mut words)?,
+            value: value_of(alloc, words.next()?)?,
+            side,
+        }),
+        "remove" => Some(SystemEvent::Remove {
+            label: read_name(&mut words)?,
+            key: read_key(&mut words)?,
+            side,
+        }),
+        "again" => Some(SystemEvent::Again {
+            change: read_number(&mut words)?,
+            side,
+        }),
+        _ => None,
+    }
+}
+
+// The event of a script's line.
+fn event_of(alloc: Global, side: Side, command: ScriptCommand) -> Result<SystemEvent, Failure> {
+    if let Some((event, tick)) = command.service_event() {
+        return Ok(SystemEvent::Service { event, tick, side });
+    }
+    match command {
+        ScriptCommand::Follow { .. } => Ok(SystemEvent::Follow),
+        ScriptCommand::Submit {
+            server,
+            id,
+            unit,
+            ..
+        } => Ok(SystemEvent::Submit {
+            table: table_of(server),
+            id,
+            unit,
+        }),
+        ScriptCommand::Reply {
+            server,
+            endpoint,
+            id,
+        } => Ok(SystemEvent::Answered {
+            table: table_of(server),
+            endpoint,
+            id,
+        }),
+        other => {
+            let event = other.into_event(alloc, side)?;
+            Ok(SystemEvent::World(event.ok_or(Failure::BadLine)?))
+        }
+    }
+}
+
+fn table_of(server: Server) -> Table {
+    match server {
+        Server::File => Table::File,
+        Server::Net => Table::Net,
+    }
+}
+
+fn value_of(alloc: Global, word: &str) -> Option<Value> {
+    match word.parse() {
+        Ok(number) => Some(Value::U32(number)),
+        Err(_) => Some(Value::Str(Text::read(alloc, word.as_bytes()).ok()?)),
+    }
+}
+
+fn read_key(words: &mut Split<'_, char>) -> Option<Key> {
+    let name = read_name(words)?;
+    let kind = match words.next()? {
+        "label" => Kind::Label,
+        "u32" => Kind::U32,
+        "str" => Kind::Str,
+        "mem" => Kind::Mem,
+        _ => return None,
+    };
+    Some(Key { name, kind })
+}
+
+fn read_name(words: &mut Split<'_, char>) -> Option<Name> {
+    Name::read(words.next()?.as_bytes()).ok()
+}
+
+/// The number that the next word is.
+pub(crate) fn read_number<T: FromStr>(words: &mut Split<'_, char>) -> Option<T>
+where
+    T::Err: Drop,
+{
+    words.next()?.parse().ok()
+}

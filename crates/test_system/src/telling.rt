@@ -1,0 +1,148 @@
+//! What comes of events, by the words of scripts, and what scripts have no words for.
+
+use driver_tables::{Move, Moves, TableFault};
+use ds_held::Limits;
+use ds_line::{append_all, append_item};
+use ds_names::NoRoom;
+use ds_replica::Outcome;
+use ds_services::{Replies, Rounds, SystemFault, SystemOutcome};
+use ds_system::BeginFault;
+use ds_world::World;
+use itoa::Buffer;
+use rs_core::{Action, Actions};
+use service_words::{
+    append_action, append_action_count, append_move, append_move_count, append_rs_fault,
+    append_table_fault,
+};
+use std::alloc::Global;
+use store_words::{Wording, append_outcome, append_reply};
+
+/// Puts a line behind a text.
+pub(crate) fn tell(text: &mut Vec<u8>, words: &[&[u8]]) -> Result<(), NoRoom> {
+    append_all(text, words)?;
+    append_all(text, &[b"\n"])
+}
+
+/// What came of an event. A message is told by what the store gave.
+pub(crate) fn tell_outcome(
+    text: &mut Vec<u8>,
+    world: &World,
+    outcome: &SystemOutcome,
+) -> Result<(), NoRoom> {
+    match outcome {
+        SystemOutcome::Acted { actions, replies } => tell_acted(text, actions, replies),
+        SystemOutcome::Replied(reply) => {
+            append_reply(text, Wording::AsOffer, reply, Limits::larger())
+        }
+        SystemOutcome::Moved { rounds, own, fault } => tell_moved(text, rounds, own, fault),
+        SystemOutcome::Happened(outcome) => tell_happened(text, world, outcome),
+        SystemOutcome::Refused(SystemFault::Service(fault)) => append_rs_fault(text, *fault),
+        SystemOutcome::Refused(fault) => tell(text, &[b"refused ", word_of(*fault)]),
+    }
+}
+
+// Each of RS's actions, and below an offer and a sweep what the store replied; then how many actions they are.
+fn tell_acted(text: &mut Vec<u8>, actions: &Actions, replies: &Replies) -> Result<(), NoRoom> {
+    let mut told = 0usize;
+    for index in 0..actions.len() {
+        let Some(action) = actions.get(index) else {
+            continue;
+        };
+        append_action(text, action)?;
+        if let Action::Offer(_) | Action::Sweep(_) = action {
+            if let Some(reply) = replies.get(told) {
+                append_reply(text, Wording::AsMerge, reply, Limits::larger())?;
+                told += 1;
+            }
+        }
+    }
+    append_action_count(text, actions.len())
+}
+
+// Each round, the own move behind them, what ended the event, and how many rounds there are.
+fn tell_moved(
+    text: &mut Vec<u8>,
+    rounds: &Rounds,
+    own: &Option<Move>,
+    fault: &Option<TableFault>,
+) -> Result<(), NoRoom> {
+    for index in 0..rounds.len() {
+        if let Some(round) = rounds.get(index) {
+            tell_round(text, round)?;
+        }
+    }
+    if let Some(step) = own {
+        append_move(text, *step)?;
+    }
+    if let Some(fault) = fault {
+        append_table_fault(text, *fault)?;
+    }
+    tell_number(text, b"rounds ", rounds.len())
+}
+
+// The moves of a round, and how many they are.
+fn tell_round(text: &mut Vec<u8>, round: &Moves) -> Result<(), NoRoom> {
+    for index in 0..round.len() {
+        if let Some(step) = round.get(index) {
+            append_move(text, *step)?;
+        }
+    }
+    append_move_count(text, round.len())
+}
+
+fn tell_happened(text: &mut Vec<u8>, world: &World, outcome: &Outcome) -> Result<(), NoRoom> {
+    if let Outcome::Made { message } = outcome {
+        if let Some(reply) = world.message(*message) {
+            return append_reply(text, Wording::AsMerge, reply, Limits::larger());
+        }
+    }
+    append_outcome(text, Wording::AsMerge, outcome, Limits::larger())
+}
+
+/// The puts that a map holds, and how many they are.
+pub(crate) fn tell_entries(
+    text: &mut Vec<u8>,
+    alloc: Global,
+    world: &World,
+    number: usize,
+) -> Result<(), NoRoom> {
+    let Some(map) = world.map(number) else {
+        return tell(text, &[b"nomap"]);
+    };
+    let entries = map.entries(alloc)?;
+    for item in entries.as_slice() {
+        append_item(text, item)?;
+    }
+    tell_number(text, b"shown ", entries.len())
+}
+
+fn tell_number(text: &mut Vec<u8>, before: &[u8], number: usize) -> Result<(), NoRoom> {
+    let mut digits = Buffer::new();
+    tell(text, &[before, digits.format(number).as_bytes()])
+}
+
+// Why an event is refused, but for RS's own faults, which have words elsewhere.
+fn word_of(fault: SystemFault) -> &'static [u8] {
+    match fault {
+        SystemFault::Service(_) => b"service",
+        SystemFault::UnknownLabel => b"unknownlabel",
+        SystemFault::NotDeclared => b"notdeclared",
+        SystemFault::NotUp => b"notup",
+        SystemFault::BadKind => b"badkind",
+        SystemFault::SeqSpent => b"seqspent",
+        SystemFault::NoMessage => b"nomessage",
+        SystemFault::NotAllowed => b"notallowed",
+        SystemFault::NoRoom => b"noroom",
+    }
+}
+
+/// Why no system begins.
+pub(crate) fn word_of_beginning(fault: BeginFault) -> &'static [u8] {
+    match fault {
+        BeginFault::OutOfRange => b"outofrange",
+        BeginFault::BadRing => b"badring",
+        BeginFault::BadFirst => b"badfirst",
+        BeginFault::OldIncarnation => b"oldincarnation",
+        BeginFault::NoRoom => b"noroom",
+    }
+}
