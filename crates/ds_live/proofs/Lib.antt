@@ -1,0 +1,5 @@
+pub mod CloseLemmas
+pub mod CrossingLemmas
+pub mod FaultLemmas
+pub mod JobLemmas
+pub mod ReportLemmas

@@ -1,0 +1,20 @@
+use Rattle.std.proofs.Common.{All, ◌≡◌, ◌+◌, ◌≤◌, length, sum_by, vec_capacity}
+use Rattle.desk.specs.Desk.{identity}
+use Rattle.desk.specs.Pass.{desk_of}
+use Rattle.ds_workers.specs.Workers.{IsOf, others_in}
+use Rattle.ds_live.proofs.dismissing.dismiss.Given as goal
+
+-- the passes that are back, and the jobs that have the others
+abbrev pub invariant-loop-job : goal.invariant-loop-job
+invariant-loop-job g l = record {
+  home : All (λ p. desk_of p ≡ identity l.fn.desks.first) l.back.passes.items;
+  others : All (λ p. desk_of p ≡ identity l.fn.desks.second) l.back.others.items;
+  left : All (λ j. IsOf (identity l.fn.desks.first) (identity l.fn.desks.second) j.worker) l.jobs.items;
+  all : length l.jobs.items + length l.back.passes.items ≡ length l.fn.jobs.items;
+  all_others : sum_by (λ j. others_in j.worker.task) l.jobs.items + length l.back.others.items ≡ sum_by (λ j. others_in j.worker.task) l.fn.jobs.items;
+  room : length l.fn.jobs.items ≤ vec_capacity l.back.passes;
+  others_room : sum_by (λ j. others_in j.worker.task) l.fn.jobs.items ≤ vec_capacity l.back.others;
+}
+
+abbrev pub decreases-loop-job : goal.decreases-loop-job
+decreases-loop-job g l = length l.jobs.items

@@ -1,0 +1,57 @@
+use Rattle.std.proofs.Common.{◌≡◌, length, sum_by, ap, ◌∙◌, arith}
+use Rattle.desk.specs.Desk.{identity}
+use Rattle.desk.specs.Pass.{desk_of}
+use Rattle.ds_workers.specs.Workers.{IsOf, others_in}
+use Rattle.ds_live.proofs.JobLemmas.{first_pushed, length-last, longer_sum, no_length, popped, pushed}
+use Rattle.ds_live.proofs.hiring.hire.Goals as goal
+
+-- the job of the one that exchanges
+pub loop-pass-init : goal.loop-pass-init
+loop-pass-init g c = let a = identity c.args.desks.now.first in let b = identity c.args.desks.now.second in
+    let here = popped (λ p. desk_of p ≡ a) c.pop.new.self.items c.args.back.now.passes.items c.in-Some.pass c.in-Some.ensures.items c.requires.passes in
+    let there = popped (λ p. desk_of p ≡ b) c.pop-2.new.self.items c.args.back.now.others.items c.in-Some-pop.other c.in-Some-pop.ensures.items c.requires.others in
+    let fewer = length-last c.pop.new.self.items c.args.back.now.passes.items c.in-Some.pass c.in-Some.ensures.items in
+    let fewer_others = length-last c.pop-2.new.self.items c.args.back.now.others.items c.in-Some-pop.other c.in-Some-pop.ensures.items in
+    let more = length-last c.in-Ok.jobs.items c.push_reserved.new.self.items _ c.push_reserved.ensures.items in
+    let others = longer_sum (λ j. others_in j.worker.task) c.in-Ok.jobs.items c.push_reserved.new.self.items _ c.push_reserved.ensures.items in
+    let none = ap length c.in-Ok.ensures.items in
+    let none_of = ap (sum_by (λ j. others_in j.worker.task)) c.in-Ok.ensures.items in
+    let many = c.requires.count.0 in let one = c.requires.count.1 in
+    record {
+      home = here.0;
+      others = no_length c.pop-2.new.self.items (omega (arith, one, fewer_others));
+      can_run = first_pushed (λ j. IsOf (identity j.desks.now.first) (identity j.desks.now.second) j.worker) c.in-Ok.jobs.items c.push_reserved.new.self.items _
+          c.in-Ok.ensures.items c.push_reserved.ensures.items (record { pass = c.publish_labels.ensures ∙ here.1; task = there.1 });
+      hired = first_pushed (λ j. IsOf a b j.worker) c.in-Ok.jobs.items c.push_reserved.new.self.items _
+          c.in-Ok.ensures.items c.push_reserved.ensures.items (record { pass = c.publish_labels.ensures ∙ here.1; task = there.1 });
+      all = omega (arith, fewer, more, none);
+      few = omega (arith, fewer, many);
+      one = omega (arith, others, none_of);
+      room = omega (arith, c.len.ensures, c.in-Ok.ensures.capacity, c.push_reserved.ensures.capacity, c.args.back.now.passes.ok.0);
+      passes_room = omega (arith, c.pop.ensures.capacity, c.args.back.now.passes.ok.0, c.args.back.now.passes.ok.1);
+      others_room = omega (arith, c.pop-2.ensures.capacity, c.args.back.now.others.ok.0, c.args.back.now.others.ok.1, one);
+    }
+
+-- one job more
+pub loop-pass-preserved : goal.loop-pass-preserved
+loop-pass-preserved g c = let i = c.loop-pass.invariant in let a = identity c.args.desks.now.first in let b = identity c.args.desks.now.second in
+    let here = popped (λ p. desk_of p ≡ a) c.pop-in-loop-pass.new.self.items c.loop-pass.back.passes.items c.in-Some-pop-2.pass c.in-Some-pop-2.ensures.items i.home in
+    let fewer = length-last c.pop-in-loop-pass.new.self.items c.loop-pass.back.passes.items c.in-Some-pop-2.pass c.in-Some-pop-2.ensures.items in
+    let more = length-last c.loop-pass.jobs.items c.push_reserved-in-Some-pop-2.new.self.items _ c.push_reserved-in-Some-pop-2.ensures.items in
+    let sum = longer_sum (λ j. others_in j.worker.task) c.loop-pass.jobs.items c.push_reserved-in-Some-pop-2.new.self.items _ c.push_reserved-in-Some-pop-2.ensures.items in
+    let all = i.all in let few = i.few in let one = i.one in let room = i.room in let passes_room = i.passes_room in
+    let none = c.in_ok-task.ensures.none in let kept = c.push_reserved-in-Some-pop-2.ensures.capacity in let left = c.pop-in-loop-pass.ensures.capacity in
+    record {
+      home = here.0;
+      others = i.others;
+      can_run = pushed (λ j. IsOf (identity j.desks.now.first) (identity j.desks.now.second) j.worker) c.loop-pass.jobs.items c.push_reserved-in-Some-pop-2.new.self.items _
+          c.push_reserved-in-Some-pop-2.ensures.items i.can_run (record { pass = here.1; task = c.in_ok-task.ensures.task b });
+      hired = pushed (λ j. IsOf a b j.worker) c.loop-pass.jobs.items c.push_reserved-in-Some-pop-2.new.self.items _
+          c.push_reserved-in-Some-pop-2.ensures.items i.hired (record { pass = here.1; task = c.in_ok-task.ensures.task b });
+      all = omega (arith, all, fewer, more);
+      few = omega (arith, few, fewer);
+      one = omega (arith, one, sum, none);
+      room = omega (arith, room, kept);
+      passes_room = omega (arith, passes_room, left);
+      others_room = i.others_room;
+    }

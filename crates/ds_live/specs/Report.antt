@@ -1,0 +1,31 @@
+-- What a run reports, as functions of what it left.
+use Rattle.std.specs.Prelude.{◌+◌, ◌==◌, Bool, List, if◌then◌else◌}
+use Rattle.std.specs.List.{list_all}
+use Rattle.std.specs.Cmp.Lexicographic.{pointwise}
+use Rattle.desk.specs.declared.account.Row.{Row}
+use Rattle.ds_entry.specs.declared.item.Item.{Item}
+use Rattle.ds_entry.specs.Under.{entries_of}
+use Rattle.ds_entry.specs.contracts.item.ItemPartialEq.TheImpl.{ghosts as item}
+use Rattle.ds_refresh.specs.Follower.{FollowerRecord, mapped}
+
+-- two lists have the same items in the same order, as `==` tells items
+abbrev pub same_items : List Item → List Item → Bool
+same_items = pointwise item.eq
+
+-- the map has these entries
+abbrev pub has_entries : List Item → FollowerRecord → Bool
+has_entries entries f = same_items (entries_of (mapped f)) entries
+
+abbrev pub all_have : List Item → List FollowerRecord → Bool
+all_have entries followers = list_all (has_entries entries) followers
+
+-- two stores hold the same entries
+abbrev pub have_same : List Item → List Item → Bool
+have_same held other = same_items (entries_of held) (entries_of other)
+
+-- raises are takes and what is pending
+abbrev pub is_exact : Row → Bool
+is_exact r = r.raises == r.takes + (if r.pending then 1 else 0)
+
+abbrev pub are_exact : List Row → Bool
+are_exact rows = list_all is_exact rows

@@ -1,0 +1,19 @@
+-- What a worker's task has of the second desk.
+use Rattle.std.specs.Prelude.{◌≡◌}
+use Rattle.atomic_table.specs.Seated.{TableId}
+use Rattle.desk_rule.specs.declared.view.View.{View}
+use Rattle.desk.specs.declared.pass.Sight.{Ghosts}
+use Rattle.desk.specs.Pass.{desk_of}
+use Rattle.ds_machine.specs.declared.command.Command.{Command}
+use Rattle.ds_machine.specs.declared.reply.Reply.{Reply}
+use Rattle.ds_pass.specs.Led.{Boxed}
+use Rattle.ds_workers.specs.declared.task.Task.{Task}
+use Rattle.ds_workers.specs.declared.task.Task.TheVariants.{Exchange, Follow, Publish}
+use Rattle.ds_workers.specs.Workers.{StorePass}
+
+module _ {Z : Type 0} {G : Ghosts (View (Boxed Z) Command Reply)} where
+  -- the task's pass, if it has one, is of the desk
+  abbrev pub IsOther : TableId → Task (StorePass Z G) → Type 0
+  IsOther second Publish = Unit {0}
+  IsOther second (Follow follower) = Unit {0}
+  IsOther second (Exchange other cursor) = desk_of other ≡ second

@@ -1,0 +1,74 @@
+//! How workers are finished with, and their passes taken back.
+
+ghost use Rattle.std.specs.Prelude.{All, ◌≡◌, ◌≤◌, ◌+◌, [], length, sum_by, vec_capacity};
+ghost use Rattle.desk.specs.Desk.{identity};
+ghost use Rattle.desk.specs.Pass.{desk_of};
+ghost use Rattle.ds_workers.specs.Workers.{IsOf, others_in};
+ghost use Rattle.ds_live.specs.Tasks.{IsOther};
+
+use crate::back::Back;
+use desk::{Desk, Pass};
+use ds_pass::LiveFault;
+use ds_store::Store;
+use ds_workers::{Desks, Gate, StoreTurns, Task, Turns, Worker};
+use std::alloc::Global;
+use std::sync::Wait;
+
+/// Takes all passes back. Where there is no fault, it has each worker finish first, worker 0 before the others, and tells the fault of
+/// the first that can't.
+pub(crate) fn dismiss<R: Wait, G: Gate>(
+    rt: &R,
+    alloc: Global,
+    desks: &Desks<Desk<Box<Store>>>,
+    mut jobs: Vec<StoreTurns<'_, R, G>>,
+    mut fault: Option<LiveFault>,
+    back: &mut Back<Pass<Box<Store>>>,
+) -> Option<LiveFault>
+    requires of_desks { All (λ j. IsOf (identity desks.now.first) (identity desks.now.second) j.worker) jobs.items }
+    requires taken { (back.old.passes.items ≡ []) × (back.old.others.items ≡ []) }
+    requires room { length jobs.items ≤ vec_capacity back.old.passes }
+    requires others_room { sum_by (λ j. others_in j.worker.task) jobs.items ≤ vec_capacity back.old.others }
+    ensures passes { All (λ p. desk_of p ≡ identity desks.now.first) back.new.passes.items }
+    ensures others { All (λ p. desk_of p ≡ identity desks.now.second) back.new.others.items }
+    ensures all { length back.new.passes.items ≡ length jobs.entry.items }
+    ensures all_others { length back.new.others.items ≡ sum_by (λ j. others_in j.worker.task) jobs.entry.items }
+{
+    while let Some(job) = jobs.pop() {
+        let Turns { mut worker, .. } = job;
+        if fault.is_none() {
+            fault = worker.finish(rt, alloc, &desks.first, &desks.second).err();
+        }
+        let Worker { pass, task, .. } = worker;
+        back.passes.push_reserved(pass);
+        let room = collect(&desks.second, task, back);
+        fault = fault.or(room.err());
+    }
+    fault
+}
+
+// Takes back what a task has: a pass of the second desk, or a follower, which is lost where there is no room for it.
+fn collect(
+    second: &Desk<Box<Store>>,
+    task: Task<Pass<Box<Store>>>,
+    back: &mut Back<Pass<Box<Store>>>,
+) -> Result<(), LiveFault>
+    requires task { IsOther (identity second.now) task }
+    requires others { All (λ p. desk_of p ≡ identity second.now) back.old.others.items }
+    requires room { others_in task + length back.old.others.items ≤ vec_capacity back.old.others }
+    ensures home { All (λ p. desk_of p ≡ identity second.now) back.new.others.items }
+    ensures all { length back.new.others.items ≡ others_in task + length back.old.others.items }
+    ensures room { vec_capacity back.new.others ≡ vec_capacity back.old.others }
+    ensures passes { back.new.passes ≡ back.old.passes }
+{
+    match task {
+        Task::Publish => Ok(()),
+        Task::Follow(follower) => match back.followers.push(follower) {
+            Ok(()) => Ok(()),
+            Err(_) => Err(LiveFault::NoRoom),
+        },
+        Task::Exchange { other, .. } => {
+            back.others.push_reserved(other);
+            Ok(())
+        }
+    }
+}

@@ -1,0 +1,153 @@
+//! How a run begins.
+
+ghost use Rattle.std.specs.Prelude.{All, ◌≡◌, ◌≤◌, ◌<◌, ◌+◌, [], length, sum_by, vec_capacity, IfOk, IsTrue};
+ghost use Rattle.desk.specs.Desk.{identity, pass_count};
+ghost use Rattle.desk.specs.Pass.{desk_of};
+ghost use Rattle.ds_pass.specs.Record.{pass_record};
+ghost use Rattle.ds_workers.specs.Workers.{IsOf, IsTask, others_in};
+ghost use Rattle.ds_live.specs.Sizes.{are_fit};
+
+use crate::back::Back;
+use crate::sizes::Sizes;
+use crew::GivenUp;
+use desk::{Desk, Pass};
+use ds_pass::LiveFault;
+use ds_refresh::Follower;
+use ds_store::Store;
+use ds_workers::{Desks, Gate, StoreTurns, Task, Turns, Worker, everything, publish_label};
+use std::alloc::Global;
+use std::sync::Wait;
+
+// How many items the journal of a store keeps.
+const RING: u32 = 256;
+
+/// A desk over a new store of this incarnation, and its passes, 1 to 64.
+pub(crate) fn open_desk(
+    alloc: Global,
+    incarnation: u64,
+    passes: u32,
+) -> Result<(Desk<Box<Store>>, Vec<Pass<Box<Store>>>), LiveFault>
+    requires { (0 < passes) × (passes ≤ 64) }
+    ensures home { IfOk result (λ d. All (λ p. desk_of p ≡ identity d.0) d.1.items) }
+    ensures count { IfOk result (λ d. (pass_count d.0 ≡ passes) × (length d.1.items ≡ passes)) }
+{
+    let Ok(store) = Store::open(alloc, incarnation, 0, RING) else {
+        return Err(LiveFault::NoRoom);
+    };
+    let Ok(store) = Box::new(alloc, store) else {
+        return Err(LiveFault::NoRoom);
+    };
+    match Desk::<Box<Store>>::open(alloc, store, passes, 0) {
+        Ok((desk, passes)) => Ok((desk, passes.into_vec())),
+        Err(_) => Err(LiveFault::NoRoom),
+    }
+}
+
+/// A job for each pass of the first desk, of which the last is that of worker 0: publishers, whose labels are published, then
+/// subscribers, then the one that exchanges, with the pass of the second desk. The lists of passes keep their room.
+pub(crate) fn hire<'e, R: Wait, G: Gate>(
+    rt: &'e R,
+    alloc: Global,
+    gate: &'e G,
+    given_up: &'e GivenUp,
+    desks: &'e Desks<Desk<Box<Store>>>,
+    sizes: Sizes,
+    back: &mut Back<Pass<Box<Store>>>,
+) -> Result<Vec<StoreTurns<'e, R, G>>, LiveFault>
+    requires fit { IsTrue (are_fit sizes) }
+    requires passes { All (λ p. desk_of p ≡ identity desks.now.first) back.old.passes.items }
+    requires others { All (λ p. desk_of p ≡ identity desks.now.second) back.old.others.items }
+    requires count { (length back.old.passes.items ≡ sizes.publishers + sizes.subscribers + 1) × (length back.old.others.items ≡ 1) }
+    ensures can_run { IfOk result (λ js. All (λ j. IsOf (identity j.desks.now.first) (identity j.desks.now.second) j.worker) js.items) }
+    ensures of_desks { IfOk result (λ js. All (λ j. IsOf (identity desks.now.first) (identity desks.now.second) j.worker) js.items) }
+    ensures all { IfOk result (λ js. length js.items ≡ length back.old.passes.items) }
+    ensures one { IfOk result (λ js. sum_by (λ j. others_in j.worker.task) js.items ≡ 1) }
+    ensures taken { IfOk result (λ js. (back.new.passes.items ≡ []) × (back.new.others.items ≡ [])) }
+    ensures room { (length back.old.passes.items ≤ vec_capacity back.new.passes) × (1 ≤ vec_capacity back.new.others) }
+{
+    let Ok(mut jobs) = Vec::with_capacity(alloc, back.passes.len()) else {
+        return Err(LiveFault::NoRoom);
+    };
+    let Some(mut pass) = back.passes.pop() else {
+        unreachable!()
+    };
+    let Some(other) = back.others.pop() else {
+        unreachable!()
+    };
+    publish_labels(rt, &desks.first, &mut pass, sizes.publishers)?;
+    jobs.push_reserved(Turns {
+        rt,
+        alloc,
+        gate,
+        given_up,
+        desks,
+        worker: Worker {
+            index: back.passes.len() as u32,
+            turns: sizes.changes,
+            pass,
+            task: Task::Exchange {
+                other,
+                cursor: None,
+            },
+            fault: None,
+        },
+    });
+    while let Some(pass) = back.passes.pop() {
+        let index = back.passes.len() as u32;
+        let task = task_of(alloc, sizes, index, &pass)?;
+        jobs.push_reserved(Turns {
+            rt,
+            alloc,
+            gate,
+            given_up,
+            desks,
+            worker: Worker {
+                index,
+                turns: sizes.changes,
+                pass,
+                task,
+                fault: None,
+            },
+        });
+    }
+    Ok(jobs)
+}
+
+// RS publishes the publishers' labels, by a pass.
+fn publish_labels<W: Wait>(
+    rt: &W,
+    desk: &Desk<Box<Store>>,
+    pass: &mut Pass<Box<Store>>,
+    count: u32,
+) -> Result<(), LiveFault>
+    requires of_desk { desk_of pass.old ≡ identity desk.now }
+    requires few { count ≤ 8 }
+    ensures { desk_of pass.new ≡ desk_of pass.old }
+{
+    for index in 0..count {
+        publish_label(rt, desk, pass, index)?;
+    }
+    Ok(())
+}
+
+// What a worker is for, of those before the last. Subscriber s follows all keys by its server's first subscription, 8 s.
+fn task_of(
+    alloc: Global,
+    sizes: Sizes,
+    index: u32,
+    pass: &Pass<Box<Store>>,
+) -> Result<Task<Pass<Box<Store>>>, LiveFault>
+    requires fit { IsTrue (are_fit sizes) }
+    requires index { index < sizes.publishers + sizes.subscribers }
+    ensures task { IfOk result (λ task. (second : _) → IsTask second index pass.now task) }
+    ensures none { IfOk result (λ task. others_in task ≡ 0) }
+{
+    if index < sizes.publishers {
+        return Ok(Task::Publish);
+    }
+    let sub = 8 * (index - sizes.publishers);
+    match Follower::new(alloc, sub, everything(alloc)?) {
+        Ok(follower) => Ok(Task::Follow(follower)),
+        Err(_) => Err(LiveFault::NoRoom),
+    }
+}

@@ -1,0 +1,79 @@
+//! A run.
+
+ghost use Rattle.std.specs.Prelude.{All, ◌≡◌, ◌≤◌, length, Err, true, false, IfOk, OnOk, IsTrue};
+ghost use Rattle.desk.specs.Desk.{identity, pass_count};
+ghost use Rattle.desk.specs.Pass.{desk_of};
+ghost use Rattle.ds_live.specs.Sizes.{are_fit};
+
+use crate::back::Back;
+use crate::closing::{close_desk, share_notes};
+use crate::dismissing::dismiss;
+use crate::hiring::{hire, open_desk};
+use crate::report::{LiveReport, report_of};
+use crate::sizes::Sizes;
+use crate::working::work_all;
+use crew::GivenUp;
+use desk::{Desk, Pass};
+use ds_pass::LiveFault;
+use ds_store::Store;
+use ds_workers::{Desks, Gate};
+use std::alloc::Global;
+use std::sync::Wait;
+use std::thread::Threads;
+
+/// Has publishers and subscribers share a store, beside one who gives what it has to a second store, each worker in a thread of its
+/// own; then brings the subscribers' maps and the second store up to date, closes both desks, and reports what they hold.
+///
+/// Publishers are workers 0, 1 and so on, then come the subscribers, then the one that exchanges. Each takes so many turns, with the
+/// gate before each and behind the last. Refused: BadSizes; where workers fail, the fault of the lowest, GateShut where its gate
+/// turned it away; NoThread where a thread couldn't be made; NoRoom.
+pub fn live_run<R: Threads + Wait + Sync, G: Gate + Sync>(
+    rt: &R,
+    alloc: Global,
+    gate: &G,
+    sizes: Sizes,
+) -> Result<LiveReport, LiveFault>
+    ensures fit { OnOk result (IsTrue (are_fit sizes)) }
+    ensures bad_sizes { are_fit sizes ≡ false → result ≡ Err LiveFault.BadSizes }
+    ensures account { IfOk result (λ report. report.account ≡ true) }
+{
+    if !sizes.are_fit() {
+        return Err(LiveFault::BadSizes);
+    }
+    let (first, passes) = open_desk(alloc, 1, sizes.workers())?;
+    let (second, others) = open_desk(alloc, 2, 1)?;
+    let desks = Desks { first, second };
+    let mut back = Back {
+        passes,
+        others,
+        followers: Vec::new(alloc),
+    };
+    let given_up = GivenUp::new();
+    let jobs = hire(rt, alloc, gate, &given_up, &desks, sizes, &mut back)?;
+    let (jobs, fault) = work_all(rt, &given_up, jobs);
+    let fault = dismiss(rt, alloc, &desks, jobs, fault, &mut back);
+    let Desks { first, second } = desks;
+    close_both(alloc, first, second, back, fault)
+}
+
+// Closes both desks, and reports, unless there was a fault before.
+fn close_both(
+    alloc: Global,
+    first: Desk<Box<Store>>,
+    second: Desk<Box<Store>>,
+    mut back: Back<Pass<Box<Store>>>,
+    fault: Option<LiveFault>,
+) -> Result<LiveReport, LiveFault>
+    requires passes { All (λ p. desk_of p ≡ identity first) back.passes.items × (pass_count first ≤ length back.passes.items) }
+    requires others { All (λ p. desk_of p ≡ identity second) back.others.items × (pass_count second ≤ length back.others.items) }
+    ensures account { IfOk result (λ report. report.account ≡ true) }
+{
+    let shared = share_notes(&first, &mut back.passes);
+    let left = close_desk(alloc, first, back.passes);
+    let right = close_desk(alloc, second, back.others);
+    if let Some(fault) = fault {
+        return Err(fault);
+    }
+    shared?;
+    Ok(report_of(alloc, &left?, &right?, &back.followers)?)
+}

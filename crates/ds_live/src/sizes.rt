@@ -1,0 +1,37 @@
+//! How large a run is.
+
+ghost use Rattle.std.specs.Prelude.{◌≡◌, ◌+◌, IsTrue};
+ghost use Rattle.ds_live.specs.Sizes.{are_fit};
+
+/// How many workers there are, and how many turns each takes.
+#[derive(Clone, Copy, Debug, PartialEq, Eq)]
+pub struct Sizes {
+    /// How many publishers: 1 to 8.
+    pub publishers: u32,
+    /// How many subscribers: 1 to 8.
+    pub subscribers: u32,
+    /// How many turns each worker takes: 1 to 1000.
+    pub changes: u32,
+}
+
+impl Sizes {
+    // Whether each is in its range.
+    pub(crate) fn are_fit(self) -> bool
+        ensures { result ≡ are_fit self }
+    {
+        1 <= self.publishers
+            && self.publishers <= 8
+            && 1 <= self.subscribers
+            && self.subscribers <= 8
+            && 1 <= self.changes
+            && self.changes <= 1000
+    }
+
+    // How many workers there are: the last one exchanges.
+    pub(crate) fn workers(self) -> u32
+        requires { IsTrue (are_fit self) }
+        ensures { result ≡ self.publishers + self.subscribers + 1 }
+    {
+        self.publishers + self.subscribers + 1
+    }
+}

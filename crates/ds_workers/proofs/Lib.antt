@@ -1,0 +1,4 @@
+pub mod CommandLemmas
+pub mod CrossingLemmas
+pub mod TurnLemmas
+pub mod WorkerLemmas

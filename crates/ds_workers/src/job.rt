@@ -1,0 +1,68 @@
+//! A worker's turns, as a thread's job.
+
+ghost use Rattle.desk.specs.Desk.{identity};
+ghost use Rattle.ds_workers.specs.Workers.{ComesBack, IsOf};
+
+use crate::gate::Gate;
+use crate::worker::{StoreWorker, Worker};
+use crew::{GivenUp, Job};
+use desk::{Desk, Pass};
+use ds_store::Store;
+use std::alloc::Global;
+use std::sync::Wait;
+
+/// Two desks, which all workers share. The desk is a plain parameter, so that these are found to be shared by threads.
+#[derive(Drop)]
+pub struct Desks<D> {
+    /// That of the store which publishers change and subscribers follow.
+    pub first: D,
+    /// That of the store which is given what the first has.
+    pub second: D,
+}
+
+/// A worker, and all that its turns take. Each is a plain parameter, so that these are found to cross threads.
+#[derive(Drop)]
+pub struct Turns<'e, R, G, D, W> {
+    /// By what a worker waits.
+    pub rt: &'e R,
+    /// Where memory is taken.
+    pub alloc: Global,
+    /// The gate before each turn.
+    pub gate: &'e G,
+    /// Whether the run was given up.
+    pub given_up: &'e GivenUp,
+    /// The desks.
+    pub desks: &'e D,
+    /// The worker.
+    pub worker: W,
+}
+
+/// The turns of a worker at two desks over stores.
+pub type StoreTurns<'e, R, G> = Turns<'e, R, G, Desks<Desk<Box<Store>>>, StoreWorker>;
+
+impl<'e, R: Wait, G: Gate> Job
+    for Turns<'e, R, G, Desks<Desk<Box<Store>>>, Worker<Pass<Box<Store>>>> {
+    ghost can_run = { λ j. IsOf (identity j.desks.now.first) (identity j.desks.now.second) j.worker };
+
+    ghost comes_back = { λ j k. ComesBack j.worker k.worker };
+
+    fn run(self) -> StoreTurns<'e, R, G> {
+        let Turns {
+            rt,
+            alloc,
+            gate,
+            given_up,
+            desks,
+            mut worker,
+        } = self;
+        worker.work(rt, alloc, gate, given_up, &desks.first, &desks.second);
+        Turns {
+            rt,
+            alloc,
+            gate,
+            given_up,
+            desks,
+            worker,
+        }
+    }
+}

@@ -1,0 +1,21 @@
+//! The threads of a run over two desks of stores: publishers, subscribers, and one that exchanges.
+//!
+//! MINIX 3's drivers, the servers that follow them by its data store (DS), and a second replica, each in a thread of its own. Their
+//! turns, and the gate before each turn, are of this project.
+#![tactic(auto)]
+
+mod commands;
+mod exchanging;
+mod following;
+mod gate;
+mod job;
+mod publishing;
+mod task;
+mod worker;
+
+pub use commands::everything;
+pub use gate::{Gate, OpenGate};
+pub use job::{Desks, StoreTurns, Turns};
+pub use publishing::publish_label;
+pub use task::Task;
+pub use worker::{StoreWorker, Worker};

@@ -1,0 +1,134 @@
+//! What one worker does.
+
+ghost use Rattle.std.specs.Prelude.{◌≡◌, OnOk};
+ghost use Rattle.desk.specs.Desk.{identity};
+ghost use Rattle.ds_workers.specs.Workers.{ComesBack, IsDone, IsOf};
+
+use crate::exchanging::{exchange, hand_over};
+use crate::following::{bring_up, follow};
+use crate::gate::Gate;
+use crate::publishing::publish;
+use crate::task::Task;
+use crew::GivenUp;
+use desk::{Desk, Pass};
+use ds_pass::LiveFault;
+use ds_store::Store;
+use std::alloc::Global;
+use std::sync::Wait;
+
+/// A worker with its pass of the first desk. The pass is a plain parameter, so that a worker is found to cross threads.
+#[derive(Drop)]
+pub struct Worker<P> {
+    /// Its number: publishers come first, then subscribers, then the one that exchanges.
+    pub index: u32,
+    /// How many turns it takes.
+    pub turns: u32,
+    /// Its pass of the first desk.
+    pub pass: P,
+    /// What it is for.
+    pub task: Task<P>,
+    /// Why it ended early.
+    pub fault: Option<LiveFault>,
+}
+
+/// A worker at two desks over stores.
+pub type StoreWorker = Worker<Pass<Box<Store>>>;
+
+impl Worker<Pass<Box<Store>>> {
+    /// Takes its turns, with the gate before each and behind the last. It ends early at a fault, which it keeps, or where the run was
+    /// given up.
+    pub fn work<W: Wait, G: Gate>(
+        &mut self,
+        rt: &W,
+        alloc: Global,
+        gate: &G,
+        given_up: &GivenUp,
+        first: &Desk<Box<Store>>,
+        second: &Desk<Box<Store>>,
+    )
+        requires { IsOf (identity first.now) (identity second.now) self.old }
+        ensures { ComesBack self.old self.new }
+    {
+        if let Err(fault) = self.take_turns(rt, alloc, gate, given_up, first, second) {
+            self.fault = Some(fault);
+        }
+    }
+
+    // Turn by turn.
+    fn take_turns<W: Wait, G: Gate>(
+        &mut self,
+        rt: &W,
+        alloc: Global,
+        gate: &G,
+        given_up: &GivenUp,
+        first: &Desk<Box<Store>>,
+        second: &Desk<Box<Store>>,
+    ) -> Result<(), LiveFault>
+        requires { IsOf (identity first.now) (identity second.now) self.old }
+        ensures { ComesBack self.old self.new }
+    {
+        for turn in 0..self.turns {
+            if given_up.is_told() {
+                return Ok(());
+            }
+            pass_gate(gate, self.index, turn)?;
+            self.turn(rt, alloc, first, second, turn)?;
+        }
+        if given_up.is_told() {
+            return Ok(());
+        }
+        pass_gate(gate, self.index, self.turns)
+    }
+
+    // One turn.
+    fn turn<W: Wait>(
+        &mut self,
+        rt: &W,
+        alloc: Global,
+        first: &Desk<Box<Store>>,
+        second: &Desk<Box<Store>>,
+        turn: u32,
+    ) -> Result<(), LiveFault>
+        requires { IsOf (identity first.now) (identity second.now) self.old }
+        ensures { ComesBack self.old self.new }
+    {
+        match &mut self.task {
+            Task::Publish => publish(rt, first, &mut self.pass, self.index, turn),
+            Task::Follow(follower) => follow(rt, alloc, first, &mut self.pass, follower, turn),
+            Task::Exchange { other, cursor } => {
+                exchange(rt, first, &mut self.pass, second, other, cursor)?;
+                Ok(())
+            }
+        }
+    }
+
+    /// Behind the turns of all workers: a subscriber's map is brought up to date, and what is left to exchange is given over.
+    pub fn finish<W: Wait>(
+        &mut self,
+        rt: &W,
+        alloc: Global,
+        first: &Desk<Box<Store>>,
+        second: &Desk<Box<Store>>,
+    ) -> Result<(), LiveFault>
+        requires { IsOf (identity first.now) (identity second.now) self.old }
+        ensures back { ComesBack self.old self.new }
+        ensures done { OnOk result (IsDone self.new) }
+    {
+        match &mut self.task {
+            Task::Publish => Ok(()),
+            Task::Follow(follower) => bring_up(rt, alloc, first, &mut self.pass, follower),
+            Task::Exchange { other, cursor } => {
+                hand_over(rt, first, &mut self.pass, second, other, cursor)
+            }
+        }
+    }
+}
+
+// Before a turn, or behind the last.
+fn pass_gate<G: Gate>(gate: &G, worker: u32, turn: u32) -> Result<(), LiveFault> {
+    if gate.arrive(worker, turn) {
+        Ok(())
+    } else {
+        Err(LiveFault::GateShut)
+    }
+}

@@ -1,0 +1,47 @@
+//! A gate that holds a worker until another was answered.
+
+use ds_live::Gate;
+use std::sync::atomic::{AtomicBool, Ordering};
+use std::thread;
+
+// How often a worker that is held looks whether it may go on.
+const MOST_LOOKS: u32 = 100_000_000;
+
+/// A gate that holds a worker before its first turn until another had its first one, or turns it away where that takes too long.
+#[derive(Drop)]
+pub(crate) struct Hold {
+    held: u32,
+    other: u32,
+    answered: AtomicBool,
+}
+
+impl Hold {
+    /// That of two workers, at which nobody has arrived.
+    pub(crate) fn new(held: u32, other: u32) -> Hold {
+        Hold {
+            held,
+            other,
+            answered: AtomicBool::new(false),
+        }
+    }
+
+    // Looks until the other was answered.
+    fn wait(&self) -> bool {
+        for _ in 0..MOST_LOOKS {
+            if self.answered.load(Ordering::SeqCst) {
+                return true;
+            }
+            thread::yield_now();
+        }
+        false
+    }
+}
+
+impl Gate for Hold {
+    fn arrive(&self, worker: u32, turn: u32) -> bool {
+        if worker == self.other && turn == 1 {
+            self.answered.store(true, Ordering::SeqCst);
+        }
+        worker != self.held || turn > 0 || self.wait()
+    }
+}

@@ -1,0 +1,18 @@
+//! A gate that turns workers away.
+
+use ds_live::Gate;
+
+/// A gate that turns away every worker from a number on, before a turn or behind the last.
+#[derive(Clone, Copy)]
+pub(crate) struct Shut {
+    /// The first worker that is turned away.
+    pub from: u32,
+    /// Before which turn.
+    pub turn: u32,
+}
+
+impl Gate for Shut {
+    fn arrive(&self, worker: u32, turn: u32) -> bool {
+        worker < self.from || turn != self.turn
+    }
+}
