@@ -18,7 +18,14 @@ use Rattle.trace_words.proofs.WalkLemmas.{header_behind, bad_header}
 use Rattle.trace_check.specs.declared.fault.WalkFault.{WalkFault}
 use Rattle.trace_check.specs.declared.fault.WalkFault.TheVariants as faults
 use Rattle.trace_check.specs.declared.place.Place.TheVariants.{Form}
-use Rattle.trace_check.specs.Walking.{IsAt, IsRead, IsLongFault, HasLine, IsFault}
+use Rattle.trace_check.specs.Walking.{IsAt, IsRead, IsLongFault, HasLine, IsFault, verdict_of}
+
+-- a fault of a walk is the verdict that is said for it
+pub said_for : (bytes : List ℕ) (fault : WalkFault) → IsFault bytes fault → IsVerdict bytes (verdict_of fault)
+said_for bytes (faults.IllegalAt number) f = f
+said_for bytes (faults.BadLineAt number) f = f
+said_for bytes faults.ReadFault f = tt
+said_for bytes faults.NoRoom f = tt
 
 -- ---- the empty front
 

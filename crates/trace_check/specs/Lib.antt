@@ -1,3 +1,4 @@
 pub mod Sweeping
 pub mod Walking
 pub mod Steps
+pub mod Telling

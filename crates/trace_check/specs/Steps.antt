@@ -16,6 +16,7 @@ use Rattle.store_words.specs.declared.wording.Wording.{Wording}
 use Rattle.trace_words.specs.declared.asked.Asked.{Asked}
 use Rattle.trace_words.specs.declared.asked.Asked.TheVariants as askeds
 use Rattle.trace_words.specs.declared.asked.Head.{Head}
+use Rattle.trace_words.specs.declared.verdict.Verdict.{Verdict}
 use Rattle.trace_words.specs.declared.verdict.Verdict.TheVariants as verdicts
 use Rattle.trace_words.specs.Noroom.{stopped_line}
 use Rattle.trace_words.specs.Text.{marked}
@@ -97,6 +98,10 @@ EndsLegal old from = (bytes : List ℕ) (count : ℕ) → WalksAt bytes old from
 -- the fault is the verdict on the input
 abbrev pub FailsFrom : Walk → Option (List ℕ) → WalkFault → Type 0
 FailsFrom old from fault = (bytes : List ℕ) (count : ℕ) → WalksAt bytes old from count → IsFault bytes fault
+
+-- from behind the header on, the verdict is on the input
+abbrev pub EndsWith : Walk → Option (List ℕ) → Verdict → Type 0
+EndsWith old from verdict = (bytes : List ℕ) → WalksAt bytes old from 0 → IsVerdict bytes verdict
 
 -- ---- what is asked
 

@@ -21,6 +21,7 @@ use Rattle.trace_words.specs.declared.asked.AskedFault.{AskedFault}
 use Rattle.trace_words.specs.declared.asked.AskedFault.TheVariants as badly
 use Rattle.trace_words.specs.declared.header.Format.{Format}
 use Rattle.trace_words.specs.declared.header.Header.{Header}
+use Rattle.trace_words.specs.declared.verdict.Verdict.{Verdict}
 use Rattle.trace_words.specs.declared.verdict.Verdict.TheVariants as verdicts
 use Rattle.trace_words.specs.Head.{MayHead, head_text}
 use Rattle.trace_words.specs.Legal.{StepOf}
@@ -101,6 +102,13 @@ line_fault Reply number = IllegalAt number
 abbrev pub of_line : AskedFault → ℕ → WalkFault
 of_line badly.BadLine number = BadLineAt number
 of_line badly.NoRoom number = NoRoom
+
+-- what is said of a trace for a fault
+abbrev pub verdict_of : WalkFault → Verdict
+verdict_of (IllegalAt number) = verdicts.IllegalAt number
+verdict_of (BadLineAt number) = verdicts.BadLineAt number
+verdict_of ReadFault = verdicts.ReadFault
+verdict_of NoRoom = verdicts.NoRoom
 
 -- whether a reply line has to stand there
 abbrev pub is_reply : Place → Bool

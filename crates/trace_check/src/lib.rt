@@ -6,11 +6,13 @@
 
 mod expected;
 mod fault;
+mod judged;
 mod place;
 mod stopping;
 mod sweep;
 mod verifying;
 mod walk;
 
+pub use judged::{Judged, Stands, Wanted, WrongLine};
 pub use trace_words::Verdict;
-pub use verifying::verify;
+pub use verifying::{judge, verify};

@@ -1,11 +1,10 @@
 //! Whether a trace is legal.
 
-ghost use Rattle.std.specs.Prelude.{IfSome, IfOk, IfErr};
-ghost use Rattle.trace_words.specs.declared.verdict.Verdict.TheVariants as verdicts;
+ghost use Rattle.std.specs.Prelude.{IfSome};
 ghost use Rattle.trace_words.specs.Verdict.{IsVerdict};
-ghost use Rattle.trace_check.specs.Steps.{IsFaultOfKnown};
+ghost use Rattle.trace_check.specs.Steps.{EndsWith};
 
-use crate::fault::WalkFault;
+use crate::judged::Judged;
 use crate::walk::Walk;
 use ds_lines::Source;
 use std::alloc::Global;
@@ -19,25 +18,38 @@ use trace_words::Verdict;
 pub fn verify<R: Source>(alloc: Global, reader: &mut R) -> Verdict
     ensures { IfSome (R.remaining reader.old) (λ bytes. IsVerdict bytes result) }
 {
-    match walk_through(alloc, reader) {
-        Ok(length) => Verdict::Legal { length },
-        Err(WalkFault::IllegalAt(line)) => Verdict::IllegalAt(line),
-        Err(WalkFault::BadLineAt(line)) => Verdict::BadLineAt(line),
-        Err(WalkFault::ReadFault) => Verdict::ReadFault,
-        Err(WalkFault::NoRoom) => Verdict::NoRoom,
+    judge(alloc, reader).verdict
+}
+
+/// Judges as `verify` does, and tells what is known of the line that the verdict tells.
+pub fn judge<R: Source>(alloc: Global, reader: &mut R) -> Judged
+    ensures { IfSome (R.remaining reader.old) (λ bytes. IsVerdict bytes result.verdict) }
+{
+    match Walk::begin(alloc, reader) {
+        Ok(mut walk) => {
+            let verdict = walk_through(&mut walk, reader);
+            Judged {
+                verdict,
+                walk: Some(walk),
+            }
+        }
+        Err(fault) => Judged {
+            verdict: fault.verdict(),
+            walk: None,
+        },
     }
 }
 
-// Goes through all entries, and gives how many there are.
-fn walk_through<R: Source>(alloc: Global, reader: &mut R) -> Result<u64, WalkFault>
-    ensures legal { IfOk result (λ n. IfSome (R.remaining reader.old) (λ bytes. IsVerdict bytes (verdicts.Legal n))) }
-    ensures fails { IfErr result (IsFaultOfKnown (R.remaining reader.old)) }
+// Goes through all entries.
+fn walk_through<R: Source>(walk: &mut Walk, reader: &mut R) -> Verdict
+    ensures { EndsWith walk.old (R.remaining reader.old) result }
 {
-    let mut walk = Walk::begin(alloc, reader)?;
     for length in 0..u64::MAX {
-        if !walk.next(reader)? {
-            return Ok(length);
+        match walk.next(reader) {
+            Ok(true) => {}
+            Ok(false) => return Verdict::Legal { length },
+            Err(fault) => return fault.verdict(),
         }
     }
-    Err(WalkFault::ReadFault)
+    Verdict::ReadFault
 }

@@ -14,13 +14,18 @@ use ds_store::Store;
 use std::alloc::Global;
 use trace_words::{Asked, Head, Header, read_head, read_header, read_plus};
 
-/// A walk under way: where it is in the input, the store that answers, and what it was opened with.
+/// A walk under way: where it is in the input, the store that answers, and what it was opened with. For whoever is told why it ended,
+/// it keeps what the entry asks, by its first line, and what the store replied, whose first line has to stand in the line `first`.
 #[derive(Drop)]
 pub(crate) struct Walk {
     alloc: Global,
-    lines: Lines,
+    pub(crate) lines: Lines,
     store: Store,
     header: Header,
+    pub(crate) in_items: bool,
+    pub(crate) asked: Vec<u8>,
+    pub(crate) reply: Vec<u8>,
+    pub(crate) first: u64,
 }
 
 impl Walk {
@@ -53,6 +58,10 @@ impl Walk {
             lines,
             store,
             header,
+            in_items: false,
+            asked: Vec::new(alloc),
+            reply: Vec::new(alloc),
+            first: 0,
         })
     }
 
@@ -76,11 +85,17 @@ impl Walk {
         ensures none { IfOk result (λ o. IfNone o (EndsLegal self.old (R.remaining reader.old))) }
         ensures fails { IfErr result (λ fault. FailsFrom self.old (R.remaining reader.old) fault) }
     {
+        self.in_items = false;
         if !next_line(&mut self.lines, reader, Place::Form)? {
             return Ok(None);
         }
         match read_head(self.alloc, self.lines.line(), self.header.format) {
-            Ok(read) => Ok(Some(read)),
+            Ok(read) => {
+                self.asked.clear();
+                self.asked.extend_from_slice(self.lines.line())?;
+                self.reply.clear();
+                Ok(Some(read))
+            }
             Err(fault) => Err(WalkFault::of_line(fault, self.lines.count())),
         }
     }
@@ -113,6 +128,7 @@ impl Walk {
         ensures goes { IfOk result (λ u. AddsOne self.old (R.remaining reader.old) items.old self.new (R.remaining reader.new) items.new) }
         ensures fails { IfErr result (FailsAtItem self.old (R.remaining reader.old) items.old) }
     {
+        self.in_items = true;
         wanted_line(&mut self.lines, reader, Place::Form)?;
         match read_plus(self.alloc, self.lines.line(), self.header.format) {
             Ok(item) => {

@@ -30,6 +30,7 @@ impl Walk {
         ensures fails { IfErr result (FailsBehind self.old (R.remaining reader.old) pass asked) }
     {
         wanted_line(&mut self.lines, reader, Place::Reply)?;
+        self.first = self.lines.count();
         self.answered(reader, pass, asked)
     }
 
@@ -101,9 +102,14 @@ impl Walk {
     {
         let number = self.lines.count();
         let reply = stopped(self.alloc, &mut self.store, items, done, number)?;
-        let mut text = Vec::new(self.alloc);
-        append_reply(&mut text, Wording::AsMerge, &reply, self.header.limits)?;
-        expect(&mut self.lines, reader, text.as_slice())
+        self.reply.clear();
+        append_reply(
+            &mut self.reply,
+            Wording::AsMerge,
+            &reply,
+            self.header.limits,
+        )?;
+        expect(&mut self.lines, reader, self.reply.as_slice())
     }
 
     // A sweep of format 1.
@@ -119,9 +125,14 @@ impl Walk {
         ensures fails { IfErr result (FailsAtReply self.old (R.remaining reader.old) pass (swept_line swept)) }
     {
         let reply = sweep_older(self.alloc, &mut self.store, swept)?;
-        let mut text = Vec::new(self.alloc);
-        append_reply(&mut text, Wording::AsMerge, &reply, self.header.limits)?;
-        expect(&mut self.lines, reader, text.as_slice())
+        self.reply.clear();
+        append_reply(
+            &mut self.reply,
+            Wording::AsMerge,
+            &reply,
+            self.header.limits,
+        )?;
+        expect(&mut self.lines, reader, self.reply.as_slice())
     }
 
     // HasAsked the store, whose reply has to stand there.
@@ -138,8 +149,8 @@ impl Walk {
         if wants_room(&reply) {
             return Err(WalkFault::NoRoom);
         }
-        let mut text = Vec::new(self.alloc);
-        append_reply(&mut text, wording, &reply, self.header.limits)?;
-        expect(&mut self.lines, reader, text.as_slice())
+        self.reply.clear();
+        append_reply(&mut self.reply, wording, &reply, self.header.limits)?;
+        expect(&mut self.lines, reader, self.reply.as_slice())
     }
 }

@@ -13,7 +13,7 @@ returns-clause-goes g c =
     let old = c.args.self.now in
     let reply = c.apply-reply.result in
     let step = c.apply-reply.ensures.step x.state x.stands in
-    let text = c.as_slice.ensures.value ∙ c.in_ok-append_reply.ensures.written ∙ ap (λ (l : List ℕ). l ++ reply_lines c.args.wording reply old.header.limits) c.new-text.ensures.items ∙ ap (λ (w : Wording). reply_lines w reply old.header.limits) f.words in
+    let text = c.as_slice.ensures.value ∙ c.in_ok-append_reply.ensures.written ∙ ap (λ (l : List ℕ). l ++ reply_lines c.args.wording reply old.header.limits) c.clear.ensures.items ∙ ap (λ (w : Wording). reply_lines w reply old.header.limits) f.words in
     answered_goes bytes old.lines old.store old.header (g.R.Source.remaining c.args.reader.now) count pass asked x c.args.command f.asks reply step.0 (f.steps x.state step.0 reply step.1)
     c.as_slice.result.now text c.expect.new.lines (g.R.Source.remaining c.expect.new.reader) c.apply-reply.new.self goes step.2)
     c.expect.ensures.goes
@@ -27,7 +27,7 @@ returns-clause-fails g c =
     let reply = c.apply-reply.result in
     let step = c.apply-reply.ensures.step x.state x.stands in
     let room : is_some (room_wanted reply) ≡ false = sym c.wants_room.ensures ∙ c.if-wants_room.false in
-    let text = c.as_slice.ensures.value ∙ c.in_ok-append_reply.ensures.written ∙ ap (λ (l : List ℕ). l ++ reply_lines c.args.wording reply old.header.limits) c.new-text.ensures.items ∙ ap (λ (w : Wording). reply_lines w reply old.header.limits) f.words in
+    let text = c.as_slice.ensures.value ∙ c.in_ok-append_reply.ensures.written ∙ ap (λ (l : List ℕ). l ++ reply_lines c.args.wording reply old.header.limits) c.clear.ensures.items ∙ ap (λ (w : Wording). reply_lines w reply old.header.limits) f.words in
     answered_fails bytes old.lines old.store old.header from count pass asked x c.args.command f.asks reply step.0 (f.steps x.state step.0 reply step.1)
     c.as_slice.result.now text fault fails (known_by bytes old.lines old.store old.header from count pass asked x c.args.wording c.args.command reply step.0 f room step.1))
     c.expect.ensures.fails

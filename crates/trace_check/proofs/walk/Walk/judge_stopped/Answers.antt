@@ -25,7 +25,7 @@ returns-clause-goes g c =
     let reply = c.in_ok-reply.reply in
     let items = c.args.items.now in
     let st = c.in_ok-reply.ensures.stops x.state x.stands x.may.0 in
-    let text = c.as_slice.ensures.value ∙ c.in_ok-append_reply.ensures.written ∙ ap (λ (l : List ℕ). l ++ reply_lines AsMerge reply old.header.limits) c.new-text.ensures.items in
+    let text = c.as_slice.ensures.value ∙ c.in_ok-append_reply.ensures.written ∙ ap (λ (l : List ℕ). l ++ reply_lines AsMerge reply old.header.limits) c.clear.ensures.items in
     answered_goes bytes old.lines old.store old.header (g.R.Source.remaining c.args.reader.now) count pass (askeds.Merge items) x (Merge items) refl reply st.0 (stop_step old.header.format x.state st.0 items reply c.args.done st.1)
     c.as_slice.result.now text c.expect.new.lines (g.R.Source.remaining c.expect.new.reader) c.stopped.new.store goes st.2)
     c.expect.ensures.goes
@@ -39,7 +39,7 @@ returns-clause-fails g c =
     let reply = c.in_ok-reply.reply in
     let items = c.args.items.now in
     let st = c.in_ok-reply.ensures.stops x.state x.stands x.may.0 in
-    let text = c.as_slice.ensures.value ∙ c.in_ok-append_reply.ensures.written ∙ ap (λ (l : List ℕ). l ++ reply_lines AsMerge reply old.header.limits) c.new-text.ensures.items in
+    let text = c.as_slice.ensures.value ∙ c.in_ok-append_reply.ensures.written ∙ ap (λ (l : List ℕ). l ++ reply_lines AsMerge reply old.header.limits) c.clear.ensures.items in
     answered_fails bytes old.lines old.store old.header from count pass (askeds.Merge items) x (Merge items) refl reply st.0 (stop_step old.header.format x.state st.0 items reply c.args.done st.1)
     c.as_slice.result.now text fault fails (λ m. stop_known bytes old.lines old.store old.header from count pass items x c.args.done c.requires.few c.requires.line reply st.0 st.1))
     c.expect.ensures.fails

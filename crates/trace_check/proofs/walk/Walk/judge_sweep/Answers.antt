@@ -22,7 +22,7 @@ returns-clause-goes g c =
     let reply = c.in_ok-reply.reply in
     let traced = subst (λ (f : Format). IsTraced f x.state) c.requires.format x.behind.traced in
     let r = c.in_ok-reply.ensures x.state x.stands traced in
-    let text = c.as_slice.ensures.value ∙ c.in_ok-append_reply.ensures.written ∙ ap (λ (l : List ℕ). l ++ reply_lines AsMerge reply old.header.limits) c.new-text.ensures.items in
+    let text = c.as_slice.ensures.value ∙ c.in_ok-append_reply.ensures.written ∙ ap (λ (l : List ℕ). l ++ reply_lines AsMerge reply old.header.limits) c.clear.ensures.items in
     answered_goes bytes old.lines old.store old.header from count c.args.pass (askeds.Line (commands.Sweep swept.caller swept.owner swept.generation)) x (Sweep swept.caller swept.owner swept.generation) refl reply (older_sweep x.state swept.caller swept.owner swept.generation).1
     (sweep_step old.header.format x.state swept.caller swept.owner swept.generation reply c.requires.format r.0)
     c.as_slice.result.now text c.expect.new.lines (g.R.Source.remaining c.expect.new.reader) c.sweep_older.new.store goes r.1)
@@ -38,7 +38,7 @@ returns-clause-fails g c =
     let reply = c.in_ok-reply.reply in
     let traced = subst (λ (f : Format). IsTraced f x.state) c.requires.format x.behind.traced in
     let r = c.in_ok-reply.ensures x.state x.stands traced in
-    let text = c.as_slice.ensures.value ∙ c.in_ok-append_reply.ensures.written ∙ ap (λ (l : List ℕ). l ++ reply_lines AsMerge reply old.header.limits) c.new-text.ensures.items in
+    let text = c.as_slice.ensures.value ∙ c.in_ok-append_reply.ensures.written ∙ ap (λ (l : List ℕ). l ++ reply_lines AsMerge reply old.header.limits) c.clear.ensures.items in
     answered_fails bytes old.lines old.store old.header from count c.args.pass (askeds.Line (commands.Sweep swept.caller swept.owner swept.generation)) x (Sweep swept.caller swept.owner swept.generation) refl reply (older_sweep x.state swept.caller swept.owner swept.generation).1
     (sweep_step old.header.format x.state swept.caller swept.owner swept.generation reply c.requires.format r.0)
     c.as_slice.result.now text fault fails
