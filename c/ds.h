@@ -1,8 +1,10 @@
 /* The data store for C: MINIX 3's DS with generations, versions and floors, as docs/c.md describes it.
  *
  * A program keeps a handle, opens a store in it, asks it one request after the other, fetches the text of each answer in
- * pieces, and closes it. All memory that crosses is the caller's: no call keeps a pointer that it was given, and none gives
- * memory that the caller would have to free. What the store itself takes it gives back at ds_close.
+ * pieces, and closes it. Who follows stores keeps a map, a handle of its own, and gives it what they say.
+ *
+ * All memory that crosses is the caller's: no call keeps a pointer that it was given, and none gives memory that the caller
+ * would have to free. What a store or a map itself takes it gives back when it is closed.
  *
  * What the caller keeps right, since no call can see it:
  *   - a handle begins as DS_CLOSED, and nothing but these calls reads, writes or copies what stands in it;
@@ -138,6 +140,32 @@ uint32_t ds_items(struct ds_handle *handle, size_t first, char *room, size_t roo
 
 /* Closes the handle, and gives all its memory back. Answers 0, or DS_ISCLOSED. */
 uint32_t ds_close(struct ds_handle *handle);
+
+/* What a subscriber keeps of what stores tell it, for up to 4096 keys and 64 owners: of each key under its query the change with the
+ * greatest version, and of each owner the highest floor. From whichever store the items come, in whatever order and however often,
+ * it never goes back: once it has a label's generation, no earlier one comes, however late its line is given. A map begins as
+ * DS_CLOSED, and what is said of a handle above holds of it. */
+struct ds_map { void *private_; };
+
+/* Makes the map of what a pattern matches whole, of the kinds in a sum of enum ds_kinds, in a closed map. Nothing came to it yet.
+ * Answers 0; DS_ISOPEN where there is a map, which stays; else DS_BADKIND where kinds is no such sum, DS_TOOLONG, DS_BADPATTERN or
+ * DS_NOROOM, the first of these that holds but that memory may be wanting before a pattern was read, and the map stays closed. */
+uint32_t ds_map_new(struct ds_map *map, uint8_t kinds, const char *pattern, size_t pattern_length);
+
+/* Lets the map take the items whose lines stand there, as ds_items gives them, in their order, and writes the answer: DS_MERGED, with
+ * count, the items done, and taken and stale, of these; what isn't under the query is done and no more. DS_STOPPED: count items are
+ * done, and the next one was refused, by refusal: DS_NOTOWNER, DS_CLASH, DS_FULL or DS_NOROOM; the rest may be given again. DS_REFUSED
+ * by DS_NOROOM, for the lines, or DS_NOREQUEST, where they aren't the lines of items: then nothing changed.
+ * Answers 0, or DS_ISCLOSED, and then the answer is as it was. */
+uint32_t ds_map_take(struct ds_map *map, const char *lines, size_t lines_length, struct ds_answer *answer);
+
+/* Says where a label is now, as a retrieve of it would: DS_FOUND, with value and value_slot; DS_REFUSED by DS_NOTFOUND where no live one
+ * is held; or DS_NOREQUEST where the bytes are no name. It takes no memory.
+ * Answers 0, or DS_ISCLOSED, and then the answer is as it was. */
+uint32_t ds_map_label(struct ds_map *map, const char *name, size_t name_length, struct ds_answer *answer);
+
+/* Closes the map, and gives all its memory back. Answers 0, or DS_ISCLOSED. */
+uint32_t ds_map_close(struct ds_map *map);
 
 #ifdef __cplusplus
 }

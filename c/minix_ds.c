@@ -4,8 +4,6 @@
 #include <stdio.h>
 #include <string.h>
 
-enum { LONGEST = 4096 }; /* bytes of an item's line, which is the longest piece of text */
-
 static int error_of(uint32_t refusal) {
     switch (refusal) {
     case 0: return 0;
@@ -18,9 +16,27 @@ static int error_of(uint32_t refusal) {
     }
 }
 
-/* Asks the store, keeps whom it owes a notice, and gives the error. */
+/* Fetches the item that waits for memory, for whomever it was shown to. */
+static int fetched(struct ds_caller *caller) {
+    struct ds_server *server = caller->server;
+    struct ds_caller *waits = server->waits;
+    struct ds_given given;
+    if (!waits) return 0;
+    if (ds_items(&server->store, 0, waits->line, DS_MAX_LINE, &given)) given.length = 0, given.stop = DS_WHOLE; /* closed meanwhile */
+    if (given.stop == DS_WANTING) {
+        caller->refusal = DS_NOROOM;
+        return -ENOMEM;
+    }
+    waits->line[given.length] = '\0';
+    server->waits = NULL;
+    return 0;
+}
+
+/* Asks the store, keeps whom it owes a notice, and gives the error. The text of the last answer is gone then, so what waits comes first. */
 static int asked(struct ds_caller *caller, const struct ds_request *request, const void *text, size_t length, struct ds_answer *answer) {
-    caller->refusal = ds_call(caller->store, request, text, length, answer);
+    int error = fetched(caller);
+    if (error) return error;
+    caller->refusal = ds_call(&caller->server->store, request, text, length, answer);
     if (caller->refusal) return -EIO;
     if (answer->word == DS_NOREQUEST) return -EINVAL;
     for (size_t i = 0; i < sizeof answer->owed; i++) caller->owed[i] |= answer->owed[i];
@@ -88,7 +104,7 @@ static int retrieve(struct ds_caller *caller, const char *name, uint8_t kind, st
     int error = named(&request, DS_RETRIEVE, caller, name, kind);
     if (!error) error = asked(caller, &request, NULL, 0, answer);
     if (error || answer->pieces == 0) return error;
-    if (ds_items(caller->store, 0, text, *length, &given)) return -EIO;
+    if (ds_items(&caller->server->store, 0, text, *length, &given)) return -EIO;
     if (given.count == 0) return given.stop == DS_WANTING ? -ENOMEM : -E2BIG;
     *length = given.length;
     return 0;
@@ -101,7 +117,7 @@ int ds_retrieve_label_name(struct ds_caller *caller, char *name, ds_endpoint_t e
     request.command = DS_NAMEOF, request.generation = endpoint / 1024, request.slot = (uint16_t)(endpoint % 1024);
     int error = asked(caller, &request, NULL, 0, &answer);
     if (error) return error;
-    if (ds_items(caller->store, 0, name, DS_MAX_KEYLEN - 1, &given) || given.count == 0) return -EIO;
+    if (ds_items(&caller->server->store, 0, name, DS_MAX_KEYLEN - 1, &given) || given.count == 0) return -EIO;
     name[given.length] = '\0';
     return 0;
 }
@@ -167,7 +183,7 @@ int ds_subscribe(struct ds_caller *caller, const char *pattern, int flags) {
 }
 
 /* The parts of an item's line: NAME KIND OWNER .., or ! OWNER GENERATION. */
-static int parsed(char *line, char *key, int *type, char *owner) {
+static int parsed(const char *line, char *key, int *type, char *owner) {
     char kind[8];
     if (sscanf(line, "! %64s", key) == 1) {
         *type = 0;
@@ -179,20 +195,25 @@ static int parsed(char *line, char *key, int *type, char *owner) {
     return 0;
 }
 
-int ds_check(struct ds_caller *caller, char *key, int *type, ds_endpoint_t *owner) {
+/* Asks for the next item, and fetches it. */
+static int shown(struct ds_caller *caller) {
     struct ds_request request = {0};
     struct ds_answer answer;
-    struct ds_given given;
-    char line[LONGEST + 1], name[DS_MAX_KEYLEN];
     request.command = DS_CHECK, request.sub = caller->sub, request.max = 1;
     int error = asked(caller, &request, NULL, 0, &answer);
     if (error) return error;
     if (answer.pieces == 0) return -ENOENT;
-    if (ds_items(caller->store, 0, line, LONGEST, &given)) return -EIO;
-    if (given.count == 0) return -ENOMEM; /* the item was shown: a later check shows what comes after it */
-    line[given.length] = '\0';
-    error = parsed(line, key, type, name);
+    caller->server->waits = caller;
+    return fetched(caller);
+}
+
+int ds_check(struct ds_caller *caller, char *key, int *type, ds_endpoint_t *owner) {
+    char name[DS_MAX_KEYLEN];
+    int error = fetched(caller);
+    if (!error && !caller->line[0]) error = shown(caller);
+    if (!error) error = parsed(caller->line, key, type, name);
     if (error) return error;
+    caller->line[0] = '\0';
     *owner = 2; /* RS, who has no label */
     if (strcmp(name, "rs")) {
         error = ds_retrieve_label_endpt(caller, name, owner);

@@ -1,7 +1,8 @@
 /* MINIX 3's calls of the data store (DS), over ds.h: what a driver, a server or RS of that system calls, with its flags and errors.
  *
- * A caller is a struct ds_caller of its own: the store's handle, the caller's endpoint, by which the store knows it, and the
- * number of its last change. Endpoints here are generation * 1024 + slot. The calls are those of MINIX 3.3's lib/libsys/ds.c,
+ * Callers share a struct ds_server, which has the store's handle: it begins as DS_SERVER_CLOSED, and is opened and closed by ds_open
+ * and ds_close of its store. Each has a struct ds_caller of its own, which begins with zeros and stays where it is while its server
+ * is open: the caller's endpoint, by which the store knows it, its subscription, and the number of its last change. Endpoints here are generation * 1024 + slot. The calls are those of MINIX 3.3's lib/libsys/ds.c,
  * written from knowledge of them and not beside them. The numbers of the errors are those of errno.h, negative, as MINIX gives
  * them; the store's own refusals, of which some share one error, stand in the caller's refusal.
  *
@@ -26,14 +27,26 @@ typedef uint32_t ds_endpoint_t;
 
 #define DS_MAX_KEYLEN 65 /* a key has at most 64 bytes, and a zero behind them */
 
+#define DS_MAX_LINE 4096 /* bytes of the line of an item, and more than the longest has */
+
+struct ds_caller;
+
+/* A store, and who shares it. */
+struct ds_server {
+    struct ds_handle store;
+    struct ds_caller *waits; /* to whom an item was shown that isn't fetched yet, since memory was wanting, or NULL */
+};
+#define DS_SERVER_CLOSED { DS_CLOSED, NULL }
+
 /* Who calls. sub is its subscription, 0 to 127, of which each caller has one of its own. */
 struct ds_caller {
-    struct ds_handle *store;
+    struct ds_server *server;
     ds_endpoint_t endpoint;
     uint32_t sub;
     uint32_t seq;      /* the number of its last change in this generation; begins at 0 */
     uint32_t refusal;  /* of enum ds_refusal: by what its last call was refused, or 0 */
     uint8_t owed[16];  /* the subscriptions that are owed a notice since it was cleared, a bit for each; who calls clears it */
+    char line[DS_MAX_LINE + 1]; /* the item that was shown and not given yet, or nothing */
 };
 
 /* RS, whose endpoint is 0/2, says where a service is. A label of the same endpoint again changes nothing. */
@@ -59,7 +72,9 @@ int ds_delete_mem(struct ds_caller *caller, const char *name);
 /* Follows the entries whose names the pattern matches whole, of the types in flags, or of all where there is none. */
 int ds_subscribe(struct ds_caller *caller, const char *pattern, int flags);
 /* The next entry that changed: its name, type and owner. ENOENT where there is none. key: DS_MAX_KEYLEN bytes. A deletion is
- * an entry too, which then isn't there; of a floor the name is its owner's, and the type 0. */
+ * an entry too, which then isn't there; of a floor the name is its owner's, and the type 0. ENOMEM loses none: the same entry is
+ * given by the next check. Until it is fetched, each call of those who share the server fetches it first, and is ENOMEM where
+ * that fails; so let nobody ask the store beside these calls. */
 int ds_check(struct ds_caller *caller, char *key, int *type, ds_endpoint_t *owner);
 
 #endif

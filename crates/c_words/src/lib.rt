@@ -14,6 +14,7 @@ mod texts;
 
 pub use answer::{Answer, Word};
 pub use giving::{Given, give};
+pub use lines::read_items;
 pub use reading::{Asked, read_request};
 pub use request::Request;
 pub use telling::{answer_of, no_room, refusal_number};

@@ -9,8 +9,8 @@ use ds_line::{LineFault, read_item};
 use ds_names::NoRoom;
 use std::alloc::Global;
 
-/// The items whose lines a text is. `None` where it is those of none.
-pub(crate) fn items(alloc: Global, text: &[u8]) -> Result<Option<Items>, NoRoom>
+/// The items whose lines a text is, all of it. `None` where it is those of none; NoRoom where memory for them is wanting.
+pub fn read_items(alloc: Global, text: &[u8]) -> Result<Option<Items>, NoRoom>
     ensures { IfOk result (λ items. MatchOption items ((is : List Item) → ¬ AreLines is text.now) (λ is. AreLines is text.now)) }
 {
     let mut items = Items::new(alloc);

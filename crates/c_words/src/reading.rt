@@ -6,7 +6,7 @@ ghost use Rattle.ds_machine.specs.declared.command.Command.TheVariants.{Retrieve
 ghost use Rattle.c_words.specs.Request.{command_of, key_of, caller_of};
 ghost use Rattle.c_words.specs.Asked.{has_text, ReadsRequest};
 
-use crate::lines::items;
+use crate::lines::read_items;
 use crate::parts::{caller, delete, key, sweep};
 use crate::request::Request;
 use crate::texts::{page, publish, since, snapshot, subscribe};
@@ -68,7 +68,7 @@ fn merge(alloc: Global, request: &Request, text: &[u8]) -> Asked
     requires { request.now.command ≡ 10 }
     ensures { ReadsRequest request.now text.now result }
 {
-    match items(alloc, text) {
+    match read_items(alloc, text) {
         Ok(Some(items)) => Asked::Command(Command::Merge { items }),
         Ok(None) => Asked::Nothing,
         Err(NoRoom) => Asked::NoRoom,

@@ -55,7 +55,8 @@ abbrev pub Fetches : Option Session → ℕ → List ℕ → Given → ℕ → L
 Fetches None first old before word room given = (word ≡ is_closed) × (room ≡ old) × (given ≡ before)
 Fetches (Some s) first old before word room given = (word ≡ done) × GivesPieces (drop first (kept_pieces s)) old given room
 
--- a call that closes
-abbrev pub Closes : Option Session → ℕ → Option Session → Type 0
-Closes None word new = (word ≡ is_closed) × (new ≡ None)
-Closes (Some old) word new = (word ≡ done) × (new ≡ None)
+-- a call that closes a handle, whatever it holds
+module _ {T : Type 0} where
+  abbrev pub Closes : Option T → ℕ → Option T → Type 0
+  Closes None word new = (word ≡ is_closed) × (new ≡ None)
+  Closes (Some old) word new = (word ≡ done) × (new ≡ None)

@@ -2,12 +2,14 @@
 use Rattle.core.specs.declared.option.Option.{Option}
 use Rattle.core.specs.declared.option.Option.TheVariants.{None, Some}
 use base.Fml.{Fml, feq}
+use denote.RattleType.{RattleType}
 use denote.RawPtr.{Ptr, null_ptr}
 use Rattle.std_alloc.specs.Box.Ownership.{box_owns}
 use mir.Syntax.{Ty}
 use Rattle.std.specs.declared.alloc.Global.{Global}
 use Rattle.std.specs.contracts.impls.GlobalAllocator.TheImpl.{ghosts}
-use Rattle.c_session.specs.contracts.session.Session.{the_row}
+use Rattle.c_session.specs.contracts.session.Session as session
+use Rattle.ds_submap.specs.contracts.map.SubMap as map
 
 -- the token by which the heap knows a block, which is the same whoever holds a handle to the heap
 abbrev pub any_heap : Global
@@ -17,6 +19,13 @@ abbrev pub chunk : Ty → Ptr → Fml
 chunk = ghosts.dealloc_token any_heap
 
 -- null where the handle is closed, and else a box of the thing
-abbrev pub holds : Ptr → Option the_row.Denot → Fml
-holds at None = feq Ptr at null_ptr
-holds at (Some x) = box_owns chunk the_row at x
+abbrev pub box_or_null : (R : RattleType) → Ptr → Option R.Denot → Fml
+box_or_null R at None = feq Ptr at null_ptr
+box_or_null R at (Some x) = box_owns chunk R at x
+
+-- what a handle of a store holds, and one of a map
+abbrev pub holds : Ptr → Option session.the_row.Denot → Fml
+holds = box_or_null session.the_row
+
+abbrev pub holds_map : Ptr → Option map.the_row.Denot → Fml
+holds_map = box_or_null map.the_row

@@ -1,9 +1,13 @@
 //! The data store for C, behind a handle that it keeps from call to call: `ds_open`, one `ds_call` after another, `ds_items` for
-//! the text of the last answer, `ds_close`. `ds.h` declares what is here.
+//! the text of the last answer, `ds_close`; and what a subscriber keeps of it, behind another: `ds_map_new`, `ds_map_take`,
+//! `ds_map_label`, `ds_map_close`. `ds.h` declares what is here.
 #![tactic(auto)]
 
 mod handle;
 mod loose;
+mod map_handle;
+mod maps;
+mod words;
 
 ghost use Rattle.std.specs.Prelude.{◌≡◌};
 ghost use Rattle.std.specs.declared.option.Option.TheVariants.{None};
@@ -13,14 +17,10 @@ use c_session::Session;
 use c_words::{Answer, Given, Request, refusal_number};
 use ds_machine::Refusal;
 pub use handle::Handle;
+pub use map_handle::MapHandle;
+pub use maps::{ds_map_close, ds_map_label, ds_map_new, ds_map_take};
 use std::alloc::Global;
-
-// The words of calls, beside the numbers of the store's refusals.
-const DONE: u32 = 0;
-
-const IS_CLOSED: u32 = 23;
-
-const IS_OPEN: u32 = 24;
+use words::{DONE, IS_CLOSED, IS_OPEN};
 
 /// Opens a store of this incarnation in a closed handle, whose first item will have the position `first`, with a ring of 1
 /// to 4096. It answers 0, or by which number no store was opened, or that one is open there.

@@ -28,7 +28,7 @@ use Rattle.std.proofs.alloc.Global.TheLaws as heap_laws
 use Rattle.std.specs.contracts.impls.GlobalAllocator.TheImpl.{ghosts}
 use Rattle.std.proofs.raw_atomic.Walks.{proved_at, leaves}
 use Rattle.std_alloc.proofs.ResultValues.{and_tt}
-use Rattle.ds_c.proofs.Steps.{R, word, Handle, handle_out, held}
+use Rattle.ds_c.proofs.Steps.{Session as R, word, Handle, handle_out, held}
 use Rattle.ds_c.proofs.Values.{both, Loose, loose_good, loose_in}
 use Rattle.ds_c.specs.contracts.handle.Handle.into_loose.{ended, clauses}
 use Rattle.ds_c.specs.contracts.handle.Handle.into_loose.Key.{name as #self}
@@ -45,7 +45,7 @@ into_loose_spec 𝓤 𝓛 𝓜 𝓡 wired =
     let Out : RattleType = type_at ended.signature.result κs in let hh = one (layout Z) z.0.4.1.0 ((LZ.lawful 𝓛).typed a z.0.4.1.0 are.1.0) in
     qed 𝓛 ((raw (alive 𝓛 ended.signature κs qs) ⊛ ‵ (owns (types_at ended.signature.params κs) z.0.3 z.0.4)) ∷ raw ((c κs z.0.3).requires z.1) ∷ []) ∵ split ! $ move ! (1 ∷ []) $ fsplit ! $
     move ! (1 ∷ []) $ fsplit ! $ rewrite ! 0 (λ (us : List Val). ‵ (Z.own_val a us)) hh.1 refl $ move ! (2 ∷ 0 ∷ 3 ∷ []) $
-    handle_out ! v z.0.4.0 (λ ev. held ! a v.at v.value
+    handle_out ! v z.0.4.0 (λ ev. held ! R a v.at v.value
     (λ ep ex. let w : Val = word vnull in let ew : z.0.4.0 ≡ w ∷ [] = ev ∙ ap (λ (p : Ptr). word (ptr_val p) ∷ []) ep in let none : Val = live 0 vnil in let good : Good (layout Out) none = (tt, (record { fits = lit< tt }, tt)) in
     suffices ! (Run (w ∷ hh.0 ∷ [])) (subst (λ (us : List Val). ent 𝓤 (Run (w ∷ hh.0 ∷ [])) (Run us)) (sym (λ i. ew i ++ (hh.1 i ++ []))) (id⊢ 𝓤 (Run (w ∷ hh.0 ∷ [])))) $
     enter ! 𝓣.C 𝓣.Λ fn (w ∷ hh.0 ∷ []) Post $ alloc_all ! (λ l. pass_all ! refl ((tt, (record { fits = lit< tt }, tt)), (hh.2, tt)) $ let Ev = env fn.locals l in

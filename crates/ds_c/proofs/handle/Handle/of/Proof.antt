@@ -22,7 +22,7 @@ use Rattle.std.specs.contracts.alloc.Global as heap
 use Rattle.std.proofs.alloc.Global.TheLaws as heap_laws
 use Rattle.std.specs.contracts.impls.GlobalAllocator.TheImpl.{ghosts}
 use Rattle.std.proofs.raw_atomic.Walks.{proved_at, leaves}
-use Rattle.ds_c.proofs.Steps.{R, word, handle_in}
+use Rattle.ds_c.proofs.Steps.{Session as R, word, handle_in}
 use Rattle.ds_c.proofs.Values.{both, Loose, loose_good, loose_out}
 use Rattle.ds_c.specs.contracts.handle.Handle.of.{ended, clauses}
 use Rattle.ds_c.specs.contracts.handle.Handle.of.Key.{name as #self}

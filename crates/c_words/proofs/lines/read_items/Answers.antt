@@ -2,7 +2,7 @@ use Rattle.std.proofs.Common.{arith}
 use Rattle.std.proofs.lemmas.Bool.Decides.{nat_tests}
 use Rattle.ds_line.specs.ItemFault.{HasNoItem}
 use Rattle.c_words.proofs.ItemsLemmas.{none_behind}
-use Rattle.c_words.proofs.lines.items.Goals as goal
+use Rattle.c_words.proofs.lines.read_items.Goals as goal
 
 pub returns-in-Err-BadLine : goal.returns-in-Err-BadLine
 returns-in-Err-BadLine c is are =

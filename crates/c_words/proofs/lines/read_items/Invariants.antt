@@ -2,7 +2,7 @@ use Rattle.std.proofs.Common.{◌≡◌, ◌++◌, length}
 use Rattle.std.specs.List.{All, flat_map}
 use Rattle.ds_entry.specs.Item.{IsItem}
 use Rattle.ds_line.specs.ItemSpelling.{item_spelling}
-use Rattle.c_words.proofs.lines.items.Given as goal
+use Rattle.c_words.proofs.lines.read_items.Given as goal
 
 abbrev pub invariant-loop-rest : goal.invariant-loop-rest
 invariant-loop-rest l = record {

@@ -1,0 +1,88 @@
+-- What C is told of a subscriber's map, and what its calls do to it.
+use Rattle.std.specs.Prelude.{◌≡◌, ◌⊎◌, ℕ, ◌<◌, ◌≤◌, ◌++◌, cond, IsFalse, List, length, Option, Some, None, Result, Ok, Err, IfOk, IfErr}
+use Rattle.ds_names.specs.Endpoint.{EndpointRecord}
+use Rattle.ds_entry.specs.declared.body.Value.TheVariants.{Label}
+use Rattle.ds_entry.specs.declared.item.Item.{Item}
+use Rattle.ds_held.specs.Held.{Holding, held_items}
+use Rattle.ds_join.specs.declared.merge.JoinFault.{JoinFault}
+use Rattle.ds_join.specs.declared.merge.JoinFault.TheVariants as joins
+use Rattle.ds_join.specs.declared.merge.Stop.{Stop}
+use Rattle.ds_machine.specs.declared.refusal.Refusal.{Refusal}
+use Rattle.ds_machine.specs.declared.refusal.Refusal.TheVariants as refusals
+use Rattle.ds_machine.specs.declared.reply.Reply.{Reply}
+use Rattle.ds_machine.specs.declared.reply.Reply.TheVariants.{Found, Merged, MergeStopped, Refused}
+use Rattle.ds_pattern.specs.Patterns.{IsPattern, is_pattern}
+use Rattle.ds_pattern.specs.Under.{query_of}
+use Rattle.ds_submap.specs.declared.count.Count.{Count}
+use Rattle.ds_submap.specs.Map.{SubMapRecord, empty_map, endpoint_of_label}
+use Rattle.ds_submap.specs.Take.{AreCounted, IsTakeStopped, JoinsUnder, done_items}
+use Rattle.ds_submap.specs.Floors.{EachFloorStands}
+use Rattle.c_words.specs.Answer.{answer_of, no_request, told_no_room}
+use Rattle.c_words.specs.Lines.{AreLines}
+use Rattle.c_words.specs.Request.{is_name}
+use Rattle.c_words.specs.declared.answer.Answer.{Answer}
+
+-- the number is a sum of the bits of kinds
+abbrev pub IsKindSum : ℕ → Type 0
+IsKindSum kinds = (0 < kinds) × (kinds ≤ 15)
+
+-- the map is that of this pattern and of these kinds, and nothing came to it yet
+pub record IsMapOf (kinds : ℕ) (text : List ℕ) (map : SubMapRecord) : Type 0 where
+  pub is_sum : IsKindSum kinds
+  pub pattern : IsPattern text
+  pub value : map ≡ empty_map (query_of text kinds)
+
+-- why no map is made: first for the kinds, then for the length of the pattern, and then for what it is, or for want of memory
+abbrev pub IsMapRefusal : Refusal → ℕ → List ℕ → Type 0
+IsMapRefusal refusals.BadKind kinds text = ¬ IsKindSum kinds
+IsMapRefusal refusals.TooLong kinds text = IsKindSum kinds × (128 < length text)
+IsMapRefusal refusals.BadPattern kinds text = IsKindSum kinds × (length text ≤ 128) × IsFalse (is_pattern text)
+IsMapRefusal refusals.NoRoom kinds text = IsKindSum kinds × (length text ≤ 128)
+IsMapRefusal _ kinds text = ⊥
+
+-- what stops a take, as a store would say it
+abbrev pub refusal_of_stop : JoinFault → Refusal
+refusal_of_stop joins.NotOwner = refusals.NotOwner
+refusal_of_stop (joins.Clash version) = refusals.Clash version
+refusal_of_stop joins.Full = refusals.Full
+refusal_of_stop joins.NoRoom = refusals.NoRoom
+
+-- what a map took, as a store would say it of a Merge that owes nothing to anybody
+abbrev pub reply_of_take : Result Count Stop → Reply
+reply_of_take (Ok count) = Merged count.done count.taken count.stale 0
+reply_of_take (Err stop) = MergeStopped stop.done (refusal_of_stop stop.fault) 0
+
+-- the items were taken in their order, all of them or those before the one that is refused, and the answer counts them
+pub record TakesItems (old : SubMapRecord) (items : List Item) (answer : Answer) (new : SubMapRecord) : Type 0 where
+  pub taken : Result Count Stop
+  pub joined : JoinsUnder old.query old.held (done_items taken items) new.held
+  pub counted : IfOk taken (AreCounted old.query old.held items new.held)
+  pub stopped : IfErr taken (IsTakeStopped old.query old.held items new.held)
+  pub floors : EachFloorStands (held_items old.held ++ done_items taken items) (held_items new.held)
+  pub query : new.query ≡ old.query
+  pub told : answer ≡ answer_of (reply_of_take taken)
+
+-- the text is the lines of items, which were taken
+pub record GivesItemsOf (old : SubMapRecord) (text : List ℕ) (answer : Answer) (new : SubMapRecord) : Type 0 where
+  pub items : List Item
+  pub lines : AreLines items text
+  pub takes : TakesItems old items answer new
+
+-- the map stays as it is, and this is told
+pub record StaysMap (old : SubMapRecord) (told answer : Answer) (new : SubMapRecord) : Type 0 where
+  pub told_is : answer ≡ told
+  pub map_is : new ≡ old
+
+-- the items were taken; or the text is the lines of none; or memory for the items is wanting
+abbrev pub GivesItems : SubMapRecord → List ℕ → Answer → SubMapRecord → Type 0
+GivesItems old text answer new =
+    GivesItemsOf old text answer new ⊎ ((((items : List Item) → ¬ AreLines items text) × StaysMap old no_request answer new) ⊎ StaysMap old told_no_room answer new)
+
+-- the endpoint of a label, as a store would say it of a Retrieve
+abbrev pub reply_of_label : Option EndpointRecord → Reply
+reply_of_label (Some endpoint) = Found (Label endpoint)
+reply_of_label None = Refused refusals.NotFound
+
+-- where the label of a name is, if the bytes are a name
+abbrev pub told_label : Holding → List ℕ → Answer
+told_label held name = cond (is_name name) (answer_of (reply_of_label (endpoint_of_label held name))) no_request

@@ -1,0 +1,97 @@
+//! Maps by bytes and numbers.
+
+ghost use Rattle.std.specs.Prelude.{◌≡◌, ◌≤◌, IfOk, IfErr, length};
+ghost use Rattle.c_map.specs.Map.{IsMapOf, IsMapRefusal, refusal_of_stop, TakesItems, GivesItems, told_label};
+
+use c_words::{Answer, answer_of, no_room, read_items};
+use ds_entry::{Items, Value};
+use ds_join::JoinFault;
+use ds_machine::{Refusal, Reply};
+use ds_names::{Kinds, Name, NoRoom};
+use ds_pattern::{PatternFault, PatternText, Query};
+use ds_submap::SubMap;
+use std::alloc::Global;
+
+// The most bytes of a pattern.
+const LONGEST_PATTERN: usize = 128;
+
+/// The map of a pattern and a sum of bits of kinds, to which nothing came yet. `BadKind` where the number is no such sum, then
+/// `TooLong` and `BadPattern` as a subscription is refused; `NoRoom` behind `TooLong`, where memory is wanting.
+pub fn new_map(alloc: Global, kinds: u8, pattern: &[u8]) -> Result<SubMap, Refusal>
+    ensures made { IfOk result (IsMapOf kinds pattern.now) }
+    ensures refused { IfErr result (λ refusal. IsMapRefusal refusal kinds pattern.now) }
+{
+    let Some(kinds) = Kinds::of(kinds) else {
+        return Err(Refusal::BadKind);
+    };
+    if pattern.len() > LONGEST_PATTERN {
+        return Err(Refusal::TooLong);
+    }
+    let Ok(text) = PatternText::of(alloc, pattern) else {
+        return Err(Refusal::NoRoom);
+    };
+    match SubMap::new(alloc, &Query { text, kinds }) {
+        Ok(map) => Ok(map),
+        Err(PatternFault::TooLong) => Err(Refusal::TooLong),
+        Err(PatternFault::BadPattern) => Err(Refusal::BadPattern),
+        Err(PatternFault::NoRoom) => Err(Refusal::NoRoom),
+    }
+}
+
+// What stops a take, as a store would say it.
+fn refusal_of_stop(fault: JoinFault) -> Refusal
+    ensures { result ≡ refusal_of_stop fault }
+{
+    match fault {
+        JoinFault::NotOwner => Refusal::NotOwner,
+        JoinFault::Clash { version } => Refusal::Clash { version },
+        JoinFault::Full => Refusal::Full,
+        JoinFault::NoRoom => Refusal::NoRoom,
+    }
+}
+
+// Lets a map take items.
+fn take_items(alloc: Global, map: &mut SubMap, items: &Items) -> Answer
+    ensures { TakesItems map.old items.now result map.new }
+{
+    let reply = match map.take(alloc, items) {
+        Ok(count) => Reply::Merged {
+            done: count.done,
+            taken: count.taken,
+            stale: count.stale,
+            owed: 0,
+        },
+        Err(stop) => Reply::MergeStopped {
+            done: stop.done,
+            fault: refusal_of_stop(stop.fault),
+            owed: 0,
+        },
+    };
+    answer_of(&reply)
+}
+
+/// Lets a map take the items whose lines a text is, in their order: it is answered as a Merge of them is. A text that is those
+/// of no items is answered as no request, and want of memory for them as a refusal; the map stays as it was then.
+pub fn take_lines(alloc: Global, map: &mut SubMap, text: &[u8]) -> Answer
+    ensures { GivesItems map.old text.now result map.new }
+{
+    match read_items(alloc, text) {
+        Ok(Some(items)) => take_items(alloc, map, &items),
+        Ok(None) => Answer::no_request(),
+        Err(NoRoom) => no_room(),
+    }
+}
+
+/// Where the label of this name is now, as a Retrieve of it would be answered: its endpoint, or NotFound where the map has no live
+/// one. Bytes that are no name are answered as no request.
+pub fn label_in(map: &SubMap, name: &[u8]) -> Answer
+    ensures { result ≡ told_label map.now.held name.now }
+{
+    let Ok(name) = Name::read(name) else {
+        return Answer::no_request();
+    };
+    match map.label(&name) {
+        Some(endpoint) => answer_of(&Reply::Found(Value::Label(endpoint))),
+        None => answer_of(&Reply::Refused(Refusal::NotFound)),
+    }
+}

@@ -1,0 +1,82 @@
+//! The handle of a map, which is as that of a store.
+
+ghost use Rattle.std.specs.Prelude.{◌≡◌};
+ghost use Rattle.std.specs.declared.option.Option.{Option};
+ghost use Rattle.std.specs.declared.option.Option.TheVariants.{None, Some};
+ghost use Rattle.std.specs.Option.{MatchOption};
+ghost use Rattle.std.specs.Coded.{coded_option};
+ghost use Rattle.ds_submap.specs.Map.{SubMapRecord};
+ghost use Rattle.ds_submap.specs.contracts.map.SubMap.{the_row as map_row};
+ghost use Rattle.ds_c.specs.Held.{holds_map};
+
+use crate::loose::Loose;
+use ds_submap::SubMap;
+use std::alloc::Global;
+use std::marker::Model;
+use std::mem::replace;
+use std::ptr::null_mut;
+
+/// A map that C holds, as one pointer: null where the handle is closed.
+#[repr(C)]
+pub struct MapHandle {
+    at: *mut u8,
+    pub ghost value: { Option SubMapRecord } by { coded_option map_row.coded },
+}
+
+impl Model for MapHandle {
+    ghost also_owns = { λ h. holds_map h.at h.value };
+}
+
+impl MapHandle {
+    /// A closed handle.
+    pub(crate) fn closed() -> MapHandle
+        ensures { result.value ≡ None }
+    {
+        MapHandle { at: null_mut() }
+    }
+
+    /// The handle of a map.
+    pub(crate) fn of(map: Loose<SubMap, Global>) -> MapHandle
+        ensures { result.value ≡ Some map.value }
+    {
+        let Loose { at, alloc: _ } = map;
+        MapHandle { at: at as *mut u8 }
+    }
+
+    /// The map of a handle, if it is open.
+    pub(crate) fn into_loose(self, alloc: Global) -> Option<Loose<SubMap, Global>>
+        ensures { MatchOption result (self.value ≡ None) (λ l. self.value ≡ Some l.value) }
+    {
+        let MapHandle { at } = self;
+        if at.is_null() {
+            None
+        } else {
+            Some(Loose {
+                at: at as *mut SubMap,
+                alloc,
+            })
+        }
+    }
+
+    /// Takes the map out, and leaves a closed handle.
+    pub(crate) fn take(&mut self, alloc: Global) -> Option<Box<SubMap>>
+        ensures map { MatchOption result (self.old.value ≡ None) (λ b. self.old.value ≡ Some b.value) }
+        ensures left { self.new.value ≡ None }
+    {
+        let handle = replace(self, MapHandle::closed());
+        match handle.into_loose(alloc) {
+            None => None,
+            Some(map) => Some(map.into_box()),
+        }
+    }
+
+    /// Puts a map in; one that stood there is dropped.
+    pub(crate) fn put(&mut self, alloc: Global, map: Box<SubMap>)
+        ensures { self.new.value ≡ Some map.value }
+    {
+        let before = replace(self, MapHandle::of(Loose::of(map)));
+        if let Some(map) = before.into_loose(alloc) {
+            drop(map.into_box());
+        }
+    }
+}

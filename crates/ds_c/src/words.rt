@@ -1,0 +1,7 @@
+// The words of calls, beside the numbers of the store's refusals.
+
+pub(crate) const DONE: u32 = 0;
+
+pub(crate) const IS_CLOSED: u32 = 23;
+
+pub(crate) const IS_OPEN: u32 = 24;
