@@ -13,6 +13,9 @@ pub(crate) enum Failure {
     ReadFault(Option<io::Error>),
     #[error("writefault")]
     WriteFault(Option<io::Error>),
+    /// A run of threads failed, by this word.
+    #[error("{0}")]
+    Live(&'static str),
 }
 
 impl Failure {

@@ -102,7 +102,9 @@ Lines of a script:
                      of the network server's: `answer ID done`
 
 `dsctl settings` shows what a settings text tells RS; `dsctl settings --help`
-has its fields.
+has its fields. `dsctl verify` judges what was recorded of a store; `dsctl
+verify --help` has the lines of such a trace. `dsctl live` runs threads that
+share a store; `dsctl live --help` says what they do.
 
 Behind `service`, `death`, `beat` and `tick` RS's actions are printed, and then
 `actions N`: `kill ENDPOINT`, `start LABEL ENDPOINT`, `ping ENDPOINT`,

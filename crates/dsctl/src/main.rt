@@ -1,16 +1,21 @@
 //! `dsctl`: the data store at the command line. It reads standard input and writes standard output.
 //!
-//! The program is thin: the words of the command line are `clap`'s, the work is `ds_script`'s and `rs_settings`'s, what is said of
-//! a line that can't be read is `ds_explain`'s, and what is left here is the printing of settings and the choice of the exit
-//! status. 0: done. 1: refused input. 2: usage. 3: memory, reading or writing failed, and standard error says which.
+//! The program is thin: the words of the command line are `clap`'s, the work is `ds_script`'s, `rs_settings`'s, `trace_check`'s and
+//! `ds_live`'s, what is said of a line that can't be read is `ds_explain`'s, and what is left here is the printing of settings, verdicts
+//! and reports and the choice of the exit status. 0: done. 1: refused input. 2: usage. 3: memory, reading or writing failed, or a run of
+//! threads, and standard error says which.
 #![tactic(auto)]
 
 mod answers;
 mod failure;
 mod help;
+mod help_traces;
 mod help_words;
+mod live;
+mod live_words;
 mod settings;
 mod terminal;
+mod traces;
 mod words;
 
 use answers::Answers;
@@ -21,6 +26,8 @@ use failure::Failure;
 use std::io::{self, IsTerminal};
 use std::process::ExitCode;
 use std::rt::Runtime;
+use std::sync::Wait;
+use std::thread::Threads;
 use terminal::{Terminals, Typed};
 use words::Words;
 
@@ -39,10 +46,15 @@ fn main(rt: HostRuntime) -> ExitCode {
 }
 
 // Judges the words before any input is read, and then does what they ask for.
-fn run(rt: &(impl Runtime + AllocGlobal), terminals: Terminals) -> Result<ExitCode, Failure> {
+fn run<R: Runtime + AllocGlobal + Threads + Wait + Sync>(
+    rt: &R,
+    terminals: Terminals,
+) -> Result<ExitCode, Failure> {
     match words::read(rt) {
         Words::Replay(told) => replay_input(rt, terminals, bad_lines(told, terminals)),
         Words::Settings => settings::show_input(rt, terminals),
+        Words::Verify => traces::judge_input(rt, terminals),
+        Words::Live(sizes) => live::run(rt, sizes),
         Words::Shown => Ok(ExitCode::SUCCESS),
         Words::Usage => Ok(ExitCode::from(2)),
         Words::NoRoom => Err(Failure::NoRoom),

@@ -12,6 +12,8 @@ const GREETING_TO_STOP: &str = "dsctl: `help` shows the lines, ^D ends, and so d
 
 const GREETING_OF_SETTINGS: &str = "dsctl: a TOML text, as in dsctl settings --help, ^D ends";
 
+const GREETING_OF_TRACE: &str = "dsctl: a trace, as in dsctl verify --help, ^D ends";
+
 /// Which of the streams are terminals.
 #[derive(Clone, Copy, Debug)]
 pub(crate) struct Terminals {
@@ -39,8 +41,18 @@ impl Terminals {
 
 /// Greets somebody who types settings.
 pub(crate) fn greet_to_settings(rt: &impl Runtime, terminals: Terminals) {
+    greet(rt, terminals, GREETING_OF_SETTINGS);
+}
+
+/// Greets somebody who types a trace.
+pub(crate) fn greet_to_trace(rt: &impl Runtime, terminals: Terminals) {
+    greet(rt, terminals, GREETING_OF_TRACE);
+}
+
+// Greets somebody who types.
+fn greet(rt: &impl Runtime, terminals: Terminals, greeting: &str) {
     if terminals.are_both() {
-        let _ = eprintln!(rt; "{GREETING_OF_SETTINGS}");
+        let _ = eprintln!(rt; "{greeting}");
     }
 }
 
@@ -68,9 +80,17 @@ impl<'a, R: Runtime> Typed<'a, R> {
             let _ = eprintln!(rt; "{greeting}");
         }
         Typed {
+            prompts,
+            ..Typed::unprompted(rt)
+        }
+    }
+
+    /// Standard input, whoever types it, with no prompt.
+    pub(crate) fn unprompted(rt: &'a R) -> Typed<'a, R> {
+        Typed {
             rt,
             reader: rt.reader(),
-            prompts,
+            prompts: false,
             begins_line: true,
             fault: None,
         }

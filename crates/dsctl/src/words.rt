@@ -1,11 +1,14 @@
 //! The words of the command line.
 
 use crate::help::{ABOUT, LINES, LONG_ABOUT};
+use crate::help_traces::{VERIFY_ABOUT, VERIFY_LONG_ABOUT};
 use crate::help_words::{
     AFTER_HELP, KEEP_GOING_ABOUT, SETTINGS_ABOUT, SETTINGS_LONG_ABOUT, STOP_ABOUT,
 };
+use crate::live_words::{live, sizes_of};
 use clap::error::ErrorKind;
 use clap::{Arg, ArgAction, ArgMatches, Command, Error};
+use ds_live::Sizes;
 use ds_script::BadLines;
 use std::alloc::{AllocError, Global};
 use std::io;
@@ -18,6 +21,10 @@ pub enum Words {
     Replay(Option<BadLines>),
     /// To show what settings tell RS.
     Settings,
+    /// To judge a trace.
+    Verify,
+    /// To run threads, so many of each sort.
+    Live(Sizes),
     /// Help or the version was asked for, and stands on standard output.
     Shown,
     /// They are none of the program's, as standard error says.
@@ -57,6 +64,8 @@ fn parse<'a>(alloc: Global, words: &'a [String]) -> Result<Words, Error> {
     let matches: ArgMatches<'a> = program.try_get_matches_from(words)?;
     Ok(match matches.subcommand() {
         Some(("settings", _)) => Words::Settings,
+        Some(("verify", _)) => Words::Verify,
+        Some(("live", given)) => Words::Live(sizes_of(given)),
         Some(("replay", given)) if given.get_flag(KEEP_GOING) => {
             Words::Replay(Some(BadLines::GoOn))
         }
@@ -74,7 +83,9 @@ const STOP: &str = "stop";
 fn command<'a>(alloc: Global) -> Result<Command<'a>, AllocError> {
     let replay = replay(alloc)?;
     let program = program(alloc).subcommand(replay)?;
-    program.subcommand(settings(alloc))
+    let program = program.subcommand(settings(alloc))?;
+    let program = program.subcommand(verify(alloc))?;
+    program.subcommand(live(alloc)?)
 }
 
 // The program, without its subcommands.
@@ -111,10 +122,21 @@ fn settings<'a>(alloc: Global) -> Command<'a> {
         .long_about(SETTINGS_LONG_ABOUT)
 }
 
+fn verify<'a>(alloc: Global) -> Command<'a> {
+    Command::new(alloc, "verify")
+        .about(VERIFY_ABOUT)
+        .long_about(VERIFY_LONG_ABOUT)
+}
+
 // What somebody is told who named a file.
 const SCRIPT: &str = "A script is read from standard input, and not by its name: dsctl < SCRIPT";
 
 const TEXT: &str = "A text is read from standard input, and not by its name: dsctl settings < TEXT";
+
+const TRACE: &str =
+    "A trace is read from standard input, and not by its name: dsctl verify < TRACE";
+
+const NOTHING: &str = "Nothing is read by dsctl live, whose options have numbers behind them";
 
 // What somebody is told who said what becomes of bad lines before saying of what.
 const BEHIND_REPLAY: &str =
@@ -135,7 +157,12 @@ fn tip(given: &[String]) -> Option<&'static str> {
     if !given.iter().skip(1).any(|word| names_file(word.as_str())) {
         return None;
     }
-    Some(if first == "settings" { TEXT } else { SCRIPT })
+    Some(match first {
+        "settings" => TEXT,
+        "verify" => TRACE,
+        "live" => NOTHING,
+        _ => SCRIPT,
+    })
 }
 
 // Whether a word looks like the name of a file.

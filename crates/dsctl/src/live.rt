@@ -1,0 +1,47 @@
+//! A run of threads that publish, follow and exchange.
+
+use crate::failure::Failure;
+use ds_live::{LiveFault, LiveReport, OpenGate, Sizes, live_run};
+use std::process::ExitCode;
+use std::rt::Runtime;
+use std::sync::Wait;
+use std::thread::Threads;
+
+/// Runs as many publishers and subscribers as were asked for, and prints what came of it.
+pub(crate) fn run<R: Runtime + AllocGlobal + Threads + Wait + Sync>(
+    rt: &R,
+    sizes: Sizes,
+) -> Result<ExitCode, Failure> {
+    match live_run(rt, rt.alloc(), &OpenGate, sizes) {
+        Ok(report) => tell(rt, &report),
+        Err(fault) => Err(failure_of(fault)),
+    }
+}
+
+// Prints the four lines of a report.
+fn tell(rt: &impl Runtime, report: &LiveReport) -> Result<ExitCode, Failure> {
+    let entries = report.entries;
+    let maps = if report.maps { "equal" } else { "differ" };
+    let replicas = if report.replicas { "equal" } else { "differ" };
+    let account = if report.account { "exact" } else { "wrong" };
+    let printed = println!(rt;
+        "entries {entries}\nmaps {maps}\nreplicas {replicas}\naccount {account}"
+    );
+    match printed {
+        Ok(()) => Ok(ExitCode::SUCCESS),
+        Err(error) => Err(Failure::WriteFault(Some(error))),
+    }
+}
+
+fn failure_of(fault: LiveFault) -> Failure {
+    match fault {
+        LiveFault::NoRoom => Failure::NoRoom,
+        LiveFault::BadLimit => Failure::Live("badlimit"),
+        LiveFault::BadSizes => Failure::Live("badsizes"),
+        LiveFault::Desk(_) => Failure::Live("desk"),
+        LiveFault::Refused(_) => Failure::Live("refused"),
+        LiveFault::Stopped { .. } => Failure::Live("stopped"),
+        LiveFault::GateShut => Failure::Live("gateshut"),
+        LiveFault::NoThread => Failure::Live("nothread"),
+    }
+}
