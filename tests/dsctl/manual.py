@@ -117,8 +117,8 @@ def manual(version, whole, parts):
 
 
 def words_of(rows):
-    """The single words of options."""
-    return [word for names, _ in rows for word in names.split(", ")]
+    """The single words of options, without the values behind them."""
+    return [word.split()[0] for names, _ in rows for word in names.split(", ")]
 
 
 def bash(whole, parts):
@@ -150,8 +150,13 @@ def quoted(text):
 def zsh(whole, parts):
     """Completions for zsh."""
 
+    def argument(word, told):
+        option, _, value = word.partition(" ")
+        told = told.replace("[", "(").replace("]", ")")
+        return quoted(f"{option}[{told}]" + ":number:" * bool(value))
+
     def arguments(rows):
-        return " ".join(quoted(f"{word}[{told}]") for names, told in rows for word in names.split(", "))
+        return " ".join(argument(word, told) for names, told in rows for word in names.split(", "))
 
     commands = " ".join(quoted(f"{name}:{told}") for name, told in whole["long"].commands)
     cases = "".join(f"        {name}) _arguments {arguments(it.options)} ;;\n" for name, (it, _) in parts.items())
@@ -181,8 +186,10 @@ def fish(whole, parts):
     """Completions for fish."""
 
     def option(condition, names, told):
-        flags = " ".join(f"-l {it[2:]}" if it.startswith("--") else f"-s {it[1:]}" for it in names.split(", "))
-        return f"complete -c dsctl -n {condition} {flags} -d {quoted(told)}"
+        words = [it.partition(" ") for it in names.split(", ")]
+        flags = " ".join(f"-l {it[2:]}" if it.startswith("--") else f"-s {it[1:]}" for it, _, _ in words)
+        valued = " -x" * any(value for _, _, value in words)
+        return f"complete -c dsctl -n {condition} {flags}{valued} -d {quoted(told)}"
 
     lines = [f"# Completions for fish, {MADE}.", "complete -c dsctl -f"]
     lines += [f"complete -c dsctl -n __fish_use_subcommand -a {name} -d {quoted(told)}" for name, told in whole["long"].commands]

@@ -16,6 +16,7 @@ DOCUMENTS = TESTS.parent / "docs"
 SESSION = re.compile(r"(?<=\n\n)    > .*\n(?:    .*\n)*")  # within a document
 BAD_LINE = re.compile(rb"^badline (\d+) (\d+)$", re.MULTILINE)  # within answers
 BAD_SETTINGS = re.compile(rb"bad \w+( \d+)?\n")  # all that is printed of settings with a fault
+BAD_TRACE = re.compile(rb"(?:illegal|badline) (\d+)\n")  # all that is printed of a trace that isn't legal
 SECONDS = 120  # the longest that one run may take, on a busy machine too
 
 
@@ -28,7 +29,7 @@ class Case:
     input: pathlib.Path
     output: bytes
     status: int = 0
-    error: Optional[bytes] = None  # None: any text where the status is above 1, else a line for each bad line
+    error: Optional[bytes] = None  # None: any text where the status is above 1, else a line for each bad line, or for the one told
 
 
 @dataclass
@@ -67,12 +68,18 @@ def read_case(folder):
 
 
 def all_cases():
-    """Reads every case of tests/dsctl/cases, and every script and settings text of examples/ as a case of its own."""
+    """Reads every case of tests/dsctl/cases, and every script, settings text and trace of examples/ as a case of its own."""
     folders = sorted(path.parent for path in CASES.rglob("output"))
-    words = {".ds": [], ".toml": ["settings"]}
+    words = {".ds": [], ".toml": ["settings"], ".trace": ["verify"]}
     files = sorted(it for it in EXAMPLES.iterdir() if it.suffix in words)
-    told = [Case(f"examples/{it.name}", words[it.suffix], it, it.with_suffix(".out").read_bytes()) for it in files]
+    told = [Case(f"examples/{it.name}", words[it.suffix], it, it.with_suffix(".out").read_bytes(), status_beside(it)) for it in files]
     return [read_case(folder) for folder in folders] + told
+
+
+def status_beside(file):
+    """The exit status that stands beside an example's file, 0 where none does."""
+    path = file.with_suffix(".status")
+    return int(path.read_bytes()) if path.exists() else 0
 
 
 def all_sessions():
@@ -133,11 +140,13 @@ def fault(case, ran):
 
 
 def unexplained(output, error):
-    """Says that standard error hasn't just a line for each bad line of the output, or one for bad settings, or answers None."""
+    """Says that standard error hasn't just a line for each bad line of the output, or one for bad settings or a trace that isn't legal,
+    or answers None."""
     if BAD_SETTINGS.fullmatch(output):
         is_one = error.count(b"\n") == 1 and error.endswith(b"\n")
         return None if is_one else f"standard error is {error[:200]!r}, wanted one line"
-    wanted = [b"line %s, byte %s: " % it for it in BAD_LINE.findall(output)]
+    trace = BAD_TRACE.fullmatch(output)
+    wanted = [b"line %s: " % trace[1]] if trace else [b"line %s, byte %s: " % it for it in BAD_LINE.findall(output)]
     told = error.splitlines()
     if len(told) == len(wanted) and all(map(bytes.startswith, told, wanted)):
         return None
@@ -193,6 +202,13 @@ def report(faults):
 
 def program_given():
     """Gives the absolute path of the program that the command line names."""
-    if len(sys.argv) != 2 or not os.access(sys.argv[1], os.X_OK):
+    if len(sys.argv) != 2:
         sys.exit(f"usage: {sys.argv[0]} PROGRAM")
-    return os.path.abspath(sys.argv[1])
+    return program_at(sys.argv[1])
+
+
+def program_at(path):
+    """Gives the absolute path of a program, which has to be one that can be run."""
+    if not os.access(path, os.X_OK):
+        sys.exit(f"{sys.argv[0]}: {path} isn't a program")
+    return os.path.abspath(path)

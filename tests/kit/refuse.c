@@ -1,6 +1,7 @@
 // Preloaded into a program (LD_PRELOAD), this refuses it one growth of memory, one read or one write.
 //
 //   REFUSE_GROWTH=n  the n-th growth of memory fails with ENOMEM
+//   REFUSE_THREAD=n  the n-th thread can't be made, by EAGAIN
 //   REFUSE_LATER=1   and so does each later one
 //   REFUSE_BEHIND=k  growths behind the k-th write alone are counted
 //   REFUSE_READ=n    the n-th read of standard input fails with EIO
@@ -22,6 +23,7 @@
 #include <dlfcn.h>
 #include <errno.h>
 #include <fcntl.h>
+#include <pthread.h>
 #include <stdatomic.h>
 #include <stddef.h>
 #include <stdint.h>
@@ -38,7 +40,9 @@ static _Atomic uint64_t *tally; // NULL until main begins
 static uint64_t refused[WORDS]; // which call of each kind fails; 0 for none
 static uint64_t most = SIZE_MAX; // bytes of one read or write
 static uint64_t writes_before;   // so many writes come before the first growth that is counted
-static uint64_t later;           // whether growths behind the one that fails fail too
+static uint64_t later;           // whether growths and threads behind the one that fails fail too
+static uint64_t refused_thread;  // which thread can't be made; 0 for none
+static _Atomic uint64_t threads; // how many were asked for
 static int stack_file = -1; // none
 static char *main_frame;
 
@@ -67,6 +71,7 @@ static void begin(void) {
         most = number_of("REFUSE_SHORT");
     writes_before = number_of("REFUSE_BEHIND");
     later = number_of("REFUSE_LATER");
+    refused_thread = number_of("REFUSE_THREAD");
     stack_file = opened("REFUSE_STACK");
     tally = words;
 }
@@ -217,4 +222,17 @@ ssize_t writev(int file, const struct iovec *parts, int count) {
         return syscall(SYS_writev, file, parts, count);
     const struct iovec *first = first_filled(parts, count);
     return write(file, first->iov_base, first->iov_len);
+}
+
+// ---- threads ----
+
+typedef int create_function(pthread_t *, const pthread_attr_t *, void *(*)(void *), void *);
+
+int pthread_create(pthread_t *thread, const pthread_attr_t *how, void *(*work)(void *), void *given) {
+    create_function *create = (create_function *)dlsym(RTLD_NEXT, "pthread_create");
+    uint64_t asked = atomic_fetch_add(&threads, 1) + 1;
+    int is_later = later && asked > refused_thread;
+    if (refused_thread && (asked == refused_thread || is_later))
+        return EAGAIN;
+    return create(thread, how, work, given);
 }

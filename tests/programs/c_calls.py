@@ -51,9 +51,40 @@ def loaded(path):
     library.ds_call.argtypes = [handle, pointer(Request), ctypes.c_char_p, ctypes.c_size_t, pointer(Answer)]
     library.ds_items.argtypes = [handle, ctypes.c_size_t, ctypes.c_char_p, ctypes.c_size_t, pointer(Given)]
     library.ds_close.argtypes = [handle]
+    library.ds_map_new.argtypes = [handle, ctypes.c_uint8, ctypes.c_char_p, ctypes.c_size_t]
+    library.ds_map_take.argtypes = [handle, ctypes.c_char_p, ctypes.c_size_t, pointer(Answer)]
+    library.ds_map_label.argtypes = [handle, ctypes.c_char_p, ctypes.c_size_t, pointer(Answer)]
+    library.ds_map_close.argtypes = [handle]
     for call in (library.ds_open, library.ds_call, library.ds_items, library.ds_close):
         call.restype = ctypes.c_uint32
+    for call in (library.ds_map_new, library.ds_map_take, library.ds_map_label, library.ds_map_close):
+        call.restype = ctypes.c_uint32
     return library
+
+
+class Map:
+    """A subscriber's map behind a handle."""
+
+    def __init__(self, library):
+        self.library, self.handle = library, ctypes.c_void_p()
+
+    def make(self, pattern, kinds):
+        """The word of the call."""
+        return self.library.ds_map_new(ctypes.byref(self.handle), kinds, pattern, len(pattern))
+
+    def take(self, text):
+        return self.told(self.library.ds_map_take, text)
+
+    def label(self, name):
+        return self.told(self.library.ds_map_label, name)
+
+    def told(self, call, text):
+        answer = Answer()
+        called = call(ctypes.byref(self.handle), text, len(text), ctypes.byref(answer))
+        return told(answer, [], False) if called == 0 else [f"call {called}"]
+
+    def close(self):
+        return self.library.ds_map_close(ctypes.byref(self.handle))
 
 
 class Session:
@@ -79,10 +110,26 @@ class Session:
         command, taken = model.read(line)
         if command == b"restart":
             return [f"refused {word}" for word in [self.open(taken[1], self.first, self.ring)] if word] or RESTARTED
-        request, text = asked(command, line, taken)
+        return self.ask(command, line, taken)
+
+    def ask(self, command, line, taken):
+        """The lines that a script would print for a command."""
+        answer, pieces = self.call(*asked(command, line, taken))
+        return told(answer, pieces, command == b"offer")
+
+    def merge(self, text):
+        """The answer to a merge of the items whose lines the text is."""
+        request = Request()
+        request.command, request.text_length = COMMANDS.index(b"merge"), len(text)
+        return self.call(request, text)[0]
+
+    def call(self, request, text):
+        """The answer to a request, and the pieces of its text."""
         answer = Answer()
         called = self.library.ds_call(ctypes.byref(self.handle), ctypes.byref(request), text, len(text), ctypes.byref(answer))
-        return told(answer, self.pieces(answer), command == b"offer") if called == 0 else [f"call {called}"]
+        if called:
+            raise AssertionError(f"call {called}")
+        return answer, self.pieces(answer)
 
     def pieces(self, answer):
         """All pieces of the last answer's text, as many as fit the room at a time."""

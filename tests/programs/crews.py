@@ -45,31 +45,39 @@ class Crews:
                 return f"{line!r}: status {ran.status}, output {ran.output[:200]!r}"
         return None
 
-    def growths(self, refuser, room, threads, calls):
-        """Refuses each growth of one crew in turn. Says what was wrong with the first bad answer, or answers None."""
+    def small_case(self, room, threads, calls):
+        """A crew of one thread and one call, and one of so many, as a case in a file of its own."""
         given = pathlib.Path(room) / f"{self.shared}_{threads}_{calls}"
         given.write_bytes(self.asked(1, 1) + self.asked(threads, calls))
+        return harness.Case(given.name, [], given, self.lines_of(1, 1)[0] + self.lines_of(threads, calls)[0])
+
+    def refused_fault(self, ran, threads, calls):
+        """Says what is wrong with a run of such a case of which one growth was refused, or answers None."""
         first, second = self.lines_of(1, 1), self.lines_of(threads, calls)
-        case = harness.Case(given.name, [], given, first[0] + second[0])
-        wanted = {case.output} | {line + second[0] for line in first} | {first[0] + line for line in second}
+        if ran.status == 3 and (ran.error != b"noroom\n" or ran.output not in (b"", first[0])):
+            return f"it ended with {ran.output[:200]!r}, {ran.error[:200]!r}"
+        wanted = {first[0] + line for line in second} | {line + second[0] for line in first}
+        if ran.status != 3 and (ran.status, ran.error, ran.output in wanted) != (0, b"", True):
+            return f"status {ran.status}, output {ran.output[:200]!r}, standard error {ran.error[:200]!r}"
+        return None
+
+    def growths(self, refuser, room, threads, calls):
+        """Refuses each growth of one crew in turn. Says what was wrong with the first bad answer, or answers None."""
+        case = self.small_case(room, threads, calls)
         ended = answered = 0
 
         def refused(ran):
             nonlocal ended, answered
             ended += ran.status == 3
             answered += ran.status == 0 and ran.output != case.output
-            if ran.status == 3 and (ran.error != b"noroom\n" or ran.output not in (b"", first[0])):
-                return f"it ended with {ran.output[:200]!r}, {ran.error[:200]!r}"
-            if ran.status != 3 and (ran.status, ran.error, ran.output in wanted) != (0, b"", True):
-                return f"status {ran.status}, output {ran.output[:200]!r}, standard error {ran.error[:200]!r}"
-            return None
+            return self.refused_fault(ran, threads, calls)
 
         wrong = refuser.each_growth(case, refused)
         if wrong:
             return wrong
         if not ended:
             return "no refused growth ended it"
-        return None if answered or len(first) == 1 else "no refused growth was answered by name in a call"
+        return None if answered or len(self.words) == 1 else "no refused growth was answered by name in a call"
 
     def faults(self, refuser, room):
         """What was wrong with each crew, each several times, and with the growths of small ones, or None."""

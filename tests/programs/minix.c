@@ -4,7 +4,7 @@
 #include <stdio.h>
 #include <string.h>
 
-static struct ds_handle store = DS_CLOSED;
+static struct ds_server server = DS_SERVER_CLOSED;
 
 static const char *name_of(int error) {
     switch (error) {
@@ -39,17 +39,17 @@ static void check(struct ds_caller *caller) {
 }
 
 int main(void) {
-    struct ds_caller rs = {.store = &store, .endpoint = DS_ENDPOINT(0, 2), .sub = 8};
-    struct ds_caller eth = {.store = &store, .endpoint = DS_ENDPOINT(3, 16), .sub = 16};
-    struct ds_caller other = {.store = &store, .endpoint = DS_ENDPOINT(5, 17), .sub = 24};
-    struct ds_caller inet = {.store = &store, .endpoint = DS_ENDPOINT(0, 5), .sub = 40};
+    struct ds_caller rs = {.server = &server, .endpoint = DS_ENDPOINT(0, 2), .sub = 8};
+    struct ds_caller eth = {.server = &server, .endpoint = DS_ENDPOINT(3, 16), .sub = 16};
+    struct ds_caller other = {.server = &server, .endpoint = DS_ENDPOINT(5, 17), .sub = 24};
+    struct ds_caller inet = {.server = &server, .endpoint = DS_ENDPOINT(0, 5), .sub = 40};
     ds_endpoint_t endpoint = 0;
     uint32_t number = 0;
     char text[300], label[DS_MAX_KEYLEN];
     size_t length;
 
     said("nothing is open", ds_retrieve_u32(&inet, "mtu", &number));
-    if (ds_open(&store, 1, 0, 64)) return 1;
+    if (ds_open(&server.store, 1, 0, 64)) return 1;
 
     said("subscribe", ds_subscribe(&inet, "eth0.*", DSF_INITIAL));
     said("subscribe again", ds_subscribe(&inet, "eth0.*", 0));
@@ -101,5 +101,5 @@ int main(void) {
     said("it runs again", ds_publish_label(&rs, "eth0", eth.endpoint, DSF_OVERWRITE));
     said("its number", ds_publish_u32(&eth, "eth0.mtu", 1492, 0));
     check(&inet), check(&inet), check(&inet), check(&inet), check(&inet);
-    return ds_close(&store) != 0;
+    return ds_close(&server.store) != 0;
 }

@@ -31,6 +31,61 @@ static void fetch(const char *what, size_t first, size_t length) {
     printf("%s: call %u, count %u, length %u, stop %u, room %.7s\n", what, call, (unsigned)given.count, (unsigned)given.length, given.stop, room);
 }
 
+static struct ds_map map = DS_CLOSED;
+
+static void make(const char *what, unsigned kinds, const char *pattern, size_t length) {
+    printf("%s: call %u\n", what, ds_map_new(&map, (uint8_t)kinds, pattern, length));
+}
+
+static void take(const char *what, const char *lines, size_t length) {
+    memset(&answer, 0xee, sizeof answer);
+    said(what, ds_map_take(&map, lines, length, &answer));
+    printf("  count %u, taken %u, stale %u\n", (unsigned)answer.count, (unsigned)answer.taken, (unsigned)answer.stale);
+}
+
+static void where(const char *what, const char *name, size_t length) {
+    memset(&answer, 0xee, sizeof answer);
+    said(what, ds_map_label(&map, name, length, &answer));
+}
+
+static void maps(void) {
+    char long_name[129];
+    memset(long_name, 'a', sizeof long_name);
+    memset(&answer, 0xee, sizeof answer);
+    uint32_t call = ds_map_take(&map, "! tty 1\n", 8, &answer);
+    printf("a closed map takes nothing: call %u, the answer's place untouched %d\n", call, answer.word == 0xeeeeeeee);
+    call = ds_map_label(&map, "eth0", 4, &answer);
+    printf("nor has it a label: call %u, the answer's place untouched %d\n", call, answer.word == 0xeeeeeeee);
+    printf("nor a close: call %u\n", ds_map_close(&map));
+    make("of no kind", 0, "eth.*", 5);
+    make("of a kind too many", 16, "eth.*", 5);
+    make("of kinds 0xff", 255, "eth.*", 5);
+    make("kinds and pattern are wrong", 0, "(", 1);
+    make("no pattern", 15, "(", 1);
+    make("a pattern of 129 bytes", 15, long_name, 129);
+    make("a pattern of bytes 0xff", 15, "\xff\xff", 2);
+    make("a map", 15, "eth.*", 5);
+    make("a map twice", 15, "eth.*", 5);
+    take("no lines", NULL, 0);
+    take("half a line", "eth0 labe", 9);
+    take("a line and a half", "! tty 1\n! ", 10);
+    take("bytes 0xff", "\xff\xff", 2);
+    where("nothing of it", "eth0", 4);
+    take("a floor and a label", "! tty 1\neth0 label rs 3.0 = 3/16\n", 33);
+    take("another body of it", "! usb 1\neth0 label rs 3.0 = 3/17\n! usb 2\n", 41);
+    take("an older one, and one that isn't asked for", "eth0 label rs 2.0 = 2/16\ntty0 label rs 2.0 = 2/17\n", 50);
+    where("a name", "eth0", 4);
+    where("a name that isn't asked for", "tty0", 4);
+    where("no name", "eth 0", 5);
+    where("an empty name", NULL, 0);
+    where("a name of 65 bytes", long_name, 65);
+    printf("closed: call %u\n", ds_map_close(&map));
+    printf("closed twice: call %u\n", ds_map_close(&map));
+    make("made again", 1, "", 0);
+    where("it holds nothing", "eth0", 4);
+    printf("closed: call %u\n", ds_map_close(&map));
+}
+
 int main(void) {
     struct ds_request it = label("eth0");
     memset(&answer, 0xee, sizeof answer);
@@ -118,5 +173,6 @@ int main(void) {
     it = label("eth0");
     ask("a sound request", it, NULL, 0);
     printf("closed: call %u\n", ds_close(&store));
+    maps();
     return 0;
 }

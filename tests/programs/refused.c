@@ -63,6 +63,25 @@ static int whole(const struct ds_answer *answer, long *wanting) {
     return 1;
 }
 
+/* A map is made, takes some items and says where a label is: however often memory is wanting, what it was given is there in the end. */
+static int mapped(long n, long *wanting) {
+    static const char items[] = "! tty 1\neth0 label rs 3.0 = 3/16\neth0.s str eth0 3.1 = \"a value\"\neth1 label rs 4.0 = 4/17\n";
+    static struct ds_map map = DS_CLOSED;
+    struct ds_answer said = {0};
+    left = n;
+    uint32_t made = ds_map_new(&map, 15, "eth.*", 5);
+    if (made == DS_NOROOM) left = -1, ++*wanting, made = ds_map_new(&map, 15, "eth.*", 5);
+    for (int i = 0; i < 3 && said.word != DS_MERGED; i++) {
+        if (ds_map_take(&map, items, sizeof items - 1, &said)) return 0;
+        if (said.word == DS_MERGED) break;
+        if (said.refusal != DS_NOROOM || (said.word != DS_STOPPED && said.word != DS_REFUSED)) return 0;
+        left = -1, ++*wanting;
+    }
+    left = -1;
+    int whole = made == 0 && said.count == 4 && ds_map_label(&map, "eth1", 4, &said) == 0 && said.word == DS_FOUND && said.value == 4;
+    return ds_map_close(&map) == 0 && whole;
+}
+
 int main(void) {
     prepare();
     static struct ds_answer full[CALLS];
@@ -97,5 +116,11 @@ int main(void) {
             bad += ds_close(&store) != (open ? (uint32_t)DS_ISCLOSED : 0u);
         }
     printf("each refused: some not opened %d, some without room %d, some texts waited %d; wrong %ld\n", unopened > 0, noroom > 0, wanting > 0, bad);
+    long before = asked, waited = 0;
+    bad += !mapped(-1, &waited) || waited;
+    before = asked - before;
+    for (once = 0; once < 2; once++)
+        for (long n = 0; n < before; n++) bad += !mapped(n, &waited);
+    printf("a map: some waited %d; wrong %ld\n", waited > 0, bad);
     return bad != 0;
 }

@@ -42,6 +42,7 @@ ALL = [
     at_a_terminal.takes_a_line_in_two_pieces,
     at_a_terminal.names_the_keys_of_a_terminal,
     at_a_terminal.greets_who_types_settings,
+    at_a_terminal.greets_who_types_a_trace,
     at_a_terminal.says_why_at_a_terminal,
     at_a_terminal.is_silent_where_one_stream_is_no_terminal,
     words.the_manual_and_the_completions_are_current,

@@ -7,6 +7,7 @@ import terminal
 
 from .running import expect
 
+NO_HEADER = b"line 1: a header was expected, `trace 2 INCARNATION FIRST RING SUBS KEYS`\n"
 GREETING = b"dsctl: `help` shows the lines, ^D ends. A bad line ends nothing\n"
 
 
@@ -77,12 +78,19 @@ def greets_who_types_settings(program):
     assert (ran.seen, ran.status) == (b"dsctl: a TOML text, as in dsctl settings --help, ^D ends\nservices 0 slots 64\n", 0), f"{ran}"
 
 
+def greets_who_types_a_trace(program):
+    """Somebody who types a trace is told what is waited for, and sees no prompt, which would look like the beginning of an entry."""
+    ran = terminal.session(program, ["verify"], [], prompt=b"ends\n")
+    assert (ran.seen, ran.status) == (b"dsctl: a trace, as in dsctl verify --help, ^D ends\nbadline 1\n" + NO_HEADER, 1), f"{ran}"
+
+
 def says_why_at_a_terminal(program):
     """Behind `readfault` and `writefault` a terminal is told why; a file gets the word alone."""
     seen = told_at_a_terminal(program, ["sh", "-c", '"$0" < /'])
     assert seen == b"readfault\nthe input can't be read: Is a directory (os error 21)\n", seen
-    seen = told_at_a_terminal(program, ["sh", "-c", '"$0" settings < /'])
-    assert seen == b"readfault\nthe input can't be read: Is a directory (os error 21)\n", seen
+    for word in ("settings", "verify"):
+        seen = told_at_a_terminal(program, ["sh", "-c", f'"$0" {word} < /'])
+        assert seen == b"readfault\nthe input can't be read: Is a directory (os error 21)\n", seen
     seen = told_at_a_terminal(program, ["sh", "-c", '(sleep 0.3; echo show; echo show) | "$0" | true'])
     assert seen == b"writefault\nnobody reads the answers any more\n", seen
     seen = told_at_a_terminal(program, ["sh", "-c", 'echo show | "$0" > /dev/full'])

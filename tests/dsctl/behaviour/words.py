@@ -83,6 +83,9 @@ def does_as_its_help_shows(program):
     five = [re.split(" {2,}", row)[0] for row in rows_below("A driver that dies and is started again, in five lines", help_)]
     assert len(five) == 5, f"the help shows {five}"
     expect(harness.run([program], script_of(five)), FIVE_ANSWERED, 0)
+    trace = rows_below("A trace that is legal, of two entries", harness.run([program, "verify", "--help"], b"").output.decode())
+    assert len(trace) == 5, f"the help shows {trace}"
+    expect(harness.run([program, "verify"], script_of(trace)), b"legal 2\n", 0)
 
 
 def rows_below(title, text):
@@ -104,7 +107,7 @@ def reminds_in_rows_of_eighty_columns(program):
         rows = ran.output.decode().splitlines()
         assert (ran.status, ran.error) == (0, b""), f"{words}: status {ran.status}, standard error {ran.error[:200]!r}"
         assert forms <= {row.split()[0] for row in rows if row.startswith("  ")}, f"{words}: {ran.output!r}"
-    for words in (["-h"], ["--help"], ["replay", "-h"], ["replay", "--help"], ["settings", "-h"], ["settings", "--help"]):
+    for words in (["-h"], ["--help"], *([name, how] for name in ("replay", "settings", "verify", "live") for how in ("-h", "--help"))):
         rows = harness.run([program, *words], b"").output.decode().splitlines()
         assert max(map(len, rows)) <= 80, f"{words}: a row of {max(map(len, rows))} columns"
 
@@ -122,11 +125,13 @@ def points_at_standard_input(program):
     """Who names a file as a word is told how it is given, and who asks to go on before any word, where that stands; others aren't."""
     settings = b"dsctl settings < TEXT"
     tips = [(["script.ds"], b"dsctl < SCRIPT"), (["replay", "a/script"], b"dsctl < SCRIPT"), (["settings", "machine.toml"], settings)]
+    tips += [(["verify", "recorded.trace"], b"dsctl verify < TRACE"), (["verify", "a/trace"], b"dsctl verify < TRACE")]
+    tips += [(["live", "script.ds"], b"Nothing is read by dsctl live")]
     tips += [(["--keep-going"], b"dsctl replay --keep-going"), (["--stop"], b"dsctl replay --keep-going")]
     for words, tip in tips:
         ran = harness.run([program, *words], b"")
         assert (ran.status, ran.output) == (2, b"") and tip in ran.error, f"{words}: {ran}"
-    for words in (["--hlep"], ["repaly"], ["replay", "--keep"], ["settings", "--hlep"], ["replay", "--stop", "--keep-going"]):
+    for words in (["--hlep"], ["repaly"], ["replay", "--keep"], ["settings", "--hlep"], ["verify", "--hlep"], ["live", "--hlep"], ["replay", "--stop", "--keep-going"]):
         ran = harness.run([program, *words], b"")
         assert (ran.status, ran.output) == (2, b"") and b"standard input" not in ran.error, f"{words}: {ran}"
 

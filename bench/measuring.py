@@ -1,0 +1,30 @@
+"""What the time and the memory of one run are."""
+import os
+import re
+import subprocess
+import sys
+import time
+
+
+def timed(words, path):
+    """Seconds of processor time of one run of a command."""
+    with open(path) as given:
+        started = subprocess.Popen(words, stdin=given, stdout=subprocess.DEVNULL)
+        _, status, used = os.wait4(started.pid, 0)
+    started.returncode = os.waitstatus_to_exitcode(status)
+    if started.returncode:
+        sys.exit(f"{words[0]} ended with status {started.returncode}")
+    return used.ru_utime + used.ru_stime
+
+
+def held(words, path):
+    """The most memory of one run of a command, in KiB, as the kernel tells it every few milliseconds until the end."""
+    most = 0
+    with open(path) as given:
+        started = subprocess.Popen(words, stdin=given, stdout=subprocess.DEVNULL)
+        while started.poll() is None:
+            with open(f"/proc/{started.pid}/status") as status:
+                told = re.search(r"VmHWM:\s+([0-9]+)", status.read())
+            most = max(most, int(told[1])) if told else most
+            time.sleep(0.002)
+    return most

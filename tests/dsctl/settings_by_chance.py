@@ -1,0 +1,61 @@
+"""Seeded settings texts, sound and with faults, and what the program is to say of each."""
+import random
+
+from model import restarts, session
+
+LABELS = ("eth0", "disk", "tty", "at_wini", "e1000-1", "a" * 64)
+# Instead of a field's own value: of another type, or out of its range, or just within it.
+ODD = (0, 1, -1, 255, 256, 1000, 1001, 1000000, 1000001, 2**62, 2**63, 1.5, True, "", "rs", "eth 0", "a" * 65, [], ["mtu", "mtu"], [1], {})
+BYTES = b'0a="[]{}#\n,.-_ \\\xff'
+
+
+def text_of(seed):
+    """The settings text of a seed."""
+    chance = random.Random(seed)
+    settings = {"slots": chance.choice([1, 8, 64, 1008, 1009])} if chance.random() < 0.5 else {}
+    services = [service_by_chance(chance, unit) for unit in range(chance.randrange(6))]
+    for service in services:
+        if chance.random() < 0.15:
+            service[chance.choice([*restarts.FIELDS, "units"])] = chance.choice(ODD)
+        if chance.random() < 0.05:
+            service.pop(chance.choice(list(service)), None)
+    settings["service"] = services
+    if chance.random() < 0.03:
+        settings[chance.choice(["slots", "service", "services"])] = chance.choice(ODD)
+    text = restarts.written(settings).encode()
+    return text if chance.random() < 0.7 else spoilt(chance, text)
+
+
+def service_by_chance(chance, unit):
+    """A service, nearly always one that may stand."""
+    kind = chance.choice(restarts.CLASSES)
+    service = {"label": chance.choice(LABELS), "class": kind}
+    if kind != "server":
+        service["unit"] = unit if chance.random() < 0.9 else 0
+    for field, values in (("period", (0, 1, 1000000)), ("limit", (0, 3, 1000))):
+        if chance.random() < 0.6:
+            service[field] = chance.choice(values)
+    if chance.random() < 0.4:
+        service["publishes"] = [f"{name}.{unit // 2}" for name in chance.sample(["mtu", "mac", "id"], 2)]
+    return service
+
+
+def spoilt(chance, text):
+    """The text with one byte of it changed, left out or doubled."""
+    at = chance.randrange(len(text))
+    return text[:at] + chance.choice([bytes([chance.choice(BYTES)]), b"", text[at : at + 1] * 2]) + text[at + 1 :]
+
+
+def wanted(text):
+    """What the program has to say of a settings text, and its status."""
+    try:
+        slots, services = restarts.judged(session.document(text))
+    except restarts.Bad as bad:
+        return f"bad {bad}\n".encode(), 1
+    return b"".join(line_of(it) for it in services) + b"services %d slots %d\n" % (len(services), slots), 0
+
+
+def line_of(service):
+    unit = "-" if service["unit"] is None else service["unit"]
+    fields = f"period {service['period']} limit {service['limit']} publishes {len(service['publishes'])}"
+    return f"service {service['label']} {service['class']} {unit} {fields}\n".encode()
