@@ -1,4 +1,6 @@
-"""A second opinion on `dsctl verify`, written from the rules of the trace format: the verdict on a trace, in the words of the program."""
+"""A second opinion on traces, written from the rules of their format: the verdict on one as `dsctl verify` prints it, and one of
+format 1 in format 2, as `dsctl upgrade` writes it."""
+import functools
 import re
 
 from . import lines
@@ -22,7 +24,7 @@ class Wrong(Exception):
 
 
 class OlderStore(Store):
-    """A store of format 1, whose sweeps leave tombstones."""
+    """A store of format 1, whose sweeps leave tombstones. `swept` has those of the last one, each its line and the bits owed for it."""
 
     def sweep(self, caller, owner, generation):
         """Leaves a tombstone over each live entry of the owner's up to the generation."""
@@ -31,11 +33,23 @@ class OlderStore(Store):
         gone = [key for key in sorted(self.held) if self.is_swept(key, owner, generation)]
         if self.position() + len(gone) > LAST_PLACE:
             raise Refused("worn")
-        owed = 0
+        self.swept = []
         for key in gone:
             told = self.take(key, owner, (generation, lines.MOST_NUMBER), None)
-            owed |= sum(int(it.split()[1], 16) for it in told[1:])
-        return [b"swept %d" % len(gone)] + self.mask_line(owed)
+            self.swept.append((self.accepted[-1][1], sum(int(it.split()[1], 16) for it in told[1:])))
+        return [b"swept %d" % len(gone)] + self.mask_line(self.owed_for(self.swept))
+
+    def owed_for(self, swept):
+        """The bits that are owed for some tombstones together."""
+        return functools.reduce(int.__or__, (owed for _, owed in swept), 0)
+
+    def merges(self):
+        """The Merges that the tombstones of the last sweep are, each by its lines behind `> PASS `."""
+        for at in range(0, len(self.swept), MOST_ITEMS):
+            part = self.swept[at : at + MOST_ITEMS]
+            yield [b"merge %d" % len(part)] + [b"+ " + line for line, _ in part] + [
+                b"< " + it for it in [b"merged %d %d 0" % (len(part), len(part))] + self.mask_line(self.owed_for(part))
+            ]
 
     def is_swept(self, key, owner, generation):
         """Whether a sweep ends what is held for the key."""
@@ -136,6 +150,15 @@ class Trace:
             if self.next("illegal") != b"< " + line:
                 raise Wrong("illegal", self.at)
 
+    def upgraded(self, given):
+        """The lines of an entry of format 1, which was judged, in format 2: a sweep is the Merges of its tombstones, if it left any."""
+        mark, number, asked = given[0].split(b" ", 2)
+        if not asked.startswith(b"sweep "):
+            return given
+        if not given[1].startswith(b"< swept "):
+            return []
+        return [line for first, *more in self.store.merges() for line in [b"%s %s %s" % (mark, number, first), *more]]
+
 
 def verify(text):
     """What `dsctl verify` says of a trace, and its status."""
@@ -148,3 +171,25 @@ def verify(text):
     except Wrong as wrong:
         return b"%s %d\n" % (wrong.word.encode(), wrong.number), 1
     return b"legal %d\n" % count, 0
+
+
+def upgrade(text):
+    """What `dsctl upgrade` writes of a trace, what it says of it on standard error, and its status."""
+    trace, given = Trace(text), []
+    try:
+        trace.header()
+        if not trace.is_older:
+            return b"", b"already 2\n", 1
+        given.append(trace.lines[0].replace(b"trace 1", b"trace 2") + b" 64 1024")
+        while trace.at < len(trace.lines):
+            first = trace.at
+            trace.entry()
+            given += trace.upgraded(trace.lines[first : trace.at])
+    except Wrong as wrong:
+        return text_of(given), b"%s %d\n" % (wrong.word.encode(), wrong.number), 1
+    return text_of(given), b"", 0
+
+
+def text_of(given):
+    """The text of lines."""
+    return b"".join(it + b"\n" for it in given)

@@ -82,12 +82,7 @@ def forged(seed, given):
     return given
 
 
-def text_of(given):
-    """The text of a trace."""
-    return b"".join(it + b"\n" for it in given)
-
-
 def texts_of(seed):
     """The text of the trace of a seed, and of that trace forged."""
     given = trace_of(seed)
-    return text_of(given), text_of(forged(seed, given))
+    return traces.text_of(given), traces.text_of(forged(seed, given))
