@@ -103,15 +103,3 @@ further_short front next p = place_of front true (λ (line : List ℕ). line ≡
 
 pub further_there : (front next here : List ℕ) → IsPlaceInEntry front true (λ (line : List ℕ). line ≡ 60 ∷ 32 ∷ next) → IsPlaceInEntry front true (IsThere here next)
 further_there front next here p = place_of front true (λ (line : List ℕ). line ≡ 60 ∷ 32 ∷ next) (IsThere here next) (λ line e same. e) p
-
--- ---- marks
-
-pub marked_none : marked [] ≡ []
-unfolding marked_from
-marked_none = refl
-
-pub marked_more : (line more : List ℕ) → EndsLine line → marked (line ++ more) ≡ 60 ∷ 32 ∷ (line ++ marked more)
-marked_more line more e =
-    ap (λ (l : List ℕ). marked l) (ap (λ (l : List ℕ). l ++ more) e.parts ∙ append_assoc e.front (10 ∷ []) more)
-    ∙ marked_line e.front more e.none
-    ∙ ap (λ (l : List ℕ). 60 ∷ 32 ∷ l) (sym (append_assoc e.front (10 ∷ []) (marked more)) ∙ ap (λ (l : List ℕ). l ++ marked more) (sym e.parts))

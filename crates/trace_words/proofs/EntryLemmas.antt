@@ -20,7 +20,7 @@ use Rattle.trace_words.specs.declared.asked.Asked.{Asked}
 use Rattle.trace_words.specs.declared.asked.Asked.TheVariants.{Line, Merge}
 use Rattle.trace_words.specs.declared.header.Format.{Format}
 use Rattle.trace_words.specs.declared.header.Header.{Header}
-use Rattle.trace_words.specs.Legal.{StepOf, EntryLeads, AllLead, opened_by}
+use Rattle.trace_words.specs.Legal.{StepOf, EntryLeads, AllLead, opened_by, IsTrace}
 use Rattle.trace_words.specs.OneReply.{IsTraced}
 use Rattle.trace_words.specs.Text.{TraceEntry, IsEntry, MayAsk, MayMerge, command_asked, worded_as, marked, asked_text, reply_text, entry_text, trace_text, header_text, pass_text, line_text, merge_text, plus_text}
 use Rattle.trace_words.specs.Verdict.{IsLegal}
@@ -127,6 +127,16 @@ text_more h entries e =
     append_assoc (header_text h) (flat_map (entry_text h.limits) entries) (entry_text h.limits e)
     ∙ ap (λ (l : List ℕ). header_text h ++ l) (ap (λ (l : List ℕ). flat_map (entry_text h.limits) entries ++ l) (sym (append-nil (entry_text h.limits e))) ∙ sym (flat_map-append (entry_text h.limits) entries (e ∷ [])))
 
+-- a trace with one more entry is one
+pub trace_more : (front : List ℕ) (h : Header) (entries : List TraceEntry) (e : TraceEntry) (s t : State) → IsTrace front h entries s → IsEntry h.format e → EntryLeads h.format s e t → IsTrace (front ++ entry_text h.limits e) h (entries ++ e ∷ []) t
+trace_more front h entries e s t trace is x =
+    record {
+      header = trace.header;
+      each = All-push (IsEntry h.format) entries e trace.each is;
+      history = leads_more h.format (opened_by h) s t entries e trace.history x;
+      written = ap (λ (l : List ℕ). l ++ entry_text h.limits e) trace.written ∙ text_more h entries e;
+    }
+
 pub asked_some : (pass : ℕ) (asked : Asked) → 0 < length (asked_text pass asked)
 asked_some pass (Line c) = omega arith
 asked_some pass (Merge items) = omega arith
@@ -142,12 +152,7 @@ pub entries_lead : EntriesLead
 entries_lead front h s t count e b is x =
     record {
       entries = b.entries ++ e ∷ [];
-      trace = record {
-        header = b.trace.header;
-        each = All-push (IsEntry h.format) b.entries e b.trace.each is;
-        history = leads_more h.format (opened_by h) s t b.entries e b.trace.history x;
-        written = ap (λ (l : List ℕ). l ++ entry_text h.limits e) b.trace.written ∙ text_more h b.entries e;
-      };
+      trace = trace_more front h b.entries e s t b.trace is x;
       counted = omega (arith, b.counted, length-append b.entries (e ∷ []));
       traced = traced_stays h.format e.pass e.asked x.0 s t e.reply b.traced is.asked x.1 x.2;
       only = λ more n legal.

@@ -12,3 +12,4 @@ pub mod TracedLemmas
 pub mod EntryLemmas
 pub mod PlaceLemmas
 pub mod HistoryLemmas
+pub mod UpgradeLemmas

@@ -1,5 +1,5 @@
 -- Texts that begin with a line, and lines with their marks.
-use Rattle.std.proofs.Common.{◌≡◌, ◌≢◌, ℕ, ◌==◌, Bool, true, false, List, [], ◌∷◌, ◌++◌, drop, refl, sym, ap, ◌∙◌, arith, append_assoc}
+use Rattle.std.proofs.Common.{◌≡◌, ◌≢◌, ℕ, ◌==◌, Bool, true, false, List, [], ◌∷◌, ◌++◌, length, drop, refl, sym, ap, ◌∙◌, arith, append_assoc, append-nil}
 use Rattle.std.proofs.lemmas.Bool.{eqb-true, eqb-false}
 use Rattle.std.proofs.lemmas.List.Elements.{All-nil}
 use Rattle.ds_held.specs.Limits.{LimitsRecord}
@@ -11,6 +11,7 @@ use Rattle.store_words.specs.Reply.{reply_lines, reply_words, owed_line}
 use Rattle.ds_machine.specs.Given.{shown_by}
 use Rattle.store_words.specs.declared.wording.Wording.{Wording}
 use Rattle.std.specs.List.{flat_map}
+use Rattle.ds_lines.specs.Lines.{EndsLine}
 use Rattle.trace_words.specs.Text.{marked, marked_from}
 use Rattle.trace_words.specs.OneReply.{HaveOneFirst}
 use Rattle.trace_words.proofs.SplitLemmas.{split_same, unbroken_tail}
@@ -63,6 +64,39 @@ pub marked_line : (front rest : List ℕ) → Unbroken front → marked (front +
 unfolding marked_from
 marked_line [] rest whole = refl
 marked_line (b ∷ front) rest whole = ap (λ (l : List ℕ). 60 ∷ 32 ∷ l) (within_line (b ∷ front) rest whole)
+
+pub marked_none : marked [] ≡ []
+unfolding marked_from
+marked_none = refl
+
+-- the same by a line with its newline
+pub marked_more : (line more : List ℕ) → EndsLine line → marked (line ++ more) ≡ 60 ∷ 32 ∷ (line ++ marked more)
+marked_more line more e =
+    ap (λ (l : List ℕ). marked l) (ap (λ (l : List ℕ). l ++ more) e.parts ∙ append_assoc e.front (10 ∷ []) more)
+    ∙ marked_line e.front more e.none
+    ∙ ap (λ (l : List ℕ). 60 ∷ 32 ∷ l) (sym (append_assoc e.front (10 ∷ []) (marked more)) ∙ ap (λ (l : List ℕ). l ++ marked more) (sym e.parts))
+
+-- a line without a newline has it, too
+open_line : (line : List ℕ) → Unbroken line → marked_from false line ≡ line
+unfolding marked_from
+open_line [] whole = refl
+open_line (b ∷ line) whole =
+    ap (λ (t : Bool). b ∷ marked_from t line) (not_ten b (whole 0 0 (omega arith))) ∙ ap (λ (l : List ℕ). b ∷ l) (open_line line (unbroken_tail b line whole))
+
+pub marked_open : (line : List ℕ) → Unbroken line → line ≢ [] → marked line ≡ 60 ∷ 32 ∷ line
+unfolding marked_from
+marked_open [] whole some = absurd (some refl)
+marked_open (b ∷ line) whole some = ap (λ (l : List ℕ). 60 ∷ 32 ∷ l) (open_line (b ∷ line) whole)
+
+-- what is written of a text whose rest is empty, or is a line without a newline
+pub none_more : (text rest whole : List ℕ) → (length rest == 0) ≡ true → text ++ marked rest ≡ whole → text ≡ whole
+none_more text [] whole e is = sym (append-nil text) ∙ ap (λ (l : List ℕ). text ++ l) (sym marked_none) ∙ is
+none_more text (b ∷ rest) whole e is = absurd (omega (arith, eqb-true (length (b ∷ rest)) 0 e))
+
+pub open_more : (text after rest whole : List ℕ) → Unbroken rest → (length rest == 0) ≡ false → after ≡ text ++ 60 ∷ 32 ∷ (rest ++ []) → text ++ marked rest ≡ whole → after ≡ whole
+open_more text after rest whole line e written is =
+    written ∙ ap (λ (l : List ℕ). text ++ 60 ∷ 32 ∷ l) (append-nil rest)
+    ∙ ap (λ (l : List ℕ). text ++ l) (sym (marked_open rest line (λ none. eqb-false (length rest) 0 e (ap (λ (l : List ℕ). length l) none)))) ∙ is
 
 -- the marks of a text that ends with a newline, and of what stands behind it
 from_append : (first : Bool) (a b : List ℕ) → marked_from first (a ++ 10 ∷ b) ≡ marked_from first (a ++ 10 ∷ []) ++ marked b

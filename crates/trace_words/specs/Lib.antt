@@ -7,3 +7,4 @@ pub mod Verdict
 pub mod Walk
 pub mod OneReply
 pub mod History
+pub mod Upgrade

@@ -3,6 +3,7 @@
 ghost use Rattle.trace_words.specs.History.{LegalIsHistory, RunIsLegal};
 ghost use Rattle.trace_words.specs.OneReply.{FirstLinesTell, OfferLinesTell, ReplyIsOne, TracedStays};
 ghost use Rattle.trace_words.specs.Sweep.{TombstonesAreFree, TombstonesAreTaken};
+ghost use Rattle.trace_words.specs.Upgrade.{UpgradedIsLegal};
 ghost use Rattle.trace_words.specs.Walk.{HeadersBegin, BadHeadersAreWrong, BadHeadsAreWrong, EntriesLead, NoReplyBehindEntries, PlusPlaces, ReplyPlaces, WithinReplies};
 
 /// A header begins a legal trace, which goes on from the state that it opens, and a first line that is none is the first wrong one.
@@ -59,4 +60,10 @@ pub fn places_are_judged()
 pub fn traces_are_histories()
     ensures legal { RunIsLegal }
     ensures history { LegalIsHistory }
+{}
+
+/// What a legal trace of format 1 becomes is a legal trace of format 2 that leads to the same state: so the accepted items, the stamps
+/// and the shown items of both are the same.
+pub fn upgraded_traces_are_legal()
+    ensures { UpgradedIsLegal }
 {}

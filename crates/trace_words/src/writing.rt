@@ -1,0 +1,92 @@
+//! Writing the lines of a trace.
+
+ghost use Rattle.std.specs.Prelude.{◌≡◌, ◌++◌, OnOk};
+ghost use Rattle.std.specs.List.{flat_map};
+ghost use Rattle.trace_words.specs.declared.asked.Asked.TheVariants as askeds;
+ghost use Rattle.trace_words.specs.Text.{asked_text, header_text, marked, plus_text};
+
+use crate::header::{Format, Header};
+use ds_entry::Item;
+use ds_line::{append_all, append_item};
+use ds_lines::split_line;
+use ds_names::NoRoom;
+use itoa::Buffer;
+
+/// Appends the first line of a trace.
+pub fn append_header(text: &mut Vec<u8>, header: &Header) -> Result<(), NoRoom>
+    ensures { OnOk result (text.new.items ≡ text.old.items ++ header_text header.now) }
+{
+    let mut incarnation_digits = Buffer::new();
+    let incarnation = incarnation_digits.format(header.incarnation).as_bytes();
+    let mut first_digits = Buffer::new();
+    let first = first_digits.format(header.first).as_bytes();
+    let mut ring_digits = Buffer::new();
+    let ring = ring_digits.format(header.ring).as_bytes();
+    match header.format {
+        Format::One => append_all(
+            text,
+            &[b"trace 1 ", incarnation, b" ", first, b" ", ring, b"\n"],
+        ),
+        Format::Two => {
+            let mut subs_digits = Buffer::new();
+            let subs = subs_digits.format(header.limits.subs()).as_bytes();
+            let mut keys_digits = Buffer::new();
+            let keys = keys_digits.format(header.limits.keys()).as_bytes();
+            append_all(
+                text,
+                &[
+                    b"trace 2 ",
+                    incarnation,
+                    b" ",
+                    first,
+                    b" ",
+                    ring,
+                    b" ",
+                    subs,
+                    b" ",
+                    keys,
+                    b"\n",
+                ],
+            )
+        }
+    }
+}
+
+/// Appends the lines by which a pass asks for a Merge of the items. Where there is no room, some of them may stand there.
+pub fn append_merge(text: &mut Vec<u8>, pass: u64, items: &[Item]) -> Result<(), NoRoom>
+    ensures { OnOk result (text.new.items ≡ text.old.items ++ asked_text pass (askeds.Merge items.now)) }
+{
+    let mut pass_digits = Buffer::new();
+    let pass = pass_digits.format(pass).as_bytes();
+    let mut count_digits = Buffer::new();
+    let count = count_digits.format(items.len()).as_bytes();
+    append_all(text, &[b"> ", pass, b" merge ", count, b"\n"])?;
+    append_pluses(text, items)
+}
+
+// Appends the lines of the items of a Merge.
+fn append_pluses(text: &mut Vec<u8>, items: &[Item]) -> Result<(), NoRoom>
+    ensures { OnOk result (text.new.items ≡ text.old.items ++ flat_map plus_text items.now) }
+{
+    for item in items {
+        append_all(text, &[b"+ "])?;
+        append_item(text, item)?;
+    }
+    Ok(())
+}
+
+/// Appends the lines of a reply, each behind its mark. Where there is no room, some of them may stand there.
+pub fn append_marked(text: &mut Vec<u8>, lines: &[u8]) -> Result<(), NoRoom>
+    ensures { OnOk result (text.new.items ≡ text.old.items ++ marked lines.now) }
+{
+    let mut rest = lines;
+    while let Some((line, more)) = split_line(rest) {
+        append_all(text, &[b"< ", line])?;
+        rest = more;
+    }
+    if rest.is_empty() {
+        return Ok(());
+    }
+    append_all(text, &[b"< ", rest])?;
+    Ok(())
+}
