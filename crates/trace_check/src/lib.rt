@@ -4,6 +4,7 @@
 //! what its entries ask, one after the other, and what it replies has to stand in the trace.
 #![tactic(auto)]
 
+mod asking;
 mod expected;
 mod fault;
 mod judged;
@@ -13,6 +14,7 @@ mod sweep;
 mod verifying;
 mod walk;
 
+pub use asking::{Answer, ask_store};
 pub use judged::{Judged, Stands, Wanted, WrongLine};
 pub use trace_words::Verdict;
 pub use verifying::{judge, verify};

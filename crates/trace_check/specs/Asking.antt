@@ -1,0 +1,18 @@
+-- What a store does that is asked what an entry asks.
+use Rattle.std.specs.Prelude.{◌≡◌, Some}
+use Rattle.ds_content.specs.Content.{ContentRecord}
+use Rattle.ds_content.specs.Stands.{ContentStands}
+use Rattle.ds_machine.specs.State.{State}
+use Rattle.ds_machine.specs.declared.command.Command.{Command}
+use Rattle.ds_machine.specs.declared.reply.Reply.{Reply}
+use Rattle.trace_words.specs.declared.asked.Asked.{Asked}
+use Rattle.trace_words.specs.declared.header.Format.{Format}
+use Rattle.trace_words.specs.Legal.{StepOf}
+use Rattle.trace_words.specs.OneReply.{IsTraced}
+use Rattle.trace_words.specs.Text.{command_asked}
+
+-- It takes the step of a trace's store for which the entry asks, and gives the reply, in each state to which a trace of the format comes.
+abbrev pub StepsBy : ContentRecord → Format → Asked → Reply → ContentRecord → Type 0
+StepsBy old format asked reply new =
+    (s : State) → ContentStands old s → IsTraced format s →
+    (command : Command) × (t : State) × (command_asked asked ≡ Some command) × StepOf format s command reply t × ContentStands new t
