@@ -76,7 +76,9 @@ enum ds_word {
     DS_MERGED,     /* count: items done; taken, stale: of these */
     DS_STOPPED,    /* a merge: count items are done, and the next one was refused, by refusal */
     DS_REFUSED,    /* by refusal; nothing changed */
-    DS_NOREQUEST   /* no command has such parts, or the text is not within the texts; nothing changed */
+    DS_NOREQUEST,  /* no command has such parts, its text is not within the texts, or the line asks nothing of one store; nothing changed */
+    DS_SHOWN,      /* to a line that shows what is held. count: how many items; a piece of text for each */
+    DS_BADLINE     /* to a line that is no command's. count: the byte, from 0, from which on it can not be read; nothing changed */
 };
 
 /* Why a request was refused, in the order in which the store judges; behind them, why a call was. */
@@ -100,10 +102,11 @@ struct ds_answer {
     uint8_t owed[16];       /* the subscriptions that are owed a notice, a bit for each: ds_is_owed */
 };
 
-/* Why ds_items gave no more: there is no more, the next piece does not fit, or memory for it was wanting. */
+/* Why ds_items or ds_text gave no more: there is no more, the next piece, or byte, does not fit, or memory for it was wanting. */
 enum ds_stop { DS_WHOLE = 0, DS_TOOSMALL = 1, DS_WANTING = 20 };
 
-/* How many pieces ds_items gave, how many bytes they have together, and why no more. */
+/* How many pieces ds_items gave, how many bytes they have together, and why no more. Of ds_text: how many bytes the whole text has, how
+ * many it gave, and why no more. */
 struct ds_given {
     uint64_t count, length;
     uint32_t stop; /* of enum ds_stop */
@@ -137,6 +140,25 @@ uint32_t ds_call(struct ds_handle *handle, const struct ds_request *request, con
  * was asked.
  * Answers 0, or DS_ISCLOSED, and then room and given are as they were. */
 uint32_t ds_items(struct ds_handle *handle, size_t first, char *room, size_t room_length, struct ds_given *given);
+
+/* Carries out the command that stands on a line of a script, as docs/formats.md has it, whose newline may be missing, and writes the
+ * answer. The line may be changed or freed afterwards. These are commands of one store:
+ *   - offer, publish, delete, sweep, retrieve, nameof, subscribe, check, since, snapshot, page: the answer is that of ds_call for the
+ *     same command (an offer is a merge of one item);
+ *   - show and all, the puts that are held, and all that is: DS_SHOWN, or DS_REFUSED by DS_NOROOM.
+ * Any other command of a script is answered DS_NOREQUEST; what is no command's line, or has more behind its newline, DS_BADLINE; a line
+ * for which memory is wanting DS_REFUSED by DS_NOROOM. The store is as before then.
+ * Answers 0, or DS_ISCLOSED, and then the answer is as it was. */
+uint32_t ds_call_line(struct ds_handle *handle, const char *line, size_t line_length, struct ds_answer *answer);
+
+/* Gives the text of the last answer as a script prints it, from byte number first on (they count from 0): as many bytes as fit into
+ * room. In given, count is how many bytes the whole text has, length how many were given, and stop why no more: DS_WHOLE, there is no
+ * more; DS_TOOSMALL, room is full, and the next byte is number first + length; DS_WANTING, memory for the text was wanting, nothing was
+ * given, and the same call may be made again. So nothing is lost where room is too small, or memory wanting, for as long as nothing else
+ * was asked. DS_NOREQUEST and DS_BADLINE have no text. It serves behind ds_call too, and ds_items behind ds_call_line: then a piece is
+ * what it is behind ds_call, and the line of an item behind DS_SHOWN.
+ * Answers 0, or DS_ISCLOSED, and then room and given are as they were. */
+uint32_t ds_text(struct ds_handle *handle, size_t first, char *room, size_t room_length, struct ds_given *given);
 
 /* Closes the handle, and gives all its memory back. Answers 0, or DS_ISCLOSED. */
 uint32_t ds_close(struct ds_handle *handle);

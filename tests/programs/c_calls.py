@@ -14,7 +14,7 @@ REFUSALS = (
     " oldcursor ahead behind full worn noroom badring badfirst"
 ).split()
 WORDS = (
-    "changed known swept found named subscribed checked journaled snapped paged merged stopped refused no_request"
+    "changed known swept found named subscribed checked journaled snapped paged merged stopped refused no_request shown bad_line"
 ).split()
 LISTED = {"checked": "checked", "journaled": "since", "snapped": "snapshot", "paged": "page"}
 
@@ -50,12 +50,14 @@ def loaded(path):
     library.ds_open.argtypes = [handle, ctypes.c_uint64, ctypes.c_uint64, ctypes.c_uint32]
     library.ds_call.argtypes = [handle, pointer(Request), ctypes.c_char_p, ctypes.c_size_t, pointer(Answer)]
     library.ds_items.argtypes = [handle, ctypes.c_size_t, ctypes.c_char_p, ctypes.c_size_t, pointer(Given)]
+    library.ds_call_line.argtypes = [handle, ctypes.c_char_p, ctypes.c_size_t, pointer(Answer)]
+    library.ds_text.argtypes = [handle, ctypes.c_size_t, ctypes.c_char_p, ctypes.c_size_t, pointer(Given)]
     library.ds_close.argtypes = [handle]
     library.ds_map_new.argtypes = [handle, ctypes.c_uint8, ctypes.c_char_p, ctypes.c_size_t]
     library.ds_map_take.argtypes = [handle, ctypes.c_char_p, ctypes.c_size_t, pointer(Answer)]
     library.ds_map_label.argtypes = [handle, ctypes.c_char_p, ctypes.c_size_t, pointer(Answer)]
     library.ds_map_close.argtypes = [handle]
-    for call in (library.ds_open, library.ds_call, library.ds_items, library.ds_close):
+    for call in (library.ds_open, library.ds_call, library.ds_items, library.ds_call_line, library.ds_text, library.ds_close):
         call.restype = ctypes.c_uint32
     for call in (library.ds_map_new, library.ds_map_take, library.ds_map_label, library.ds_map_close):
         call.restype = ctypes.c_uint32

@@ -17,9 +17,11 @@ NAMES = re.compile(rb"([A-Za-z0-9._-]{1,64}) label\b")
 class Stores:
     """Two stores and maps, asked by lines. `wanted` is all that the script must print."""
 
+    session = c_calls.Session
+
     def __init__(self, library, room, wanted):
         self.library, self.wanted = library, wanted
-        self.sides = {side: c_calls.Session(library, room) for side in (b"a", b"b")}
+        self.sides = {side: self.session(library, room) for side in (b"a", b"b")}
         self.printed, self.maps, self.messages, self.names = [], [], [], set()
         self.current, self.incarnations = b"a", {b"a": 1, b"b": 2}
         self.opened(256)
@@ -139,9 +141,9 @@ def is_served(script):
     return all(it in SERVED for it in commands)
 
 
-def ask(library, room, script, wanted):
+def ask(stores, script):
     """A script's lines as calls: what is printed is what must be."""
-    stores = Stores(library, room, wanted)
+    wanted = stores.wanted
     for at, line in enumerate(script):
         before = len(stores.printed)
         stores.ask(line, at == 0)

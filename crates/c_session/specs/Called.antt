@@ -1,54 +1,89 @@
--- What a request does to a session.
-use Rattle.std.specs.Prelude.{◌≡◌, ◌⊎◌, ℕ, IsTrue, List, [], Option, None, Some}
-use Rattle.std.specs.Option.{option_map_or}
+-- What is done to a session, by a request, by a command, or by showing what is held.
+use Rattle.std.specs.Prelude.{◌≡◌, ◌⊎◌, ℕ, IsTrue, Bool, true, false, List, [], length, map, Option, None, Some}
+use Rattle.ds_entry.specs.Under.{entries_of}
+use Rattle.ds_entry.specs.declared.item.Item.{Item}
+use Rattle.ds_line.specs.ItemSpelling.{item_spelling}
 use Rattle.ds_machine.specs.declared.command.Command.{Command}
+use Rattle.ds_machine.specs.declared.refusal.Refusal.TheVariants.{NoRoom}
 use Rattle.ds_machine.specs.declared.reply.Reply.{Reply}
+use Rattle.ds_machine.specs.declared.reply.Reply.TheVariants.{Refused}
 use Rattle.ds_store.specs.Turns.{Turn}
+use Rattle.store_words.specs.declared.wording.Wording.{Wording}
+use Rattle.store_words.specs.declared.wording.Wording.TheVariants.{AsMerge}
 use Rattle.c_words.specs.declared.request.Request.{Request}
 use Rattle.c_words.specs.declared.answer.Answer.{Answer}
 use Rattle.c_words.specs.declared.reading.Asked.{Asked}
 use Rattle.c_words.specs.declared.reading.Asked.TheVariants as asked
-use Rattle.c_words.specs.Answer.{answer_of, no_request, told_no_room}
+use Rattle.c_words.specs.Answer.{answer_of, no_request, told_no_room, told_shown}
 use Rattle.c_words.specs.Asked.{StandsFor, StandsForNone, has_text}
 use Rattle.c_words.specs.Pieces.{pieces_of}
+use Rattle.c_session.specs.declared.last.Last.{Last}
+use Rattle.c_session.specs.declared.last.Last.TheVariants.{Nothing, Reply as Replied, Shown}
 use Rattle.c_session.specs.declared.session.Session.{Session}
 
--- the store answers the command by one turn, whose reply is what is told, and is kept
-pub record Tells (old : Session) (command : Command) (answer : Answer) (new : Session) : Type 0 where
+-- the store answers the command by one turn, whose reply is what is told, and is kept with the wording
+pub record Tells (old : Session) (wording : Wording) (command : Command) (answer : Answer) (new : Session) : Type 0 where
   pub reply : Reply
   pub turn : Turn old.store command reply new.store
   pub told : answer ≡ answer_of reply
-  pub kept : new.last ≡ Some reply
+  pub kept : new.last ≡ Replied reply wording
 
--- the store stays as it is, and no reply is kept
-pub record Rests (old : Session) (told answer : Answer) (new : Session) : Type 0 where
+-- the store stays as it is, and so much is kept
+pub record Rests (old : Session) (told : Answer) (last : Last) (answer : Answer) (new : Session) : Type 0 where
   pub told_is : answer ≡ told
   pub store_is : new.store ≡ old.store
-  pub kept : new.last ≡ None
+  pub kept : new.last ≡ last
+
+-- it isn't known what is asked, or nothing is
+abbrev pub RestsForNone : Session → Answer → Session → Type 0
+RestsForNone old answer new = Rests old no_request Nothing answer new
+
+-- memory is wanting
+abbrev pub RestsForRoom : Session → Answer → Session → Type 0
+RestsForRoom old answer new = Rests old told_no_room (Replied (Refused NoRoom) AsMerge) answer new
+
+-- ---- requests
 
 -- what was read of a request is answered
 abbrev pub TellsAsked : Session → Asked → Answer → Session → Type 0
-TellsAsked old asked.Nothing answer new = Rests old no_request answer new
-TellsAsked old asked.NoRoom answer new = Rests old told_no_room answer new
-TellsAsked old (asked.Command command) answer new = Tells old command answer new
+TellsAsked old asked.Nothing answer new = RestsForNone old answer new
+TellsAsked old asked.NoRoom answer new = RestsForRoom old answer new
+TellsAsked old (asked.Command command) answer new = Tells old AsMerge command answer new
 
 -- the request stands for a command, which the store answers
 pub record AnswersRequest (old : Session) (r : Request) (text : List ℕ) (answer : Answer) (new : Session) : Type 0 where
   pub command : Command
   pub stands : StandsFor r text command
-  pub answered : Tells old command answer new
+  pub answered : Tells old AsMerge command answer new
 
 -- a request with this text: the store answers the command that it stands for; it stands for none; or it has a text, for
 -- which memory is wanting
 abbrev pub CalledWith : Session → Request → List ℕ → Answer → Session → Type 0
 CalledWith old r text answer new =
-    AnswersRequest old r text answer new ⊎ ((StandsForNone r text × Rests old no_request answer new) ⊎ (IsTrue (has_text r) × Rests old told_no_room answer new))
+    AnswersRequest old r text answer new ⊎ ((StandsForNone r text × RestsForNone old answer new) ⊎ (IsTrue (has_text r) × RestsForRoom old answer new))
 
 -- a request whose text isn't within the texts stands for none
 abbrev pub Called : Session → Request → Option (List ℕ) → Answer → Session → Type 0
-Called old r None answer new = Rests old no_request answer new
+Called old r None answer new = RestsForNone old answer new
 Called old r (Some text) answer new = CalledWith old r text answer new
 
--- the pieces of text of the reply that is kept
-abbrev pub kept_pieces : Session → List (List ℕ)
-kept_pieces s = option_map_or pieces_of s.last []
+-- ---- what is held
+
+-- all of some items, or the puts alone
+abbrev pub held_shown : Bool → List Item → List Item
+held_shown true items = items
+held_shown false items = entries_of items
+
+-- all that the store holds is shown, or the puts alone; or memory for them is wanting
+abbrev pub ShowsIfRoom : Session → Bool → Answer → Session → Type 0
+ShowsIfRoom old all answer new =
+    let items = held_shown all old.store.held in
+    Rests old (told_shown (length items)) (Shown items) answer new ⊎ RestsForRoom old answer new
+
+-- ---- the text
+
+-- the pieces of what was given last
+abbrev pub pieces_in : Last → List (List ℕ)
+pieces_in Nothing = []
+pieces_in (Replied reply wording) = pieces_of reply
+pieces_in (Shown items) = map item_spelling items

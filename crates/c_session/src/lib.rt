@@ -1,6 +1,8 @@
-//! A store that a caller asks by requests, one after the other, and the last reply, whose text is fetched in pieces.
+//! A store that a caller asks, one thing after the other, and what it gave last, whose text is fetched in pieces.
 #![tactic(auto)]
 
+mod last;
 mod session;
 
+pub use last::Last;
 pub use session::Session;

@@ -1,6 +1,6 @@
 //! Sessions.
 
-ghost use Rattle.std.specs.Prelude.{◌≡◌, ◌≤◌, drop, IfOk, IfErr, OnOk, Some, None};
+ghost use Rattle.std.specs.Prelude.{◌≡◌, ◌≤◌, drop, length, IfOk, IfErr, OnOk};
 ghost use Rattle.ds_feed.specs.Kept.{IsRing};
 ghost use Rattle.ds_held.specs.Limits.{larger};
 ghost use Rattle.ds_machine.specs.State.{opening};
@@ -9,18 +9,24 @@ ghost use Rattle.ds_content.specs.Stands.{ContentStands};
 ghost use Rattle.ds_store.specs.Opening.{IsOpenRefusal};
 ghost use Rattle.c_words.specs.Asked.{request_text};
 ghost use Rattle.c_words.specs.Pieces.{GivesPieces};
-ghost use Rattle.c_session.specs.Called.{TellsAsked, Tells, Called, kept_pieces};
+ghost use Rattle.c_session.specs.Called.{TellsAsked, Tells, Rests, RestsForRoom, ShowsIfRoom, Called, pieces_in};
+ghost use Rattle.c_words.specs.Answer.{told_shown};
+ghost use Rattle.c_session.specs.declared.last.Last.TheVariants.{Nothing, Shown};
 
-use c_words::{Answer, Asked, Given, Request, answer_of, give, no_room, read_request, text_of};
+use crate::last::{Last, held_shown};
+use c_words::{Answer, Asked, Given, Request, answer_of, no_room, read_request, text_of};
+use ds_entry::Items;
 use ds_machine::{Command, Refusal, Reply};
+use ds_names::NoRoom;
 use ds_store::Store;
 use std::alloc::Global;
+use store_words::Wording;
 
-/// A store, and what it replied last, if the last request stood for a command.
+/// A store, and what was given last.
 #[derive(Drop)]
 pub struct Session {
     store: Store,
-    last: Option<Reply>,
+    last: Last,
 }
 
 impl Session {
@@ -28,30 +34,69 @@ impl Session {
     pub fn open(alloc: Global, incarnation: u64, first: u64, ring: u32) -> Result<Session, Refusal>
         ensures opened { IfOk result (λ session. ContentStands session.store (opening incarnation first ring larger)) }
         ensures fits { OnOk result (IsRing ring × (first ≤ last_place)) }
-        ensures silent { IfOk result (λ session. session.last ≡ None) }
+        ensures silent { IfOk result (λ session. session.last ≡ Nothing) }
         ensures refused { IfErr result (λ refusal. IsOpenRefusal refusal first ring) }
     {
         let store = Store::open(alloc, incarnation, first, ring)?;
-        Ok(Session { store, last: None })
+        Ok(Session {
+            store,
+            last: Last::Nothing,
+        })
     }
 
-    // Lets the store answer a command, and keeps its reply.
-    fn answer(&mut self, command: Command) -> Answer
-        ensures { Tells self.old command result self.new }
+    /// What was given last.
+    pub fn last(&self) -> &Last
+        ensures { result.now ≡ self.now.last }
+    {
+        &self.last
+    }
+
+    /// Lets the store answer a command, and keeps its reply, which a script words so.
+    pub fn answer(&mut self, wording: Wording, command: Command) -> Answer
+        ensures { Tells self.old wording command result self.new }
     {
         let _stood = self.store.cursor();
         let reply = self.store.apply(command);
         let answer = answer_of(&reply);
-        self.last = Some(reply);
+        self.last = Last::Reply { reply, wording };
         answer
     }
 
-    // Keeps no reply.
-    fn rest(&mut self, answer: Answer) -> Answer
-        ensures answer { result ≡ answer }
-        ensures rest { self.new ≡ record self.old { last = None } }
+    /// Gives this answer, which has no text. The store stays as it is.
+    pub fn rest(&mut self, answer: Answer) -> Answer
+        ensures { Rests self.old answer Nothing result self.new }
     {
-        self.last = None;
+        self.last = Last::Nothing;
+        answer
+    }
+
+    /// Tells that memory is wanting. The store stays as it is.
+    pub fn refuse(&mut self) -> Answer
+        ensures { RestsForRoom self.old result self.new }
+    {
+        self.last = Last::Reply {
+            reply: Reply::Refused(Refusal::NoRoom),
+            wording: Wording::AsMerge,
+        };
+        no_room()
+    }
+
+    /// Shows all that the store holds, or the puts alone. The store stays as it is.
+    pub fn show(&mut self, alloc: Global, all: bool) -> Answer
+        ensures { ShowsIfRoom self.old all result self.new }
+    {
+        match held_shown(alloc, self.store.held(), all) {
+            Ok(items) => self.keep(items),
+            Err(NoRoom) => self.refuse(),
+        }
+    }
+
+    // Keeps items that are shown.
+    fn keep(&mut self, items: Items) -> Answer
+        ensures { Rests self.old (told_shown (length items)) (Shown items) result self.new }
+    {
+        let answer = Answer::shown(items.len());
+        self.last = Last::Shown(items);
         answer
     }
 
@@ -60,8 +105,8 @@ impl Session {
     {
         match asked {
             Asked::Nothing => self.rest(Answer::no_request()),
-            Asked::NoRoom => self.rest(no_room()),
-            Asked::Command(command) => self.answer(command),
+            Asked::NoRoom => self.refuse(),
+            Asked::Command(command) => self.answer(Wording::AsMerge, command),
         }
     }
 
@@ -76,14 +121,11 @@ impl Session {
         }
     }
 
-    /// GivesPieces a buffer the text of the last answer from one piece on: as many pieces as fit, whole. What doesn't fit is
-    /// given by a later call, as long as no other request was answered.
+    /// Gives a buffer the text of the last answer from one piece on: as many pieces as fit, whole. What doesn't fit is
+    /// given by a later call, as long as nothing else was asked.
     pub fn give(&self, alloc: Global, first: usize, room: &mut [u8]) -> Given
-        ensures { GivesPieces (drop first (kept_pieces self.now)) room.old result room.new }
+        ensures { GivesPieces (drop first (pieces_in self.now.last)) room.old result room.new }
     {
-        match &self.last {
-            Some(reply) => give(alloc, reply, first, room),
-            None => Given::nothing(),
-        }
+        self.last.give(alloc, first, room)
     }
 }

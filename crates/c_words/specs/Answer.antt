@@ -54,6 +54,8 @@ word_number words.Merged = 10
 word_number words.MergeStopped = 11
 word_number words.Refused = 12
 word_number words.NoRequest = 13
+word_number words.Shown = 14
+word_number words.BadLine = 15
 
 -- a word, and zeros
 abbrev pub worded : Word → Answer
@@ -62,6 +64,14 @@ worded word = record { count = 0; taken = 0; stale = 0; before = 0; after = 0; p
 -- that no command has such parts
 abbrev pub no_request : Answer
 no_request = worded words.NoRequest
+
+-- that so many items are shown, each of which is a piece of text
+abbrev pub told_shown : ℕ → Answer
+told_shown count = record (worded words.Shown) { count = count; pieces = count }
+
+-- that a line is bad from a place on
+abbrev pub told_bad_line : ℕ → Answer
+told_bad_line place = record (worded words.BadLine) { count = place }
 
 -- a word of items, with the stamps before and after, or a cursor
 abbrev pub told_of_items : Word → ℕ → ℕ → Answer

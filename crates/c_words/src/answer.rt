@@ -1,9 +1,9 @@
 //! What C is told.
 
 ghost use Rattle.std.specs.Prelude.{◌≡◌};
-ghost use Rattle.c_words.specs.Answer.{word_number, worded, no_request};
+ghost use Rattle.c_words.specs.Answer.{word_number, worded, no_request, told_shown, told_bad_line};
 
-/// Which reply it is: the first are those of `Reply`, in their order.
+/// Which answer it is: the first are those of `Reply`, in their order, and the others those where there is none.
 #[derive(Clone, Copy)]
 pub enum Word {
     Changed,
@@ -21,13 +21,17 @@ pub enum Word {
     Refused,
     /// The request stands for no command.
     NoRequest,
+    /// What is held is shown.
+    Shown,
+    /// The line is no command's.
+    BadLine,
 }
 
 /// An answer. The pieces of its text come beside it, as bytes.
 #[repr(C)]
 #[derive(Clone, Copy)]
 pub struct Answer {
-    /// How many puts a Sweep dropped, or how many items of a Merge are done.
+    /// How many puts a Sweep dropped, how many items of a Merge are done, or are shown; or where a bad line is bad.
     pub count: u64,
     /// How many items of a Merge were taken, and how many were stale.
     pub taken: u64,
@@ -37,7 +41,7 @@ pub struct Answer {
     pub after: u64,
     /// How many pieces of text it has: one for a name, a string or memory, and one for each item.
     pub pieces: u64,
-    /// Which reply, from 0 in the order of `Word`'s variants.
+    /// Which answer, from 0 in the order of `Word`'s variants.
     pub word: u32,
     /// By what it was refused or stopped: 0 by nothing, else its place in the store's order of refusals, from 1.
     pub refusal: u32,
@@ -76,6 +80,8 @@ impl Word {
             Word::MergeStopped => 11,
             Word::Refused => 12,
             Word::NoRequest => 13,
+            Word::Shown => 14,
+            Word::BadLine => 15,
         }
     }
 }
@@ -109,5 +115,26 @@ impl Answer {
         ensures { result ≡ no_request }
     {
         Answer::of(Word::NoRequest)
+    }
+
+    /// That so many items are shown, each of which is a piece of text.
+    pub fn shown(count: usize) -> Answer
+        ensures { result ≡ told_shown count }
+    {
+        Answer {
+            count: count as u64,
+            pieces: count as u64,
+            ..Answer::of(Word::Shown)
+        }
+    }
+
+    /// That a line is bad from a place on, a byte counted from 0.
+    pub fn bad_line(place: usize) -> Answer
+        ensures { result ≡ told_bad_line place }
+    {
+        Answer {
+            count: place as u64,
+            ..Answer::of(Word::BadLine)
+        }
     }
 }

@@ -61,7 +61,7 @@ impl Given {
     }
 }
 
-// GivesPieces the one piece of a text, unless some pieces are passed over.
+// Gives the one piece of a text, unless some pieces are passed over.
 fn give_text(text: &[u8], first: usize, room: &mut [u8]) -> Given
     ensures { GivesPieces (drop first (text.now ∷ [])) room.old result room.new }
 {
@@ -82,7 +82,7 @@ fn give_text(text: &[u8], first: usize, room: &mut [u8]) -> Given
     }
 }
 
-// GivesPieces the lines of items.
+// Gives the lines of items.
 fn give_lines(alloc: Global, items: &[Item], room: &mut [u8]) -> Given
     ensures { GivesPieces (map item_spelling items.now) room.old result room.new }
 {
@@ -115,8 +115,8 @@ fn give_lines(alloc: Global, items: &[Item], room: &mut [u8]) -> Given
     }
 }
 
-// GivesPieces the lines of the items from one on.
-fn give_items(alloc: Global, items: &[Item], first: usize, room: &mut [u8]) -> Given
+/// Gives a buffer the lines of the items from one on.
+pub fn give_items(alloc: Global, items: &[Item], first: usize, room: &mut [u8]) -> Given
     ensures { GivesPieces (drop first (map item_spelling items.now)) room.old result room.new }
 {
     if items.len() < first {
@@ -125,7 +125,7 @@ fn give_items(alloc: Global, items: &[Item], first: usize, room: &mut [u8]) -> G
     give_lines(alloc, &items[first..], room)
 }
 
-/// GivesPieces a buffer the text of a reply from one piece on: as many pieces as fit, whole, one behind the other. What is
+/// Gives a buffer the text of a reply from one piece on: as many pieces as fit, whole, one behind the other. What is
 /// behind them stays as it was. A line of an item takes memory while it is written.
 pub fn give(alloc: Global, reply: &Reply, first: usize, room: &mut [u8]) -> Given
     ensures { GivesPieces (drop first (pieces_of reply.now)) room.old result room.new }

@@ -13,7 +13,7 @@ mod telling;
 mod texts;
 
 pub use answer::{Answer, Word};
-pub use giving::{Given, give};
+pub use giving::{Given, give, give_items};
 pub use lines::read_items;
 pub use reading::{Asked, read_request};
 pub use request::Request;

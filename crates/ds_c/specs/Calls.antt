@@ -12,7 +12,10 @@ use Rattle.c_words.specs.Answer.{refusal_number}
 use Rattle.c_words.specs.Asked.{request_text}
 use Rattle.c_words.specs.Pieces.{GivesPieces}
 use Rattle.c_session.specs.declared.session.Session.{Session}
-use Rattle.c_session.specs.Called.{Called, kept_pieces}
+use Rattle.c_session.specs.declared.last.Last.TheVariants.{Nothing}
+use Rattle.c_session.specs.Called.{Called, pieces_in}
+use Rattle.c_line.specs.Calling.{CallsLine}
+use Rattle.c_line.specs.Text.{given_text, GivesText}
 
 -- the words of the calls; 1 to 22 are the store's refusals
 abbrev pub done : ℕ
@@ -33,7 +36,7 @@ pub record IsOpenWord (first ring word : ℕ) : Type 0 where
 -- a session was opened, whose store stands for the opening of the machine, or none, for the first reason that stands
 abbrev pub Opened : ℕ → ℕ → ℕ → ℕ → Option Session → Type 0
 Opened incarnation first ring word None = IsOpenWord first ring word
-Opened incarnation first ring word (Some s) = (word ≡ done) × ContentStands s.store (opening incarnation first ring larger) × (s.last ≡ None)
+Opened incarnation first ring word (Some s) = (word ≡ done) × ContentStands s.store (opening incarnation first ring larger) × (s.last ≡ Nothing)
 
 -- a call that opens: an open handle stays as it is
 abbrev pub Opens : ℕ → ℕ → ℕ → Option Session → ℕ → Option Session → Type 0
@@ -53,7 +56,22 @@ Calls (Some old) r texts before word answer new = AskedOf old r texts word answe
 -- a call that fetches the text of the last answer: a closed handle gives nothing
 abbrev pub Fetches : Option Session → ℕ → List ℕ → Given → ℕ → List ℕ → Given → Type 0
 Fetches None first old before word room given = (word ≡ is_closed) × (room ≡ old) × (given ≡ before)
-Fetches (Some s) first old before word room given = (word ≡ done) × GivesPieces (drop first (kept_pieces s)) old given room
+Fetches (Some s) first old before word room given = (word ≡ done) × GivesPieces (drop first (pieces_in s.last)) old given room
+
+-- a line was asked of what an open handle holds
+abbrev pub AskedByLine : Session → List ℕ → ℕ → Answer → Option Session → Type 0
+AskedByLine old line word answer None = ⊥
+AskedByLine old line word answer (Some new) = (word ≡ done) × CallsLine old line answer new
+
+-- a call that asks by a line
+abbrev pub CallsByLine : Option Session → List ℕ → Answer → ℕ → Answer → Option Session → Type 0
+CallsByLine None line before word answer new = (word ≡ is_closed) × (answer ≡ before) × (new ≡ None)
+CallsByLine (Some old) line before word answer new = AskedByLine old line word answer new
+
+-- a call that fetches the text of the last answer as a script prints it
+abbrev pub FetchesText : Option Session → ℕ → List ℕ → Given → ℕ → List ℕ → Given → Type 0
+FetchesText None first old before word room given = (word ≡ is_closed) × (room ≡ old) × (given ≡ before)
+FetchesText (Some s) first old before word room given = (word ≡ done) × GivesText (given_text s.last) first old given room
 
 -- a call that closes a handle, whatever it holds
 module _ {T : Type 0} where

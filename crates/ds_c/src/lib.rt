@@ -1,9 +1,11 @@
 //! The data store for C, behind a handle that it keeps from call to call: `ds_open`, one `ds_call` after another, `ds_items` for
-//! the text of the last answer, `ds_close`; and what a subscriber keeps of it, behind another: `ds_map_new`, `ds_map_take`,
-//! `ds_map_label`, `ds_map_close`. `ds.h` declares what is here.
+//! the text of the last answer, `ds_close`; `ds_call_line`, by which a line of a script asks it, and `ds_text`, by which the answer
+//! is what a script prints; and what a subscriber keeps of it, behind another handle: `ds_map_new`, `ds_map_take`, `ds_map_label`,
+//! `ds_map_close`. `ds.h` declares what is here.
 #![tactic(auto)]
 
 mod handle;
+mod lines;
 mod loose;
 mod map_handle;
 mod maps;
@@ -17,6 +19,7 @@ use c_session::Session;
 use c_words::{Answer, Given, Request, refusal_number};
 use ds_machine::Refusal;
 pub use handle::Handle;
+pub use lines::{ds_call_line, ds_text};
 pub use map_handle::MapHandle;
 pub use maps::{ds_map_close, ds_map_label, ds_map_new, ds_map_take};
 use std::alloc::Global;
@@ -80,7 +83,7 @@ pub extern "C" fn ds_call(
     }
 }
 
-/// GivesPieces `room` the text of the last answer from one piece on: as many pieces as fit, whole. `given` says how many these
+/// Gives `room` the text of the last answer from one piece on: as many pieces as fit, whole. `given` says how many these
 /// are, how many bytes they have, and why no more. What doesn't fit is there for the next such call.
 #[unsafe(no_mangle)]
 pub extern "C" fn ds_items(

@@ -1,0 +1,70 @@
+//! Lines, and what they ask of a session.
+
+ghost use Rattle.std.specs.Prelude.{◌≡◌};
+ghost use Rattle.ds_lines.specs.Lines.{IsUnbroken};
+ghost use Rattle.c_line.specs.Calling.{what_shows, LineAsks, CarriesOut, AsksLine, CallsLine};
+
+use crate::line::line_in;
+use c_session::Session;
+use c_words::Answer;
+use ds_names::NoRoom;
+use ds_words::{CommandFault, ScriptCommand, read_command};
+use std::alloc::Global;
+
+/// CarriesOut out the command that stands on a line, whose newline may be missing.
+///
+/// A command that asks the store is answered by one step of its machine, and the answer is that of the reply; `show` and `all` are
+/// answered by how many items are shown. A line that is no command's is answered by the place from which it can't be read, one whose
+/// command asks nothing of one store as no request, and want of memory as a refusal: then the store stays as it is.
+pub fn call_line(alloc: Global, session: &mut Session, bytes: &[u8]) -> Answer
+    ensures { CallsLine session.old bytes.now result session.new }
+{
+    match line_in(bytes) {
+        Ok(line) => ask(alloc, session, line),
+        Err(place) => session.rest(Answer::bad_line(place)),
+    }
+}
+
+// CarriesOut out the command of a line.
+fn ask(alloc: Global, session: &mut Session, line: &[u8]) -> Answer
+    requires { IsUnbroken line.now }
+    ensures { AsksLine session.old line.now result session.new }
+{
+    match read_command(alloc, line) {
+        Ok(command) => carry_out(alloc, session, command),
+        Err(CommandFault::BadLine { place, .. }) => session.rest(Answer::bad_line(place)),
+        Err(CommandFault::NoRoom) => session.refuse(),
+    }
+}
+
+fn carry_out(alloc: Global, session: &mut Session, command: ScriptCommand) -> Answer
+    ensures { CarriesOut command session.old result session.new }
+{
+    match what_shows(&command) {
+        Some(all) => session.show(alloc, all),
+        None => ask_store(alloc, session, command),
+    }
+}
+
+// Whether a command shows all that is held, or the puts alone; `None` for one that shows nothing.
+fn what_shows(command: &ScriptCommand) -> Option<bool>
+    ensures { result ≡ what_shows command.now }
+{
+    match command {
+        ScriptCommand::Show => Some(false),
+        ScriptCommand::All => Some(true),
+        _ => None,
+    }
+}
+
+// Lets the store answer what a command asks of it.
+fn ask_store(alloc: Global, session: &mut Session, command: ScriptCommand) -> Answer
+    ensures { LineAsks command session.old result session.new }
+{
+    let wording = command.wording();
+    match command.into_store_command(alloc) {
+        Ok(Some(command)) => session.answer(wording, command),
+        Ok(None) => session.rest(Answer::no_request()),
+        Err(NoRoom) => session.refuse(),
+    }
+}

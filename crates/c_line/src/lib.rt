@@ -1,0 +1,9 @@
+//! A session that is asked by lines of a script, and the text of what it gave last, as a script prints it.
+#![tactic(auto)]
+
+mod calling;
+mod line;
+mod text;
+
+pub use calling::call_line;
+pub use text::give_text;

@@ -1,0 +1,53 @@
+//! The calls by lines of a script.
+
+ghost use Rattle.std.specs.Prelude.{◌≡◌};
+ghost use Rattle.ds_c.specs.Calls.{CallsByLine, FetchesText};
+
+use crate::handle::Handle;
+use crate::words::{DONE, IS_CLOSED};
+use c_line::{call_line, give_text};
+use c_words::{Answer, Given};
+use std::alloc::Global;
+
+/// CarriesOut out the command that stands on a line of a script. The text of the answer is kept for `ds_text` and `ds_items`.
+#[unsafe(no_mangle)]
+pub extern "C" fn ds_call_line(
+    alloc: Global,
+    handle: &mut Handle,
+    line: &[u8],
+    answer: &mut Answer,
+) -> u32
+    ensures { CallsByLine handle.old.value line.now answer.old result answer.new handle.new.value }
+{
+    match handle.take(alloc) {
+        None => IS_CLOSED,
+        Some(mut session) => {
+            *answer = call_line(alloc, &mut session, line);
+            handle.put(alloc, session);
+            DONE
+        }
+    }
+}
+
+/// Gives `room` the text of the last answer, as a script prints it, from a byte on: as much as fits. `given` says how many bytes
+/// these are, how many the whole text has, and why no more. What doesn't fit is there for the next such call.
+#[unsafe(no_mangle)]
+pub extern "C" fn ds_text(
+    alloc: Global,
+    handle: &mut Handle,
+    first: usize,
+    room: &mut [u8],
+    given: &mut Given,
+) -> u32
+    ensures text { FetchesText handle.old.value first room.old given.old result room.new given.new }
+    ensures handle { handle.new.value ≡ handle.old.value }
+{
+    match handle.take(alloc) {
+        None => IS_CLOSED,
+        Some(session) => {
+            *given = give_text(alloc, &session, first, room);
+            handle.put(alloc, session);
+            DONE
+        }
+    }
+}

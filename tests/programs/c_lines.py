@@ -1,0 +1,71 @@
+"""Stores that are asked by the lines of scripts themselves, for tests/programs/c: what they print is the text of their answers."""
+import ctypes
+
+import c_calls
+import c_worlds
+import model
+
+WHOLE, TOO_SMALL = 0, 1
+ASKED = {b"offer", b"show", b"all", *c_calls.COMMANDS} - {b"merge"}
+
+
+class Session(c_calls.Session):
+    """A store behind a handle; the text of its answers is fetched into a room of so many bytes at a time."""
+
+    def ask(self, command, line, taken):
+        self.call_line(line)
+        return self.text().decode("latin1").splitlines()
+
+    def call_line(self, line):
+        """The answer to a line."""
+        answer = c_calls.Answer()
+        called = self.library.ds_call_line(ctypes.byref(self.handle), line, len(line), ctypes.byref(answer))
+        if called:
+            raise AssertionError(f"call {called}")
+        return answer
+
+    def text(self):
+        """All of the last answer's text."""
+        room, given, text = ctypes.create_string_buffer(self.room), c_calls.Given(), b""
+        while True:
+            called = self.library.ds_text(ctypes.byref(self.handle), len(text), room, self.room, ctypes.byref(given))
+            more = given.length == self.room and given.stop == TOO_SMALL
+            text += room.raw[: given.length]
+            if called or not (more or given.stop == WHOLE and given.count == len(text)):
+                raise AssertionError(f"byte {len(text)} of {given.count} wasn't given: call {called}, stop {given.stop}")
+            if not more:
+                return text
+
+
+class Stores(c_worlds.Stores):
+    """Two stores and maps, whose stores are asked by the lines themselves."""
+
+    session = Session
+
+    def all(self):
+        return self.of_store(b"all", b"all", ())
+
+    def show(self):
+        return self.of_store(b"show", b"show\n", ())
+
+
+def is_served(script):
+    """Each line is a command of one store."""
+    return all(line.split(b" ")[0] in ASKED for line in script)
+
+
+def read(library, script):
+    """Each line of a script is read as the model reads it, by a store that holds nothing: as a command of one store, as another, or as none."""
+    for line in sorted(set(script)):
+        store = Session(library, 4096)
+        store.open(1, 0, 256)
+        answer = store.call_line(line)
+        try:
+            command = model.read(line, True)[0]
+            wanted = None if command in ASKED else ("no_request", 0)
+        except model.BadLine as bad:
+            wanted = "bad_line", bad.place
+        given = c_calls.WORDS[answer.word], answer.count
+        if wanted and (given, store.text()) != (wanted, b"") or not wanted and (given[0] in ("no_request", "bad_line") or not store.text()):
+            raise AssertionError(f"{line[:120]}: {given}, and not {wanted or 'an answer'}")
+        store.close()
