@@ -1,0 +1,151 @@
+/* fleet_stores URL STORES BATCHES: one store that is told items, and others, each in a process of its own, that follow it over a
+ * stream. It prints items a second by batches of 256, and singly; how long one change takes until the last of the others has it,
+ * beside a PING; and how long until all agree behind the last batch. Used by bench/fleet. */
+#include "ds_fleet.h"
+#include <hiredis/hiredis.h>
+#include <poll.h>
+#include <sched.h>
+#include <signal.h>
+#include <stdatomic.h>
+#include <stdio.h>
+#include <stdlib.h>
+#include <string.h>
+#include <sys/mman.h>
+#include <sys/wait.h>
+#include <time.h>
+#include <unistd.h>
+
+enum { MOST = 64, BATCH = 256, NAMES = 4000, SINGLES = 2000, PINGS = 5000, WARM = 50 };
+
+/* What the others say of themselves: how many items took effect in each. */
+struct board { _Atomic uint64_t position[MOST]; _Atomic int ready, ended; };
+
+static double now(void) {
+    struct timespec it;
+    clock_gettime(CLOCK_MONOTONIC, &it);
+    return (double)it.tv_sec + (double)it.tv_nsec / 1e9;
+}
+
+static void fail(const char *why) {
+    fprintf(stderr, "fleet_stores: %s\n", why);
+    exit(1);
+}
+
+static struct ds_fleet *joined(struct ds_handle *store, const char *url) {
+    struct ds_fleet_options options = {.url = url};
+    struct ds_fleet *fleet;
+    if (ds_open(store, 1, 0, 4096) || ds_fleet_open(&fleet, store, &options) != DS_FLEET_INSTEP) fail("no fleet");
+    for (int times = 0; ds_fleet_step(fleet, 1000) != DS_FLEET_INSTEP; times++)
+        if (times == 30) fail("no server");
+    return fleet;
+}
+
+/* A follower steps whenever the bell rings, and says how far it is. */
+static void follow(struct board *board, int number, const char *url) {
+    struct ds_handle store = DS_CLOSED;
+    struct ds_fleet *fleet = joined(&store, url);
+    struct ds_fleet_state state;
+    atomic_fetch_add(&board->ready, 1);
+    while (!atomic_load(&board->ended)) {
+        struct pollfd bell = {.fd = ds_fleet_bell(fleet), .events = POLLIN};
+        poll(&bell, 1, 1000);
+        ds_fleet_step(fleet, 0);
+        ds_fleet_state(fleet, &state);
+        atomic_store(&board->position[number], state.position);
+    }
+    ds_fleet_close(fleet);
+    ds_close(&store);
+    _exit(0);
+}
+
+static void merge(struct ds_handle *store, const char *lines, size_t length) {
+    struct ds_request request = {.command = DS_MERGE, .text_length = length};
+    struct ds_answer answer;
+    if (ds_call(store, &request, lines, length, &answer) || answer.word != DS_MERGED) fail("not merged");
+}
+
+static void told(struct ds_fleet *fleet) {
+    if (ds_fleet_step(fleet, 30000) != DS_FLEET_INSTEP) fail("not told");
+}
+
+static void wait_for(struct board *board, int others, uint64_t position) {
+    double end = now() + 60;
+    for (int i = 0; i < others; i++)
+        while (atomic_load(&board->position[i]) < position)
+            if (sched_yield() || now() > end) fail("a store doesn't follow");
+}
+
+static double ping(const char *host, int port) {
+    redisContext *redis = redisConnect(host, port);
+    if (!redis || redis->err) fail("no server");
+    double begun = now();
+    for (int i = 0; i < PINGS; i++) freeReplyObject(redisCommand(redis, "PING"));
+    double took = (now() - begun) / PINGS;
+    redisFree(redis);
+    return took;
+}
+
+struct teller { struct ds_handle store; struct ds_fleet *fleet; unsigned seq; uint64_t items; char text[BATCH * 64]; };
+
+/* So many items, each a newer version of one of NAMES. */
+static void put(struct teller *it, int count) {
+    size_t length = 0;
+    for (int i = 0; i < count; i++, it->seq++)
+        length += (size_t)snprintf(it->text + length, 64, "host1.n%u u32 drv 1.%u = %u\n", it->seq % NAMES, it->seq + 1, it->seq);
+    merge(&it->store, it->text, length);
+    it->items += (uint64_t)count;
+}
+
+static void by_batches(struct teller *it, struct board *board, int others, int batches) {
+    double begun = now(), own = 0, last;
+    for (int i = 0; i < batches; i++) {
+        double before = now();
+        put(it, BATCH);
+        own += now() - before;
+        ds_fleet_step(it->fleet, 0);
+    }
+    told(it->fleet);
+    last = now();
+    wait_for(board, others, it->items);
+    double took = now() - begun;
+    printf("batches %.0f items/s to %d (its own merging alone %.0f items/s), all agree %.1f ms behind the last answer\n", batches * BATCH / took, others,
+           batches * BATCH / own, (now() - last) * 1000);
+}
+
+static void singly(struct teller *it, struct board *board, int others, double pinged) {
+    double answered = 0, seen = 0;
+    for (int i = 0; i < SINGLES + WARM; i++) {
+        double before = now();
+        put(it, 1);
+        told(it->fleet);
+        double mid = now();
+        wait_for(board, others, it->items);
+        if (i < WARM) continue;
+        answered += mid - before, seen += now() - before;
+    }
+    printf("single %.0f us until it is answered, %.0f us until the last of %d has it; a PING %.0f us: %.1f and %.1f PINGs\n", answered / SINGLES * 1e6,
+           seen / SINGLES * 1e6, others, pinged * 1e6, answered / SINGLES / pinged, seen / SINGLES / pinged);
+}
+
+int main(int count, char **words) {
+    if (count != 4) fail("URL STORES BATCHES");
+    int others = atoi(words[2]) - 1, port = atoi(strrchr(words[1], ':') + 1);
+    if (others < 1 || others > MOST) fail("2 to 65 stores");
+    struct board *board = mmap(NULL, sizeof *board, PROT_READ | PROT_WRITE, MAP_SHARED | MAP_ANONYMOUS, -1, 0);
+    if (board == MAP_FAILED) fail("no memory");
+    signal(SIGPIPE, SIG_IGN);
+    for (int i = 0; i < others; i++) {
+        pid_t child = fork();
+        if (child < 0) fail("no process");
+        if (!child) follow(board, i, words[1]);
+    }
+    static struct teller it = {.store = DS_CLOSED};
+    it.fleet = joined(&it.store, words[1]);
+    while (atomic_load(&board->ready) < others) usleep(1000);
+    by_batches(&it, board, others, atoi(words[3]));
+    singly(&it, board, others, ping("127.0.0.1", port));
+    atomic_store(&board->ended, 1);
+    while (wait(NULL) > 0) {}
+    ds_fleet_close(it.fleet);
+    return ds_close(&it.store) != 0;
+}

@@ -1,0 +1,240 @@
+/* The store's side of a fleet. See items.h. */
+#include "items.h"
+#include <stdarg.h>
+#include <stdio.h>
+#include <stdlib.h>
+#include <string.h>
+
+enum { PIECES = 1 << 16 /* bytes of items that are fetched at a time */ };
+
+static const uint64_t hash_seed = 14695981039346656037u; /* FNV-1a */
+
+static uint64_t hashed(uint64_t hash, const char *bytes, size_t length) {
+    for (size_t i = 0; i < length; i++) hash = (hash ^ (unsigned char)bytes[i]) * 1099511628211u;
+    return hash;
+}
+
+void items_say(struct items *items, const char *format, ...) {
+    char line[512];
+    va_list given;
+    if (!items->tell) return;
+    va_start(given, format);
+    vsnprintf(line, sizeof line, format, given);
+    va_end(given);
+    for (char *byte = line; *byte; byte++)
+        if (*byte < ' ' || *byte > '~') *byte = '?';
+    items->tell(items->context, line);
+}
+
+/* ---- asking the stores ---- */
+
+/* A request for what is under the scope, of the whole journal or of all that is held. */
+static struct ds_request scoped(const struct items *items, uint32_t command) {
+    struct ds_request request = {.command = command, .max = ITEMS_MOST};
+    request.incarnation = items->incarnation, request.position = items->position;
+    if (!items->kinds) return request;
+    request.under = 1, request.kinds = items->kinds, request.text_length = items->scope.length;
+    return request;
+}
+
+static enum ds_fleet_word ask(struct items *items, struct ds_handle *store, uint32_t command, struct ds_answer *answer) {
+    struct ds_request request = store == items->store ? scoped(items, command) : (struct ds_request){.command = command};
+    if (ds_call(store, &request, items->scope.bytes, items->scope.length, answer)) return DS_FLEET_CLOSED;
+    return answer->word == DS_REFUSED && answer->refusal == DS_NOROOM ? DS_FLEET_NOROOM : DS_FLEET_INSTEP;
+}
+
+/* Puts the lines of the last answer behind the text, or leaves it as it was. */
+static enum ds_fleet_word fetch(struct ds_handle *store, const struct ds_answer *answer, struct text *to) {
+    size_t before = to->length;
+    for (uint64_t first = 0; first < answer->pieces;) {
+        struct ds_given given = {0};
+        bool fits = text_room(to, PIECES);
+        uint32_t error = fits ? ds_items(store, first, to->bytes + to->length, to->room - to->length, &given) : 0;
+        to->length += given.length, first += given.count;
+        if (!error && given.count) continue;
+        to->length = before;
+        return error ? DS_FLEET_CLOSED : DS_FLEET_NOROOM;
+    }
+    return DS_FLEET_INSTEP;
+}
+
+/* ---- own news ---- */
+
+static enum ds_fleet_word keep(struct items *items, const struct ds_answer *answer) {
+    size_t before = items->untold.length;
+    enum ds_fleet_word word = fetch(items->store, answer, &items->untold);
+    if (word != DS_FLEET_INSTEP) return word;
+    items->gathered += items->untold.length - before;
+    items->incarnation = answer->before, items->position = answer->after;
+    return DS_FLEET_INSTEP;
+}
+
+enum ds_fleet_word items_gather_all(struct items *items) {
+    struct ds_answer answer;
+    enum ds_fleet_word word = ask(items, items->store, DS_SNAPSHOT, &answer);
+    if (word != DS_FLEET_INSTEP) return word;
+    return answer.word == DS_SNAPPED ? keep(items, &answer) : DS_FLEET_BADSCOPE;
+}
+
+enum ds_fleet_word items_open(struct items *items) { return items_gather_all(items); }
+
+enum ds_fleet_word items_gather(struct items *items) {
+    for (;;) {
+        struct ds_answer answer;
+        enum ds_fleet_word word = ask(items, items->store, DS_SINCE, &answer);
+        if (word != DS_FLEET_INSTEP) return word;
+        if (answer.word != DS_JOURNALED) return items_gather_all(items); /* further back than its ring, or another store by now */
+        if ((word = keep(items, &answer)) != DS_FLEET_INSTEP || answer.pieces < ITEMS_MOST) return word;
+    }
+}
+
+/* ---- what is refused ---- */
+
+/* What is refused of a key or an owner is told once; of many, of each ITEMS_TOLD at a time. */
+static bool is_news(struct items *items, const char *line, size_t length, uint32_t refusal) {
+    const char *space = memchr(line, ' ', length);
+    const char *end = space ? memchr(space + 1, ' ', length - (size_t)(space + 1 - line)) : NULL;
+    uint64_t hash = hashed(hash_seed + refusal, line, end ? (size_t)(end - line) : length);
+    for (size_t i = 0; i < ITEMS_TOLD; i++)
+        if (items->told[i] == hash) return false;
+    items->told[items->told_next++ % ITEMS_TOLD] = hash;
+    return true;
+}
+
+/* entry is NULL for what was told before. */
+static void complain(struct items *items, const char *entry, const char *line, size_t length, uint32_t refusal) {
+    if (!entry) return;
+    int shown = (int)(length && line[length - 1] == '\n' ? length - 1 : length);
+    if (is_news(items, line, length, refusal)) items_say(items, "%s: entry %s: %.*s", ds_fleet_refusal(refusal), entry, shown > 400 ? 400 : shown, line);
+}
+
+/* Keeps a refused line in the second store, by which a newer one of the same key takes its place. */
+static enum ds_fleet_word set_aside(struct items *items, const char *entry, const char *line, size_t length, uint32_t refusal) {
+    struct ds_request request = {.command = DS_MERGE, .text_length = length};
+    struct ds_answer answer;
+    if (!items->has_aside && ds_open(&items->aside[items->here], 1, 0, 1)) return DS_FLEET_NOROOM;
+    items->has_aside = true;
+    if (ds_call(&items->aside[items->here], &request, line, length, &answer)) return DS_FLEET_CLOSED;
+    if (answer.refusal == DS_NOROOM) return DS_FLEET_NOROOM;
+    complain(items, entry, line, length, refusal);
+    if (answer.word == DS_STOPPED && !items->lost++) items_say(items, "full: what was refused is too much to be kept, so nothing is compacted from here");
+    if (answer.word == DS_STOPPED || answer.taken) items->refused[refusal <= DS_NOROOM ? refusal : 0]++, items->news = true;
+    return DS_FLEET_INSTEP;
+}
+
+static void forget_refused(struct items *items) {
+    memset(items->refused, 0, sizeof items->refused);
+    items->lost = 0, items->news = false;
+}
+
+/* Merges what was set aside once more; the second store is filled anew by what is still refused. */
+static enum ds_fleet_word offered_again(struct items *items, const struct text *lines) {
+    items->here = !items->here, items->has_aside = false;
+    forget_refused(items);
+    enum ds_fleet_word word = items_take(items, NULL, lines->bytes, lines->length);
+    if (word != DS_FLEET_INSTEP) items->here = !items->here, items->has_aside = items->news = true;
+    ds_close(&items->aside[!items->here]);
+    return word;
+}
+
+enum ds_fleet_word items_retry(struct items *items) {
+    struct text lines = {0};
+    struct ds_answer answer;
+    if (!items->has_aside || (!items->news && items->tried == items->position)) return DS_FLEET_INSTEP;
+    struct ds_handle *aside = &items->aside[items->here];
+    enum ds_fleet_word word = ask(items, aside, DS_SNAPSHOT, &answer);
+    if (word == DS_FLEET_INSTEP) word = fetch(aside, &answer, &lines);
+    if (word == DS_FLEET_INSTEP) word = offered_again(items, &lines);
+    if (word == DS_FLEET_INSTEP) items->news = false, items->tried = items->position;
+    text_free(&lines);
+    return word;
+}
+
+/* ---- others' items ---- */
+
+static void unread(struct items *items, const char *entry, const char *line, size_t length) {
+    items->unread++;
+    complain(items, entry, line, length, 0);
+}
+
+/* Merges lines, and says how many bytes of them are done: up to a line that is refused, and with it. */
+static enum ds_fleet_word merge(struct items *items, const char *entry, const char *lines, size_t length, unsigned count, size_t *done) {
+    struct ds_request request = {.command = DS_MERGE, .text_length = length};
+    struct ds_answer answer;
+    *done = 0;
+    if (ds_call(items->store, &request, lines, length, &answer)) return DS_FLEET_CLOSED;
+    if (answer.word == DS_REFUSED && answer.refusal == DS_NOROOM) return DS_FLEET_NOROOM;
+    if (answer.word == DS_NOREQUEST || answer.word == DS_REFUSED) {
+        if (count == 1) unread(items, entry, lines, *done = length);
+        return DS_FLEET_INSTEP; /* more than one: none is done, and they come one by one */
+    }
+    items->position += answer.taken;
+    for (size_t i = 0; i < sizeof items->owed; i++) items->owed[i] |= answer.owed[i];
+    *done = answer.word == DS_MERGED ? length : first_lines(lines, length, (unsigned)answer.count);
+    if (answer.word == DS_MERGED) return DS_FLEET_INSTEP;
+    if (answer.refusal == DS_NOROOM) return DS_FLEET_NOROOM;
+    size_t refused = first_lines(lines + *done, length - *done, 1);
+    enum ds_fleet_word word = set_aside(items, entry, lines + *done, refused, answer.refusal);
+    *done += word == DS_FLEET_INSTEP ? refused : 0;
+    return word;
+}
+
+/* Merges lines each of which has its newline. */
+static enum ds_fleet_word take_ended(struct items *items, const char *entry, const char *lines, size_t length) {
+    unsigned count = ITEMS_MOST;
+    size_t singly = 0; /* how many bytes come one by one, since they can't be read together */
+    while (length) {
+        size_t done, part = first_lines(lines, length, singly ? 1 : count);
+        enum ds_fleet_word word = merge(items, entry, lines, part, singly || first_lines(lines, part, 1) == part ? 1 : count, &done);
+        if (word != DS_FLEET_INSTEP) return word;
+        if (!done) singly = part;
+        else singly -= done < singly ? done : singly;
+        lines += done, length -= done;
+    }
+    return DS_FLEET_INSTEP;
+}
+
+enum ds_fleet_word items_take(struct items *items, const char *entry, const char *lines, size_t length) {
+    enum ds_fleet_word word = items_gather(items);
+    struct text ended = {0};
+    if (word != DS_FLEET_INSTEP || !length) return word;
+    if (lines[length - 1] == '\n') return take_ended(items, entry, lines, length);
+    word = text_put(&ended, lines, length) && text_put(&ended, "\n", 1) ? take_ended(items, entry, ended.bytes, ended.length) : DS_FLEET_NOROOM;
+    text_free(&ended);
+    return word;
+}
+
+/* ---- all that is held ---- */
+
+static enum ds_fleet_word put_all(struct items *items, struct ds_handle *store, struct text *to) {
+    struct ds_answer answer;
+    enum ds_fleet_word word = ask(items, store, DS_SNAPSHOT, &answer);
+    return word == DS_FLEET_INSTEP ? fetch(store, &answer, to) : word;
+}
+
+enum ds_fleet_word items_all(struct items *items, struct text *to) {
+    enum ds_fleet_word word = put_all(items, items->store, to);
+    return word == DS_FLEET_INSTEP && items->has_aside ? put_all(items, &items->aside[items->here], to) : word;
+}
+
+enum ds_fleet_word items_digest(struct items *items, uint64_t *digest) {
+    struct text room = {0};
+    struct ds_answer answer;
+    struct ds_given given = {0};
+    enum ds_fleet_word word = ask(items, items->store, DS_SNAPSHOT, &answer);
+    if (word == DS_FLEET_INSTEP && !text_room(&room, PIECES)) word = DS_FLEET_NOROOM;
+    *digest = hash_seed;
+    for (uint64_t first = 0; word == DS_FLEET_INSTEP && first < answer.pieces; first += given.count) {
+        if (ds_items(items->store, first, room.bytes, room.room, &given)) word = DS_FLEET_CLOSED;
+        else if (!given.count) word = DS_FLEET_NOROOM;
+        else *digest = hashed(*digest, room.bytes, given.length);
+    }
+    text_free(&room);
+    return word;
+}
+
+void items_close(struct items *items) {
+    if (items->has_aside) ds_close(&items->aside[items->here]);
+    text_free(&items->scope);
+    text_free(&items->untold);
+}

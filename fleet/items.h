@@ -1,0 +1,54 @@
+/* The store's side of a fleet: what took effect in it as lines to be told, and the lines of others merged into it. Lines are read by the
+ * store alone; here their newlines are counted, and the spaces that end their key. Used by ds_fleet.c alone. */
+#ifndef DS_FLEET_ITEMS_H
+#define DS_FLEET_ITEMS_H
+
+#include "ds_fleet.h"
+#include "text.h"
+
+enum { ITEMS_MOST = 256 /* lines of one merge, and of one entry */, ITEMS_TOLD = 256 /* keys whose refusal was told */ };
+
+struct items {
+    struct ds_handle *store;
+    struct ds_handle aside[2];      /* aside[here] is a second store: the newest items that this one refuses */
+    unsigned here;
+    bool has_aside;                 /* it is open */
+    struct text scope;              /* the pattern */
+    uint8_t kinds;                  /* 0: everything */
+    uint64_t incarnation, position; /* how far the journal was read */
+    struct text untold;             /* the lines of what took effect, until a server has answered for them */
+    uint64_t gathered;              /* bytes that untold ever got */
+    bool news;                      /* something is refused since items_retry */
+    uint64_t tried;                 /* the store's position then */
+    uint64_t unread, lost;          /* lost: items that the second store refused, too */
+    uint64_t refused[DS_NOROOM + 1];
+    uint64_t told[ITEMS_TOLD];      /* hashes of keys and why they were refused */
+    size_t told_next;
+    uint8_t owed[16];
+    ds_fleet_tell *tell;
+    void *context;
+};
+
+/* These answer INSTEP where it is done, else CLOSED, NOROOM, or items_open BADSCOPE, and then may be called again. */
+
+/* Begins at the store's end, with all that it holds untold. */
+enum ds_fleet_word items_open(struct items *items);
+/* Puts what took effect since to what is untold. */
+enum ds_fleet_word items_gather(struct items *items);
+/* Puts all that is held to what is untold. */
+enum ds_fleet_word items_gather_all(struct items *items);
+/* Merges lines that came by an entry, whose id is for who is told of what is refused. Own news is gathered first: what comes behind it
+ * in the journal is then what was merged, and isn't told again. A refused line ends nothing. */
+enum ds_fleet_word items_take(struct items *items, const char *entry, const char *lines, size_t length);
+/* Offers what was refused again, where something changed since. */
+enum ds_fleet_word items_retry(struct items *items);
+/* Puts all that is held, and all that is refused, behind the text. */
+enum ds_fleet_word items_all(struct items *items, struct text *to);
+/* A number that differs, but for a slip in 2^64, where another store holds something else. */
+enum ds_fleet_word items_digest(struct items *items, uint64_t *digest);
+void items_close(struct items *items);
+
+/* Says a line to who listens. */
+void items_say(struct items *items, const char *format, ...);
+
+#endif

@@ -1,0 +1,206 @@
+/* One connection to a redis server. See link.h. */
+#include "link.h"
+#include <hiredis/hiredis.h>
+#include <hiredis/sds.h>
+#include <stdarg.h>
+#include <stdio.h>
+#include <stdlib.h>
+#include <string.h>
+
+/* ---- addresses ---- */
+
+static int digit(char byte) {
+    if (byte >= '0' && byte <= '9') return byte - '0';
+    if (byte >= 'a' && byte <= 'f') return byte - 'a' + 10;
+    return byte >= 'A' && byte <= 'F' ? byte - 'A' + 10 : -1;
+}
+
+/* Puts the bytes for which %XX stands in their places. */
+static bool spelled(char *text) {
+    char *to = text;
+    for (const char *from = text; *from; from++, to++) {
+        *to = *from;
+        if (*from != '%') continue;
+        if (digit(from[1]) < 0 || digit(from[2]) < 0) return false;
+        *to = (char)(digit(from[1]) * 16 + digit(from[2]));
+        if (!*to) return false;
+        from += 2;
+    }
+    *to = '\0';
+    return true;
+}
+
+/* A number of at most this, or -1. */
+static int number(const char *text, int most) {
+    int value = 0;
+    if (!*text) return -1;
+    for (; *text; text++) {
+        if (*text < '0' || *text > '9') return -1;
+        value = value * 10 + (*text - '0');
+        if (value > most) return -1;
+    }
+    return value;
+}
+
+/* Cuts what stands in front of the last `@` off, and answers what is behind it. NULL: it can't be read. */
+static char *behind_user(struct link_address *address, char *text) {
+    char *at = *text == '/' ? NULL : strrchr(text, '@');
+    if (!at) return text;
+    *at = '\0';
+    char *colon = strchr(text, ':');
+    if (!colon) return NULL;
+    *colon = '\0';
+    address->user = *text ? text : NULL;
+    address->password = colon + 1;
+    if (!spelled(text) || !spelled(colon + 1)) return NULL;
+    return at + 1;
+}
+
+static bool read_host(struct link_address *address, char *text) {
+    char *slash = strchr(text, '/');
+    if (slash) {
+        *slash = '\0';
+        if (slash[1] && (address->database = number(slash + 1, 1 << 20)) < 0) return false;
+    }
+    char *bracket = *text == '[' ? strchr(text, ']') : NULL;
+    char *colon = strrchr(bracket ? bracket : text, ':');
+    if (bracket) *bracket = '\0', text++;
+    address->port = colon ? number(colon + 1, 65535) : 6379;
+    if (colon) *colon = '\0';
+    address->host = text;
+    return *text && address->port > 0;
+}
+
+/* Whether the text begins so, and then behind it. */
+static char *behind(char *text, const char *front) {
+    return strncmp(text, front, strlen(front)) ? NULL : text + strlen(front);
+}
+
+enum link_url link_read(struct link_address *address, const char *url) {
+    *address = (struct link_address){.text = strdup(url)};
+    if (!address->text) return LINK_NOROOM;
+    char *redis = behind(address->text, "redis://"), *path = behind(address->text, "unix://"), *rest = NULL;
+    bool tls = behind(address->text, "rediss://"), good = false;
+    if (redis && (rest = behind_user(address, redis))) good = read_host(address, rest);
+    if (path && (rest = behind_user(address, path))) good = *(address->path = rest) == '/';
+    if (good) return LINK_GOOD;
+    link_forget(address);
+    return tls ? LINK_TLS : LINK_BAD;
+}
+
+void link_forget(struct link_address *address) {
+    free(address->text);
+    *address = (struct link_address){0};
+}
+
+/* ---- the connection ---- */
+
+static void note(struct link *link, const char *words) {
+    snprintf(link->said, sizeof link->said, "%s", words);
+}
+
+static void greet(struct link *link, const struct link_address *address) {
+    if (address->password && address->user) link_ask(link, "AUTH %s %s", address->user, address->password);
+    else if (address->password) link_ask(link, "AUTH %s", address->password);
+    if (address->database) link_ask(link, "SELECT %d", address->database);
+    link->greetings = link->asked;
+    link->asked = 0;
+}
+
+bool link_open(struct link *link, const struct link_address *address, uint64_t now) {
+    link_close(link);
+    link->redis = address->path ? redisConnectUnixNonBlock(address->path) : redisConnectNonBlock(address->host, address->port);
+    if (!link->redis || link->redis->err) {
+        note(link, link->redis ? link->redis->errstr : "no memory");
+        link_close(link);
+        return false;
+    }
+    link->heard = now;
+    greet(link, address);
+    return true;
+}
+
+void link_ask(struct link *link, const char *format, ...) {
+    va_list given;
+    va_start(given, format);
+    if (!link->redis || link->asked == LINK_MOST || redisvAppendCommand(link->redis, format, given) != REDIS_OK) {
+        if (link->redis) note(link, "a question couldn't be asked");
+        link_close(link);
+    } else {
+        link->asked++, link->writes = true;
+    }
+    va_end(given);
+}
+
+/* Keeps an answer of the round; one to a greeting has to be good. */
+static bool kept(struct link *link, redisReply *answer) {
+    if (!link->greetings) {
+        if (link->came < link->asked) return link->answers[link->came++] = answer, true;
+        note(link, "the server answers what wasn't asked");
+        freeReplyObject(answer);
+        return false;
+    }
+    bool good = answer->type != REDIS_REPLY_ERROR;
+    if (!good) note(link, answer->str);
+    freeReplyObject(answer);
+    link->greetings--;
+    return good;
+}
+
+static bool write_some(struct link *link, uint64_t now) {
+    int done = 0;
+    if (!link->writes) return true;
+    size_t before = sdslen(link->redis->obuf);
+    if (redisBufferWrite(link->redis, &done) != REDIS_OK) return note(link, link->redis->errstr), false;
+    if (sdslen(link->redis->obuf) < before) link->heard = now;
+    link->writes = !done;
+    return true;
+}
+
+/* Reads what has come, up to a megabyte, unless it is known that nothing has. */
+static bool fill(struct link *link, uint64_t now) {
+    redisReader *reader = link->redis->reader;
+    for (int times = 0; times < 64 && !link->quiet; times++) {
+        size_t before = reader->len;
+        if (redisBufferRead(link->redis) != REDIS_OK) return note(link, link->redis->errstr), false;
+        link->quiet = reader->len < before + REDIS_READER_MAX_BUF; /* it reads so much at a time */
+        if (reader->len > before) link->heard = now;
+    }
+    return true;
+}
+
+static bool read_some(struct link *link, uint64_t now) {
+    if (!fill(link, now)) return false;
+    for (;;) {
+        void *answer = NULL;
+        if (redisGetReplyFromReader(link->redis, &answer) != REDIS_OK) return note(link, link->redis->errstr), false;
+        if (!answer) return true;
+        if (!kept(link, answer)) return false;
+    }
+}
+
+enum link_state link_turn(struct link *link, uint64_t now) {
+    if (!link->redis) return LINK_LOST;
+    if (!write_some(link, now) || !read_some(link, now)) {
+        link_close(link);
+        return LINK_LOST;
+    }
+    if (!link->asked) {
+        link->heard = now;
+        return LINK_IDLE;
+    }
+    return link->came == link->asked && !link->greetings ? LINK_ANSWERED : LINK_WAITS;
+}
+
+void link_done(struct link *link) {
+    for (unsigned i = 0; i < link->came; i++) freeReplyObject(link->answers[i]);
+    link->asked = link->came = 0;
+}
+
+void link_close(struct link *link) {
+    link_done(link);
+    if (link->redis) redisFree(link->redis);
+    link->redis = NULL, link->greetings = 0, link->writes = link->quiet = false;
+}
+
+int link_descriptor(const struct link *link) { return link->redis ? link->redis->fd : -1; }

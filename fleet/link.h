@@ -1,0 +1,62 @@
+/* One connection to a redis server, over hiredis: it is asked by rounds of questions and never waits. Used by ds_fleet.c alone. */
+#ifndef DS_FLEET_LINK_H
+#define DS_FLEET_LINK_H
+
+#include <stdbool.h>
+#include <stddef.h>
+#include <stdint.h>
+
+struct redisContext;
+struct redisReply;
+
+enum { LINK_MOST = 40 /* questions of one round */, LINK_WORDS = 256 /* bytes of what a server said, with its zero */ };
+
+/* Where a server is, and as whom it is spoken to. */
+struct link_address {
+    char *text;     /* what the others point into; to be freed by link_forget */
+    char *host;     /* or NULL, and then */
+    char *path;     /* the socket's */
+    char *user;     /* or NULL */
+    char *password; /* or NULL */
+    int port, database;
+};
+
+enum link_url { LINK_GOOD, LINK_BAD, LINK_TLS, LINK_NOROOM };
+
+/* Reads redis://[[USER]:PASSWORD@]HOST[:PORT][/DATABASE] or unix://[[USER]:PASSWORD@]/PATH; %XX stands for a byte of USER and PASSWORD.
+ * LINK_TLS is told of rediss://. Where it isn't LINK_GOOD there is nothing to forget. */
+enum link_url link_read(struct link_address *address, const char *url);
+void link_forget(struct link_address *address);
+
+/* A connection, and the round that it was asked. It begins with zeros. */
+struct link {
+    struct redisContext *redis;            /* NULL: there is none */
+    struct redisReply *answers[LINK_MOST]; /* those of this round that came */
+    unsigned asked, came, greetings;       /* greetings: how many answers stand in front of this round's */
+    bool writes;                           /* not all that was asked could be written yet */
+    bool quiet;                            /* all that had come is read; who hears that more came clears it */
+    uint64_t heard;                        /* when bytes last went or came, or nothing was asked, in milliseconds */
+    char said[LINK_WORDS];                 /* why the connection went, or the error of a greeting */
+};
+
+enum link_state {
+    LINK_IDLE,    /* nothing is asked */
+    LINK_WAITS,   /* answers are missing */
+    LINK_ANSWERED, /* all answers of this round stand in answers */
+    LINK_LOST     /* the connection is gone, or there was none; link->said says why */
+};
+
+/* Begins to connect, and asks what an address needs to be let in. Nothing is waited for but the name of a host, where it is one. */
+bool link_open(struct link *link, const struct link_address *address, uint64_t now);
+/* Asks one question of a round, in the format of redisAppendCommand. What is given is copied. */
+void link_ask(struct link *link, const char *format, ...);
+/* Writes and reads what can be without waiting. */
+enum link_state link_turn(struct link *link, uint64_t now);
+/* Ends a round: its answers are freed. */
+void link_done(struct link *link);
+/* Ends the connection. What it said last stays. */
+void link_close(struct link *link);
+/* Its descriptor, or -1. */
+int link_descriptor(const struct link *link);
+
+#endif

@@ -1,0 +1,50 @@
+/* Bytes that grow. See text.h. */
+#include "text.h"
+#include <stdarg.h>
+#include <stdio.h>
+#include <stdlib.h>
+#include <string.h>
+
+bool text_room(struct text *text, size_t more) {
+    if (text->room - text->length >= more) return true;
+    size_t room = 2 * text->length + more;
+    char *grown = realloc(text->bytes, room);
+    if (!grown) return false;
+    text->bytes = grown, text->room = room;
+    return true;
+}
+
+bool text_put(struct text *text, const void *bytes, size_t length) {
+    if (!text_room(text, length)) return false;
+    if (length) memcpy(text->bytes + text->length, bytes, length);
+    text->length += length;
+    return true;
+}
+
+bool text_print(struct text *text, const char *format, ...) {
+    char line[512];
+    va_list given;
+    va_start(given, format);
+    int length = vsnprintf(line, sizeof line, format, given);
+    va_end(given);
+    return text_put(text, line, length < (int)sizeof line ? (size_t)length : sizeof line - 1);
+}
+
+void text_drop(struct text *text, size_t length) {
+    text->length -= length;
+    if (length && text->length) memmove(text->bytes, text->bytes + length, text->length);
+}
+
+void text_free(struct text *text) {
+    free(text->bytes);
+    *text = (struct text){0};
+}
+
+size_t first_lines(const char *bytes, size_t length, unsigned lines) {
+    size_t end = 0;
+    for (; lines && end < length; lines--) {
+        const char *newline = memchr(bytes + end, '\n', length - end);
+        end = newline ? (size_t)(newline - bytes) + 1 : length;
+    }
+    return end;
+}

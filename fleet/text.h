@@ -1,0 +1,20 @@
+/* Bytes that grow. A text begins with zeros and ends with text_free. */
+#ifndef DS_FLEET_TEXT_H
+#define DS_FLEET_TEXT_H
+
+#include <stdbool.h>
+#include <stddef.h>
+
+struct text { char *bytes; size_t length, room; };
+
+/* Makes room for so many bytes behind the text. These answer false where memory is wanting, and then the text is as it was. */
+bool text_room(struct text *text, size_t more);
+bool text_put(struct text *text, const void *bytes, size_t length);
+bool text_print(struct text *text, const char *format, ...);
+/* Drops bytes from the front. */
+void text_drop(struct text *text, size_t length);
+void text_free(struct text *text);
+/* How many bytes the first lines have, as many as there are at most. */
+size_t first_lines(const char *bytes, size_t length, unsigned lines);
+
+#endif
