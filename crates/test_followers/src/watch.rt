@@ -1,0 +1,116 @@
+//! What each thread does.
+
+ghost use Rattle.std.specs.Prelude.{◌≡◌};
+ghost use Rattle.desk.specs.Desk.{identity};
+ghost use Rattle.desk.specs.Pass.{desk_of};
+
+use crate::asked::{command_of, everything};
+use crate::line::Sizes;
+use crate::mark::mark_of_map;
+use desk::{Desk, Pass};
+use ds_machine::{Refusal, Reply};
+use ds_pass::LiveFault;
+use ds_refresh::{Follower, Fresh, refresh};
+use ds_store::Store;
+use std::alloc::Global;
+use std::sync::Wait;
+use std::sync::atomic::{AtomicU32, Ordering};
+use test_crews::{Board, DeskName, Kept, Said, Task, Worker};
+
+/// The turn of what is kept of a refresh: no writer has so many.
+pub(crate) const REFRESHED: u32 = u32::MAX;
+
+/// The first threads that begin follow the store, the others change it.
+#[derive(Drop)]
+pub(crate) struct Watch {
+    pub sizes: Sizes,
+    pub begun: AtomicU32,
+}
+
+impl Task<Box<Store>> for Watch {
+    fn work<R: Wait, D: DeskName>(
+        &self,
+        rt: &R,
+        alloc: Global,
+        desk: &Desk<Box<Store>>,
+        _board: &Board<Box<Store>, D>,
+        worker: &mut Worker<Pass<Box<Store>>>,
+    ) -> Option<()> {
+        let number = self.begun.fetch_add(1, Ordering::SeqCst);
+        if number < self.sizes.followers {
+            follow(rt, alloc, desk, worker, number, self.sizes.calls)
+        } else {
+            change(rt, desk, worker, u64::from(number), self.sizes.calls)
+        }
+    }
+}
+
+// A writer's calls, each kept with its place.
+fn change<R: Wait>(
+    rt: &R,
+    desk: &Desk<Box<Store>>,
+    worker: &mut Worker<Pass<Box<Store>>>,
+    writer: u64,
+    calls: u32,
+) -> Option<()>
+    requires { desk_of worker.old.pass ≡ identity desk.now }
+    ensures { desk_of worker.new.pass ≡ desk_of worker.old.pass }
+{
+    for turn in 0..calls {
+        let answer = worker.call(rt, desk, command_of(writer, turn)?)?;
+        let kept = match answer.reply {
+            Reply::Refused(Refusal::NoRoom) => Kept::NoRoom,
+            _ => Kept::Reply { mark: 0, owed: 0 },
+        };
+        worker
+            .said
+            .push(Said {
+                seen: writer,
+                turn,
+                place: answer.place,
+                kept,
+            })
+            .ok()?;
+    }
+    Some(())
+}
+
+// A follower's refreshes, each of which that came to a place is kept with what the map then has. In each sixteenth turn the follower
+// is lost, and begins again. Where memory was wanting it goes on.
+fn follow<R: Wait>(
+    rt: &R,
+    alloc: Global,
+    desk: &Desk<Box<Store>>,
+    worker: &mut Worker<Pass<Box<Store>>>,
+    number: u32,
+    calls: u32,
+) -> Option<()>
+    requires { desk_of worker.old.pass ≡ identity desk.now }
+    ensures { desk_of worker.new.pass ≡ desk_of worker.old.pass }
+{
+    let mut follower = Follower::new(alloc, number, everything(alloc)?).ok()?;
+    for turn in 0..calls {
+        match refresh(rt, alloc, desk, &mut worker.pass, &mut follower, 65536) {
+            Ok(Fresh::UpTo(place)) => {
+                let entries = follower.map().entries(alloc).ok()?;
+                let mark = mark_of_map(alloc, &entries)?;
+                worker
+                    .said
+                    .push(Said {
+                        seen: u64::from(number),
+                        turn: REFRESHED,
+                        place,
+                        kept: Kept::Reply { mark, owed: 0 },
+                    })
+                    .ok()?;
+            }
+            Ok(Fresh::More) | Err(LiveFault::NoRoom) => {}
+            Err(LiveFault::Refused(Refusal::NoRoom)) => {}
+            Err(_) => return None,
+        }
+        if turn % 16 == 15 {
+            follower.lose();
+        }
+    }
+    Some(())
+}

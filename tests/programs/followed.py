@@ -1,0 +1,82 @@
+"""What tests/programs/followers asks of threads: writers change a store at a desk, and followers of it are refreshed meanwhile.
+
+The program gives one store the writers' calls in the order of their places, and compares each map that was brought up to a place with
+what that store then holds. Each line, `WRITERS FOLLOWERS CALLS`, is answered by one line, the same however the threads take turns. Where
+the n-th growth is refused, the run ends as `noroom`; or one call of a writer was refused so, which changed nothing; or a refresh failed,
+behind which the follower begins again, so that its next map is compared as ever; or a thread couldn't be made, and all is as with
+ample memory.
+"""
+import pathlib
+
+import harness
+
+RUNS = 5  # of each crew, since every run takes its turns otherwise
+SIZES = ((1, 1, 2000), (2, 2, 500), (1, 7, 300), (8, 8, 100), (32, 32, 20))
+REFUSED = ((1, 1, 3), (2, 1, 2))
+UNREAD = ("", "1 1", "0 1 1", "1 0 1", "33 1 1", "1 33 1", "one 1 1", "1 1 -1", "1 1 1 ")
+EQUAL = b"each map is what the store held\n"
+
+
+def asked(writers, followers, calls):
+    return f"{writers} {followers} {calls}\n".encode()
+
+
+def shared_out(threads):
+    """So many threads as writers and followers, at least one of each."""
+    return max(1, (threads + 1) // 2), max(1, threads // 2)
+
+
+def fault(program, sizes):
+    """Runs a crew, and says what is wrong with what it prints, or answers None."""
+    ran = harness.run([program], asked(*sizes))
+    wrong = harness.difference(ran.output, EQUAL)
+    return wrong or (None if (ran.status, ran.error) == (0, b"") else f"status {ran.status}, standard error {ran.error[:200]!r}")
+
+
+def case_of(room, sizes):
+    """A crew as a case in a file of its own."""
+    given = pathlib.Path(room) / "_".join(["followers", *map(str, sizes)])
+    given.write_bytes(asked(*sizes))
+    return harness.Case(given.name, [], given, EQUAL)
+
+
+def refused_fault(ran):
+    """Says what is wrong with a run of which one growth was refused, or answers None."""
+    if (ran.status, ran.error, ran.output) in ((3, b"noroom\n", b""), (0, b"", EQUAL)):
+        return None
+    return f"status {ran.status}, output {ran.output[:200]!r}, standard error {ran.error[:200]!r}"
+
+
+def growths(refuser, room, sizes):
+    """Refuses each growth of one crew in turn. Says what was wrong with the first bad answer, or answers None."""
+    ended = []
+
+    def refused(ran):
+        ended.append(ran.status)
+        return refused_fault(ran)
+
+    wrong = refuser.each_growth(case_of(room, sizes), refused)
+    return wrong or (None if {0, 3} <= {*ended} else f"every run ended with status {ended[:1]}")
+
+
+def input_faults(program):
+    """Lines that can't be read end the program with status 1, after those before them."""
+    good = asked(1, 1, 2)
+    for sizes in UNREAD:
+        line = f"{sizes}\n".encode()
+        ran = harness.run([program], good + line + good)
+        if (ran.status, ran.output) != (1, EQUAL):
+            return f"{line!r}: status {ran.status}, output {ran.output[:200]!r}"
+    return None
+
+
+def faults(refuser, room):
+    """What was wrong with each crew, each several times, and with the growths of small ones, or None."""
+    named = []
+    for sizes in SIZES:
+        runs = (fault(refuser.program, sizes) for _ in range(RUNS))
+        named.append((f"{sizes[0]} writers and {sizes[1]} followers, {sizes[2]} times", next(filter(None, runs), None)))
+    named.append(("lines that can't be read", input_faults(refuser.program)))
+    for sizes in REFUSED:
+        named.append((f"growths of {sizes}", growths(refuser, room, sizes)))
+    return named
