@@ -1,0 +1,5 @@
+pub mod AskingLemmas
+pub mod EntryLemmas
+pub mod BadLineLemmas
+pub mod StepLemmas
+pub mod RunLemmas

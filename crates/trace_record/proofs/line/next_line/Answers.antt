@@ -1,0 +1,22 @@
+use Rattle.std.proofs.Common.{◌+◌, arith}
+use Rattle.trace_check.proofs.WalkingLemmas.{line_comes, none_comes, long_comes}
+use Rattle.trace_record.proofs.RunLemmas.{front_at}
+use Rattle.trace_record.proofs.line.next_line.Goals as goal
+
+pub returns-in-Line-clause-comes : goal.returns-in-Line-clause-comes
+returns-in-Line-clause-comes g c bytes front at =
+    line_comes bytes front c.args.lines.now c.pull.new.self (g.R.Source.remaining c.args.reader.now) (g.R.Source.remaining c.pull.new.reader) at c.in-Line.ensures.pulls.0 c.in-Line.ensures.pulls.1 c.in-Line.ensures.pulls.3
+
+pub returns-in-End-clause-comes : goal.returns-in-End-clause-comes
+returns-in-End-clause-comes g c bytes front at = none_comes bytes front c.args.lines.now (g.R.Source.remaining c.args.reader.now) _ at c.in-End.ensures.pulls.0 c.in-End.ensures.pulls.1
+
+pub returns-in-Long-clause-comes : goal.returns-in-Long-clause-comes
+returns-in-Long-clause-comes g c bytes front at =
+    let l = c.in-Long.ensures.pulls in
+    long_comes bytes front c.args.lines.now (g.R.Source.remaining c.args.reader.now) l.0 (c.count-before.result + 1) at l.1 l.2 l.3 (omega (arith, c.count-before.ensures.value))
+
+pub returns-in-ReadFault-clause-comes : goal.returns-in-ReadFault-clause-comes
+returns-in-ReadFault-clause-comes g c bytes front at = front_at bytes front c.args.lines.now (g.R.Source.remaining c.args.reader.now) at
+
+pub returns-in-NoRoom-clause-comes : goal.returns-in-NoRoom-clause-comes
+returns-in-NoRoom-clause-comes g c bytes front at = front_at bytes front c.args.lines.now (g.R.Source.remaining c.args.reader.now) at

@@ -1,0 +1,24 @@
+use Rattle.std.proofs.Common.{◌≡◌, ◌+◌, ℕ, refl, subst, arith}
+use Rattle.trace_record.specs.Steps.{AddsItems}
+use Rattle.trace_record.proofs.StepLemmas.{handed_on, items_none, items_more, items_fail}
+use Rattle.trace_record.proofs.recorder.Recorder.items.Goals as goal
+
+pub loop-index-init : goal.loop-index-init
+loop-index-init g c = items_none c.args.self.now (g.R.Source.remaining c.args.reader.now) _ c.new-items.ensures
+
+pub loop-index-preserved : goal.loop-index-preserved
+loop-index-preserved g c =
+    let l = c.loop-index in
+    items_more c.args.self.now l.self c.item.new.self (g.R.Source.remaining c.args.reader.now) (g.R.Source.remaining l.reader) (g.R.Source.remaining c.item.new.reader) l._index l.items l.invariant _ (l._index + 1) refl c.in_ok-item.ensures.goes
+
+pub returns-in_err-item-clause-fails : goal.returns-in_err-item-clause-fails
+returns-in_err-item-clause-fails g c =
+    let l = c.loop-index in
+    handed_on c.from_residual.result c.in_err-item.field-0.0 _ c.from_residual.ensures.1
+    (items_fail c.args.self.now l.self c.item.new.self (g.R.Source.remaining c.args.reader.now) (g.R.Source.remaining l.reader) (g.R.Source.remaining c.item.new.reader) l._index l.items l.invariant c.args.count c.in_err-item.field-0.0 c.loop-index-test.true c.in_err-item.ensures.fails)
+
+pub returns-clause-goes : goal.returns-clause-goes
+returns-clause-goes g c =
+    let l = c.loop-index in
+    let all : l._index ≡ c.args.count = omega (arith, c.loop-index-test.false, l.auto._index-end) in
+    subst (λ (n : ℕ). AddsItems c.args.self.now (g.R.Source.remaining c.args.reader.now) n l.self (g.R.Source.remaining l.reader) l.items) all l.invariant

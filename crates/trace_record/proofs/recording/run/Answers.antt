@@ -1,0 +1,77 @@
+use Rattle.std.proofs.Common.{◌≡◌, ◌+◌, ◌∙◌, ℕ, suc, List, Option, Bool, Result, Ok, Err, refl, sym, ap, subst, arith}
+use Rattle.trace_words.specs.declared.header.Header.{Header}
+use Rattle.trace_record.specs.declared.fault.RecordFault.{RecordFault}
+use Rattle.trace_record.specs.declared.recorder.Recorder.{Recorder}
+use Rattle.trace_record.specs.Reading.{IsReady}
+use Rattle.trace_record.specs.Running.{Runs, RunsTo}
+use Rattle.trace_record.proofs.StepLemmas.{handed_as}
+use Rattle.trace_record.proofs.RunLemmas.{entry_added, entry_fails, entry_unwritten, entry_written, run_ends, run_full, run_stops}
+use Rattle.trace_record.proofs.recording.run.Goals as goal
+
+pub loop-count-init : goal.loop-count-init
+loop-count-init g c = (c.requires, λ known first had h r. r)
+
+pub returns-in-Ok-false : goal.returns-in-Ok-false
+returns-in-Ok-false g c known first had h r =
+    let l = c.loop-count in
+    run_ends known first had h l.recorder (g.R.Source.remaining l.reader) (g.W.Sink.contents l.writer) l.count l.next (l.invariant.1 known first had h r) (c.in-Ok-false.is ∙ ap (λ (b : Bool). Ok b) c.in-Ok-false.field-0-test)
+
+pub returns-in-Err : goal.returns-in-Err
+returns-in-Err g c known first had h r =
+    let l = c.loop-count in
+    run_stops known first had h l.recorder (g.R.Source.remaining l.reader) (g.W.Sink.contents l.writer) l.count l.next c.in-Err.fault (l.invariant.1 known first had h r) c.in-Err.is l.invariant.0
+
+pub entry-requires : goal.entry-requires
+entry-requires g c =
+    let l = c.loop-count in
+    let ready = subst (IsReady l.recorder.lines) (c.in-Ok-true.is ∙ ap (λ (b : Bool). Ok b) c.in-Ok-true.field-0-test) l.invariant.0 in
+    ready.0
+
+pub returns-in_err-entry : goal.returns-in_err-entry
+returns-in_err-entry g c =
+    let l = c.loop-count in
+    let from = g.R.Source.remaining c.args.reader.now in
+    let has = g.W.Sink.contents c.args.writer.now in
+    let now = g.W.Sink.contents l.writer in
+    let w : Recorder = c.entry.new.self in
+    handed_as c.from_residual.result c.in_err-entry.field-0.0
+    (λ (ran : Result ℕ RecordFault). (known : Option (List ℕ)) (first : List ℕ) (had : Option (List ℕ)) (h : Header) → Runs known first had h c.args.recorder.now from has c.args.first 0 → RunsTo known first had h w.output.items now ran)
+    c.from_residual.ensures.1
+    (λ known first had h r.
+    entry_fails known first had h l.recorder w (g.R.Source.remaining l.reader) (g.R.Source.remaining c.entry.new.reader) now l.next l.count (l.invariant.1 known first had h r) (c.in-Ok-true.is ∙ ap (λ (b : Bool). Ok b) c.in-Ok-true.field-0-test) c.in_err-entry.field-0.0 c.in_err-entry.ensures.fails)
+
+pub returns-in_err-send_waiting : goal.returns-in_err-send_waiting
+returns-in_err-send_waiting g c =
+    let l = c.loop-count in
+    let from = g.R.Source.remaining c.args.reader.now in
+    let has = g.W.Sink.contents c.args.writer.now in
+    let now = g.W.Sink.contents c.send_waiting.new.writer in
+    let w : Recorder = c.entry.new.self in
+    let waits : List ℕ = c.send_waiting.new.output.items in
+    handed_as c.from_residual-in_err-send_waiting.result c.in_err-send_waiting.field-0.0
+    (λ (ran : Result ℕ RecordFault). (known : Option (List ℕ)) (first : List ℕ) (had : Option (List ℕ)) (h : Header) → Runs known first had h c.args.recorder.now from has c.args.first 0 → RunsTo known first had h waits now ran)
+    c.from_residual-in_err-send_waiting.ensures.1
+    (λ known first had h r.
+    let b = entry_added known first had h l.recorder w (g.R.Source.remaining l.reader) (g.R.Source.remaining c.entry.new.reader) (g.W.Sink.contents l.writer) l.next l.count (l.invariant.1 known first had h r) (c.in-Ok-true.is ∙ ap (λ (b : Bool). Ok b) c.in-Ok-true.field-0-test) c.in_ok-entry.ensures.goes in
+    subst (λ (f : RecordFault). RunsTo known first had h waits now (Err f)) (sym c.in_err-send_waiting.ensures.fault)
+    (entry_unwritten known first had h w (g.R.Source.remaining c.entry.new.reader) (g.W.Sink.contents l.writer) now (suc l.count) b waits c.in_err-send_waiting.ensures.err))
+
+pub loop-count-preserved : goal.loop-count-preserved
+loop-count-preserved g c = (
+  c.next_line-next.ensures.ready,
+  λ known first had h r.
+      let l = c.loop-count in
+      let w : Recorder = c.entry.new.self in
+      let new : Recorder = record w { lines = c.next_line-next.new.lines; output = c.send_waiting.new.output } in
+      let to = g.R.Source.remaining c.next_line-next.new.reader in
+      let now = g.W.Sink.contents c.send_waiting.new.writer in
+      let b = entry_added known first had h l.recorder w (g.R.Source.remaining l.reader) (g.R.Source.remaining c.entry.new.reader) (g.W.Sink.contents l.writer) l.next l.count (l.invariant.1 known first had h r) (c.in-Ok-true.is ∙ ap (λ (b : Bool). Ok b) c.in-Ok-true.field-0-test) c.in_ok-entry.ensures.goes in
+      let more : suc l.count ≡ l.count + 1 = omega arith in
+      subst (λ (n : ℕ). Runs known first had h new to now c.next_line-next.result n) more
+      (entry_written known first had h w (g.R.Source.remaining c.entry.new.reader) (g.W.Sink.contents l.writer) now (suc l.count) b new c.send_waiting.new.output.items c.next_line-next.new.lines to c.next_line-next.result refl refl refl refl c.in_ok-send_waiting.ensures.ok c.next_line-next.ensures.comes),
+)
+
+pub returns : goal.returns
+returns g c known first had h r =
+    let l = c.loop-count in
+    run_full known first had h l.recorder (g.R.Source.remaining l.reader) (g.W.Sink.contents l.writer) l.count l.next (l.invariant.1 known first had h r)

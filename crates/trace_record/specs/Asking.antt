@@ -1,0 +1,95 @@
+-- What lines of an input ask.
+use Rattle.std.specs.Prelude.{◌≡◌, ℕ, suc, ◌<◌, ◌≤◌, ◌⊎◌, Bool, false, cond, List, [], ◌∷◌, ◌++◌, length}
+use Rattle.std.specs.Char.{is_ascii_digit}
+use Rattle.std.specs.List.{All, flat_map}
+use Rattle.ds_entry.specs.declared.item.Item.{Item}
+use Rattle.ds_line.specs.Part.{texts}
+use Rattle.ds_lines.specs.Lines.{HasLines, with_newline, joined}
+use Rattle.ds_names.specs.Limits.{most_items}
+use Rattle.ds_words.specs.Command.{command_parts}
+use Rattle.ds_words.specs.declared.command.ScriptCommand.TheVariants.{Ring}
+use Rattle.trace_check.specs.Walking.{IsShort}
+use Rattle.trace_words.specs.declared.asked.Head.{Head}
+use Rattle.trace_words.specs.declared.header.Format.{Format}
+use Rattle.trace_words.specs.Head.{IsHeadOf}
+use Rattle.trace_words.specs.Text.{TraceEntry, MayMerge, asked_text, merge_text, pass_text, plus_text}
+
+-- a pass stands in front: a digit
+abbrev pub has_pass : List ℕ → Bool
+has_pass [] = false
+has_pass (b ∷ bs) = is_ascii_digit b
+
+-- The lines of a trace that ask what these lines ask: `> ` stands in front, and where no pass does, it is 0.
+abbrev pub asked_by : List ℕ → List ℕ
+asked_by lines = 62 ∷ 32 ∷ cond (has_pass lines) lines (48 ∷ 32 ∷ lines)
+
+-- The text is lines that ask what these entries ask, one after the other.
+abbrev pub AskAll : List ℕ → List TraceEntry → Type 0
+AskAll text [] = text ≡ []
+AskAll text (e ∷ entries) = (lines rest : List ℕ) × (text ≡ lines ++ rest) × (asked_by lines ≡ asked_text e.pass e.asked) × AskAll rest entries
+
+-- `ring N`, its newline included
+abbrev pub ring_text : ℕ → List ℕ
+ring_text ring = texts (command_parts (Ring ring))
+
+-- Such a first line says how many items the journal keeps; where none stands, that are 256.
+abbrev pub OpensWith : List ℕ → ℕ → Type 0
+OpensWith first ring = (first ≡ ring_text ring) ⊎ ((first ≡ []) × (ring ≡ 256))
+
+-- ---- the lines of the input, the last of which may have no newline
+
+-- all of them
+abbrev pub IsAllLines : List ℕ → List ℕ → Type 0
+IsAllLines bytes input = (lines : List (List ℕ)) × HasLines bytes lines × (input ≡ joined lines)
+
+-- the first ones
+abbrev pub IsFirstLines : List ℕ → List ℕ → Type 0
+IsFirstLines bytes input = (before rest : List (List ℕ)) × HasLines bytes (before ++ rest) × (input ≡ joined before)
+
+-- ---- bad lines
+
+-- a line that is none of an entry's first ones, or would be too long in the trace
+abbrev pub AsksNothing : Format → List ℕ → Type 0
+AsksNothing format line = (pass : ℕ) (head : Head) → IsShort (asked_by line) → ¬ IsHeadOf format pass head (asked_by line)
+
+-- a line that is no item's, or too long
+abbrev pub IsNoItem : Format → List ℕ → Type 0
+IsNoItem format line = (i : Item) → MayMerge format i → IsShort line → ¬ (line ≡ plus_text i)
+
+-- the first of the lines asks nothing
+abbrev pub BeginsNoEntry : Format → List (List ℕ) → Type 0
+BeginsNoEntry format [] = ⊥
+BeginsNoEntry format (line ∷ lines) = AsksNothing format (with_newline line)
+
+-- the first of the lines is no item's, or there is none
+abbrev pub BeginsNoItem : Format → List (List ℕ) → Type 0
+BeginsNoItem format [] = Unit {0}
+BeginsNoItem format (line ∷ lines) = IsNoItem format (with_newline line)
+
+-- The part is a Merge's first line and some of its items, of which another one has to stand behind, and doesn't.
+pub record LacksItem (format : Format) (part : List ℕ) (rest : List (List ℕ)) : Type 0 where
+  pub pass : ℕ
+  pub count : ℕ
+  pub items : List Item
+  pub pass_few : pass ≤ 63
+  pub few : count ≤ most_items
+  pub may : All (MayMerge format) items
+  pub part_is : asked_by part ≡ pass_text pass (merge_text count) ++ flat_map plus_text items
+  pub less : length items < count
+  pub lacks : BeginsNoItem format rest
+
+-- behind whole entries the first of the lines asks nothing, or an item is missing behind a part of one
+abbrev pub GoesNotOn : Format → List ℕ → List (List ℕ) → Type 0
+GoesNotOn format part rest = ((part ≡ []) × BeginsNoEntry format rest) ⊎ LacksItem format part rest
+
+-- The line of this number is the first that asks nothing: before it the lines of whole entries stand, the front, and perhaps a part
+-- of one.
+pub record AsksNothingAt (format : Format) (bytes front : List ℕ) (number : ℕ) : Type 0 where
+  pub whole : IsFirstLines bytes front
+  pub part : List ℕ
+  pub before : List (List ℕ)
+  pub rest : List (List ℕ)
+  pub lines : HasLines bytes (before ++ rest)
+  pub behind : front ++ part ≡ joined before
+  pub counted : number ≡ suc (length before)
+  pub stops : GoesNotOn format part rest

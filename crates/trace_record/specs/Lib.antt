@@ -1,0 +1,5 @@
+pub mod Asking
+pub mod Record
+pub mod Reading
+pub mod Steps
+pub mod Running

@@ -1,0 +1,52 @@
+-- Going from line to line of an input, wherever in whatever input that is. `from` and `to` are what the reader has before and after.
+use Rattle.std.specs.Prelude.{◌≡◌, ℕ, true, false, Bool, List, [], Option, Result, Ok, Err}
+use Rattle.ds_lines.specs.Lines.{EndsLine, with_newline}
+use Rattle.ds_lines.specs.Reading.{LinesContent}
+use Rattle.trace_check.specs.Walking.{IsAt, IsRead, IsLong, HasLine, IsShort}
+use Rattle.trace_words.specs.declared.asked.Head.{Head}
+use Rattle.trace_words.specs.declared.header.Format.{Format}
+use Rattle.trace_words.specs.Head.{IsHeadOf}
+use Rattle.trace_record.specs.declared.begin.Beginning.{Beginning}
+use Rattle.trace_record.specs.declared.fault.RecordFault.{RecordFault}
+use Rattle.trace_record.specs.declared.fault.RecordFault.TheVariants.{BadLine, WriteFault, NoRoom}
+use Rattle.trace_record.specs.Asking.{OpensWith, IsFirstLines, AsksNothing}
+
+-- a fault of the input, or want of memory
+abbrev pub IsOfInput : RecordFault → Type 0
+IsOfInput WriteFault = ⊥
+IsOfInput _ = Unit {0}
+
+-- the line that it is at stands behind the front
+abbrev pub IsAtLine : (bytes front : List ℕ) → LinesContent → Option (List ℕ) → Type 0
+IsAtLine bytes front l remaining = (line : List ℕ) × (l.line ≡ with_newline line) × HasLine bytes front line l remaining
+
+-- what came of going to the next line behind the front: it is at that line, there is none, that line is too long, or nothing is known
+abbrev pub ComesToNext : (bytes front : List ℕ) → LinesContent → Option (List ℕ) → Result Bool RecordFault → Type 0
+ComesToNext bytes front new to (Ok true) = IsAtLine bytes front new to
+ComesToNext bytes front new to (Ok false) = IsRead bytes front new.count
+ComesToNext bytes front new to (Err (BadLine number place)) = IsLong bytes front number
+ComesToNext bytes front new to (Err WriteFault) = ⊥
+ComesToNext bytes front new to (Err _) = IsFirstLines bytes front
+
+abbrev pub Comes : LinesContent → Option (List ℕ) → LinesContent → Option (List ℕ) → Result Bool RecordFault → Type 0
+Comes old from new to r = (bytes front : List ℕ) → IsAt bytes front old from → ComesToNext bytes front new to r
+
+-- a line that is gone to ends and is short, and a fault is one of the input
+abbrev pub IsReady : LinesContent → Result Bool RecordFault → Type 0
+IsReady new (Ok true) = EndsLine new.line × IsShort new.line
+IsReady new (Ok false) = Unit {0}
+IsReady new (Err fault) = IsOfInput fault
+
+-- Behind a first line that says how many items the journal keeps, or behind nothing, it went to the next line.
+abbrev pub BeginsInput : LinesContent → Option (List ℕ) → LinesContent → Option (List ℕ) → Beginning → Type 0
+BeginsInput old from new to b = (first : List ℕ) × OpensWith first b.ring × ((bytes : List ℕ) → IsAt bytes [] old from → ComesToNext bytes first new to b.next)
+
+-- what a line asks, in some pass
+abbrev pub IsHeadBehind : Format → List ℕ → Head → Type 0
+IsHeadBehind format text head = (pass : ℕ) × IsHeadOf format pass head text × IsShort text
+
+-- why a line isn't read: it asks nothing and has this number, or memory was wanting
+abbrev pub IsBadHead : Format → List ℕ → ℕ → RecordFault → Type 0
+IsBadHead format line number (BadLine told place) = (told ≡ number) × AsksNothing format line
+IsBadHead format line number NoRoom = Unit {0}
+IsBadHead format line number _ = ⊥

@@ -1,0 +1,178 @@
+-- What each part of a recording does, wherever in whatever input it is. `from` and `to` are what the reader has before and after it.
+use Rattle.std.specs.Prelude.{◌≡◌, ℕ, suc, ◌<◌, List, [], ◌∷◌, ◌++◌, length, Option, Some}
+use Rattle.std.specs.List.{All, flat_map}
+use Rattle.ds_content.specs.Stands.{ContentStands}
+use Rattle.ds_entry.specs.declared.item.Item.{Item}
+use Rattle.ds_lines.specs.Lines.{HasLines, joined}
+use Rattle.ds_lines.specs.Reading.{LinesContent}
+use Rattle.ds_machine.specs.State.{State}
+use Rattle.ds_machine.specs.declared.command.Command.{Command}
+use Rattle.ds_machine.specs.declared.reply.Reply.{Reply}
+use Rattle.store_words.specs.Reply.{reply_lines}
+use Rattle.trace_check.specs.Walking.{IsAt, IsShort}
+use Rattle.trace_words.specs.declared.asked.Asked.{Asked}
+use Rattle.trace_words.specs.declared.asked.Head.{Head}
+use Rattle.trace_words.specs.declared.asked.Head.TheVariants as heads
+use Rattle.trace_words.specs.declared.header.Format.{Format}
+use Rattle.trace_words.specs.declared.header.Header.{Header}
+use Rattle.trace_words.specs.Head.{IsHeadOf}
+use Rattle.trace_words.specs.Legal.{IsTrace, StepOf, opened_by}
+use Rattle.trace_words.specs.OneReply.{IsTraced}
+use Rattle.trace_words.specs.Text.{TraceEntry, IsHeader, MayAsk, MayMerge, asked_text, command_asked, header_text, marked, plus_text, worded_as}
+use Rattle.trace_record.specs.declared.fault.RecordFault.{RecordFault}
+use Rattle.trace_record.specs.declared.fault.RecordFault.TheVariants.{BadLine, WriteFault}
+use Rattle.trace_record.specs.declared.form.Form.{Form}
+use Rattle.trace_record.specs.declared.recorder.Recorder.{Recorder}
+use Rattle.trace_record.specs.Asking.{AskAll, BeginsNoItem, asked_by}
+use Rattle.trace_record.specs.Reading.{IsAtLine, IsBadHead, IsOfInput}
+use Rattle.trace_record.specs.Record.{IsBeforeFault, header_of}
+
+-- ---- what stays as it is
+
+-- what waits to be written
+abbrev pub KeepsOutput : Recorder → Recorder → Type 0
+KeepsOutput old new = (new.header ≡ old.header) × (new.output.items ≡ old.output.items)
+
+-- the store, too
+abbrev pub KeepsRun : Recorder → Recorder → Type 0
+KeepsRun old new = (new.header ≡ old.header) × (new.output.items ≡ old.output.items) × (new.store ≡ old.store)
+
+-- these lines are gone over
+abbrev pub GoesOver : LinesContent → Option (List ℕ) → List ℕ → LinesContent → Option (List ℕ) → Type 0
+GoesOver old from more new to = (bytes front : List ℕ) → IsAt bytes front old from → IsAt bytes (front ++ more) new to
+
+-- ---- the beginning
+
+-- The store is the one that the header opens, and the header waits.
+pub record OpensAs (lines : LinesContent) (form : Form) (ring : ℕ) (w : Recorder) : Type 0 where
+  pub lines_are : w.lines ≡ lines
+  pub header_is : w.header ≡ header_of form ring
+  pub is_header : IsHeader (header_of form ring)
+  pub output_is : w.output.items ≡ header_text (header_of form ring)
+  pub stands : ContentStands w.store (opened_by (header_of form ring))
+
+-- ---- the first line of an entry
+
+-- it is read, and its text is begun
+pub record HeadsFrom (old new : Recorder) (head : Head) : Type 0 where
+  pub pass : ℕ
+  pub is : IsHeadOf old.header.format pass head (asked_by old.lines.line)
+  pub short : IsShort (asked_by old.lines.line)
+  pub begun : new.entry.items ≡ asked_by old.lines.line
+  pub keeps : KeepsRun old new
+  pub stays : new.lines ≡ old.lines
+
+-- it isn't
+abbrev pub FailsAtHead : Recorder → Recorder → RecordFault → Type 0
+FailsAtHead old new fault = IsBadHead old.header.format old.lines.line old.lines.count fault × KeepsRun old new
+
+-- ---- items
+
+-- one more is read, and stands in the text
+pub record AddsItem (old : Recorder) (from : Option (List ℕ)) (before : List Item) (new : Recorder) (to : Option (List ℕ)) (after : List Item) : Type 0 where
+  pub item : Item
+  pub after_is : after ≡ before ++ item ∷ []
+  pub may : MayMerge old.header.format item
+  pub text : new.entry.items ≡ old.entry.items ++ plus_text item
+  pub over : GoesOver old.lines from (plus_text item) new.lines to
+  pub keeps : KeepsRun old new
+
+-- behind the front no item's line stands
+pub record LacksNext (format : Format) (bytes front : List ℕ) (number : ℕ) : Type 0 where
+  pub before : List (List ℕ)
+  pub rest : List (List ℕ)
+  pub lines : HasLines bytes (before ++ rest)
+  pub behind : front ≡ joined before
+  pub counted : number ≡ suc (length before)
+  pub lacks : BeginsNoItem format rest
+
+abbrev pub IsLackingNext : Format → (bytes front : List ℕ) → RecordFault → Type 0
+IsLackingNext format bytes front (BadLine number place) = LacksNext format bytes front number
+IsLackingNext format bytes front WriteFault = ⊥
+IsLackingNext format bytes front _ = Unit {0}
+
+abbrev pub MissesItem : Recorder → Option (List ℕ) → Recorder → RecordFault → Type 0
+MissesItem old from new fault = IsOfInput fault × KeepsRun old new × ((bytes front : List ℕ) → IsAt bytes front old.lines from → IsLackingNext old.header.format bytes front fault)
+
+-- so many are read
+pub record AddsItems (old : Recorder) (from : Option (List ℕ)) (count : ℕ) (new : Recorder) (to : Option (List ℕ)) (items : List Item) : Type 0 where
+  pub counted : length items ≡ count
+  pub may : All (MayMerge old.header.format) items
+  pub text : new.entry.items ≡ old.entry.items ++ flat_map plus_text items
+  pub over : GoesOver old.lines from (flat_map plus_text items) new.lines to
+  pub keeps : KeepsRun old new
+
+-- behind fewer of them no item's line stands
+pub record LacksOne (format : Format) (bytes front : List ℕ) (count number : ℕ) : Type 0 where
+  pub items : List Item
+  pub may : All (MayMerge format) items
+  pub less : length items < count
+  pub lacks : LacksNext format bytes (front ++ flat_map plus_text items) number
+
+abbrev pub IsLackingOne : Format → (bytes front : List ℕ) → ℕ → RecordFault → Type 0
+IsLackingOne format bytes front count (BadLine number place) = LacksOne format bytes front count number
+IsLackingOne format bytes front count WriteFault = ⊥
+IsLackingOne format bytes front count _ = Unit {0}
+
+abbrev pub MissesItems : Recorder → Option (List ℕ) → ℕ → Recorder → RecordFault → Type 0
+MissesItems old from count new fault = IsOfInput fault × KeepsRun old new × ((bytes front : List ℕ) → IsAt bytes front old.lines from → IsLackingOne old.header.format bytes front count fault)
+
+-- ---- all that is asked
+
+-- behind its first line it is read
+pub record AddedLines (old : Recorder) (from : Option (List ℕ)) (pass : ℕ) (new : Recorder) (to : Option (List ℕ)) (asked : Asked) : Type 0 where
+  pub more : List ℕ
+  pub may : MayAsk old.header.format pass asked
+  pub whole : asked_text pass asked ≡ old.entry.items ++ more
+  pub text : new.entry.items ≡ old.entry.items ++ more
+  pub over : GoesOver old.lines from more new.lines to
+  pub keeps : KeepsRun old new
+
+abbrev pub AddsLines : Recorder → Option (List ℕ) → Head → Recorder → Option (List ℕ) → Asked → Type 0
+AddsLines old from head new to asked = (pass : ℕ) → IsHeadOf old.header.format pass head old.entry.items → IsShort old.entry.items → AddedLines old from pass new to asked
+
+-- it isn't: an item of a Merge is missing
+abbrev pub MissesLines : Recorder → Option (List ℕ) → Head → Recorder → RecordFault → Type 0
+MissesLines old from head new fault = (count : ℕ) × (head ≡ heads.Merge count) × MissesItems old from count new fault
+
+-- ---- the reply
+
+-- The store takes the step that the entry asks for, and the entry waits with its reply.
+pub record AnswersIn (old : Recorder) (asked : Asked) (new : Recorder) (s : State) : Type 0 where
+  pub command : Command
+  pub new_state : State
+  pub reply : Reply
+  pub asks : command_asked asked ≡ Some command
+  pub step : StepOf old.header.format s command reply new_state
+  pub stands : ContentStands new.store new_state
+  pub output : new.output.items ≡ old.output.items ++ (old.entry.items ++ marked (reply_lines (worded_as asked) reply old.header.limits))
+
+abbrev pub AnswersAsked : Recorder → Asked → Recorder → Type 0
+AnswersAsked old asked new = (new.header ≡ old.header) × (new.lines ≡ old.lines) × ((s : State) → ContentStands old.store s → IsTraced old.header.format s → AnswersIn old asked new s)
+
+-- ---- entries
+
+-- The text is a legal trace of so many entries, which ask what these lines ask, and leads to the state.
+pub record Recorded (h : Header) (text asking : List ℕ) (s : State) (count : ℕ) : Type 0 where
+  pub entries : List TraceEntry
+  pub asks : AskAll asking entries
+  pub trace : IsTrace text h entries s
+  pub traced : IsTraced h.format s
+  pub counted : length entries ≡ count
+
+-- One more entry waits, which is asked by the line that it was at and those gone over since.
+pub record AddedEntry (old : Recorder) (from : Option (List ℕ)) (new : Recorder) (to : Option (List ℕ)) (text asking : List ℕ) (count : ℕ) : Type 0 where
+  pub added : List ℕ
+  pub more : List ℕ
+  pub new_state : State
+  pub recorded : Recorded old.header (text ++ added) (asking ++ more) new_state (suc count)
+  pub stands : ContentStands new.store new_state
+  pub output : new.output.items ≡ old.output.items ++ added
+  pub over : (bytes front : List ℕ) → IsAtLine bytes front old.lines from → IsAt bytes (front ++ more) new.lines to
+
+abbrev pub AddsEntry : Recorder → Option (List ℕ) → Recorder → Option (List ℕ) → Type 0
+AddsEntry old from new to = (new.header ≡ old.header) × ((text asking : List ℕ) (s : State) (count : ℕ) → Recorded old.header text asking s count → ContentStands old.store s → AddedEntry old from new to text asking count)
+
+-- none does
+abbrev pub FailsInEntry : Recorder → Option (List ℕ) → Recorder → RecordFault → Type 0
+FailsInEntry old from new fault = IsOfInput fault × KeepsOutput old new × ((bytes front : List ℕ) → IsAtLine bytes front old.lines from → IsBeforeFault old.header.format fault bytes front)

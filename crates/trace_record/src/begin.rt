@@ -1,0 +1,36 @@
+//! The beginning of an input.
+
+ghost use Rattle.std.specs.Prelude.{IfOk};
+ghost use Rattle.trace_record.specs.Reading.{BeginsInput, IsReady};
+
+use crate::fault::RecordFault;
+use crate::line::next_line;
+use crate::place::Wanted;
+use crate::ring::{RING, ring_of};
+use ds_lines::{Lines, Source};
+use ds_names::NoRoom;
+use std::alloc::Global;
+
+/// How an input begins: how many items the journal keeps, and whether a line is gone to that asks.
+#[derive(Drop)]
+pub(crate) struct Beginning {
+    pub ring: u32,
+    pub next: Result<bool, RecordFault>,
+}
+
+/// Goes to the first line that asks.
+pub(crate) fn begin<R: Source>(
+    alloc: Global,
+    lines: &mut Lines,
+    reader: &mut R,
+) -> Result<Beginning, NoRoom>
+    ensures begins { IfOk result (BeginsInput lines.old (R.remaining reader.old) lines.new (R.remaining reader.new)) }
+    ensures ready { IfOk result (λ begin. IsReady lines.new begin.next) }
+{
+    let next = next_line(lines, reader, Wanted::Command);
+    let Some(ring) = ring_of(alloc, next, lines.line())? else {
+        return Ok(Beginning { ring: RING, next });
+    };
+    let next = next_line(lines, reader, Wanted::Command);
+    Ok(Beginning { ring, next })
+}

@@ -1,0 +1,57 @@
+//! Why a recording ends early.
+
+use ds_lines::WriteFailed;
+use ds_names::NoRoom;
+use std::alloc::AllocError;
+use thiserror::Error;
+
+/// Why a recording ended before its input did.
+#[derive(Clone, Copy, Debug, PartialEq, Eq, Error)]
+pub enum RecordFault {
+    /// A line that asks nothing: its number, from 1, and the byte, from 0, where the first part that can't be read begins. An item
+    /// that is missing behind the last line is bad at its first byte.
+    #[error("line {line} can't be read from byte {place} on")]
+    BadLine { line: u64, place: usize },
+    /// The reader failed, or was read 2^32 times.
+    #[error("the input can't be read")]
+    ReadFault,
+    /// The writer failed, or took no bytes.
+    #[error("the trace can't be written")]
+    WriteFault,
+    /// Out of memory for a line, for what the store is asked, or for the text of its reply.
+    #[error("out of memory")]
+    NoRoom,
+}
+
+impl From<WriteFailed> for RecordFault {
+    ghost use Rattle.std.specs.Prelude.{◌≡◌};
+    ghost use Rattle.trace_record.specs.declared.fault.RecordFault.TheVariants as faults;
+
+    ghost from_gives = { λ failed fault. fault ≡ faults.WriteFault };
+
+    fn from(_failed: WriteFailed) -> RecordFault {
+        RecordFault::WriteFault
+    }
+}
+
+impl From<NoRoom> for RecordFault {
+    ghost use Rattle.std.specs.Prelude.{◌≡◌};
+    ghost use Rattle.trace_record.specs.declared.fault.RecordFault.TheVariants as faults;
+
+    ghost from_gives = { λ wanting fault. fault ≡ faults.NoRoom };
+
+    fn from(_wanting: NoRoom) -> RecordFault {
+        RecordFault::NoRoom
+    }
+}
+
+impl From<AllocError> for RecordFault {
+    ghost use Rattle.std.specs.Prelude.{◌≡◌};
+    ghost use Rattle.trace_record.specs.declared.fault.RecordFault.TheVariants as faults;
+
+    ghost from_gives = { λ wanting fault. fault ≡ faults.NoRoom };
+
+    fn from(_wanting: AllocError) -> RecordFault {
+        RecordFault::NoRoom
+    }
+}

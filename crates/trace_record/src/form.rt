@@ -1,0 +1,41 @@
+//! In which form a run is recorded.
+
+ghost use Rattle.std.specs.Prelude.{◌≡◌};
+ghost use Rattle.trace_words.specs.Text.{FormatHas};
+ghost use Rattle.trace_record.specs.Record.{header_of};
+
+use ds_held::Limits;
+use trace_words::{Format, Header};
+
+/// The format of a trace, and the limits of its store. Those of format 1 are 64 subscriptions and 1024 keys.
+#[derive(Clone, Copy, Debug, PartialEq, Eq)]
+pub enum Form {
+    One,
+    Two(Limits),
+}
+
+impl Form {
+    /// The header of a trace in this form, of a store of incarnation 1 whose first item has the position 0, and whose journal keeps
+    /// so many items.
+    pub(crate) fn header(self, ring: u32) -> Header
+        ensures value { result ≡ header_of self ring }
+        ensures limits { FormatHas result.format result.limits }
+    {
+        match self {
+            Form::One => Header {
+                format: Format::One,
+                incarnation: 1,
+                first: 0,
+                ring,
+                limits: Limits::smaller(),
+            },
+            Form::Two(limits) => Header {
+                format: Format::Two,
+                incarnation: 1,
+                first: 0,
+                ring,
+                limits,
+            },
+        }
+    }
+}

@@ -1,0 +1,63 @@
+//! The lines of an input.
+
+ghost use Rattle.std.specs.Prelude.{◌≡◌, IfOk, IfErr};
+ghost use Rattle.ds_lines.specs.Lines.{EndsLine};
+ghost use Rattle.trace_record.specs.Asking.{asked_by};
+ghost use Rattle.trace_record.specs.Reading.{Comes, IsBadHead, IsHeadBehind, IsReady};
+
+use crate::fault::RecordFault;
+use crate::place::{Wanted, longest, place_of_command, place_of_long};
+use ds_lines::{LONGEST_LINE, Lines, Pulled, Source};
+use std::alloc::Global;
+use trace_words::{AskedFault, Format, Head, read_head};
+
+/// Goes to the next line, where such a line has to stand. Gives whether there is one.
+pub(crate) fn next_line<R: Source>(
+    lines: &mut Lines,
+    reader: &mut R,
+    wanted: Wanted,
+) -> Result<bool, RecordFault>
+    ensures comes { Comes lines.old (R.remaining reader.old) lines.new (R.remaining reader.new) result }
+    ensures ready { IsReady lines.new result }
+{
+    let before = lines.count();
+    match lines.pull(reader) {
+        Pulled::Line => Ok(true),
+        Pulled::End => Ok(false),
+        Pulled::Long => Err(RecordFault::BadLine {
+            line: before + 1,
+            place: place_of_long(lines, before, wanted),
+        }),
+        Pulled::ReadFault => Err(RecordFault::ReadFault),
+        Pulled::NoRoom => Err(RecordFault::NoRoom),
+    }
+}
+
+/// Reads the first line of an entry as the trace has it, which is made of the input's line of this number.
+pub(crate) fn read_asking(
+    alloc: Global,
+    text: &[u8],
+    line: &[u8],
+    number: u64,
+    format: Format,
+) -> Result<Head, RecordFault>
+    requires ends { EndsLine line.now }
+    requires text { text.now ≡ asked_by line.now }
+    ensures found { IfOk result (IsHeadBehind format text.now) }
+    ensures fails { IfErr result (IsBadHead format line.now number) }
+{
+    if text.len() > LONGEST_LINE + 1 {
+        return Err(RecordFault::BadLine {
+            line: number,
+            place: longest(line),
+        });
+    }
+    match read_head(alloc, text, format) {
+        Ok((_pass, head)) => Ok(head),
+        Err(AskedFault::BadLine) => Err(RecordFault::BadLine {
+            line: number,
+            place: place_of_command(alloc, line, number),
+        }),
+        Err(AskedFault::NoRoom) => Err(RecordFault::NoRoom),
+    }
+}

@@ -1,0 +1,96 @@
+//! Where a bad line can't be read.
+
+ghost use Rattle.ds_lines.specs.Lines.{EndsLine};
+
+use crate::pass::{has_pass, mark_length};
+use ds_line::{LineFault, read_item};
+use ds_lines::{LONGEST_LINE, Lines};
+use ds_names::{read_byte, read_decimal};
+use ds_words::{CommandFault, ScriptCommand, read_line_behind};
+use std::alloc::Global;
+
+/// What has to stand on a line.
+#[derive(Clone, Copy, Debug, PartialEq, Eq)]
+pub(crate) enum Wanted {
+    /// A command, or `merge N`.
+    Command,
+    /// An item of a Merge.
+    Item,
+}
+
+/// The most bytes that the line may have, its newline not counted: with its mark a trace's has at most 4096.
+pub(crate) fn longest(line: &[u8]) -> usize {
+    LONGEST_LINE - mark_length(line)
+}
+
+/// Where the line behind so many is too long.
+pub(crate) fn place_of_long(lines: &Lines, before: u64, wanted: Wanted) -> usize {
+    match wanted {
+        Wanted::Command if lines.count() > before => longest(lines.line()),
+        Wanted::Command => longest(lines.front()),
+        Wanted::Item => LONGEST_LINE,
+    }
+}
+
+/// Where a line of this number that comes with its newline, and asks nothing, can't be read.
+pub(crate) fn place_of_command(alloc: Global, line: &[u8], number: u64) -> usize
+    requires { EndsLine line.now }
+{
+    if !has_pass(line) {
+        return place_behind_pass(alloc, line, number == 1);
+    }
+    let Some((_, rest)) = read_decimal(line, 63) else {
+        return 0;
+    };
+    let Some(rest) = read_byte(rest, b' ') else {
+        return 0;
+    };
+    let before = line.len().saturating_sub(rest.len());
+    before.saturating_add(place_behind_pass(alloc, rest, false))
+}
+
+// The same of what stands behind a pass. The first line alone may be a `ring`.
+fn place_behind_pass(alloc: Global, text: &[u8], is_first: bool) -> usize
+    requires { EndsLine text.now }
+{
+    if let Some(place) = place_of_merge(text) {
+        return place;
+    }
+    match read_line_behind(alloc, text, if is_first { 0 } else { 1 }) {
+        Err(CommandFault::BadLine { place, .. }) => place,
+        Ok(ScriptCommand::Offer(_)) => 6,
+        _ => 0,
+    }
+}
+
+// Where the count of a Merge, or what stands around it, can't be read, if the line begins with the word.
+fn place_of_merge(text: &[u8]) -> Option<usize> {
+    if !text.starts_with(b"merge") {
+        return None;
+    }
+    let rest = &text[5..];
+    if let Some(byte) = rest.first()
+        && byte.is_ascii_alphanumeric()
+    {
+        return None;
+    }
+    let Some(rest) = read_byte(rest, b' ') else {
+        return Some(5);
+    };
+    let Some((_, rest)) = read_decimal(rest, 256) else {
+        return Some(6);
+    };
+    Some(text.len().saturating_sub(rest.len()))
+}
+
+/// Where a line that comes with its newline, and is no item's, can't be read.
+pub(crate) fn place_of_item(alloc: Global, line: &[u8]) -> usize {
+    if !line.starts_with(b"+ ") {
+        return 0;
+    }
+    match read_item(alloc, &line[2..]) {
+        Err(LineFault::BadLine { place }) => place.saturating_add(2),
+        Ok((_, used)) if used != line.len() - 2 => used.saturating_add(2),
+        _ => 2,
+    }
+}

@@ -1,0 +1,33 @@
+//! The first line of an input, which may say how many items the journal keeps.
+
+ghost use Rattle.std.specs.Prelude.{◌≡◌, true, IfOk, IfSome};
+ghost use Rattle.ds_lines.specs.Lines.{EndsLine};
+ghost use Rattle.trace_record.specs.Asking.{ring_text};
+
+use crate::fault::RecordFault;
+use ds_names::NoRoom;
+use ds_words::{CommandFault, ScriptCommand, read_line};
+use std::alloc::Global;
+
+/// How many items the journal keeps where no line says it.
+pub(crate) const RING: u32 = 256;
+
+/// How many items the journal keeps by the first line, if one is gone to, and if it is `ring N`. It comes with its newline.
+pub(crate) fn ring_of(
+    alloc: Global,
+    next: Result<bool, RecordFault>,
+    line: &[u8],
+) -> Result<Option<u32>, NoRoom>
+    requires { next ≡ Ok true → EndsLine line.now }
+    ensures { IfOk result (λ ring. IfSome ring (λ n. (next ≡ Ok true) × (line.now ≡ ring_text n))) }
+{
+    match next {
+        Ok(true) => {}
+        _ => return Ok(None),
+    }
+    match read_line(alloc, line) {
+        Ok(ScriptCommand::Ring { ring }) => Ok(Some(ring)),
+        Err(CommandFault::NoRoom) => Err(NoRoom),
+        _ => Ok(None),
+    }
+}
