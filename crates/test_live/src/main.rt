@@ -2,16 +2,19 @@
 //! another's, for tests.
 //!
 //! The program reads nothing. It prints what each refresh and each exchange answers, a word and a number a line, and at the end of
-//! each row whether what was told is what was held: 1, or 0. Status 0: done. 1: memory or writing failed, or a row couldn't go on.
+//! a row whether what was told is what was held: 1, or 0. Status 0: done. 1: memory or writing failed, or a row couldn't go on.
 #![tactic(auto)]
 
-mod commands;
-mod exchanges;
+mod asked;
+mod closing;
+mod playing;
 mod rows;
 mod steps;
-mod subscriber;
 mod tell;
+mod world;
 
+use playing::play;
+use rows::ROWS;
 use std::alloc::Global;
 use std::process::ExitCode;
 use std::sync::Wait;
@@ -25,9 +28,8 @@ fn main(rt: HostRuntime) -> ExitCode {
 
 // Row by row.
 fn run<R: Print + Wait>(rt: &R, alloc: Global) -> Option<()> {
-    rows::follow_a_driver(rt, alloc)?;
-    rows::follow_many(rt, alloc)?;
-    exchanges::exchange_one(rt, alloc)?;
-    exchanges::exchange_many(rt, alloc)?;
-    exchanges::exchange_behind(rt, alloc)
+    for row in &ROWS {
+        play(rt, alloc, row)?;
+    }
+    Some(())
 }

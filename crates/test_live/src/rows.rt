@@ -1,102 +1,152 @@
-//! What becomes of a follower, row by row.
+//! The rows: what happens at two desks, step by step.
 
-ghost use Rattle.std.specs.Prelude.{◌≡◌, IfSome};
-ghost use Rattle.desk.specs.Desk.{identity};
-ghost use Rattle.desk.specs.Pass.{desk_of};
-ghost use Rattle.ds_pass.specs.Record.{pass_record};
-ghost use Rattle.ds_refresh.specs.KeepsUp.{KeepsUpWith};
+use crate::asked::Asked;
 
-use crate::commands::{label_key, query, start, sweep, take_over};
-use crate::steps::{both, call, held_at_end, open_two, start_many};
-use crate::subscriber::{Subscriber, bring_up, lose, take};
-use crate::tell::tell;
-use desk::{Desk, Pass};
-use ds_pattern::Query;
-use ds_refresh::Follower;
-use ds_store::Store;
-use std::alloc::Global;
-use std::sync::Wait;
-
-/// A follower of `eth.*` learns where a driver is. A limit of 1 is none, and loses it; a later generation owes it a notice; another
-/// takes its subscription over, which the next Check tells; it is made lost, and begins again.
-pub(crate) fn follow_a_driver<R: Print + Wait>(rt: &R, alloc: Global) -> Option<()> {
-    let (desk, mut one, two) = open_two(alloc)?;
-    let subscriber = Subscriber::new(alloc, two, 0, query(alloc, b"eth.*")?)?;
-    call(rt, &desk, &mut one, start(b"eth0", 3))?;
-    let subscriber = bring_up(rt, alloc, &desk, subscriber, 1)?;
-    let subscriber = bring_up(rt, alloc, &desk, subscriber, 2)?;
-    tell_label(rt, &subscriber.follower, b"eth0")?;
-    restart(rt, &desk, &mut one)?;
-    let subscriber = take(rt, &desk, subscriber)?;
-    let subscriber = bring_up(rt, alloc, &desk, subscriber, 2)?;
-    tell_label(rt, &subscriber.follower, b"eth0")?;
-    call(rt, &desk, &mut one, take_over(alloc, 0))?;
-    let subscriber = begin_again(rt, alloc, &desk, subscriber)?;
-    compare_map(rt, alloc, desk, one, subscriber, query(alloc, b"eth.*")?)
+/// One step.
+#[derive(Clone, Copy)]
+pub(crate) enum Step {
+    /// The first store is asked.
+    Ask(Asked),
+    /// The second store is asked.
+    AskSecond(Asked),
+    /// RS starts the drivers of these numbers at the first store, from the one up to below the other.
+    StartMany(u32, u32),
+    /// How far the caller sees the first desk's history go is printed.
+    Look,
+    /// The follower is refreshed by so many calls.
+    Refresh(u32),
+    /// The follower's notices are taken.
+    Take,
+    /// The generation of the endpoint that the follower's map has of a label is printed.
+    TellLabel(&'static [u8]),
+    /// The follower is made lost.
+    Lose,
+    /// What the first store has is given to the second one, from where the last such exchange ended.
+    Give,
+    /// What the second store has is given to the first one, all of it.
+    GiveBack,
+    /// Where the last exchange ended is forgotten.
+    Forget,
 }
 
-// The driver is swept and comes back, and another one starts.
-fn restart<W: Wait>(rt: &W, desk: &Desk<Box<Store>>, pass: &mut Pass<Box<Store>>) -> Option<()>
-    requires { desk_of pass.old ≡ identity desk.now }
-    ensures { desk_of pass.new ≡ identity desk.now }
-{
-    call(rt, desk, pass, sweep(b"eth0", 3))?;
-    call(rt, desk, pass, start(b"eth0", 4))?;
-    call(rt, desk, pass, start(b"disk", 1))
+/// What is compared when all steps were taken, and the desks are closed.
+#[derive(Clone, Copy)]
+pub(crate) enum End {
+    /// Nothing.
+    Open,
+    /// The follower's map with the first store.
+    Map,
+    /// Both stores.
+    Stores,
 }
 
-// Behind another's subscription, and behind a loss.
-fn begin_again<R: Print + Wait>(
-    rt: &R,
-    alloc: Global,
-    desk: &Desk<Box<Store>>,
-    subscriber: Subscriber,
-) -> Option<Subscriber>
-    requires of_desk { desk_of subscriber.pass ≡ identity desk.now }
-    requires keeps { KeepsUpWith (pass_record subscriber.pass) subscriber.follower }
-    ensures of_desk { IfSome result (λ s. desk_of s.pass ≡ identity desk.now) }
-    ensures keeps { IfSome result (λ s. KeepsUpWith (pass_record s.pass) s.follower) }
-{
-    let subscriber = bring_up(rt, alloc, desk, subscriber, 2)?;
-    let subscriber = lose(bring_up(rt, alloc, desk, subscriber, 2)?);
-    let subscriber = bring_up(rt, alloc, desk, subscriber, 65537)?;
-    bring_up(rt, alloc, desk, subscriber, 65536)
+/// A row.
+#[derive(Clone, Copy)]
+pub(crate) struct Row {
+    /// How many items the first store's journal keeps.
+    pub ring: u32,
+    /// The number of the follower's subscription.
+    pub sub: u32,
+    /// The pattern that it follows, and under which is compared at the end.
+    pub pattern: &'static [u8],
+    pub steps: &'static [Step],
+    pub end: End,
 }
 
-/// A follower of 300 labels has to check twice, and so to refresh twice, by two calls each.
-pub(crate) fn follow_many<R: Print + Wait>(rt: &R, alloc: Global) -> Option<()> {
-    let (desk, mut one, two) = open_two(alloc)?;
-    let subscriber = Subscriber::new(alloc, two, 8, query(alloc, b".*")?)?;
-    start_many(rt, &desk, &mut one, 0..300)?;
-    let subscriber = bring_up(rt, alloc, &desk, subscriber, 2)?;
-    let subscriber = bring_up(rt, alloc, &desk, subscriber, 2)?;
-    compare_map(rt, alloc, desk, one, subscriber, query(alloc, b".*")?)
-}
+/// All rows.
+pub(crate) const ROWS: [Row; 5] = [
+    FOLLOW_A_DRIVER,
+    FOLLOW_MANY,
+    EXCHANGE_ONE,
+    EXCHANGE_MANY,
+    EXCHANGE_BEHIND,
+];
 
-// Prints the generation of the endpoint that the map has of a label.
-fn tell_label(rt: &impl Print, follower: &Follower, name: &[u8]) -> Option<()> {
-    let label = label_key(name)?;
-    let endpoint = follower.map().label(&label.name)?;
-    tell(rt, "generation", endpoint.generation().number() as u64)
-}
+// A follower of `eth.*` learns where a driver is. A limit of 1 is none, and loses it; a later generation owes it a notice; another
+// takes its subscription over, which the next Check tells; it is made lost, and begins again.
+const FOLLOW_A_DRIVER: Row = Row {
+    ring: 256,
+    sub: 0,
+    pattern: b"eth.*",
+    steps: &[
+        Step::Ask(Asked::Start(b"eth0", 3, 17)),
+        Step::Refresh(1),
+        Step::Refresh(2),
+        Step::TellLabel(b"eth0"),
+        Step::Ask(Asked::Sweep(b"eth0", 3)),
+        Step::Ask(Asked::Start(b"eth0", 4, 17)),
+        Step::Ask(Asked::Start(b"disk", 1, 17)),
+        Step::Take,
+        Step::Refresh(2),
+        Step::TellLabel(b"eth0"),
+        Step::Ask(Asked::TakeOver(0)),
+        Step::Refresh(2),
+        Step::Refresh(2),
+        Step::Lose,
+        Step::Refresh(65537),
+        Step::Refresh(65536),
+    ],
+    end: End::Map,
+};
 
-// Closes the desk, and prints whether the map is what its store then holds under the query.
-fn compare_map(
-    rt: &impl Print,
-    alloc: Global,
-    desk: Desk<Box<Store>>,
-    one: Pass<Box<Store>>,
-    subscriber: Subscriber,
-    query: Query,
-) -> Option<()>
-    requires one { desk_of one ≡ identity desk }
-    requires two { desk_of subscriber.pass ≡ identity desk }
-{
-    let Subscriber {
-        pass: two,
-        follower,
-    } = subscriber;
-    let held = held_at_end(alloc, desk, both(alloc, one, two)?, query)?;
-    let mapped = follower.map().held().all(alloc).ok()?;
-    tell(rt, "map equal", (mapped == held) as u64)
-}
+// A follower of 300 labels has to check twice, and so to refresh twice, by two calls each.
+const FOLLOW_MANY: Row = Row {
+    ring: 256,
+    sub: 8,
+    pattern: b".*",
+    steps: &[Step::StartMany(0, 300), Step::Refresh(2), Step::Refresh(2)],
+    end: End::Map,
+};
+
+// A label is given to an empty store, and what that one has then is known already. Where the two know it in one version and in two
+// slots, the exchange is stopped.
+const EXCHANGE_ONE: Row = Row {
+    ring: 256,
+    sub: 0,
+    pattern: b".*",
+    steps: &[
+        Step::Ask(Asked::Start(b"eth0", 3, 17)),
+        Step::Give,
+        Step::GiveBack,
+        Step::Ask(Asked::Start(b"disk", 1, 17)),
+        Step::Ask(Asked::Start(b"eth0", 4, 17)),
+        Step::AskSecond(Asked::Start(b"eth0", 4, 18)),
+        Step::Forget,
+        Step::Give,
+    ],
+    end: End::Open,
+};
+
+// 300 labels are given by two pages, and what is published behind them by the journal, 256 of it at once.
+const EXCHANGE_MANY: Row = Row {
+    ring: 4096,
+    sub: 0,
+    pattern: b".*",
+    steps: &[
+        Step::StartMany(0, 300),
+        Step::Look,
+        Step::Give,
+        Step::Look,
+        Step::StartMany(300, 600),
+        Step::Give,
+        Step::Give,
+    ],
+    end: End::Stores,
+};
+
+// A journal of two doesn't reach back to a cursor that is three calls old. Without one all is given, a floor before the changes.
+const EXCHANGE_BEHIND: Row = Row {
+    ring: 2,
+    sub: 0,
+    pattern: b".*",
+    steps: &[
+        Step::Ask(Asked::Start(b"eth0", 3, 17)),
+        Step::Give,
+        Step::Ask(Asked::Sweep(b"eth0", 3)),
+        Step::Ask(Asked::Start(b"eth0", 4, 17)),
+        Step::Ask(Asked::Start(b"disk", 1, 17)),
+        Step::Give,
+        Step::Give,
+    ],
+    end: End::Stores,
+};

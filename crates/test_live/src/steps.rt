@@ -1,50 +1,21 @@
 //! What the passes of a desk do.
 
-ghost use Rattle.std.specs.Prelude.{◌≡◌, [], ◌∷◌, IfSome};
-ghost use Rattle.std.specs.List.{AllByRecursion};
+ghost use Rattle.std.specs.Prelude.{◌≡◌};
 ghost use Rattle.desk.specs.Desk.{identity};
 ghost use Rattle.desk.specs.Pass.{desk_of};
+ghost use Rattle.ds_pass.specs.Record.{pass_record};
+ghost use Rattle.ds_refresh.specs.KeepsUp.{KeepsUpWith};
 
-use crate::commands::start;
-use desk::{Desk, Pass, Passes};
-use ds_entry::Items;
-use ds_machine::{Command, Reply, Scope};
-use ds_pattern::Query;
+use crate::asked::start;
+use crate::tell::{tell, tell_fault};
+use desk::{Desk, Pass};
+use ds_exchange::exchange_once;
+use ds_feed::Cursor;
+use ds_machine::{Command, Reply};
+use ds_refresh::{Follower, Fresh, refresh};
 use ds_store::Store;
 use std::alloc::Global;
-use std::ops::Range;
 use std::sync::Wait;
-
-/// A new desk over an empty store of incarnation 1, and two passes. `None` where memory is wanting.
-pub(crate) fn open_two(
-    alloc: Global,
-) -> Option<(Desk<Box<Store>>, Pass<Box<Store>>, Pass<Box<Store>>)>
-    ensures { IfSome result (λ d. (desk_of d.1 ≡ identity d.0) × (desk_of d.2 ≡ identity d.0)) }
-{
-    let store = Box::new(alloc, Store::open(alloc, 1, 0, 256).ok()?).ok()?;
-    let Ok((desk, mut passes)) = Desk::<Box<Store>>::open(alloc, store, 2, 0) else {
-        return None;
-    };
-    let two = passes.pop()?;
-    let one = passes.pop()?;
-    Some((desk, one, two))
-}
-
-/// A new desk over an empty store of this incarnation, whose journal has so long a ring, and a pass. `None` where memory is wanting.
-pub(crate) fn open_one(
-    alloc: Global,
-    incarnation: u64,
-    ring: u32,
-) -> Option<(Desk<Box<Store>>, Pass<Box<Store>>)>
-    ensures { IfSome result (λ d. desk_of d.1 ≡ identity d.0) }
-{
-    let store = Box::new(alloc, Store::open(alloc, incarnation, 0, ring).ok()?).ok()?;
-    let Ok((desk, mut passes)) = Desk::<Box<Store>>::open(alloc, store, 1, 0) else {
-        return None;
-    };
-    let one = passes.pop()?;
-    Some((desk, one))
-}
 
 /// A pass calls. `None` where there is no command, the desk is worn, or the store refuses.
 pub(crate) fn call<W: Wait>(
@@ -62,74 +33,95 @@ pub(crate) fn call<W: Wait>(
     }
 }
 
-/// RS starts the drivers of these numbers.
+/// RS starts the drivers of these numbers, from the one up to below the other. Each name has a letter and three digits.
 pub(crate) fn start_many<W: Wait>(
     rt: &W,
     desk: &Desk<Box<Store>>,
     pass: &mut Pass<Box<Store>>,
-    numbers: Range<u32>,
+    from: u32,
+    to: u32,
 ) -> Option<()>
     requires { desk_of pass.old ≡ identity desk.now }
     ensures { desk_of pass.new ≡ identity desk.now }
 {
-    for index in numbers {
-        call(rt, desk, pass, start(&numbered(index), 1))?;
+    for number in from..to {
+        let (high, middle, low) = (number / 100 % 10, number / 10 % 10, number % 10);
+        let name = [
+            b'n',
+            b'0' + high as u8,
+            b'0' + middle as u8,
+            b'0' + low as u8,
+        ];
+        call(rt, desk, pass, start(&name, 1, 17))?;
     }
     Some(())
 }
 
-// A name of a letter and three digits.
-fn numbered(index: u32) -> [u8; 4] {
-    [b'n', digit(index / 100), digit(index / 10), digit(index)]
-}
-
-fn digit(number: u32) -> u8 {
-    b'0' + (number % 10) as u8
-}
-
-/// The one pass of a desk. `None` where memory is wanting.
-pub(crate) fn alone(alloc: Global, one: Pass<Box<Store>>) -> Option<Passes<Box<Store>>>
-    ensures { IfSome result (λ passes. passes ≡ one ∷ []) }
+/// Takes the notices of server 0, and prints them with the first place behind what the pass has then seen.
+pub(crate) fn take<R: Print>(
+    rt: &R,
+    desk: &Desk<Box<Store>>,
+    pass: &mut Pass<Box<Store>>,
+    follower: &Follower,
+) -> Option<()>
+    requires of_desk { desk_of pass.old ≡ identity desk.now }
+    requires keeps { KeepsUpWith (pass_record pass.old) follower.now }
+    ensures of_desk { desk_of pass.new ≡ identity desk.now }
+    ensures keeps { KeepsUpWith (pass_record pass.new) follower.now }
 {
-    let mut passes = Passes::<Box<Store>>::new(alloc);
-    let Ok(()) = passes.push(one) else {
+    let Ok(taken) = desk.take(pass, 0) else {
         return None;
     };
-    Some(passes)
+    tell(rt, "taken", taken.bits as u64)?;
+    tell(rt, "floor", taken.floor)
 }
 
-/// The two passes of a desk. `None` where memory is wanting.
-pub(crate) fn both(
+/// Refreshes the follower by so many calls, and prints what came of it, and how many keys its map has.
+pub(crate) fn bring_up<R: Print + Wait>(
+    rt: &R,
     alloc: Global,
-    one: Pass<Box<Store>>,
-    two: Pass<Box<Store>>,
-) -> Option<Passes<Box<Store>>>
-    ensures { IfSome result (λ passes. passes ≡ one ∷ two ∷ []) }
+    desk: &Desk<Box<Store>>,
+    pass: &mut Pass<Box<Store>>,
+    follower: &mut Follower,
+    limit: u32,
+) -> Option<()>
+    requires of_desk { desk_of pass.old ≡ identity desk.now }
+    requires keeps { KeepsUpWith (pass_record pass.old) follower.old }
+    ensures of_desk { desk_of pass.new ≡ identity desk.now }
+    ensures keeps { KeepsUpWith (pass_record pass.new) follower.new }
 {
-    let mut passes = alone(alloc, one)?;
-    let Ok(()) = passes.push(two) else {
-        return None;
-    };
-    Some(passes)
+    match refresh(rt, alloc, desk, pass, follower, limit) {
+        Ok(Fresh::UpTo(place)) => tell(rt, "up to", place)?,
+        Ok(Fresh::More) => tell(rt, "more, limit", limit as u64)?,
+        Err(fault) => tell_fault(rt, fault)?,
+    }
+    tell(rt, "keys", follower.map().held().len() as u64)
 }
 
-/// Closes the desk, and gives what its store then holds under the query.
-pub(crate) fn held_at_end(
-    alloc: Global,
-    desk: Desk<Box<Store>>,
-    passes: Passes<Box<Store>>,
-    query: Query,
-) -> Option<Items>
-    requires { AllByRecursion (λ p. desk_of p ≡ identity desk) passes }
+/// Gives what the one store has to the other, and prints what came of it. From where the next exchange asks: from none behind a fault.
+pub(crate) fn exchange<R: Print + Wait>(
+    rt: &R,
+    a: &Desk<Box<Store>>,
+    pass_a: &mut Pass<Box<Store>>,
+    b: &Desk<Box<Store>>,
+    pass_b: &mut Pass<Box<Store>>,
+    from: Option<Cursor>,
+) -> Option<Option<Cursor>>
+    requires of_a { desk_of pass_a.old ≡ identity a.now }
+    requires of_b { desk_of pass_b.old ≡ identity b.now }
+    ensures of_a { desk_of pass_a.new ≡ identity a.now }
+    ensures of_b { desk_of pass_b.new ≡ identity b.now }
 {
-    let Ok(closed) = desk.close(alloc, passes) else {
-        return None;
+    let exchanged = match exchange_once(rt, a, pass_a, b, pass_b, from) {
+        Ok(exchanged) => exchanged,
+        Err(fault) => {
+            tell_fault(rt, fault)?;
+            return Some(None);
+        }
     };
-    let mut store = closed.machine;
-    let Reply::Snapped(snapshot) = store.apply(Command::Snapshot {
-        scope: Scope::Under(query),
-    }) else {
-        return None;
-    };
-    Some(snapshot.items)
+    tell(rt, "done", u64::try_from(exchanged.done).ok()?)?;
+    tell(rt, "taken", u64::try_from(exchanged.taken).ok()?)?;
+    tell(rt, "more", exchanged.more as u64)?;
+    tell(rt, "position", exchanged.cursor.position)?;
+    Some(Some(exchanged.cursor))
 }

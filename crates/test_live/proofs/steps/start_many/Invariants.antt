@@ -4,5 +4,5 @@ use Rattle.desk.specs.Pass.{desk_of}
 use Rattle.test_live.proofs.steps.start_many.Given as goal
 
 -- the pass is of the desk
-abbrev pub invariant-loop-index : goal.invariant-loop-index
-invariant-loop-index g l = desk_of l.pass ≡ identity l.desk
+abbrev pub invariant-loop-number : goal.invariant-loop-number
+invariant-loop-number g l = desk_of l.pass ≡ identity l.desk
