@@ -1,9 +1,7 @@
 //! What a store is asked.
 
-use crate::new_store::INCARNATION;
 use ds_entry::{Body, Change, Floor, Item, Items, Value};
-use ds_feed::Cursor;
-use ds_machine::{Command, Scope};
+use ds_machine::Command;
 use ds_names::{Endpoint, Generation, Key, Kind, Kinds, Name, Version};
 use ds_pattern::{PatternText, Query};
 use std::alloc::Global;
@@ -25,106 +23,79 @@ pub(crate) fn driver_of(label: &[u8], generation: u32, slot: u16) -> Option<Driv
     Some(Driver { key, endpoint })
 }
 
-/// A query of everything. `None` where memory is wanting.
-pub(crate) fn everything(alloc: Global) -> Option<Query> {
+/// What is asked of a driver.
+#[derive(Clone, Copy)]
+pub(crate) enum Asked {
+    /// RS publishes its label, over that of an earlier generation.
+    Start,
+    /// RS deletes its label, of this generation or an earlier one.
+    Delete,
+    /// RS ends what it published up to this generation.
+    Sweep,
+    /// The value of its label is asked for.
+    Retrieve,
+    /// Its name is asked for.
+    NameOf,
+}
+
+impl Driver {
+    /// The command.
+    pub(crate) fn ask(&self, asked: Asked) -> Command {
+        let Driver { key, endpoint } = *self;
+        let caller = Endpoint::rs();
+        let epoch = endpoint.generation();
+        match asked {
+            Asked::Start => Command::Publish {
+                caller,
+                key,
+                version: Version { epoch, seq: 0 },
+                value: Value::Label(endpoint),
+                overwrite: true,
+            },
+            Asked::Delete => Command::Delete {
+                caller,
+                key,
+                version: Version { epoch, seq: 1 },
+            },
+            Asked::Sweep => Command::Sweep {
+                caller,
+                owner: key.name,
+                generation: epoch,
+            },
+            Asked::Retrieve => Command::Retrieve { key },
+            Asked::NameOf => Command::NameOf { endpoint },
+        }
+    }
+}
+
+/// A subscription to all that comes later, over one of this number. `None` where memory is wanting.
+pub(crate) fn follow(alloc: Global, sub: u32) -> Option<Command> {
     let kinds = Kinds::of(15)?;
     let text = PatternText::of(alloc, b".*").ok()?;
-    Some(Query { text, kinds })
-}
-
-/// A subscription to what comes later under a query, over one of this number.
-pub(crate) fn follow(query: Query, sub: u32) -> Command {
-    Command::Subscribe {
+    Some(Command::Subscribe {
         sub,
-        query,
+        query: Query { text, kinds },
         initial: false,
         overwrite: true,
-    }
-}
-
-/// RS publishes the label of a driver, over that of an earlier generation.
-pub(crate) fn start(driver: &Driver) -> Command {
-    Command::Publish {
-        caller: Endpoint::rs(),
-        key: driver.key,
-        version: Version {
-            epoch: driver.endpoint.generation(),
-            seq: 0,
-        },
-        value: Value::Label(driver.endpoint),
-        overwrite: true,
-    }
-}
-
-/// RS deletes the label of a driver, of this generation or an earlier one.
-pub(crate) fn delete(driver: &Driver) -> Command {
-    Command::Delete {
-        caller: Endpoint::rs(),
-        key: driver.key,
-        version: Version {
-            epoch: driver.endpoint.generation(),
-            seq: 1,
-        },
-    }
-}
-
-/// RS ends what a driver published up to this generation.
-pub(crate) fn sweep(driver: &Driver) -> Command {
-    Command::Sweep {
-        caller: Endpoint::rs(),
-        owner: driver.key.name,
-        generation: driver.endpoint.generation(),
-    }
+    })
 }
 
 /// Another holder gives what it has of a driver: a floor under half of its generations, and a number that it published in the
 /// last one. `None` where memory is wanting.
 pub(crate) fn merge(alloc: Global, driver: &Driver, number: u32) -> Option<Command> {
-    let floor = Floor {
-        owner: driver.key.name,
-        generation: Generation::of(driver.endpoint.generation().number() / 2)?,
-    };
-    let mut items = Items::new(alloc);
-    items.push(Item::Floor(floor)).ok()?;
-    items.push(Item::Change(number_of(driver, number)?)).ok()?;
-    Some(Command::Merge { items })
-}
-
-// A number under the driver's name, which it published itself. `None` never: the parts fit together.
-fn number_of(driver: &Driver, number: u32) -> Option<Change> {
+    let owner = driver.key.name;
+    let epoch = driver.endpoint.generation();
+    let generation = Generation::of(epoch.number() / 2)?;
     let key = Key {
-        name: driver.key.name,
+        name: owner,
         kind: Kind::U32,
     };
-    let version = Version {
-        epoch: driver.endpoint.generation(),
-        seq: number,
-    };
-    Change::make(key, driver.key.name, version, Body::Put(Value::U32(number))).ok()
-}
-
-/// What took effect from a position on is asked for, at most so many items.
-pub(crate) fn since(position: u64, max: u32) -> Command {
-    Command::Since {
-        scope: Scope::All,
-        cursor: Cursor {
-            incarnation: INCARNATION,
-            position,
-        },
-        max,
-    }
-}
-
-/// The value of the driver's label is asked for.
-pub(crate) fn retrieve(driver: &Driver) -> Command {
-    Command::Retrieve { key: driver.key }
-}
-
-/// The name of the driver is asked for.
-pub(crate) fn name_of(driver: &Driver) -> Command {
-    Command::NameOf {
-        endpoint: driver.endpoint,
-    }
+    let version = Version { epoch, seq: number };
+    let change = Change::make(key, owner, version, Body::Put(Value::U32(number))).ok()?;
+    let mut items = Items::new(alloc);
+    items.push(Item::Floor(Floor { owner, generation })).ok()?;
+    items.push(Item::Change(change)).ok()?;
+    Some(Command::Merge { items })
 }
 
 /// The label of the driver of a number, with its last twelve digits: 64 threads make fewer calls than these can tell apart.

@@ -18,7 +18,7 @@ pub(crate) enum Count {
 }
 
 /// What it answers.
-#[derive(Clone, Copy, PartialEq, Eq)]
+#[derive(Clone, Copy)]
 pub(crate) struct Counted {
     /// The sum.
     pub total: u64,

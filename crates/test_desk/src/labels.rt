@@ -1,6 +1,6 @@
 //! What a closed desk's store says of the labels that two threads published.
 
-use crate::commands::{driver_of, label_of, retrieve};
+use crate::commands::{Asked, driver_of, label_of};
 use crate::new_store::store_at;
 use crate::overwrite::Overwrite;
 use crate::store_compared::FIRST;
@@ -41,7 +41,7 @@ pub(crate) fn publish_labels<R: Threads + Wait + Sync>(
 // The generation of the endpoint that the label of this number has.
 fn generation_of(store: &mut Box<Store>, number: u64) -> Option<u32> {
     let driver = driver_of(&label_of(number), 0, 0)?;
-    let reply = store.apply(retrieve(&driver));
+    let reply = store.apply(driver.ask(Asked::Retrieve));
     found_in(&reply)
 }
 

@@ -1,5 +1,7 @@
 //! The lines of standard input.
 
+use crate::rows::{BITS, LAST, NOTICE, Row};
+
 /// What a line asks for.
 #[derive(Clone, Copy)]
 pub(crate) enum Line {
@@ -15,8 +17,10 @@ pub(crate) enum Line {
     Front(u32),
     /// So many takes.
     Take(u32),
-    /// Two passes that call a store in turn.
-    Row(Row),
+    /// Two passes that call a store in turn, row by row.
+    Rows(&'static [Row]),
+    /// What opens no desk.
+    NoDesk,
 }
 
 /// How many threads there are, 1 to 64, and how many calls each makes.
@@ -26,19 +30,10 @@ pub(crate) struct Sizes {
     pub calls: u32,
 }
 
-/// What two passes do.
-#[derive(Clone, Copy)]
-pub(crate) enum Row {
-    Notice,
-    Last,
-    Bits,
-    None,
-}
-
 /// Reads a line. `None` where it is none of these.
 pub(crate) fn read_line(line: &str) -> Option<Line> {
     let Some((word, rest)) = line.split_once(' ') else {
-        return Some(Line::Row(read_row(line)?));
+        return read_row(line);
     };
     match word {
         "counter" => Some(Line::Counter(read_sizes(rest)?)),
@@ -51,12 +46,12 @@ pub(crate) fn read_line(line: &str) -> Option<Line> {
     }
 }
 
-fn read_row(word: &str) -> Option<Row> {
+fn read_row(word: &str) -> Option<Line> {
     match word {
-        "notice" => Some(Row::Notice),
-        "last" => Some(Row::Last),
-        "bits" => Some(Row::Bits),
-        "none" => Some(Row::None),
+        "notice" => Some(Line::Rows(&NOTICE)),
+        "last" => Some(Line::Rows(&LAST)),
+        "bits" => Some(Line::Rows(&BITS)),
+        "none" => Some(Line::NoDesk),
         _ => None,
     }
 }

@@ -13,7 +13,6 @@
 #![tactic(auto)]
 
 mod answer;
-mod calls;
 mod commands;
 mod compared;
 mod counter;
@@ -24,12 +23,13 @@ mod labels;
 mod line;
 mod new_store;
 mod overwrite;
+mod playing;
 mod review;
 mod rounds;
 mod rows;
 mod share;
 mod store_compared;
-mod told;
+mod tell;
 
 use answer::answer;
 use failure::Failure;

@@ -4,7 +4,7 @@ ghost use Rattle.std.specs.Prelude.{◌≡◌};
 ghost use Rattle.desk.specs.Desk.{identity};
 ghost use Rattle.desk.specs.Pass.{desk_of};
 
-use crate::commands::{driver_of, everything, follow, label_of, start};
+use crate::commands::{Asked, driver_of, follow, label_of};
 use crate::line::Sizes;
 use crate::new_store::store_at;
 use crate::store_compared::FIRST;
@@ -31,18 +31,21 @@ impl Task<Box<Store>> for Overwrite {
         _board: &Board<Box<Store>, D>,
         worker: &mut Worker<Pass<Box<Store>>>,
     ) -> Option<()> {
-        let query = everything(alloc)?;
-        let answer = worker.call(rt, desk, follow(query, 0))?;
-        let Reply::Subscribed { stamp, .. } = answer.reply else {
-            return None;
-        };
-        let number = stamp.wrapping_sub(FIRST);
+        let answer = worker.call(rt, desk, follow(alloc, 0)?)?;
+        let number = stamp_of(&answer.reply)?.wrapping_sub(FIRST);
         let label = label_of(number);
         for turn in 0..self.calls {
             let driver = driver_of(&label, 1 + turn % 2_000_000, (number % 1000) as u16)?;
-            worker.call(rt, desk, start(&driver))?;
+            worker.call(rt, desk, driver.ask(Asked::Start))?;
         }
         Some(())
+    }
+}
+
+fn stamp_of(reply: &Reply) -> Option<u64> {
+    match reply {
+        Reply::Subscribed { stamp, .. } => Some(*stamp),
+        _ => None,
     }
 }
 

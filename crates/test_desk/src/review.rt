@@ -1,6 +1,7 @@
 //! Whether the threads were answered as one thread would be.
 
 use crate::compared::Compared;
+use crate::line::Sizes;
 use crate::share::Share;
 use std::alloc::Global;
 use std::sync::Wait;
@@ -12,71 +13,52 @@ use test_crews::{Crew, Kept, Said, run_crew};
 pub(crate) struct Review {
     /// How many calls they made.
     pub entries: usize,
-    /// How the replies compare.
-    pub history: History,
-    /// Whether in each row of the account raises are takes and what is pending, and all rows together are what the threads
-    /// counted.
-    pub exact: bool,
-}
-
-/// How replies compare with those of one thread.
-#[derive(Clone, Copy)]
-pub(crate) struct History {
     /// Whether each place is of one call, behind all that its thread had seen, and one machine that is given the commands in
     /// the order of their places answers each as it was answered, and comes as far; and whether who learnt a note looked as far
     /// as its maker.
     pub legal: bool,
     /// How many calls were refused or stopped for want of memory, and so changed nothing beside what they say.
     pub noroom: u64,
+    /// Whether in each row of the account raises are takes and what is pending, and all rows together are what the threads
+    /// counted.
+    pub exact: bool,
 }
 
 /// Has so many threads share a new machine, by so many calls each, and compares them with one thread. `None` where memory is wanting,
 /// or where there are not 1 to 64 threads.
-pub(crate) fn share_and_compare<M, R>(
-    rt: &R,
-    alloc: Global,
-    threads: u32,
-    calls: u32,
-) -> Option<Review>
+pub(crate) fn share_and_compare<M, R>(rt: &R, alloc: Global, sizes: Sizes) -> Option<Review>
 where
     M: Compared + Send + Drop,
     M::Command: Drop + Send,
     M::Reply: Drop + Send,
     R: Threads + Wait + Sync,
 {
-    let crew = run_crew(rt, alloc, M::begin(alloc)?, threads, Share { calls })?;
+    let calls = sizes.calls;
+    let crew = run_crew(rt, alloc, M::begin(alloc)?, sizes.threads, Share { calls })?;
+    let (legal, noroom) = compare_with_one(alloc, &crew)?;
     Some(Review {
         entries: crew.said.len(),
-        history: compare_with_one(alloc, &crew)?,
+        legal,
+        noroom,
         exact: account_is_exact(&crew),
     })
 }
 
 // Gives one machine the commands in the order of their places, but for those that were refused for want of memory, and of one
-// that was stopped so what was done. `None` where memory is wanting here.
-fn compare_with_one<M: Compared + Drop>(alloc: Global, crew: &Crew<M>) -> Option<History>
+// that was stopped so what was done. Whether all is so, and how many of these there are. `None` where memory is wanting here.
+fn compare_with_one<M: Compared + Drop>(alloc: Global, crew: &Crew<M>) -> Option<(bool, u64)>
 where
     M::Reply: Drop,
 {
     let mut alone = M::begin(alloc)?;
-    let mut history = compare_each(alloc, &mut alone, crew)?;
-    history.legal &= !crew.behind && alone.is_as_far_as(&crew.machine);
-    Some(history)
-}
-
-// Whether a new machine answers each call so.
-fn compare_each<M: Compared>(alloc: Global, alone: &mut M, crew: &Crew<M>) -> Option<History>
-where
-    M::Reply: Drop,
-{
-    let mut legal = true;
+    let mut legal = !crew.behind;
     let mut noroom = 0u64;
     for (place, one) in (0u64..).zip(&crew.said) {
-        let same = is_answered_so(alloc, alone, one)?;
+        let same = is_answered_so(alloc, &mut alone, one)?;
         legal &= same && one.place == place && one.seen <= place;
         noroom = noroom.wrapping_add(u64::from(one.kept.wants_room()));
     }
-    Some(History { legal, noroom })
+    Some((legal && alone.is_as_far_as(&crew.machine), noroom))
 }
 
 // Whether the machine answers the call so. Of one that stopped for want of memory it is given what was done. `None` where memory

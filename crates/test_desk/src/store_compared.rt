@@ -1,12 +1,11 @@
 //! What threads ask of a store.
 
-use crate::commands::{
-    Driver, delete, driver_of, everything, follow, merge, name_of, retrieve, since, start, sweep,
-};
+use crate::commands::{Asked, driver_of, follow, merge};
 use crate::compared::Compared;
 use crate::kept::kept_of;
-use crate::new_store::store_at;
+use crate::new_store::{INCARNATION, store_at};
 use ds_entry::Items;
+use ds_feed::Cursor;
 use ds_machine::{Command, Reply, Scope};
 use ds_store::Store;
 use std::alloc::Global;
@@ -29,12 +28,34 @@ impl Compared for Box<Store> {
         let round = turn / 16;
         let generation = 1 + (seen % 1_000_000) as u32;
         let driver = driver_of(LABELS[(round % 4) as usize], generation, (turn % 16) as u16)?;
-        match turn % 16 {
-            0 => Some(follow(everything(alloc)?, round % 128)),
-            6 => merge(alloc, &driver, turn),
-            7 => Some(since(FIRST.wrapping_add(seen / 4), 1 + round % 4)),
-            _ => Some(ask(&driver, turn % 16, round)),
-        }
+        let max = 1 + round % 4;
+        Some(match turn % 16 {
+            0 => follow(alloc, round % 128)?,
+            3 => Command::Page {
+                scope: Scope::All,
+                after: None,
+                max,
+            },
+            5 | 15 => Command::Check {
+                sub: round % 128,
+                max,
+            },
+            6 => merge(alloc, &driver, turn)?,
+            7 => Command::Since {
+                scope: Scope::All,
+                cursor: Cursor {
+                    incarnation: INCARNATION,
+                    position: FIRST.wrapping_add(seen / 4),
+                },
+                max,
+            },
+            9 => driver.ask(Asked::Retrieve),
+            10 => driver.ask(Asked::Delete),
+            12 => driver.ask(Asked::NameOf),
+            13 => driver.ask(Asked::Sweep),
+            14 => Command::Snapshot { scope: Scope::All },
+            _ => driver.ask(Asked::Start),
+        })
     }
 
     fn first_of(alloc: Global, command: Command, items: usize) -> Option<Command> {
@@ -58,26 +79,5 @@ impl Compared for Box<Store> {
 
     fn is_as_far_as(&self, other: &Box<Store>) -> bool {
         self.cursor().position == other.cursor().position
-    }
-}
-
-// What a turn asks that takes no memory for its command.
-fn ask(driver: &Driver, turn: u32, round: u32) -> Command {
-    match turn {
-        3 => Command::Page {
-            scope: Scope::All,
-            after: None,
-            max: 1 + round % 4,
-        },
-        5 | 15 => Command::Check {
-            sub: round % 128,
-            max: 1 + round % 4,
-        },
-        9 => retrieve(driver),
-        10 => delete(driver),
-        12 => name_of(driver),
-        13 => sweep(driver),
-        14 => Command::Snapshot { scope: Scope::All },
-        _ => start(driver),
     }
 }
