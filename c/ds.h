@@ -133,6 +133,13 @@ uint32_t ds_open(struct ds_handle *handle, uint64_t incarnation, uint64_t first,
 uint32_t ds_call(struct ds_handle *handle, const struct ds_request *request, const char *texts, size_t texts_length,
                  struct ds_answer *answer);
 
+/* Lets the store answer requests, one after the other, each as ds_call does, and writes their answers; done says how many these are. It
+ * ends where there is no more request, or no more place for an answer, and behind the first answer that has a text, so that ds_items
+ * can give it. Whoever has more asks for them by another call. The requests' texts stand in texts, each where its request says.
+ * Answers 0, or DS_ISCLOSED, and then answers and done are as they were. */
+uint32_t ds_run(struct ds_handle *handle, const struct ds_request *requests, size_t requests_count, const char *texts,
+                size_t texts_length, struct ds_answer *answers, size_t answers_count, size_t *done);
+
 /* Gives the text of the last answer from piece number first on (they count from 0): as many pieces as fit into room, whole,
  * one behind the other, and says in given how many these are. A piece is a name, a string, memory, or the line of an item,
  * with its newline, as docs/formats.md has it; the lines of one store's answer may be the text of another's DS_MERGE.

@@ -46,18 +46,19 @@ class Given(ctypes.Structure):
 def loaded(path):
     """The library, with its calls declared."""
     library = ctypes.CDLL(path)
-    handle, pointer = ctypes.POINTER(ctypes.c_void_p), ctypes.POINTER
+    handle, pointer, size = ctypes.POINTER(ctypes.c_void_p), ctypes.POINTER, ctypes.c_size_t
     library.ds_open.argtypes = [handle, ctypes.c_uint64, ctypes.c_uint64, ctypes.c_uint32]
     library.ds_call.argtypes = [handle, pointer(Request), ctypes.c_char_p, ctypes.c_size_t, pointer(Answer)]
     library.ds_items.argtypes = [handle, ctypes.c_size_t, ctypes.c_char_p, ctypes.c_size_t, pointer(Given)]
     library.ds_call_line.argtypes = [handle, ctypes.c_char_p, ctypes.c_size_t, pointer(Answer)]
     library.ds_text.argtypes = [handle, ctypes.c_size_t, ctypes.c_char_p, ctypes.c_size_t, pointer(Given)]
+    library.ds_run.argtypes = [handle, pointer(Request), size, ctypes.c_char_p, size, pointer(Answer), size, pointer(size)]
     library.ds_close.argtypes = [handle]
     library.ds_map_new.argtypes = [handle, ctypes.c_uint8, ctypes.c_char_p, ctypes.c_size_t]
     library.ds_map_take.argtypes = [handle, ctypes.c_char_p, ctypes.c_size_t, pointer(Answer)]
     library.ds_map_label.argtypes = [handle, ctypes.c_char_p, ctypes.c_size_t, pointer(Answer)]
     library.ds_map_close.argtypes = [handle]
-    for call in (library.ds_open, library.ds_call, library.ds_items, library.ds_call_line, library.ds_text, library.ds_close):
+    for call in (library.ds_open, library.ds_call, library.ds_run, library.ds_items, library.ds_call_line, library.ds_text, library.ds_close):
         call.restype = ctypes.c_uint32
     for call in (library.ds_map_new, library.ds_map_take, library.ds_map_label, library.ds_map_close):
         call.restype = ctypes.c_uint32
@@ -146,6 +147,32 @@ class Session:
                 raise AssertionError(f"{given.count} pieces are {text!r}")
             pieces += some
         return pieces
+
+
+class Runs(Session):
+    """The same, whose requests are asked by one call for many."""
+
+    def ask(self, command, line, taken):
+        return self.answers([line], 2)[0]
+
+    def answers(self, lines, places):
+        """What a script prints for the lines, each of a request; so many answers have a place at a time."""
+        requests, text = (Request * len(lines))(), b""
+        commands = [model.read(line) for line in lines]
+        for request, line, (command, taken) in zip(requests, lines, commands):
+            one, own = asked(command, line, taken)
+            ctypes.pointer(request)[0] = one
+            request.text_at, text = len(text), text + own
+        printed, room = [], (Answer * places)()
+        while len(printed) < len(lines):
+            at, done = len(printed), ctypes.c_size_t()
+            rest = ctypes.cast(ctypes.byref(requests, at * ctypes.sizeof(Request)), ctypes.POINTER(Request))
+            called = self.library.ds_run(ctypes.byref(self.handle), rest, len(lines) - at, text, len(text), room, places, ctypes.byref(done))
+            if called or not done.value:
+                raise AssertionError(f"call {called}, {done.value} answers")
+            for answer, (command, _) in zip(room[: done.value], commands[at:]):
+                printed.append(told(answer, self.pieces(answer), command == b"offer"))
+        return printed
 
 
 RESTARTED = ["restarted"]

@@ -65,7 +65,7 @@ class Stores:
 
     def all(self):
         """All that is held: what a snapshot gives."""
-        lines = self.sides[self.current].ask(b"snapshot", b"", (None,))[:-1]
+        lines = self.sides[self.current].ask(b"snapshot", b"snapshot *", (None,))[:-1]
         return [*lines, f"shown {len(lines)}"]
 
     def show(self):
@@ -130,6 +130,12 @@ class Stores:
             if given != [f"found {at}" if at else "refused notfound"]:
                 raise AssertionError(f"map {number} has {name.decode()}: {given}, and not {at}")
         return lines
+
+
+class Runs(Stores):
+    """The same, whose requests are asked by the call for many."""
+
+    session = c_calls.Runs
 
 
 def is_served(script):

@@ -86,6 +86,32 @@ static void maps(void) {
     printf("closed: call %u\n", ds_map_close(&map));
 }
 
+static struct ds_answer places[4];
+
+static void run(const char *what, const struct ds_request *asks, size_t count, size_t most) {
+    size_t done = 77;
+    memset(places, 0xee, sizeof places);
+    uint32_t call = ds_run(&store, asks, count, NULL, 0, places, most, &done);
+    printf("%s: call %u, done %u, words", what, call, (unsigned)done);
+    for (int i = 0; i < 4; i++) printf(places[i].word == 0xeeeeeeee ? " -" : " %u", places[i].word);
+    puts("");
+}
+
+/* Four requests: a label, what is no request, all that is held, and the label again. */
+static void runs(void) {
+    struct ds_request asks[4] = {label("eth0"), label("eth0"), {.command = DS_SNAPSHOT}, label("eth0")};
+    asks[1].command = 99;
+    run("four of a closed handle", asks, 4, 4);
+    printf("opened: call %u\n", ds_open(&store, 1, 0, 4));
+    run("no requests", NULL, 0, 4);
+    run("no place", asks, 4, 0);
+    run("one place", asks, 4, 1);
+    run("all that have no text, and one that has", asks, 4, 4);
+    fetch("its text", 0, sizeof room);
+    run("the rest", asks + 3, 1, 4);
+    printf("closed: call %u\n", ds_close(&store));
+}
+
 int main(void) {
     struct ds_request it = label("eth0");
     memset(&answer, 0xee, sizeof answer);
@@ -173,6 +199,7 @@ int main(void) {
     it = label("eth0");
     ask("a sound request", it, NULL, 0);
     printf("closed: call %u\n", ds_close(&store));
+    runs();
     maps();
     return 0;
 }

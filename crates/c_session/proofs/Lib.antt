@@ -1,1 +1,2 @@
 pub mod CalledLemmas
+pub mod RunningLemmas

@@ -2,7 +2,9 @@
 #![tactic(auto)]
 
 mod last;
+mod running;
 mod session;
 
 pub use last::Last;
+pub use running::calls_are_turns;
 pub use session::Session;

@@ -14,6 +14,7 @@ use Rattle.c_words.specs.Pieces.{GivesPieces}
 use Rattle.c_session.specs.declared.session.Session.{Session}
 use Rattle.c_session.specs.declared.last.Last.TheVariants.{Nothing}
 use Rattle.c_session.specs.Called.{Called, pieces_in}
+use Rattle.c_session.specs.Running.{RunsCalls}
 use Rattle.c_line.specs.Calling.{CallsLine}
 use Rattle.c_line.specs.Text.{given_text, GivesText}
 
@@ -57,6 +58,16 @@ Calls (Some old) r texts before word answer new = AskedOf old r texts word answe
 abbrev pub Fetches : Option Session → ℕ → List ℕ → Given → ℕ → List ℕ → Given → Type 0
 Fetches None first old before word room given = (word ≡ is_closed) × (room ≡ old) × (given ≡ before)
 Fetches (Some s) first old before word room given = (word ≡ done) × GivesPieces (drop first (pieces_in s.last)) old given room
+
+-- requests were asked in turn of what an open handle holds
+abbrev pub RanOf : Session → List Request → List ℕ → List Answer → ℕ → List Answer → ℕ → Option Session → Type 0
+RanOf old rs texts place word answers count None = ⊥
+RanOf old rs texts place word answers count (Some new) = (word ≡ done) × RunsCalls old rs texts place count answers new
+
+-- a call that asks requests in turn, and tells how many: a closed handle, and the places, stay as they are
+abbrev pub RunsOn : Option Session → List Request → List ℕ → List Answer → ℕ → ℕ → List Answer → ℕ → Option Session → Type 0
+RunsOn None rs texts place before word answers count new = (word ≡ is_closed) × (answers ≡ place) × (count ≡ before) × (new ≡ None)
+RunsOn (Some old) rs texts place before word answers count new = RanOf old rs texts place word answers count new
 
 -- a line was asked of what an open handle holds
 abbrev pub AskedByLine : Session → List ℕ → ℕ → Answer → Option Session → Type 0

@@ -9,6 +9,7 @@ mod lines;
 mod loose;
 mod map_handle;
 mod maps;
+mod runs;
 mod words;
 
 ghost use Rattle.std.specs.Prelude.{◌≡◌};
@@ -22,6 +23,7 @@ pub use handle::Handle;
 pub use lines::{ds_call_line, ds_text};
 pub use map_handle::MapHandle;
 pub use maps::{ds_map_close, ds_map_label, ds_map_new, ds_map_take};
+pub use runs::ds_run;
 use std::alloc::Global;
 use words::{DONE, IS_CLOSED, IS_OPEN};
 

@@ -1,0 +1,64 @@
+-- Requests that are asked one after the other.
+use Rattle.std.specs.Prelude.{◌≡◌, ◌⊎◌, ℕ, ◌<◌, ◌≤◌, List, [], ◌∷◌, ◌++◌, length, take, drop, Some}
+use Rattle.std.specs.List.{All}
+use Rattle.history.specs.declared.entry.Entry.{Entry}
+use Rattle.history.specs.History.{Run}
+use Rattle.ds_machine.specs.declared.command.Command.{Command}
+use Rattle.ds_machine.specs.declared.reply.Reply.{Reply}
+use Rattle.ds_store.specs.Turns.{Turn}
+use Rattle.c_words.specs.declared.request.Request.{Request}
+use Rattle.c_words.specs.declared.answer.Answer.{Answer}
+use Rattle.c_words.specs.Answer.{answer_of, no_request, told_no_room}
+use Rattle.c_words.specs.Asked.{StandsFor, request_text}
+use Rattle.c_session.specs.declared.session.Session.{Session}
+use Rattle.c_session.specs.Called.{Called}
+
+-- the requests are asked in turn, and answered so, each as it is alone
+abbrev pub CallsInTurn : List ℕ → Session → List Request → List Answer → Session → Type 0
+CallsInTurn texts old [] [] new = new ≡ old
+CallsInTurn texts old (r ∷ rs) (a ∷ ys) new = (mid : Session) × Called old r (request_text r texts) a mid × CallsInTurn texts mid rs ys new
+CallsInTurn texts old [] (a ∷ ys) new = ⊥
+CallsInTurn texts old (r ∷ rs) [] new = ⊥
+
+-- the answer has no text
+abbrev pub HasNoText : Answer → Type 0
+HasNoText answer = answer.pieces ≡ 0
+
+-- the last of the answers has a text, and none before it
+abbrev pub EndsWithText : List Answer → Type 0
+EndsWithText answers = (front : List Answer) × (last : Answer) × (answers ≡ front ++ last ∷ []) × All HasNoText front × (0 < last.pieces)
+
+-- So many of the requests are asked in turn, and their answers are at the front of the place; what stands behind them there stays. It
+-- ends behind the first answer that has a text, or where there is no more request, or no more place.
+pub record RunsCalls (old : Session) (requests : List Request) (texts : List ℕ) (place : List Answer) (done : ℕ) (answers : List Answer) (new : Session) : Type 0 where
+  pub within : (done ≤ length requests) × (done ≤ length place)
+  pub calls : CallsInTurn texts old (take done requests) (take done answers) new
+  pub behind : drop done answers ≡ drop done place
+  pub ended : (All HasNoText (take done answers) × ((done ≡ length requests) ⊎ (done ≡ length place))) ⊎ EndsWithText (take done answers)
+
+-- ---- what such a run is to the machine
+
+-- the answer of a request that no command of the store stands behind
+abbrev pub IsUnasked : Answer → Type 0
+IsUnasked a = (a ≡ no_request) ⊎ (a ≡ told_no_room)
+
+-- the request's text stands for the entry's command, and the answer is that of its reply
+pub record IsEntryOf (texts : List ℕ) (r : Request) (a : Answer) (e : Entry Command Reply) : Type 0 where
+  pub text : List ℕ
+  pub text_is : request_text r texts ≡ Some text
+  pub stands : StandsFor r text e.command
+  pub told : a ≡ answer_of e.reply
+
+-- the entries are those of the requests that were asked of the store, in their order
+abbrev pub AreEntriesOf : List ℕ → List Request → List Answer → List (Entry Command Reply) → Type 0
+AreEntriesOf texts [] [] [] = Unit {0}
+AreEntriesOf texts (r ∷ rs) (a ∷ ys) es =
+    (IsUnasked a × AreEntriesOf texts rs ys es) ⊎ ((e : Entry Command Reply) × (rest : List (Entry Command Reply)) × (es ≡ e ∷ rest) × IsEntryOf texts r a e × AreEntriesOf texts rs ys rest)
+AreEntriesOf texts [] [] (e ∷ es) = ⊥
+AreEntriesOf texts [] (a ∷ ys) es = ⊥
+AreEntriesOf texts (r ∷ rs) [] es = ⊥
+
+-- requests that are asked in turn are turns of the store, one for each that stands for a command; so they are a run of the store's machine
+abbrev pub CallsAreTurns : Type 0
+CallsAreTurns = (texts : List ℕ) (rs : List Request) (ys : List Answer) (old new : Session) → CallsInTurn texts old rs ys new →
+    (es : List (Entry Command Reply)) × AreEntriesOf texts rs ys es × Run Turn old.store es new.store
