@@ -41,6 +41,7 @@ static unsigned long told(const char *line, size_t length) {
 int main(int count, char **given) {
     if (count != 3 || ds_open(&store, 1, 0, 256)) return 2;
     const char *what = given[1];
+    int by_line = !strncmp(what, "line-", 5), publishes = strstr(what, "publish") != NULL;
     unsigned long calls = strtoul(given[2], NULL, 10), sum = 0;
     for (uint32_t d = 0; d < DRIVERS; d++) {
         struct ds_request ask = label(d);
@@ -53,11 +54,13 @@ int main(int count, char **given) {
     }
     for (unsigned long i = 1; i <= calls; i++) {
         uint32_t d = i % DRIVERS;
-        if (!strcmp(what, "publish")) asks[d].seq = asks[d].value = (uint32_t)i;
-        if (!strcmp(what, "line-publish"))
-            sum += told(lines[d], (size_t)sprintf(lines[d], "publish %u/%u over d%u.mtu u32 %u.%lu = %lu", d + 1, 16 + d, d, d + 1, i, i));
-        else if (!strncmp(what, "line-", 5)) sum += told(lines[d], strlen(lines[d]));
-        else sum += called(&asks[d]);
+        if (by_line) {
+            if (publishes) sprintf(lines[d], "publish %u/%u over d%u.mtu u32 %u.%lu = %lu", d + 1, 16 + d, d, d + 1, i, i);
+            sum += told(lines[d], strlen(lines[d]));
+        } else {
+            if (publishes) asks[d].seq = asks[d].value = (uint32_t)i;
+            sum += called(&asks[d]);
+        }
     }
     printf("%lu\n", sum);
     return ds_close(&store) != 0;

@@ -15,7 +15,7 @@ use Rattle.c_words.specs.declared.answer.Answer.{Answer}
 use Rattle.c_words.specs.Asked.{request_text}
 use Rattle.c_session.specs.declared.session.Session.{Session}
 use Rattle.c_session.specs.Called.{Called}
-use Rattle.c_session.specs.Running.{CallsInTurn, HasNoText, IsUnasked, IsEntryOf, CallsAreTurns}
+use Rattle.c_session.specs.Running.{CallsInTurn, HasNoText, IsNoEntry, IsEntryOf, CallsAreTurns}
 
 -- one more behind them
 pub calls_more : (texts : List ℕ) (rs : List Request) (ys : List Answer) (old mid new : Session) (r : Request) (a : Answer)
@@ -44,7 +44,7 @@ behind_next ys place i a behind = drop-set-lt (i + 1) ys i a (omega arith) ∙ s
 
 -- what one call is: a turn of the store, or none
 abbrev OneCall : List ℕ → Session → Request → Answer → Session → Type 0
-OneCall texts old r a new = (IsUnasked a × (new.store ≡ old.store)) ⊎ ((e : Entry Command Reply) × IsEntryOf texts r a e × Turn old.store e.command e.reply new.store)
+OneCall texts old r a new = (IsNoEntry a × (new.store ≡ old.store)) ⊎ ((e : Entry Command Reply) × IsEntryOf texts r a e × Turn old.store e.command e.reply new.store)
 
 one_call : (texts : List ℕ) (old new : Session) (r : Request) (a : Answer) (o : Option (List ℕ)) → request_text r texts ≡ o → Called old r o a new → OneCall texts old r a new
 one_call texts old new r a None is called = inl (inl called.told_is, called.store_is)

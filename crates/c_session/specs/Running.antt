@@ -39,8 +39,8 @@ pub record RunsCalls (old : Session) (requests : List Request) (texts : List ℕ
 -- ---- what such a run is to the machine
 
 -- the answer of a request that no command of the store stands behind
-abbrev pub IsUnasked : Answer → Type 0
-IsUnasked a = (a ≡ no_request) ⊎ (a ≡ told_no_room)
+abbrev pub IsNoEntry : Answer → Type 0
+IsNoEntry a = (a ≡ no_request) ⊎ (a ≡ told_no_room)
 
 -- the request's text stands for the entry's command, and the answer is that of its reply
 pub record IsEntryOf (texts : List ℕ) (r : Request) (a : Answer) (e : Entry Command Reply) : Type 0 where
@@ -50,15 +50,15 @@ pub record IsEntryOf (texts : List ℕ) (r : Request) (a : Answer) (e : Entry Co
   pub told : a ≡ answer_of e.reply
 
 -- the entries are those of the requests that were asked of the store, in their order
-abbrev pub AreEntriesOf : List ℕ → List Request → List Answer → List (Entry Command Reply) → Type 0
-AreEntriesOf texts [] [] [] = Unit {0}
-AreEntriesOf texts (r ∷ rs) (a ∷ ys) es =
-    (IsUnasked a × AreEntriesOf texts rs ys es) ⊎ ((e : Entry Command Reply) × (rest : List (Entry Command Reply)) × (es ≡ e ∷ rest) × IsEntryOf texts r a e × AreEntriesOf texts rs ys rest)
-AreEntriesOf texts [] [] (e ∷ es) = ⊥
-AreEntriesOf texts [] (a ∷ ys) es = ⊥
-AreEntriesOf texts (r ∷ rs) [] es = ⊥
+abbrev pub EntriesOfRun : List ℕ → List Request → List Answer → List (Entry Command Reply) → Type 0
+EntriesOfRun texts [] [] [] = Unit {0}
+EntriesOfRun texts (r ∷ rs) (a ∷ ys) es =
+    (IsNoEntry a × EntriesOfRun texts rs ys es) ⊎ ((e : Entry Command Reply) × (rest : List (Entry Command Reply)) × (es ≡ e ∷ rest) × IsEntryOf texts r a e × EntriesOfRun texts rs ys rest)
+EntriesOfRun texts [] [] (e ∷ es) = ⊥
+EntriesOfRun texts [] (a ∷ ys) es = ⊥
+EntriesOfRun texts (r ∷ rs) [] es = ⊥
 
 -- requests that are asked in turn are turns of the store, one for each that stands for a command; so they are a run of the store's machine
 abbrev pub CallsAreTurns : Type 0
 CallsAreTurns = (texts : List ℕ) (rs : List Request) (ys : List Answer) (old new : Session) → CallsInTurn texts old rs ys new →
-    (es : List (Entry Command Reply)) × AreEntriesOf texts rs ys es × Run Turn old.store es new.store
+    (es : List (Entry Command Reply)) × EntriesOfRun texts rs ys es × Run Turn old.store es new.store
