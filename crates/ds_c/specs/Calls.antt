@@ -65,9 +65,9 @@ RanOf old rs texts place word answers count None = ⊥
 RanOf old rs texts place word answers count (Some new) = (word ≡ done) × RunsCalls old rs texts place count answers new
 
 -- a call that asks requests in turn, and tells how many: a closed handle, and the places, stay as they are
-abbrev pub RunsOn : Option Session → List Request → List ℕ → List Answer → ℕ → ℕ → List Answer → ℕ → Option Session → Type 0
-RunsOn None rs texts place before word answers count new = (word ≡ is_closed) × (answers ≡ place) × (count ≡ before) × (new ≡ None)
-RunsOn (Some old) rs texts place before word answers count new = RanOf old rs texts place word answers count new
+abbrev pub RunsInTurn : Option Session → List Request → List ℕ → List Answer → ℕ → ℕ → List Answer → ℕ → Option Session → Type 0
+RunsInTurn None rs texts place before word answers count new = (word ≡ is_closed) × (answers ≡ place) × (count ≡ before) × (new ≡ None)
+RunsInTurn (Some old) rs texts place before word answers count new = RanOf old rs texts place word answers count new
 
 -- a line was asked of what an open handle holds
 abbrev pub AskedByLine : Session → List ℕ → ℕ → Answer → Option Session → Type 0

@@ -1,6 +1,6 @@
 //! The call that asks one request after the other.
 
-ghost use Rattle.ds_c.specs.Calls.{RunsOn};
+ghost use Rattle.ds_c.specs.Calls.{RunsInTurn};
 
 use crate::handle::Handle;
 use crate::words::{DONE, IS_CLOSED};
@@ -18,7 +18,7 @@ pub extern "C" fn ds_run(
     answers: &mut [Answer],
     done: &mut usize,
 ) -> u32
-    ensures { RunsOn handle.old.value requests.now texts.now answers.old done.old result answers.new done.new handle.new.value }
+    ensures { RunsInTurn handle.old.value requests.now texts.now answers.old done.old result answers.new done.new handle.new.value }
 {
     match handle.take(alloc) {
         None => IS_CLOSED,
