@@ -3,3 +3,4 @@ pub mod EntryLemmas
 pub mod BadLineLemmas
 pub mod StepLemmas
 pub mod RunLemmas
+pub mod CauseLemmas

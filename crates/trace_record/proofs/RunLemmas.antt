@@ -83,7 +83,7 @@ module _ (known : Option (List ℕ)) (first : List ℕ) (had : Option (List ℕ)
       })
 
   -- no more entries are counted
-  pub run_full : (next : Result Bool RecordFault) → Runs known first had h w from has next count → RunsTo known first had h w.output.items has (Err ReadFault)
+  pub run_full : (next : Result Bool RecordFault) → Runs known first had h w from has next count → RunsTo known first had h w.output.items has (Err NoRoom)
   run_full next r = (
     count,
     record {

@@ -3,3 +3,4 @@ pub mod Record
 pub mod Reading
 pub mod Steps
 pub mod Running
+pub mod Causes

@@ -1,6 +1,7 @@
 //! The beginning of an input.
 
 ghost use Rattle.std.specs.Prelude.{IfOk};
+ghost use Rattle.trace_record.specs.Causes.{ReadsOn};
 ghost use Rattle.trace_record.specs.Reading.{BeginsInput, IsReady};
 
 use crate::fault::RecordFault;
@@ -26,6 +27,7 @@ pub(crate) fn begin<R: Source>(
 ) -> Result<Beginning, NoRoom>
     ensures begins { IfOk result (BeginsInput lines.old (R.remaining reader.old) lines.new (R.remaining reader.new)) }
     ensures ready { IfOk result (λ begin. IsReady lines.new begin.next) }
+    ensures reads { IfOk result (λ begin. ReadsOn R.Source begin.next reader.old reader.new lines.old.reads lines.new.reads) }
 {
     let next = next_line(lines, reader, Wanted::Command);
     let Some(ring) = ring_of(alloc, next, lines.line())? else {

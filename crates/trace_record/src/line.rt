@@ -3,6 +3,7 @@
 ghost use Rattle.std.specs.Prelude.{◌≡◌, IfOk, IfErr};
 ghost use Rattle.ds_lines.specs.Lines.{EndsLine};
 ghost use Rattle.trace_record.specs.Asking.{asked_by};
+ghost use Rattle.trace_record.specs.Causes.{ReadsOn};
 ghost use Rattle.trace_record.specs.Reading.{Comes, IsBadHead, IsHeadBehind, IsReady};
 
 use crate::fault::RecordFault;
@@ -19,6 +20,7 @@ pub(crate) fn next_line<R: Source>(
 ) -> Result<bool, RecordFault>
     ensures comes { Comes lines.old (R.remaining reader.old) lines.new (R.remaining reader.new) result }
     ensures ready { IsReady lines.new result }
+    ensures reads { ReadsOn R.Source result reader.old reader.new lines.old.reads lines.new.reads }
 {
     let before = lines.count();
     match lines.pull(reader) {

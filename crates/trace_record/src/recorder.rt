@@ -2,7 +2,9 @@
 
 ghost use Rattle.std.specs.Prelude.{◌≡◌, ◌≢◌, ◌++◌, ◌∷◌, [], None, OnOk, OnErr, IfOk, IfErr};
 ghost use Rattle.ds_lines.specs.Lines.{EndsLine};
+ghost use Rattle.ds_lines.specs.Pulling.{LeadsOn};
 ghost use Rattle.trace_words.specs.Text.{command_asked};
+ghost use Rattle.trace_record.specs.Causes.{IsCausedOn};
 ghost use Rattle.trace_record.specs.Steps.{KeepsOutput, OpensAs, HeadsFrom, FailsAtHead, AddsLines, MissesLines, AddsItems, MissesItems, AddsItem, MissesItem, AnswersAsked, AddsEntry, FailsInEntry};
 
 use crate::fault::RecordFault;
@@ -68,6 +70,8 @@ impl Recorder {
         requires { EndsLine self.old.lines.line }
         ensures goes { OnOk result (AddsEntry self.old (R.remaining reader.old) self.new (R.remaining reader.new)) }
         ensures fails { IfErr result (FailsInEntry self.old (R.remaining reader.old) self.new) }
+        ensures led { OnOk result (LeadsOn R.reads self.old.lines.reads self.new.lines.reads reader.old reader.new) }
+        ensures cause { IfErr result (λ fault. IsCausedOn R.Source fault reader.old reader.new self.old.lines.reads) }
     {
         let head = self.head()?;
         let asked = self.asked(reader, head)?;
@@ -96,6 +100,8 @@ impl Recorder {
     fn asked<R: Source>(&mut self, reader: &mut R, head: Head) -> Result<Asked, RecordFault>
         ensures goes { IfOk result (AddsLines self.old (R.remaining reader.old) head self.new (R.remaining reader.new)) }
         ensures fails { IfErr result (MissesLines self.old (R.remaining reader.old) head self.new) }
+        ensures led { OnOk result (LeadsOn R.reads self.old.lines.reads self.new.lines.reads reader.old reader.new) }
+        ensures cause { IfErr result (λ fault. IsCausedOn R.Source fault reader.old reader.new self.old.lines.reads) }
     {
         match head {
             Head::Line(command) => Ok(Asked::Line(command)),
@@ -107,6 +113,8 @@ impl Recorder {
     fn items<R: Source>(&mut self, reader: &mut R, count: u64) -> Result<Items, RecordFault>
         ensures goes { IfOk result (AddsItems self.old (R.remaining reader.old) count self.new (R.remaining reader.new)) }
         ensures fails { IfErr result (MissesItems self.old (R.remaining reader.old) count self.new) }
+        ensures led { OnOk result (LeadsOn R.reads self.old.lines.reads self.new.lines.reads reader.old reader.new) }
+        ensures cause { IfErr result (λ fault. IsCausedOn R.Source fault reader.old reader.new self.old.lines.reads) }
     {
         let mut items = Items::new(self.alloc);
         for _index in 0..count {
@@ -119,6 +127,8 @@ impl Recorder {
     fn item<R: Source>(&mut self, reader: &mut R, items: &mut Items) -> Result<(), RecordFault>
         ensures goes { OnOk result (AddsItem self.old (R.remaining reader.old) items.old self.new (R.remaining reader.new) items.new) }
         ensures fails { IfErr result (MissesItem self.old (R.remaining reader.old) self.new) }
+        ensures led { OnOk result (LeadsOn R.reads self.old.lines.reads self.new.lines.reads reader.old reader.new) }
+        ensures cause { IfErr result (λ fault. IsCausedOn R.Source fault reader.old reader.new self.old.lines.reads) }
     {
         if !next_line(&mut self.lines, reader, Wanted::Item)? {
             return Err(RecordFault::BadLine {

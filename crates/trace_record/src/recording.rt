@@ -2,6 +2,7 @@
 
 ghost use Rattle.std.specs.Prelude.{IfOk, IfErr};
 ghost use Rattle.trace_record.specs.Record.{Records, StopsRecording};
+ghost use Rattle.trace_record.specs.Causes.{IsToBlame, RunIsCaused, SettlesBy};
 ghost use Rattle.trace_record.specs.Reading.{IsReady};
 ghost use Rattle.trace_record.specs.Running.{RunsOn, WritesRest};
 
@@ -37,6 +38,7 @@ pub fn record<R: Source, W: Sink>(
 ) -> Result<u64, RecordFault>
     ensures written { IfOk result (Records form (R.remaining reader.old) (W.contents writer.old) (W.contents writer.new)) }
     ensures stopped { IfErr result (StopsRecording form (R.remaining reader.old) (W.contents writer.old) (W.contents writer.new)) }
+    ensures cause { IfErr result (λ fault. IsToBlame R.Source W.Sink fault reader.old reader.new writer.new) }
 {
     let mut lines = Lines::new(alloc)?;
     let beginning = begin(alloc, &mut lines, reader)?;
@@ -58,7 +60,8 @@ fn run<R: Source, W: Sink>(
     first: Result<bool, RecordFault>,
 ) -> Result<u64, RecordFault>
     requires { IsReady recorder.old.lines first }
-    ensures { RunsOn recorder.old (R.remaining reader.old) (W.contents writer.old) first recorder.new (W.contents writer.new) result }
+    ensures runs { RunsOn recorder.old (R.remaining reader.old) (W.contents writer.old) first recorder.new (W.contents writer.new) result }
+    ensures cause { IfErr result (RunIsCaused R.Source W.Sink first reader.old reader.new recorder.old.lines.reads writer.new) }
 {
     let mut next = first;
     for count in 0..u64::MAX {
@@ -71,12 +74,14 @@ fn run<R: Source, W: Sink>(
         send_waiting(writer, &mut recorder.output, recorder.lines.front())?;
         next = next_line(&mut recorder.lines, reader, Wanted::Command);
     }
-    Err(RecordFault::ReadFault)
+    // No input has so many lines: 2^32 reads bring fewer.
+    Err(RecordFault::NoRoom)
 }
 
 // WritesBy what waits where a fault ended the recording, and gives the fault. A writer that failed isn't asked again.
 fn settled<W: Sink>(writer: &mut W, output: &[u8], fault: RecordFault) -> RecordFault
-    ensures { WritesRest fault (W.contents writer.old) (W.contents writer.new) output.now result }
+    ensures settles { WritesRest fault (W.contents writer.old) (W.contents writer.new) output.now result }
+    ensures cause { SettlesBy W.Sink fault writer.old writer.new result }
 {
     match fault {
         RecordFault::WriteFault => fault,

@@ -1,6 +1,7 @@
 //! Writing what waits.
 
 ghost use Rattle.std.specs.Prelude.{◌≡◌, OnOk, OnErr, IfErr};
+ghost use Rattle.ds_lines.specs.Streams.{HasFailedWrite};
 ghost use Rattle.ds_lines.specs.Transfer.{SendsFront, WritesPart};
 ghost use Rattle.trace_record.specs.declared.fault.RecordFault.TheVariants as faults;
 
@@ -19,6 +20,7 @@ pub(crate) fn send_waiting<W: Sink>(
     ensures ok { OnOk result (SendsFront (W.contents writer.old) (W.contents writer.new) output.old.items output.new.items) }
     ensures err { OnErr result (WritesPart (W.contents writer.old) (W.contents writer.new) output.old.items) }
     ensures fault { IfErr result (λ fault. fault ≡ faults.WriteFault) }
+    ensures cause { OnErr result (HasFailedWrite W.writes W.fails writer.new) }
 {
     if output.len() < FULL && newline_place(read).is_some() {
         return Ok(());

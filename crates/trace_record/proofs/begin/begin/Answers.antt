@@ -3,6 +3,7 @@ use Rattle.ds_lines.specs.Lines.{EndsLine, with_newline}
 use Rattle.trace_check.proofs.FaultLemmas.{some_at}
 use Rattle.trace_record.specs.declared.fault.RecordFault.{RecordFault}
 use Rattle.trace_record.specs.Asking.{ring_text}
+use Rattle.trace_record.specs.Causes.{ReadsLead}
 use Rattle.trace_record.specs.Reading.{ComesToNext, IsReady}
 use Rattle.trace_record.proofs.begin.begin.Goals as goal
 
@@ -23,3 +24,13 @@ returns-clause-begins g c =
           let a = subst (λ (r : Result Bool RecordFault). ComesToNext bytes [] c.next_line-next.new.lines mid r) ring.0 (c.next_line-next.ensures.comes bytes [] at) in
           subst (λ (f : List ℕ). ComesToNext bytes f c.next_line-next-2.new.lines (g.R.Source.remaining c.next_line-next-2.new.reader) c.next_line-next-2.result) (sym a.1) (c.next_line-next-2.ensures.comes bytes (with_newline a.0) a.2.then),
     )
+
+pub returns-in_default-clause-reads : goal.returns-in_default-clause-reads
+returns-in_default-clause-reads g c = λ first led. c.next_line-next.ensures.reads first led
+
+pub returns-clause-reads : goal.returns-clause-reads
+returns-clause-reads g c =
+    let ring = some_at c.in_ok-ring.field-0 c.in-Some.ring (λ (n : ℕ). (c.next_line-next.result ≡ Ok true) × (c.line.result.now ≡ ring_text n)) c.in-Some.is c.in_ok-ring.ensures in
+    λ first led.
+    c.next_line-next-2.ensures.reads first
+    (subst (λ (r : Result Bool RecordFault). ReadsLead g.R.Source r first c.next_line-next.new.reader c.next_line-next.new.lines.reads) ring.0 (c.next_line-next.ensures.reads first led))

@@ -20,3 +20,18 @@ returns-in-ReadFault-clause-comes g c bytes front at = front_at bytes front c.ar
 
 pub returns-in-NoRoom-clause-comes : goal.returns-in-NoRoom-clause-comes
 returns-in-NoRoom-clause-comes g c bytes front at = front_at bytes front c.args.lines.now (g.R.Source.remaining c.args.reader.now) at
+
+pub returns-in-Line-clause-reads : goal.returns-in-Line-clause-reads
+returns-in-Line-clause-reads g c = λ first led. c.in-Line.ensures.told first led
+
+pub returns-in-End-clause-reads : goal.returns-in-End-clause-reads
+returns-in-End-clause-reads g c = λ first led. c.in-End.ensures.told first led
+
+pub returns-in-Long-clause-reads : goal.returns-in-Long-clause-reads
+returns-in-Long-clause-reads g c = λ first led. tt
+
+pub returns-in-ReadFault-clause-reads : goal.returns-in-ReadFault-clause-reads
+returns-in-ReadFault-clause-reads g c = λ first led. c.in-ReadFault.ensures.told first led
+
+pub returns-in-NoRoom-clause-reads : goal.returns-in-NoRoom-clause-reads
+returns-in-NoRoom-clause-reads g c = λ first led. tt

@@ -2,22 +2,24 @@ use Rattle.std.proofs.Common.{◌≡◌, ◌+◌, ◌∙◌, ℕ, suc, List, Opt
 use Rattle.trace_words.specs.declared.header.Header.{Header}
 use Rattle.trace_record.specs.declared.fault.RecordFault.{RecordFault}
 use Rattle.trace_record.specs.declared.recorder.Recorder.{Recorder}
+use Rattle.trace_record.specs.Causes.{IsToBlame, ReadsLead}
 use Rattle.trace_record.specs.Reading.{IsReady}
 use Rattle.trace_record.specs.Running.{Runs, RunsTo}
-use Rattle.trace_record.proofs.StepLemmas.{handed_as}
+use Rattle.trace_record.proofs.CauseLemmas.{input_cause}
+use Rattle.trace_record.proofs.StepLemmas.{handed_as, handed_on}
 use Rattle.trace_record.proofs.RunLemmas.{entry_added, entry_fails, entry_unwritten, entry_written, run_ends, run_full, run_stops}
 use Rattle.trace_record.proofs.recording.run.Goals as goal
 
 pub loop-count-init : goal.loop-count-init
-loop-count-init g c = (c.requires, λ known first had h r. r)
+loop-count-init g c = (c.requires, λ known first had h r. r, λ first led. led)
 
-pub returns-in-Ok-false : goal.returns-in-Ok-false
-returns-in-Ok-false g c known first had h r =
+pub returns-in-Ok-false-clause-runs : goal.returns-in-Ok-false-clause-runs
+returns-in-Ok-false-clause-runs g c known first had h r =
     let l = c.loop-count in
     run_ends known first had h l.recorder (g.R.Source.remaining l.reader) (g.W.Sink.contents l.writer) l.count l.next (l.invariant.1 known first had h r) (c.in-Ok-false.is ∙ ap (λ (b : Bool). Ok b) c.in-Ok-false.field-0-test)
 
-pub returns-in-Err : goal.returns-in-Err
-returns-in-Err g c known first had h r =
+pub returns-in-Err-clause-runs : goal.returns-in-Err-clause-runs
+returns-in-Err-clause-runs g c known first had h r =
     let l = c.loop-count in
     run_stops known first had h l.recorder (g.R.Source.remaining l.reader) (g.W.Sink.contents l.writer) l.count l.next c.in-Err.fault (l.invariant.1 known first had h r) c.in-Err.is l.invariant.0
 
@@ -27,8 +29,8 @@ entry-requires g c =
     let ready = subst (IsReady l.recorder.lines) (c.in-Ok-true.is ∙ ap (λ (b : Bool). Ok b) c.in-Ok-true.field-0-test) l.invariant.0 in
     ready.0
 
-pub returns-in_err-entry : goal.returns-in_err-entry
-returns-in_err-entry g c =
+pub returns-in_err-entry-clause-runs : goal.returns-in_err-entry-clause-runs
+returns-in_err-entry-clause-runs g c =
     let l = c.loop-count in
     let from = g.R.Source.remaining c.args.reader.now in
     let has = g.W.Sink.contents c.args.writer.now in
@@ -40,8 +42,8 @@ returns-in_err-entry g c =
     (λ known first had h r.
     entry_fails known first had h l.recorder w (g.R.Source.remaining l.reader) (g.R.Source.remaining c.entry.new.reader) now l.next l.count (l.invariant.1 known first had h r) (c.in-Ok-true.is ∙ ap (λ (b : Bool). Ok b) c.in-Ok-true.field-0-test) c.in_err-entry.field-0.0 c.in_err-entry.ensures.fails)
 
-pub returns-in_err-send_waiting : goal.returns-in_err-send_waiting
-returns-in_err-send_waiting g c =
+pub returns-in_err-send_waiting-clause-runs : goal.returns-in_err-send_waiting-clause-runs
+returns-in_err-send_waiting-clause-runs g c =
     let l = c.loop-count in
     let from = g.R.Source.remaining c.args.reader.now in
     let has = g.W.Sink.contents c.args.writer.now in
@@ -69,9 +71,30 @@ loop-count-preserved g c = (
       let more : suc l.count ≡ l.count + 1 = omega arith in
       subst (λ (n : ℕ). Runs known first had h new to now c.next_line-next.result n) more
       (entry_written known first had h w (g.R.Source.remaining c.entry.new.reader) (g.W.Sink.contents l.writer) now (suc l.count) b new c.send_waiting.new.output.items c.next_line-next.new.lines to c.next_line-next.result refl refl refl refl c.in_ok-send_waiting.ensures.ok c.next_line-next.ensures.comes),
+  λ first led.
+      let l = c.loop-count in
+      c.next_line-next.ensures.reads first (c.in_ok-entry.ensures.led first (subst (λ (r : Result Bool RecordFault). ReadsLead g.R.Source r first l.reader l.recorder.lines.reads) (c.in-Ok-true.is ∙ ap (λ (b : Bool). Ok b) c.in-Ok-true.field-0-test) (l.invariant.2 first led))),
 )
 
-pub returns : goal.returns
-returns g c known first had h r =
+pub returns-clause-runs : goal.returns-clause-runs
+returns-clause-runs g c known first had h r =
     let l = c.loop-count in
     run_full known first had h l.recorder (g.R.Source.remaining l.reader) (g.W.Sink.contents l.writer) l.count l.next (l.invariant.1 known first had h r)
+
+pub returns-in-Err-clause-cause : goal.returns-in-Err-clause-cause
+returns-in-Err-clause-cause g c first led =
+    let l = c.loop-count in
+    input_cause g.R.Source g.W.Sink c.in-Err.fault first l.reader l.writer (subst (IsReady l.recorder.lines) c.in-Err.is l.invariant.0) (subst (λ (r : Result Bool RecordFault). ReadsLead g.R.Source r first l.reader l.recorder.lines.reads) c.in-Err.is (l.invariant.2 first led))
+
+pub returns-in_err-entry-clause-cause : goal.returns-in_err-entry-clause-cause
+returns-in_err-entry-clause-cause g c =
+    handed_on c.from_residual.result c.in_err-entry.field-0.0 _ c.from_residual.ensures.1
+    (λ first led.
+    let l = c.loop-count in
+    input_cause g.R.Source g.W.Sink c.in_err-entry.field-0.0 first c.entry.new.reader l.writer c.in_err-entry.ensures.fails.0
+    (c.in_err-entry.ensures.cause first (subst (λ (r : Result Bool RecordFault). ReadsLead g.R.Source r first l.reader l.recorder.lines.reads) (c.in-Ok-true.is ∙ ap (λ (b : Bool). Ok b) c.in-Ok-true.field-0-test) (l.invariant.2 first led))))
+
+pub returns-in_err-send_waiting-clause-cause : goal.returns-in_err-send_waiting-clause-cause
+returns-in_err-send_waiting-clause-cause g c =
+    handed_on c.from_residual-in_err-send_waiting.result c.in_err-send_waiting.field-0.0 _ c.from_residual-in_err-send_waiting.ensures.1
+    (λ first led. subst (λ (f : RecordFault). IsToBlame g.R.Source g.W.Sink f first c.entry.new.reader c.send_waiting.new.writer) (sym c.in_err-send_waiting.ensures.fault) c.in_err-send_waiting.ensures.cause)

@@ -12,3 +12,10 @@ returns-in_ok-items-in-Merge-clause-goes g c =
 pub returns-in_err-items-in-Merge-clause-fails : goal.returns-in_err-items-in-Merge-clause-fails
 returns-in_err-items-in-Merge-clause-fails g c =
     handed_on c.from_residual.result c.in_err-items-in-Merge.field-0.0 _ c.from_residual.ensures.1 (c.in-Merge.count, c.in-Merge.is, c.in_err-items-in-Merge.ensures.fails)
+
+pub returns-in_ok-items-in-Merge-clause-led : goal.returns-in_ok-items-in-Merge-clause-led
+returns-in_ok-items-in-Merge-clause-led g c = λ first led. c.in_ok-items-in-Merge.ensures.led first led
+
+pub returns-in_err-items-in-Merge-clause-cause : goal.returns-in_err-items-in-Merge-clause-cause
+returns-in_err-items-in-Merge-clause-cause g c =
+    handed_on c.from_residual.result c.in_err-items-in-Merge.field-0.0 _ c.from_residual.ensures.1 (λ first led. c.in_err-items-in-Merge.ensures.cause first led)

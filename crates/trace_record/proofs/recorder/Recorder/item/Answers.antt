@@ -32,3 +32,9 @@ returns-in-Err-BadLine-clause-fails g c = (
       let a = subst (λ (b : Bool). ComesToNext bytes front new to (Ok b)) c.if-not-branch.false (c.in_ok-next_line.ensures.comes bytes front at) in
       lacks_line c.args.self.now.header.format bytes front a.0 new to c.count-in-Err-BadLine.result a.2 (λ i may short is. c.in-Err-BadLine.ensures.none c.in-Err-BadLine.field-0-is i may (c.line-line.ensures ∙ a.1 ∙ is)) c.count-in-Err-BadLine.ensures.value,
 )
+
+pub returns-in_err-next_line-clause-cause : goal.returns-in_err-next_line-clause-cause
+returns-in_err-next_line-clause-cause g c = handed_on c.from_residual.result c.in_err-next_line.field-0.0 _ c.from_residual.ensures.1 (λ first led. c.in_err-next_line.ensures.reads first led)
+
+pub returns-in_ok-push-in-Ok-clause-led : goal.returns-in_ok-push-in-Ok-clause-led
+returns-in_ok-push-in-Ok-clause-led g c = λ first led. c.in_ok-next_line.ensures.reads first led
