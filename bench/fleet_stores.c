@@ -11,11 +11,12 @@
 #include <stdlib.h>
 #include <string.h>
 #include <sys/mman.h>
+#include <sys/resource.h>
 #include <sys/wait.h>
 #include <time.h>
 #include <unistd.h>
 
-enum { MOST = 64, BATCH = 256, NAMES = 4000, SINGLES = 2000, PINGS = 5000, WARM = 50 };
+enum { MOST = 64, BATCH = 256, NAMES = 4000, SINGLES = 2000, PINGS = 2000 };
 
 /* What the others say of themselves: how many items took effect in each. */
 struct board { _Atomic uint64_t position[MOST]; _Atomic int ready, ended; };
@@ -75,14 +76,36 @@ static void wait_for(struct board *board, int others, uint64_t position) {
             if (sched_yield() || now() > end) fail("a store doesn't follow");
 }
 
-static double ping(const char *host, int port) {
-    redisContext *redis = redisConnect(host, port);
+static int rising(const void *a, const void *b) {
+    double x = *(const double *)a, y = *(const double *)b;
+    return x < y ? -1 : x > y;
+}
+
+/* The middle one of as many times. */
+static double median(double *times, int count) {
+    qsort(times, (size_t)count, sizeof *times, rising);
+    return times[count / 2];
+}
+
+/* How long the server takes to answer a command. */
+static double asked(int port, const char *command) {
+    redisContext *redis = redisConnect("127.0.0.1", port);
     if (!redis || redis->err) fail("no server");
-    double begun = now();
-    for (int i = 0; i < PINGS; i++) freeReplyObject(redisCommand(redis, "PING"));
-    double took = (now() - begun) / PINGS;
+    static double took[PINGS];
+    for (int i = 0; i < PINGS; i++) {
+        double before = now();
+        freeReplyObject(redisCommand(redis, command));
+        took[i] = now() - before;
+    }
     redisFree(redis);
-    return took;
+    return median(took, PINGS);
+}
+
+/* Processor time of this process. */
+static double spent(void) {
+    struct rusage it;
+    getrusage(RUSAGE_SELF, &it);
+    return (double)(it.ru_utime.tv_sec + it.ru_stime.tv_sec) + (double)(it.ru_utime.tv_usec + it.ru_stime.tv_usec) / 1e6;
 }
 
 struct teller { struct ds_handle store; struct ds_fleet *fleet; unsigned seq; uint64_t items; char text[BATCH * 64]; };
@@ -112,19 +135,34 @@ static void by_batches(struct teller *it, struct board *board, int others, int b
            batches * BATCH / own, (now() - last) * 1000);
 }
 
-static void singly(struct teller *it, struct board *board, int others, double pinged) {
-    double answered = 0, seen = 0;
-    for (int i = 0; i < SINGLES + WARM; i++) {
-        double before = now();
+static void singly(struct teller *it, struct board *board, int others, int port) {
+    double ping = asked(port, "PING"), entry = asked(port, "XADD other * from 0123456789abcdef0123456789abcdef items host1.n1_u32_drv_1.100000_=_100000");
+    static double answered[SINGLES], seen[SINGLES];
+    double used = 0;
+    for (int i = 0; i < SINGLES; i++) {
+        double before = now(), own = spent();
         put(it, 1);
         told(it->fleet);
-        double mid = now();
+        answered[i] = now() - before, used += spent() - own;
         wait_for(board, others, it->items);
-        if (i < WARM) continue;
-        answered += mid - before, seen += now() - before;
+        seen[i] = now() - before;
     }
-    printf("single %.0f us until it is answered, %.0f us until the last of %d has it; a PING %.0f us: %.1f and %.1f PINGs\n", answered / SINGLES * 1e6,
-           seen / SINGLES * 1e6, others, pinged * 1e6, answered / SINGLES / pinged, seen / SINGLES / pinged);
+    double until_answered = median(answered, SINGLES), until_seen = median(seen, SINGLES);
+    printf("single %.0f us until it is answered, %.0f us until the last of %d has it, %.0f us of processor time\n", until_answered * 1e6,
+           until_seen * 1e6, others, used / SINGLES * 1e6);
+    printf("a PING %.0f us: %.1f and %.1f of them; the server's own XADD of such an entry %.0f us: %.1f and %.1f\n", ping * 1e6, until_answered / ping,
+           until_seen / ping, entry * 1e6, until_answered / entry, until_seen / entry);
+}
+
+/* Single changes one after the other, each told before the next, while the others follow as they can. */
+static void in_a_row(struct teller *it, struct board *board, int others) {
+    double begun = now();
+    for (int i = 0; i < SINGLES; i++) {
+        put(it, 1);
+        told(it->fleet);
+    }
+    wait_for(board, others, it->items);
+    printf("in a row %.0f entries/s of one change each, to %d\n", SINGLES / (now() - begun), others);
 }
 
 int main(int count, char **words) {
@@ -143,7 +181,8 @@ int main(int count, char **words) {
     it.fleet = joined(&it.store, words[1]);
     while (atomic_load(&board->ready) < others) usleep(1000);
     by_batches(&it, board, others, atoi(words[3]));
-    singly(&it, board, others, ping("127.0.0.1", port));
+    in_a_row(&it, board, others);
+    singly(&it, board, others, port);
     atomic_store(&board->ended, 1);
     while (wait(NULL) > 0) {}
     ds_fleet_close(it.fleet);

@@ -47,17 +47,21 @@ void clients_read(struct client *client) {
 
 /* ---- lines ---- */
 
-/* The next whole line, without its newline; false: there is none. At the end the last newline may be missing. */
-static bool next_line(struct client *client, size_t *length, size_t *used) {
-    const char *newline = client->in.length ? memchr(client->in.bytes, '\n', client->in.length) : NULL;
-    if (!newline && client->in.length > CLIENT_LINE) {
-        client->too_long = true;
-        text_drop(&client->in, client->in.length - 1); /* so that what follows is still no empty line */
-    }
-    if (!newline && !(client->ended && client->in.length)) return false;
-    *length = newline ? (size_t)(newline - client->in.bytes) : client->in.length;
-    *used = newline ? *length + 1 : *length;
-    return true;
+/* How many bytes the next line from a byte on has, and without its newline; 0: there is no whole one. At the end the last newline may be
+ * missing. */
+static size_t next_line(const struct client *client, size_t from, size_t *length) {
+    size_t left = client->in.length - from;
+    const char *line = client->in.bytes + from, *newline = left ? memchr(line, '\n', left) : NULL;
+    *length = newline ? (size_t)(newline - line) : left;
+    return newline ? *length + 1 : client->ended ? left : 0;
+}
+
+/* Drops the lines that are done. Of one that is too long already no more is kept than tells that it was. */
+static void drop_lines(struct client *client, size_t done) {
+    text_drop(&client->in, done);
+    if (client->in.length <= CLIENT_LINE || memchr(client->in.bytes, '\n', client->in.length)) return;
+    client->too_long = true;
+    text_drop(&client->in, client->in.length - 1);
 }
 
 /* The subscription that `listen SUB` names, or -1. */
@@ -108,13 +112,14 @@ static bool answered(struct clients *clients, struct client *client, const char 
 /* Answers the lines of a client that have come. Where one is answered that a change is held, all these answers wait for the stream. */
 static bool answer_lines(struct clients *clients, struct client *client) {
     struct text answers = {0};
-    size_t length, used;
+    size_t done = 0, length, used;
     bool fine = true, holds = false;
-    while (fine && answers.length < CLIENT_WAITS && next_line(client, &length, &used)) {
+    while (fine && answers.length < CLIENT_WAITS && (used = next_line(client, done, &length)) > 0) {
         client->lines++;
-        fine = answered(clients, client, client->in.bytes, length, &answers, &holds) && text_put(&answers, "\n", 1);
-        text_drop(&client->in, used);
+        fine = answered(clients, client, client->in.bytes + done, length, &answers, &holds) && text_put(&answers, "\n", 1);
+        done += used;
     }
+    drop_lines(client, done);
     client->mark = holds ? ds_fleet_mark(clients->fleet) : 0;
     fine = fine && text_put(holds ? &client->held : &client->out, answers.bytes, answers.length);
     text_free(&answers);

@@ -38,8 +38,9 @@ struct id { unsigned long long first, second; };
 /* Another bridge, by its digest of what it holds. */
 struct peer { char id[33]; unsigned long long digest, beat; unsigned still, differs; bool there; };
 
-/* What the server has: the entry of the snapshot and its bytes, the first entry of the stream, the last there ever was; or 0-0. */
-struct stock { struct id snapshot, first, newest; long long length; };
+/* What the server has: the entry and the bytes of the snapshot, the last entry of the stream that there ever was; how many were added, and
+ * how many went otherwise than into the snapshot. */
+struct stock { struct id snapshot, newest; long long bytes, added, gone; };
 
 struct ds_fleet {
     struct items items;
@@ -54,7 +55,8 @@ struct ds_fleet {
     bool gap, all;               /* a snapshot is to be read; all that is held is to be told */
     char me[33], server[DS_FLEET_ID], passed[DS_FLEET_ID]; /* passed: the `at` of a snapshot that isn't to be fetched again */
     struct id last, asked;       /* the last entry read; when it was last asked for a comparing */
-    struct stock stock;          /* at the comparing before */
+    struct stock stock;          /* at the comparing before, */
+    bool looked;                 /* if there was one of this server */
     struct id compacted;         /* the entry of the snapshot that is being written */
     size_t sent;                 /* bytes of the untold that were asked to be added */
     uint64_t told;               /* bytes that were answered for */
@@ -94,6 +96,11 @@ static bool is_text(const redisReply *answer) { return answer && answer->type ==
 static struct id id_of(const redisReply *answer) {
     struct id id;
     return is_text(answer) && read_id(answer->str, &id) ? id : (struct id){0, 0};
+}
+
+/* The number that an answer is, or 0. */
+static long long number_of(const redisReply *answer) {
+    return answer && answer->type == REDIS_REPLY_INTEGER ? answer->integer : is_text(answer) ? atoll(answer->str) : 0;
 }
 
 /* The value behind a name in a list of names and values, or NULL. */
@@ -146,7 +153,8 @@ static enum ds_fleet_word call(struct ds_fleet *fleet) {
 
 /* Nothing is known of what the server has. */
 static void begin_anew(struct ds_fleet *fleet) {
-    fleet->last = (struct id){0, 0}, fleet->stock = (struct stock){.length = 0};
+    fleet->last = (struct id){0, 0}, fleet->stock = (struct stock){.bytes = 0};
+    fleet->looked = false;
     *fleet->passed = '\0', fleet->at_end = false;
 }
 
@@ -207,7 +215,7 @@ static enum ds_fleet_word on_telling(struct ds_fleet *fleet) {
     text_drop(&fleet->items.untold, fleet->sent);
     fleet->told += fleet->sent, fleet->sent = 0;
     fleet->state.entries_told += parts;
-    fleet->length = length->type == REDIS_REPLY_INTEGER ? (long)length->integer : 0;
+    fleet->length = (long)number_of(length);
     return DS_FLEET_INSTEP;
 }
 
@@ -288,6 +296,9 @@ static void ask_watching(struct ds_fleet *fleet) {
     link_ask(&fleet->teller, "XINFO STREAM %s:items", fleet->stream);
 }
 
+/* Trims the stream, and counts what went into the snapshot. */
+static const char trim[] = "return redis.call('HINCRBY', KEYS[2], 'trimmed', redis.call('XTRIM', KEYS[1], 'MINID', ARGV[1]))";
+
 /* The snapshot becomes all that the stream said up to the last entry read, and the stream is trimmed behind that: both or neither. */
 static void ask_compacting(struct ds_fleet *fleet, const struct text *held) {
     struct id last = fleet->last;
@@ -297,7 +308,7 @@ static void ask_compacting(struct ds_fleet *fleet, const struct text *held) {
     fleet->compacted = last;
     link_ask(&fleet->teller, "MULTI");
     link_ask(&fleet->teller, "HSET %s:snapshot at %s items %b", fleet->stream, at, held->bytes, held->length);
-    link_ask(&fleet->teller, "XTRIM %s:items MINID %s", fleet->stream, behind);
+    link_ask(&fleet->teller, "EVAL %s 2 %s:items %s:snapshot %s", trim, fleet->stream, fleet->stream, behind);
     link_ask(&fleet->teller, "EXEC");
 }
 
@@ -345,7 +356,7 @@ static enum ds_fleet_word ask_comparing(struct ds_fleet *fleet) {
     link_ask(&fleet->teller, "HGETALL %s:digests", fleet->stream);
     link_ask(&fleet->teller, "MULTI");
     link_ask(&fleet->teller, "XINFO STREAM %s:items", fleet->stream);
-    link_ask(&fleet->teller, "HGET %s:snapshot at", fleet->stream);
+    link_ask(&fleet->teller, "HMGET %s:snapshot at trimmed", fleet->stream);
     link_ask(&fleet->teller, "HSTRLEN %s:snapshot items", fleet->stream);
     link_ask(&fleet->teller, "EXEC");
     for (size_t i = 0; i < fleet->peer_count; i++)
@@ -366,7 +377,7 @@ static struct peer *peer_of(struct ds_fleet *fleet, const char *id) {
     return peer;
 }
 
-/* Whether another one lives; one that is there no more is forgotten. */
+/* Forgets those whose digests are there no more. */
 static void bury(struct ds_fleet *fleet) {
     size_t kept = 0;
     for (size_t i = 0; i < fleet->peer_count; i++)
@@ -412,39 +423,37 @@ static void judge(struct ds_fleet *fleet, const redisReply *digests) {
     }
 }
 
-/* Whether the server has no more what it had: the snapshot is older than it was, or less, or the stream was trimmed and not into it. */
+/* Whether the server has no more what it had: the snapshot is older than it was, or less, or entries went and not into it. */
 static bool has_lost(const struct stock *before, const struct stock *now) {
-    bool had = before->first.first, has = now->first.first;
-    if (is_above(now->snapshot, before->snapshot)) return false; /* it was compacted */
-    if (is_above(before->snapshot, now->snapshot) || now->length < before->length) return true;
-    if (had) return !has || is_above(now->first, before->first);
-    return !has && is_above(now->newest, now->snapshot) && is_above(now->newest, before->newest); /* added and trimmed since */
+    if (is_above(before->snapshot, now->snapshot) || now->gone > before->gone) return true;
+    return now->bytes < before->bytes && !is_above(now->snapshot, before->snapshot);
 }
 
 /* What stands in the answers to a comparing's last questions. */
-static struct stock stock_of(const redisReply *stream, const redisReply *at, const redisReply *length) {
-    const redisReply *entry = field(stream, "first-entry");
-    struct stock stock = {.snapshot = id_of(at), .newest = id_of(field(stream, "last-generated-id"))};
-    stock.first = id_of(entry && entry->type == REDIS_REPLY_ARRAY && entry->elements ? entry->element[0] : NULL);
-    stock.length = length->type == REDIS_REPLY_INTEGER ? length->integer : 0;
-    if (is_above(stock.snapshot, stock.newest)) stock.snapshot = (struct id){0, 0}, stock.length = 0; /* of no entry there ever was */
+static struct stock stock_of(const redisReply *stream, const redisReply *at, const redisReply *trimmed, const redisReply *bytes) {
+    struct stock stock = {.snapshot = id_of(at), .newest = id_of(field(stream, "last-generated-id")), .bytes = number_of(bytes)};
+    stock.added = number_of(field(stream, "entries-added"));
+    stock.gone = stock.added - number_of(field(stream, "length")) - number_of(trimmed);
+    if (is_above(stock.snapshot, stock.newest)) stock.snapshot = (struct id){0, 0}, stock.bytes = 0; /* of no entry there ever was */
     return stock;
 }
 
-/* What the server lost is told again. A stream that ends in front of what was read is another one, to be read whole. */
+/* What the server lost is told again. A stream that ends in front of what was read, or has had fewer entries than it had, is another one, to be
+ * read whole. */
 static void look_for_loss(struct ds_fleet *fleet, const struct stock *stock) {
-    bool other = is_above(fleet->asked, stock->newest);
+    bool other = is_above(fleet->asked, stock->newest) || stock->added < fleet->stock.added;
     fleet->state.behind = stock->newest.first > fleet->last.first ? stock->newest.first - fleet->last.first : 0;
-    if (other || has_lost(&fleet->stock, stock)) {
+    if (other || (fleet->looked && has_lost(&fleet->stock, stock))) {
         items_say(&fleet->items, "lost: the server has no more what it had, all is told again");
         fleet->all = true;
     }
-    fleet->stock = *stock;
-    if (!other) return;
-    begin_anew(fleet);
-    link_close(&fleet->listener); /* it waits for what comes behind an entry that isn't there */
-    fleet->rings[1] = 0;
-    link_open(&fleet->listener, &fleet->address, now());
+    if (other) {
+        begin_anew(fleet);
+        link_close(&fleet->listener); /* it waits for what comes behind an entry that isn't there */
+        fleet->rings[1] = 0;
+        link_open(&fleet->listener, &fleet->address, now());
+    }
+    fleet->stock = *stock, fleet->looked = true;
 }
 
 static enum ds_fleet_word on_comparing(struct ds_fleet *fleet) {
@@ -452,12 +461,13 @@ static enum ds_fleet_word on_comparing(struct ds_fleet *fleet) {
     for (unsigned i = 0; i < fleet->teller.came; i++)
         if (is_error(answers[i])) return denied(fleet, answers[i]->str);
     if (last->type != REDIS_REPLY_ARRAY || last->elements != 3) return denied(fleet, "no transaction");
-    struct redisReply *stream = last->element[0], *at = last->element[1], *length = field(stream, "length");
+    struct redisReply *stream = last->element[0], *snapshot = last->element[1];
     if (is_error(stream) && !is_no_stream(stream)) return denied(fleet, stream->str);
-    if (is_error(at)) return denied(fleet, at->str);
+    if (is_error(snapshot)) return denied(fleet, snapshot->str);
+    if (snapshot->type != REDIS_REPLY_ARRAY || snapshot->elements != 2) return denied(fleet, "no snapshot");
     if (answers[1]->type == REDIS_REPLY_ARRAY) judge(fleet, answers[1]);
-    fleet->length = length && length->type == REDIS_REPLY_INTEGER ? (long)length->integer : 0;
-    struct stock stock = stock_of(stream, at, last->element[2]);
+    fleet->length = (long)number_of(field(stream, "length"));
+    struct stock stock = stock_of(stream, snapshot->element[0], snapshot->element[1], last->element[2]);
     look_for_loss(fleet, &stock);
     return DS_FLEET_INSTEP;
 }
@@ -488,24 +498,25 @@ static enum ds_fleet_word answered(struct ds_fleet *fleet) {
 
 /* What the teller asks next, if anything is to be asked. */
 static enum ds_fleet_word ask_next(struct ds_fleet *fleet) {
-    if (now() < fleet->ask_at) return DS_FLEET_DENIED;
+    uint64_t time = now();
+    enum ds_fleet_word word = DS_FLEET_INSTEP;
+    if (time < fleet->ask_at) return DS_FLEET_DENIED;
     if (!fleet->met) return ask_meeting(fleet), DS_FLEET_LATE;
     if (fleet->gap) return ask_fetching(fleet), DS_FLEET_LATE;
-    if (!fleet->at_end) return DS_FLEET_INSTEP;
-    enum ds_fleet_word word = DS_FLEET_INSTEP;
-    if (now() >= fleet->compare_at) {
-        fleet->compare_at = now() + PERIOD;
+    if (fleet->at_end && time >= fleet->compare_at) {
+        fleet->compare_at = time + PERIOD;
         word = ask_comparing(fleet);
         return word == DS_FLEET_INSTEP ? DS_FLEET_LATE : word;
     }
-    if (fleet->length > fleet->keep && !fleet->items.lost && now() >= fleet->compact_at) {
-        fleet->compact_at = now() + PERIOD / 4;
+    if (fleet->at_end && fleet->length > fleet->keep && !fleet->items.lost && time >= fleet->compact_at) {
+        fleet->compact_at = time + PERIOD / 4;
         return ask_watching(fleet), DS_FLEET_LATE;
     }
-    if (fleet->all) word = items_gather_all(&fleet->items);
-    if (word != DS_FLEET_INSTEP) return word;
-    fleet->all = false;
-    if (!fleet->items.untold.length) return DS_FLEET_INSTEP;
+    if (fleet->at_end && fleet->all) {
+        word = items_gather_all(&fleet->items);
+        fleet->all = word != DS_FLEET_INSTEP;
+    }
+    if (word != DS_FLEET_INSTEP || !fleet->items.untold.length) return word;
     return ask_telling(fleet), DS_FLEET_LATE;
 }
 

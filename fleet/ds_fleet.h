@@ -7,7 +7,7 @@
  * A fleet owns two connections, one descriptor (the bell), and the text that no server has answered for yet; what it is given by
  * ds_fleet_open it copies, but for the handle, which stays the caller's and has to be open until ds_fleet_close. The handle is used
  * within these calls alone, so there is one thread at a time over it and its fleet. There is nothing global, but that the caller
- * has to ignore SIGPIPE. A server is redis 6.2 or newer. */
+ * has to ignore SIGPIPE. A server is redis 7 or newer. */
 #ifndef DS_FLEET_H
 #define DS_FLEET_H
 

@@ -4,6 +4,7 @@ Each server is a process of its own in a folder of its own, on a free port of th
 """
 import os
 import pathlib
+import re
 import shutil
 import signal
 import socket
@@ -14,6 +15,7 @@ import time
 ROOT = pathlib.Path(__file__).resolve().parent.parent.parent
 PATIENCE = 30  # seconds that anything may take
 TICK = 0.005
+FAULT = re.compile(r"^.*(ERROR: |runtime error|==\d+== ).*$", re.MULTILINE)  # of a sanitizer, or of valgrind
 MEMORY = "/dev/shm"  # where a server that syncs each change isn't held up by a disk
 
 
@@ -41,6 +43,16 @@ def build(library, program, *flags, folder=ROOT / "fleet"):
     return program
 
 
+def build_over(library, program, source, *flags):
+    """Builds a program over the library of a fleet alone."""
+    page = subprocess.run(["rt", "doc"], capture_output=True, text=True, check=True).stdout.split()[0]
+    heap = os.environ.get("DS_HEAP") or pathlib.Path(page).parent / "c" / "liblibc_c.a"
+    parts = [ROOT / "fleet" / f"{it}.c" for it in ("ds_fleet", "items", "link", "text")]
+    words = [os.environ.get("CC", "cc"), "-std=c11", "-D_GNU_SOURCE", "-Wall", "-Wextra", "-Wpedantic", "-Werror", "-O2", *flags]
+    subprocess.run([*words, "-I", ROOT / "c", "-I", ROOT / "fleet", "-o", program, source, *parts, library, heap, "-lhiredis"], check=True)
+    return program
+
+
 def free_port():
     with socket.socket() as it:
         it.bind(("127.0.0.1", 0))
@@ -64,6 +76,16 @@ class Fleet:
             bridge.kill()
         self.kill_server()
         shutil.rmtree(self.home)
+
+    def end(self):
+        """Ends all bridges by a signal; none may complain, a sanitizer or valgrind within it neither."""
+        for bridge in self.bridges:
+            status = bridge.end() if bridge.process else 0
+            fault = FAULT.search(bridge.said())
+            if fault:
+                raise AssertionError(bridge.said()[fault.start() : fault.end() + 1500])
+            if status:
+                raise AssertionError(f"a bridge ended with status {status}: {bridge.said()[-500:]}")
 
     # ---- the server ----
 

@@ -169,7 +169,9 @@ class Storm:
             while time.monotonic() < end or sum(count for it, count in self.done.items() if it.endswith("killed")) < KILLS:
                 time.sleep(self.draw.uniform(0.3 * PACE, 1.7 * PACE))
                 self.strike(fleet)
-            return self.judged(fleet)
+            done = self.judged(fleet)
+            fleet.end()
+            return done
 
     def did(self, what):
         self.done[what] = self.done.get(what, 0) + 1

@@ -1,0 +1,139 @@
+/* calls URL NOBODY: the calls of ds_fleet.h, in good order and misused; each line of what it prints is one that calls.out has. NOBODY is
+ * an address at which nobody listens. */
+#include "ds_fleet.h"
+#include <netinet/in.h>
+#include <poll.h>
+#include <signal.h>
+#include <stdio.h>
+#include <stdlib.h>
+#include <string.h>
+#include <sys/socket.h>
+#include <time.h>
+#include <unistd.h>
+
+enum { SUB = 40 };
+
+static long milliseconds(void) {
+    struct timespec it;
+    clock_gettime(CLOCK_MONOTONIC, &it);
+    return it.tv_sec * 1000 + it.tv_nsec / 1000000;
+}
+
+static void opens(const char *what, struct ds_handle *store, struct ds_fleet_options options) {
+    struct ds_fleet *fleet;
+    printf("open, %s: %s\n", what, ds_fleet_word(ds_fleet_open(&fleet, store, &options)));
+    if (fleet) puts("and there is one");
+    ds_fleet_close(fleet);
+}
+
+/* The word of a step, and whether it took about as long as it was to. */
+static void steps(const char *what, struct ds_fleet *fleet, unsigned patience) {
+    long begun = milliseconds();
+    const char *word = ds_fleet_word(ds_fleet_step(fleet, patience));
+    long took = milliseconds() - begun;
+    printf("step, %s: %s%s%s\n", what, word, took + 5 < (long)patience ? ", sooner" : "", took > (long)patience + 400 ? ", later" : "");
+}
+
+static struct ds_fleet *joined(struct ds_handle *store, const char *url) {
+    struct ds_fleet_options options = {.url = url};
+    struct ds_fleet *fleet;
+    if (ds_fleet_open(&fleet, store, &options) != DS_FLEET_INSTEP) exit(1);
+    return fleet;
+}
+
+static void offer(struct ds_handle *store, const char *line) {
+    struct ds_request request = {.command = DS_MERGE, .text_length = strlen(line)};
+    struct ds_answer answer;
+    ds_call(store, &request, line, strlen(line), &answer);
+}
+
+static uint64_t held(struct ds_handle *store) {
+    struct ds_request request = {.command = DS_SNAPSHOT};
+    struct ds_answer answer;
+    ds_call(store, &request, NULL, 0, &answer);
+    return answer.pieces;
+}
+
+static void misuse(struct ds_handle *store, const char *url) {
+    struct ds_handle closed = DS_CLOSED;
+    opens("a closed handle", &closed, (struct ds_fleet_options){.url = url});
+    opens("no address", store, (struct ds_fleet_options){.url = NULL});
+    opens("a bad address", store, (struct ds_fleet_options){.url = "redis:/h"});
+    opens("an address of TLS", store, (struct ds_fleet_options){.url = "rediss://h"});
+    opens("a bad name", store, (struct ds_fleet_options){.url = url, .stream = "a b"});
+    opens("a bad pattern", store, (struct ds_fleet_options){.url = url, .pattern = "a(", .kinds = 15});
+    opens("no pattern", store, (struct ds_fleet_options){.url = url, .kinds = 15});
+    opens("kinds that are none", store, (struct ds_fleet_options){.url = url, .pattern = "a", .kinds = 16});
+    ds_fleet_close(NULL);
+}
+
+/* A server that isn't there, and one that answers nothing: a step takes no longer than it is to. */
+static void waits(struct ds_handle *store, const char *nobody) {
+    struct sockaddr_in address = {.sin_family = AF_INET, .sin_addr = {htonl(INADDR_LOOPBACK)}};
+    socklen_t length = sizeof address;
+    char url[64];
+    struct ds_fleet *fleet = joined(store, nobody);
+    steps("nobody there, no patience", fleet, 0);
+    steps("nobody there", fleet, 200);
+    ds_fleet_close(fleet);
+    int mute = socket(AF_INET, SOCK_STREAM, 0);
+    if (bind(mute, (struct sockaddr *)&address, sizeof address) || listen(mute, 4) || getsockname(mute, (struct sockaddr *)&address, &length)) exit(1);
+    snprintf(url, sizeof url, "redis://127.0.0.1:%d", ntohs(address.sin_port));
+    fleet = joined(store, url);
+    steps("no answer, no patience", fleet, 0);
+    steps("no answer", fleet, 200);
+    ds_fleet_close(fleet);
+    close(mute);
+}
+
+/* Steps when the bell rings, until the other's items are there. */
+static void rung(struct ds_fleet *fleet, struct ds_handle *store, uint64_t wanted) {
+    struct pollfd bell = {.fd = ds_fleet_bell(fleet), .events = POLLIN};
+    for (int times = 0; times < 100 && held(store) < wanted; times++)
+        if (poll(&bell, 1, 1000) > 0) ds_fleet_step(fleet, 0);
+    printf("by the bell: %llu held\n", (unsigned long long)held(store));
+}
+
+static void shares(struct ds_handle *one, struct ds_handle *two, const char *url) {
+    struct ds_request follow = {.command = DS_SUBSCRIBE, .sub = SUB, .kinds = DS_U32, .text_length = 2};
+    struct ds_answer answer;
+    struct ds_fleet_state state;
+    uint8_t owed[16] = {0};
+    offer(one, "before u32 d 1.1 = 1\n");
+    struct ds_fleet *here = joined(one, url), *there = joined(two, url);
+    ds_fleet_state(here, &state);
+    printf("before: %s, caught up %d, untold %llu\n", ds_fleet_word(state.word), state.caught_up, (unsigned long long)state.untold);
+    printf("step: %s\n", ds_fleet_word(ds_fleet_step(here, 5000)));
+    printf("step: %s\n", ds_fleet_word(ds_fleet_step(there, 5000)));
+    printf("caught up: %llu held\n", (unsigned long long)held(two));
+    ds_call(two, &follow, "a.", 2, &answer);
+    offer(one, "ab u32 d 1.2 = 1\n");
+    uint64_t mark = ds_fleet_mark(here);
+    printf("told: %d\n", ds_fleet_is_told(here, mark));
+    printf("step: %s\n", ds_fleet_word(ds_fleet_step(here, 5000)));
+    printf("told: %d\n", ds_fleet_is_told(here, mark));
+    rung(there, two, 2);
+    ds_fleet_owed(there, owed);
+    printf("owed: %d\n", owed[SUB / 8] >> SUB % 8 & 1);
+    memset(owed, 0, sizeof owed);
+    ds_fleet_owed(there, owed);
+    printf("owed again: %d\n", owed[SUB / 8] >> SUB % 8 & 1);
+    ds_fleet_state(there, &state);
+    printf("after: caught up %d, position %llu, untold %llu, told %llu\n", state.caught_up, (unsigned long long)state.position,
+           (unsigned long long)state.untold, (unsigned long long)state.entries_told);
+    ds_close(two);
+    printf("step of a closed store: %s\n", ds_fleet_word(ds_fleet_step(there, 100)));
+    ds_fleet_close(there);
+    ds_fleet_close(here);
+    printf("the store is open still: %llu held\n", (unsigned long long)held(one));
+}
+
+int main(int count, char **words) {
+    struct ds_handle one = DS_CLOSED, two = DS_CLOSED;
+    if (count != 3 || ds_open(&one, 1, 0, 256) || ds_open(&two, 1, 0, 256)) return 1;
+    signal(SIGPIPE, SIG_IGN);
+    misuse(&one, words[1]);
+    waits(&one, words[2]);
+    shares(&one, &two, words[1]);
+    return ds_close(&one) != 0;
+}
