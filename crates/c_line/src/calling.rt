@@ -11,7 +11,7 @@ use ds_names::NoRoom;
 use ds_words::{CommandFault, ScriptCommand, read_command};
 use std::alloc::Global;
 
-/// CarriesOut out the command that stands on a line, whose newline may be missing.
+/// Carries out the command that stands on a line, whose newline may be missing.
 ///
 /// A command that asks the store is answered by one step of its machine, and the answer is that of the reply; `show` and `all` are
 /// answered by how many items are shown. A line that is no command's is answered by the place from which it can't be read, one whose
@@ -25,7 +25,7 @@ pub fn call_line(alloc: Global, session: &mut Session, bytes: &[u8]) -> Answer
     }
 }
 
-// CarriesOut out the command of a line.
+// Carries out the command of a line.
 fn ask(alloc: Global, session: &mut Session, line: &[u8]) -> Answer
     requires { IsUnbroken line.now }
     ensures { AsksLine session.old line.now result session.new }

@@ -9,7 +9,7 @@ use c_line::{call_line, give_text};
 use c_words::{Answer, Given};
 use std::alloc::Global;
 
-/// CarriesOut out the command that stands on a line of a script. The text of the answer is kept for `ds_text` and `ds_items`.
+/// Carries out the command that stands on a line of a script. The text of the answer is kept for `ds_text` and `ds_items`.
 #[unsafe(no_mangle)]
 pub extern "C" fn ds_call_line(
     alloc: Global,
