@@ -17,9 +17,20 @@ def trace_of(seed):
     given = [b"trace 1 " + numbers if seed % 2 else b"trace 2 %s %s" % (numbers, limits)]
     trace = traces.Trace(given[0])
     trace.header()
+    if trace.is_older and chance.random() < 0.02:
+        given += crowd_by_chance(chance, trace)
     for _ in range(chance.randrange(1, 14)):
         given += entry_by_chance(chance, trace)
     return given
+
+
+def crowd_by_chance(chance, trace):
+    """Entries of format 1 that leave an owner with some hundred keys, and then sweep it: more than one Merge can take."""
+    items = [b"k%d u32 eth0 3.0 = %d" % (number, number) for number in range(chance.choice([255, 256, 257, 300, 520]))]
+    given = asked_lines(b"> 0 ", b'subscribe 5 "k1.*" 15 later over', trace)
+    for at in range(0, len(items), traces.MOST_ITEMS):
+        given += merge_lines(b"> 0 ", items[at : at + traces.MOST_ITEMS], None, trace)
+    return given + asked_lines(b"> 63 ", b"sweep 0/2 eth0 3", trace)
 
 
 def entry_by_chance(chance, trace):
@@ -27,19 +38,38 @@ def entry_by_chance(chance, trace):
     mark = b"> %d " % chance.randrange(64)
     if chance.random() < 0.2:
         items = [item_by_chance(chance, trace) for _ in range(chance.randrange(5))]
-        asked = [mark + b"merge %d" % len(items), *(b"+ " + it for it in items)]
-        read = [lines.item(it) for it in items]
         done = chance.randrange(len(items)) if items and chance.random() < 0.2 else None
         if chance.random() < 0.05:
-            return asked + [b"< refused noroom"]
-        told = trace.store.merge(read[:done])
-        if done is not None and told[0].startswith(b"merged"):  # else what stopped it before stops the whole Merge there, too
-            told[0] = b"stopped %d noroom" % done
-        return asked + [b"< " + it for it in told]
-    command = line_by_chance(chance, trace)
+            return merge_asked(mark, items) + [b"< refused noroom"]
+        return merge_lines(mark, items, done, trace)
+    command = sweep_by_chance(chance, trace) if trace.is_older and chance.random() < 0.1 else line_by_chance(chance, trace)
     if chance.random() < 0.05:
         return [mark + command, b"< refused noroom"]
+    return asked_lines(mark, command, trace)
+
+
+def asked_lines(mark, command, trace):
+    """The lines of an entry with this command, whose reply is the store's."""
     return [mark + command, *(b"< " + it for it in trace.store.answer(*lines.read(command)))]
+
+
+def merge_asked(mark, items):
+    """The lines that ask for a Merge."""
+    return [mark + b"merge %d" % len(items), *(b"+ " + it for it in items)]
+
+
+def merge_lines(mark, items, done, trace):
+    """The lines of an entry that merges these items, and where `done` isn't None is stopped behind so many of them."""
+    told = trace.store.merge([lines.item(it) for it in items][:done])
+    if done is not None and told[0].startswith(b"merged"):  # else what stopped it before stops the whole Merge there, too
+        told[0] = b"stopped %d noroom" % done
+    return merge_asked(mark, items) + [b"< " + it for it in told]
+
+
+def sweep_by_chance(chance, trace):
+    """A sweep that RS asks for, of an owner that has something."""
+    owners = sorted({owner for owner, _, _ in trace.store.held.values()}) or [b"eth0"]
+    return b"sweep 0/2 %s %d" % (chance.choice(owners), chance.choice([1, 2, 3, 8, 2097151]))
 
 
 def line_by_chance(chance, trace):

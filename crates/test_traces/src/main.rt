@@ -1,55 +1,96 @@
-//! `test_traces`: recorded traces judged, with ample memory, for tests.
+//! `test_traces`: recorded traces judged and upgraded, with ample memory, for tests.
 //!
-//! A contract can't say that memory is there, so a body that always gives up would be proved; here traces are judged where there
-//! is enough of it. It reads traces, between which lines `---` stand, and prints the verdict on each; and then the verdict on the
-//! first of them, once each of its first reads has failed. Status 0: all were judged. 1: reading or writing failed, or memory.
+//! A contract can't say that memory is there, so a body that always gives up would be proved; here traces are judged, and written in
+//! format 2, where there is enough of it. It reads traces, in front of which lines `---` or `===` stand, the first one aside, which
+//! may have none. Of a trace behind `---` it prints the verdict, of one behind `===` what it is in format 2, and why it isn't whole.
+//! Then comes the first of them again, once each of its first reads has failed, and each of its first writes. Status 0: all were
+//! gone through. 1: reading or writing failed, or memory.
 #![tactic(auto)]
 
+mod judging;
+mod upgrading;
+
+use crate::judging::{print_failing_reads, print_verdict};
+use crate::upgrading::{print_failing_calls, print_upgraded};
 use ds_lines::{FailRead, split_line};
 use std::io::Read;
 use std::process::ExitCode;
 use std::rt::Runtime;
-use trace_check::{Verdict, verify};
+use trace_check::verify;
 
 /// The most bytes that a reader gives at once.
 const MOST: usize = 4096;
 
-/// Between two traces.
-const MARK: &[u8] = b"---\n";
+/// In front of a trace that is judged.
+const JUDGED: &[u8] = b"---\n";
+
+/// In front of one that is upgraded.
+const UPGRADED: &[u8] = b"===\n";
+
+/// What is done with a trace.
+#[derive(Clone, Copy)]
+enum Way {
+    Judge,
+    Upgrade,
+}
 
 fn main(rt: HostRuntime) -> ExitCode {
-    match judge_input(&rt) {
+    match go_through(&rt) {
         Some(()) => ExitCode::SUCCESS,
         None => ExitCode::FAILURE,
     }
 }
 
-fn judge_input(rt: &(impl Runtime + AllocGlobal)) -> Option<()> {
+fn go_through(rt: &(impl Runtime + AllocGlobal)) -> Option<()> {
     let mut text = Vec::new(rt.alloc());
     rt.reader().read_to_end(&mut text).ok()?;
-    let mut rest = text.as_slice();
+    let (first_way, traces) = first_mark(text.as_slice());
+    let mut way = first_way;
+    let mut rest = traces;
     for _trace in 0..u32::MAX {
-        let (trace, more) = first_trace(rest);
-        print_verdict(rt, &verify(rt.alloc(), &mut FailRead::new(trace, 0, MOST)))?;
-        let Some(more) = more else {
+        let (trace, next) = first_trace(rest);
+        print_trace(rt, way, trace)?;
+        let Some((next_way, more)) = next else {
             break;
         };
+        way = next_way;
         rest = more;
     }
-    print_failing(rt, first_trace(text.as_slice()).0)
+    let (first, _) = first_trace(traces);
+    match first_way {
+        Way::Judge => print_failing_reads(rt, first),
+        Way::Upgrade => print_failing_calls(rt, first),
+    }
+}
+
+fn print_trace(rt: &(impl Runtime + AllocGlobal), way: Way, trace: &[u8]) -> Option<()> {
+    match way {
+        Way::Judge => print_verdict(rt, &verify(rt.alloc(), &mut FailRead::new(trace, 0, MOST))),
+        Way::Upgrade => print_upgraded(rt, &mut FailRead::new(trace, 0, MOST), 0),
+    }
+}
+
+// What is done with the first trace of a text, and what stands behind its mark, if it has one.
+fn first_mark(text: &[u8]) -> (Way, &[u8]) {
+    if let Some((line, more)) = split_line(text) {
+        if line == UPGRADED {
+            return (Way::Upgrade, more);
+        }
+    }
+    (Way::Judge, text)
 }
 
 // The first trace of a text, and what stands behind the mark that ends it.
-fn first_trace(text: &[u8]) -> (&[u8], Option<&[u8]>) {
+fn first_trace(text: &[u8]) -> (&[u8], Option<(Way, &[u8])>) {
     let mut rest = text;
     let mut length: usize = 0;
     for _line in 0..u32::MAX {
         let Some((line, more)) = split_line(rest) else {
             break;
         };
-        if line == MARK {
+        if let Some(way) = way_of(line) {
             return match text.split_at_checked(length) {
-                Some((trace, _)) => (trace, Some(more)),
+                Some((trace, _)) => (trace, Some((way, more))),
                 None => (text, None),
             };
         }
@@ -59,23 +100,13 @@ fn first_trace(text: &[u8]) -> (&[u8], Option<&[u8]>) {
     (text, None)
 }
 
-// The verdict on a trace whose first read fails, and so on.
-fn print_failing(rt: &(impl Runtime + AllocGlobal), trace: &[u8]) -> Option<()> {
-    for fail_at in 1..4 {
-        print_verdict(
-            rt,
-            &verify(rt.alloc(), &mut FailRead::new(trace, fail_at, 32)),
-        )?;
-    }
-    Some(())
-}
-
-fn print_verdict(rt: &impl Runtime, verdict: &Verdict) -> Option<()> {
-    match verdict {
-        Verdict::Legal { length } => println!(rt; "legal {length}").ok(),
-        Verdict::IllegalAt(line) => println!(rt; "illegal {line}").ok(),
-        Verdict::BadLineAt(line) => println!(rt; "badline {line}").ok(),
-        Verdict::ReadFault => println!(rt; "readfault").ok(),
-        Verdict::NoRoom => println!(rt; "noroom").ok(),
+// What the mark says, if the line is one.
+fn way_of(line: &[u8]) -> Option<Way> {
+    if line == JUDGED {
+        Some(Way::Judge)
+    } else if line == UPGRADED {
+        Some(Way::Upgrade)
+    } else {
+        None
     }
 }

@@ -2,6 +2,7 @@
 use Rattle.std.proofs.Common.{◌≡◌, ℕ, suc, ◌<◌, ◌≤◌, List, [], ◌∷◌, ◌++◌, length, get_or, Option, Some, None, IfSome, refl, sym, ap, subst, ◌∙◌, arith, length-append}
 use Rattle.std.specs.Fmt.{decimal}
 use Rattle.std.proofs.lemmas.Fmt.{length-decimal-le}
+use Rattle.ds_content.specs.Content.{ContentRecord}
 use Rattle.ds_held.specs.Limits.{LimitsRecord, smaller}
 use Rattle.ds_lines.specs.Lines.{HasLines, IsUnbroken, with_newline, joined}
 use Rattle.ds_lines.specs.Reading.{LinesContent, no_lines}
@@ -11,6 +12,7 @@ use Rattle.trace_words.specs.declared.header.Format.{Format}
 use Rattle.trace_words.specs.declared.header.Format.TheVariants.{One, Two}
 use Rattle.trace_words.specs.declared.header.Header.{Header}
 use Rattle.trace_words.specs.declared.verdict.Verdict.TheVariants as verdicts
+use Rattle.trace_words.specs.Legal.{IsTrace}
 use Rattle.trace_words.specs.Text.{IsHeader, FormatHas, HasNoHeader, header_text, format_text, numbers_text, limits_text}
 use Rattle.trace_words.specs.Verdict.{IsLegal, MayBegin, WantsReply, IsVerdict}
 use Rattle.trace_words.proofs.HeaderLemmas.{few_limits}
@@ -18,7 +20,7 @@ use Rattle.trace_words.proofs.WalkLemmas.{header_behind, bad_header}
 use Rattle.trace_check.specs.declared.fault.WalkFault.{WalkFault}
 use Rattle.trace_check.specs.declared.fault.WalkFault.TheVariants as faults
 use Rattle.trace_check.specs.declared.place.Place.TheVariants.{Form}
-use Rattle.trace_check.specs.Walking.{IsAt, IsRead, IsLongFault, HasLine, IsFault, verdict_of}
+use Rattle.trace_check.specs.Walking.{Spot, Walks, IsAt, IsRead, IsLongFault, HasLine, IsFault, verdict_of}
 
 -- a fault of a walk is the verdict that is said for it
 pub said_for : (bytes : List ℕ) (fault : WalkFault) → IsFault bytes fault → IsVerdict bytes (verdict_of fault)
@@ -26,6 +28,11 @@ said_for bytes (faults.IllegalAt number) f = f
 said_for bytes (faults.BadLineAt number) f = f
 said_for bytes faults.ReadFault f = tt
 said_for bytes faults.NoRoom f = tt
+
+-- where nothing is left, what was gone through is legal
+pub legal_at_end : (b : Spot) (l : LinesContent) (store : ContentRecord) (h : Header) (from : Option (List ℕ)) → Walks b l store h from → (count : ℕ) → b.count ≡ count → (lines : List (List ℕ)) × HasLines b.bytes lines × (b.front ≡ joined lines) → IsVerdict b.bytes (verdicts.Legal count)
+legal_at_end b l store h from w count is ends =
+    (ends.0, ends.1, (h, w.behind.entries, b.state, subst (λ (t : List ℕ). IsTrace t h w.behind.entries b.state) ends.2 w.behind.trace, w.behind.counted ∙ is))
 
 -- ---- the empty front
 

@@ -1,14 +1,17 @@
 -- The tombstones of a sweep of format 1.
-use Rattle.std.proofs.Common.{◌≡◌, ℕ, ◌+◌, ◌<◌, ◌≤◌, ◌≢◌, ◌==◌, min, not, Bool, true, false, cond, List, [], ◌∷◌, ◌++◌, map, filter, take, length, Option, Some, None, refl, sym, ap, ◌∙◌, subst, arith, inl, inr, append-nil, append_assoc, nat_le}
+use Rattle.std.proofs.Common.{◌≡◌, ℕ, ◌+◌, ◌<◌, ◌≤◌, ◌≢◌, ◌==◌, min, not, Bool, true, false, cond, List, [], ◌∷◌, ◌++◌, map, filter, take, length, Option, Some, None, refl, sym, ap, ◌∙◌, subst, arith, inl, inr, append-nil, append_assoc, length-append, nat_le}
 use Rattle.std.specs.Int.Bits.{bit_or}
 use Rattle.std.specs.FinMap.{entries}
-use Rattle.std.specs.List.{slice_get}
+use Rattle.std.specs.List.{slice_get, flat_map}
 use Rattle.std.specs.Option.{option_and_then}
 use Rattle.std.proofs.lemmas.Bool.{eqb-true, false≢true}
-use Rattle.std.proofs.lemmas.List.{take_more}
+use Rattle.std.proofs.lemmas.Grind.{flat_map-append}
+use Rattle.std.proofs.lemmas.List.{map-append, take_more}
+use Rattle.std.proofs.lemmas.List.Elements.{All-nil, All-cons, All-append}
 use Rattle.std.proofs.lemmas.Option.{get_or_from_slice_get, slice_get_cases, slice_get_within}
 use Rattle.ds_entry.specs.Change.{ChangeRecord}
 use Rattle.ds_entry.specs.declared.item.Item.{Item}
+use Rattle.ds_held.specs.Limits.{LimitsRecord}
 use Rattle.ds_held.specs.Held.{Holding, change_item, floor_item, held_changes, held_items}
 use Rattle.ds_content.specs.Content.{ContentRecord}
 use Rattle.ds_content.specs.Stands.{ContentStands}
@@ -16,6 +19,7 @@ use Rattle.ds_names.specs.Endpoint.{EndpointRecord, endpoint_of, is_same_endpoin
 use Rattle.ds_names.specs.Limits.{last_place}
 use Rattle.ds_machine.specs.Parts.{changes_in}
 use Rattle.ds_machine.specs.State.{State, held, next_position, takes_effect, owed}
+use Rattle.ds_machine.specs.declared.refusal.Refusal.{Refusal}
 use Rattle.ds_machine.specs.declared.refusal.Refusal.TheVariants as refusals
 use Rattle.ds_machine.specs.declared.reply.Reply.{Reply}
 use Rattle.ds_machine.specs.declared.reply.Reply.TheVariants.{Swept, Refused}
@@ -24,7 +28,12 @@ use Rattle.ds_machine.proofs.OneStepLemmas.{none_some}
 use Rattle.ds_machine.specs.Batches.{AreFree}
 use Rattle.ds_machine.proofs.BatchLemmas.{free_in_parts, owed_in_parts}
 use Rattle.trace_words.specs.Sweep.{is_swept, tombstone, tombstones, older_sweep}
-use Rattle.trace_check.specs.Sweeping.{tombstone_over}
+use Rattle.trace_words.specs.Text.{TraceEntry, entry_text}
+use Rattle.trace_words.specs.Upgrade.{MergeInParts, IsPart, merge_entry}
+use Rattle.trace_check.specs.declared.merges.Merges.{Merges}
+use Rattle.trace_check.specs.Merging.{AreEntries, IsEmpty, taking_entry}
+use Rattle.trace_check.specs.declared.sweep.Sweep.{Sweep}
+use Rattle.trace_check.specs.Sweeping.{IsSweptInMerges, tombstone_over}
 
 -- the tombstones over these changes
 abbrev pub gone_of : List ℕ → ℕ → List ChangeRecord → List Item
@@ -91,13 +100,47 @@ module _ (owner : List ℕ) (generation : ℕ) (cs : List ChangeRecord) (i : ℕ
 
 -- the items so far with one more batch, and what is owed for them
 pub one_batch : (new : ContentRecord) (s : State) (whole part batch rest : List Item) (mask more : ℕ) → whole ≡ part ++ (batch ++ rest) → mask ≡ owed s part → more ≡ owed (takes_effect s part) batch → ContentStands new (takes_effect (takes_effect s part) batch)
-    → (next : List Item) × (whole ≡ next ++ rest) × ContentStands new (takes_effect s next) × (bit_or mask more ≡ owed s next)
+    → (whole ≡ (part ++ batch) ++ rest) × ContentStands new (takes_effect s (part ++ batch)) × (bit_or mask more ≡ owed s (part ++ batch))
 one_batch new s whole part batch rest mask more e m n stands = (
-  part ++ batch,
   e ∙ sym (append_assoc part batch rest),
   subst (λ (l : List Item). ContentStands new (with_accepted s l)) (append_assoc s.feed.accepted part batch) stands,
   ap (λ (x : ℕ). bit_or x more) m ∙ ap (λ (x : ℕ). bit_or (owed s part) x) n ∙ sym (owed_in_parts s part batch),
 )
+
+-- the Merges merge the items
+pub record AreMerged (s : State) (pass : ℕ) (limits : LimitsRecord) (gone : List Item) (merges : Merges) : Type 0 where
+  pub new : List TraceEntry
+  pub merge : MergeInParts s pass gone new
+  pub are : AreEntries limits merges new
+
+pub none_merged : (s : State) (pass : ℕ) (limits : LimitsRecord) (merges : Merges) → IsEmpty merges → AreMerged s pass limits [] merges
+none_merged s pass limits merges is = record { new = []; merge = ([], All-nil IsPart, refl, refl); are = record { text = is.text; counted = is.count } }
+
+pub one_merged : (s : State) (pass : ℕ) (limits : LimitsRecord) (part batch : List Item) (before after : Merges) (mask : ℕ) → IsPart batch → mask ≡ owed (takes_effect s part) batch → AreMerged s pass limits part before →
+    after.text.items ≡ before.text.items ++ entry_text limits (taking_entry pass batch mask) → after.count ≡ before.count + 1 → AreMerged s pass limits (part ++ batch) after
+one_merged s pass limits part batch before after mask is owes x text count =
+    let parts : List (List Item) = x.merge.0 in
+    let entry : TraceEntry = merge_entry s pass batch in
+    let last : List ℕ = entry_text limits entry in
+    let same : taking_entry pass batch mask ≡ entry = ap (λ (m : ℕ). taking_entry pass batch m) owes in
+    record {
+      new = x.new ++ entry ∷ [];
+      merge = (
+        parts ++ batch ∷ [],
+        All-append IsPart parts (batch ∷ []) x.merge.1 (All-cons IsPart batch [] is (All-nil IsPart)),
+        flat_map-append (λ (l : List Item). l) parts (batch ∷ []) ∙ ap (λ (l : List Item). l ++ (batch ++ [])) x.merge.2 ∙ ap (λ (l : List Item). part ++ l) (append-nil batch),
+        ap (λ (l : List TraceEntry). l ++ entry ∷ []) x.merge.3 ∙ sym (map-append (merge_entry s pass) parts (batch ∷ [])),
+      );
+      are = record {
+        text = text ∙ ap (λ (e : TraceEntry). before.text.items ++ entry_text limits e) same ∙ ap (λ (l : List ℕ). l ++ last) x.are.text
+            ∙ ap (λ (l : List ℕ). flat_map (entry_text limits) x.new ++ l) (sym (append-nil last)) ∙ sym (flat_map-append (entry_text limits) x.new (entry ∷ []));
+        counted = omega (arith, length-append x.new (entry ∷ []), x.are.counted, count);
+      };
+    }
+
+-- a sweep that is refused is no entry
+pub none_swept : (s : State) (pass : ℕ) (limits : LimitsRecord) (sweep : Sweep) (refusal : Refusal) (merges : Merges) → IsEmpty merges → IsSweptInMerges s pass limits sweep (Refused refusal) merges
+none_swept s pass limits sweep refusal merges is = ([], refl, record { text = is.text; counted = is.count })
 
 -- the batch is free
 pub batch_free : (s : State) (whole part batch rest : List Item) → whole ≡ part ++ (batch ++ rest) → AreFree s whole → AreFree (takes_effect s part) batch

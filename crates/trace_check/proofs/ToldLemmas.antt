@@ -33,14 +33,19 @@ use Rattle.trace_words.specs.Legal.{StepOf}
 use Rattle.trace_words.specs.Noroom.{noroom_line, stopped_line}
 use Rattle.trace_words.specs.Sweep.{older_sweep}
 use Rattle.trace_words.specs.OneReply.{HaveOneFirst, IsSpelt, IsTraced}
-use Rattle.trace_words.specs.Text.{MayAsk, command_asked, worded_as}
+use Rattle.trace_words.specs.Text.{TraceEntry, MayAsk, command_asked, worded_as}
+use Rattle.trace_words.specs.Upgrade.{BecomesAs}
 use Rattle.trace_words.specs.Walk.{MayReply}
 use Rattle.trace_words.proofs.OneReplyLemmas.{older_plain, steps_told, offer_wants, is_merge, asked_small, reply_spelt}
 use Rattle.trace_words.proofs.SplitLemmas.{lines_one, without, ends_after}
 use Rattle.trace_words.proofs.TellLemmas.{first_lines_tell, noroom_is}
+use Rattle.trace_check.specs.declared.merges.Merges.{Merges}
+use Rattle.trace_check.specs.declared.passed.Passed.TheVariants.{AsItStands, Swept}
 use Rattle.trace_check.specs.declared.sweep.Sweep.{Sweep}
+use Rattle.trace_check.specs.Merging.{IsEmpty}
+use Rattle.trace_check.specs.Passing.{BecomesBy, IsRefusedAs}
 use Rattle.trace_check.specs.Sweeping.{older_of}
-use Rattle.trace_check.specs.Walking.{IsForStore}
+use Rattle.trace_check.specs.Walking.{IsForStore, StaysUpgraded}
 
 -- ---- where memory was wanted, by the reply
 
@@ -227,6 +232,26 @@ plain_steps Two c command e asks s t reply x = x
 plain_steps One c (commands.Sweep caller owner generation) e asks s t reply x = absurd (sweep_line c caller owner generation e asks)
 plain_steps One c _ e asks s t reply x = x
 
+-- in format 2 it stays as it is
+plain_stays : (c : ScriptCommand) (s : State) (e : TraceEntry) → older_of One c ≡ None → BecomesAs s e (askeds.Line c) (e ∷ [])
+plain_stays (lines.Sweep caller owner generation) s e older = absurd (none_some _ (sym older))
+plain_stays c s e older = refl
+
+line_stays : (format : Format) (c : ScriptCommand) → older_of format c ≡ None → StaysUpgraded format (askeds.Line c)
+line_stays format c older one s e = plain_stays c s e (subst (λ (f : Format). older_of f c ≡ None) one older)
+
+-- what was refused for want of memory
+pub sweep_refused : (format : Format) (c : ScriptCommand) (swept : Sweep) (merges : Merges) → older_of format c ≡ Some swept → IsEmpty merges → IsRefusedAs format (askeds.Line c) (Swept merges)
+sweep_refused format c swept merges older none one s limits pass =
+    subst (λ (k : ScriptCommand). BecomesBy s limits (record { pass = pass; asked = askeds.Line k; reply = Refused refusals.NoRoom }) (Swept merges)) (sym (older_is format c swept older).1)
+    ([], refl, record { text = none.text; counted = none.count })
+
+pub line_refused : (format : Format) (c : ScriptCommand) → older_of format c ≡ None → IsRefusedAs format (askeds.Line c) AsItStands
+line_refused format c older one s limits pass = line_stays format c older one s (record { pass = pass; asked = askeds.Line c; reply = Refused refusals.NoRoom })
+
+pub merge_refused : (format : Format) (items : List Item) → IsRefusedAs format (askeds.Merge items) AsItStands
+merge_refused format items one s limits pass = refl
+
 -- ---- the store itself answers
 
 no_merge : (c : ScriptCommand) (items : List Item) → askeds.Line c ≡ askeds.Merge items → ⊥
@@ -234,7 +259,7 @@ no_merge c items e = cc
 
 pub line_for_store : (format : Format) (c : ScriptCommand) (command : Command) (said : Wording) (line : List ℕ) → older_of format c ≡ None → store_command c ≡ Some command → said ≡ worded_as (askeds.Line c) → line ≢ noroom_line → IsForStore format (askeds.Line c) said command line
 line_for_store format c command said line older asks words room =
-    record { asks = asks; words = words; steps = plain_steps format c command older asks; room = room; stops = λ items done e less. absurd (no_merge c items e) }
+    record { asks = asks; words = words; steps = plain_steps format c command older asks; stays = line_stays format c older; room = room; stops = λ items done e less. absurd (no_merge c items e) }
 
 merge_same : (a b : List Item) → askeds.Merge a ≡ askeds.Merge b → a ≡ b
 merge_same a b e = cc
@@ -246,6 +271,7 @@ merge_for_store format items line here count is same none few room =
       asks = refl;
       words = refl;
       steps = merge_steps format items;
+      stays = λ one s e. refl;
       room = room;
       stops = λ js done e less q. none done (omega (arith, less, is, ap length (merge_same items js e))) (omega (arith, is, few)) (same ∙ q);
     }

@@ -1,5 +1,8 @@
 pub mod Sweeping
+pub mod Merging
 pub mod Walking
+pub mod Passing
 pub mod Steps
+pub mod Upgrading
 pub mod Telling
 pub mod Asking

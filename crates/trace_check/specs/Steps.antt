@@ -3,7 +3,7 @@ use Rattle.std.specs.Prelude.{◌≡◌, ◌≢◌, ℕ, suc, ◌<◌, ◌≤◌
 use Rattle.ds_content.specs.Content.{ContentRecord}
 use Rattle.ds_content.specs.Stands.{ContentStands}
 use Rattle.ds_entry.specs.declared.item.Item.{Item}
-use Rattle.ds_lines.specs.Lines.{with_newline}
+use Rattle.ds_lines.specs.Lines.{HasLines, joined, with_newline}
 use Rattle.ds_lines.specs.Reading.{LinesContent}
 use Rattle.ds_machine.specs.Machine.{StopsForRoom}
 use Rattle.ds_machine.specs.State.{State}
@@ -16,17 +16,20 @@ use Rattle.store_words.specs.declared.wording.Wording.{Wording}
 use Rattle.trace_words.specs.declared.asked.Asked.{Asked}
 use Rattle.trace_words.specs.declared.asked.Asked.TheVariants as askeds
 use Rattle.trace_words.specs.declared.asked.Head.{Head}
+use Rattle.trace_words.specs.declared.header.Header.{Header}
 use Rattle.trace_words.specs.declared.verdict.Verdict.{Verdict}
-use Rattle.trace_words.specs.declared.verdict.Verdict.TheVariants as verdicts
+use Rattle.trace_words.specs.Legal.{opened_by}
 use Rattle.trace_words.specs.Noroom.{stopped_line}
-use Rattle.trace_words.specs.Text.{marked}
+use Rattle.trace_words.specs.Text.{header_text, marked}
 use Rattle.trace_words.specs.Verdict.{IsVerdict}
 use Rattle.trace_words.specs.Walk.{IsPlaceInEntry}
 use Rattle.trace_check.specs.declared.fault.WalkFault.{WalkFault}
+use Rattle.trace_check.specs.declared.passed.Passed.{Passed}
 use Rattle.trace_check.specs.declared.place.Place.{Place}
 use Rattle.trace_check.specs.declared.sweep.Sweep.{Sweep}
 use Rattle.trace_check.specs.declared.walk.Walk.{Walk}
-use Rattle.trace_check.specs.Walking.{IsAt, HasLine, IsRead, IsLongFault, IsShort, Walks, IsFault, Heads, Lists, HasAsked, Hears, IsEnded, IsThere, GoesOnSaying, IsToBeSaid, IsStopFault, IsForStore}
+use Rattle.trace_check.specs.Passing.{HasPassed}
+use Rattle.trace_check.specs.Walking.{Spot, IsAt, HasLine, IsRead, IsLongFault, IsShort, Walks, IsFault, Heads, Lists, HasAsked, Hears, IsEnded, IsThere, GoesOnSaying, IsToBeSaid, IsStopFault, IsForStore}
 
 -- ---- lines
 
@@ -79,75 +82,83 @@ MissesSaid lines line fault =
 
 -- ---- entries
 
--- the walk is behind so many entries
-abbrev pub WalksAt : List ℕ → Walk → Option (List ℕ) → ℕ → Type 0
-WalksAt bytes w remaining count = Walks bytes w.lines w.store w.header remaining count
+-- the walk is there
+abbrev pub WalksAt : Spot → Walk → Option (List ℕ) → Type 0
+WalksAt b w remaining = Walks b w.lines w.store w.header remaining
+
+-- behind a header
+abbrev pub first_spot : List ℕ → Header → Spot
+first_spot bytes h = record { bytes = bytes; front = header_text h; state = opened_by h; count = 0 }
+
+-- the walk is behind the header of what the reader has, if that is known
+abbrev pub BeginsKnown : Option (List ℕ) → Walk → Option (List ℕ) → Type 0
+BeginsKnown from w to = IfSome from (λ bytes. WalksAt (first_spot bytes w.header) w to)
 
 -- the fault is the verdict on what the reader has, if that is known
 abbrev pub IsFaultOfKnown : Option (List ℕ) → WalkFault → Type 0
 IsFaultOfKnown from fault = IfSome from (λ bytes. IsFault bytes fault)
 
 -- one more entry is gone through
-abbrev pub GoesPast : Walk → Option (List ℕ) → Walk → Option (List ℕ) → Type 0
-GoesPast old from new to = (bytes : List ℕ) (count : ℕ) → WalksAt bytes old from count → WalksAt bytes new to (suc count)
+abbrev pub GoesPast : Walk → Option (List ℕ) → Walk → Option (List ℕ) → Passed → Type 0
+GoesPast old from new to passed = (b : Spot) → WalksAt b old from → HasPassed b old.header new to passed
 
--- there is none, and the trace is legal
-abbrev pub EndsLegal : Walk → Option (List ℕ) → Type 0
-EndsLegal old from = (bytes : List ℕ) (count : ℕ) → WalksAt bytes old from count → IsVerdict bytes (verdicts.Legal count)
+-- there is none: the whole input was gone through
+abbrev pub EndsThere : Walk → Option (List ℕ) → Type 0
+EndsThere old from = (b : Spot) → WalksAt b old from → (lines : List (List ℕ)) × HasLines b.bytes lines × (b.front ≡ joined lines)
 
 -- the fault is the verdict on the input
 abbrev pub FailsFrom : Walk → Option (List ℕ) → WalkFault → Type 0
-FailsFrom old from fault = (bytes : List ℕ) (count : ℕ) → WalksAt bytes old from count → IsFault bytes fault
+FailsFrom old from fault = (b : Spot) → WalksAt b old from → IsFault b.bytes fault
 
 -- from behind the header on, the verdict is on the input
 abbrev pub EndsWith : Walk → Option (List ℕ) → Verdict → Type 0
-EndsWith old from verdict = (bytes : List ℕ) → WalksAt bytes old from 0 → IsVerdict bytes verdict
+EndsWith old from verdict = (b : Spot) → WalksAt b old from → b.count ≡ 0 → IsVerdict b.bytes verdict
 
 -- ---- what is asked
 
 -- behind the first line of an entry
-abbrev pub HeadsAt : List ℕ → Walk → Option (List ℕ) → ℕ → ℕ → Head → Type 0
-HeadsAt bytes w remaining count pass head = Heads bytes w.lines w.store w.header remaining count pass head
+abbrev pub HeadsAt : Spot → Walk → Option (List ℕ) → ℕ → Head → Type 0
+HeadsAt b w remaining pass head = Heads b w.lines w.store w.header remaining pass head w.asked.items
 
 -- behind some items of a Merge
-abbrev pub ListsAt : List ℕ → Walk → Option (List ℕ) → (count pass most : ℕ) → List Item → Type 0
-ListsAt bytes w remaining count pass most items = Lists bytes w.lines w.store w.header remaining count pass most items
+abbrev pub ListsAt : Spot → Walk → Option (List ℕ) → (pass most : ℕ) → List Item → Type 0
+ListsAt b w remaining pass most items = Lists b w.lines w.store w.header remaining pass most items w.asked.items
 
 -- behind all that an entry asks
-abbrev pub AsksAt : List ℕ → Walk → Option (List ℕ) → ℕ → ℕ → Asked → Type 0
-AsksAt bytes w remaining count pass asked = HasAsked bytes w.lines w.store w.header remaining count pass asked
+abbrev pub AsksAt : Spot → Walk → Option (List ℕ) → ℕ → Asked → Type 0
+AsksAt b w remaining pass asked = HasAsked b w.lines w.store w.header remaining pass asked w.asked.items
 
 -- at the first line of the reply
-abbrev pub HearsAt : List ℕ → Walk → Option (List ℕ) → ℕ → ℕ → Asked → Type 0
-HearsAt bytes w remaining count pass asked = Hears bytes w.lines w.store w.header remaining count pass asked
+abbrev pub HearsAt : Spot → Walk → Option (List ℕ) → ℕ → Asked → Type 0
+HearsAt b w remaining pass asked = Hears b w.lines w.store w.header remaining pass asked w.asked.items
 
 -- the first line of one more entry is read
 abbrev pub ReadsHead : Walk → Option (List ℕ) → Walk → Option (List ℕ) → ℕ × Head → Type 0
-ReadsHead old from new to r = (bytes : List ℕ) (count : ℕ) → WalksAt bytes old from count → HeadsAt bytes new to count r.0 r.1
+ReadsHead old from new to r = (new.header ≡ old.header) × ((b : Spot) → WalksAt b old from → HeadsAt b new to r.0 r.1)
 
 -- and then all that the entry asks
 abbrev pub ReadsAsked : Walk → Option (List ℕ) → Head → Walk → Option (List ℕ) → Asked → Type 0
-ReadsAsked old from head new to asked = (bytes : List ℕ) (count pass : ℕ) → HeadsAt bytes old from count pass head → AsksAt bytes new to count pass asked
+ReadsAsked old from head new to asked = (new.header ≡ old.header) × ((b : Spot) (pass : ℕ) → HeadsAt b old from pass head → AsksAt b new to pass asked)
 
 abbrev pub FailsBehindHead : Walk → Option (List ℕ) → Head → WalkFault → Type 0
-FailsBehindHead old from head fault = (bytes : List ℕ) (count pass : ℕ) → HeadsAt bytes old from count pass head → IsFault bytes fault
+FailsBehindHead old from head fault = (b : Spot) (pass : ℕ) → HeadsAt b old from pass head → IsFault b.bytes fault
 
 -- all items of a Merge are read
 abbrev pub ReadsItems : Walk → Option (List ℕ) → ℕ → Walk → Option (List ℕ) → List Item → Type 0
 ReadsItems old from most new to items =
-    (bytes : List ℕ) (count pass : ℕ) → ListsAt bytes old from count pass most [] → (length items ≡ most) × ListsAt bytes new to count pass most items
+    (new.header ≡ old.header) × ((b : Spot) (pass : ℕ) → ListsAt b old from pass most [] → (length items ≡ most) × ListsAt b new to pass most items)
 
 abbrev pub FailsInItems : Walk → Option (List ℕ) → ℕ → WalkFault → Type 0
-FailsInItems old from most fault = (bytes : List ℕ) (count pass : ℕ) → ListsAt bytes old from count pass most [] → IsFault bytes fault
+FailsInItems old from most fault = (b : Spot) (pass : ℕ) → ListsAt b old from pass most [] → IsFault b.bytes fault
 
 -- one more is
 abbrev pub AddsOne : Walk → Option (List ℕ) → List Item → Walk → Option (List ℕ) → List Item → Type 0
 AddsOne old from before new to after =
-    (bytes : List ℕ) (count pass most : ℕ) → length before < most → ListsAt bytes old from count pass most before →
-    (length after ≡ suc (length before)) × ListsAt bytes new to count pass most after
+    (new.header ≡ old.header) ×
+    ((b : Spot) (pass most : ℕ) → length before < most → ListsAt b old from pass most before → (length after ≡ suc (length before)) × ListsAt b new to pass most after)
 
 abbrev pub FailsAtItem : Walk → Option (List ℕ) → List Item → WalkFault → Type 0
-FailsAtItem old from before fault = (bytes : List ℕ) (count pass most : ℕ) → length before < most → ListsAt bytes old from count pass most before → IsFault bytes fault
+FailsAtItem old from before fault = (b : Spot) (pass most : ℕ) → length before < most → ListsAt b old from pass most before → IsFault b.bytes fault
 
 -- ---- the reply
 
@@ -156,44 +167,42 @@ abbrev pub swept_line : Sweep → Asked
 swept_line swept = askeds.Line (commands.Sweep swept.caller swept.owner swept.generation)
 
 -- behind what is asked, the reply is gone through
-abbrev pub GoesBehind : Walk → Option (List ℕ) → ℕ → Asked → Walk → Option (List ℕ) → Type 0
-GoesBehind old from pass asked new to = (bytes : List ℕ) (count : ℕ) → AsksAt bytes old from count pass asked → WalksAt bytes new to (suc count)
+abbrev pub GoesBehind : Walk → Option (List ℕ) → ℕ → Asked → Walk → Option (List ℕ) → Passed → Type 0
+GoesBehind old from pass asked new to passed = (b : Spot) → AsksAt b old from pass asked → HasPassed b old.header new to passed
 
 abbrev pub FailsBehind : Walk → Option (List ℕ) → ℕ → Asked → WalkFault → Type 0
-FailsBehind old from pass asked fault = (bytes : List ℕ) (count : ℕ) → AsksAt bytes old from count pass asked → IsFault bytes fault
+FailsBehind old from pass asked fault = (b : Spot) → AsksAt b old from pass asked → IsFault b.bytes fault
 
 -- from its first line on
-abbrev pub GoesPastReply : Walk → Option (List ℕ) → ℕ → Asked → Walk → Option (List ℕ) → Type 0
-GoesPastReply old from pass asked new to = (bytes : List ℕ) (count : ℕ) → HearsAt bytes old from count pass asked → WalksAt bytes new to (suc count)
+abbrev pub GoesPastReply : Walk → Option (List ℕ) → ℕ → Asked → Walk → Option (List ℕ) → Passed → Type 0
+GoesPastReply old from pass asked new to passed = (b : Spot) → HearsAt b old from pass asked → HasPassed b old.header new to passed
 
 abbrev pub FailsAtReply : Walk → Option (List ℕ) → ℕ → Asked → WalkFault → Type 0
-FailsAtReply old from pass asked fault = (bytes : List ℕ) (count : ℕ) → HearsAt bytes old from count pass asked → IsFault bytes fault
+FailsAtReply old from pass asked fault = (b : Spot) → HearsAt b old from pass asked → IsFault b.bytes fault
 
 -- that to a command on one line
-abbrev pub PassesLine : Walk → Option (List ℕ) → ℕ → ScriptCommand → Walk → Option (List ℕ) → Type 0
-PassesLine old from pass command new to = GoesPastReply old from pass (askeds.Line command) new to
+abbrev pub PassesLine : Walk → Option (List ℕ) → ℕ → ScriptCommand → Walk → Option (List ℕ) → Passed → Type 0
+PassesLine old from pass command new to passed = GoesPastReply old from pass (askeds.Line command) new to passed
 
 -- that to a sweep
-abbrev pub PassesSweep : Walk → Option (List ℕ) → ℕ → Sweep → Walk → Option (List ℕ) → Type 0
-PassesSweep old from pass swept new to = GoesPastReply old from pass (swept_line swept) new to
+abbrev pub PassesSweep : Walk → Option (List ℕ) → ℕ → Sweep → Walk → Option (List ℕ) → Passed → Type 0
+PassesSweep old from pass swept new to passed = GoesPastReply old from pass (swept_line swept) new to passed
 
 -- that of a Merge, whatever its pass
-abbrev pub PassesMerge : Walk → Option (List ℕ) → List Item → Walk → Option (List ℕ) → Type 0
-PassesMerge old from items new to = (bytes : List ℕ) (count pass : ℕ) → HearsAt bytes old from count pass (askeds.Merge items) → WalksAt bytes new to (suc count)
+abbrev pub PassesMerge : Walk → Option (List ℕ) → List Item → Walk → Option (List ℕ) → Passed → Type 0
+PassesMerge old from items new to passed = (b : Spot) (pass : ℕ) → HearsAt b old from pass (askeds.Merge items) → HasPassed b old.header new to passed
 
 abbrev pub FailsAtMerge : Walk → Option (List ℕ) → List Item → WalkFault → Type 0
-FailsAtMerge old from items fault = (bytes : List ℕ) (count pass : ℕ) → HearsAt bytes old from count pass (askeds.Merge items) → IsFault bytes fault
+FailsAtMerge old from items fault = (b : Spot) (pass : ℕ) → HearsAt b old from pass (askeds.Merge items) → IsFault b.bytes fault
 
 -- that to whatever asks the store for the command
-abbrev pub PassesFor : Wording → Command → Walk → Option (List ℕ) → Walk → Option (List ℕ) → Type 0
-PassesFor wording command old from new to =
-    (bytes : List ℕ) (count pass : ℕ) (asked : Asked) → IsForStore old.header.format asked wording command old.lines.line → HearsAt bytes old from count pass asked →
-    WalksAt bytes new to (suc count)
+abbrev pub PassesFor : Wording → Command → Walk → Option (List ℕ) → Walk → Option (List ℕ) → Passed → Type 0
+PassesFor wording command old from new to passed =
+    (b : Spot) (pass : ℕ) (asked : Asked) → IsForStore old.header.format asked wording command old.lines.line → HearsAt b old from pass asked → HasPassed b old.header new to passed
 
 abbrev pub FailsFor : Wording → Command → Walk → Option (List ℕ) → WalkFault → Type 0
 FailsFor wording command old from fault =
-    (bytes : List ℕ) (count pass : ℕ) (asked : Asked) → IsForStore old.header.format asked wording command old.lines.line → HearsAt bytes old from count pass asked →
-    IsFault bytes fault
+    (b : Spot) (pass : ℕ) (asked : Asked) → IsForStore old.header.format asked wording command old.lines.line → HearsAt b old from pass asked → IsFault b.bytes fault
 
 -- ---- a Merge that is stopped
 

@@ -4,6 +4,7 @@ use Rattle.ds_content.specs.Content.{ContentRecord}
 use Rattle.ds_content.specs.Stands.{ContentStands}
 use Rattle.ds_entry.specs.Change.{ChangeRecord}
 use Rattle.ds_entry.specs.declared.item.Item.{Item}
+use Rattle.ds_held.specs.Limits.{LimitsRecord}
 use Rattle.ds_machine.specs.Batches.{AreFree}
 use Rattle.ds_machine.specs.State.{State, takes_effect, owed}
 use Rattle.ds_machine.specs.declared.reply.Reply.{Reply}
@@ -13,7 +14,11 @@ use Rattle.trace_words.specs.declared.header.Format.{Format}
 use Rattle.trace_words.specs.declared.header.Format.TheVariants.{One}
 use Rattle.trace_words.specs.OneReply.{IsTraced}
 use Rattle.trace_words.specs.Sweep.{is_swept, tombstone, older_sweep}
+use Rattle.trace_words.specs.Text.{TraceEntry}
+use Rattle.trace_words.specs.Upgrade.{SweepBecomes}
+use Rattle.trace_check.specs.declared.merges.Merges.{Merges}
 use Rattle.trace_check.specs.declared.sweep.Sweep.{Sweep}
+use Rattle.trace_check.specs.Merging.{AreEntries}
 
 -- a sweep of format 1, if the command is one
 abbrev pub older_of : Format → ScriptCommand → Option Sweep
@@ -34,3 +39,12 @@ abbrev pub SweepsAs : ContentRecord → Sweep → Reply → ContentRecord → Ty
 SweepsAs old sweep reply new =
     (s : State) → ContentStands old s → IsTraced One s →
     (reply ≡ (older_sweep s sweep.caller sweep.owner sweep.generation).0) × ContentStands new (older_sweep s sweep.caller sweep.owner sweep.generation).1
+
+-- the entries are what the sweep is in format 2, by its reply
+abbrev pub IsSweptInMerges : State → ℕ → LimitsRecord → Sweep → Reply → Merges → Type 0
+IsSweptInMerges s pass limits sweep reply merges = (entries : List TraceEntry) × SweepBecomes s pass sweep.owner sweep.generation reply entries × AreEntries limits merges entries
+
+-- the store swept as format 1 does, and these Merges are what it did
+abbrev pub SweepsInMerges : ContentRecord → ℕ → LimitsRecord → Sweep → Reply × Merges → ContentRecord → Type 0
+SweepsInMerges old pass limits sweep r new =
+    SweepsAs old sweep r.0 new × ((s : State) → ContentStands old s → IsTraced One s → IsSweptInMerges s pass limits sweep r.0 r.1)

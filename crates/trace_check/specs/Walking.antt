@@ -4,6 +4,7 @@ use Rattle.std.specs.List.{All, flat_map}
 use Rattle.ds_content.specs.Content.{ContentRecord}
 use Rattle.ds_content.specs.Stands.{ContentStands}
 use Rattle.ds_entry.specs.declared.item.Item.{Item}
+use Rattle.ds_held.specs.Limits.{LimitsRecord}
 use Rattle.ds_lines.specs.Lines.{HasLines, IsUnbroken, EndsLine, with_newline, joined}
 use Rattle.ds_lines.specs.Reading.{LinesContent}
 use Rattle.ds_lines.specs.Pulling.{left}
@@ -20,13 +21,15 @@ use Rattle.trace_words.specs.declared.asked.Head.{Head}
 use Rattle.trace_words.specs.declared.asked.AskedFault.{AskedFault}
 use Rattle.trace_words.specs.declared.asked.AskedFault.TheVariants as badly
 use Rattle.trace_words.specs.declared.header.Format.{Format}
+use Rattle.trace_words.specs.declared.header.Format.TheVariants.{One}
 use Rattle.trace_words.specs.declared.header.Header.{Header}
 use Rattle.trace_words.specs.declared.verdict.Verdict.{Verdict}
 use Rattle.trace_words.specs.declared.verdict.Verdict.TheVariants as verdicts
 use Rattle.trace_words.specs.Head.{MayHead, head_text}
 use Rattle.trace_words.specs.Legal.{StepOf}
 use Rattle.trace_words.specs.Noroom.{noroom_line, stopped_line}
-use Rattle.trace_words.specs.Text.{MayAsk, MayMerge, asked_text, command_asked, marked, merge_text, pass_text, plus_text, worded_as}
+use Rattle.trace_words.specs.Text.{TraceEntry, MayAsk, MayMerge, asked_text, command_asked, entry_text, marked, merge_text, pass_text, plus_text, worded_as}
+use Rattle.trace_words.specs.Upgrade.{BecomesAs}
 use Rattle.trace_words.specs.Verdict.{IsVerdict}
 use Rattle.trace_words.specs.Walk.{IsBehind, IsPlaceInEntry}
 use Rattle.trace_check.specs.declared.fault.WalkFault.{WalkFault}
@@ -45,15 +48,24 @@ pub record IsAt (bytes front : List ℕ) (l : LinesContent) (remaining : Option 
   pub front_is : front ≡ joined before
   pub counted : l.count ≡ length before
 
--- It is behind so many entries, and the store stands for the state that they lead to.
-pub record Walks (bytes : List ℕ) (l : LinesContent) (store : ContentRecord) (h : Header) (remaining : Option (List ℕ)) (count : ℕ) : Type 0 where
+-- Behind some entries of a trace: the whole input, what was gone through of it, to which state that leads, and how many entries it is.
+pub record Spot : Type 0 where
+  pub bytes : List ℕ
   pub front : List ℕ
   pub state : State
-  pub at : IsAt bytes front l remaining
-  pub stands : ContentStands store state
-  pub behind : IsBehind front h state count
+  pub count : ℕ
 
--- why it with_newline early is a verdict on the input
+-- one entry further
+abbrev pub spot_behind : Spot → LimitsRecord → TraceEntry → State → Spot
+spot_behind b limits e t = record { bytes = b.bytes; front = b.front ++ entry_text limits e; state = t; count = suc b.count }
+
+-- The walk is there, and the store stands for the state.
+pub record Walks (b : Spot) (l : LinesContent) (store : ContentRecord) (h : Header) (remaining : Option (List ℕ)) : Type 0 where
+  pub at : IsAt b.bytes b.front l remaining
+  pub stands : ContentStands store b.state
+  pub behind : IsBehind b.front h b.state b.count
+
+-- why it ended early is a verdict on the input
 abbrev pub IsFault : List ℕ → WalkFault → Type 0
 IsFault bytes (IllegalAt number) = IsVerdict bytes (verdicts.IllegalAt number)
 IsFault bytes (BadLineAt number) = IsVerdict bytes (verdicts.BadLineAt number)
@@ -119,51 +131,47 @@ is_reply Reply = true
 abbrev pub IsShort : List ℕ → Type 0
 IsShort line = length line ≤ 4097
 
--- ---- within an entry
+-- ---- within an entry, that begins at a spot. The lines of what it asks, so far, are kept.
 
 -- It is behind the first line of an entry.
-pub record Heads (bytes : List ℕ) (l : LinesContent) (store : ContentRecord) (h : Header) (remaining : Option (List ℕ)) (count pass : ℕ) (head : Head) : Type 0 where
-  pub front : List ℕ
-  pub state : State
-  pub at : IsAt bytes (front ++ head_text pass head) l remaining
-  pub stands : ContentStands store state
-  pub behind : IsBehind front h state count
+pub record Heads (b : Spot) (l : LinesContent) (store : ContentRecord) (h : Header) (remaining : Option (List ℕ)) (pass : ℕ) (head : Head) (kept : List ℕ) : Type 0 where
+  pub at : IsAt b.bytes (b.front ++ head_text pass head) l remaining
+  pub stands : ContentStands store b.state
+  pub behind : IsBehind b.front h b.state b.count
   pub pass_few : pass ≤ 63
   pub may : MayHead h.format head
   pub short : IsShort (head_text pass head)
+  pub kept_is : kept ≡ head_text pass head
 
 -- It is behind some of the items of a Merge.
-pub record Lists (bytes : List ℕ) (l : LinesContent) (store : ContentRecord) (h : Header) (remaining : Option (List ℕ)) (count pass most : ℕ) (items : List Item) : Type 0 where
-  pub front : List ℕ
-  pub state : State
-  pub at : IsAt bytes (front ++ (pass_text pass (merge_text most) ++ flat_map plus_text items)) l remaining
-  pub stands : ContentStands store state
-  pub behind : IsBehind front h state count
+pub record Lists (b : Spot) (l : LinesContent) (store : ContentRecord) (h : Header) (remaining : Option (List ℕ)) (pass most : ℕ) (items : List Item) (kept : List ℕ) : Type 0 where
+  pub at : IsAt b.bytes (b.front ++ (pass_text pass (merge_text most) ++ flat_map plus_text items)) l remaining
+  pub stands : ContentStands store b.state
+  pub behind : IsBehind b.front h b.state b.count
   pub pass_few : pass ≤ 63
   pub few : most ≤ most_items
   pub may : All (MayMerge h.format) items
+  pub kept_is : kept ≡ pass_text pass (merge_text most) ++ flat_map plus_text items
 
 -- It is behind what an entry asks.
-pub record HasAsked (bytes : List ℕ) (l : LinesContent) (store : ContentRecord) (h : Header) (remaining : Option (List ℕ)) (count pass : ℕ) (asked : Asked) : Type 0 where
-  pub front : List ℕ
-  pub state : State
-  pub at : IsAt bytes (front ++ asked_text pass asked) l remaining
-  pub stands : ContentStands store state
-  pub behind : IsBehind front h state count
+pub record HasAsked (b : Spot) (l : LinesContent) (store : ContentRecord) (h : Header) (remaining : Option (List ℕ)) (pass : ℕ) (asked : Asked) (kept : List ℕ) : Type 0 where
+  pub at : IsAt b.bytes (b.front ++ asked_text pass asked) l remaining
+  pub stands : ContentStands store b.state
+  pub behind : IsBehind b.front h b.state b.count
   pub pass_few : pass ≤ 63
   pub may : MayAsk h.format pass asked
+  pub kept_is : kept ≡ asked_text pass asked
 
 -- It is at the first line of the reply.
-pub record Hears (bytes : List ℕ) (l : LinesContent) (store : ContentRecord) (h : Header) (remaining : Option (List ℕ)) (count pass : ℕ) (asked : Asked) : Type 0 where
-  pub front : List ℕ
-  pub state : State
+pub record Hears (b : Spot) (l : LinesContent) (store : ContentRecord) (h : Header) (remaining : Option (List ℕ)) (pass : ℕ) (asked : Asked) (kept : List ℕ) : Type 0 where
   pub line : List ℕ
-  pub here : HasLine bytes (front ++ asked_text pass asked) line l remaining
+  pub here : HasLine b.bytes (b.front ++ asked_text pass asked) line l remaining
   pub line_is : l.line ≡ with_newline line
-  pub stands : ContentStands store state
-  pub behind : IsBehind front h state count
+  pub stands : ContentStands store b.state
+  pub behind : IsBehind b.front h b.state b.count
   pub pass_few : pass ≤ 63
   pub may : MayAsk h.format pass asked
+  pub kept_is : kept ≡ asked_text pass asked
 
 -- ---- the reply
 
@@ -198,10 +206,15 @@ IsStopFault s items done number (IllegalAt place) = (place ≡ number) × ((cour
 IsStopFault s items done number (BadLineAt place) = ⊥
 IsStopFault s items done number _ = Unit {0}
 
+-- in format 2 it stays as it is: but for sweeps, what may be asked in format 1
+abbrev pub StaysUpgraded : Format → Asked → Type 0
+StaysUpgraded format asked = format ≡ One → (s : State) (e : TraceEntry) → BecomesAs s e asked (e ∷ [])
+
 -- The store itself answers what is asked, and the line isn't for want of memory.
 pub record IsForStore (format : Format) (asked : Asked) (said : Wording) (command : Command) (line : List ℕ) : Type 0 where
   pub asks : command_asked asked ≡ Some command
   pub words : said ≡ worded_as asked
   pub steps : (s t : State) (reply : AReply) → Step s command reply t → StepOf format s command reply t
+  pub stays : StaysUpgraded format asked
   pub room : line ≢ noroom_line
   pub stops : (items : List Item) (done : ℕ) → asked ≡ askeds.Merge items → done < length items → line ≢ stopped_line done

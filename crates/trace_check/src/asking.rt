@@ -7,6 +7,7 @@ ghost use Rattle.ds_words.specs.Command.{store_command};
 ghost use Rattle.trace_check.specs.Asking.{StepsBy};
 
 use crate::sweep::{older, sweep_older};
+use ds_held::Limits;
 use ds_machine::{Command, Reply};
 use ds_names::NoRoom;
 use ds_store::Store;
@@ -58,7 +59,7 @@ fn ask_line(
 {
     let wording = command.wording();
     if let Some(sweep) = older(&command, format) {
-        let reply = sweep_older(alloc, store, sweep)?;
+        let (reply, _merges) = sweep_older(alloc, store, 0, Limits::smaller(), sweep)?;
         return Ok(Answer { wording, reply });
     }
     match command.into_store_command(alloc)? {

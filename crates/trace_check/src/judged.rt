@@ -96,10 +96,18 @@ impl Judged {
         WrongLine {
             number,
             wanted,
-            asked: walk.asked.as_slice(),
+            asked: first_line(walk.asked.as_slice()),
             reply: nth_line(walk.reply.as_slice(), number.saturating_sub(walk.first)),
             stands: standing(&walk.lines, number),
         }
+    }
+}
+
+// The first line of a text, or nothing.
+fn first_line(text: &[u8]) -> &[u8] {
+    match split_line(text) {
+        Some((line, _)) => line,
+        None => &[],
     }
 }
 

@@ -5,10 +5,11 @@ ghost use Rattle.std.specs.List.{slice_get};
 ghost use Rattle.std.specs.Option.{option_and_then};
 ghost use Rattle.ds_held.specs.Held.{held_items, held_changes};
 ghost use Rattle.trace_words.specs.Sweep.{is_swept, tombstone, tombstones};
-ghost use Rattle.trace_check.specs.Sweeping.{tombstone_over, older_of, MergesPart, SweepsAs};
+ghost use Rattle.trace_check.specs.Sweeping.{tombstone_over, older_of, MergesPart, SweepsInMerges};
 
+use crate::merges::Merges;
 use ds_entry::{Body, Change, Item, Items};
-use ds_held::Held;
+use ds_held::{Held, Limits};
 use ds_machine::{Command, Refusal, Reply};
 use ds_names::{Endpoint, Generation, Kind, Name, NoRoom, Version};
 use ds_store::Store;
@@ -52,26 +53,36 @@ pub(crate) fn older(command: &ScriptCommand, format: Format) -> Option<Sweep>
 }
 
 /// RS sweeps what an owner left up to a generation: each live entry of it, labels aside, gets a tombstone of that generation and
-/// the last sequence number. The store merges them, and gives the reply.
-pub(crate) fn sweep_older(alloc: Global, store: &mut Store, sweep: Sweep) -> Result<Reply, NoRoom>
-    ensures { IfOk result (λ reply. SweepsAs store.old sweep reply store.new) }
+/// the last sequence number. The store merges them, and gives the reply. With it comes what this is as entries of format 2, which a
+/// pass asks of a store of these limits.
+pub(crate) fn sweep_older(
+    alloc: Global,
+    store: &mut Store,
+    pass: u64,
+    limits: Limits,
+    sweep: Sweep,
+) -> Result<(Reply, Merges), NoRoom>
+    ensures { IfOk result (λ r. SweepsInMerges store.old pass limits sweep r store.new) }
 {
+    let mut merges = Merges::new(alloc);
     if sweep.caller != Endpoint::rs() {
-        return Ok(Reply::Refused(Refusal::NotAllowed));
+        return Ok((Reply::Refused(Refusal::NotAllowed), merges));
     }
     let gone = tombstones(alloc, store.held(), &sweep)?;
     if store.cursor().position + gone.len() as u64 > LAST_PLACE {
-        return Ok(Reply::Refused(Refusal::Worn));
+        return Ok((Reply::Refused(Refusal::Worn), merges));
     }
     let count = gone.len();
     let mut owed = 0;
     let mut rest = gone.as_slice();
     while !rest.is_empty() {
         let (batch, more) = rest.split_at(rest.len().min(MOST_ITEMS));
-        owed |= merge_part(alloc, store, batch)?;
+        let mask = merge_part(alloc, store, batch)?;
+        merges.add(alloc, pass, limits, batch, mask)?;
+        owed |= mask;
         rest = more;
     }
-    Ok(Reply::Swept { count, owed })
+    Ok((Reply::Swept { count, owed }, merges))
 }
 
 // The tombstones of a sweep, in the order of the keys.

@@ -46,8 +46,8 @@ fn walk_through<R: Source>(walk: &mut Walk, reader: &mut R) -> Verdict
 {
     for length in 0..u64::MAX {
         match walk.next(reader) {
-            Ok(true) => {}
-            Ok(false) => return Verdict::Legal { length },
+            Ok(Some(_)) => {}
+            Ok(None) => return Verdict::Legal { length },
             Err(fault) => return fault.verdict(),
         }
     }

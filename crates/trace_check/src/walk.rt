@@ -1,11 +1,12 @@
 //! A walk through a trace, entry by entry.
 
-ghost use Rattle.std.specs.Prelude.{◌≡◌, ◌++◌, ◌∷◌, [], true, false, IfOk, IfErr, IfSome, IfNone, OnOk};
-ghost use Rattle.trace_check.specs.Steps.{WalksAt, IsFaultOfKnown, GoesPast, EndsLegal, FailsFrom, ReadsHead, ReadsAsked, FailsBehindHead, ReadsItems, FailsInItems, AddsOne, FailsAtItem};
+ghost use Rattle.std.specs.Prelude.{◌≡◌, ◌++◌, ◌∷◌, [], IfOk, IfErr, IfSome, IfNone, OnOk};
+ghost use Rattle.trace_check.specs.Steps.{BeginsKnown, IsFaultOfKnown, GoesPast, EndsThere, FailsFrom, ReadsHead, ReadsAsked, FailsBehindHead, ReadsItems, FailsInItems, AddsOne, FailsAtItem};
 
 mod judging;
 
 use crate::fault::WalkFault;
+use crate::passed::Passed;
 use crate::place::{Place, next_line, wanted_line};
 use ds_entry::{Item, Items};
 use ds_lines::{Lines, Source};
@@ -14,8 +15,8 @@ use ds_store::Store;
 use std::alloc::Global;
 use trace_words::{Asked, Head, Header, read_head, read_header, read_plus};
 
-/// A walk under way: where it is in the input, the store that answers, and what it was opened with. For whoever is told why it ended,
-/// it keeps what the entry asks, by its first line, and what the store replied, whose first line has to stand in the line `first`.
+/// A walk under way: where it is in the input, the store that answers, and what it was opened with. Of the entry it keeps the lines of
+/// what it asks, as they stand, and those of the reply, without their marks, the first of which has to stand in the line `first`.
 #[derive(Drop)]
 pub(crate) struct Walk {
     alloc: Global,
@@ -31,7 +32,7 @@ pub(crate) struct Walk {
 impl Walk {
     /// Reads the header, and opens a store by it.
     pub fn begin<R: Source>(alloc: Global, reader: &mut R) -> Result<Walk, WalkFault>
-        ensures begins { IfOk result (λ walk. IfSome (R.remaining reader.old) (λ bytes. WalksAt bytes walk (R.remaining reader.new) 0)) }
+        ensures begins { IfOk result (λ walk. BeginsKnown (R.remaining reader.old) walk (R.remaining reader.new)) }
         ensures fails { IfErr result (λ fault. IsFaultOfKnown (R.remaining reader.old) fault) }
     {
         let mut lines = Lines::new(alloc)?;
@@ -65,24 +66,31 @@ impl Walk {
         })
     }
 
-    /// Goes through one entry. Gives whether there was one.
-    pub fn next<R: Source>(&mut self, reader: &mut R) -> Result<bool, WalkFault>
-        ensures goes { IfOk result (λ s. s ≡ true → GoesPast self.old (R.remaining reader.old) self.new (R.remaining reader.new)) }
-        ensures ends { IfOk result (λ s. s ≡ false → EndsLegal self.old (R.remaining reader.old)) }
+    /// With what the store was opened.
+    pub fn header(&self) -> Header
+        ensures { result ≡ self.now.header }
+    {
+        self.header
+    }
+
+    /// Goes through one entry, if there is one. Gives what it is in format 2, if the trace is of format 1.
+    pub fn next<R: Source>(&mut self, reader: &mut R) -> Result<Option<Passed>, WalkFault>
+        ensures goes { IfOk result (λ o. IfSome o (GoesPast self.old (R.remaining reader.old) self.new (R.remaining reader.new))) }
+        ensures ends { IfOk result (λ o. IfNone o (EndsThere self.old (R.remaining reader.old))) }
         ensures fails { IfErr result (λ fault. FailsFrom self.old (R.remaining reader.old) fault) }
     {
         let Some((pass, head)) = self.head(reader)? else {
-            return Ok(false);
+            return Ok(None);
         };
         let asked = self.asked(reader, head)?;
-        self.judge(reader, pass, asked)?;
-        Ok(true)
+        let passed = self.judge(reader, pass, asked)?;
+        Ok(Some(passed))
     }
 
     // Reads the first line of an entry, if there is one.
     fn head<R: Source>(&mut self, reader: &mut R) -> Result<Option<(u64, Head)>, WalkFault>
         ensures some { IfOk result (λ o. IfSome o (ReadsHead self.old (R.remaining reader.old) self.new (R.remaining reader.new))) }
-        ensures none { IfOk result (λ o. IfNone o (EndsLegal self.old (R.remaining reader.old))) }
+        ensures none { IfOk result (λ o. IfNone o (EndsThere self.old (R.remaining reader.old))) }
         ensures fails { IfErr result (λ fault. FailsFrom self.old (R.remaining reader.old) fault) }
     {
         self.in_items = false;
@@ -132,6 +140,7 @@ impl Walk {
         wanted_line(&mut self.lines, reader, Place::Form)?;
         match read_plus(self.alloc, self.lines.line(), self.header.format) {
             Ok(item) => {
+                self.asked.extend_from_slice(self.lines.line())?;
                 push(items, item)?;
                 Ok(())
             }

@@ -4,10 +4,13 @@ ghost use Rattle.std.specs.Prelude.{◌≡◌, ◌≢◌, ◌<◌, length, IfOk,
 ghost use Rattle.trace_words.specs.declared.asked.Asked.TheVariants as askeds;
 ghost use Rattle.trace_words.specs.Noroom.{noroom_line, stopped_line};
 ghost use Rattle.trace_check.specs.Steps.{GoesBehind, FailsBehind, GoesPastReply, FailsAtReply, PassesLine, PassesSweep, PassesMerge, FailsAtMerge, PassesFor, FailsFor, swept_line};
+ghost use Rattle.trace_check.specs.Passing.{IsRefusedAs};
 
 use super::Walk;
 use crate::expected::expect;
 use crate::fault::WalkFault;
+use crate::merges::Merges;
+use crate::passed::Passed;
 use crate::place::{Place, wanted_line};
 use crate::stopping::{stop_of, stopped, wants_room};
 use crate::sweep::{Sweep, older, sweep_older};
@@ -15,7 +18,8 @@ use ds_entry::Items;
 use ds_lines::Source;
 use ds_machine::Command;
 use ds_words::ScriptCommand;
-use store_words::{Wording, append_reply};
+use std::alloc::Global;
+use store_words::{Wording, append_noroom, append_reply};
 use trace_words::{Asked, Format, is_noroom};
 
 impl Walk {
@@ -25,8 +29,8 @@ impl Walk {
         reader: &mut R,
         pass: u64,
         asked: Asked,
-    ) -> Result<(), WalkFault>
-        ensures goes { IfOk result (λ u. GoesBehind self.old (R.remaining reader.old) pass asked self.new (R.remaining reader.new)) }
+    ) -> Result<Passed, WalkFault>
+        ensures goes { IfOk result (GoesBehind self.old (R.remaining reader.old) pass asked self.new (R.remaining reader.new)) }
         ensures fails { IfErr result (FailsBehind self.old (R.remaining reader.old) pass asked) }
     {
         wanted_line(&mut self.lines, reader, Place::Reply)?;
@@ -40,12 +44,14 @@ impl Walk {
         reader: &mut R,
         pass: u64,
         asked: Asked,
-    ) -> Result<(), WalkFault>
-        ensures goes { IfOk result (λ u. GoesPastReply self.old (R.remaining reader.old) pass asked self.new (R.remaining reader.new)) }
+    ) -> Result<Passed, WalkFault>
+        ensures goes { IfOk result (GoesPastReply self.old (R.remaining reader.old) pass asked self.new (R.remaining reader.new)) }
         ensures fails { IfErr result (FailsAtReply self.old (R.remaining reader.old) pass asked) }
     {
         if is_noroom(self.lines.line()) {
-            return Ok(());
+            self.reply.clear();
+            append_noroom(&mut self.reply)?;
+            return Ok(refused(self.alloc, &asked, self.header.format));
         }
         match asked {
             Asked::Line(command) => self.judge_line(reader, pass, command),
@@ -59,9 +65,9 @@ impl Walk {
         reader: &mut R,
         pass: u64,
         command: ScriptCommand,
-    ) -> Result<(), WalkFault>
+    ) -> Result<Passed, WalkFault>
         requires { self.old.lines.line ≢ noroom_line }
-        ensures goes { IfOk result (λ u. PassesLine self.old (R.remaining reader.old) pass command self.new (R.remaining reader.new)) }
+        ensures goes { IfOk result (PassesLine self.old (R.remaining reader.old) pass command self.new (R.remaining reader.new)) }
         ensures fails { IfErr result (FailsAtReply self.old (R.remaining reader.old) pass (askeds.Line command)) }
     {
         match older(&command, self.header.format) {
@@ -77,9 +83,9 @@ impl Walk {
     }
 
     // Judges the reply to a Merge.
-    fn judge_merge<R: Source>(&mut self, reader: &mut R, items: Items) -> Result<(), WalkFault>
+    fn judge_merge<R: Source>(&mut self, reader: &mut R, items: Items) -> Result<Passed, WalkFault>
         requires { self.old.lines.line ≢ noroom_line }
-        ensures goes { IfOk result (λ u. PassesMerge self.old (R.remaining reader.old) items self.new (R.remaining reader.new)) }
+        ensures goes { IfOk result (PassesMerge self.old (R.remaining reader.old) items self.new (R.remaining reader.new)) }
         ensures fails { IfErr result (FailsAtMerge self.old (R.remaining reader.old) items) }
     {
         match stop_of(self.lines.line(), items.len()) {
@@ -94,10 +100,10 @@ impl Walk {
         reader: &mut R,
         items: &Items,
         done: usize,
-    ) -> Result<(), WalkFault>
+    ) -> Result<Passed, WalkFault>
         requires few { done < length items.now }
         requires line { self.old.lines.line ≡ stopped_line done }
-        ensures goes { IfOk result (λ u. PassesMerge self.old (R.remaining reader.old) items.now self.new (R.remaining reader.new)) }
+        ensures goes { IfOk result (PassesMerge self.old (R.remaining reader.old) items.now self.new (R.remaining reader.new)) }
         ensures fails { IfErr result (FailsAtMerge self.old (R.remaining reader.old) items.now) }
     {
         let number = self.lines.count();
@@ -109,7 +115,8 @@ impl Walk {
             &reply,
             self.header.limits,
         )?;
-        expect(&mut self.lines, reader, self.reply.as_slice())
+        expect(&mut self.lines, reader, self.reply.as_slice())?;
+        Ok(Passed::AsItStands)
     }
 
     // A sweep of format 1.
@@ -118,13 +125,19 @@ impl Walk {
         reader: &mut R,
         pass: u64,
         swept: Sweep,
-    ) -> Result<(), WalkFault>
+    ) -> Result<Passed, WalkFault>
         requires line { self.old.lines.line ≢ noroom_line }
         requires format { self.old.header.format ≡ Format.One }
-        ensures goes { IfOk result (λ u. PassesSweep self.old (R.remaining reader.old) pass swept self.new (R.remaining reader.new)) }
+        ensures goes { IfOk result (PassesSweep self.old (R.remaining reader.old) pass swept self.new (R.remaining reader.new)) }
         ensures fails { IfErr result (FailsAtReply self.old (R.remaining reader.old) pass (swept_line swept)) }
     {
-        let reply = sweep_older(self.alloc, &mut self.store, swept)?;
+        let (reply, merges) = sweep_older(
+            self.alloc,
+            &mut self.store,
+            pass,
+            self.header.limits,
+            swept,
+        )?;
         self.reply.clear();
         append_reply(
             &mut self.reply,
@@ -132,17 +145,18 @@ impl Walk {
             &reply,
             self.header.limits,
         )?;
-        expect(&mut self.lines, reader, self.reply.as_slice())
+        expect(&mut self.lines, reader, self.reply.as_slice())?;
+        Ok(Passed::Swept(merges))
     }
 
-    // HasAsked the store, whose reply has to stand there.
+    // Asks the store, whose reply has to stand there.
     fn ask<R: Source>(
         &mut self,
         reader: &mut R,
         wording: Wording,
         command: Command,
-    ) -> Result<(), WalkFault>
-        ensures goes { IfOk result (λ u. PassesFor wording command self.old (R.remaining reader.old) self.new (R.remaining reader.new)) }
+    ) -> Result<Passed, WalkFault>
+        ensures goes { IfOk result (PassesFor wording command self.old (R.remaining reader.old) self.new (R.remaining reader.new)) }
         ensures fails { IfErr result (FailsFor wording command self.old (R.remaining reader.old)) }
     {
         let reply = self.store.apply(command);
@@ -151,6 +165,20 @@ impl Walk {
         }
         self.reply.clear();
         append_reply(&mut self.reply, wording, &reply, self.header.limits)?;
-        expect(&mut self.lines, reader, self.reply.as_slice())
+        expect(&mut self.lines, reader, self.reply.as_slice())?;
+        Ok(Passed::AsItStands)
+    }
+}
+
+// What an entry is in format 2 that is refused for want of memory: a sweep of format 1 is left out.
+fn refused(alloc: Global, asked: &Asked, format: Format) -> Passed
+    ensures { IsRefusedAs format asked.now result }
+{
+    match asked {
+        Asked::Line(command) => match older(command, format) {
+            Some(_) => Passed::Swept(Merges::new(alloc)),
+            None => Passed::AsItStands,
+        },
+        Asked::Merge(_) => Passed::AsItStands,
     }
 }

@@ -12,7 +12,7 @@ returns-in-Some-clause-step c s stands traced =
     let format = c.args.format in
     let swept = c.in-Some.sweep in
     let is = older_is format c.args.command swept (sym c.older.ensures ∙ c.in-Some.is) in
-    let r = c.in_ok-reply.ensures s stands (subst (λ (f : Format). IsTraced f s) is.0 traced) in (
+    let r = c.in_ok-reply.ensures.0 s stands (subst (λ (f : Format). IsTraced f s) is.0 traced) in (
       Sweep swept.caller swept.owner swept.generation,
       (older_sweep s swept.caller swept.owner swept.generation).1,
       ap store_command is.1,

@@ -1,8 +1,10 @@
-use Rattle.std.proofs.Common.{ℕ, List}
-use Rattle.trace_check.specs.Walking.{Walks}
+use Rattle.std.proofs.Common.{◌≡◌}
+use Rattle.trace_check.specs.Steps.{WalksAt}
+use Rattle.trace_check.specs.Walking.{Spot}
 use Rattle.trace_check.proofs.verifying.walk_through.Given as goal
 
+-- from behind the header it came to somewhere behind so many entries
 abbrev pub invariant-loop-length : goal.invariant-loop-length
 invariant-loop-length g l =
-    (bytes : List ℕ) → Walks bytes l.fn.walk.lines l.fn.walk.store l.fn.walk.header (g.R.Source.remaining l.fn.reader) 0 →
-    Walks bytes l.walk.lines l.walk.store l.walk.header (g.R.Source.remaining l.reader) l.length
+    (b : Spot) → WalksAt b l.fn.walk (g.R.Source.remaining l.fn.reader) → b.count ≡ 0 →
+    (now : Spot) × (now.bytes ≡ b.bytes) × (now.count ≡ l.length) × WalksAt now l.walk (g.R.Source.remaining l.reader)

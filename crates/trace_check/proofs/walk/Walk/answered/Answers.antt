@@ -1,35 +1,34 @@
-use Rattle.std.proofs.Common.{◌∙◌, refl, sym, subst}
+use Rattle.std.proofs.Common.{◌∙◌, ◌++◌, List, ℕ, refl, sym, subst, ap}
 use Rattle.std.proofs.lemmas.Result.{IfOk-weaker, IfErr-weaker}
+use Rattle.store_words.specs.Reply.{refused_noroom}
 use Rattle.trace_words.specs.declared.asked.Asked.{Asked}
-use Rattle.trace_check.specs.Walking.{Hears}
-use Rattle.trace_check.proofs.AskLemmas.{passed_over}
+use Rattle.trace_check.specs.Steps.{HearsAt}
+use Rattle.trace_check.proofs.AskLemmas.{noroom_text, passed_over}
 use Rattle.trace_check.proofs.walk.Walk.answered.Goals as goal
 
 pub returns-then-is_noroom-clause-goes : goal.returns-then-is_noroom-clause-goes
-returns-then-is_noroom-clause-goes g c bytes count x =
+returns-then-is_noroom-clause-goes g c b x =
     let old = c.args.self.now in
-    passed_over bytes old.lines old.store old.header (g.R.Source.remaining c.args.reader.now) count c.args.pass c.args.asked x (sym c.line.ensures ∙ c.if-is_noroom.ensures.0 refl)
+    let text = c.in_ok-append_noroom.ensures.written ∙ ap (λ (l : List ℕ). l ++ refused_noroom) c.clear.ensures.items ∙ sym (noroom_text b old.lines old.store old.header (g.R.Source.remaining c.args.reader.now) c.args.pass c.args.asked old.asked.items x) in
+    passed_over b old.lines old.store old.header (g.R.Source.remaining c.args.reader.now) c.args.pass c.args.asked old.asked.items x (sym c.line.ensures ∙ c.if-is_noroom.ensures.0 refl) _ c.refused.result refl refl refl refl text
+    (λ one. c.refused.ensures one b.state old.header.limits c.args.pass)
 
 pub returns-in-Line-clause-goes : goal.returns-in-Line-clause-goes
 returns-in-Line-clause-goes g c =
-    let old = c.args.self.now in
     IfOk-weaker c.judge_line.result _ _
-    (λ u goes bytes count x. goes bytes count (subst (λ (a : Asked). Hears bytes old.lines old.store old.header (g.R.Source.remaining c.args.reader.now) count c.args.pass a) c.in-Line.is x)) c.judge_line.ensures.goes
+    (λ passed goes b x. goes b (subst (λ (a : Asked). HearsAt b c.args.self.now (g.R.Source.remaining c.args.reader.now) c.args.pass a) c.in-Line.is x)) c.judge_line.ensures.goes
 
 pub returns-in-Line-clause-fails : goal.returns-in-Line-clause-fails
 returns-in-Line-clause-fails g c =
-    let old = c.args.self.now in
     IfErr-weaker c.judge_line.result _ _
-    (λ fault fails bytes count x. fails bytes count (subst (λ (a : Asked). Hears bytes old.lines old.store old.header (g.R.Source.remaining c.args.reader.now) count c.args.pass a) c.in-Line.is x)) c.judge_line.ensures.fails
+    (λ fault fails b x. fails b (subst (λ (a : Asked). HearsAt b c.args.self.now (g.R.Source.remaining c.args.reader.now) c.args.pass a) c.in-Line.is x)) c.judge_line.ensures.fails
 
 pub returns-in-Merge-clause-goes : goal.returns-in-Merge-clause-goes
 returns-in-Merge-clause-goes g c =
-    let old = c.args.self.now in
     IfOk-weaker c.judge_merge.result _ _
-    (λ u goes bytes count x. goes bytes count c.args.pass (subst (λ (a : Asked). Hears bytes old.lines old.store old.header (g.R.Source.remaining c.args.reader.now) count c.args.pass a) c.in-Merge.is x)) c.judge_merge.ensures.goes
+    (λ passed goes b x. goes b c.args.pass (subst (λ (a : Asked). HearsAt b c.args.self.now (g.R.Source.remaining c.args.reader.now) c.args.pass a) c.in-Merge.is x)) c.judge_merge.ensures.goes
 
 pub returns-in-Merge-clause-fails : goal.returns-in-Merge-clause-fails
 returns-in-Merge-clause-fails g c =
-    let old = c.args.self.now in
     IfErr-weaker c.judge_merge.result _ _
-    (λ fault fails bytes count x. fails bytes count c.args.pass (subst (λ (a : Asked). Hears bytes old.lines old.store old.header (g.R.Source.remaining c.args.reader.now) count c.args.pass a) c.in-Merge.is x)) c.judge_merge.ensures.fails
+    (λ fault fails b x. fails b c.args.pass (subst (λ (a : Asked). HearsAt b c.args.self.now (g.R.Source.remaining c.args.reader.now) c.args.pass a) c.in-Merge.is x)) c.judge_merge.ensures.fails

@@ -1,9 +1,8 @@
 use Rattle.std.proofs.Common.{◌≡◌, List, [], ℕ, refl, sym, subst, ◌∙◌}
 use Rattle.ds_lines.specs.Lines.{with_newline}
 use Rattle.trace_words.specs.Text.{HasNoHeader, header_text}
-use Rattle.trace_words.specs.Legal.{opened_by}
-use Rattle.trace_words.specs.Walk.{IsBehind}
 use Rattle.trace_words.proofs.WalkLemmas.{header_behind}
+use Rattle.trace_check.specs.Walking.{IsAt}
 use Rattle.trace_check.proofs.BeginLemmas.{first_fails, input_empty, line_wrong, at_start, by_known}
 use Rattle.trace_check.proofs.walk.Walk.begin.Goals as goal
 
@@ -33,9 +32,7 @@ returns-clause-begins g c =
     let h = c.in-Some.header in
     let text : header_text h ≡ with_newline l.0 = sym c.in-Some.ensures.found.1 ∙ c.line.ensures ∙ l.1 in
     record {
-      front = with_newline l.0;
-      state = opened_by h;
-      at = l.2.then;
+      at = subst (λ (f : List ℕ). IsAt bytes f c.next_line.new.lines (g.R.Source.remaining c.next_line.new.reader)) (sym text) l.2.then;
       stands = c.in-Ok.ensures.opened;
-      behind = subst (λ (f : List ℕ). IsBehind f h (opened_by h) 0) text (header_behind h c.in-Some.ensures.found.0);
+      behind = header_behind h c.in-Some.ensures.found.0;
     })

@@ -10,19 +10,19 @@ returns-in_err-next_line-clause-fails g c =
     let old = c.args.self.now in
     let from = g.R.Source.remaining c.args.reader.now in
     carried c.from_residual.result c.in_err-next_line.field-0.0 _ c.from_residual.ensures.1
-    (λ bytes count w. head_long bytes old.lines old.lines old.store old.header from from count w c.in_err-next_line.field-0.0 (c.in_err-next_line.ensures.long bytes w.front w.at))
+    (λ b w. head_long b old.lines old.lines old.store old.header from from w c.in_err-next_line.field-0.0 (c.in_err-next_line.ensures.long b.bytes b.front w.at))
 
 pub returns-then-not-branch-clause-none : goal.returns-then-not-branch-clause-none
-returns-then-not-branch-clause-none g c bytes count w =
+returns-then-not-branch-clause-none g c b w =
     let old = c.args.self.now in
     let from = g.R.Source.remaining c.args.reader.now in
-    ends_there bytes old.lines old.lines old.store old.header from from count w c.next_line.new.lines.count (c.in_ok-next_line.ensures.none c.if-not-branch.true bytes w.front w.at)
+    ends_there b old.lines old.lines old.store old.header from from w c.next_line.new.lines.count (c.in_ok-next_line.ensures.none c.if-not-branch.true b.bytes b.front w.at)
 
 pub returns-in-Err-clause-fails : goal.returns-in-Err-clause-fails
-returns-in-Err-clause-fails g c bytes count w =
+returns-in-Err-clause-fails g c b w =
     let old = c.args.self.now in
     let new = c.next_line.new.lines in
-    let there = c.in_ok-next_line.ensures.there c.if-not-branch.false bytes w.front w.at in
-    subst (IsFault bytes) (sym c.of_line.ensures)
-    (head_wrong bytes old.lines new old.store old.header (g.R.Source.remaining c.args.reader.now) (g.R.Source.remaining c.next_line.new.reader) count w there.0 c.in-Err.fault c.count.result there.1 there.2
+    let there = c.in_ok-next_line.ensures.there c.if-not-branch.false b.bytes b.front w.at in
+    subst (IsFault b.bytes) (sym c.of_line.ensures)
+    (head_wrong b old.lines new old.store old.header (g.R.Source.remaining c.args.reader.now) (g.R.Source.remaining c.next_line.new.reader) w there.0 c.in-Err.fault c.count.result there.1 there.2
     (λ bad. subst (HasNoHead old.header.format) c.line.ensures (c.in-Err.ensures.none bad)) c.count.ensures.value)

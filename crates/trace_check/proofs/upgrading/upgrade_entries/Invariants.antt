@@ -1,0 +1,12 @@
+use Rattle.std.proofs.Common.{List, ℕ}
+use Rattle.trace_check.specs.Steps.{WalksAt}
+use Rattle.trace_check.specs.Upgrading.{Upgrades}
+use Rattle.trace_check.specs.Walking.{Spot}
+use Rattle.trace_check.proofs.UpgradingLemmas.{IsUnderWay}
+use Rattle.trace_check.proofs.upgrading.upgrade_entries.Given as goal
+
+-- what was gone through is written, in format 2
+abbrev pub invariant-loop-entry : goal.invariant-loop-entry
+invariant-loop-entry g l =
+    (b : Spot) (before : List ℕ) → WalksAt b l.fn.walk (g.R.Source.remaining l.fn.reader) → Upgrades b l.fn.walk.header before 0 →
+    IsUnderWay b before l.fn.walk.header l.walk (g.R.Source.remaining l.reader) (g.W.Sink.contents l.fn.writer) (g.W.Sink.contents l.writer) l.written

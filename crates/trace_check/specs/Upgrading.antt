@@ -1,0 +1,83 @@
+-- What comes of writing a trace of format 1 in format 2.
+use Rattle.std.specs.Prelude.{◌≡◌, ℕ, List, [], ◌++◌, length, Option}
+use Rattle.std.specs.Io.KnownBytes.{Appends}
+use Rattle.ds_lines.specs.Lines.{HasLines, joined}
+use Rattle.trace_words.specs.declared.header.Format.TheVariants.{One, Two}
+use Rattle.trace_words.specs.declared.header.Header.{Header}
+use Rattle.trace_words.specs.declared.verdict.Verdict.TheVariants as verdicts
+use Rattle.trace_words.specs.Legal.{IsTrace, opened_by}
+use Rattle.trace_words.specs.Text.{TraceEntry, IsHeader, header_text, marked, trace_text}
+use Rattle.trace_words.specs.Upgrade.{Become, IsUpgraded, IsUpgradedInPart, upgraded}
+use Rattle.trace_words.specs.Verdict.{IsVerdict}
+use Rattle.trace_check.specs.declared.fault.WalkFault.{WalkFault}
+use Rattle.trace_check.specs.declared.fault.WalkFault.TheVariants as walks
+use Rattle.trace_check.specs.declared.passed.Passed.{Passed}
+use Rattle.trace_check.specs.declared.passed.Passed.TheVariants.{AsItStands, Swept}
+use Rattle.trace_check.specs.declared.upgrading.UpgradeFault.{UpgradeFault}
+use Rattle.trace_check.specs.declared.upgrading.UpgradeFault.TheVariants.{IllegalAt, BadLineAt, AlreadyTwo, ReadFault, WriteFault, NoRoom}
+use Rattle.trace_check.specs.declared.walk.Walk.{Walk}
+use Rattle.trace_check.specs.Steps.{WalksAt}
+use Rattle.trace_check.specs.Walking.{Spot}
+
+-- the fault of a walk
+abbrev pub upgrade_fault : WalkFault → UpgradeFault
+upgrade_fault (walks.IllegalAt number) = IllegalAt number
+upgrade_fault (walks.BadLineAt number) = BadLineAt number
+upgrade_fault walks.ReadFault = ReadFault
+upgrade_fault walks.NoRoom = NoRoom
+
+-- All of the input was written in format 2, with so many entries.
+abbrev pub UpgradesAll : List ℕ → (had has : Option (List ℕ)) → ℕ → Type 0
+UpgradesAll bytes had has count = (lines : List (List ℕ)) × (output : List ℕ) × HasLines bytes lines × Appends had has output × IsUpgraded (joined lines) output count
+
+-- the first lines are a header of format 2
+pub record BeginsWithTwo (bytes : List ℕ) : Type 0 where
+  pub h : Header
+  pub two : h.format ≡ Two
+  pub is : IsHeader h
+  pub front : List (List ℕ)
+  pub rest : List (List ℕ)
+  pub lines : HasLines bytes (front ++ rest)
+  pub text : joined front ≡ header_text h
+
+-- Why the input wasn't written whole: what isn't legal is told as the verdict on it.
+abbrev pub Refuses : UpgradeFault → List ℕ → List ℕ → Type 0
+Refuses (IllegalAt number) bytes output = IsVerdict bytes (verdicts.IllegalAt number)
+Refuses (BadLineAt number) bytes output = IsVerdict bytes (verdicts.BadLineAt number)
+Refuses AlreadyTwo bytes output = (output ≡ []) × BeginsWithTwo bytes
+Refuses ReadFault bytes output = Unit {0}
+Refuses WriteFault bytes output = Unit {0}
+Refuses NoRoom bytes output = Unit {0}
+
+-- Some of its first lines were written in format 2, or nothing, and this is why.
+abbrev pub UpgradesInPart : List ℕ → (had has : Option (List ℕ)) → UpgradeFault → Type 0
+UpgradesInPart bytes had has fault = (output : List ℕ) × Appends had has output × IsUpgradedInPart bytes output × Refuses fault bytes output
+
+-- ---- on the way
+
+-- what was appended for an entry that a walk went through, and how many entries that is
+abbrev pub IsWrittenAs : Walk → Passed → List ℕ → List ℕ → ℕ → Type 0
+IsWrittenAs w AsItStands before after count = (after ≡ before ++ (w.asked.items ++ marked w.reply.items)) × (count ≡ 1)
+IsWrittenAs w (Swept merges) before after count = (after ≡ before ++ merges.text.items) × (count ≡ merges.count)
+
+-- What was gone through, behind this header, is legal, and this output is what it is in format 2, with so many entries.
+pub record Upgrades (b : Spot) (h : Header) (output : List ℕ) (count : ℕ) : Type 0 where
+  pub old : List TraceEntry
+  pub new : List TraceEntry
+  pub one : h.format ≡ One
+  pub trace : IsTrace b.front h old b.state
+  pub become : Become (opened_by h) old b.state new
+  pub written : output ≡ trace_text (upgraded h) new
+  pub counted : count ≡ length new
+
+-- so it is where nothing is left
+abbrev pub EndsUpgraded : Walk → Option (List ℕ) → (had has : Option (List ℕ)) → ℕ → Type 0
+EndsUpgraded old from had has count =
+    (b : Spot) (before : List ℕ) → WalksAt b old from → Upgrades b old.header before 0 →
+    (lines : List (List ℕ)) × (more : List ℕ) × HasLines b.bytes lines × Appends had has more × IsUpgraded (joined lines) (before ++ more) count
+
+-- and of the first lines of the input where there is a fault
+abbrev pub StopsUpgrading : Walk → Option (List ℕ) → (had has : Option (List ℕ)) → UpgradeFault → Type 0
+StopsUpgrading old from had has fault =
+    (b : Spot) (before : List ℕ) → WalksAt b old from → Upgrades b old.header before 0 →
+    (more : List ℕ) × Appends had has more × IsUpgradedInPart b.bytes (before ++ more) × ((output : List ℕ) → Refuses fault b.bytes output)

@@ -1,0 +1,160 @@
+//! Traces of format 1 in format 2.
+
+ghost use Rattle.std.specs.Prelude.{◌≡◌, IfOk, IfErr, IfSome};
+ghost use Rattle.trace_words.specs.Upgrade.{upgraded};
+ghost use Rattle.trace_check.specs.Upgrading.{IsWrittenAs, EndsUpgraded, StopsUpgrading, UpgradesAll, UpgradesInPart};
+
+use crate::fault::WalkFault;
+use crate::passed::Passed;
+use crate::walk::Walk;
+use ds_line::append_all;
+use ds_lines::{Sink, Source, WriteFailed, write_out};
+use ds_names::NoRoom;
+use std::alloc::Global;
+use thiserror::Error;
+use trace_words::{Format, Header, append_header, append_marked};
+
+/// Why a trace isn't written in format 2, or not whole.
+#[derive(Clone, Copy, Debug, PartialEq, Eq, Error)]
+pub enum UpgradeFault {
+    /// It isn't legal: at this line, from 1, a line of a reply has to stand, and none that a legal trace has there does.
+    #[error("illegal {0}")]
+    IllegalAt(u64),
+    /// It isn't legal: at this line a header, a `>` or a `+` line has to stand, and none does.
+    #[error("badline {0}")]
+    BadLineAt(u64),
+    /// It has format 2. Nothing was written.
+    #[error("already 2")]
+    AlreadyTwo,
+    /// The reader failed, or gave more than can be counted.
+    #[error("readfault")]
+    ReadFault,
+    /// The writer failed.
+    #[error("writefault")]
+    WriteFault,
+    /// Out of memory.
+    #[error("noroom")]
+    NoRoom,
+}
+
+impl From<WalkFault> for UpgradeFault {
+    ghost use Rattle.std.specs.Prelude.{◌≡◌};
+    ghost use Rattle.trace_check.specs.Upgrading.{upgrade_fault};
+
+    ghost from_gives = { λ fault given. given ≡ upgrade_fault fault };
+
+    fn from(fault: WalkFault) -> UpgradeFault {
+        match fault {
+            WalkFault::IllegalAt(line) => UpgradeFault::IllegalAt(line),
+            WalkFault::BadLineAt(line) => UpgradeFault::BadLineAt(line),
+            WalkFault::ReadFault => UpgradeFault::ReadFault,
+            WalkFault::NoRoom => UpgradeFault::NoRoom,
+        }
+    }
+}
+
+impl From<WriteFailed> for UpgradeFault {
+    ghost use Rattle.std.specs.Prelude.{◌≡◌};
+    ghost use Rattle.trace_check.specs.declared.upgrading.UpgradeFault.TheVariants as faults;
+
+    ghost from_gives = { λ failed given. given ≡ faults.WriteFault };
+
+    fn from(_failed: WriteFailed) -> UpgradeFault {
+        UpgradeFault::WriteFault
+    }
+}
+
+impl From<NoRoom> for UpgradeFault {
+    ghost use Rattle.std.specs.Prelude.{◌≡◌};
+    ghost use Rattle.trace_check.specs.declared.upgrading.UpgradeFault.TheVariants as faults;
+
+    ghost from_gives = { λ wanting given. given ≡ faults.NoRoom };
+
+    fn from(_wanting: NoRoom) -> UpgradeFault {
+        UpgradeFault::NoRoom
+    }
+}
+
+/// Writes in format 2 the trace of format 1 that a reader gives, each entry once its reply was found legal. Gives how many entries
+/// were written. A sweep becomes Merges of the tombstones that it leaves, at most 256 each; where it leaves none, or is refused, it is
+/// left out. All other entries stay as they are.
+///
+/// What was written before a fault is a front of the upgraded trace. It is written entry by entry.
+pub fn upgrade<R: Source, W: Sink>(
+    alloc: Global,
+    reader: &mut R,
+    writer: &mut W,
+) -> Result<u64, UpgradeFault>
+    ensures upgraded { IfOk result (λ count. IfSome (R.remaining reader.old)
+        (λ bytes. UpgradesAll bytes (W.contents writer.old) (W.contents writer.new) count)) }
+    ensures stopped { IfErr result (λ fault. IfSome (R.remaining reader.old)
+        (λ bytes. UpgradesInPart bytes (W.contents writer.old) (W.contents writer.new) fault)) }
+{
+    let walk = Walk::begin(alloc, reader)?;
+    let header = walk.header();
+    match header.format {
+        Format::One => {}
+        Format::Two => return Err(UpgradeFault::AlreadyTwo),
+    }
+    let mut text = Vec::new(alloc);
+    append_header(&mut text, &upgraded(header))?;
+    write_out(writer, text.as_slice())?;
+    upgrade_entries(alloc, walk, reader, writer)
+}
+
+// The header in format 2.
+fn upgraded(header: Header) -> Header
+    ensures { result ≡ upgraded header }
+{
+    Header {
+        format: Format::Two,
+        incarnation: header.incarnation,
+        first: header.first,
+        ring: header.ring,
+        limits: header.limits,
+    }
+}
+
+// Goes through all entries, and writes each in format 2.
+fn upgrade_entries<R: Source, W: Sink>(
+    alloc: Global,
+    mut walk: Walk,
+    reader: &mut R,
+    writer: &mut W,
+) -> Result<u64, UpgradeFault>
+    ensures all { IfOk result (EndsUpgraded walk (R.remaining reader.old) (W.contents writer.old) (W.contents writer.new)) }
+    ensures part { IfErr result (StopsUpgrading walk (R.remaining reader.old) (W.contents writer.old) (W.contents writer.new)) }
+{
+    let mut text = Vec::new(alloc);
+    let mut written: u64 = 0;
+    for _entry in 0..u64::MAX {
+        let Some(passed) = walk.next(reader)? else {
+            return Ok(written);
+        };
+        text.clear();
+        let count = append_passed(&mut text, &walk, &passed)?;
+        write_out(writer, text.as_slice())?;
+        match written.checked_add(count) {
+            Some(more) => written = more,
+            None => return Err(UpgradeFault::ReadFault),
+        }
+    }
+    Err(UpgradeFault::ReadFault)
+}
+
+// Appends what the entry that the walk went through is in format 2. Gives how many entries that is.
+fn append_passed(text: &mut Vec<u8>, walk: &Walk, passed: &Passed) -> Result<u64, NoRoom>
+    ensures { IfOk result (IsWrittenAs walk.now passed.now text.old.items text.new.items) }
+{
+    match passed {
+        Passed::AsItStands => {
+            append_all(text, &[walk.asked.as_slice()])?;
+            append_marked(text, walk.reply.as_slice())?;
+            Ok(1)
+        }
+        Passed::Swept(merges) => {
+            append_all(text, &[merges.text.as_slice()])?;
+            Ok(merges.count)
+        }
+    }
+}
