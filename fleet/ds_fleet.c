@@ -456,6 +456,11 @@ static void look_for_loss(struct ds_fleet *fleet, const struct stock *stock) {
     fleet->stock = *stock, fleet->looked = true;
 }
 
+/* A connection that says nothing while it waits may be dead, and nobody told us: what was there a second ago hasn't come. */
+static bool is_deaf(const struct ds_fleet *fleet) {
+    return fleet->looked && fleet->at_end && is_above(fleet->stock.newest, fleet->last) && now() > fleet->listener.heard + PERIOD;
+}
+
 static enum ds_fleet_word on_comparing(struct ds_fleet *fleet) {
     struct redisReply **answers = fleet->teller.answers, *last = answers[6];
     for (unsigned i = 0; i < fleet->teller.came; i++)
@@ -467,6 +472,7 @@ static enum ds_fleet_word on_comparing(struct ds_fleet *fleet) {
     if (snapshot->type != REDIS_REPLY_ARRAY || snapshot->elements != 2) return denied(fleet, "no snapshot");
     if (answers[1]->type == REDIS_REPLY_ARRAY) judge(fleet, answers[1]);
     fleet->length = (long)number_of(field(stream, "length"));
+    if (is_deaf(fleet)) return gone(fleet, "what was there a second ago didn't come");
     struct stock stock = stock_of(stream, snapshot->element[0], snapshot->element[1], last->element[2]);
     look_for_loss(fleet, &stock);
     return DS_FLEET_INSTEP;
@@ -486,11 +492,11 @@ static enum ds_fleet_word on_answers(struct ds_fleet *fleet) {
     }
 }
 
-/* Ends the teller's round. Watching has asked the next one already. */
+/* Ends the teller's round. Watching has asked the next one already, and of a connection that went there is none. */
 static enum ds_fleet_word answered(struct ds_fleet *fleet) {
     enum stage stage = fleet->stage;
     enum ds_fleet_word word = on_answers(fleet);
-    if (stage == WATCHING) return word;
+    if (stage == WATCHING || word == DS_FLEET_AWAY) return word;
     link_done(&fleet->teller);
     fleet->stage = RESTING;
     return word;

@@ -10,6 +10,7 @@ import signal
 import socket
 import subprocess
 import tempfile
+import threading
 import time
 
 ROOT = pathlib.Path(__file__).resolve().parent.parent.parent
@@ -297,6 +298,46 @@ class Client:
             pass
         self.it.settimeout(PATIENCE)
         return self.rest != b""
+
+
+class Proxy:
+    """Stands between a bridge and the server. What was connected before `mute` is cut off from then on without a word, but for the first
+    connection of each two."""
+
+    def __init__(self, port):
+        self.port, self.muted, self.listener = port, set(), socket.create_server(("127.0.0.1", 0))
+        self.count = 0
+        threading.Thread(target=self.serve, daemon=True).start()
+
+    def url(self):
+        return f"redis://127.0.0.1:{self.listener.getsockname()[1]}"
+
+    def mute(self):
+        self.muted = {it for it in range(self.count) if it % 2}
+
+    def close(self):
+        self.listener.close()
+
+    def serve(self):
+        try:
+            while True:
+                near, _ = self.listener.accept()
+                far = socket.create_connection(("127.0.0.1", self.port))
+                for one, other in ((near, far), (far, near)):
+                    threading.Thread(target=self.carry, args=(self.count, one, other), daemon=True).start()
+                self.count += 1
+        except OSError:
+            pass
+
+    def carry(self, number, one, other):
+        try:
+            while some := one.recv(1 << 16):
+                if number not in self.muted:
+                    other.sendall(some)
+        except OSError:
+            pass
+        for it in (one, other):
+            it.close()
 
 
 # ---- the words of a redis server ----

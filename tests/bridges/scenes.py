@@ -8,7 +8,7 @@ import time
 import behaviour
 import model
 import stores
-from fleets import ROOT, Gone, until
+from fleets import ROOT, Gone, Proxy, until
 from model import lines as reader
 from model.store import Store
 
@@ -200,6 +200,21 @@ def paused_and_trimmed_under(fleet, draw):
     offer(first, *behind)
     paused.resume()
     shows(paused, lines + behind)
+
+
+def a_connection_that_dies_in_silence(fleet, draw):
+    """The connection on which a bridge waits is dead, and nobody tells it: it sees that what is there doesn't come, and connects anew."""
+    proxy = Proxy(fleet.port)
+    first, deaf = fleet.start(), fleet.start(url=proxy.url())
+    lines = [number("a", 1, 1)]
+    offer(first, *lines)
+    shows(deaf, lines)
+    proxy.mute()
+    lines.append(number("b", 1, 1))
+    offer(first, lines[-1])
+    shows(deaf, lines)
+    assert "didn't come" in deaf.said()
+    proxy.close()
 
 
 def trimmed_by_hand(fleet, draw):
