@@ -6,13 +6,18 @@
  *
  * A fleet owns two connections, one descriptor (the bell), and the text that no server has answered for yet; what it is given by
  * ds_fleet_open it copies, but for the handle, which stays the caller's and has to be open until ds_fleet_close. The handle is used
- * within these calls alone, so there is one thread at a time over it and its fleet. There is nothing global, but that the caller
- * has to ignore SIGPIPE. A server is redis 7 or newer. */
+ * within these calls alone, so there is one thread at a time over it and its fleet; they ask the store, so who wants the text of an
+ * answer of its own fetches it first. There is nothing global, but that the caller has to ignore SIGPIPE. A server is redis 7 or
+ * newer, and a system Linux. */
 #ifndef DS_FLEET_H
 #define DS_FLEET_H
 
 #include "ds.h"
 #include <stdbool.h>
+
+#ifdef __cplusplus
+extern "C" {
+#endif
 
 struct ds_fleet;
 
@@ -27,7 +32,7 @@ enum ds_fleet_word {
     DS_FLEET_BADURL, DS_FLEET_NOTLS, DS_FLEET_BADNAME, DS_FLEET_BADSCOPE, DS_FLEET_SYSTEM /* ds_fleet_open alone; SYSTEM: errno says why */
 };
 
-enum { DS_FLEET_KEEP = 1000, DS_FLEET_REFUSED = 256, DS_FLEET_ID = 48, DS_FLEET_SAID = 256 };
+enum { DS_FLEET_KEEP = 1000, DS_FLEET_ID = 48, DS_FLEET_SAID = 256 /* bytes of a text, with its zero */ };
 
 /* What may be told while a step runs: one line, without its newline. */
 typedef void ds_fleet_tell(void *context, const char *line);
@@ -91,5 +96,9 @@ void ds_fleet_close(struct ds_fleet *fleet);
 /* The word in lower case, as `instep`; and that of a refusal of enum ds_refusal, as `clash`. They are never freed. */
 const char *ds_fleet_word(enum ds_fleet_word word);
 const char *ds_fleet_refusal(uint32_t refusal);
+
+#ifdef __cplusplus
+}
+#endif
 
 #endif
