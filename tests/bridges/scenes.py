@@ -545,6 +545,10 @@ def passwords_and_sockets(fleet, draw):
     offer(named, number("a", 1, 1))
     shows(plain, [number("a", 1, 1)])
     shows(local, [number("a", 1, 1)])
+    quiet, named_so = f"{fleet.home}/quiet", {**os.environ, "DSFLEET_URL": url}
+    with subprocess.Popen([*fleet.words, quiet, "-"], env=named_so, stderr=subprocess.DEVNULL) as hidden:
+        until(lambda: os.path.exists(quiet), "it serves whose address only its environment has")
+        hidden.terminate()
     wrong = fleet.start(url=url.replace("p%40", "q"), wait=False)
     until(lambda: "WRONGPASS" in wrong.said(), "the wrong password is told")
     assert wrong.tries_state() is None and other.all() == ["shown 0"]
