@@ -579,7 +579,7 @@ def meddled_types(fleet, draw):
     """A key of another type is denied, and told, and no stream is trimmed for it; where it is put right, bridges go on."""
     bridge = fleet.start()
     fleet.ask("SET", "ds:snapshot", "x")
-    lines = numbers("b", 60)
+    lines = numbers("b", 24)
     for line in lines:
         offer(bridge, line)
     until(lambda: "WRONGTYPE" in bridge.said(), "it is told")
