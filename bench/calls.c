@@ -49,13 +49,13 @@ int main(int count, char **given) {
         asks[d] = number(d), called(&asks[d]);
         if (!strcmp(what, "retrieve")) asks[d].command = DS_RETRIEVE;
         if (!strcmp(what, "nameof")) asks[d].command = DS_NAMEOF;
-        if (!strcmp(what, "line-retrieve")) sprintf(lines[d], "retrieve d%u.mtu u32", d);
-        if (!strcmp(what, "line-nameof")) sprintf(lines[d], "nameof %u/%u", d + 1, 16 + d);
+        if (!strcmp(what, "line-retrieve")) sprintf(lines[d], "retrieve d%u.mtu u32\n", d);
+        if (!strcmp(what, "line-nameof")) sprintf(lines[d], "nameof %u/%u\n", d + 1, 16 + d);
     }
     for (unsigned long i = 1; i <= calls; i++) {
         uint32_t d = i % DRIVERS;
         if (by_line) {
-            if (publishes) sprintf(lines[d], "publish %u/%u over d%u.mtu u32 %u.%lu = %lu", d + 1, 16 + d, d, d + 1, i, i);
+            if (publishes) sprintf(lines[d], "publish %u/%u over d%u.mtu u32 %u.%lu = %lu\n", d + 1, 16 + d, d, d + 1, i, i);
             sum += told(lines[d], strlen(lines[d]));
         } else {
             if (publishes) asks[d].seq = asks[d].value = (uint32_t)i;

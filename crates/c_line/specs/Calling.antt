@@ -2,14 +2,14 @@
 use Rattle.std.specs.Prelude.{◌≡◌, ◌⊎◌, ℕ, Bool, true, false, List, Option, None, Some, MatchOption}
 use Rattle.ds_words.specs.declared.command.ScriptCommand.{ScriptCommand}
 use Rattle.ds_words.specs.declared.command.ScriptCommand.TheVariants.{Show, All}
-use Rattle.ds_words.specs.Command.{IsLineOf, IsBadLine, CommandTakesMemory, is_plain, store_command}
+use Rattle.ds_words.specs.Command.{CommandTakesMemory, is_plain, store_command}
 use Rattle.ds_words.specs.Wording.{wording}
 use Rattle.c_words.specs.declared.answer.Answer.{Answer}
 use Rattle.c_words.specs.Answer.{told_bad_line}
 use Rattle.c_session.specs.declared.last.Last.TheVariants.{Nothing}
 use Rattle.c_session.specs.declared.session.Session.{Session}
 use Rattle.c_session.specs.Called.{Tells, Rests, RestsForNone, RestsForRoom, ShowsIfRoom}
-use Rattle.c_line.specs.Line.{IsLineIn, IsBroken}
+use Rattle.c_line.specs.Line.{IsCommandIn, IsBadIn}
 
 -- whether the command shows all that is held, or the puts alone; the others show nothing
 abbrev pub what_shows : ScriptCommand → Option Bool
@@ -28,35 +28,25 @@ LineAsks command old answer new =
 abbrev pub CarriesOut : ScriptCommand → Session → Answer → Session → Type 0
 CarriesOut command old answer new = MatchOption (what_shows command) (LineAsks command old answer new) (λ all. ShowsIfRoom old all answer new)
 
--- the line is the command's, which is carried out
-pub record CarriesOutLine (old : Session) (line : List ℕ) (answer : Answer) (new : Session) : Type 0 where
+-- the bytes are the command's line, which is carried out
+pub record CarriesOutLine (old : Session) (bytes : List ℕ) (answer : Answer) (new : Session) : Type 0 where
   pub command : ScriptCommand
-  pub stands : IsLineOf command line
+  pub stands : IsCommandIn bytes command
   pub carried : CarriesOut command old answer new
 
--- it is no command's from the place on, which is told
-pub record LineIsBad (old : Session) (IsBadAt : ℕ → Type 0) (answer : Answer) (new : Session) : Type 0 where
+-- they are no command's line from the place on, which is told
+pub record LineIsBad (old : Session) (bytes : List ℕ) (answer : Answer) (new : Session) : Type 0 where
   pub place : ℕ
-  pub bad : IsBadAt place
+  pub bad : IsBadIn bytes place
   pub rests : Rests old (told_bad_line place) Nothing answer new
 
--- it is a command's, for whose text, blob, pattern or settings memory is wanting
-pub record LineWantsRoom (old : Session) (line : List ℕ) (answer : Answer) (new : Session) : Type 0 where
+-- they are a command's line, for whose text, blob, pattern or settings memory is wanting
+pub record LineWantsRoom (old : Session) (bytes : List ℕ) (answer : Answer) (new : Session) : Type 0 where
   pub command : ScriptCommand
-  pub stands : IsLineOf command line
+  pub stands : IsCommandIn bytes command
   pub takes : CommandTakesMemory command
   pub rests : RestsForRoom old answer new
 
 -- one of these
-abbrev pub AsksLine : Session → List ℕ → Answer → Session → Type 0
-AsksLine old line answer new = CarriesOutLine old line answer new ⊎ (LineIsBad old (IsBadLine line) answer new ⊎ LineWantsRoom old line answer new)
-
--- the bytes are a line, which is asked
-pub record AsksLineIn (old : Session) (bytes : List ℕ) (answer : Answer) (new : Session) : Type 0 where
-  pub line : List ℕ
-  pub is : IsLineIn bytes line
-  pub asked : AsksLine old line answer new
-
--- or more stands behind the first line, which is bad
 abbrev pub CallsLine : Session → List ℕ → Answer → Session → Type 0
-CallsLine old bytes answer new = AsksLineIn old bytes answer new ⊎ LineIsBad old (IsBroken bytes) answer new
+CallsLine old bytes answer new = CarriesOutLine old bytes answer new ⊎ (LineIsBad old bytes answer new ⊎ LineWantsRoom old bytes answer new)

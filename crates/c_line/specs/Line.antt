@@ -1,6 +1,10 @@
--- Which line bytes are.
-use Rattle.std.specs.Prelude.{◌≡◌, ◌≢◌, ◌⊎◌, ℕ, ◌+◌, List, [], ◌++◌, length}
+-- Which line bytes are, and whose.
+use Rattle.std.specs.Prelude.{◌≡◌, ◌≢◌, ◌⊎◌, ℕ, ◌+◌, List, [], ◌++◌, length, Result, Ok, Err}
 use Rattle.ds_lines.specs.Lines.{IsUnbroken, with_newline}
+use Rattle.ds_words.specs.declared.command.ScriptCommand.{ScriptCommand}
+use Rattle.ds_words.specs.declared.fault.CommandFault.{CommandFault}
+use Rattle.ds_words.specs.declared.fault.CommandFault.TheVariants.{BadLine, NoRoom}
+use Rattle.ds_words.specs.Command.{IsLineOf, IsBadLine, CommandTakesMemory}
 
 -- the bytes are the line, whose newline may be missing
 pub record IsLineIn (bytes line : List ℕ) : Type 0 where
@@ -15,3 +19,19 @@ pub record IsBroken (bytes : List ℕ) (place : ℕ) : Type 0 where
   pub text : bytes ≡ with_newline line ++ rest
   pub more : rest ≢ []
   pub place_is : place ≡ length line + 1
+
+-- they are the command's line
+pub record IsCommandIn (bytes : List ℕ) (command : ScriptCommand) : Type 0 where
+  pub line : List ℕ
+  pub is : IsLineIn bytes line
+  pub stands : IsLineOf command line
+
+-- from the place on they aren't one: more stands there behind the first line, or it is a bad line
+abbrev pub IsBadIn : List ℕ → ℕ → Type 0
+IsBadIn bytes place = IsBroken bytes place ⊎ ((line : List ℕ) × IsLineIn bytes line × IsBadLine line place)
+
+-- what the reader of them answers
+abbrev pub ReadsBytes : List ℕ → Result ScriptCommand CommandFault → Type 0
+ReadsBytes bytes (Ok command) = IsCommandIn bytes command
+ReadsBytes bytes (Err (BadLine place expected)) = IsBadIn bytes place
+ReadsBytes bytes (Err NoRoom) = (command : ScriptCommand) × IsCommandIn bytes command × CommandTakesMemory command

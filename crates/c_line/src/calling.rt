@@ -1,14 +1,13 @@
 //! Lines, and what they ask of a session.
 
 ghost use Rattle.std.specs.Prelude.{◌≡◌};
-ghost use Rattle.ds_lines.specs.Lines.{IsUnbroken};
-ghost use Rattle.c_line.specs.Calling.{what_shows, LineAsks, CarriesOut, AsksLine, CallsLine};
+ghost use Rattle.c_line.specs.Calling.{what_shows, LineAsks, CarriesOut, CallsLine};
 
-use crate::line::line_in;
+use crate::reading::read_bytes;
 use c_session::Session;
 use c_words::Answer;
 use ds_names::NoRoom;
-use ds_words::{CommandFault, ScriptCommand, read_command};
+use ds_words::{CommandFault, ScriptCommand};
 use std::alloc::Global;
 
 /// Carries out the command that stands on a line, whose newline may be missing.
@@ -19,18 +18,7 @@ use std::alloc::Global;
 pub fn call_line(alloc: Global, session: &mut Session, bytes: &[u8]) -> Answer
     ensures { CallsLine session.old bytes.now result session.new }
 {
-    match line_in(bytes) {
-        Ok(line) => ask(alloc, session, line),
-        Err(place) => session.rest(Answer::bad_line(place)),
-    }
-}
-
-// Carries out the command of a line.
-fn ask(alloc: Global, session: &mut Session, line: &[u8]) -> Answer
-    requires { IsUnbroken line.now }
-    ensures { AsksLine session.old line.now result session.new }
-{
-    match read_command(alloc, line) {
+    match read_bytes(alloc, bytes) {
         Ok(command) => carry_out(alloc, session, command),
         Err(CommandFault::BadLine { place, .. }) => session.rest(Answer::bad_line(place)),
         Err(CommandFault::NoRoom) => session.refuse(),

@@ -2,7 +2,7 @@
 #![tactic(auto)]
 
 mod calling;
-mod line;
+mod reading;
 mod text;
 
 pub use calling::call_line;
