@@ -20,6 +20,7 @@ use Rattle.trace_check.specs.declared.fault.WalkFault.TheVariants as walks
 use Rattle.trace_check.specs.declared.passed.Passed.{Passed}
 use Rattle.trace_check.specs.declared.passed.Passed.TheVariants.{AsItStands, Swept}
 use Rattle.trace_check.specs.declared.upgrading.UpgradeFault.{UpgradeFault}
+use Rattle.trace_check.specs.declared.upgrading.UpgradeFault.TheVariants.{NoRoom, WriteFault}
 use Rattle.trace_check.specs.declared.walk.Walk.{Walk}
 use Rattle.trace_check.specs.Passing.{HasPassed}
 use Rattle.trace_check.specs.Steps.{WalksAt, EndsThere, first_spot}
@@ -36,6 +37,16 @@ refused_for bytes (walks.IllegalAt number) f output = f
 refused_for bytes (walks.BadLineAt number) f output = f
 refused_for bytes walks.ReadFault f output = tt
 refused_for bytes walks.NoRoom f output = tt
+
+-- and no fault of a writer
+pub never_write : (fault : WalkFault) → upgrade_fault fault ≡ WriteFault → ⊥
+never_write (walks.IllegalAt number) e = absurd (cc)
+never_write (walks.BadLineAt number) e = absurd (cc)
+never_write walks.ReadFault e = absurd (cc)
+never_write walks.NoRoom e = absurd (cc)
+
+pub not_written : NoRoom ≡ WriteFault → ⊥
+not_written e = absurd (cc)
 
 -- ---- entries
 

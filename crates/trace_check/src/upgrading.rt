@@ -1,6 +1,7 @@
 //! Traces of format 1 in format 2.
 
 ghost use Rattle.std.specs.Prelude.{◌≡◌, IfOk, IfErr, IfSome};
+ghost use Rattle.ds_lines.specs.Streams.{HasFailedWrite};
 ghost use Rattle.trace_words.specs.Upgrade.{upgraded};
 ghost use Rattle.trace_check.specs.Upgrading.{IsWrittenAs, EndsUpgraded, StopsUpgrading, UpgradesAll, UpgradesInPart};
 
@@ -79,7 +80,8 @@ impl From<NoRoom> for UpgradeFault {
 /// were written. A sweep becomes Merges of the tombstones that it leaves, at most 256 each; where it leaves none, or is refused, it is
 /// left out. All other entries stay as they are.
 ///
-/// What was written before a fault is a front of the upgraded trace. It is written entry by entry.
+/// What was written before a fault is a front of the upgraded trace. It is written entry by entry. A WriteFault comes only where a write
+/// failed, or took no bytes, or after 2^64 - 1 writes.
 pub fn upgrade<R: Source, W: Sink>(
     alloc: Global,
     reader: &mut R,
@@ -89,6 +91,7 @@ pub fn upgrade<R: Source, W: Sink>(
         (λ bytes. UpgradesAll bytes (W.contents writer.old) (W.contents writer.new) count)) }
     ensures stopped { IfErr result (λ fault. IfSome (R.remaining reader.old)
         (λ bytes. UpgradesInPart bytes (W.contents writer.old) (W.contents writer.new) fault)) }
+    ensures cause { IfErr result (λ fault. fault ≡ UpgradeFault.WriteFault → HasFailedWrite W.writes W.fails writer.new) }
 {
     let walk = Walk::begin(alloc, reader)?;
     let header = walk.header();
@@ -124,6 +127,7 @@ fn upgrade_entries<R: Source, W: Sink>(
 ) -> Result<u64, UpgradeFault>
     ensures all { IfOk result (EndsUpgraded walk (R.remaining reader.old) (W.contents writer.old) (W.contents writer.new)) }
     ensures part { IfErr result (StopsUpgrading walk (R.remaining reader.old) (W.contents writer.old) (W.contents writer.new)) }
+    ensures cause { IfErr result (λ fault. fault ≡ UpgradeFault.WriteFault → HasFailedWrite W.writes W.fails writer.new) }
 {
     let mut text = Vec::new(alloc);
     let mut written: u64 = 0;

@@ -7,7 +7,7 @@ use Rattle.trace_words.specs.Text.{header_text}
 use Rattle.trace_words.specs.Upgrade.{upgraded}
 use Rattle.trace_check.specs.Steps.{first_spot}
 use Rattle.trace_check.proofs.BeginLemmas.{known_then}
-use Rattle.trace_check.proofs.UpgradingLemmas.{begins_two, handed_on, header_upgrades, refused_for, stops_in_header}
+use Rattle.trace_check.proofs.UpgradingLemmas.{begins_two, handed_on, header_upgrades, never_write, not_written, refused_for, stops_in_header}
 use Rattle.trace_check.proofs.upgrading.upgrade.Goals as goal
 
 pub returns-in_err-walk-clause-stopped : goal.returns-in_err-walk-clause-stopped
@@ -77,3 +77,15 @@ returns-clause-stopped g c =
     let e = part (first_spot bytes w.header) first walks (header_upgrades bytes w from walks one) in
     (first ++ e.0, Appends-trans had mid has first e.0 sent e.1, e.2, e.3 (first ++ e.0))))
     c.upgrade_entries.ensures.part
+
+pub returns-in_err-walk-clause-cause : goal.returns-in_err-walk-clause-cause
+returns-in_err-walk-clause-cause g c =
+    handed_on c.from_residual.result _ _ c.from_residual.ensures.1 (λ is. absurd (never_write c.in_err-walk.field-0.0 is))
+
+pub returns-in_err-append_header-clause-cause : goal.returns-in_err-append_header-clause-cause
+returns-in_err-append_header-clause-cause g c =
+    handed_on c.from_residual-in_err-append_header.result _ _ c.from_residual-in_err-append_header.ensures.1 (λ is. absurd (not_written is))
+
+pub returns-in_err-write_out-clause-cause : goal.returns-in_err-write_out-clause-cause
+returns-in_err-write_out-clause-cause g c =
+    handed_on c.from_residual-in_err-write_out.result _ _ c.from_residual-in_err-write_out.ensures.1 (λ is. c.in_err-write_out.ensures.cause)

@@ -4,7 +4,7 @@ use Rattle.trace_check.specs.declared.passed.Passed.{Passed}
 use Rattle.trace_check.specs.Steps.{EndsThere, GoesPast}
 use Rattle.trace_check.specs.Upgrading.{IsWrittenAs, Refuses, upgrade_fault}
 use Rattle.trace_check.proofs.FaultLemmas.{some_at}
-use Rattle.trace_check.proofs.UpgradingLemmas.{ends_upgraded, goes_on_writing, handed_on, refused_for, sets_out, stops_between, stops_within}
+use Rattle.trace_check.proofs.UpgradingLemmas.{ends_upgraded, goes_on_writing, handed_on, never_write, not_written, refused_for, sets_out, stops_between, stops_within}
 use Rattle.trace_check.proofs.upgrading.upgrade_entries.Goals as goal
 
 pub loop-entry-init : goal.loop-entry-init
@@ -87,3 +87,15 @@ returns-clause-part g c b before w x =
     let l = c.loop-entry in
     let part = stops_between b before c.args.walk.header l.walk (g.R.Source.remaining l.reader) (g.W.Sink.contents c.args.writer.now) (g.W.Sink.contents l.writer) l.written (l.invariant b before w x) in
     (part.0, part.1, part.2, λ output. tt)
+
+pub returns-in_err-passed-clause-cause : goal.returns-in_err-passed-clause-cause
+returns-in_err-passed-clause-cause g c =
+    handed_on c.from_residual.result _ _ c.from_residual.ensures.1 (λ is. absurd (never_write c.in_err-passed.field-0.0 is))
+
+pub returns-in_err-count-clause-cause : goal.returns-in_err-count-clause-cause
+returns-in_err-count-clause-cause g c =
+    handed_on c.from_residual-in_err-count.result _ _ c.from_residual-in_err-count.ensures.1 (λ is. absurd (not_written is))
+
+pub returns-in_err-write_out-clause-cause : goal.returns-in_err-write_out-clause-cause
+returns-in_err-write_out-clause-cause g c =
+    handed_on c.from_residual-in_err-write_out.result _ _ c.from_residual-in_err-write_out.ensures.1 (λ is. c.in_err-write_out.ensures.cause)
