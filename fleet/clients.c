@@ -2,7 +2,6 @@
 #include "clients.h"
 #include "lines.h"
 #include <errno.h>
-#include <poll.h>
 #include <stdio.h>
 #include <stdlib.h>
 #include <string.h>
@@ -33,9 +32,10 @@ bool clients_add(struct clients *clients, int socket) {
 /* Whether its next lines may be answered: its last ones are, and it reads. */
 static bool is_free(const struct client *client) { return !client->held.length && client->out.length < CLIENT_WAITS; }
 
-short clients_wants(const struct client *client) {
-    bool reads = !client->ended && is_free(client) && client->in.length < CLIENT_READS;
-    return (short)((reads ? POLLIN : 0) | (client->out.length ? POLLOUT : 0));
+struct pollfd clients_watched(const struct client *client) {
+    bool reads = !client->ended && is_free(client) && client->in.length < CLIENT_READS, writes = client->out.length > 0;
+    bool rests = client->ended && !writes;
+    return (struct pollfd){.fd = rests ? -1 : client->socket, .events = (short)((reads ? POLLIN : 0) | (writes ? POLLOUT : 0))};
 }
 
 void clients_read(struct client *client) {

@@ -4,6 +4,7 @@
 
 #include "ds_fleet.h"
 #include "text.h"
+#include <poll.h>
 
 enum { CLIENTS = 512 /* at once */, CLIENT_LINE = 4096, CLIENT_READS = 1 << 16, CLIENT_WAITS = 1 << 20 /* bytes that wait for who doesn't read */ };
 
@@ -26,8 +27,9 @@ struct clients {
 
 /* Takes in a client by its socket, which is closed with it. False where there are too many, or memory is wanting: it is closed then. */
 bool clients_add(struct clients *clients, int socket);
-/* What a client is to be watched for, as of poll: to be read while its last lines are answered, and it reads its answers. */
-short clients_wants(const struct client *client);
+/* How a client is to be watched by poll: for reading while its last lines are answered and it reads its answers, for writing where something
+ * is to be written; not at all once no more comes from it, since poll would tell that again and again. */
+struct pollfd clients_watched(const struct client *client);
 /* Reads what a client has sent. */
 void clients_read(struct client *client);
 /* Answers the lines of each client whose last ones are answered. */

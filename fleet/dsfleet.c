@@ -4,7 +4,6 @@
 #include <errno.h>
 #include <fcntl.h>
 #include <getopt.h>
-#include <poll.h>
 #include <signal.h>
 #include <stdio.h>
 #include <stdlib.h>
@@ -142,7 +141,7 @@ static void wait_and_read(struct host *host, bool ready) {
     polled[0] = (struct pollfd){.fd = host->signals, .events = POLLIN};
     polled[1] = (struct pollfd){.fd = ds_fleet_bell(host->fleet), .events = POLLIN};
     polled[2] = (struct pollfd){.fd = count < CLIENTS ? host->listener : -1, .events = POLLIN};
-    for (size_t i = 0; i < count; i++) polled[i + 3] = (struct pollfd){.fd = host->clients.client[i]->socket, .events = clients_wants(host->clients.client[i])};
+    for (size_t i = 0; i < count; i++) polled[i + 3] = clients_watched(host->clients.client[i]);
     if (poll(polled, count + 3, ready ? 0 : 1000) <= 0) return;
     struct signalfd_siginfo signal;
     host->ended |= polled[0].revents && read(host->signals, &signal, sizeof signal) > 0;

@@ -223,6 +223,11 @@ class Bridge:
         self.process = None
         return status
 
+    def spent(self):
+        """Its seconds of processor time."""
+        with open(f"/proc/{self.process.pid}/stat") as stat:
+            return sum(map(int, stat.read().rpartition(")")[2].split()[11:13])) / os.sysconf("SC_CLK_TCK")
+
     def said(self):
         with open(self.log, encoding="latin1") as log:
             return log.read()

@@ -485,6 +485,21 @@ def a_hundred_clients(fleet, draw):
         client.it.close()
 
 
+def who_hangs_up(fleet, draw):
+    """A client that hangs up before it could be answered costs no processor time, and its change is told all the same."""
+    bridge, other = fleet.start(), fleet.start()
+    fleet.pause_server()
+    with bridge.client() as client:
+        client.send(f"offer {number('a', 1, 1)}")
+        time.sleep(0.1)
+    before = bridge.spent()
+    time.sleep(2)
+    spent = bridge.spent() - before
+    fleet.resume_server()
+    assert spent < 0.1, f"{spent} s of processor time in two seconds of waiting"
+    shows(other, [number("a", 1, 1)])
+
+
 def the_last_newline(fleet, draw):
     """Who sends its last line without a newline and no more is answered, and let go."""
     bridge = fleet.start()
