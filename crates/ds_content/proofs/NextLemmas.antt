@@ -3,7 +3,7 @@ use Rattle.std.proofs.Common.{◌≡◌, ℕ, zero, suc, ◌+◌, ◌-◌, ◌<�
 use Rattle.std.specs.Prelude.{slice_get}
 use Rattle.std.specs.Option.{option_map, option_map_or, IfSome}
 use Rattle.std.proofs.lemmas.List.{length-map}
-use Rattle.std.proofs.lemmas.Option.{same_Some, slice_get_within}
+use Rattle.std.proofs.lemmas.Option.{same_Some, slice_get_within, slice_get_cases}
 use Rattle.ds_entry.specs.Change.{ChangeRecord}
 use Rattle.ds_entry.specs.declared.floor.Floor.{Floor}
 use Rattle.ds_entry.specs.declared.item.Item.{Item}
@@ -21,10 +21,12 @@ use Rattle.ds_content.proofs.FlagLemmas.{below_or_not, below_or_at}
 use Rattle.ds_content.proofs.HoldingLemmas.{count_floors, items_floored, floor_item_at, change_item_at}
 use Rattle.ds_content.proofs.IndexLemmas.{flag_is}
 
-within_there : {X : Type 0} (xs : List X) (k : ℕ) → k < length xs → (x : X) × (slice_get xs k ≡ Some x)
-within_there [] k l = absurd (omega (arith, l))
-within_there (x ∷ xs) zero l = (x, refl)
-within_there (x ∷ xs) (suc k) l = within_there xs k (omega (arith, l))
+-- a list of so many has an element at each index below
+there_below : {X : Type 0} (xs : List X) (k n : ℕ) → length xs ≡ n → k < n → (x : X) × (slice_get xs k ≡ Some x)
+there_below xs k n e l = elim (slice_get_cases xs k).1 [
+  | inl w ↦ (w.0, w.2)
+  | inr none ↦ absurd (omega (arith, none.0, e, l))
+]
 
 -- ---- the masks beside the item at an index
 module _ (h : MarkedHolding Masks) (sub : ℕ) where
@@ -35,7 +37,7 @@ module _ (h : MarkedHolding Masks) (sub : ℕ) where
 
   beside_by : (ms : List Masks) (k : ℕ) (i : Item) → k < length ms → slice_get ms k ≡ masks_at h i → Beside ms k i
   beside_by ms k i l e =
-      let r = within_there ms k l in
+      let r = there_below ms k (length ms) refl l in
       record { masks = r.0; here = r.1; says = flag_is h k sub r.0 i (sym r.1 ∙ e) }
 
   module _ (fms : List Masks) (floors : AreFloorMarks h fms) where
@@ -44,16 +46,14 @@ module _ (h : MarkedHolding Masks) (sub : ℕ) where
 
     beside_floor : (k : ℕ) → k < floor_count h.held → (i : Item) → slice_get (held_items h.held) k ≡ Some i → Beside fms k i
     beside_floor k low i e =
-        let n = count_floors h.held in
-        let r = within_there (held_floors h.held) k (omega (arith, low, n)) in
+        let r = there_below (held_floors h.held) k (floor_count h.held) (count_floors h.held) low in
         let one : Floored r.0 ≡ i = same_Some (Floored r.0) i (ap (option_map (λ f. Floored f)) (sym r.1) ∙ sym (floor_item_at h.held k low) ∙ e) in
         let m = few_floors in
         subst (λ x. Beside fms k x) one (beside_by fms k (Floored r.0) (omega (arith, low, m)) (floors.own k r.0 r.1))
 
     item_of_floor : (k : ℕ) → k < floor_count h.held → (i : Item) × (slice_get (held_items h.held) k ≡ Some i)
     item_of_floor k low =
-        let n = count_floors h.held in
-        let r = within_there (held_floors h.held) k (omega (arith, low, n)) in
+        let r = there_below (held_floors h.held) k (floor_count h.held) (count_floors h.held) low in
         (Floored r.0, floor_item_at h.held k low ∙ ap (option_map (λ f. Floored f)) r.1)
 
     -- the first floor that is to be shown is the first item
@@ -103,9 +103,8 @@ module _ (h : MarkedHolding Masks) (sub : ℕ) where
         pub next_change : (n at : ℕ) → IsNext (says_unseen sub) ms start (Some n) → at ≡ length fms + n → IsNext (is_to_show h sub) (held_items h.held) from (Some at)
         next_change n at next is =
             let w = slice_get_within ms n next.there.1.0 next.there.1.1 in
-            let each = changes.each in
             let few = few_floors in
-            let r = within_there (held_changes h.held) n (omega (arith, w, each)) in
+            let r = there_below (held_changes h.held) n (length ms) (sym changes.each) w in
             let here : slice_get (held_items h.held) (floor_count h.held + n) ≡ Some (Changed r.0) = change_item_at h.held (floor_count h.held + n) n refl ∙ ap (option_map (λ c. Changed c)) r.1 in
             let b = beside_change n (Changed r.0) here in
             let first = next.there.0 in
