@@ -12,3 +12,4 @@ pub mod EnterLemmas
 pub mod ServeLemmas
 pub mod IndexLemmas
 pub mod PagingLemmas
+pub mod NextLemmas

@@ -1,5 +1,5 @@
 -- What is to be shown to a subscription first.
-use Rattle.std.specs.Prelude.{◌≡◌, ℕ, ◌≤◌, ◌⊎◌, Bool, true, false, List, [], ◌∷◌, ◌++◌, length, take, filter, slice_get, slice_index_or, Some, None}
+use Rattle.std.specs.Prelude.{◌≡◌, ℕ, ◌<◌, ◌≤◌, ◌⊎◌, Bool, true, false, List, [], ◌∷◌, ◌++◌, length, take, filter, slice_get, slice_index_or, Option, Some, None, IfSome}
 use Rattle.ds_entry.specs.declared.item.Item.{Item}
 use Rattle.ds_held.specs.Held.{Holding, held_items}
 use Rattle.ds_marked.specs.Marked.{MarkedHolding}
@@ -19,9 +19,18 @@ flagged (false ∷ flags) (i ∷ items) = flagged flags items
 abbrev pub AreUnseen : ContentRecord → ℕ → List Item → ℕ → Type 0
 AreUnseen content sub items passed = (f : Followed) → slice_index_or content.subscriptions sub None ≡ Some f → items ≡ flagged f.unseen (take passed content.held)
 
+-- the first element from the index on that passes the test is the one at the index that is found; where none is found, none passes
+pub record IsNext {X : Type 0} (test : X → Bool) (xs : List X) (from : ℕ) (found : Option ℕ) : Type 0 where
+  pub there : IfSome found (λ n. (from ≤ n) × ((x : X) × (slice_get xs n ≡ Some x) × (test x ≡ true)))
+  pub none_before : (k : ℕ) (x : X) → slice_get xs k ≡ Some x → from ≤ k → IfSome found (λ n. k < n) → test x ≡ false
+
 -- the held item at the index, where there is one, was added where it passes the test
 abbrev pub IsItemAdded : Holding → ℕ → (Item → Bool) → List Item → List Item → Type 0
 IsItemAdded held index test old new = (i : Item) → slice_get (held_items held) index ≡ Some i → new ≡ old ++ filter test (i ∷ [])
+
+-- the masks say that their item is still to be shown to the subscription at the place
+abbrev pub says_unseen : ℕ → Masks → Bool
+says_unseen sub m = slice_index_or m.unseen sub false
 
 -- the item is still to be shown to the subscription at the place
 abbrev pub is_to_show : MarkedHolding Masks → ℕ → Item → Bool

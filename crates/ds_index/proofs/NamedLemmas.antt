@@ -9,7 +9,7 @@ use Rattle.std.specs.Option.{option_map_or}
 use Rattle.std.specs.List.Sorted.{IsStrictlySortedBy, IsPartitionedBy, IsPartitionPoint}
 use Rattle.std.proofs.lemmas.Cmp.{on_total, then_total, nat_cmp_total, nat_list_cmp_total}
 use Rattle.std.proofs.lemmas.Map.Lookups.{exact_pairs, exact_unsigned, exact_bytes}
-use Rattle.std.proofs.lemmas.Option.{same_Some, slice_get_within, slice_get_cases, slice_get-get_or, get_or_from_slice_get}
+use Rattle.std.proofs.lemmas.Option.{same_Some, slice_get_within, slice_get-get_or}
 use Rattle.ds_entry.proofs.Members.{In, In-from_Contains, Contains-from_In}
 use Rattle.ds_names.specs.Endpoint.{EndpointRecord}
 use Rattle.ds_names.specs.Key.{name_cmp}
@@ -95,32 +95,58 @@ stands_at b xs ys i s h e p = place_is b xs i s (In-from_Contains b xs h) (subst
 pub stands_within : (b : Named) (xs ys : List Named) (i n : ℕ) → IsStrictlySortedBy named_cmp xs → Contains xs b → ys ≡ xs → IsLabelPlace b ys i → n ≡ length xs → i < n
 stands_within b xs ys i n s h e p long = subst (λ m. i < m) (sym long) (slice_get_within xs i b (stands_at b xs ys i s h e p))
 
--- ---- a label between those beside an index
--- what the label does with the one at the index
-abbrev pub behind_nth : Named → List Named → ℕ → Bool
-behind_nth p xs i = option_map_or (is_label_behind p) (slice_get xs i) false
+-- ---- what the labels beside an index tell of all others
+-- the one at the index passes
+abbrev pub passes_nth : (Named → Bool) → List Named → ℕ → Bool
+passes_nth test xs i = option_map_or test (slice_get xs i) false
 
-module _ (p : Named) (xs : List Named) (s : IsStrictlySortedBy named_cmp xs) where
-  -- behind one label is behind all before it
-  behind_all : (i : ℕ) → behind_nth p xs i ≡ true → (k : ℕ) (d : Named) → k ≤ i → is_label_behind p (get_or xs k d) ≡ true
-  behind_all i b k d l = by_found (slice_get_cases xs i).1
+module _ (test : Named → Bool) (xs : List Named) (parted : IsPartitionedBy test xs) where
+  -- where one passes, it stands in the list
+  passes_within : (i : ℕ) → passes_nth test xs i ≡ true → i < length xs
+  passes_within i b = by_found (slice_get xs i) refl b
     where
-      by_found : ((x : Named) × (i < length xs) × (slice_get xs i ≡ Some x) × (get_or xs i x ≡ x)) ⊎ ((length xs ≤ i) × (slice_get xs i ≡ None)) → is_label_behind p (get_or xs k d) ≡ true
-      by_found (inl w) =
-          behind_partitioned p xs s k i d l w.1
-          (ap (is_label_behind p) (get_or_from_slice_get xs i w.0 d w.2) ∙ sym (ap (λ o. option_map_or (is_label_behind p) o false) w.2) ∙ b)
-      by_found (inr w) = opposed (behind_nth p xs i) b (ap (λ o. option_map_or (is_label_behind p) o false) w.1)
+      by_found : (o : Option Named) → slice_get xs i ≡ o → option_map_or test o false ≡ true → i < length xs
+      by_found None e q = absurd (cc)
+      by_found (Some x) e q = slice_get_within xs i x e
 
-  -- not behind one is behind none from it on
-  behind_none : (i : ℕ) → behind_nth p xs i ≡ false → (k : ℕ) (d : Named) → i ≤ k → k < length xs → is_label_behind p (get_or xs k d) ≡ false
-  behind_none i b k d l w = by_test (is_label_behind p (get_or xs k d)) refl
+  -- all before it pass
+  pub passes_all : (i : ℕ) → passes_nth test xs i ≡ true → (k : ℕ) (d : Named) → k ≤ i → test (get_or xs k d) ≡ true
+  passes_all i b k d l =
+      let w = passes_within i b in
+      parted k i d l w (sym (ap (λ o. option_map_or test o false) (slice_get-get_or xs i d w)) ∙ b)
+
+  -- where one doesn't pass, none from it on does
+  pub passes_none : (i : ℕ) → passes_nth test xs i ≡ false → (k : ℕ) (d : Named) → i ≤ k → k < length xs → test (get_or xs k d) ≡ false
+  passes_none i b k d l w = by_test (test (get_or xs k d)) refl
     where
-      by_test : (t : Bool) → is_label_behind p (get_or xs k d) ≡ t → t ≡ false
+      by_test : (t : Bool) → test (get_or xs k d) ≡ t → t ≡ false
       by_test false e = refl
       by_test true e =
           let here : i < length xs = omega (arith, l, w) in
-          let first : is_label_behind p (get_or xs i d) ≡ true = behind_partitioned p xs s i k d l w e in
-          opposed (behind_nth p xs i) (ap (λ o. option_map_or (is_label_behind p) o false) (slice_get-get_or xs i d here) ∙ first) b
+          let first : test (get_or xs i d) ≡ true = parted i k d l w e in
+          opposed (passes_nth test xs i) (ap (λ o. option_map_or test o false) (slice_get-get_or xs i d here) ∙ first) b
+
+  -- so those that pass end there
+  pub point_first : passes_nth test xs 0 ≡ false → IsPartitionPoint (λ y. test y ≡ true) (λ y. test y ≡ false) xs 0
+  point_first high = (λ k d l w. absurd (omega (arith, l)), λ k d l w. passes_none 0 high k d l w)
+
+  pub point_next : (i j : ℕ) → j + 1 ≡ i → passes_nth test xs j ≡ true → passes_nth test xs i ≡ false → IsPartitionPoint (λ y. test y ≡ true) (λ y. test y ≡ false) xs i
+  point_next i j e low high = (λ k d l w. passes_all j low k d (omega (arith, l, e)), λ k d l w. passes_none i high k d l w)
+
+  pub point_bound : (i j : ℕ) → j + 1 ≡ i → passes_nth test xs j ≡ true → i ≤ length xs
+  point_bound i j e low = let w = passes_within j low in omega (arith, w, e)
+
+-- ---- a label between those beside an index
+-- what the label does with the one at the index
+abbrev pub behind_nth : Named → List Named → ℕ → Bool
+behind_nth p xs i = passes_nth (is_label_behind p) xs i
+
+module _ (p : Named) (xs : List Named) (s : IsStrictlySortedBy named_cmp xs) where
+  behind_all : (i : ℕ) → behind_nth p xs i ≡ true → (k : ℕ) (d : Named) → k ≤ i → is_label_behind p (get_or xs k d) ≡ true
+  behind_all = passes_all (is_label_behind p) xs (behind_partitioned p xs s)
+
+  behind_none : (i : ℕ) → behind_nth p xs i ≡ false → (k : ℕ) (d : Named) → i ≤ k → k < length xs → is_label_behind p (get_or xs k d) ≡ false
+  behind_none = passes_none (is_label_behind p) xs (behind_partitioned p xs s)
 
   between : (i : ℕ) → ((k : ℕ) (d : Named) → k < i → is_label_behind p (get_or xs k d) ≡ true) → behind_nth p xs (i + 1) ≡ false → IsNearLabel p xs i
   between i low high = by_test (behind_nth p xs i) refl

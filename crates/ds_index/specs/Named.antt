@@ -45,6 +45,10 @@ begins_behind e p = is_lt (holder_cmp p.endpoint (Some e))
 abbrev pub holds_endpoint : EndpointRecord → Named → Bool
 holds_endpoint e p = is_eq (holder_cmp p.endpoint (Some e))
 
+-- the endpoint's labels begin there in the list: behind each before the place, and behind none from there on
+abbrev pub IsBegin : EndpointRecord → List Named → ℕ → Type 0
+IsBegin e names place = IsPartitionPoint (λ q. begins_behind e q ≡ true) (λ q. begins_behind e q ≡ false) names place
+
 -- the label's place in the list: it stands behind each before the place, and behind none from there on
 abbrev pub IsLabelPlace : Named → List Named → ℕ → Type 0
 IsLabelPlace p names place = IsPartitionPoint (λ q. is_label_behind p q ≡ true) (λ q. is_label_behind p q ≡ false) names place

@@ -7,18 +7,22 @@ ghost use Rattle.std.specs.List.{find};
 ghost use Rattle.std.specs.List.Sorted.{IsStrictlySortedBy};
 ghost use Rattle.ds_index.specs.declared.named.Named.{Named};
 ghost use Rattle.ds_index.specs.Named.{named_cmp, holds_endpoint, begins_behind, is_label_behind, inserted_label};
-ghost use Rattle.ds_index.specs.Named.{IsLabelPlace, IsNearLabel};
+ghost use Rattle.ds_index.specs.Named.{IsBegin, IsLabelPlace, IsNearLabel};
 ghost use Rattle.ds_index.specs.Index.{IsAdded, IsMovedLabel, IsReplaced};
 
+use crate::begins::Begins;
 use crate::named::{Named, begins_behind, is_behind, is_of};
 use ds_names::{Endpoint, Name, NoRoom};
 use std::alloc::Global;
 use std::marker::Model;
+use std::ops::Range;
 
-/// Labels in the order of their endpoints, and then of their names.
-#[derive(Debug, Drop)]
+/// Labels in the order of their endpoints, and then of their names; and for each slot a guess where its labels begin, so that
+/// mostly two looks find what a search would.
+#[derive(Drop)]
 pub(crate) struct Index {
     names: Vec<Named>,
+    begins: Begins,
 }
 
 impl Model for Index {
@@ -41,21 +45,53 @@ fn nth(names: &[Named], index: usize) -> Option<&Named>
     names.get(index)
 }
 
+// Whether the labels of the endpoint begin behind the label at the index.
+fn begins_behind_nth(names: &[Named], index: usize, endpoint: Endpoint) -> bool
+    ensures { result ≡ option_map_or (begins_behind endpoint) (slice_get names.now index) false }
+{
+    match nth(names, index) {
+        Some(named) => begins_behind(endpoint, named),
+        None => false,
+    }
+}
+
+// Whether the labels of the endpoint begin at the index: behind the label before it, and not behind the one there.
+fn is_begin(names: &[Named], index: usize, endpoint: Endpoint) -> bool
+    requires { IsStrictlySortedBy named_cmp names.now }
+    ensures { result ≡ true → IsBegin endpoint names.now index }
+{
+    if index > 0 && !begins_behind_nth(names, index - 1, endpoint) {
+        return false;
+    }
+    !begins_behind_nth(names, index, endpoint)
+}
+
+// Where the labels of the endpoint begin, or would.
+fn begin_of(names: &[Named], guess: usize, endpoint: Endpoint) -> usize
+    requires { IsStrictlySortedBy named_cmp names.now }
+    ensures { IsBegin endpoint names.now result }
+{
+    if is_begin(names, guess, endpoint) {
+        return guess;
+    }
+    names.partition_point(|named| begins_behind(endpoint, named))
+}
+
 // The first label of the endpoint or behind it: the endpoint's labels don't begin behind it.
-fn first_at<'a>(names: &'a [Named], endpoint: Endpoint) -> Option<&'a Named>
+fn first_at<'a>(names: &'a [Named], guess: usize, endpoint: Endpoint) -> Option<&'a Named>
     requires { IsStrictlySortedBy named_cmp names.now }
     ensures { option_copied result ≡ find (λ (p : Named). not (begins_behind endpoint p)) names.now }
 {
-    let place = names.partition_point(|named| begins_behind(endpoint, named));
+    let place = begin_of(names, guess, endpoint);
     nth(names, place)
 }
 
 // The first of the endpoint.
-fn first_of<'a>(names: &'a [Named], endpoint: Endpoint) -> Option<&'a Named>
+fn first_of<'a>(names: &'a [Named], guess: usize, endpoint: Endpoint) -> Option<&'a Named>
     requires { IsStrictlySortedBy named_cmp names.now }
     ensures { option_copied result ≡ find (holds_endpoint endpoint) names.now }
 {
-    match first_at(names, endpoint) {
+    match first_at(names, guess, endpoint) {
         Some(named) => {
             if is_of(endpoint, named) {
                 Some(named)
@@ -67,25 +103,6 @@ fn first_of<'a>(names: &'a [Named], endpoint: Endpoint) -> Option<&'a Named>
     }
 }
 
-// How many stand before the label.
-fn place_of(names: &[Named], named: &Named) -> usize
-    requires { IsStrictlySortedBy named_cmp names.now }
-    ensures bound { result ≤ length names.now }
-    ensures place { IsLabelPlace named.now names.now result }
-{
-    names.partition_point(|other| is_behind(named, other))
-}
-
-// One label more. With room it takes no memory.
-fn add(names: &mut Vec<Named>, named: Named)
-    requires sorted { IsStrictlySortedBy named_cmp names.old.items }
-    requires room { vec_len names.old < vec_capacity names.old }
-    ensures { names.new.items ≡ inserted_label named names.old.items }
-{
-    let place = place_of(names, &named);
-    let _ = names.insert(place, named);
-}
-
 // Whether a label stands behind the one at the index.
 fn is_behind_nth(names: &[Named], index: usize, named: &Named) -> bool
     ensures { result ≡ option_map_or (is_label_behind named.now) (slice_get names.now index) false }
@@ -94,6 +111,42 @@ fn is_behind_nth(names: &[Named], index: usize, named: &Named) -> bool
         Some(other) => is_behind(named, other),
         None => false,
     }
+}
+
+// Whether as many labels stand before the label as the index says: it is behind the one before the index, and not behind the one
+// there.
+fn is_place(names: &[Named], place: usize, named: &Named) -> bool
+    requires { IsStrictlySortedBy named_cmp names.now }
+    ensures { result ≡ true → (place ≤ length names.now) × IsLabelPlace named.now names.now place }
+{
+    if place > 0 && !is_behind_nth(names, place - 1, named) {
+        return false;
+    }
+    !is_behind_nth(names, place, named)
+}
+
+// How many stand before the label.
+fn place_of(names: &[Named], guess: usize, named: &Named) -> usize
+    requires { IsStrictlySortedBy named_cmp names.now }
+    ensures bound { result ≤ length names.now }
+    ensures place { IsLabelPlace named.now names.now result }
+{
+    if is_place(names, guess, named) {
+        return guess;
+    }
+    names.partition_point(|other| is_behind(named, other))
+}
+
+// One label more. With room it takes no memory. It tells where it stands now.
+fn add(names: &mut Vec<Named>, guess: usize, named: Named) -> usize
+    requires sorted { IsStrictlySortedBy named_cmp names.old.items }
+    requires room { vec_len names.old < vec_capacity names.old }
+    ensures listed { names.new.items ≡ inserted_label named names.old.items }
+    ensures bound { result ≤ vec_len names.old }
+{
+    let place = place_of(names, guess, &named);
+    let _ = names.insert(place, named);
+    place
 }
 
 // Whether a label can take the place at the index: it is behind the one before it, and not behind the next one.
@@ -108,19 +161,20 @@ fn stays(names: &[Named], index: usize, named: &Named) -> bool
     !is_behind_nth(names, index + 1, named)
 }
 
-// The one label in place of the other, where it belongs. It takes no memory.
-fn replace(names: &mut Vec<Named>, before: &Named, after: Named)
+// The one label in place of the other, where it belongs. It takes no memory. It tells from where to where labels moved.
+fn replace(names: &mut Vec<Named>, guess: usize, before: &Named, after: Named) -> Range<usize>
     requires sorted { IsStrictlySortedBy named_cmp names.old.items }
     requires listed { Contains names.old.items before.now }
     ensures { IsMovedLabel names.old.items names.new.items before.now after }
 {
-    let old = place_of(names, before);
+    let old = place_of(names, guess, before);
     if stays(names, old, &after) {
         names[old] = after;
-    } else {
-        names.remove(old);
-        add(names, after);
+        return old..old + 1;
     }
+    names.remove(old);
+    let new = add(names, guess, after);
+    old.min(new)..old.max(new) + 1
 }
 
 impl Index {
@@ -130,6 +184,7 @@ impl Index {
     {
         Index {
             names: Vec::new(alloc),
+            begins: Begins::new(),
         }
     }
 
@@ -148,7 +203,9 @@ impl Index {
         requires new { Contains self.old.names named → ⊥ }
         ensures { IsAdded self.old.names self.new.names named }
     {
-        add(&mut self.names, named);
+        let guess = self.begins.of(&named.endpoint);
+        let place = add(&mut self.names, guess, named);
+        self.begins.look(&self.names, place..self.names.len());
     }
 
     /// Lists the one label in place of the other. It takes no memory.
@@ -157,7 +214,9 @@ impl Index {
         requires lone { Contains self.old.names after → after ≡ before.now }
         ensures { IsReplaced self.old.names self.new.names before.now after }
     {
-        replace(&mut self.names, before, after);
+        let guess = self.begins.of(&before.endpoint);
+        let moved = replace(&mut self.names, guess, before, after);
+        self.begins.look(&self.names, moved);
     }
 
     /// The least name of an endpoint.
@@ -165,7 +224,8 @@ impl Index {
         ensures first { option_copied result ≡ option_map (λ (p : Named). p.name) (find (holds_endpoint endpoint) self.now.names) }
         ensures in_order { IsStrictlySortedBy named_cmp self.now.names }
     {
-        let named = first_of(&self.names, endpoint)?;
+        let guess = self.begins.of(&Some(endpoint));
+        let named = first_of(&self.names, guess, endpoint)?;
         Some(&named.name)
     }
 }

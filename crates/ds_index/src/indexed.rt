@@ -11,7 +11,7 @@ ghost use Rattle.ds_held.specs.Kept.{IsHeldAt, IsPlace};
 ghost use Rattle.ds_held.specs.Merge.{MergeAnswer, after_merge};
 ghost use Rattle.ds_held.specs.Raise.{RaiseAnswer, after_raise};
 ghost use Rattle.ds_marked.specs.Marked.{mark_for, floor_mark_for, marks_after, marks_raised, floor_marks_after};
-ghost use Rattle.ds_marked.specs.Marked.{nothing_marked, remarked_at, floor_remarked_at, HasMarks, IsMarkAt};
+ghost use Rattle.ds_marked.specs.Marked.{nothing_marked, remarked_at, floor_remarked_at, AreMarks, AreFloorMarks, HasMarks, IsMarkAt};
 
 use crate::index::Index;
 use ds_entry::{Change, Floor};
@@ -91,6 +91,20 @@ impl<M: Drop> Indexed<M> {
         ensures valid { IfSome result (λ p. IsChange p.0.now) }
     {
         self.held.at(index)
+    }
+
+    /// The marks of all changes, in the order of their keys.
+    pub fn marks(&self) -> &[M]
+        ensures { AreMarks self.now result.now }
+    {
+        self.held.marks()
+    }
+
+    /// The marks of all floors, in the order of the owners' names.
+    pub fn floor_marks(&self) -> &[M]
+        ensures { AreFloorMarks self.now result.now }
+    {
+        self.held.floor_marks()
     }
 
     /// How many owners have floors, at most 64.

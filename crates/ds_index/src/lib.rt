@@ -4,6 +4,7 @@
 //! one. Here the labels are listed by endpoint as they come, so that one search answers.
 #![tactic(auto)]
 
+mod begins;
 mod index;
 mod indexed;
 mod named;

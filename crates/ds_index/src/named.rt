@@ -101,3 +101,17 @@ pub(crate) fn endpoint_in(change: &Change) -> Option<Endpoint>
         _ => None,
     }
 }
+
+/// Whether the label at the index is the first of its slot among labels in their order.
+pub(crate) fn is_first_of_slot(names: &[Named], index: usize) -> bool {
+    let Some(named) = names.get(index) else {
+        return false;
+    };
+    if index == 0 {
+        return true;
+    }
+    match names.get(index - 1) {
+        Some(before) => slot_of(&before.endpoint) != slot_of(&named.endpoint),
+        None => false,
+    }
+}

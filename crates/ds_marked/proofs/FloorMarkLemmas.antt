@@ -88,12 +88,15 @@ module _ {M : Type 0} (h : Holding) (ms : List M) (beside : IsBesideFloors h ms)
       ap is_some (mark_is owner) ∙ marked_too name_cmp nat_list_cmp_total exact_bytes owned (held_floors h) ms owner beside
       ∙ ap is_some (sym (get-from_entries nat_list_cmp_total (by_owner (held_floors h)) owner)) ∙ ap (λ (m : FinMap name_cmp ℕ). is_some (get m owner)) (floors_held h)
 
+  -- the marks are those of the floors, one by one
+  pub own_floor_mark : (i : ℕ) (f : Floor) → slice_get (held_floors h) i ≡ Some f → slice_get ms i ≡ get (marks_beside_floors (held_floors h) ms) f.owner
+  own_floor_mark i f e =
+      sym (mark_is f.owner
+      ∙ find_mark name_cmp nat_list_cmp_total exact_bytes owned (held_floors h) ms f.owner i (rising_floors h) beside (place_from_get name_cmp nat_list_cmp_total exact_bytes owned (held_floors h) i f e))
+
   -- a floor and a mark at one index stand beside each other
   floor_mark_at : (i : ℕ) (f : Floor) (m : M) → slice_get (held_floors h) i ≡ Some f → slice_get ms i ≡ Some m → get (marks_beside_floors (held_floors h) ms) f.owner ≡ Some m
-  floor_mark_at i f m e g =
-      mark_is f.owner
-      ∙ find_mark name_cmp nat_list_cmp_total exact_bytes owned (held_floors h) ms f.owner i (rising_floors h) beside (place_from_get name_cmp nat_list_cmp_total exact_bytes owned (held_floors h) i f e)
-      ∙ g
+  floor_mark_at i f m e g = sym (own_floor_mark i f e) ∙ g
 
   pub floor_beside_at : {P : Type 0} (r : Option P) (f : P → Floor) (m : P → M) (i : ℕ) → option_map f r ≡ slice_get (held_floors h) i → option_map m r ≡ slice_get ms i → IfSome r (λ p. get (marks_beside_floors (held_floors h) ms) (f p).owner ≡ Some (m p))
   floor_beside_at None f m i e g = tt

@@ -100,9 +100,13 @@ module _ {M : Type 0} where
     pub mark_missing : (key : Key) (i : ℕ) → IsPlace (held_changes h) key (Err i) → get (marks_beside (held_changes h) ms) key ≡ None
     mark_missing key i p = none_from (get (marks_beside (held_changes h) ms) key) (marked_held key ∙ ap is_some (held_missing h beside.sound key i p))
 
+    -- so the marks are those of the changes, one by one
+    pub own_mark : (i : ℕ) (c : ChangeRecord) → slice_get (held_changes h) i ≡ Some c → slice_get ms i ≡ get (marks_beside (held_changes h) ms) c.key
+    own_mark i c e = sym (mark_found c.key i (place_from_get key_cmp keys_total exact_keys keyed (held_changes h) i c e))
+
     -- and a change and a mark at one index stand beside each other
     mark_at : (i : ℕ) (c : ChangeRecord) (m : M) → slice_get (held_changes h) i ≡ Some c → slice_get ms i ≡ Some m → get (marks_beside (held_changes h) ms) c.key ≡ Some m
-    mark_at i c m e f = mark_found c.key i (place_from_get key_cmp keys_total exact_keys keyed (held_changes h) i c e) ∙ f
+    mark_at i c m e f = sym (own_mark i c e) ∙ f
 
     pub beside_at : {P : Type 0} (r : Option P) (c : P → ChangeRecord) (m : P → M) (i : ℕ) → option_map c r ≡ slice_get (held_changes h) i → option_map m r ≡ slice_get ms i → IfSome r (λ p. get (marks_beside (held_changes h) ms) (c p).key ≡ Some (m p))
     beside_at None c m i e f = tt

@@ -1,5 +1,5 @@
 -- What a holder with marks holds: beside each change and each floor a mark of the caller's.
-use Rattle.std.specs.Prelude.{◌≡◌, List, ℕ, Option, Some, None, is_some, slice_get, Result, Ok, Err}
+use Rattle.std.specs.Prelude.{◌≡◌, List, ℕ, Option, Some, None, is_some, length, slice_get, Result, Ok, Err}
 use Rattle.std.specs.FinMap.{FinMap, empty, get, insert}
 use Rattle.ds_names.specs.declared.key.Key.{Key}
 use Rattle.ds_names.specs.Key.{name_cmp, key_cmp}
@@ -36,6 +36,16 @@ module _ {M : Type 0} where
   pub record HasMarks (h : MarkedHolding M) : Type 0 where
     pub keys : (key : Key) → is_some (mark_for h key) ≡ is_some (held_for h.held key)
     pub owners : (owner : List ℕ) → is_some (floor_mark_for h owner) ≡ is_some (floor_for h.held owner)
+
+  -- these are the marks of the changes, in the order of the keys
+  pub record AreMarks (h : MarkedHolding M) (marks : List M) : Type 0 where
+    pub each : length marks ≡ length (held_changes h.held)
+    pub own : (k : ℕ) (c : ChangeRecord) → slice_get (held_changes h.held) k ≡ Some c → slice_get marks k ≡ mark_for h c.key
+
+  -- these are the marks of the floors, in the order of the owners' names
+  pub record AreFloorMarks (h : MarkedHolding M) (marks : List M) : Type 0 where
+    pub each : length marks ≡ length (held_floors h.held)
+    pub own : (k : ℕ) (f : Floor) → slice_get (held_floors h.held) k ≡ Some f → slice_get marks k ≡ floor_mark_for h f.owner
 
   -- a change that is taken has the mark that came with it; after any other answer nothing has changed
   abbrev pub marks_after : FinMap key_cmp M → Key → M → Result Merge JoinFault → FinMap key_cmp M

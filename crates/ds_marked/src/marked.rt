@@ -10,7 +10,7 @@ ghost use Rattle.ds_held.specs.Kept.{IsHeldAt, IsPlace};
 ghost use Rattle.ds_held.specs.Merge.{after_merge, MergeAnswer};
 ghost use Rattle.ds_held.specs.Raise.{after_raise, RaiseAnswer};
 ghost use Rattle.ds_marked.specs.Marked.{mark_for, floor_mark_for, marks_after, marks_raised, floor_marks_after};
-ghost use Rattle.ds_marked.specs.Marked.{nothing_marked, remarked_at, floor_remarked_at, HasMarks, IsMarkAt};
+ghost use Rattle.ds_marked.specs.Marked.{nothing_marked, remarked_at, floor_remarked_at, AreMarks, AreFloorMarks, HasMarks, IsMarkAt};
 
 use ds_entry::{Change, Floor};
 use ds_held::{Held, Limits};
@@ -101,6 +101,20 @@ impl<M: Drop> Marked<M> {
         ensures valid { IfSome result (λ p. IsChange p.0.now) }
     {
         pair_at(&self.held, &self.marks, index)
+    }
+
+    /// The marks of all changes, in the order of their keys.
+    pub fn marks(&self) -> &[M]
+        ensures { AreMarks self.now result.now }
+    {
+        self.marks.as_slice()
+    }
+
+    /// The marks of all floors, in the order of the owners' names.
+    pub fn floor_marks(&self) -> &[M]
+        ensures { AreFloorMarks self.now result.now }
+    {
+        self.floor_marks.as_slice()
     }
 
     /// How many owners have floors, at most 64.

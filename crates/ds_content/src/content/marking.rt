@@ -10,6 +10,7 @@ ghost use Rattle.ds_marked.specs.Marked.{mark_for, floor_mark_for};
 ghost use Rattle.ds_watch.specs.Masks.{shown_to, made_at};
 ghost use Rattle.ds_content.specs.Kept.{masks_at};
 ghost use Rattle.ds_content.specs.Marking.{IsSet, IsRemarked, AreRemarked};
+ghost use Rattle.ds_content.specs.Shown.{says_unseen, is_to_show, IsNext};
 ghost use Rattle.ds_pattern.specs.Under.{is_under};
 ghost use Rattle.ds_entry.specs.Item.{passes};
 
@@ -42,8 +43,8 @@ fn change_masks(held: &Indexed<Masks>, index: usize) -> Option<Masks>
     }
 }
 
-/// The masks beside the item at the index, floors first and then changes in key order.
-pub(super) fn masks_of(held: &Indexed<Masks>, index: usize) -> Option<Masks>
+// The masks beside the item at the index, floors first and then changes in key order.
+fn masks_of(held: &Indexed<Masks>, index: usize) -> Option<Masks>
     ensures here { (i : items.Item) → slice_get (held_items held.now.held) index ≡ Some i → result ≡ masks_at held.now i }
     ensures none { slice_get (held_items held.now.held) index ≡ None → result ≡ None }
 {
@@ -53,6 +54,34 @@ pub(super) fn masks_of(held: &Indexed<Masks>, index: usize) -> Option<Masks>
     } else {
         change_masks(held, index - floors)
     }
+}
+
+// The index of the first masks, from this one on, that say that their item is still to be shown to the subscription with this
+// number.
+fn next_mask(marks: &[Masks], from: usize, sub: usize) -> Option<usize>
+    requires { sub < 128 }
+    ensures { IsNext (says_unseen sub) marks.now from result }
+{
+    for index in from..marks.len() {
+        if marks[index].is_unseen(sub) {
+            return Some(index);
+        }
+    }
+    None
+}
+
+/// The index of the first held item, from this one on, that is still to be shown to the subscription with this number; floors
+/// come first and then changes in key order. It looks at the masks alone, one behind the other.
+pub(super) fn next_unseen(held: &Indexed<Masks>, from: usize, sub: usize) -> Option<usize>
+    requires { sub < 128 }
+    ensures { IsNext (is_to_show held.now sub) (held_items held.now.held) from result }
+{
+    let floors = held.floor_marks();
+    if let Some(index) = next_mask(floors, from, sub) {
+        return Some(index);
+    }
+    let index = next_mask(held.marks(), from.saturating_sub(floors.len()), sub)?;
+    Some(floors.len() + index)
 }
 
 // Other masks for the item at the index.
@@ -82,8 +111,13 @@ pub(super) fn show_first(held: &mut Indexed<Masks>, count: usize, sub: usize)
     requires { sub < 128 }
     ensures { AreRemarked held.old held.new count (λ k. shown_to sub) }
 {
-    for index in 0..count {
+    let mut passed = 0;
+    while let Some(index) = next_unseen(held, passed, sub) {
+        if index >= count {
+            return;
+        }
         show_one(held, index, sub);
+        passed = index + 1;
     }
 }
 

@@ -11,8 +11,9 @@ ghost use Rattle.ds_names.specs.Limits.{last_place};
 
 use crate::content::Content;
 use crate::content::copying::copy_at;
-use crate::content::marking::{masks_of, show_first};
+use crate::content::marking::{next_unseen, show_first};
 use ds_entry::Items;
+use ds_held::Held;
 use ds_index::Indexed;
 use ds_names::NoRoom;
 use ds_watch::Masks;
@@ -25,33 +26,15 @@ pub struct Shown {
     pub passed: usize,
 }
 
-// The item at the index is shown where it is still to be shown to the subscription with this number. It tells whether there
-// is one.
-fn show_unseen(
-    alloc: Global,
-    items: &mut Items,
-    held: &Indexed<Masks>,
-    index: usize,
-    sub: usize,
-) -> Result<bool, NoRoom>
-    requires { sub < 128 }
-    ensures there { IfOk result (λ there. there ≡ is_some (slice_get (held_items held.now.held) index)) }
-    ensures shown { OnOk result (IsItemAdded held.now.held index (is_to_show held.now sub) items.old items.new) }
-    ensures same { OnOk result (slice_get (held_items held.now.held) index ≡ None → items.new ≡ items.old) }
-    ensures refused { OnErr result (IsToShowAt held.now sub index) }
+// Adds a copy of the held item at the index.
+fn add_copy(alloc: Global, items: &mut Items, held: &Held, index: usize) -> Result<(), NoRoom>
+    ensures { OnOk result (IsItemAdded held.now index (λ i. true) items.old items.new) }
 {
-    let content = held.held();
-    let Some(masks) = masks_of(held, index) else {
-        return Ok(false);
-    };
-    if !masks.is_unseen(sub) {
-        return Ok(true);
-    }
-    let Some(item) = copy_at(alloc, content, index)? else {
-        return Ok(false);
+    let Some(item) = copy_at(alloc, held, index)? else {
+        return Ok(());
     };
     items.push(item)?;
-    Ok(true)
+    Ok(())
 }
 
 // The first `max` held items that are to be shown to the subscription with this number.
@@ -67,15 +50,20 @@ fn first_unseen(
 {
     let content = held.held();
     let _keys = content.limits().keys();
-    let _count = content.len();
-    let _floors = held.floor_count();
+    let floors = held.floor_count();
+    let changes = content.len();
+    let count = floors + changes;
     let mut items = Items::new(alloc);
     let mut passed = 0;
     while items.len() < max {
-        if !show_unseen(alloc, &mut items, held, passed, sub)? {
-            return Ok(Shown { items, passed });
-        }
-        passed += 1;
+        let Some(index) = next_unseen(held, passed, sub) else {
+            return Ok(Shown {
+                items,
+                passed: count,
+            });
+        };
+        add_copy(alloc, &mut items, content, index)?;
+        passed = index + 1;
     }
     Ok(Shown { items, passed })
 }

@@ -14,8 +14,8 @@ pub remove-requires : goal.remove-requires
 remove-requires c =
     stands_within c.args.before.now c.args.names.now.items c.deref.result.now c.place_of-old.result _ c.requires.sorted c.requires.listed c.deref.ensures.value c.place_of-old.ensures.place (c.args.names.now.ok.0)
 
-pub add-requires-clause-sorted : goal.add-requires-clause-sorted
-add-requires-clause-sorted c =
+pub add-new-requires-clause-sorted : goal.add-new-requires-clause-sorted
+add-new-requires-clause-sorted c =
     let left : c.remove.new.self.items ≡ remove c.args.names.now.items c.place_of-old.result = search rules in
     subst (IsStrictlySortedBy named_cmp) (sym left) (removed_sorted c.args.names.now.items c.place_of-old.result c.requires.sorted)
 
@@ -32,10 +32,10 @@ returns-then-stays c =
       set_there c.args.after c.args.before.now c.args.names.now.items c.place_of-old.result near.0 here near.1 near.2 near.3,
     )
 
-pub returns-else-stays : goal.returns-else-stays
-returns-else-stays c =
+pub returns : goal.returns
+returns c =
     let left : c.remove.new.self.items ≡ remove c.args.names.now.items c.place_of-old.result = search rules in (
       c.place_of-old.result,
       stands_at c.args.before.now c.args.names.now.items c.deref.result.now c.place_of-old.result c.requires.sorted c.requires.listed c.deref.ensures.value c.place_of-old.ensures.place,
-      c.add.ensures ∙ ap (inserted_label c.args.after) left,
+      c.add-new.ensures.listed ∙ ap (inserted_label c.args.after) left,
     )

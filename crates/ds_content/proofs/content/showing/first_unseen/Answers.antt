@@ -1,75 +1,89 @@
-use Rattle.std.proofs.Common.{◌≡◌, ◌<◌, ◌≤◌, ◌++◌, ◌∷◌, [], None, Bool, true, false, cond, List, length, length-append, inl, inr, ap, sym, ◌∙◌, arith}
+use Rattle.std.proofs.Common.{◌≡◌, ◌<◌, ◌≤◌, ◌+◌, ◌++◌, ◌∷◌, [], Some, Bool, true, false, cond, List, length, length-append, take, filter, inl, inr, ap, sym, ◌∙◌, arith}
 use Rattle.std.specs.List.{list_any, slice_get}
 use Rattle.std.proofs.lemmas.Option.{slice_get_within}
 use Rattle.ds_entry.specs.declared.item.Item.{Item}
 use Rattle.ds_entry.proofs.Members.{list_any-from_Contains}
 use Rattle.ds_held.specs.Held.{Holding, held_items, held_count}
 use Rattle.ds_content.specs.Shown.{is_to_show}
-use Rattle.ds_content.proofs.FlagLemmas.{past_end, index_among, filter_more}
-use Rattle.ds_content.proofs.IndexLemmas.{few_items, none_is, some_is}
+use Rattle.ds_content.proofs.FlagLemmas.{index_among, filter_more}
+use Rattle.ds_content.proofs.IndexLemmas.{few_items}
+use Rattle.ds_content.proofs.NextLemmas.{filter_past, items_counted}
 use Rattle.ds_content.proofs.OpenLemmas.{on_err}
 use Rattle.ds_content.proofs.content.showing.first_unseen.Goals as goal
+use Rattle.ds_content.proofs.content.showing.first_unseen.Goals.{After-len-changes}
 
 -- what wants memory is to be shown
-pub returns-in_err-show_unseen-clause-refused : goal.returns-in_err-show_unseen-clause-refused
-returns-in_err-show_unseen-clause-refused c =
+pub returns-in_err-add_copy-clause-refused : goal.returns-in_err-add_copy-clause-refused
+returns-in_err-add_copy-clause-refused c =
     let h = c.args.held.now in
-    let r = c.in_err-show_unseen.ensures.refused in
+    let r = c.in-Some.ensures.there.1 in
     on_err c.from_residual.result (list_any (is_to_show h c.args.sub) (held_items h.held) ≡ true)
-    (list_any-from_Contains (is_to_show h c.args.sub) (held_items h.held) r.0 (index_among (held_items h.held) c.loop-alloc.passed r.0 r.1) r.2)
+    (list_any-from_Contains (is_to_show h c.args.sub) (held_items h.held) r.0 (index_among (held_items h.held) c.in-Some.index r.0 r.1) r.2)
 
-pub returns-then-not-branch-clause-first : goal.returns-then-not-branch-clause-first
-returns-then-not-branch-clause-first c =
-    let hs = held_items c.args.held.now.held in
-    let none : slice_get hs c.loop-alloc.passed ≡ None = none_is (slice_get hs c.loop-alloc.passed) (sym c.if-not-branch.true ∙ c.in_ok-show_unseen.ensures.there) in
-    let same = c.in_ok-show_unseen.ensures.same none in
-    let few = c.loop-alloc.invariant.few in
+few : (c : After-len-changes) → length (held_items c.args.held.now.held) ≤ 4160
+few c =
+    few_items c.args.held.now.held c.limits.result c.len-changes.result c.floor_count-floors.result (c.limits.ensures ∙ ap (λ (h : Holding). h.limits) c.held-content.ensures.value) c.keys-keys.ensures.limits
+    (c.len-changes.ensures.count ∙ ap held_count c.held-content.ensures.value) (omega (arith, c.len-changes.ensures.few, ap (λ (h : Holding). h.limits.keys) c.held-content.ensures.value)) c.floor_count-floors.ensures.count c.floor_count-floors.ensures.few
+
+all : (c : After-len-changes) → length (held_items c.args.held.now.held) ≡ c.floor_count-floors.result + c.len-changes.result
+all c = items_counted c.args.held.now.held c.len-changes.result c.floor_count-floors.result (c.len-changes.ensures.count ∙ ap held_count c.held-content.ensures.value) c.floor_count-floors.ensures.count
+
+pub overflow_add-count : goal.overflow_add-count
+overflow_add-count c = let d = (goal.at.overflow_add-count c).After-len-changes in omega (arith, few d, all d)
+
+-- where no more is to be shown, all of it is
+pub returns-in_default-clause-first : goal.returns-in_default-clause-first
+returns-in_default-clause-first c =
+    let h = c.args.held.now in
+    let hs = held_items h.held in
+    let within = c.loop-content.invariant.within in
+    let n = all (goal.at.returns-in_default-clause-first c).After-len-changes in
     record {
-      shown = same ∙ c.loop-alloc.invariant.shown;
-      few = omega (arith, ap (λ (l : List Item). length l) same, few);
-      enough = inr (past_end hs c.loop-alloc.passed none);
+      shown = c.loop-content.invariant.shown ∙ sym (filter_past (is_to_show h c.args.sub) c.loop-content.passed (c.floor_count-floors.result + c.len-changes.result) hs (omega (arith, within, n)) (λ k i e l below. c.in_default.ensures.none_before k i e l tt));
+      few = c.loop-content.invariant.few;
+      enough = inr (omega (arith, n));
     }
 
 pub returns-clause-first : goal.returns-clause-first
 returns-clause-first c = record {
-  shown = c.loop-alloc.invariant.shown;
-  few = c.loop-alloc.invariant.few;
-  enough = inl (let few = c.loop-alloc.invariant.few in omega (arith, few));
+  shown = c.loop-content.invariant.shown;
+  few = c.loop-content.invariant.few;
+  enough = inl (let few = c.loop-content.invariant.few in omega (arith, few));
 }
 
 pub overflow_add-passed : goal.overflow_add-passed
 overflow_add-passed c =
     let hs = held_items c.args.held.now.held in
-    let i = some_is (slice_get hs c.loop-alloc.passed) (sym c.if-not-branch.false ∙ c.in_ok-show_unseen.ensures.there) in
-    let within : c.loop-alloc.passed < length hs = slice_get_within hs c.loop-alloc.passed i.0 i.1 in
-    let few : length hs ≤ 4160 =
-    few_items c.args.held.now.held c.limits.result c.len-count.result c.floor_count-floors.result (c.limits.ensures ∙ ap (λ (h : Holding). h.limits) c.held-content.ensures.value) c.keys-keys.ensures.limits
-    (c.len-count.ensures.count ∙ ap held_count c.held-content.ensures.value) (omega (arith, c.len-count.ensures.few, ap (λ (h : Holding). h.limits.keys) c.held-content.ensures.value)) c.floor_count-floors.ensures.count c.floor_count-floors.ensures.few in
-    omega (arith, within, few)
+    let r = c.in-Some.ensures.there.1 in
+    let within : c.in-Some.index < length hs = slice_get_within hs c.in-Some.index r.0 r.1 in
+    let bound = few (goal.at.overflow_add-passed c).After-len-changes in
+    omega (arith, within, bound)
 
-pub loop-alloc-smaller : goal.loop-alloc-smaller
-loop-alloc-smaller c =
+pub loop-content-smaller : goal.loop-content-smaller
+loop-content-smaller c =
     let hs = held_items c.args.held.now.held in
-    let i = some_is (slice_get hs c.loop-alloc.passed) (sym c.if-not-branch.false ∙ c.in_ok-show_unseen.ensures.there) in
-    let within : c.loop-alloc.passed < length hs = slice_get_within hs c.loop-alloc.passed i.0 i.1 in
-    omega (arith, within)
+    let from = c.in-Some.ensures.there.0 in
+    let r = c.in-Some.ensures.there.1 in
+    let within : c.in-Some.index < length hs = slice_get_within hs c.in-Some.index r.0 r.1 in
+    omega (arith, from, within)
 
-pub loop-alloc-preserved : goal.loop-alloc-preserved
-loop-alloc-preserved c =
+pub loop-content-preserved : goal.loop-content-preserved
+loop-content-preserved c =
     let h = c.args.held.now in
     let hs = held_items h.held in
-    let i = some_is (slice_get hs c.loop-alloc.passed) (sym c.if-not-branch.false ∙ c.in_ok-show_unseen.ensures.there) in
-    let within : c.loop-alloc.passed < length hs = slice_get_within hs c.loop-alloc.passed i.0 i.1 in
-    let shown = c.in_ok-show_unseen.ensures.shown i.0 i.1 in
-    let one : length (cond (is_to_show h c.args.sub i.0) (i.0 ∷ []) []) ≤ 1 = at_most_one i.0 (is_to_show h c.args.sub i.0) in
-    let long = length-append c.loop-alloc.items (cond (is_to_show h c.args.sub i.0) (i.0 ∷ []) []) in
-    let room : length c.loop-alloc.items < c.args.max = omega (arith, c.len.ensures, c.loop-alloc-test.true) in
+    let p = is_to_show h c.args.sub in
+    let next = c.in-Some.ensures in
+    let index = c.in-Some.index in
+    let i = next.there.1.0 in
+    let here : slice_get hs index ≡ Some i = next.there.1.1 in
+    let within : index < length hs = slice_get_within hs index i here in
+    let added : c.add_copy.new.items ≡ c.loop-content.items ++ i ∷ [] = c.in_ok-add_copy.ensures i (ap (λ (x : Holding). slice_get (held_items x) index) c.held-content.ensures.value ∙ here) in
+    let long = length-append c.loop-content.items (i ∷ []) in
+    let room : length c.loop-content.items < c.args.max = omega (arith, c.len.ensures, c.loop-content-test.true) in
+    let past : filter p (take index hs) ≡ filter p (take c.loop-content.passed hs) = filter_past p c.loop-content.passed index hs next.there.0 (λ k x e l below. next.none_before k x e l below) in
+    let more : filter p (take (index + 1) hs) ≡ filter p (take index hs) ++ i ∷ [] = filter_more p index hs i here ∙ ap (λ b. filter p (take index hs) ++ cond b (i ∷ []) []) next.there.1.2 in
     record {
-      shown = shown ∙ ap (λ (l : List Item). l ++ cond (is_to_show h c.args.sub i.0) (i.0 ∷ []) []) c.loop-alloc.invariant.shown ∙ sym (filter_more (is_to_show h c.args.sub) c.loop-alloc.passed hs i.0 i.1);
-      few = omega (arith, ap (λ (l : List Item). length l) shown, long, one, room);
+      shown = added ∙ ap (λ (l : List Item). l ++ i ∷ []) (c.loop-content.invariant.shown ∙ sym past) ∙ sym more;
+      few = omega (arith, ap (λ (l : List Item). length l) added, long, room);
       within = omega (arith, within);
     }
-  where
-    at_most_one : (i : Item) (b : Bool) → length (cond b (i ∷ []) []) ≤ 1
-    at_most_one i true = omega (arith)
-    at_most_one i false = omega (arith)

@@ -4,12 +4,12 @@ use Rattle.ds_content.specs.Shown.{is_to_show}
 use Rattle.ds_content.proofs.content.showing.first_unseen.Given as goal
 
 -- what is to be shown of the items so far
-abbrev pub invariant-loop-alloc : goal.invariant-loop-alloc
-invariant-loop-alloc l = record {
+abbrev pub invariant-loop-content : goal.invariant-loop-content
+invariant-loop-content l = record {
   shown : l.items ≡ filter (is_to_show l.held l.sub) (take l.passed (held_items l.held.held));
   few : length l.items ≤ l.max;
   within : l.passed ≤ length (held_items l.held.held);
 }
 
-abbrev pub decreases-loop-alloc : goal.decreases-loop-alloc
-decreases-loop-alloc l = length (held_items l.held.held) - l.passed
+abbrev pub decreases-loop-content : goal.decreases-loop-content
+decreases-loop-content l = length (held_items l.held.held) - l.passed
