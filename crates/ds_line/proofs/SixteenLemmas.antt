@@ -1,9 +1,9 @@
 -- Reading the hex of a blob sixteen bytes at a time.
-use Rattle.std.proofs.Common.{◌≡◌, ℕ, zero, suc, ◌+◌, ◌*◌, ◌-◌, ◌==◌, ◌<◌, ◌≤◌, Bool, true, ◌&&◌, inl, inr, List, [], ◌∷◌, ◌++◌, length, get_or, slice_index, take, drop, refl, sym, ap, subst, ◌∙◌, append_assoc, arith}
+use Rattle.std.proofs.Common.{◌≡◌, ℕ, zero, suc, ◌+◌, ◌*◌, ◌-◌, ◌/◌, ◌%◌, ◌==◌, ◌<◌, ◌≤◌, Bool, true, ◌&&◌, inl, inr, List, [], ◌∷◌, ◌++◌, length, get_or, slice_index, take, drop, refl, sym, ap, subst, ◌∙◌, append_assoc, arith}
 use Rattle.std.proofs.Math.ListN.{set}
 use Rattle.std.proofs.lemmas.Bool.{and_parts, cases_lt, eqb-true}
-use Rattle.std.proofs.Math.Seq.{take-append_seam, take-length}
-use Rattle.std.proofs.lemmas.List.{append-nil, length-set, length-append, length-drop, length-take-le, take_more, get_or-set_same, get_or-set_other}
+use Rattle.std.proofs.Math.Seq.{take-append_seam, take-append-add, take-length}
+use Rattle.std.proofs.lemmas.List.{append-nil, length-set, length-append, length-drop, length-take-le, take_more, take-append-drop, get_or-set_same, get_or-set_other}
 use Rattle.hex.specs.Hex.{IsBytes, encode_with, encode_lower, lower_digits}
 use Rattle.ds_line.specs.Numbers.{AreNumbersOf}
 use Rattle.ds_line.proofs.DigitLemmas.{bytes_more}
@@ -33,6 +33,18 @@ digit_number b ge le = same_at (λ n. slice_index lower_digits n) (λ n. n + 48)
 -- and one from a to f
 pub letter_number : (b : ℕ) → 97 ≤ b → b ≤ 102 → slice_index lower_digits (b - 97 + 10) ≡ b
 letter_number b ge le = same_at (λ n. slice_index lower_digits (n + 10)) (λ n. n + 97) 6 (b - 97) refl (omega (arith, ge, le)) ∙ omega (arith, ge)
+
+-- the digits of numbers
+pub low_digit : (n : ℕ) → n < 10 → slice_index lower_digits n ≡ 48 + n
+low_digit n lt = same_at (λ n. slice_index lower_digits n) (λ n. n + 48) 10 n refl lt ∙ omega arith
+
+high_at : (n : ℕ) → n < 6 → slice_index lower_digits (n + 10) ≡ n + 97
+high_at n lt = same_at (λ n. slice_index lower_digits (n + 10)) (λ n. n + 97) 6 n refl lt
+
+pub high_digit : (n : ℕ) → 10 ≤ n → n < 16 → slice_index lower_digits n ≡ 87 + n
+high_digit n ge lt =
+    let e : n - 10 + 10 ≡ n = omega (arith, ge) in
+    ap (λ (m : ℕ). slice_index lower_digits m) (sym e) ∙ high_at (n - 10) (omega (arith, ge, lt)) ∙ omega (arith, ge)
 
 -- the first n numbers are those of the digits, where no other byte was met, which the flag says
 pub record IsJudged (digits numbers : List ℕ) (alone : Bool) (n : ℕ) : Type 0 where
@@ -102,7 +114,7 @@ written_more digits numbers block at begun lt len are =
       whole = length-set block at b ∙ begun.whole;
     }
 
-take_whole : (xs : List ℕ) (n : ℕ) → length xs ≡ n → take n xs ≡ xs
+pub take_whole : (xs : List ℕ) (n : ℕ) → length xs ≡ n → take n xs ≡ xs
 take_whole xs n e = ap (λ (m : ℕ). take m xs) (sym e) ∙ take-length xs
 
 pub written_all : (digits block rest bytes : List ℕ) → IsWritten digits block 16 → length digits ≡ 32 → bytes ≡ digits ++ rest → bytes ≡ encode_lower block ++ rest
@@ -136,3 +148,105 @@ paired_sixteen bytes block rest behind sixteen n begun le is fits =
       each = subst IsBytes (sym more) (bytes_both front sixteen begun.each fits);
       whole = ap length joined ∙ length-append (front ++ sixteen) (drop k block) ∙ omega (arith, both, length-drop k block, begun.whole, le);
     }
+
+-- ---- sixteen bytes written
+
+-- the first digits are those of the first bytes
+pub record IsSpelled (bytes digits : List ℕ) (at : ℕ) : Type 0 where
+  pub front : take (2 * at) digits ≡ encode_lower (take at bytes)
+  pub whole : length digits ≡ 32
+
+pub spelled_first : (bytes digits : List ℕ) → length digits ≡ 32 → IsSpelled bytes digits 0
+unfolding encode_with
+spelled_first bytes digits whole = record { front = refl; whole = whole }
+
+digits_one : (b : ℕ) → encode_lower (b ∷ []) ≡ slice_index lower_digits (b / 16) ∷ slice_index lower_digits (b % 16) ∷ []
+unfolding encode_with
+digits_one b = refl
+
+pub spelled_more : (bytes digits : List ℕ) (at m n : ℕ) → IsSpelled bytes digits at → at < 16 → length bytes ≡ 16
+    → m ≡ slice_index lower_digits (get_or bytes at 0 / 16) → n ≡ slice_index lower_digits (get_or bytes at 0 % 16)
+    → IsSpelled bytes (set (set digits (2 * at) m) (2 * at + 1) n) (at + 1)
+spelled_more bytes digits at m n begun lt len is_m is_n =
+    let one : List ℕ = set digits (2 * at) m in
+    let b : ℕ = get_or bytes at 0 in
+    let long : length one ≡ 32 = length-set digits (2 * at) m ∙ begun.whole in
+    let e : 2 * (at + 1) ≡ 2 * at + 1 + 1 = omega arith in
+    let two : take (2 * (at + 1)) (set one (2 * at + 1) n) ≡ take (2 * at) digits ++ (m ∷ n ∷ []) =
+    ap (λ (k : ℕ). take k (set one (2 * at + 1) n)) e
+    ∙ block_more one (2 * at + 1) n (omega (arith, lt, long))
+    ∙ ap (λ (t : List ℕ). t ++ n ∷ []) (block_more digits (2 * at) m (omega (arith, lt, begun.whole)))
+    ∙ append_assoc (take (2 * at) digits) (m ∷ []) (n ∷ []) in
+    let last : m ∷ n ∷ [] ≡ encode_lower (b ∷ []) = ap (λ (x : ℕ). x ∷ n ∷ []) is_m ∙ ap (λ (x : ℕ). slice_index lower_digits (b / 16) ∷ x ∷ []) is_n ∙ sym (digits_one b) in
+    record {
+      front = two
+          ∙ ap (λ (t : List ℕ). t ++ (m ∷ n ∷ [])) begun.front
+          ∙ ap (λ (t : List ℕ). encode_lower (take at bytes) ++ t) last
+          ∙ sym (encode_append (take at bytes) (b ∷ []))
+          ∙ ap encode_lower (sym (take_more bytes at 0 (omega (arith, lt, len))));
+      whole = length-set one (2 * at + 1) n ∙ long;
+    }
+
+pub spelled_all : (bytes digits : List ℕ) → IsSpelled bytes digits 16 → length bytes ≡ 16 → digits ≡ encode_lower bytes
+spelled_all bytes digits done len = sym (take_whole digits 32 done.whole) ∙ done.front ∙ ap encode_lower (take_whole bytes 16 len)
+
+-- the first digits of a block are those of the first n bytes of a blob
+pub record IsWrittenOut (blob block : List ℕ) (n : ℕ) : Type 0 where
+  pub front : take (2 * n) block ≡ encode_lower (take n blob)
+  pub within : n ≤ length blob
+  pub whole : length block ≡ 2048
+
+pub out_first : (blob block : List ℕ) → length block ≡ 2048 → IsWrittenOut blob block 0
+unfolding encode_with
+out_first blob block whole = record { front = refl; within = omega arith; whole = whole }
+
+take_on : (n : ℕ) (xs : List ℕ) → n + 16 ≤ length xs → take (n + 16) xs ≡ take n xs ++ take 16 (drop n xs)
+take_on n xs le =
+    let len : length (take n xs) ≡ n = length-take-le n xs (omega (arith, le)) in
+    ap (λ (t : List ℕ). take (n + 16) t) (sym (take-append-drop n xs))
+    ∙ ap (λ (k : ℕ). take (k + 16) (take n xs ++ drop n xs)) (sym len)
+    ∙ take-append-add (take n xs) (drop n xs) 16
+
+encode_length : (xs : List ℕ) → length (encode_lower xs) ≡ 2 * length xs
+unfolding encode_with
+encode_length [] = refl
+encode_length (x ∷ xs) = omega (arith, encode_length xs)
+
+pub out_more : (blob block sixteen digits : List ℕ) (n : ℕ) → IsWrittenOut blob block n → n + 16 ≤ length blob → length blob ≤ 1024 → sixteen ≡ take 16 (drop n blob) → digits ≡ encode_lower sixteen
+    → IsWrittenOut blob (take (2 * n) block ++ (digits ++ drop (2 * n + length digits) block)) (n + 16)
+out_more blob block sixteen digits n begun le limit is spelled =
+    let k : ℕ = 2 * n + length digits in
+    let front : List ℕ = take (2 * n) block in
+    let next : List ℕ = take 16 (drop n blob) in
+    let same : digits ≡ encode_lower next = spelled ∙ ap encode_lower is in
+    let count : length next ≡ 16 = length-take-le 16 (drop n blob) (omega (arith, length-drop n blob, le)) in
+    let long : length digits ≡ 32 = ap length same ∙ encode_length next ∙ ap (λ (m : ℕ). 2 * m) count in
+    let len : length front ≡ 2 * n = length-take-le (2 * n) block (omega (arith, le, limit, begun.whole)) in
+    let both : length (front ++ digits) ≡ k = length-append front digits ∙ ap (λ (m : ℕ). m + length digits) len in
+    let end : 2 * (n + 16) ≡ k = omega (arith, long) in
+    let joined : front ++ (digits ++ drop k block) ≡ (front ++ digits) ++ drop k block = sym (append_assoc front digits (drop k block)) in
+    record {
+      front = ap (λ (m : ℕ). take m (front ++ (digits ++ drop k block))) (end ∙ sym both)
+          ∙ ap (λ (t : List ℕ). take (length (front ++ digits)) t) joined
+          ∙ take-append_seam (front ++ digits) (drop k block)
+          ∙ ap (λ (t : List ℕ). t ++ digits) begun.front
+          ∙ ap (λ (t : List ℕ). encode_lower (take n blob) ++ t) same
+          ∙ sym (encode_append (take n blob) next)
+          ∙ ap encode_lower (sym (take_on n blob le));
+      within = le;
+      whole = ap length joined ∙ length-append (front ++ digits) (drop k block) ∙ omega (arith, both, length-drop k block, begun.whole, le, limit, long);
+    }
+
+-- a blob in two pieces, behind a list and between two texts
+pub out_joined : (old before after blob block digits : List ℕ) (n : ℕ) → take (2 * n) block ≡ encode_lower (take n blob) → digits ≡ encode_lower (drop n blob)
+    → old ++ (before ++ (take (2 * n) block ++ (digits ++ (after ++ [])))) ≡ old ++ (before ++ (encode_lower blob ++ after))
+out_joined old before after blob block digits n is_front is_rest =
+    let one : List ℕ = encode_lower (take n blob) in
+    let two : List ℕ = encode_lower (drop n blob) in
+    let whole : one ++ two ≡ encode_lower blob = sym (encode_append (take n blob) (drop n blob)) ∙ ap encode_lower (take-append-drop n blob) in
+    ap (λ (t : List ℕ). old ++ (before ++ t))
+    (ap (λ (t : List ℕ). t ++ (digits ++ (after ++ []))) is_front
+    ∙ ap (λ (t : List ℕ). one ++ (t ++ (after ++ []))) is_rest
+    ∙ ap (λ (t : List ℕ). one ++ (two ++ t)) (append-nil after)
+    ∙ sym (append_assoc one two after)
+    ∙ ap (λ (t : List ℕ). t ++ after) whole)

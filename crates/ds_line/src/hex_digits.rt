@@ -80,3 +80,30 @@ pub fn ends_digits(bytes: &[u8]) -> bool
         None => true,
     }
 }
+
+// The digit of a number below 16.
+#[inline(always)]
+#[tactic(auto, using(crate::proofs::SixteenLemmas::low_digit, crate::proofs::SixteenLemmas::high_digit))]
+fn digit_of(number: u8) -> u8
+    requires { number < 16 }
+    ensures { result ≡ slice_index lower_digits number }
+{
+    if number < 10 {
+        b'0' + number
+    } else {
+        b'a' - 10 + number
+    }
+}
+
+/// The thirty-two digits that sixteen bytes are written as.
+#[inline(always)]
+pub fn digits_of(bytes: &[u8; 16]) -> [u8; 32]
+    ensures { result ≡ encode_lower bytes.now }
+{
+    let mut digits = [0u8; 32];
+    for at in 0..16usize {
+        digits[2 * at] = digit_of(bytes[at] / 16);
+        digits[2 * at + 1] = digit_of(bytes[at] % 16);
+    }
+    digits
+}

@@ -1,12 +1,14 @@
 //! Writing the line of a change, and the value alone.
 
-ghost use Rattle.std.specs.Prelude.{◌≡◌, ◌==◌, ◌||◌, not, ◌≤◌, ◌++◌, List, ℕ, [], ◌∷◌, length, drop, OnOk, OnErr, IfOk};
+ghost use Rattle.std.specs.Prelude.{◌≡◌, ◌==◌, ◌||◌, not, ◌<◌, ◌≤◌, ◌+◌, ◌*◌, ◌++◌, List, ℕ, [], ◌∷◌, length, take, drop, OnOk, OnErr, IfOk};
 ghost use Rattle.std.specs.List.{flat_map, prefix_len};
 ghost use Rattle.hex.specs.Hex.{encode_lower};
 ghost use Rattle.ds_line.specs.Part.{texts};
 ghost use Rattle.ds_line.specs.Reading.{up_to_mark};
 ghost use Rattle.ds_line.specs.Spelling.{escaped, escaped_byte, quoted, spelling, value_part};
 
+use crate::block::put;
+use crate::hex_digits::digits_of;
 use crate::line::Line;
 use crate::parts::word_of;
 use ds_entry::{Body, Change, Value};
@@ -183,9 +185,30 @@ fn append_blob(buffer: &mut Vec<u8>, before: &[u8], blob: &[u8], after: &[u8]) -
     ensures unchanged { OnErr result (buffer.new.items ≡ buffer.old.items) }
 {
     let mut block = [0u8; 2048];
-    let digits = &mut block[..2 * blob.len()];
-    match hex::encode_to_slice(blob, digits) {
-        Ok(()) => append_all(buffer, &[before, digits, after]),
+    let written = write_sixteens(blob, &mut block);
+    let rest = &blob[written..];
+    let mut tail = [0u8; 30];
+    let digits = &mut tail[..2 * rest.len()];
+    match hex::encode_to_slice(rest, digits) {
+        Ok(()) => append_all(buffer, &[before, &block[..2 * written], digits, after]),
         Err(_) => Err(NoRoom),
     }
+}
+
+// Writes the hex of a blob to the front of a block, sixteen bytes at a time, and gives how many bytes of it are written:
+// fewer than sixteen are left.
+fn write_sixteens(blob: &[u8], block: &mut [u8; 2048]) -> usize
+    requires { length blob.now ≤ 1024 }
+    ensures written { take (2 * result) block.new ≡ encode_lower (take result blob.now) }
+    ensures fits { result ≤ length blob.now }
+    ensures rest { length blob.now < result + 16 }
+{
+    for group in 0..64usize {
+        let Some((sixteen, _)) = blob[16 * group..].split_first_chunk::<16>() else {
+            return 16 * group;
+        };
+        let digits = digits_of(sixteen);
+        put(block, 32 * group, &digits);
+    }
+    1024
 }
