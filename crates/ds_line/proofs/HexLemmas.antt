@@ -36,12 +36,12 @@ pair_is h l m n r lt_m lt_n is_h is_l =
 
 -- ---- byte by byte
 
-encode_append : (a b : List ℕ) → encode_lower (a ++ b) ≡ encode_lower a ++ encode_lower b
+pub encode_append : (a b : List ℕ) → encode_lower (a ++ b) ≡ encode_lower a ++ encode_lower b
 unfolding encode_with
 encode_append [] b = refl
 encode_append (x ∷ a) b = ap (λ (t : List ℕ). slice_index lower_digits (x / 16) ∷ slice_index lower_digits (x % 16) ∷ t) (encode_append a b)
 
-bytes_last : (xs : List ℕ) (b : ℕ) → IsBytes xs → b < 256 → IsBytes (xs ++ b ∷ [])
+pub bytes_last : (xs : List ℕ) (b : ℕ) → IsBytes xs → b < 256 → IsBytes (xs ++ b ∷ [])
 bytes_last [] b h lt = bytes_more b [] lt (λ i. omega arith)
 bytes_last (x ∷ xs) b h lt = bytes_more x (xs ++ b ∷ []) (h 0) (bytes_last xs b (λ i. h (suc i)) lt)
 

@@ -1,6 +1,7 @@
 pub mod QuoteLemmas
 pub mod DigitLemmas
 pub mod HexLemmas
+pub mod SixteenLemmas
 pub mod PlainLemmas
 pub mod PartLemmas
 pub mod StepLemmas

@@ -6,3 +6,4 @@ pub mod Piece
 pub mod ItemSpelling
 pub mod ItemFault
 pub mod FloorPiece
+pub mod Numbers

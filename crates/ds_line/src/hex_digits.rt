@@ -1,38 +1,26 @@
 //! Hex digits, and the byte that two of them write.
 
-ghost use Rattle.std.specs.Prelude.{◌≡◌, ◌≢◌, ◌++◌, ◌∷◌, [], ◌<◌, ◌↔◌, ℕ, List, IfSome, IfNone, IsTrue, slice_index};
-ghost use Rattle.hex.specs.Hex.{encode_lower, lower_digits};
+ghost use Rattle.std.specs.Prelude.{◌≡◌, ◌≢◌, ◌++◌, ◌∷◌, [], ◌<◌, ◌↔◌, ℕ, List, IfSome, OnSome, IfNone, IsTrue, slice_index};
+ghost use Rattle.hex.specs.Hex.{IsBytes, encode_lower, lower_digits};
 ghost use Rattle.ds_names.specs.Run.{Ends};
 ghost use Rattle.ds_line.specs.Part.{is_hex_byte};
+ghost use Rattle.ds_line.specs.Numbers.{AreNumbersOf};
 
-// The number of each digit and each letter from `a` to `f`, and 255 for every other byte.
-#[rattlefmt::skip]
-static NUMBERS: [u8; 256] = [
-    255, 255, 255, 255, 255, 255, 255, 255, 255, 255, 255, 255, 255, 255, 255, 255,
-    255, 255, 255, 255, 255, 255, 255, 255, 255, 255, 255, 255, 255, 255, 255, 255,
-    255, 255, 255, 255, 255, 255, 255, 255, 255, 255, 255, 255, 255, 255, 255, 255,
-      0,   1,   2,   3,   4,   5,   6,   7,   8,   9, 255, 255, 255, 255, 255, 255,
-    255, 255, 255, 255, 255, 255, 255, 255, 255, 255, 255, 255, 255, 255, 255, 255,
-    255, 255, 255, 255, 255, 255, 255, 255, 255, 255, 255, 255, 255, 255, 255, 255,
-    255,  10,  11,  12,  13,  14,  15, 255, 255, 255, 255, 255, 255, 255, 255, 255,
-    255, 255, 255, 255, 255, 255, 255, 255, 255, 255, 255, 255, 255, 255, 255, 255,
-    255, 255, 255, 255, 255, 255, 255, 255, 255, 255, 255, 255, 255, 255, 255, 255,
-    255, 255, 255, 255, 255, 255, 255, 255, 255, 255, 255, 255, 255, 255, 255, 255,
-    255, 255, 255, 255, 255, 255, 255, 255, 255, 255, 255, 255, 255, 255, 255, 255,
-    255, 255, 255, 255, 255, 255, 255, 255, 255, 255, 255, 255, 255, 255, 255, 255,
-    255, 255, 255, 255, 255, 255, 255, 255, 255, 255, 255, 255, 255, 255, 255, 255,
-    255, 255, 255, 255, 255, 255, 255, 255, 255, 255, 255, 255, 255, 255, 255, 255,
-    255, 255, 255, 255, 255, 255, 255, 255, 255, 255, 255, 255, 255, 255, 255, 255,
-    255, 255, 255, 255, 255, 255, 255, 255, 255, 255, 255, 255, 255, 255, 255, 255,
-];
-
-// The number of a digit, below 16, and another number for every other byte.
-#[inline]
+// The number of a digit, below 16, and another number for every other byte. It takes no table, so that sixteen of them are
+// worked out at once.
+#[inline(always)]
+#[tactic(auto, using(crate::proofs::SixteenLemmas::digit_number, crate::proofs::SixteenLemmas::letter_number))]
 fn number_of(byte: u8) -> u8
     ensures digit { IsTrue (is_hex_byte byte) ↔ (result < 16) }
     ensures number { result < 16 → slice_index lower_digits result ≡ byte }
 {
-    NUMBERS[usize::from(byte)]
+    if byte.is_ascii_digit() {
+        byte - b'0'
+    } else if b'a' <= byte && byte <= b'f' {
+        byte - b'a' + 10
+    } else {
+        255
+    }
 }
 
 /// Reads the byte that the two digits at the front write, the high four bits first, and gives it with what comes behind
@@ -52,6 +40,36 @@ pub fn pair_at(bytes: &[u8]) -> Option<(u8, &[u8])>
     Some((high * 16 + low, rest))
 }
 
+// The numbers of thirty-two digits. `None` where another byte is among them.
+#[inline(always)]
+fn numbers_of(digits: &[u8; 32]) -> Option<[u8; 32]>
+    ensures { IfSome result (λ numbers. AreNumbersOf digits.now 32 numbers) }
+{
+    let mut numbers = [0u8; 32];
+    let mut digits_alone = true;
+    for at in 0..32usize {
+        let number = number_of(digits[at]);
+        digits_alone = digits_alone & (number < 16);
+        numbers[at] = number;
+    }
+    if digits_alone { Some(numbers) } else { None }
+}
+
+/// Reads the sixteen bytes that the thirty-two digits at the front write into a block, and gives what comes behind the
+/// digits. `None` where no thirty-two digits stand there.
+#[inline(always)]
+pub fn sixteen_at<'a>(bytes: &'a [u8], block: &mut [u8; 16]) -> Option<&'a [u8]>
+    ensures found { IfSome result (λ rest. bytes.now ≡ encode_lower block.new ++ rest.now) }
+    ensures each { OnSome result (IsBytes block.new) }
+{
+    let (digits, rest) = bytes.split_first_chunk::<32>()?;
+    let numbers = numbers_of(digits)?;
+    for at in 0..16usize {
+        block[at] = numbers[2 * at] * 16 + numbers[2 * at + 1];
+    }
+    Some(rest)
+}
+
 /// Whether no digit stands at the front.
 #[inline]
 pub fn ends_digits(bytes: &[u8]) -> bool
@@ -61,4 +79,31 @@ pub fn ends_digits(bytes: &[u8]) -> bool
         Some(byte) => number_of(*byte) > 15,
         None => true,
     }
+}
+
+// The digit of a number below 16.
+#[inline(always)]
+#[tactic(auto, using(crate::proofs::SixteenLemmas::low_digit, crate::proofs::SixteenLemmas::high_digit))]
+fn digit_of(number: u8) -> u8
+    requires { number < 16 }
+    ensures { result ≡ slice_index lower_digits number }
+{
+    if number < 10 {
+        b'0' + number
+    } else {
+        b'a' - 10 + number
+    }
+}
+
+/// The thirty-two digits that sixteen bytes are written as.
+#[inline(always)]
+pub fn digits_of(bytes: &[u8; 16]) -> [u8; 32]
+    ensures { result ≡ encode_lower bytes.now }
+{
+    let mut digits = [0u8; 32];
+    for at in 0..16usize {
+        digits[2 * at] = digit_of(bytes[at] / 16);
+        digits[2 * at + 1] = digit_of(bytes[at] % 16);
+    }
+    digits
 }

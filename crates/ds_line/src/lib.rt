@@ -5,6 +5,7 @@
 //! The format is of this project.
 #![tactic(auto)]
 
+mod block;
 mod expected;
 mod fault;
 mod hex_digits;
@@ -13,6 +14,7 @@ mod item_reading;
 mod item_writing;
 mod last_value;
 mod laws;
+mod line;
 mod part_fault;
 mod parts;
 mod reading;

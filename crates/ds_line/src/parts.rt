@@ -66,7 +66,8 @@ pub fn word_at(bytes: &[u8]) -> (&[u8], &[u8])
 
 /// The word of a kind.
 pub fn word_of(kind: &Kind) -> &[u8]
-    ensures { result.now ≡ kind_word kind.now }
+    ensures word { result.now ≡ kind_word kind.now }
+    ensures short { length result.now ≤ 5 }
 {
     match kind {
         Kind::Label => b"label",

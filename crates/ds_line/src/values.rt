@@ -1,13 +1,14 @@
 //! The values of texts and blobs, as they stand in a line.
 
 ghost use Rattle.std.specs.Prelude.{◌≡◌, ◌≢◌, ◌++◌, ◌≤◌, List, ℕ, IfSome, IfNone, IsTrue, take};
-ghost use Rattle.hex.specs.Hex.{encode_lower};
+ghost use Rattle.hex.specs.Hex.{IsBytes, encode_lower};
 ghost use Rattle.ds_names.specs.Run.{Begins};
 ghost use Rattle.ds_entry.specs.Value.{is_text_byte, IsText, IsBlob};
 ghost use Rattle.ds_line.specs.Part.{Quoted, Hex, run_of};
 ghost use Rattle.ds_line.specs.Spelling.{escaped_byte, quoted};
 
-use crate::hex_digits::{ends_digits, pair_at};
+use crate::block::put;
+use crate::hex_digits::{ends_digits, pair_at, sixteen_at};
 use ds_names::read_byte;
 
 // Reads one byte of a text as it stands in quotes: `\"` is a quote and `\\` a backslash, and each other printable
@@ -60,6 +61,25 @@ pub fn quoted_at<'a>(bytes: &'a [u8], block: &mut [u8; 256]) -> Option<(usize, &
     Some((256, rest))
 }
 
+// Reads the bytes that the digits at the front write, as long as thirty-two digits follow, writes them to the front of a
+// block, and gives how many they are and what comes behind their digits.
+fn sixteens_at<'a>(bytes: &'a [u8], block: &mut [u8; 1024]) -> (usize, &'a [u8])
+    ensures found { bytes.now ≡ encode_lower (take result.0 block.new) ++ result.1.now }
+    ensures each { IsBytes (take result.0 block.new) }
+    ensures fits { result.0 ≤ 1024 }
+{
+    let mut rest = bytes;
+    let mut sixteen = [0u8; 16];
+    for group in 0..64usize {
+        let Some(behind) = sixteen_at(rest, &mut sixteen) else {
+            return (16 * group, rest);
+        };
+        put(block, 16 * group, &sixteen);
+        rest = behind;
+    }
+    (1024, rest)
+}
+
 /// Reads the hex of a blob at the front, writes the bytes of the blob to the front of a block, and gives how many they
 /// are and what comes behind the longest run of digits and letters from `a` to `f`. `None` where that run is the hex of
 /// no blob: it is odd, or above 2048 digits.
@@ -69,8 +89,9 @@ pub fn hex_at<'a>(bytes: &'a [u8], block: &mut [u8; 1024]) -> Option<(usize, &'a
     ensures valid { IfSome result (λ r. IsBlob (take r.0 block.new)) }
     ensures none { IfNone result ((blob rest : List ℕ) → IsBlob blob → ¬ Begins (run_of Hex) bytes.now (encode_lower blob) rest) }
 {
-    let mut rest = bytes;
-    for len in 0..1024usize {
+    let (read, behind) = sixteens_at(bytes, block);
+    let mut rest = behind;
+    for len in read..1024 {
         let Some((byte, behind)) = pair_at(rest) else {
             return if ends_digits(rest) {
                 Some((len, rest))

@@ -1,11 +1,15 @@
 //! Writing the line of a change, and the value alone.
 
-ghost use Rattle.std.specs.Prelude.{◌≡◌, ◌==◌, ◌||◌, not, ◌≤◌, ◌++◌, List, ℕ, [], ◌∷◌, length, drop, OnOk, OnErr, IfOk};
+ghost use Rattle.std.specs.Prelude.{◌≡◌, ◌==◌, ◌||◌, not, ◌<◌, ◌≤◌, ◌+◌, ◌*◌, ◌++◌, List, ℕ, [], ◌∷◌, length, take, drop, OnOk, OnErr, IfOk};
 ghost use Rattle.std.specs.List.{flat_map, prefix_len};
 ghost use Rattle.hex.specs.Hex.{encode_lower};
 ghost use Rattle.ds_line.specs.Part.{texts};
-ghost use Rattle.ds_line.specs.Spelling.{body_parts, escaped, escaped_byte, quoted, spelling, value_part};
+ghost use Rattle.ds_line.specs.Reading.{up_to_mark};
+ghost use Rattle.ds_line.specs.Spelling.{escaped, escaped_byte, quoted, spelling, value_part};
 
+use crate::block::put;
+use crate::hex_digits::digits_of;
+use crate::line::Line;
 use crate::parts::word_of;
 use ds_entry::{Body, Change, Value};
 use ds_names::NoRoom;
@@ -27,36 +31,39 @@ pub fn append_change(buffer: &mut Vec<u8>, change: &Change) -> Result<(), NoRoom
     ensures written { OnOk result (buffer.new.items ≡ buffer.old.items ++ spelling change.now) }
     ensures unchanged { OnErr result (buffer.new.items ≡ buffer.old.items) }
 {
-    let mut epoch_digits = Buffer::new();
-    let epoch = epoch_digits
-        .format(change.version().epoch.number())
-        .as_bytes();
-    let mut seq_digits = Buffer::new();
-    let seq = seq_digits.format(change.version().seq).as_bytes();
-    let name = change.key().name.bytes();
-    let kind = word_of(&change.key().kind);
-    let owner = change.owner().bytes();
-    let start = buffer.len();
-    append_all(
-        buffer,
-        &[name, b" ", kind, b" ", owner, b" ", epoch, b".", seq, b" "],
-    )?;
-    let written = append_body(buffer, change.body());
-    if written.is_err() {
-        buffer.truncate(start);
+    let mut line = Line::new();
+    put_front(&mut line, change);
+    match change.body() {
+        Body::Put(Value::U32(number)) => {
+            line.put(b"= ");
+            line.put_number(*number);
+            line.put(b"\n");
+        }
+        Body::Put(value) => {
+            line.put(b"= ");
+            return append_value(buffer, line.bytes(), value, b"\n");
+        }
+        Body::Gone => line.put(b"-\n"),
     }
-    written
+    append_all(buffer, &[line.bytes()])
 }
 
-// Appends the mark, the value and the newline, or nothing.
-fn append_body(buffer: &mut Vec<u8>, body: &Body) -> Result<(), NoRoom>
-    ensures written { OnOk result (buffer.new.items ≡ buffer.old.items ++ texts (body_parts body.now)) }
-    ensures unchanged { OnErr result (buffer.new.items ≡ buffer.old.items) }
+// Writes a change's line up to its mark.
+fn put_front(line: &mut Line, change: &Change)
+    requires { line.old ≡ [] }
+    ensures written { line.new ≡ texts (up_to_mark change.now.key change.now.owner change.now.version) }
+    ensures fits { length line.new ≤ 192 }
 {
-    match body {
-        Body::Put(value) => append_value(buffer, b"= ", value, b"\n"),
-        Body::Gone => append_all(buffer, &[b"-\n"]),
-    }
+    line.put(change.key().name.bytes());
+    line.put(b" ");
+    line.put(word_of(&change.key().kind));
+    line.put(b" ");
+    line.put(change.owner().bytes());
+    line.put(b" ");
+    line.put_number(change.version().epoch.number());
+    line.put(b".");
+    line.put_number(change.version().seq);
+    line.put(b" ");
 }
 
 /// Appends a value, as the lines of changes spell it, between two texts. Where there is no room for all of
@@ -178,9 +185,30 @@ fn append_blob(buffer: &mut Vec<u8>, before: &[u8], blob: &[u8], after: &[u8]) -
     ensures unchanged { OnErr result (buffer.new.items ≡ buffer.old.items) }
 {
     let mut block = [0u8; 2048];
-    let digits = &mut block[..2 * blob.len()];
-    match hex::encode_to_slice(blob, digits) {
-        Ok(()) => append_all(buffer, &[before, digits, after]),
+    let written = write_sixteens(blob, &mut block);
+    let rest = &blob[written..];
+    let mut tail = [0u8; 30];
+    let digits = &mut tail[..2 * rest.len()];
+    match hex::encode_to_slice(rest, digits) {
+        Ok(()) => append_all(buffer, &[before, &block[..2 * written], digits, after]),
         Err(_) => Err(NoRoom),
     }
+}
+
+// Writes the hex of a blob to the front of a block, sixteen bytes at a time, and gives how many bytes of it are written:
+// fewer than sixteen are left.
+fn write_sixteens(blob: &[u8], block: &mut [u8; 2048]) -> usize
+    requires { length blob.now ≤ 1024 }
+    ensures written { take (2 * result) block.new ≡ encode_lower (take result blob.now) }
+    ensures fits { result ≤ length blob.now }
+    ensures rest { length blob.now < result + 16 }
+{
+    for group in 0..64usize {
+        let Some((sixteen, _)) = blob[16 * group..].split_first_chunk::<16>() else {
+            return 16 * group;
+        };
+        let digits = digits_of(sixteen);
+        put(block, 32 * group, &digits);
+    }
+    1024
 }

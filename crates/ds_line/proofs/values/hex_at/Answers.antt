@@ -1,10 +1,10 @@
 use Rattle.std.proofs.Common.{◌≡◌, subst, sym, ◌∙◌, arith}
 use Rattle.std.proofs.lemmas.Bool.{false≢true}
-use Rattle.ds_line.proofs.HexLemmas.{IsPaired, paired_first, paired_more, paired_ends, paired_blob, paired_stops, paired_full}
+use Rattle.ds_line.proofs.HexLemmas.{IsPaired, paired_more, paired_ends, paired_blob, paired_stops, paired_full}
 use Rattle.ds_line.proofs.values.hex_at.Goals as goal
 
 pub loop-len-init : goal.loop-len-init
-loop-len-init c = paired_first c.args.bytes.now c.args.block.now c.told-block
+loop-len-init c = record { parts = c.sixteens_at-read.ensures.found; each = c.sixteens_at-read.ensures.each; whole = c.sixteens_at-read.array_long }
 
 pub returns-else-ends_digits-clause-none : goal.returns-else-ends_digits-clause-none
 returns-else-ends_digits-clause-none c =

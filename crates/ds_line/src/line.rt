@@ -1,0 +1,66 @@
+//! Lines that are written in place.
+
+ghost use Rattle.std.specs.Prelude.{◌≡◌, ◌+◌, ◌≤◌, ◌++◌, [], length};
+ghost use Rattle.std.specs.Fmt.{decimal};
+
+use crate::block::put;
+use itoa::Buffer;
+use std::marker::Model;
+
+/// The front of a line, which is written in place, so that a buffer is asked for room once. It has room for 256 bytes, which
+/// all of a line is but a text or a blob.
+#[derive(Drop)]
+pub struct Line {
+    block: [u8; 256],
+    len: usize,
+}
+
+impl Model for Line {
+    ghost use Rattle.std.specs.Prelude.{ℕ, List, ◌≤◌, take};
+
+    ghost Value = { List ℕ };
+
+    ghost view = { λ l. take l.len l.block };
+
+    ghost invariant = { λ l. l.len ≤ 256 };
+}
+
+impl Line {
+    /// A line with nothing in it.
+    #[inline(always)]
+    pub fn new() -> Line
+        ensures { result ≡ [] }
+    {
+        let block = [0; 256];
+        Line { block, len: 0 }
+    }
+
+    /// Writes a text behind what it has.
+    #[inline(always)]
+    pub fn put(&mut self, text: &[u8])
+        requires { length self.old + length text.now ≤ 256 }
+        ensures written { self.new ≡ self.old ++ text.now }
+        ensures len { length self.new ≡ length self.old + length text.now }
+    {
+        put(&mut self.block, self.len, text);
+        self.len += text.len();
+    }
+
+    /// Writes a number behind what it has, in decimal.
+    pub fn put_number(&mut self, number: u32)
+        requires { length self.old + 10 ≤ 256 }
+        ensures written { self.new ≡ self.old ++ decimal number }
+        ensures fits { length self.new ≤ length self.old + 10 }
+    {
+        let mut digits = Buffer::new();
+        self.put(digits.format(number).as_bytes());
+    }
+
+    /// What it has.
+    #[inline(always)]
+    pub fn bytes(&self) -> &[u8]
+        ensures { result.now ≡ self.now }
+    {
+        &self.block[..self.len]
+    }
+}
