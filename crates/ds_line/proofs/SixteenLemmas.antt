@@ -207,7 +207,7 @@ take_on n xs le =
     ∙ ap (λ (k : ℕ). take (k + 16) (take n xs ++ drop n xs)) (sym len)
     ∙ take-append-add (take n xs) (drop n xs) 16
 
-encode_length : (xs : List ℕ) → length (encode_lower xs) ≡ 2 * length xs
+pub encode_length : (xs : List ℕ) → length (encode_lower xs) ≡ 2 * length xs
 unfolding encode_with
 encode_length [] = refl
 encode_length (x ∷ xs) = omega (arith, encode_length xs)

@@ -4,7 +4,6 @@ use Rattle.std.specs.List.{flat_map}
 use Rattle.std.specs.Fmt.{decimal}
 use Rattle.std.specs.Int.{bytes_high_first}
 use Rattle.std.proofs.lemmas.Fmt.{length-decimal-le}
-use Rattle.hex.specs.Hex.{encode_lower, encode_with}
 use Rattle.ds_names.specs.declared.kind.Kind.{Kind}
 use Rattle.ds_names.specs.declared.kind.Kind.TheVariants.{Label, U32, Str, Mem}
 use Rattle.ds_entry.specs.Change.{IsBody, IsValue}
@@ -23,6 +22,7 @@ use Rattle.ds_lines.specs.Lines.{EndsLine, IsUnbroken}
 use Rattle.ds_line.specs.Part.{texts}
 use Rattle.ds_line.specs.Spelling.{body_parts, escaped, escaped_byte, kind_word, value_part}
 use Rattle.ds_line.proofs.ItemLemmas.{item_ends}
+use Rattle.ds_line.proofs.SixteenLemmas.{encode_length}
 use Rattle.ds_machine.specs.Owed.{owed_by}
 use Rattle.ds_machine.specs.State.{State}
 use Rattle.ds_machine.specs.declared.command.Command.{Command}
@@ -52,11 +52,6 @@ use Rattle.trace_check.proofs.WalkingLemmas.{front_within, unbroken_has_none}
 few_digits : (n : ℕ) → IsFew n → length (decimal n) ≤ 20
 few_digits n few = length-decimal-le 20 n (omega arith) (omega (arith, few)) few
 
-hex_length : (bytes : List ℕ) → length (encode_lower bytes) ≡ 2 * length bytes
-unfolding encode_with
-hex_length [] = refl
-hex_length (b ∷ bytes) = omega (arith, hex_length bytes)
-
 byte_few : (b : ℕ) → length (escaped_byte b) ≤ 2
 byte_few b = by_test (b == 34 || b == 92)
   where
@@ -72,7 +67,7 @@ value_few : (v : Value) → IsValue v → length (value_part v).text ≤ 2060
 value_few (values.Label e) is = omega (arith, few_digits e.generation (omega (arith, is.generation)), few_digits e.slot (omega (arith, is.slot)), length-append (decimal e.generation) (47 ∷ decimal e.slot))
 value_few (values.U32 n) is = omega (arith, few_digits n (omega (arith, is)))
 value_few (values.Str t) is = omega (arith, escaped_few t, is.limit, length-append (escaped t) (34 ∷ []))
-value_few (values.Mem b) is = omega (arith, hex_length b, is.limit)
+value_few (values.Mem b) is = omega (arith, encode_length b, is.limit)
 
 body_few : (b : Body) → IsBody b → length (texts (body_parts b)) ≤ 2070
 body_few Gone is = omega arith
@@ -154,8 +149,8 @@ words_few said (Refused fault) is = omega (arith, fault_few fault is)
 -- ---- what is owed
 
 mask_few : (l : LimitsRecord) (mask : ℕ) → IsLimits l → length (mask_hex l mask) ≤ 40
-mask_few l mask (inl e) = subst (λ (x : LimitsRecord). length (mask_hex x mask) ≤ 40) (sym e) (omega (arith, hex_length (bytes_high_first 8 mask)))
-mask_few l mask (inr e) = subst (λ (x : LimitsRecord). length (mask_hex x mask) ≤ 40) (sym e) (omega (arith, hex_length (bytes_high_first 16 mask)))
+mask_few l mask (inl e) = subst (λ (x : LimitsRecord). length (mask_hex x mask) ≤ 40) (sym e) (omega (arith, encode_length (bytes_high_first 8 mask)))
+mask_few l mask (inr e) = subst (λ (x : LimitsRecord). length (mask_hex x mask) ≤ 40) (sym e) (omega (arith, encode_length (bytes_high_first 16 mask)))
 
 -- ---- lines within a text
 
