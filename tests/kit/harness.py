@@ -68,12 +68,19 @@ def read_case(folder):
 
 
 def all_cases():
-    """Reads every case of tests/dsctl/cases, and every script, settings text and trace of examples/ as a case of its own."""
+    """Reads every case of tests/dsctl/cases, and every script, settings text, trace and text of commands of examples/ as a case of its own."""
     folders = sorted(path.parent for path in CASES.rglob("output"))
-    words = {".ds": [], ".toml": ["settings"], ".trace": ["verify"]}
+    words = {".ds": [], ".toml": ["settings"], ".trace": ["verify"], ".commands": ["record"]}
     files = sorted(it for it in EXAMPLES.iterdir() if it.suffix in words)
-    told = [Case(f"examples/{it.name}", words[it.suffix], it, it.with_suffix(".out").read_bytes(), status_beside(it)) for it in files]
+    told = [Case(f"examples/{it.name}", words[it.suffix], it, wanted_of(it), status_beside(it)) for it in files]
+    older, newer = EXAMPLES / "older.trace", EXAMPLES / "upgraded.trace"
+    told.append(Case("examples/older.trace upgraded", ["upgrade"], older, newer.read_bytes()))
     return [read_case(folder) for folder in folders] + told
+
+
+def wanted_of(file):
+    """What must come out for an example's file: of commands it is the trace beside them."""
+    return file.with_suffix(".trace" if file.suffix == ".commands" else ".out").read_bytes()
 
 
 def status_beside(file):

@@ -103,8 +103,9 @@ Lines of a script:
 
 `dsctl settings` shows what a settings text tells RS; `dsctl settings --help`
 has its fields. `dsctl verify` judges what was recorded of a store; `dsctl
-verify --help` has the lines of such a trace. `dsctl live` runs threads that
-share a store; `dsctl live --help` says what they do.
+verify --help` has the lines of such a trace. `dsctl record` writes one of a run
+of its own, and `dsctl upgrade` writes an older one in the newer format. `dsctl
+live` runs threads that share a store; `dsctl live --help` says what they do.
 
 Behind `service`, `death`, `beat` and `tick` RS's actions are printed, and then
 `actions N`: `kill ENDPOINT`, `start LABEL ENDPOINT`, `ping ENDPOINT`,

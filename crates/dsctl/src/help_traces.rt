@@ -40,7 +40,8 @@ and changes nothing; `< stopped D noroom` is one to a `merge` whose first D
 items are taken, D being below N.
 
 `trace 1 INCARNATION FIRST RING` begins an older trace: its limits are 64 and
-1024, it has no floors, and a sweep leaves tombstones in it.
+1024, it has no floors, and a sweep leaves tombstones in it. `dsctl upgrade`
+writes it in format 2. `dsctl record` writes the trace of a run of its own.
 
 A trace that is legal, of two entries:
   trace 2 1 0 256 128 4096
@@ -48,3 +49,39 @@ A trace that is legal, of two entries:
   < taken
   > 7 retrieve eth0 label
   < found 3/17";
+
+pub(crate) const UPGRADE_ABOUT: &str = "Write a trace of format 1 in format 2";
+
+pub(crate) const UPGRADE_LONG_ABOUT: &str = "\
+Writes a trace of format 1 in format 2.
+
+The trace stands on standard input. It is judged line by line, as `dsctl verify`
+does, and each entry is written once its reply was found legal. The header gets
+the limits of format 1, `64 1024`, and entries stay as they stand, but for
+sweeps. In format 1 these leave tombstones, in format 2 they raise floors: so a
+sweep becomes merges of its tombstones, 256 in each and the rest in the last
+one, with what each of them owes. A sweep that leaves none is left out, and so
+is one that is refused. What is written is legal, and tells of a store that took
+the same changes, drew the same stamps and showed the same.
+
+The help of `dsctl verify` has the lines of a trace. A trace that can't be
+written in format 2 ends there, with status 1: what was written before stays,
+and standard error has one line:
+  illegal L  a line of a reply has to stand at line L, as `dsctl verify` says it
+  badline L  another line has to, as `dsctl verify` says it
+  already 2  the trace is one of format 2; nothing is written
+
+A trace of format 1, with a sweep:
+  trace 1 1 0 256
+  > 0 offer mtu u32 eth0 3.0 = 1500
+  < taken
+  > 0 sweep 0/2 eth0 3
+  < swept 1
+
+The same in format 2:
+  trace 2 1 0 256 64 1024
+  > 0 offer mtu u32 eth0 3.0 = 1500
+  < taken
+  > 0 merge 1
+  + mtu u32 eth0 3.4294967295 -
+  < merged 1 1 0";

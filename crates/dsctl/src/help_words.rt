@@ -75,13 +75,14 @@ Of the file server's and the network server's lines, behind `nomap`:
   oldendpoint     the request wasn't last sent to ENDPOINT
 
 Exit status:
-  0  the whole script was answered, the settings have no fault, or the trace is
-     legal
+  0  the whole script was answered, the settings have no fault, the trace is
+     legal, or all of it was written
   1  a line can't be read: `badline LINE PLACE` is printed, lines counted from 1
      and bytes from 0, and standard error says what was expected; or the
      settings have a fault: `bad WORD INDEX` is printed, and standard error says
      of which field; or the trace isn't legal: `illegal LINE` or `badline LINE`
-     is printed, and standard error says what had to stand there
+     is printed, and standard error says what had to stand there. `dsctl record`
+     and `dsctl upgrade`, which print a trace, say so on standard error alone
   2  the words of the command line are wrong
   3  memory, reading or writing failed: standard error has `noroom`, `readfault`
      or `writefault`, as where nobody reads the answers any more; or `dsctl

@@ -1,18 +1,21 @@
 //! `dsctl`: the data store at the command line. It reads standard input and writes standard output.
 //!
-//! The program is thin: the words of the command line are `clap`'s, the work is `ds_script`'s, `rs_settings`'s, `trace_check`'s and
-//! `ds_live`'s, what is said of a line that can't be read is `ds_explain`'s, and what is left here is the printing of settings, verdicts
-//! and reports and the choice of the exit status. 0: done. 1: refused input. 2: usage. 3: memory, reading or writing failed, or a run of
+//! The program is thin: the words of the command line are `clap`'s, the work is `ds_script`'s, `rs_settings`'s, `trace_check`'s,
+//! `trace_record`'s and `ds_live`'s, what is said of a line that can't be read is `ds_explain`'s, and what is left here is the printing of
+//! settings, verdicts and reports and the choice of the exit status. 0: done. 1: refused input. 2: usage. 3: memory, reading or writing failed, or a run of
 //! threads, and standard error says which.
 #![tactic(auto)]
 
 mod answers;
 mod failure;
 mod help;
+mod help_record;
 mod help_traces;
 mod help_words;
 mod live;
 mod live_words;
+mod record_words;
+mod recording;
 mod settings;
 mod terminal;
 mod traces;
@@ -54,6 +57,8 @@ fn run<R: Runtime + AllocGlobal + Threads + Wait + Sync>(
         Words::Replay(told) => replay_input(rt, terminals, bad_lines(told, terminals)),
         Words::Settings => settings::show_input(rt, terminals),
         Words::Verify => traces::judge_input(rt, terminals),
+        Words::Upgrade => traces::upgrade_input(rt, terminals),
+        Words::Record(form) => recording::record_input(rt, terminals, form),
         Words::Live(sizes) => live::run(rt, sizes),
         Words::Shown => Ok(ExitCode::SUCCESS),
         Words::Usage => Ok(ExitCode::from(2)),

@@ -1,7 +1,7 @@
 //! What a settings text tells RS, or its first fault.
 
 use crate::failure::Failure;
-use crate::terminal::{Terminals, greet_to_settings};
+use crate::terminal::{GREETING_OF_SETTINGS, Terminals, greet};
 use ds_explain::explain_settings;
 use rs_settings::{Class, Service, Settings, SettingsCause, SettingsFault, read};
 use std::io::{self, BufWriter, ErrorKind, Read, Write};
@@ -14,7 +14,7 @@ pub(crate) fn show_input(
     rt: &(impl Runtime + AllocGlobal),
     terminals: Terminals,
 ) -> Result<ExitCode, Failure> {
-    greet_to_settings(rt, terminals);
+    greet(rt, terminals, GREETING_OF_SETTINGS);
     let mut text = Vec::new(rt.alloc());
     if let Err(error) = rt.reader().read_to_end(&mut text) {
         return Err(match error.kind() {

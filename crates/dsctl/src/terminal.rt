@@ -10,9 +10,16 @@ const GREETING: &str = "dsctl: `help` shows the lines, ^D ends. A bad line ends 
 
 const GREETING_TO_STOP: &str = "dsctl: `help` shows the lines, ^D ends, and so does a bad line";
 
-const GREETING_OF_SETTINGS: &str = "dsctl: a TOML text, as in dsctl settings --help, ^D ends";
+/// What somebody is told who types settings.
+pub(crate) const GREETING_OF_SETTINGS: &str =
+    "dsctl: a TOML text, as in dsctl settings --help, ^D ends";
 
-const GREETING_OF_TRACE: &str = "dsctl: a trace, as in dsctl verify --help, ^D ends";
+/// What somebody is told who types a trace.
+pub(crate) const GREETING_OF_TRACE: &str = "dsctl: a trace, as in dsctl verify --help, ^D ends";
+
+/// What somebody is told who types commands of which a trace is made.
+pub(crate) const GREETING_OF_COMMANDS: &str =
+    "dsctl: a command a line, as in dsctl record --help, ^D ends";
 
 /// Which of the streams are terminals.
 #[derive(Clone, Copy, Debug)]
@@ -39,18 +46,8 @@ impl Terminals {
     }
 }
 
-/// Greets somebody who types settings.
-pub(crate) fn greet_to_settings(rt: &impl Runtime, terminals: Terminals) {
-    greet(rt, terminals, GREETING_OF_SETTINGS);
-}
-
-/// Greets somebody who types a trace.
-pub(crate) fn greet_to_trace(rt: &impl Runtime, terminals: Terminals) {
-    greet(rt, terminals, GREETING_OF_TRACE);
-}
-
-// Greets somebody who types.
-fn greet(rt: &impl Runtime, terminals: Terminals, greeting: &str) {
+/// Greets somebody who types.
+pub(crate) fn greet(rt: &impl Runtime, terminals: Terminals, greeting: &str) {
     if terminals.are_both() {
         let _ = eprintln!(rt; "{greeting}");
     }

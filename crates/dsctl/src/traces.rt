@@ -1,12 +1,14 @@
-//! The verdict on a recorded trace.
+//! The verdict on a recorded trace, and an older one in format 2.
 
+use crate::answers::Answers;
 use crate::failure::Failure;
-use crate::terminal::{Terminals, Typed, greet_to_trace};
+use crate::terminal::{GREETING_OF_TRACE, Terminals, Typed, greet};
 use ds_explain::explain_trace;
 use ds_lines::Plain;
+use std::io;
 use std::process::ExitCode;
 use std::rt::Runtime;
-use trace_check::{Verdict, judge};
+use trace_check::{Judged, UpgradeFault, Verdict, judge, upgrade};
 
 /// Judges the trace on standard input, and prints the verdict on it; of one that isn't legal standard error has what had to stand in
 /// the line that is told. Somebody who types it is greeted.
@@ -14,23 +16,60 @@ pub(crate) fn judge_input(
     rt: &(impl Runtime + AllocGlobal),
     terminals: Terminals,
 ) -> Result<ExitCode, Failure> {
-    greet_to_trace(rt, terminals);
+    greet(rt, terminals, GREETING_OF_TRACE);
     let mut reader = Plain(Typed::unprompted(rt));
     let judged = judge(rt.alloc(), &mut reader);
-    let (word, number) = match judged.verdict {
+    match judged.verdict {
+        Verdict::ReadFault => Err(Failure::ReadFault(reader.0.fault)),
+        Verdict::NoRoom => Err(Failure::NoRoom),
+        verdict => {
+            print_verdict(rt, verdict)?;
+            Ok(explain_wrong_line(rt, &judged))
+        }
+    }
+}
+
+// Prints a verdict on a trace that was read.
+fn print_verdict(rt: &impl Runtime, verdict: Verdict) -> Result<(), Failure> {
+    let (word, number) = match verdict {
         Verdict::Legal { length } => ("legal", length),
         Verdict::IllegalAt(line) => ("illegal", line),
         Verdict::BadLineAt(line) => ("badline", line),
-        Verdict::ReadFault => return Err(Failure::ReadFault(reader.0.fault)),
-        Verdict::NoRoom => return Err(Failure::NoRoom),
+        Verdict::ReadFault | Verdict::NoRoom => return Ok(()),
     };
-    if let Err(error) = println!(rt; "{word} {number}") {
-        return Err(Failure::WriteFault(Some(error)));
+    match println!(rt; "{word} {number}") {
+        Ok(()) => Ok(()),
+        Err(error) => Err(Failure::WriteFault(Some(error))),
     }
+}
+
+// Says on standard error what had to stand in the line that is told, if one is.
+fn explain_wrong_line(rt: &(impl Runtime + AllocGlobal), judged: &Judged) -> ExitCode {
     match judged.wrong_line() {
-        None => Ok(ExitCode::SUCCESS),
+        None => ExitCode::SUCCESS,
         Some(wrong) => {
             explain_trace(rt, &wrong);
+            ExitCode::from(1)
+        }
+    }
+}
+
+/// Writes the trace of format 1 on standard input in format 2. Of one that can't be upgraded standard error has why, in one line.
+/// Somebody who types it is greeted.
+pub(crate) fn upgrade_input(
+    rt: &(impl Runtime + AllocGlobal),
+    terminals: Terminals,
+) -> Result<ExitCode, Failure> {
+    greet(rt, terminals, GREETING_OF_TRACE);
+    let mut reader = Plain(Typed::unprompted(rt));
+    let mut writer = Plain(Answers::new(io::writer(rt)));
+    match upgrade(rt.alloc(), &mut reader, &mut writer) {
+        Ok(_) => Ok(ExitCode::SUCCESS),
+        Err(UpgradeFault::ReadFault) => Err(Failure::ReadFault(reader.0.fault)),
+        Err(UpgradeFault::WriteFault) => Err(Failure::WriteFault(writer.0.fault)),
+        Err(UpgradeFault::NoRoom) => Err(Failure::NoRoom),
+        Err(refusal) => {
+            let _ = eprintln!(rt; "{refusal}");
             Ok(ExitCode::from(1))
         }
     }

@@ -1,11 +1,12 @@
 //! The words of the command line.
 
 use crate::help::{ABOUT, LINES, LONG_ABOUT};
-use crate::help_traces::{VERIFY_ABOUT, VERIFY_LONG_ABOUT};
+use crate::help_traces::{UPGRADE_ABOUT, UPGRADE_LONG_ABOUT, VERIFY_ABOUT, VERIFY_LONG_ABOUT};
 use crate::help_words::{
     AFTER_HELP, KEEP_GOING_ABOUT, SETTINGS_ABOUT, SETTINGS_LONG_ABOUT, STOP_ABOUT,
 };
 use crate::live_words::{live, sizes_of};
+use crate::record_words::{form_of, record, too_many_keys};
 use clap::error::ErrorKind;
 use clap::{Arg, ArgAction, ArgMatches, Command, Error};
 use ds_live::Sizes;
@@ -13,6 +14,7 @@ use ds_script::BadLines;
 use std::alloc::{AllocError, Global};
 use std::io;
 use std::rt::Runtime;
+use trace_record::Form;
 
 /// What the words ask for, or how they were answered.
 #[derive(Clone, Copy, Debug, PartialEq, Eq)]
@@ -23,6 +25,10 @@ pub enum Words {
     Settings,
     /// To judge a trace.
     Verify,
+    /// To write a trace of format 1 in format 2.
+    Upgrade,
+    /// To write the trace of a run, in this form.
+    Record(Form),
     /// To run threads, so many of each sort.
     Live(Sizes),
     /// Help or the version was asked for, and stands on standard output.
@@ -65,6 +71,11 @@ fn parse<'a>(alloc: Global, words: &'a [String]) -> Result<Words, Error> {
     Ok(match matches.subcommand() {
         Some(("settings", _)) => Words::Settings,
         Some(("verify", _)) => Words::Verify,
+        Some(("upgrade", _)) => Words::Upgrade,
+        Some(("record", given)) => match form_of(given) {
+            Some(form) => Words::Record(form),
+            None => return Err(too_many_keys(alloc)?),
+        },
         Some(("live", given)) => Words::Live(sizes_of(given)),
         Some(("replay", given)) if given.get_flag(KEEP_GOING) => {
             Words::Replay(Some(BadLines::GoOn))
@@ -85,6 +96,8 @@ fn command<'a>(alloc: Global) -> Result<Command<'a>, AllocError> {
     let program = program(alloc).subcommand(replay)?;
     let program = program.subcommand(settings(alloc))?;
     let program = program.subcommand(verify(alloc))?;
+    let program = program.subcommand(upgrade(alloc))?;
+    let program = program.subcommand(record(alloc)?)?;
     program.subcommand(live(alloc)?)
 }
 
@@ -128,6 +141,12 @@ fn verify<'a>(alloc: Global) -> Command<'a> {
         .long_about(VERIFY_LONG_ABOUT)
 }
 
+fn upgrade<'a>(alloc: Global) -> Command<'a> {
+    Command::new(alloc, "upgrade")
+        .about(UPGRADE_ABOUT)
+        .long_about(UPGRADE_LONG_ABOUT)
+}
+
 // What somebody is told who named a file.
 const SCRIPT: &str = "A script is read from standard input, and not by its name: dsctl < SCRIPT";
 
@@ -135,6 +154,12 @@ const TEXT: &str = "A text is read from standard input, and not by its name: dsc
 
 const TRACE: &str =
     "A trace is read from standard input, and not by its name: dsctl verify < TRACE";
+
+const OLDER_TRACE: &str =
+    "A trace is read from standard input, and not by its name: dsctl upgrade < TRACE > NEWER";
+
+const COMMANDS: &str =
+    "Commands are read from standard input, and not by name: dsctl record < COMMANDS > TRACE";
 
 const NOTHING: &str = "Nothing is read by dsctl live, whose options have numbers behind them";
 
@@ -160,6 +185,8 @@ fn tip(given: &[String]) -> Option<&'static str> {
     Some(match first {
         "settings" => TEXT,
         "verify" => TRACE,
+        "upgrade" => OLDER_TRACE,
+        "record" => COMMANDS,
         "live" => NOTHING,
         _ => SCRIPT,
     })

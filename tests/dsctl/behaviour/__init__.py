@@ -8,6 +8,8 @@ from .running import expect, fault
 
 ALL = [
     streams.answers_each_line_before_the_next,
+    streams.records_each_entry_before_the_next,
+    streams.writes_each_entry_in_format_2_before_the_next,
     streams.waits_for_a_whole_line,
     streams.judges_usage_before_input,
     limits.a_gigabyte_without_a_newline,
@@ -43,6 +45,7 @@ ALL = [
     at_a_terminal.names_the_keys_of_a_terminal,
     at_a_terminal.greets_who_types_settings,
     at_a_terminal.greets_who_types_a_trace,
+    at_a_terminal.greets_who_types_commands,
     at_a_terminal.says_why_at_a_terminal,
     at_a_terminal.is_silent_where_one_stream_is_no_terminal,
     words.the_manual_and_the_completions_are_current,

@@ -80,15 +80,22 @@ def greets_who_types_settings(program):
 
 def greets_who_types_a_trace(program):
     """Somebody who types a trace is told what is waited for, and sees no prompt, which would look like the beginning of an entry."""
-    ran = terminal.session(program, ["verify"], [], prompt=b"ends\n")
-    assert (ran.seen, ran.status) == (b"dsctl: a trace, as in dsctl verify --help, ^D ends\nbadline 1\n" + NO_HEADER, 1), f"{ran}"
+    for word, told in (("verify", b"badline 1\n" + NO_HEADER), ("upgrade", b"badline 1\n")):
+        ran = terminal.session(program, [word], [], prompt=b"ends\n")
+        assert (ran.seen, ran.status) == (b"dsctl: a trace, as in dsctl verify --help, ^D ends\n" + told, 1), f"{word}: {ran}"
+
+
+def greets_who_types_commands(program):
+    """Somebody who types commands to be recorded is told what is waited for, and sees the trace and no prompt."""
+    ran = terminal.session(program, ["record"], [], prompt=b"ends\n")
+    assert (ran.seen, ran.status) == (b"dsctl: a command a line, as in dsctl record --help, ^D ends\ntrace 2 1 0 256 128 4096\n", 0), f"{ran}"
 
 
 def says_why_at_a_terminal(program):
     """Behind `readfault` and `writefault` a terminal is told why; a file gets the word alone."""
     seen = told_at_a_terminal(program, ["sh", "-c", '"$0" < /'])
     assert seen == b"readfault\nthe input can't be read: Is a directory (os error 21)\n", seen
-    for word in ("settings", "verify"):
+    for word in ("settings", "verify", "upgrade", "record"):
         seen = told_at_a_terminal(program, ["sh", "-c", f'"$0" {word} < /'])
         assert seen == b"readfault\nthe input can't be read: Is a directory (os error 21)\n", seen
     seen = told_at_a_terminal(program, ["sh", "-c", '(sleep 0.3; echo show; echo show) | "$0" | true'])

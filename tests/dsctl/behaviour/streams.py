@@ -31,6 +31,40 @@ def answers_each_line_before_the_next(program):
     expect(rest, b"", 0)
 
 
+def records_each_entry_before_the_next(program):
+    """Over a pipe, each entry of a trace that is recorded is written before the next command is, and one of a merge behind its items."""
+    steps = [
+        (b"ring 8\n7 " + PUT, b"trace 2 1 0 8 128 4096\n", b"> 7 " + PUT + b"\n", b"< taken\n"),
+        (b"merge 1\n+ " + TOMBSTONE[6:], b"> 0 merge 1\n", b"+ " + TOMBSTONE[6:] + b"\n", b"< merged 1 1 0\n"),
+        (PUT, b"> 0 " + PUT + b"\n", b"< stale\n"),
+    ]
+    started = begin(program, ["record"])
+    try:
+        for line, *wanted in steps:
+            started.stdin.write(line + b"\n")
+            answers(started, *wanted)
+    finally:
+        rest = end(started)
+    expect(rest, b"", 0, b"")
+
+
+def writes_each_entry_in_format_2_before_the_next(program):
+    """Over a pipe, each entry of a trace that is upgraded is written before the next one is read, a sweep's merge too."""
+    steps = [
+        (b"trace 1 1 0 8", b"trace 2 1 0 8 64 1024\n"),
+        (b"> 7 offer a u32 eth0 3.0 = 1\n< taken", b"> 7 offer a u32 eth0 3.0 = 1\n", b"< taken\n"),
+        (b"> 9 sweep 0/2 eth0 3\n< swept 1", b"> 9 merge 1\n", b"+ a u32 eth0 3.4294967295 -\n", b"< merged 1 1 0\n"),
+    ]
+    started = begin(program, ["upgrade"])
+    try:
+        for line, *wanted in steps:
+            started.stdin.write(line + b"\n")
+            answers(started, *wanted)
+    finally:
+        rest = end(started, b"> 64 show\n")
+    expect(rest, b"", 1, b"badline 6\n")
+
+
 def waits_for_a_whole_line(program):
     """A line that comes in pieces is answered once it is whole, and a bad one without waiting for another."""
     started = begin(program)

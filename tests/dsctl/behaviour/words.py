@@ -7,6 +7,7 @@ import manual
 from .running import expect
 from .samples import GOOD
 
+NAMES = ("replay", "settings", "verify", "upgrade", "record", "live")
 # What the six lines about two replicas are answered, and then both sides, asked for all that they hold.
 SIX_ANSWERED = b"""\
 taken
@@ -86,6 +87,14 @@ def does_as_its_help_shows(program):
     trace = rows_below("A trace that is legal, of two entries", harness.run([program, "verify", "--help"], b"").output.decode())
     assert len(trace) == 5, f"the help shows {trace}"
     expect(harness.run([program, "verify"], script_of(trace)), b"legal 2\n", 0)
+    help_ = harness.run([program, "upgrade", "--help"], b"").output.decode()
+    older, newer = rows_below("A trace of format 1, with a sweep", help_), rows_below("The same in format 2", help_)
+    assert (len(older), len(newer)) == (5, 6), f"the help shows {older} and {newer}"
+    expect(harness.run([program, "upgrade"], script_of(older)), script_of(newer), 0, b"")
+    help_ = harness.run([program, "record", "--help"], b"").output.decode()
+    asked, told = rows_below("Two commands", help_), rows_below("The trace of their run", help_)
+    assert (len(asked), len(told)) == (2, 5), f"the help shows {asked} and {told}"
+    expect(harness.run([program, "record"], script_of(asked)), script_of(told), 0, b"")
 
 
 def rows_below(title, text):
@@ -107,7 +116,7 @@ def reminds_in_rows_of_eighty_columns(program):
         rows = ran.output.decode().splitlines()
         assert (ran.status, ran.error) == (0, b""), f"{words}: status {ran.status}, standard error {ran.error[:200]!r}"
         assert forms <= {row.split()[0] for row in rows if row.startswith("  ")}, f"{words}: {ran.output!r}"
-    for words in (["-h"], ["--help"], *([name, how] for name in ("replay", "settings", "verify", "live") for how in ("-h", "--help"))):
+    for words in (["-h"], ["--help"], *([name, how] for name in NAMES for how in ("-h", "--help"))):
         rows = harness.run([program, *words], b"").output.decode().splitlines()
         assert max(map(len, rows)) <= 80, f"{words}: a row of {max(map(len, rows))} columns"
 
@@ -126,12 +135,14 @@ def points_at_standard_input(program):
     settings = b"dsctl settings < TEXT"
     tips = [(["script.ds"], b"dsctl < SCRIPT"), (["replay", "a/script"], b"dsctl < SCRIPT"), (["settings", "machine.toml"], settings)]
     tips += [(["verify", "recorded.trace"], b"dsctl verify < TRACE"), (["verify", "a/trace"], b"dsctl verify < TRACE")]
+    tips += [(["upgrade", "older.trace"], b"dsctl upgrade < TRACE"), (["record", "recorded.commands"], b"dsctl record < COMMANDS > TRACE")]
     tips += [(["live", "script.ds"], b"Nothing is read by dsctl live")]
     tips += [(["--keep-going"], b"dsctl replay --keep-going"), (["--stop"], b"dsctl replay --keep-going")]
     for words, tip in tips:
         ran = harness.run([program, *words], b"")
         assert (ran.status, ran.output) == (2, b"") and tip in ran.error, f"{words}: {ran}"
-    for words in (["--hlep"], ["repaly"], ["replay", "--keep"], ["settings", "--hlep"], ["verify", "--hlep"], ["live", "--hlep"], ["replay", "--stop", "--keep-going"]):
+    others = [["--hlep"], ["repaly"], ["replay", "--keep"], ["replay", "--stop", "--keep-going"], ["record", "--format", "3"]]
+    for words in [*others, *([name, "--hlep"] for name in NAMES)]:
         ran = harness.run([program, *words], b"")
         assert (ran.status, ran.output) == (2, b"") and b"standard input" not in ran.error, f"{words}: {ran}"
 

@@ -1,0 +1,32 @@
+//! The trace of a run.
+
+use crate::answers::Answers;
+use crate::failure::Failure;
+use crate::terminal::{GREETING_OF_COMMANDS, Terminals, Typed, greet};
+use ds_lines::Plain;
+use std::io;
+use std::process::ExitCode;
+use std::rt::Runtime;
+use trace_record::{Form, RecordFault, record};
+
+/// Runs a store on the commands on standard input, and writes the trace of that run. Standard error has the number of a line that can't
+/// be read, and its place. Somebody who types the commands is greeted.
+pub(crate) fn record_input(
+    rt: &(impl Runtime + AllocGlobal),
+    terminals: Terminals,
+    form: Form,
+) -> Result<ExitCode, Failure> {
+    greet(rt, terminals, GREETING_OF_COMMANDS);
+    let mut reader = Plain(Typed::unprompted(rt));
+    let mut writer = Plain(Answers::new(io::writer(rt)));
+    match record(rt.alloc(), &mut reader, &mut writer, form) {
+        Ok(_) => Ok(ExitCode::SUCCESS),
+        Err(RecordFault::BadLine { line, place }) => {
+            let _ = eprintln!(rt; "badline {line} {place}");
+            Ok(ExitCode::from(1))
+        }
+        Err(RecordFault::ReadFault) => Err(Failure::ReadFault(reader.0.fault)),
+        Err(RecordFault::WriteFault) => Err(Failure::WriteFault(writer.0.fault)),
+        Err(RecordFault::NoRoom) => Err(Failure::NoRoom),
+    }
+}
