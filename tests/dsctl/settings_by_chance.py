@@ -1,5 +1,6 @@
 """Seeded settings texts, sound and with faults, and what the program is to say of each."""
 import random
+import re
 
 from model import restarts, session
 
@@ -7,6 +8,8 @@ LABELS = ("eth0", "disk", "tty", "at_wini", "e1000-1", "a" * 64)
 # Instead of a field's own value: of another type, or out of its range, or just within it.
 ODD = (0, 1, -1, 255, 256, 1000, 1001, 1000000, 1000001, 2**62, 2**63, 1.5, True, "", "rs", "eth 0", "a" * 65, [], ["mtu", "mtu"], [1], {})
 BYTES = b'0a="[]{}#\n,.-_ \\\xff'
+# What TOML 1.1 has and 1.0 hasn't, as far as one byte makes it: the program reads 1.1, and Python's reader, the model's, 1.0.
+OF_TOML_1_1 = re.compile(rb"\{[^{}]*\n[^{}]*\}|\\[ex]")
 
 
 def text_of(seed):
@@ -41,9 +44,10 @@ def service_by_chance(chance, unit):
 
 
 def spoilt(chance, text):
-    """The text with one byte of it changed, left out or doubled."""
+    """The text with one byte of it changed, left out or doubled; or as it is, where the versions of TOML differ on that."""
     at = chance.randrange(len(text))
-    return text[:at] + chance.choice([bytes([chance.choice(BYTES)]), b"", text[at : at + 1] * 2]) + text[at + 1 :]
+    changed = text[:at] + chance.choice([bytes([chance.choice(BYTES)]), b"", text[at : at + 1] * 2]) + text[at + 1 :]
+    return text if OF_TOML_1_1.search(changed) else changed
 
 
 def wanted(text):
