@@ -92,17 +92,8 @@ fn follow<R: Wait>(
     for turn in 0..calls {
         match refresh(rt, alloc, desk, &mut worker.pass, &mut follower, 65536) {
             Ok(Fresh::UpTo(place)) => {
-                let entries = follower.map().entries(alloc).ok()?;
-                let mark = mark_of_map(alloc, &entries)?;
-                worker
-                    .said
-                    .push(Said {
-                        seen: u64::from(number),
-                        turn: REFRESHED,
-                        place,
-                        kept: Kept::Reply { mark, owed: 0 },
-                    })
-                    .ok()?;
+                let view = view_of(alloc, &follower, number, place)?;
+                worker.said.push(view).ok()?;
             }
             Ok(Fresh::More) | Err(LiveFault::NoRoom) => {}
             Err(LiveFault::Refused(Refusal::NoRoom)) => {}
@@ -113,4 +104,16 @@ fn follow<R: Wait>(
         }
     }
     Some(())
+}
+
+// What is kept of a map that was brought up to a place. `None` where memory is wanting.
+fn view_of(alloc: Global, follower: &Follower, number: u32, place: u64) -> Option<Said> {
+    let entries = follower.map().entries(alloc).ok()?;
+    let mark = mark_of_map(alloc, &entries)?;
+    Some(Said {
+        seen: u64::from(number),
+        turn: REFRESHED,
+        place,
+        kept: Kept::Reply { mark, owed: 0 },
+    })
 }
