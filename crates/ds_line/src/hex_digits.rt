@@ -1,4 +1,4 @@
-//! Hex digits, and the byte that two of them write.
+//! Hex digits, and the bytes that they write.
 
 ghost use Rattle.std.specs.Prelude.{◌≡◌, ◌≢◌, ◌++◌, ◌∷◌, [], ◌<◌, ◌↔◌, ℕ, List, IfSome, OnSome, IfNone, IsTrue, slice_index};
 ghost use Rattle.hex.specs.Hex.{IsBytes, encode_lower, lower_digits};
