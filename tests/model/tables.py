@@ -14,7 +14,7 @@ class Table:
     def __init__(self, server):
         self.server = server
         self.units = {}  # each unit with its class and its label, in order of assignment
-        self.states = []  # (label, endpoint or None) of labels with a unit
+        self.states = {}  # each label that has a unit with its endpoints, None where it had none, in order
         self.requests = {}  # each id with its unit, in order of submission
         self.sends = {}  # each id with the endpoints that it was sent to
         self.answers = {}  # each id with its answer
@@ -23,11 +23,11 @@ class Table:
 
     def now(self, label):
         """The endpoint of a label's last state."""
-        return next((endpoint for it, endpoint in reversed(self.states) if it == label), None)
+        return self.states.get(label, [None])[-1]
 
     def newest(self, label):
         """The greatest generation that a label had."""
-        return max((endpoint[0] for it, endpoint in self.states if it == label and endpoint), default=None)
+        return max((endpoint[0] for endpoint in self.states.get(label, []) if endpoint), default=None)
 
     def pending(self):
         return [id for id in self.requests if id not in self.answers]
@@ -46,7 +46,7 @@ class Table:
         now, newest = self.now(label), self.newest(label)
         if state and newest is not None and (state[0] < newest or state[0] == newest and state != now):
             raise Refused("oldendpoint")
-        self.states.append((label, state))
+        self.states.setdefault(label, []).append(state)
         if state == now:
             return []
         moves = [("start", unit, state) for unit in units] if state and self.server == "net" else []
