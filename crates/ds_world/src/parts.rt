@@ -64,7 +64,7 @@ fn read_items(items: &[Item])
 }
 
 // Reads an item.
-fn read_item(item: &Item)
+pub(crate) fn read_item(item: &Item)
     ensures { IsItem item.now }
 {
     match item {

@@ -1,7 +1,12 @@
 //! How a world's stores are asked.
 
-ghost use Rattle.std.specs.Prelude.{◌≡◌, true, false};
+ghost use Rattle.std.specs.Prelude.{◌≡◌, ◌∷◌, [], true, false};
 ghost use Rattle.ds_machine.specs.Says.{IsReplyTo};
+ghost use Rattle.ds_machine.specs.State.{State};
+ghost use Rattle.ds_machine.specs.Machine.{Step};
+ghost use Rattle.ds_machine.specs.declared.command.Command.TheVariants.{Merge};
+ghost use Rattle.ds_judge.specs.Last.{IsLast};
+ghost use Rattle.ds_content.specs.Stands.{ContentStands};
 ghost use Rattle.ds_replica.specs.declared.event.Event.TheVariants.{Ask};
 ghost use Rattle.ds_replica.specs.declared.outcome.Outcome.TheVariants.{Replied};
 ghost use Rattle.ds_replica.specs.Happens.{gives_items};
@@ -9,12 +14,14 @@ ghost use Rattle.ds_world.specs.Run.{EventLeads};
 ghost use Rattle.ds_world.specs.Steps.{StoreSteps, LastOf};
 ghost use Rattle.ds_world.specs.Told.{IsAskTold, IsTold};
 
-use crate::parts::read_parts;
+use crate::parts::{read_item, read_parts};
 use crate::replies::{gives_items, has_items};
 use crate::world::World;
+use ds_entry::Item;
 use ds_machine::{Command, Reply};
 use ds_replica::{EventFault, Outcome, Side};
 use ds_store::Store;
+use std::slice;
 
 /// The most messages.
 const MOST_MESSAGES: usize = 65536;
@@ -28,6 +35,28 @@ fn apply(a: &mut Store, b: &mut Store, side: Side, command: Command) -> Reply
     match side {
         Side::A => a.apply(command),
         Side::B => b.apply(command),
+    }
+}
+
+// Asks a store to merge an item.
+fn merge_item(store: &mut Store, item: &Item) -> Reply
+    ensures step { (s : State) → ContentStands store.old s → (t : State) × Step s (Merge (item.now ∷ [])) result t × ContentStands store.new t }
+    ensures last { (s : State) → ContentStands store.old s → IsLast s (Merge (item.now ∷ [])) result }
+    ensures fits { IsReplyTo (Merge (item.now ∷ [])) result }
+{
+    let items = slice::from_ref(item);
+    store.merge(items)
+}
+
+// Asks the store of the side to merge an item.
+fn merge_one(a: &mut Store, b: &mut Store, side: Side, item: &Item) -> Reply
+    ensures step { StoreSteps a.old b.old a.new b.new side (Merge (item.now ∷ [])) result }
+    ensures last { LastOf a.old b.old side (Merge (item.now ∷ [])) result }
+    ensures fits { IsReplyTo (Merge (item.now ∷ [])) result }
+{
+    match side {
+        Side::A => merge_item(a, item),
+        Side::B => merge_item(b, item),
     }
 }
 
@@ -53,6 +82,16 @@ impl World {
     {
         read_parts(&command);
         apply(&mut self.a, &mut self.b, side, command)
+    }
+
+    /// Asks the store of a side to merge one item, which is only lent, and gives its reply: the event of an Ask of that Merge, with
+    /// no list made for it. No world refuses it, and it takes memory only where the store does.
+    pub fn offer(&mut self, side: Side, item: &Item) -> Reply
+        ensures leads { EventLeads (Ask side (Merge (item.now ∷ []))) (Replied result) self.old self.new }
+        ensures told { IsTold (Ask side (Merge (item.now ∷ []))) (Replied result) self.old self.new }
+    {
+        read_item(item);
+        merge_one(&mut self.a, &mut self.b, side, item)
     }
 
     // The same of a command to which a store gives items.
