@@ -1,6 +1,6 @@
 //! `dsctl`: the data store at the command line. It reads standard input and writes standard output.
 //!
-//! The program is thin: the words of the command line are `clap`'s, the work is `ds_script`'s, `rs_settings`'s, `trace_check`'s,
+//! The program is thin: the words of the command line are `dsctl_words`'s, the work is `ds_script`'s, `rs_settings`'s, `trace_check`'s,
 //! `trace_record`'s and `ds_live`'s, what is said of a line that can't be read is `ds_explain`'s, and what is left here is the printing of
 //! settings, verdicts and reports and the choice of the exit status. 0: done. 1: refused input. 2: usage. 3: memory, reading or writing failed, or a run of
 //! threads, and standard error says which.
@@ -8,23 +8,18 @@
 
 mod answers;
 mod failure;
-mod help;
-mod help_record;
-mod help_traces;
-mod help_words;
 mod live;
-mod live_words;
-mod record_words;
 mod recording;
 mod settings;
 mod terminal;
 mod traces;
-mod words;
 
 use answers::Answers;
 use ds_explain::{Audience, explain};
 use ds_lines::Plain;
+use ds_live::Sizes;
 use ds_script::{BadLine, BadLines, ReplayFault, Replayed, Report, replay_reporting};
+use dsctl_words::Words;
 use failure::Failure;
 use std::io::{self, IsTerminal};
 use std::process::ExitCode;
@@ -32,7 +27,6 @@ use std::rt::Runtime;
 use std::sync::Wait;
 use std::thread::Threads;
 use terminal::{Terminals, Typed};
-use words::Words;
 
 fn main(rt: HostRuntime) -> ExitCode {
     let terminals = Terminals {
@@ -53,13 +47,24 @@ fn run<R: Runtime + AllocGlobal + Threads + Wait + Sync>(
     rt: &R,
     terminals: Terminals,
 ) -> Result<ExitCode, Failure> {
-    match words::read(rt) {
-        Words::Replay(told) => replay_input(rt, terminals, bad_lines(told, terminals)),
+    match dsctl_words::read(rt) {
+        Words::Replay { go_on } => replay_input(rt, terminals, bad_lines(go_on, terminals)),
         Words::Settings => settings::show_input(rt, terminals),
         Words::Verify => traces::judge_input(rt, terminals),
         Words::Upgrade => traces::upgrade_input(rt, terminals),
         Words::Record(form) => recording::record_input(rt, terminals, form),
-        Words::Live(sizes) => live::run(rt, sizes),
+        Words::Live {
+            publishers,
+            subscribers,
+            changes,
+        } => live::run(
+            rt,
+            Sizes {
+                publishers,
+                subscribers,
+                changes,
+            },
+        ),
         Words::Shown => Ok(ExitCode::SUCCESS),
         Words::Usage => Ok(ExitCode::from(2)),
         Words::NoRoom => Err(Failure::NoRoom),
@@ -68,11 +73,11 @@ fn run<R: Runtime + AllocGlobal + Threads + Wait + Sync>(
 }
 
 // What becomes of bad lines: what was asked for. Else somebody who types loses nothing by one, and a script ends there.
-fn bad_lines(told: Option<BadLines>, terminals: Terminals) -> BadLines {
-    match told {
-        Some(bad_lines) => bad_lines,
-        None if terminals.are_both() => BadLines::GoOn,
-        None => BadLines::End,
+fn bad_lines(go_on: Option<bool>, terminals: Terminals) -> BadLines {
+    if go_on.unwrap_or(terminals.are_both()) {
+        BadLines::GoOn
+    } else {
+        BadLines::End
     }
 }
 

@@ -3,7 +3,9 @@
 use crate::answers::Answers;
 use crate::failure::Failure;
 use crate::terminal::{GREETING_OF_COMMANDS, Terminals, Typed, greet};
+use ds_held::Limits;
 use ds_lines::Plain;
+use dsctl_words::TraceForm;
 use std::io;
 use std::process::ExitCode;
 use std::rt::Runtime;
@@ -14,12 +16,12 @@ use trace_record::{Form, RecordFault, record};
 pub(crate) fn record_input(
     rt: &(impl Runtime + AllocGlobal),
     terminals: Terminals,
-    form: Form,
+    form: TraceForm,
 ) -> Result<ExitCode, Failure> {
     greet(rt, terminals, GREETING_OF_COMMANDS);
     let mut reader = Plain(Typed::unprompted(rt));
     let mut writer = Plain(Answers::new(io::writer(rt)));
-    match record(rt.alloc(), &mut reader, &mut writer, form) {
+    match record(rt.alloc(), &mut reader, &mut writer, form_of(form)) {
         Ok(_) => Ok(ExitCode::SUCCESS),
         Err(RecordFault::BadLine { line, place }) => {
             let _ = eprintln!(rt; "badline {line} {place}");
@@ -28,5 +30,14 @@ pub(crate) fn record_input(
         Err(RecordFault::ReadFault) => Err(Failure::ReadFault(reader.0.fault)),
         Err(RecordFault::WriteFault) => Err(Failure::WriteFault(writer.0.fault)),
         Err(RecordFault::NoRoom) => Err(Failure::NoRoom),
+    }
+}
+
+// The form that the words name.
+fn form_of(form: TraceForm) -> Form {
+    match form {
+        TraceForm::One => Form::One,
+        TraceForm::SmallerTwo => Form::Two(Limits::smaller()),
+        TraceForm::Two => Form::Two(Limits::larger()),
     }
 }

@@ -1,8 +1,8 @@
 //! What somebody at a terminal sees beside the answers, on standard error: a greeting, a prompt, and help where they ask for it.
 
-use crate::help::LINES;
 use ds_explain::Audience;
 use ds_script::BadLines;
+use dsctl_words::LINES;
 use std::io::{self, Read};
 use std::rt::Runtime;
 

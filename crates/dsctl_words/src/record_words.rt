@@ -1,11 +1,10 @@
 //! The words of `dsctl record`.
 
 use crate::help_record::{FORMAT_ABOUT, KEYS_ABOUT, RECORD_ABOUT, RECORD_LONG_ABOUT};
+use crate::words::TraceForm;
 use clap::error::ErrorKind;
 use clap::{Arg, ArgAction, ArgMatches, Command, Error};
-use ds_held::Limits;
 use std::alloc::{AllocError, Global};
-use trace_record::Form;
 
 // The options, by their names, and their values.
 const FORMAT: &str = "format";
@@ -37,12 +36,12 @@ fn one_of<'a>(alloc: Global, name: &'a str, values: &'a [&'a str], about: &'a st
 }
 
 /// The form that was asked for; of format 1 where 4096 keys were, too, `None`.
-pub(crate) fn form_of(given: &ArgMatches<'_>) -> Option<Form> {
+pub(crate) fn form_of(given: &ArgMatches<'_>) -> Option<TraceForm> {
     match (given.get_str(FORMAT), given.get_str(KEYS)) {
         (Some("1"), Some("4096")) => None,
-        (Some("1"), _) => Some(Form::One),
-        (_, Some("1024")) => Some(Form::Two(Limits::smaller())),
-        (_, _) => Some(Form::Two(Limits::larger())),
+        (Some("1"), _) => Some(TraceForm::One),
+        (_, Some("1024")) => Some(TraceForm::SmallerTwo),
+        (_, _) => Some(TraceForm::Two),
     }
 }
 

@@ -168,7 +168,7 @@ stale where it comes later. A floor is under every query, and is shown to each
 subscription once.";
 
 /// Every line of a script in one row, for whoever has forgotten one.
-pub(crate) const LINES: &str = "\
+pub const LINES: &str = "\
 Lines of a script (`dsctl --help` explains them):
   publish CALLER new NAME KIND EPOCH.SEQ = VALUE  put a value; `over` to replace
   delete CALLER NAME KIND EPOCH.SEQ               end a live entry

@@ -1,7 +1,7 @@
 //! The words of `dsctl live`.
 
+use crate::words::Words;
 use clap::{Arg, ArgAction, ArgMatches, Command};
-use ds_live::Sizes;
 use std::alloc::{AllocError, Global};
 
 // The options, by their names.
@@ -62,9 +62,9 @@ fn number<'a>(alloc: Global, name: &'a str, default: &'a str, about: &'a str) ->
         .help(about)
 }
 
-/// The sizes that were asked for. Each option has a default; without it the size would be 0, which is none of a run's.
-pub(crate) fn sizes_of(given: &ArgMatches<'_>) -> Sizes {
-    Sizes {
+/// The threads that were asked for. Each option has a default; without it the number would be 0, which is none of a run's.
+pub(crate) fn crew_of(given: &ArgMatches<'_>) -> Words {
+    Words::Live {
         publishers: given.get_one::<u32>(PUBLISHERS).unwrap_or(0),
         subscribers: given.get_one::<u32>(SUBSCRIBERS).unwrap_or(0),
         changes: given.get_one::<u32>(CHANGES).unwrap_or(0),

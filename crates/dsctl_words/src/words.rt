@@ -5,22 +5,21 @@ use crate::help_traces::{UPGRADE_ABOUT, UPGRADE_LONG_ABOUT, VERIFY_ABOUT, VERIFY
 use crate::help_words::{
     AFTER_HELP, KEEP_GOING_ABOUT, SETTINGS_ABOUT, SETTINGS_LONG_ABOUT, STOP_ABOUT,
 };
-use crate::live_words::{live, sizes_of};
+use crate::live_words::{crew_of, live};
 use crate::record_words::{form_of, record, too_many_keys};
 use clap::error::ErrorKind;
 use clap::{Arg, ArgAction, ArgMatches, Command, Error};
-use ds_live::Sizes;
-use ds_script::BadLines;
 use std::alloc::{AllocError, Global};
 use std::io;
 use std::rt::Runtime;
-use trace_record::Form;
 
 /// What the words ask for, or how they were answered.
 #[derive(Clone, Copy, Debug, PartialEq, Eq)]
 pub enum Words {
-    /// To answer a script; and what is to become of a line that can't be read, if that was said.
-    Replay(Option<BadLines>),
+    /// To answer a script; and whether to go on behind a line that can't be read, if that was said.
+    Replay {
+        go_on: Option<bool>,
+    },
     /// To show what settings tell RS.
     Settings,
     /// To judge a trace.
@@ -28,9 +27,13 @@ pub enum Words {
     /// To write a trace of format 1 in format 2.
     Upgrade,
     /// To write the trace of a run, in this form.
-    Record(Form),
-    /// To run threads, so many of each sort.
-    Live(Sizes),
+    Record(TraceForm),
+    /// To run threads: so many that publish and so many that follow, each for so many turns.
+    Live {
+        publishers: u32,
+        subscribers: u32,
+        changes: u32,
+    },
     /// Help or the version was asked for, and stands on standard output.
     Shown,
     /// They are none of the program's, as standard error says.
@@ -41,8 +44,19 @@ pub enum Words {
     WriteFault,
 }
 
+/// The form of a recorded trace.
+#[derive(Clone, Copy, Debug, PartialEq, Eq)]
+pub enum TraceForm {
+    /// Format 1, of 64 subscriptions and 1024 keys.
+    One,
+    /// Format 2, with as many of both as format 1.
+    SmallerTwo,
+    /// Format 2, with 128 subscriptions and 4096 keys.
+    Two,
+}
+
 /// Reads the words that the program was started with. Answers a wrong word, or a wish for help, itself.
-pub(crate) fn read<R: Runtime + AllocGlobal>(rt: &R) -> Words {
+pub fn read<R: Runtime + AllocGlobal>(rt: &R) -> Words {
     let given = match std::env::args(rt) {
         Ok(given) => given,
         Err(error) if error.kind() == io::ErrorKind::OutOfMemory => return Words::NoRoom,
@@ -76,12 +90,12 @@ fn parse<'a>(alloc: Global, words: &'a [String]) -> Result<Words, Error> {
             Some(form) => Words::Record(form),
             None => return Err(too_many_keys(alloc)?),
         },
-        Some(("live", given)) => Words::Live(sizes_of(given)),
+        Some(("live", given)) => crew_of(given),
         Some(("replay", given)) if given.get_flag(KEEP_GOING) => {
-            Words::Replay(Some(BadLines::GoOn))
+            Words::Replay { go_on: Some(true) }
         }
-        Some(("replay", given)) if given.get_flag(STOP) => Words::Replay(Some(BadLines::End)),
-        _ => Words::Replay(None),
+        Some(("replay", given)) if given.get_flag(STOP) => Words::Replay { go_on: Some(false) },
+        _ => Words::Replay { go_on: None },
     })
 }
 
