@@ -1,2 +1,3 @@
 pub mod CalledLemmas
+pub mod RetrievedLemmas
 pub mod RunningLemmas

@@ -12,8 +12,6 @@ use Rattle.store_words.specs.declared.wording.Wording.{Wording}
 use Rattle.store_words.specs.declared.wording.Wording.TheVariants.{AsMerge}
 use Rattle.c_words.specs.declared.request.Request.{Request}
 use Rattle.c_words.specs.declared.answer.Answer.{Answer}
-use Rattle.c_words.specs.declared.reading.Asked.{Asked}
-use Rattle.c_words.specs.declared.reading.Asked.TheVariants as asked
 use Rattle.c_words.specs.Answer.{answer_of, no_request, told_no_room, told_shown}
 use Rattle.c_words.specs.Asked.{StandsFor, StandsForNone, has_text}
 use Rattle.c_words.specs.Pieces.{pieces_of}
@@ -43,12 +41,6 @@ abbrev pub RestsForRoom : Session → Answer → Session → Type 0
 RestsForRoom old answer new = Rests old told_no_room (Replied (Refused NoRoom) AsMerge) answer new
 
 -- ---- requests
-
--- what was read of a request is answered
-abbrev pub TellsAsked : Session → Asked → Answer → Session → Type 0
-TellsAsked old asked.Nothing answer new = RestsForNone old answer new
-TellsAsked old asked.NoRoom answer new = RestsForRoom old answer new
-TellsAsked old (asked.Command command) answer new = Tells old AsMerge command answer new
 
 -- the request stands for a command, which the store answers
 pub record AnswersRequest (old : Session) (r : Request) (text : List ℕ) (answer : Answer) (new : Session) : Type 0 where

@@ -2,6 +2,7 @@
 #![tactic(auto)]
 
 mod last;
+mod retrieving;
 mod running;
 mod session;
 

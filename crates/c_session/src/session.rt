@@ -1,23 +1,26 @@
 //! Sessions.
 
-ghost use Rattle.std.specs.Prelude.{◌≡◌, ◌≤◌, drop, length, IfOk, IfErr, OnOk};
+ghost use Rattle.std.specs.Prelude.{◌≡◌, ◌≤◌, ℕ, List, drop, length, IfOk, IfErr, OnOk};
 ghost use Rattle.ds_feed.specs.Kept.{IsRing};
 ghost use Rattle.ds_held.specs.Limits.{larger};
 ghost use Rattle.ds_machine.specs.State.{opening};
 ghost use Rattle.ds_names.specs.Limits.{last_place};
 ghost use Rattle.ds_content.specs.Stands.{ContentStands};
 ghost use Rattle.ds_store.specs.Opening.{IsOpenRefusal};
+ghost use Rattle.c_words.specs.Answer.{answer_of, told_shown};
 ghost use Rattle.c_words.specs.Asked.{request_text};
 ghost use Rattle.c_words.specs.Pieces.{GivesPieces};
-ghost use Rattle.c_session.specs.Called.{TellsAsked, Tells, Rests, RestsForRoom, ShowsIfRoom, Called, pieces_in};
-ghost use Rattle.c_words.specs.Answer.{told_shown};
-ghost use Rattle.c_session.specs.declared.last.Last.TheVariants.{Nothing, Shown};
+ghost use Rattle.c_session.specs.Called.{Tells, Rests, RestsForNone, RestsForRoom, ShowsIfRoom, CalledWith, Called, pieces_in};
+ghost use Rattle.c_session.specs.declared.last.Last.TheVariants.{Nothing, Reply as Replied, Shown};
 
 use crate::last::{Last, held_shown};
-use c_words::{Answer, Asked, Given, Request, answer_of, no_room, read_request, text_of};
+use crate::retrieving::retrieved;
+use c_words::{
+    Answer, Given, Request, answer_of, caller_of, key_of, no_room, read_request, text_of,
+};
 use ds_entry::Items;
 use ds_machine::{Command, Refusal, Reply};
-use ds_names::NoRoom;
+use ds_names::{Key, NoRoom};
 use ds_store::Store;
 use std::alloc::Global;
 use store_words::Wording;
@@ -52,11 +55,19 @@ impl Session {
     }
 
     /// Lets the store answer a command, and keeps its reply, which a script words so.
+    #[inline(always)]
     pub fn answer(&mut self, wording: Wording, command: Command) -> Answer
         ensures { Tells self.old wording command result self.new }
     {
         let _stood = self.store.cursor();
         let reply = self.store.apply(command);
+        self.tell(wording, reply)
+    }
+
+    // Tells a reply, and keeps it. The store stays as it is.
+    fn tell(&mut self, wording: Wording, reply: Reply) -> Answer
+        ensures { Rests self.old (answer_of reply) (Replied reply wording) result self.new }
+    {
         let answer = answer_of(&reply);
         self.last = Last::Reply { reply, wording };
         answer
@@ -100,13 +111,60 @@ impl Session {
         answer
     }
 
-    fn ask(&mut self, asked: Asked) -> Answer
-        ensures { TellsAsked self.old asked result self.new }
+    // Tells that nothing is asked. The store stays as it is.
+    fn decline(&mut self) -> Answer
+        ensures { RestsForNone self.old result self.new }
     {
-        match asked {
-            Asked::Nothing => self.rest(Answer::no_request()),
-            Asked::NoRoom => self.refuse(),
-            Asked::Command(command) => self.answer(Wording::AsMerge, command),
+        self.rest(Answer::no_request())
+    }
+
+    // Lets the store answer the command that a request with this text stands for.
+    fn ask(&mut self, alloc: Global, request: &Request, text: &[u8]) -> Answer
+        ensures { CalledWith self.old request.now text.now result self.new }
+    {
+        match read_request(alloc, request, text) {
+            Ok(Some(command)) => self.answer(Wording::AsMerge, command),
+            Ok(None) => self.decline(),
+            Err(NoRoom) => self.refuse(),
+        }
+    }
+
+    // Answers a Retrieve by what the store holds, and makes no command for it.
+    fn look_up(&mut self, alloc: Global, key: &Key) -> Answer
+        ensures { Tells self.old Wording.AsMerge (Command.Retrieve key.now) result self.new }
+    {
+        let reply = retrieved(alloc, self.store.held(), key);
+        self.tell(Wording::AsMerge, reply)
+    }
+
+    fn retrieve(&mut self, alloc: Global, request: &Request) -> Answer
+        requires { request.now.command ≡ 3 }
+        ensures { (text : List ℕ) → CalledWith self.old request.now text result self.new }
+    {
+        match key_of(request) {
+            Some(key) => self.look_up(alloc, &key),
+            None => self.decline(),
+        }
+    }
+
+    fn name(&mut self, request: &Request) -> Answer
+        requires { request.now.command ≡ 4 }
+        ensures { (text : List ℕ) → CalledWith self.old request.now text result self.new }
+    {
+        match caller_of(request) {
+            Some(endpoint) => self.answer(Wording::AsMerge, Command::NameOf { endpoint }),
+            None => self.decline(),
+        }
+    }
+
+    // Callers ask a Retrieve and a NameOf most: they aren't passed on as what a request of any command may stand for.
+    fn call_with(&mut self, alloc: Global, request: &Request, text: &[u8]) -> Answer
+        ensures { CalledWith self.old request.now text.now result self.new }
+    {
+        match request.command {
+            3 => self.retrieve(alloc, request),
+            4 => self.name(request),
+            _ => self.ask(alloc, request, text),
         }
     }
 
@@ -116,8 +174,8 @@ impl Session {
         ensures { Called self.old request.now (request_text request.now texts.now) result self.new }
     {
         match text_of(texts, request) {
-            Some(text) => self.ask(read_request(alloc, request, text)),
-            None => self.rest(Answer::no_request()),
+            Some(text) => self.call_with(alloc, request, text),
+            None => self.decline(),
         }
     }
 

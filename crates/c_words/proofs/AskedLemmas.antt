@@ -1,11 +1,13 @@
--- When a request stands for no command.
-use Rattle.std.proofs.Common.{◌≡◌, ◌≢◌, ℕ, List, refl, inl, inr}
-use Rattle.std.specs.Prelude.{None}
+-- What is read of a request, and when it stands for no command.
+use Rattle.std.proofs.Common.{◌≡◌, ◌≢◌, ℕ, List, refl, sym, inl, inr}
+use Rattle.std.specs.Prelude.{Option, Some, None, Result, Ok, Err, IfOk, OnErr, IsTrue}
 use Rattle.ds_entry.specs.declared.item.Item.{Item}
 use Rattle.c_words.specs.declared.request.Request.{Request}
 use Rattle.c_words.specs.Request.{command_of}
 use Rattle.c_words.specs.Lines.{AreLines}
-use Rattle.c_words.specs.Asked.{StandsForNone}
+use Rattle.c_words.specs.Asked.{StandsForNone, has_text, ReadsRequest}
+use Rattle.ds_machine.specs.declared.command.Command.{Command}
+use Rattle.ds_names.specs.declared.room.NoRoom.{NoRoom}
 
 -- one that is no Merge, and no other command's
 pub none_of_parts : (r : Request) (text : List ℕ) → r.command ≢ 10 → command_of r text ≡ None → StandsForNone r text
@@ -21,3 +23,10 @@ merge_alone r text ten = rw ten refl
 pub none_of_items : (r : Request) (text : List ℕ) → r.command ≡ 10 → ((items : List Item) → ¬ AreLines items text) → StandsForNone r text
 none_of_items r text ten none command (inl is) = let alone : command_of r text ≡ None = merge_alone r text ten in cc
 none_of_items r text ten none command (inr merge) = none merge.items merge.lines
+
+-- what is read of one that is no Merge
+pub of_parts : (r : Request) (text : List ℕ) (result : Result (Option Command) NoRoom) → r.command ≢ 10
+    → IfOk result (λ (command : Option Command). command ≡ command_of r text) → OnErr result (IsTrue (has_text r)) → ReadsRequest r text result
+of_parts r text (Ok None) other read room = none_of_parts r text other (sym read)
+of_parts r text (Ok (Some command)) other read room = inl (sym read)
+of_parts r text (Err wanting) other read room = room

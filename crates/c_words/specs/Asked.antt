@@ -1,11 +1,10 @@
 -- What a request asks for.
-use Rattle.std.specs.Prelude.{◌≡◌, ℕ, ◌+◌, ◌==◌, ◌||◌, ◌⊎◌, nat_le, cond, IsTrue, Bool, List, length, take, drop, Option, Some, None}
+use Rattle.std.specs.Prelude.{◌≡◌, ℕ, ◌+◌, ◌==◌, ◌||◌, ◌⊎◌, nat_le, cond, IsTrue, Bool, List, length, take, drop, Option, Some, None, Result, Ok, Err}
 use Rattle.ds_entry.specs.declared.item.Item.{Item}
 use Rattle.ds_machine.specs.declared.command.Command.{Command}
 use Rattle.ds_machine.specs.declared.command.Command.TheVariants.{Merge}
+use Rattle.ds_names.specs.declared.room.NoRoom.{NoRoom}
 use Rattle.c_words.specs.declared.request.Request.{Request}
-use Rattle.c_words.specs.declared.reading.Asked.{Asked}
-use Rattle.c_words.specs.declared.reading.Asked.TheVariants as asked
 use Rattle.c_words.specs.Request.{command_of}
 use Rattle.c_words.specs.Lines.{AreLines}
 
@@ -37,7 +36,7 @@ abbrev pub has_text : Request → Bool
 has_text r = r.command == 0 || (r.command == 5 || (r.command == 7 || (r.command == 8 || (r.command == 9 || r.command == 10))))
 
 -- what is read of a request: its command, or that there is none, or that memory is wanting for its text
-abbrev pub ReadsRequest : Request → List ℕ → Asked → Type 0
-ReadsRequest r text asked.Nothing = StandsForNone r text
-ReadsRequest r text asked.NoRoom = IsTrue (has_text r)
-ReadsRequest r text (asked.Command command) = StandsFor r text command
+abbrev pub ReadsRequest : Request → List ℕ → Result (Option Command) NoRoom → Type 0
+ReadsRequest r text (Ok None) = StandsForNone r text
+ReadsRequest r text (Ok (Some command)) = StandsFor r text command
+ReadsRequest r text (Err wanting) = IsTrue (has_text r)

@@ -22,7 +22,8 @@ pub(crate) fn endpoint(number: u32, slot: u16) -> Option<Endpoint>
     Endpoint::of(Generation::of(number)?, slot)
 }
 
-pub(crate) fn caller(request: &Request) -> Option<Endpoint>
+/// The endpoint of a request, which is its caller's, or the one whose name a NameOf asks for. `None` where it has none.
+pub fn caller_of(request: &Request) -> Option<Endpoint>
     ensures { result ≡ caller_of request.now }
 {
     endpoint(request.generation, request.slot)
@@ -63,8 +64,9 @@ pub(crate) fn name(request: &Request) -> Option<Name>
     Name::read(&request.name[..length]).ok()
 }
 
+/// The key of a request. `None` where it has none.
 #[tactic(auto, unfolding(crate::specs::Request::key_of))]
-pub(crate) fn key(request: &Request) -> Option<Key>
+pub fn key_of(request: &Request) -> Option<Key>
     ensures { result ≡ key_of request.now }
 {
     let name = name(request)?;
@@ -89,8 +91,8 @@ pub(crate) fn behind(request: &Request) -> Option<Option<Key>>
 pub(crate) fn delete(request: &Request) -> Option<Command>
     ensures { result ≡ delete_of request.now }
 {
-    let caller = caller(request)?;
-    let key = key(request)?;
+    let caller = caller_of(request)?;
+    let key = key_of(request)?;
     let version = version(request)?;
     Some(Command::Delete {
         caller,
@@ -103,7 +105,7 @@ pub(crate) fn delete(request: &Request) -> Option<Command>
 pub(crate) fn sweep(request: &Request) -> Option<Command>
     ensures { result ≡ sweep_of request.now }
 {
-    let caller = caller(request)?;
+    let caller = caller_of(request)?;
     let owner = name(request)?;
     let generation = generation(request.value)?;
     Some(Command::Sweep {

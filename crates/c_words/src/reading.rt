@@ -7,35 +7,24 @@ ghost use Rattle.c_words.specs.Request.{command_of, key_of, caller_of};
 ghost use Rattle.c_words.specs.Asked.{has_text, ReadsRequest};
 
 use crate::lines::read_items;
-use crate::parts::{caller, delete, key, sweep};
+use crate::parts::{caller_of, delete, key_of, sweep};
 use crate::request::Request;
 use crate::texts::{page, publish, since, snapshot, subscribe};
 use ds_machine::Command;
 use ds_names::NoRoom;
 use std::alloc::Global;
 
-/// What a request asks for.
-#[derive(Drop)]
-pub enum Asked {
-    /// Nothing: no command has such parts.
-    Nothing,
-    /// A command, for whose text memory was wanting.
-    NoRoom,
-    /// This command.
-    Command(Command),
-}
-
 fn retrieve(request: &Request) -> Option<Command>
     ensures { result ≡ option_map Retrieve (key_of request.now) }
 {
-    let key = key(request)?;
+    let key = key_of(request)?;
     Some(Command::Retrieve { key })
 }
 
 fn name_of(request: &Request) -> Option<Command>
     ensures { result ≡ option_map NameOf (caller_of request.now) }
 {
-    let endpoint = caller(request)?;
+    let endpoint = caller_of(request)?;
     Some(Command::NameOf { endpoint })
 }
 
@@ -64,27 +53,28 @@ fn command(alloc: Global, request: &Request, text: &[u8]) -> Result<Option<Comma
 }
 
 // The Merge of the items whose lines the text is.
-fn merge(alloc: Global, request: &Request, text: &[u8]) -> Asked
+fn merge(alloc: Global, request: &Request, text: &[u8]) -> Result<Option<Command>, NoRoom>
     requires { request.now.command ≡ 10 }
     ensures { ReadsRequest request.now text.now result }
 {
     match read_items(alloc, text) {
-        Ok(Some(items)) => Asked::Command(Command::Merge { items }),
-        Ok(None) => Asked::Nothing,
-        Err(NoRoom) => Asked::NoRoom,
+        Ok(Some(items)) => Ok(Some(Command::Merge { items })),
+        Ok(None) => Ok(None),
+        Err(NoRoom) => Err(NoRoom),
     }
 }
 
-/// What a request with this text asks for.
-pub fn read_request(alloc: Global, request: &Request, text: &[u8]) -> Asked
+/// The command that a request with this text asks for. `None` where no command has such parts, and NoRoom where memory is wanting
+/// for its text.
+pub fn read_request(
+    alloc: Global,
+    request: &Request,
+    text: &[u8],
+) -> Result<Option<Command>, NoRoom>
     ensures { ReadsRequest request.now text.now result }
 {
     if request.command == 10 {
         return merge(alloc, request, text);
     }
-    match command(alloc, request, text) {
-        Ok(Some(command)) => Asked::Command(command),
-        Ok(None) => Asked::Nothing,
-        Err(NoRoom) => Asked::NoRoom,
-    }
+    command(alloc, request, text)
 }

@@ -7,7 +7,7 @@ ghost use Rattle.c_words.specs.Asked.{request_text};
 ghost use Rattle.c_words.specs.Request.{string_at, memory_at, valued, query_at, scope_of};
 ghost use Rattle.c_words.specs.Request.{publish_of, subscribe_of, since_of_request, page_of_request};
 
-use crate::parts::{behind, caller, endpoint, key, version};
+use crate::parts::{behind, caller_of, endpoint, key_of, version};
 use crate::request::Request;
 use ds_entry::{Blob, BlobFault, Text, TextFault, Value};
 use ds_feed::Cursor;
@@ -73,10 +73,10 @@ pub(crate) fn publish(
 ) -> Result<Option<Command>, NoRoom>
     ensures { IfOk result (λ command. command ≡ publish_of request.now text.now) }
 {
-    let Some(key) = key(request) else {
+    let Some(key) = key_of(request) else {
         return Ok(None);
     };
-    let Some(caller) = caller(request) else {
+    let Some(caller) = caller_of(request) else {
         return Ok(None);
     };
     let Some(version) = version(request) else {

@@ -1,9 +1,5 @@
-use Rattle.std.proofs.Common.{inl, sym}
-use Rattle.c_words.proofs.AskedLemmas.{none_of_parts}
+use Rattle.c_words.proofs.AskedLemmas.{of_parts}
 use Rattle.c_words.proofs.reading.read_request.Goals as goal
 
-pub returns-in-Ok-Some : goal.returns-in-Ok-Some
-returns-in-Ok-Some c = inl (sym (rw c.in-Ok-Some.field-0-is at c.in-Ok-Some.ensures.read))
-
-pub returns-in-Ok-None : goal.returns-in-Ok-None
-returns-in-Ok-None c = none_of_parts c.args.request.now c.args.text.now c.if-request-eq10.false (sym (rw c.in-Ok-None.field-0-is at c.in-Ok-None.ensures.read))
+pub returns : goal.returns
+returns c = of_parts c.args.request.now c.args.text.now c.command.result c.if-request-eq10.false c.command.ensures.read c.command.ensures.room
