@@ -1,7 +1,9 @@
 //! The commands of lines in bytes.
 
-ghost use Rattle.std.specs.Prelude.{◌≡◌};
+ghost use Rattle.std.specs.Prelude.{◌≡◌, ◌≤◌, ◌+◌, length, take, IfOk, IfErr};
 ghost use Rattle.ds_line.specs.declared.expected.Expected.TheVariants.{Limit};
+ghost use Rattle.ds_lines.specs.Lines.{IsUnbroken, with_newline};
+ghost use Rattle.ds_words.specs.Command.{IsLineOf, IsCommandLineFault};
 ghost use Rattle.ds_words.specs.declared.fault.CommandFault.TheVariants.{BadLine};
 ghost use Rattle.c_line.specs.Line.{ReadsBytes};
 
@@ -10,13 +12,16 @@ use ds_lines::{LONGEST_LINE, newline_place};
 use ds_words::{CommandFault, ScriptCommand, read_command, read_line};
 use std::alloc::Global;
 
+// The most bytes of a line to which a newline is put in a small block. `read_command` clears one for the longest line.
+const SHORT_LINE: usize = 255;
+
 /// Reads the command of the line that bytes are, whose newline may be missing. Where more comes behind the newline, it is bad at the
 /// place where that begins.
 pub(crate) fn read_bytes(alloc: Global, bytes: &[u8]) -> Result<ScriptCommand, CommandFault>
     ensures { ReadsBytes bytes.now result }
 {
     match newline_place(bytes) {
-        None => read_command(alloc, bytes),
+        None => read_unended(alloc, bytes),
         Some(place) => {
             if place + 1 < bytes.len() {
                 return Err(bad_at(place + 1));
@@ -27,6 +32,29 @@ pub(crate) fn read_bytes(alloc: Global, bytes: &[u8]) -> Result<ScriptCommand, C
             read_line(alloc, bytes)
         }
     }
+}
+
+// Reads the command of a line that comes without its newline.
+fn read_unended(alloc: Global, line: &[u8]) -> Result<ScriptCommand, CommandFault>
+    requires { IsUnbroken line.now }
+    ensures found { IfOk result (λ command. IsLineOf command line.now) }
+    ensures fault { IfErr result (λ fault. IsCommandLineFault fault line.now) }
+{
+    if line.len() > SHORT_LINE {
+        return read_command(alloc, line);
+    }
+    let mut block = [0; SHORT_LINE + 1];
+    end_line(line, &mut block);
+    read_line(alloc, &block[..line.len() + 1])
+}
+
+// Writes a line, and a newline behind it, to the front of a block.
+fn end_line(line: &[u8], block: &mut [u8; SHORT_LINE + 1])
+    requires { length line.now ≤ 255 }
+    ensures { take (length line.now + 1) block.new ≡ with_newline line.now }
+{
+    block[..line.len()].copy_from_slice(line);
+    block[line.len()] = b'\n';
 }
 
 // That a line is bad from a place on.
