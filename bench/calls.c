@@ -1,4 +1,5 @@
-/* calls WHAT COUNT: makes COUNT calls of a kind to a store with 16 drivers, each with its label and a number. See bench/README.md. */
+/* calls WHAT COUNT: makes COUNT calls of a kind to a store with 16 drivers, each with its label and a number. A line- comes with its newline, and
+ * a bare- without. See bench/README.md. */
 #include "ds.h"
 #include <stdio.h>
 #include <stdlib.h>
@@ -41,7 +42,7 @@ static unsigned long told(const char *line, size_t length) {
 int main(int count, char **given) {
     if (count != 3 || ds_open(&store, 1, 0, 256)) return 2;
     const char *what = given[1];
-    int by_line = !strncmp(what, "line-", 5), publishes = strstr(what, "publish") != NULL;
+    int ended = !strncmp(what, "line-", 5), by_line = ended || !strncmp(what, "bare-", 5), publishes = strstr(what, "publish") != NULL;
     unsigned long calls = strtoul(given[2], NULL, 10), sum = 0;
     for (uint32_t d = 0; d < DRIVERS; d++) {
         struct ds_request ask = label(d);
@@ -49,14 +50,14 @@ int main(int count, char **given) {
         asks[d] = number(d), called(&asks[d]);
         if (!strcmp(what, "retrieve")) asks[d].command = DS_RETRIEVE;
         if (!strcmp(what, "nameof")) asks[d].command = DS_NAMEOF;
-        if (!strcmp(what, "line-retrieve")) sprintf(lines[d], "retrieve d%u.mtu u32\n", d);
-        if (!strcmp(what, "line-nameof")) sprintf(lines[d], "nameof %u/%u\n", d + 1, 16 + d);
+        if (by_line && strstr(what, "retrieve")) sprintf(lines[d], "retrieve d%u.mtu u32\n", d);
+        if (by_line && strstr(what, "nameof")) sprintf(lines[d], "nameof %u/%u\n", d + 1, 16 + d);
     }
     for (unsigned long i = 1; i <= calls; i++) {
         uint32_t d = i % DRIVERS;
         if (by_line) {
             if (publishes) sprintf(lines[d], "publish %u/%u over d%u.mtu u32 %u.%lu = %lu\n", d + 1, 16 + d, d, d + 1, i, i);
-            sum += told(lines[d], strlen(lines[d]));
+            sum += told(lines[d], strlen(lines[d]) - !ended);
         } else {
             if (publishes) asks[d].seq = asks[d].value = (uint32_t)i;
             sum += called(&asks[d]);
