@@ -5,6 +5,7 @@ ghost use Rattle.ds_words.specs.Command.{IsCommand};
 ghost use Rattle.ds_words.specs.ServiceEvent.{request_event};
 ghost use Rattle.ds_script.specs.Answer.{AppendsCommand, AppendsRing, AppendsSide};
 
+use crate::asking::{answer_offer, answer_publish, answer_retrieve};
 use crate::entries::append_entries;
 use crate::event::answer_event;
 use crate::session::Session;
@@ -21,6 +22,32 @@ use store_words::{append_noroom, append_ring, append_side};
 /// A command that there is no memory for is refused by name, and changes nothing. `Err` says that there was
 /// no room for the answer itself, and none of it stands then.
 pub(crate) fn answer_command(
+    alloc: Global,
+    session: &mut Session,
+    output: &mut Vec<u8>,
+    command: ScriptCommand,
+) -> Result<(), NoRoom>
+    requires { IsCommand command }
+    ensures answered { OnOk result (AppendsCommand command output.old.items output.new.items session.old session.new) }
+    ensures unanswered { OnErr result (output.new.items ≡ output.old.items) }
+{
+    match command {
+        ScriptCommand::Offer(item) => answer_offer(alloc, session, output, item),
+        ScriptCommand::Publish {
+            caller,
+            key,
+            version,
+            value,
+            overwrite,
+        } => answer_publish(session, output, caller, key, version, value, overwrite),
+        ScriptCommand::Retrieve { key } => answer_retrieve(session, output, key),
+        other => answer_other(alloc, session, output, other),
+    }
+}
+
+// The same of any command. It stays a call: what is cleared for it would be cleared for each line.
+#[inline(never)]
+fn answer_other(
     alloc: Global,
     session: &mut Session,
     output: &mut Vec<u8>,

@@ -5,6 +5,7 @@
 #![tactic(auto)]
 
 mod answer;
+mod asking;
 mod bad_line;
 mod entries;
 mod event;

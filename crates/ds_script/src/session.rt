@@ -1,13 +1,16 @@
 //! What a script drives.
 
-ghost use Rattle.std.specs.Prelude.{◌≡◌, ◌≤◌, slice_get, IfOk};
+ghost use Rattle.std.specs.Prelude.{◌≡◌, ◌≤◌, false, slice_get, IfOk};
 ghost use Rattle.std.specs.Option.{option_copied};
 ghost use Rattle.ds_held.specs.Held.{held_items};
+ghost use Rattle.ds_replica.specs.Happens.{gives_items};
+ghost use Rattle.ds_replica.specs.declared.event.Event.TheVariants.{Ask};
+ghost use Rattle.ds_replica.specs.declared.outcome.Outcome.TheVariants.{Replied};
 ghost use Rattle.ds_script.specs.Session.{IsOpened, seed as described_seed, held_of, turned, IsHappening};
 
 use ds_answers::Servers;
 use ds_held::Held;
-use ds_machine::Reply;
+use ds_machine::{Command, Reply};
 use ds_names::NoRoom;
 use ds_replica::{Event, Outcome, Seed, Side};
 use ds_submap::SubMap;
@@ -82,6 +85,15 @@ impl Session {
         ensures { IsHappening event result self.old self.new }
     {
         self.world.happen(event)
+    }
+
+    /// Asks the store a command to which no store gives items, and gives its reply: what `happen` lets an Ask lead to, with no event
+    /// and no outcome made for it.
+    pub(crate) fn ask(&mut self, command: Command) -> Reply
+        requires { gives_items command ≡ false }
+        ensures { IsHappening (Ask self.old.side command) (Replied result) self.old self.new }
+    {
+        self.world.reply(self.side, command)
     }
 
     /// What the store that is asked holds.
