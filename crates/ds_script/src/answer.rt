@@ -32,7 +32,7 @@ pub(crate) fn answer_command(
     ensures unanswered { OnErr result (output.new.items ≡ output.old.items) }
 {
     match command {
-        ScriptCommand::Offer(item) => answer_offer(alloc, session, output, item),
+        ScriptCommand::Offer(item) => answer_offer(session, output, &item),
         ScriptCommand::Publish {
             caller,
             key,

@@ -1,42 +1,29 @@
 //! The lines of which most scripts are made, each answered by a function of its own: so none clears the room that the parts of
 //! another's command take, and none makes an event and an outcome of what the store can be asked directly.
 
-ghost use Rattle.std.specs.Prelude.{◌≡◌, [], ◌∷◌, false, IfOk, OnOk, OnErr};
+ghost use Rattle.std.specs.Prelude.{◌≡◌, false, OnOk, OnErr};
 ghost use Rattle.ds_replica.specs.Happens.{gives_items};
 ghost use Rattle.ds_words.specs.declared.command.ScriptCommand.TheVariants as lines;
 ghost use Rattle.ds_script.specs.Answer.{AppendsEvent, AppendsReply};
 
 use crate::session::Session;
-use ds_entry::{Item, Items, Value};
+use ds_entry::{Item, Value};
 use ds_held::Limits;
 use ds_machine::Command;
 use ds_names::{Endpoint, Key, NoRoom, Version};
-use std::alloc::Global;
-use store_words::{Wording, append_noroom, append_reply};
+use store_words::{Wording, append_reply};
 
-/// Answers an `offer`: the store merges a list of the one item.
+/// Answers an `offer`: the store merges the one item.
 pub(crate) fn answer_offer(
-    alloc: Global,
     session: &mut Session,
     output: &mut Vec<u8>,
-    item: Item,
+    item: &Item,
 ) -> Result<(), NoRoom>
-    ensures answered { OnOk result (AppendsEvent (lines.Offer item) output.old.items output.new.items session.old session.new) }
+    ensures answered { OnOk result (AppendsEvent (lines.Offer item.now) output.old.items output.new.items session.old session.new) }
     ensures unanswered { OnErr result (output.new.items ≡ output.old.items) }
 {
-    let Ok(items) = only(alloc, item) else {
-        return append_noroom(output);
-    };
-    answer_ask(session, output, Wording::AsOffer, Command::Merge { items })
-}
-
-// The list of one item.
-fn only(alloc: Global, item: Item) -> Result<Items, NoRoom>
-    ensures { IfOk result (λ items. items ≡ item ∷ []) }
-{
-    let mut items = Items::new(alloc);
-    items.push(item)?;
-    Ok(items)
+    let reply = session.offer(item);
+    append_reply(output, Wording::AsOffer, &reply, Limits::larger())
 }
 
 /// Answers a `publish`.

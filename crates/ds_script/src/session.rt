@@ -1,14 +1,16 @@
 //! What a script drives.
 
-ghost use Rattle.std.specs.Prelude.{◌≡◌, ◌≤◌, false, slice_get, IfOk};
+ghost use Rattle.std.specs.Prelude.{◌≡◌, ◌≤◌, ◌∷◌, [], false, slice_get, IfOk};
 ghost use Rattle.std.specs.Option.{option_copied};
 ghost use Rattle.ds_held.specs.Held.{held_items};
+ghost use Rattle.ds_machine.specs.declared.command.Command.TheVariants.{Merge};
 ghost use Rattle.ds_replica.specs.Happens.{gives_items};
 ghost use Rattle.ds_replica.specs.declared.event.Event.TheVariants.{Ask};
 ghost use Rattle.ds_replica.specs.declared.outcome.Outcome.TheVariants.{Replied};
 ghost use Rattle.ds_script.specs.Session.{IsOpened, seed as described_seed, held_of, turned, IsHappening};
 
 use ds_answers::Servers;
+use ds_entry::Item;
 use ds_held::Held;
 use ds_machine::{Command, Reply};
 use ds_names::NoRoom;
@@ -94,6 +96,13 @@ impl Session {
         ensures { IsHappening (Ask self.old.side command) (Replied result) self.old self.new }
     {
         self.world.reply(self.side, command)
+    }
+
+    /// Asks the store to merge one item, which is only lent, and gives its reply, likewise.
+    pub(crate) fn offer(&mut self, item: &Item) -> Reply
+        ensures { IsHappening (Ask self.old.side (Merge (item.now ∷ []))) (Replied result) self.old self.new }
+    {
+        self.world.offer(self.side, item)
     }
 
     /// What the store that is asked holds.
