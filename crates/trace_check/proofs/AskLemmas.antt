@@ -44,9 +44,9 @@ use Rattle.trace_check.proofs.ToldLemmas.{told, stop_first, stop_told, sweep_ste
 -- ---- behind what is asked
 
 -- the first line of a reply has to stand there
-pub reply_wanted : (b : Spot) (l : LinesContent) (store : ContentRecord) (h : Header) (from : Option (List ℕ)) (pass : ℕ) (asked : Asked) (kept : List ℕ) (x : HasAsked b l store h from pass asked kept) → IsPlaceInEntry (b.front ++ asked_text pass asked) true IsShort
+pub reply_wanted : (b : Spot) (l : LinesContent) (store : ContentRecord) (h : Header) (from : Option (List ℕ)) (pass : ℕ) (asked : Asked) (kept : List ℕ) (x : HasAsked b l store h from pass asked kept) → IsPlaceInEntry b.front (b.front ++ asked_text pass asked) true IsShort
 reply_wanted b l store h from pass asked kept x =
-    place_of _ true (MayReply h.format h.limits b.state asked) IsShort (λ line m. may_short h pass b.state asked line x.behind.trace.header x.behind.traced x.may m) (reply_places b.front h b.state b.count pass asked x.behind x.pass_few x.may)
+    place_of b.front _ true (MayReply h.format h.limits b.state asked) IsShort (λ line m. may_short h pass b.state asked line x.behind.trace.header x.behind.traced x.may m) (reply_places b.front h b.state b.count pass asked x.behind x.pass_few x.may)
 
 -- and stands there
 pub hears : (b : Spot) (old l : LinesContent) (store : ContentRecord) (h : Header) (from to : Option (List ℕ)) (pass : ℕ) (asked : Asked) (kept : List ℕ) (x : HasAsked b old store h from pass asked kept) (line : List ℕ) → l.line ≡ with_newline line → HasLine b.bytes (b.front ++ asked_text pass asked) line l to → Hears b l store h to pass asked kept
@@ -59,7 +59,7 @@ module _ (b : Spot) (old : LinesContent) (store : ContentRecord) (h : Header) (f
   abbrev base : List ℕ
   base = b.front ++ asked_text pass asked
 
-  abbrev place : IsPlaceInEntry base true (MayReply h.format h.limits b.state asked)
+  abbrev place : IsPlaceInEntry b.front base true (MayReply h.format h.limits b.state asked)
   place = reply_places b.front h b.state b.count pass asked x.behind x.pass_few x.may
 
   module _ (command : Command) (asks : command_asked asked ≡ Some command) (reply : AReply) (t : State) (step : StepOf h.format b.state command reply t) where
@@ -76,14 +76,14 @@ module _ (b : Spot) (old : LinesContent) (store : ContentRecord) (h : Header) (f
     text = reply_lines (worded_as asked) reply h.limits
 
     -- the store's reply is read against the lines
-    pub is_given : (MayReply h.format h.limits b.state asked (with_newline x.line) → (next left : List ℕ) → text ≡ next ++ left → EndsALine next → with_newline x.line ≡ 60 ∷ 32 ∷ next) → IsToBeSaid base x.line text
+    pub is_given : (MayReply h.format h.limits b.state asked (with_newline x.line) → (next left : List ℕ) → text ≡ next ++ left → EndsALine next → with_newline x.line ≡ 60 ∷ 32 ∷ next) → IsToBeSaid b.front base x.line text
     is_given known =
         record {
-          first = λ next left is ends. place_of base true (MayReply h.format h.limits b.state asked) (IsThere x.line next)
+          first = λ next left is ends. place_of b.front base true (MayReply h.format h.limits b.state asked) (IsThere x.line next)
               (λ line m same. same ∙ known (subst (MayReply h.format h.limits b.state asked) same m) next left is (record { front = ends.front; parts = ends.parts; none = ends.none })) place;
           further = λ given next left is ends.
               let last : EndsALine next = record { front = ends.front; parts = ends.parts; none = ends.none } in (
-                subst (λ (f : List ℕ). IsPlaceInEntry f true (λ (line : List ℕ). line ≡ 60 ∷ 32 ∷ next)) (sym (append_assoc b.front (asked_text pass asked) (marked (given ++ 10 ∷ []))))
+                subst (λ (f : List ℕ). IsPlaceInEntry b.front f true (λ (line : List ℕ). line ≡ 60 ∷ 32 ∷ next)) (sym (append_assoc b.front (asked_text pass asked) (marked (given ++ 10 ∷ []))))
                     (within_replies b.front h b.state t b.count entry given next left x.behind is_entry leads is last),
                 reply_short h pass b.state t asked command reply x.behind.trace.header x.behind.traced x.may asks step (given ++ 10 ∷ []) next left is last,
               );
@@ -113,9 +113,9 @@ module _ (b : Spot) (old : LinesContent) (store : ContentRecord) (h : Header) (f
         walks_on l to new (subst (λ (f : List ℕ). IsAt b.bytes (base ++ marked f) l to) is (goes b.bytes base x.line x.here x.line_is whole some)) stands
 
     pub answered_fails : (said : List ℕ) → said ≡ text → (fault : WalkFault) →
-        ((bytes base here : List ℕ) → HasLine bytes base here old from → old.line ≡ with_newline here → IsToBeSaid base here said → IsFault bytes fault) →
-        (MayReply h.format h.limits b.state asked (with_newline x.line) → (next left : List ℕ) → text ≡ next ++ left → EndsALine next → with_newline x.line ≡ 60 ∷ 32 ∷ next) → IsFault b.bytes fault
-    answered_fails said is fault fails known = fails b.bytes base x.line x.here x.line_is (subst (IsToBeSaid base x.line) (sym is) (is_given known))
+        ((start bytes base here : List ℕ) → HasLine bytes base here old from → old.line ≡ with_newline here → IsToBeSaid start base here said → IsFault start bytes fault) →
+        (MayReply h.format h.limits b.state asked (with_newline x.line) → (next left : List ℕ) → text ≡ next ++ left → EndsALine next → with_newline x.line ≡ 60 ∷ 32 ∷ next) → IsFault b.front b.bytes fault
+    answered_fails said is fault fails known = fails b.front b.bytes base x.line x.here x.line_is (subst (IsToBeSaid b.front base x.line) (sym is) (is_given known))
 
   -- a reply for want of memory
   pub noroom_text : reply_lines (worded_as asked) (Refused refusals.NoRoom) h.limits ≡ refused_noroom
@@ -149,9 +149,9 @@ module _ (b : Spot) (old : LinesContent) (store : ContentRecord) (h : Header) (f
   stop_known reply t stops next left text ends =
       sym x.line_is ∙ is ∙ ap (λ (l : List ℕ). 60 ∷ 32 ∷ l) (sym (stop_first done _ h.limits next left (omega (arith, less, x.may.0)) (ap (λ (r : AReply). reply_lines AsMerge r h.limits) (sym stops.reply_is) ∙ text) ends))
 
-  pub stop_fails : (fault : WalkFault) (number : ℕ) → IsStopFault b.state items done number fault → number ≡ old.count → IsFault b.bytes fault
+  pub stop_fails : (fault : WalkFault) (number : ℕ) → IsStopFault b.state items done number fault → number ≡ old.count → IsFault b.front b.bytes fault
   stop_fails (IllegalAt n) number k e =
-      wrong_there Reply b.bytes (b.front ++ asked_text pass (askeds.Merge items)) x.line old from n (MayReply h.format h.limits b.state (askeds.Merge items)) x.here (place b old store h from pass (askeds.Merge items) kept x)
+      wrong_there Reply b.front b.bytes (b.front ++ asked_text pass (askeds.Merge items)) x.line old from n (MayReply h.format h.limits b.state (askeds.Merge items)) x.here (place b old store h from pass (askeds.Merge items) kept x)
       (λ m. k.1 (stop_told h.format h.limits pass b.state items done (with_newline x.line) x.behind.traced x.may less (sym x.line_is ∙ is) m)) (k.0 ∙ e)
   stop_fails (BadLineAt n) number k e = absurd k
   stop_fails ReadFault number k e = tt

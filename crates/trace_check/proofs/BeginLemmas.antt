@@ -21,13 +21,14 @@ use Rattle.trace_check.specs.declared.fault.WalkFault.{WalkFault}
 use Rattle.trace_check.specs.declared.fault.WalkFault.TheVariants as faults
 use Rattle.trace_check.specs.declared.place.Place.TheVariants.{Form}
 use Rattle.trace_check.specs.Walking.{Spot, Walks, IsAt, IsRead, IsLongFault, HasLine, IsFault, verdict_of}
+use Rattle.trace_check.proofs.FaultLemmas.{none_here}
 
 -- a fault of a walk is the verdict that is said for it
-pub said_for : (bytes : List ℕ) (fault : WalkFault) → IsFault bytes fault → IsVerdict bytes (verdict_of fault)
-said_for bytes (faults.IllegalAt number) f = f
-said_for bytes (faults.BadLineAt number) f = f
-said_for bytes faults.ReadFault f = tt
-said_for bytes faults.NoRoom f = tt
+pub said_for : (start bytes : List ℕ) (fault : WalkFault) → IsFault start bytes fault → IsVerdict bytes (verdict_of fault)
+said_for start bytes (faults.IllegalAt number) f = (f.0, f.1, f.2)
+said_for start bytes (faults.BadLineAt number) f = (f.0, f.1, f.2)
+said_for start bytes faults.ReadFault f = tt
+said_for start bytes faults.NoRoom f = tt
 
 -- where nothing is left, what was gone through is legal
 pub legal_at_end : (b : Spot) (l : LinesContent) (store : ContentRecord) (h : Header) (from : Option (List ℕ)) → Walks b l store h from → (count : ℕ) → b.count ≡ count → (lines : List (List ℕ)) × HasLines b.bytes lines × (b.front ≡ joined lines) → IsVerdict b.bytes (verdicts.Legal count)
@@ -59,7 +60,7 @@ no_reply_first w = omega (arith, legal_starts (60 ∷ w.0) w.1 w.2)
 nothing_illegal : (n : ℕ) → ¬ IsLegal [] n
 nothing_illegal n l = omega (arith, legal_starts [] n l)
 
-joined_none : (lines : List (List ℕ)) → [] ≡ joined lines → lines ≡ []
+pub joined_none : (lines : List (List ℕ)) → [] ≡ joined lines → lines ≡ []
 joined_none [] e = refl
 joined_none (y ∷ ys) e = absurd (omega (arith, ap length e, length-append (with_newline y) (joined ys), length-append y (10 ∷ [])))
 
@@ -98,20 +99,20 @@ long_none line long h is e = omega (arith, long, header_short h is, ap length e,
 -- ---- why no walk begins
 
 -- the first line is no header
-pub wrong_first : (bytes line : List ℕ) (number : ℕ) (before more : List (List ℕ)) → HasLines bytes (before ++ line ∷ more) → [] ≡ joined before → number ≡ suc (length before) → IsUnbroken line → HasNoHeader (with_newline line) → IsVerdict bytes (verdicts.BadLineAt number)
+pub wrong_first : (bytes line : List ℕ) (number : ℕ) (before more : List (List ℕ)) → HasLines bytes (before ++ line ∷ more) → [] ≡ joined before → number ≡ suc (length before) → IsUnbroken line → HasNoHeader (with_newline line) → IsFault [] bytes (faults.BadLineAt number)
 wrong_first bytes line number before more lines behind counted whole none =
-    ([], record { before = before; rest = line ∷ more; lines = lines; behind = behind; counted = counted; begins = nothing_begins; fails = bad_header line more whole none }, no_reply_first)
+    ([], record { before = before; rest = line ∷ more; lines = lines; behind = behind; counted = counted; begins = nothing_begins; fails = bad_header line more whole none }, no_reply_first, none_here [])
 
-pub line_wrong : (bytes line : List ℕ) (number : ℕ) (l : LinesContent) (to : Option (List ℕ)) → HasLine bytes [] line l to → number ≡ 1 → HasNoHeader (with_newline line) → IsVerdict bytes (verdicts.BadLineAt number)
+pub line_wrong : (bytes line : List ℕ) (number : ℕ) (l : LinesContent) (to : Option (List ℕ)) → HasLine bytes [] line l to → number ≡ 1 → HasNoHeader (with_newline line) → IsFault [] bytes (faults.BadLineAt number)
 line_wrong bytes line number l to h one none =
     wrong_first bytes line number h.before h.more h.lines h.front_is (one ∙ ap (λ (b : List (List ℕ)). suc (length b)) (sym (joined_none h.before h.front_is))) h.whole none
 
-pub input_empty : (bytes : List ℕ) (number : ℕ) → IsRead bytes [] number → IsVerdict bytes (verdicts.BadLineAt 1)
+pub input_empty : (bytes : List ℕ) (number : ℕ) → IsRead bytes [] number → IsFault [] bytes (faults.BadLineAt 1)
 input_empty bytes number r =
     let none : r.0 ≡ [] = joined_none r.0 r.2 in
-    ([], record { before = []; rest = []; lines = subst (HasLines bytes) none r.1; behind = refl; counted = refl; begins = nothing_begins; fails = nothing_illegal }, no_reply_first)
+    ([], record { before = []; rest = []; lines = subst (HasLines bytes) none r.1; behind = refl; counted = refl; begins = nothing_begins; fails = nothing_illegal }, no_reply_first, none_here [])
 
-pub first_fails : (bytes : List ℕ) (fault : WalkFault) → IsLongFault Form bytes [] fault → IsFault bytes fault
+pub first_fails : (bytes : List ℕ) (fault : WalkFault) → IsLongFault Form bytes [] fault → IsFault [] bytes fault
 first_fails bytes (faults.BadLineAt number) l = wrong_first bytes l.line number l.before l.more l.lines l.front_is l.counted l.whole (long_none l.line l.long)
 first_fails bytes (faults.IllegalAt number) l = absurd l
 first_fails bytes faults.ReadFault l = tt

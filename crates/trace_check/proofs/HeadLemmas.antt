@@ -14,10 +14,8 @@ use Rattle.trace_words.specs.declared.asked.AskedFault.TheVariants as badly
 use Rattle.trace_words.specs.declared.asked.Head.{Head}
 use Rattle.trace_words.specs.declared.asked.Head.TheVariants as heads
 use Rattle.trace_words.specs.declared.header.Header.{Header}
-use Rattle.trace_words.specs.declared.verdict.Verdict.TheVariants as verdicts
 use Rattle.trace_words.specs.Head.{IsHeadOf, HasNoHead}
 use Rattle.trace_words.specs.Text.{MayMerge, merge_text, pass_text, plus_text}
-use Rattle.trace_words.specs.Verdict.{IsVerdict}
 use Rattle.trace_words.specs.Walk.{IsPlaceInEntry, IsPlus}
 use Rattle.trace_words.proofs.PlaceLemmas.{plus_places}
 use Rattle.trace_words.proofs.WalkLemmas.{bad_head, behind_begins, no_reply}
@@ -25,7 +23,7 @@ use Rattle.trace_check.specs.declared.fault.WalkFault.{WalkFault}
 use Rattle.trace_check.specs.declared.fault.WalkFault.TheVariants.{IllegalAt, BadLineAt, ReadFault, NoRoom}
 use Rattle.trace_check.specs.declared.place.Place.TheVariants.{Form}
 use Rattle.trace_check.specs.Walking.{Spot, IsAt, IsRead, IsLongFault, HasLine, IsFault, of_line, IsShort, Walks, Heads, Lists, HasAsked}
-use Rattle.trace_check.proofs.FaultLemmas.{wrong_there, place_of}
+use Rattle.trace_check.proofs.FaultLemmas.{wrong_there, none_here, place_of}
 use Rattle.trace_check.proofs.ShortLemmas.{plus_short}
 
 -- ---- the first line of an entry
@@ -44,18 +42,18 @@ module _ (b : Spot) (old l : LinesContent) (store : ContentRecord) (h : Header) 
         kept_is = keeps ∙ is.2;
       }
 
-  head_fails : (number : ℕ) (line : List ℕ) (before more : List (List ℕ)) → HasLines b.bytes (before ++ line ∷ more) → b.front ≡ joined before → number ≡ suc (length before) → IsUnbroken line → (IsShort (with_newline line) → HasNoHead h.format (with_newline line)) → IsVerdict b.bytes (verdicts.BadLineAt number)
+  head_fails : (number : ℕ) (line : List ℕ) (before more : List (List ℕ)) → HasLines b.bytes (before ++ line ∷ more) → b.front ≡ joined before → number ≡ suc (length before) → IsUnbroken line → (IsShort (with_newline line) → HasNoHead h.format (with_newline line)) → IsFault b.front b.bytes (BadLineAt number)
   head_fails number line before more lines behind counted whole none =
-      (b.front, record { before = before; rest = line ∷ more; lines = lines; behind = behind; counted = counted; begins = behind_begins b.front h b.state b.count w.behind; fails = bad_head b.front line more h b.state b.count w.behind whole none }, no_reply b.front h b.state b.count w.behind)
+      (b.front, record { before = before; rest = line ∷ more; lines = lines; behind = behind; counted = counted; begins = behind_begins b.front h b.state b.count w.behind; fails = bad_head b.front line more h b.state b.count w.behind whole none }, no_reply b.front h b.state b.count w.behind, none_here b.front)
 
   -- it is none
-  pub head_wrong : (line : List ℕ) (fault : AskedFault) (number : ℕ) → l.line ≡ with_newline line → HasLine b.bytes b.front line l to → (fault ≡ badly.BadLine → HasNoHead h.format l.line) → number ≡ l.count → IsFault b.bytes (of_line fault number)
+  pub head_wrong : (line : List ℕ) (fault : AskedFault) (number : ℕ) → l.line ≡ with_newline line → HasLine b.bytes b.front line l to → (fault ≡ badly.BadLine → HasNoHead h.format l.line) → number ≡ l.count → IsFault b.front b.bytes (of_line fault number)
   head_wrong line badly.NoRoom number line_is here none e = tt
   head_wrong line badly.BadLine number line_is here none e =
       head_fails number line here.before here.more here.lines here.front_is (e ∙ here.counted) here.whole (λ short. subst (HasNoHead h.format) line_is (none refl))
 
   -- it is too long
-  pub head_long : (fault : WalkFault) → IsLongFault Form b.bytes b.front fault → IsFault b.bytes fault
+  pub head_long : (fault : WalkFault) → IsLongFault Form b.bytes b.front fault → IsFault b.front b.bytes fault
   head_long (BadLineAt number) long = head_fails number long.line long.before long.more long.lines long.front_is long.counted long.whole (λ short. absurd (omega (arith, short, long.long, length-append long.line (10 ∷ []))))
   head_long (IllegalAt number) long = absurd long
   head_long ReadFault long = tt
@@ -68,17 +66,17 @@ module _ (b : Spot) (old l : LinesContent) (store : ContentRecord) (h : Header) 
 -- ---- the items of a Merge
 
 module _ (b : Spot) (old l : LinesContent) (store : ContentRecord) (h : Header) (from to : Option (List ℕ)) (pass most : ℕ) (items : List Item) (kept : List ℕ) (x : Lists b old store h from pass most items kept) where
-  pub plus_place : length items < most → IsPlaceInEntry (b.front ++ (pass_text pass (merge_text most) ++ flat_map plus_text items)) false (IsPlus h.format)
+  pub plus_place : length items < most → IsPlaceInEntry b.front (b.front ++ (pass_text pass (merge_text most) ++ flat_map plus_text items)) false (IsPlus h.format)
   plus_place less = plus_places b.front h b.state b.count pass most items x.behind x.pass_few x.few less x.may
 
-  pub plus_place_short : length items < most → IsPlaceInEntry (b.front ++ (pass_text pass (merge_text most) ++ flat_map plus_text items)) false IsShort
-  plus_place_short less = place_of _ false (IsPlus h.format) IsShort (λ line plus. subst IsShort (sym plus.2) (plus_short plus.0 plus.1.0)) (plus_place less)
+  pub plus_place_short : length items < most → IsPlaceInEntry b.front (b.front ++ (pass_text pass (merge_text most) ++ flat_map plus_text items)) false IsShort
+  plus_place_short less = place_of b.front _ false (IsPlus h.format) IsShort (λ line plus. subst IsShort (sym plus.2) (plus_short plus.0 plus.1.0)) (plus_place less)
 
   pub plus_wrong : (line : List ℕ) (fault : AskedFault) (number : ℕ) → length items < most → l.line ≡ with_newline line → HasLine b.bytes (b.front ++ (pass_text pass (merge_text most) ++ flat_map plus_text items)) line l to →
-      (fault ≡ badly.BadLine → (item : Item) → MayMerge h.format item → l.line ≢ plus_text item) → number ≡ l.count → IsFault b.bytes (of_line fault number)
+      (fault ≡ badly.BadLine → (item : Item) → MayMerge h.format item → l.line ≢ plus_text item) → number ≡ l.count → IsFault b.front b.bytes (of_line fault number)
   plus_wrong line badly.NoRoom number less line_is here none e = tt
   plus_wrong line badly.BadLine number less line_is here none e =
-      wrong_there Form b.bytes (b.front ++ (pass_text pass (merge_text most) ++ flat_map plus_text items)) line l to number (IsPlus h.format) here (plus_place less) (λ plus. none refl plus.0 plus.1 (line_is ∙ plus.2)) e
+      wrong_there Form b.front b.bytes (b.front ++ (pass_text pass (merge_text most) ++ flat_map plus_text items)) line l to number (IsPlus h.format) here (plus_place less) (λ plus. none refl plus.0 plus.1 (line_is ∙ plus.2)) e
 
   pub plus_on : (line : List ℕ) (item : Item) (now : List ℕ) → l.line ≡ with_newline line → HasLine b.bytes (b.front ++ (pass_text pass (merge_text most) ++ flat_map plus_text items)) line l to → MayMerge h.format item → l.line ≡ plus_text item → now ≡ kept ++ l.line → Lists b l store h to pass most (items ++ item ∷ []) now
   plus_on line item now line_is here may is keeps =

@@ -1,5 +1,5 @@
 -- What is written of a trace of format 1 in format 2, entry by entry.
-use Rattle.std.proofs.Common.{◌≡◌, ℕ, ◌+◌, List, [], ◌∷◌, ◌++◌, length, Option, Result, inr, refl, sym, ap, subst, ◌∙◌, arith, append_assoc, append-nil, length-append}
+use Rattle.std.proofs.Common.{◌≡◌, ℕ, ◌+◌, List, [], ◌∷◌, ◌++◌, length, Option, Result, inl, inr, refl, sym, ap, subst, ◌∙◌, arith, append_assoc, append-nil, length-append}
 use Rattle.std.specs.List.{flat_map}
 use Rattle.std.specs.Io.KnownBytes.{Appends}
 use Rattle.std.specs.Result.{IfErr, IsErrAnd}
@@ -7,12 +7,15 @@ use Rattle.std.proofs.KnownBytes.{Appends-nil, Appends-trans}
 use Rattle.std.proofs.lemmas.Result.{err_from_is_err_and}
 use Rattle.ds_lines.specs.Lines.{HasLines, joined}
 use Rattle.ds_lines.specs.Reading.{LinesContent}
+use Rattle.ds_lines.proofs.InputLemmas.{has_lines}
 use Rattle.trace_words.specs.declared.header.Format.{Format}
 use Rattle.trace_words.specs.declared.header.Format.TheVariants.{One, Two}
 use Rattle.trace_words.specs.declared.header.Header.{Header}
 use Rattle.trace_words.specs.Legal.{EntryLeads, IsTrace, opened_by}
 use Rattle.trace_words.specs.Text.{TraceEntry, asked_text, entry_text, header_text, marked, trace_text}
-use Rattle.trace_words.specs.Upgrade.{BecomesAs, IsUpgraded, IsUpgradedInPart, upgraded}
+use Rattle.trace_words.specs.Upgrade.{BecomesAs, IsUpgradeOf, IsUpgraded, IsUpgradedBefore, IsUpgradedInPart, IsUpgradedSoFar, upgraded}
+use Rattle.trace_words.specs.Verdict.{IsWrongAt}
+use Rattle.trace_words.specs.Walk.{NoneEnds}
 use Rattle.trace_words.proofs.EntryLemmas.{trace_more}
 use Rattle.trace_words.proofs.UpgradeLemmas.{become_more, upgraded_is_legal, upgraded_more}
 use Rattle.trace_check.specs.declared.fault.WalkFault.{WalkFault}
@@ -26,17 +29,29 @@ use Rattle.trace_check.specs.Passing.{HasPassed}
 use Rattle.trace_check.specs.Steps.{WalksAt, EndsThere, first_spot}
 use Rattle.trace_check.specs.Upgrading.{BeginsWithTwo, IsWrittenAs, Refuses, Upgrades, upgrade_fault}
 use Rattle.trace_check.specs.Walking.{Spot, IsAt, IsFault, Walks, spot_behind}
+use Rattle.trace_check.proofs.LastLemmas.{none_longer}
 
 -- what the exit of a `?` hands on
 pub handed_on : {T : Type 0} (r : Result T UpgradeFault) (e : UpgradeFault) (P : UpgradeFault → Type 0) → IsErrAnd r (λ f. f ≡ e) → P e → IfErr r P
 handed_on r e P is p = let exit = err_from_is_err_and r is in rw (exit.1, exit.2) p
 
--- a fault of a walk is why the input isn't written whole
-pub refused_for : (bytes : List ℕ) (fault : WalkFault) → IsFault bytes fault → (output : List ℕ) → Refuses (upgrade_fault fault) bytes output
-refused_for bytes (walks.IllegalAt number) f output = f
-refused_for bytes (walks.BadLineAt number) f output = f
-refused_for bytes walks.ReadFault f output = tt
-refused_for bytes walks.NoRoom f output = tt
+-- a fault of a walk is why the input isn't written whole, of which some first lines were gone through and written
+module _ (bytes start output : List ℕ) (before after : List (List ℕ)) (lines : HasLines bytes (before ++ after)) (is : start ≡ joined before) (written : IsUpgradeOf before output) where
+  before_wrong : (number : ℕ) (front : List ℕ) → IsWrongAt bytes number front → NoneEnds start front → IsUpgradedBefore bytes output
+  before_wrong number front wrong none = record { front = before; rest = after; lines = lines; written = written; last = none_longer bytes start front number before after lines is wrong none }
+
+  pub refused_for : (fault : WalkFault) → IsFault start bytes fault → Refuses (upgrade_fault fault) bytes output
+  refused_for (walks.IllegalAt number) f = ((f.0, f.1, f.2), before_wrong number f.0 f.1 f.3)
+  refused_for (walks.BadLineAt number) f = ((f.0, f.1, f.2), before_wrong number f.0 f.1 f.3)
+  refused_for walks.ReadFault f = (before, after, lines, written)
+  refused_for walks.NoRoom f = (before, after, lines, written)
+
+-- where nothing was gone through, nothing was written
+pub refused_first : (bytes : List ℕ) (fault : WalkFault) → IsFault [] bytes fault → Refuses (upgrade_fault fault) bytes []
+refused_first bytes fault f = let h = has_lines bytes in refused_for bytes [] [] [] h.0 h.1 refl (inl (refl, refl)) fault f
+
+pub nothing_yet : (bytes : List ℕ) → IsUpgradedSoFar bytes []
+nothing_yet bytes = let h = has_lines bytes in ([], h.0, h.1, inl (refl, refl))
 
 -- and no fault of a writer
 pub never_write : (fault : WalkFault) → upgrade_fault fault ≡ WriteFault → ⊥
@@ -119,11 +134,24 @@ module _ (b : Spot) (before : List ℕ) (h : Header) (w : Walk) (from had has : 
       let e = ends u.now u.walks in
       (e.0, u.more, subst (λ (t : List ℕ). HasLines t e.0) u.same e.1, u.appends, subst (λ (t : List ℕ). IsUpgraded t (before ++ u.more) count) e.2 (is_upgraded u.now h (before ++ u.more) count u.upgrades))
 
-  -- a fault came between two entries
-  pub stops_between : (more : List ℕ) × Appends had has more × IsUpgradedInPart b.bytes (before ++ more)
+  -- what was gone through was written
+  so_far : IsUpgradeOf u.walks.at.before (before ++ u.more)
+  so_far = inr (count, subst (λ (t : List ℕ). IsUpgraded t (before ++ u.more) count) u.walks.at.front_is (is_upgraded u.now h (before ++ u.more) count u.upgrades))
+
+  -- a fault came between two entries, for which nothing is wrong with the input
+  pub stops_between : (more : List ℕ) × Appends had has more × IsUpgradedSoFar b.bytes (before ++ more)
   stops_between =
-      let all = is_upgraded u.now h (before ++ u.more) count u.upgrades in
-      (u.more, u.appends, part_of b.bytes u.now w.lines from u.same u.walks.at (before ++ u.more) [] count (subst (λ (t : List ℕ). IsUpgraded u.now.front t count) (sym (append-nil (before ++ u.more))) all))
+      let at = u.walks.at in
+      (u.more, u.appends, (at.before, at.after, subst (λ (t : List ℕ). HasLines t (at.before ++ at.after)) u.same at.lines, so_far))
+
+  -- or one of the walk
+  pub stops_for : (fault : WalkFault) → IsFault u.now.front u.now.bytes fault → (more : List ℕ) × Appends had has more × Refuses (upgrade_fault fault) b.bytes (before ++ more)
+  stops_for fault f =
+      let at = u.walks.at in (
+        u.more,
+        u.appends,
+        subst (λ (t : List ℕ). Refuses (upgrade_fault fault) t (before ++ u.more)) u.same (refused_for u.now.bytes u.now.front (before ++ u.more) at.before at.after at.lines at.front_is so_far fault f),
+      )
 
   -- one more entry was gone through
   module _ (new : Walk) (to : Option (List ℕ)) (passed : Passed) (goes : (s : Spot) → WalksAt s w from → HasPassed s w.header new to passed) (text : List ℕ) (k : ℕ) (is : IsWrittenAs new passed [] text k) where

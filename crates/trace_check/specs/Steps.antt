@@ -47,7 +47,7 @@ FindsNone old from number = (bytes front : List ℕ) → IsAt bytes front old fr
 
 -- where a line of this sort has to stand, none does
 abbrev pub MissesLine : Bool → LinesContent → Option (List ℕ) → WalkFault → Type 0
-MissesLine is_reply old from fault = (bytes front : List ℕ) → IsAt bytes front old from → IsPlaceInEntry front is_reply IsShort → IsFault bytes fault
+MissesLine is_reply old from fault = (start bytes front : List ℕ) → IsAt bytes front old from → IsPlaceInEntry start front is_reply IsShort → IsFault start bytes fault
 
 -- ---- the text of a reply
 
@@ -60,7 +60,7 @@ SaysAll old from new to text =
 -- it doesn't
 abbrev pub MissesReply : LinesContent → Option (List ℕ) → List ℕ → WalkFault → Type 0
 MissesReply old from text fault =
-    (bytes base here : List ℕ) → HasLine bytes base here old from → old.line ≡ with_newline here → IsToBeSaid base here text → IsFault bytes fault
+    (start bytes base here : List ℕ) → HasLine bytes base here old from → old.line ≡ with_newline here → IsToBeSaid start base here text → IsFault start bytes fault
 
 -- what is left of it stands behind what was given of it
 abbrev pub SaysRest : LinesContent → Option (List ℕ) → LinesContent → Option (List ℕ) → List ℕ → Type 0
@@ -71,14 +71,14 @@ SaysRest old from new to text =
 -- it doesn't
 abbrev pub MissesRest : LinesContent → Option (List ℕ) → List ℕ → WalkFault → Type 0
 MissesRest old from text fault =
-    (bytes base whole given : List ℕ) → whole ≡ (given ++ 10 ∷ []) ++ text → GoesOnSaying base whole → IsAt bytes (base ++ marked (given ++ 10 ∷ [])) old from →
-    IsFault bytes fault
+    (start bytes base whole given : List ℕ) → whole ≡ (given ++ 10 ∷ []) ++ text → GoesOnSaying start base whole → IsAt bytes (base ++ marked (given ++ 10 ∷ [])) old from →
+    IsFault start bytes fault
 
 -- another line stands there
 abbrev pub MissesSaid : LinesContent → List ℕ → WalkFault → Type 0
 MissesSaid lines line fault =
-    (bytes base here : List ℕ) (remaining : Option (List ℕ)) → HasLine bytes base here lines remaining → lines.line ≡ with_newline here →
-    IsPlaceInEntry base true (IsThere here line) → IsFault bytes fault
+    (start bytes base here : List ℕ) (remaining : Option (List ℕ)) → HasLine bytes base here lines remaining → lines.line ≡ with_newline here →
+    IsPlaceInEntry start base true (IsThere here line) → IsFault start bytes fault
 
 -- ---- entries
 
@@ -94,9 +94,9 @@ first_spot bytes h = record { bytes = bytes; front = header_text h; state = open
 abbrev pub BeginsKnown : Option (List ℕ) → Walk → Option (List ℕ) → Type 0
 BeginsKnown from w to = IfSome from (λ bytes. WalksAt (first_spot bytes w.header) w to)
 
--- the fault is the verdict on what the reader has, if that is known
+-- the fault is the verdict on what the reader has, if that is known: none of it is a legal trace
 abbrev pub IsFaultOfKnown : Option (List ℕ) → WalkFault → Type 0
-IsFaultOfKnown from fault = IfSome from (λ bytes. IsFault bytes fault)
+IsFaultOfKnown from fault = IfSome from (λ bytes. IsFault [] bytes fault)
 
 -- one more entry is gone through
 abbrev pub GoesPast : Walk → Option (List ℕ) → Walk → Option (List ℕ) → Passed → Type 0
@@ -106,9 +106,9 @@ GoesPast old from new to passed = (b : Spot) → WalksAt b old from → HasPasse
 abbrev pub EndsThere : Walk → Option (List ℕ) → Type 0
 EndsThere old from = (b : Spot) → WalksAt b old from → (lines : List (List ℕ)) × HasLines b.bytes lines × (b.front ≡ joined lines)
 
--- the fault is the verdict on the input
+-- the fault is the verdict on the input, of which no more is a legal trace
 abbrev pub FailsFrom : Walk → Option (List ℕ) → WalkFault → Type 0
-FailsFrom old from fault = (b : Spot) → WalksAt b old from → IsFault b.bytes fault
+FailsFrom old from fault = (b : Spot) → WalksAt b old from → IsFault b.front b.bytes fault
 
 -- from behind the header on, the verdict is on the input
 abbrev pub EndsWith : Walk → Option (List ℕ) → Verdict → Type 0
@@ -141,7 +141,7 @@ abbrev pub ReadsAsked : Walk → Option (List ℕ) → Head → Walk → Option 
 ReadsAsked old from head new to asked = (new.header ≡ old.header) × ((b : Spot) (pass : ℕ) → HeadsAt b old from pass head → AsksAt b new to pass asked)
 
 abbrev pub FailsBehindHead : Walk → Option (List ℕ) → Head → WalkFault → Type 0
-FailsBehindHead old from head fault = (b : Spot) (pass : ℕ) → HeadsAt b old from pass head → IsFault b.bytes fault
+FailsBehindHead old from head fault = (b : Spot) (pass : ℕ) → HeadsAt b old from pass head → IsFault b.front b.bytes fault
 
 -- all items of a Merge are read
 abbrev pub ReadsItems : Walk → Option (List ℕ) → ℕ → Walk → Option (List ℕ) → List Item → Type 0
@@ -149,7 +149,7 @@ ReadsItems old from most new to items =
     (new.header ≡ old.header) × ((b : Spot) (pass : ℕ) → ListsAt b old from pass most [] → (length items ≡ most) × ListsAt b new to pass most items)
 
 abbrev pub FailsInItems : Walk → Option (List ℕ) → ℕ → WalkFault → Type 0
-FailsInItems old from most fault = (b : Spot) (pass : ℕ) → ListsAt b old from pass most [] → IsFault b.bytes fault
+FailsInItems old from most fault = (b : Spot) (pass : ℕ) → ListsAt b old from pass most [] → IsFault b.front b.bytes fault
 
 -- one more is
 abbrev pub AddsOne : Walk → Option (List ℕ) → List Item → Walk → Option (List ℕ) → List Item → Type 0
@@ -158,7 +158,7 @@ AddsOne old from before new to after =
     ((b : Spot) (pass most : ℕ) → length before < most → ListsAt b old from pass most before → (length after ≡ suc (length before)) × ListsAt b new to pass most after)
 
 abbrev pub FailsAtItem : Walk → Option (List ℕ) → List Item → WalkFault → Type 0
-FailsAtItem old from before fault = (b : Spot) (pass most : ℕ) → length before < most → ListsAt b old from pass most before → IsFault b.bytes fault
+FailsAtItem old from before fault = (b : Spot) (pass most : ℕ) → length before < most → ListsAt b old from pass most before → IsFault b.front b.bytes fault
 
 -- ---- the reply
 
@@ -171,14 +171,14 @@ abbrev pub GoesBehind : Walk → Option (List ℕ) → ℕ → Asked → Walk �
 GoesBehind old from pass asked new to passed = (b : Spot) → AsksAt b old from pass asked → HasPassed b old.header new to passed
 
 abbrev pub FailsBehind : Walk → Option (List ℕ) → ℕ → Asked → WalkFault → Type 0
-FailsBehind old from pass asked fault = (b : Spot) → AsksAt b old from pass asked → IsFault b.bytes fault
+FailsBehind old from pass asked fault = (b : Spot) → AsksAt b old from pass asked → IsFault b.front b.bytes fault
 
 -- from its first line on
 abbrev pub GoesPastReply : Walk → Option (List ℕ) → ℕ → Asked → Walk → Option (List ℕ) → Passed → Type 0
 GoesPastReply old from pass asked new to passed = (b : Spot) → HearsAt b old from pass asked → HasPassed b old.header new to passed
 
 abbrev pub FailsAtReply : Walk → Option (List ℕ) → ℕ → Asked → WalkFault → Type 0
-FailsAtReply old from pass asked fault = (b : Spot) → HearsAt b old from pass asked → IsFault b.bytes fault
+FailsAtReply old from pass asked fault = (b : Spot) → HearsAt b old from pass asked → IsFault b.front b.bytes fault
 
 -- that to a command on one line
 abbrev pub PassesLine : Walk → Option (List ℕ) → ℕ → ScriptCommand → Walk → Option (List ℕ) → Passed → Type 0
@@ -193,7 +193,7 @@ abbrev pub PassesMerge : Walk → Option (List ℕ) → List Item → Walk → O
 PassesMerge old from items new to passed = (b : Spot) (pass : ℕ) → HearsAt b old from pass (askeds.Merge items) → HasPassed b old.header new to passed
 
 abbrev pub FailsAtMerge : Walk → Option (List ℕ) → List Item → WalkFault → Type 0
-FailsAtMerge old from items fault = (b : Spot) (pass : ℕ) → HearsAt b old from pass (askeds.Merge items) → IsFault b.bytes fault
+FailsAtMerge old from items fault = (b : Spot) (pass : ℕ) → HearsAt b old from pass (askeds.Merge items) → IsFault b.front b.bytes fault
 
 -- that to whatever asks the store for the command
 abbrev pub PassesFor : Wording → Command → Walk → Option (List ℕ) → Walk → Option (List ℕ) → Passed → Type 0
@@ -202,7 +202,7 @@ PassesFor wording command old from new to passed =
 
 abbrev pub FailsFor : Wording → Command → Walk → Option (List ℕ) → WalkFault → Type 0
 FailsFor wording command old from fault =
-    (b : Spot) (pass : ℕ) (asked : Asked) → IsForStore old.header.format asked wording command old.lines.line → HearsAt b old from pass asked → IsFault b.bytes fault
+    (b : Spot) (pass : ℕ) (asked : Asked) → IsForStore old.header.format asked wording command old.lines.line → HearsAt b old from pass asked → IsFault b.front b.bytes fault
 
 -- ---- a Merge that is stopped
 

@@ -7,7 +7,7 @@ use Rattle.trace_words.specs.declared.header.Header.{Header}
 use Rattle.trace_words.specs.declared.verdict.Verdict.TheVariants as verdicts
 use Rattle.trace_words.specs.Legal.{IsTrace, opened_by}
 use Rattle.trace_words.specs.Text.{TraceEntry, IsHeader, header_text, marked, trace_text}
-use Rattle.trace_words.specs.Upgrade.{Become, IsUpgraded, IsUpgradedInPart, upgraded}
+use Rattle.trace_words.specs.Upgrade.{Become, IsUpgraded, IsUpgradedBefore, IsUpgradedInPart, IsUpgradedSoFar, upgraded}
 use Rattle.trace_words.specs.Verdict.{IsVerdict}
 use Rattle.trace_check.specs.declared.fault.WalkFault.{WalkFault}
 use Rattle.trace_check.specs.declared.fault.WalkFault.TheVariants as walks
@@ -40,18 +40,20 @@ pub record BeginsWithTwo (bytes : List ℕ) : Type 0 where
   pub lines : HasLines bytes (front ++ rest)
   pub text : joined front ≡ header_text h
 
--- Why the input wasn't written whole: what isn't legal is told as the verdict on it.
+-- Why the input wasn't written whole, and what was written of it. What isn't legal is told as the verdict on it, and all entries before
+-- the one that the wrong line is in were written. Of a trace of format 2 none was; for another fault those of some first lines were,
+-- and where the writer failed a front of these.
 abbrev pub Refuses : UpgradeFault → List ℕ → List ℕ → Type 0
-Refuses (IllegalAt number) bytes output = IsVerdict bytes (verdicts.IllegalAt number)
-Refuses (BadLineAt number) bytes output = IsVerdict bytes (verdicts.BadLineAt number)
+Refuses (IllegalAt number) bytes output = IsVerdict bytes (verdicts.IllegalAt number) × IsUpgradedBefore bytes output
+Refuses (BadLineAt number) bytes output = IsVerdict bytes (verdicts.BadLineAt number) × IsUpgradedBefore bytes output
 Refuses AlreadyTwo bytes output = (output ≡ []) × BeginsWithTwo bytes
-Refuses ReadFault bytes output = Unit {0}
-Refuses WriteFault bytes output = Unit {0}
-Refuses NoRoom bytes output = Unit {0}
+Refuses ReadFault bytes output = IsUpgradedSoFar bytes output
+Refuses WriteFault bytes output = IsUpgradedInPart bytes output
+Refuses NoRoom bytes output = IsUpgradedSoFar bytes output
 
--- Some of its first lines were written in format 2, or nothing, and this is why.
+-- Something was written in format 2, or nothing, and this is why.
 abbrev pub UpgradesInPart : List ℕ → (had has : Option (List ℕ)) → UpgradeFault → Type 0
-UpgradesInPart bytes had has fault = (output : List ℕ) × Appends had has output × IsUpgradedInPart bytes output × Refuses fault bytes output
+UpgradesInPart bytes had has fault = (output : List ℕ) × Appends had has output × Refuses fault bytes output
 
 -- ---- on the way
 
@@ -76,8 +78,8 @@ EndsUpgraded old from had has count =
     (b : Spot) (before : List ℕ) → WalksAt b old from → Upgrades b old.header before 0 →
     (lines : List (List ℕ)) × (more : List ℕ) × HasLines b.bytes lines × Appends had has more × IsUpgraded (joined lines) (before ++ more) count
 
--- and of the first lines of the input where there is a fault
+-- and of what was gone through of the input where there is a fault
 abbrev pub StopsUpgrading : Walk → Option (List ℕ) → (had has : Option (List ℕ)) → UpgradeFault → Type 0
 StopsUpgrading old from had has fault =
     (b : Spot) (before : List ℕ) → WalksAt b old from → Upgrades b old.header before 0 →
-    (more : List ℕ) × Appends had has more × IsUpgradedInPart b.bytes (before ++ more) × ((output : List ℕ) → Refuses fault b.bytes output)
+    (more : List ℕ) × Appends had has more × Refuses fault b.bytes (before ++ more)

@@ -30,8 +30,8 @@ use Rattle.trace_words.specs.Legal.{StepOf}
 use Rattle.trace_words.specs.Noroom.{noroom_line, stopped_line}
 use Rattle.trace_words.specs.Text.{TraceEntry, MayAsk, MayMerge, asked_text, command_asked, entry_text, marked, merge_text, pass_text, plus_text, worded_as}
 use Rattle.trace_words.specs.Upgrade.{BecomesAs}
-use Rattle.trace_words.specs.Verdict.{IsVerdict}
-use Rattle.trace_words.specs.Walk.{IsBehind, IsPlaceInEntry}
+use Rattle.trace_words.specs.Verdict.{IsWrongAt, WantsReply}
+use Rattle.trace_words.specs.Walk.{IsBehind, IsPlaceInEntry, NoneEnds}
 use Rattle.trace_check.specs.declared.fault.WalkFault.{WalkFault}
 use Rattle.trace_check.specs.declared.fault.WalkFault.TheVariants.{IllegalAt, BadLineAt, ReadFault, NoRoom}
 use Rattle.trace_check.specs.declared.place.Place.{Place}
@@ -65,12 +65,12 @@ pub record Walks (b : Spot) (l : LinesContent) (store : ContentRecord) (h : Head
   pub stands : ContentStands store b.state
   pub behind : IsBehind b.front h b.state b.count
 
--- why it ended early is a verdict on the input
-abbrev pub IsFault : List ℕ → WalkFault → Type 0
-IsFault bytes (IllegalAt number) = IsVerdict bytes (verdicts.IllegalAt number)
-IsFault bytes (BadLineAt number) = IsVerdict bytes (verdicts.BadLineAt number)
-IsFault bytes ReadFault = Unit {0}
-IsFault bytes NoRoom = Unit {0}
+-- Why it ended early is a verdict on the input, and no legal trace ends behind the start before the line that is wrong.
+abbrev pub IsFault : (start bytes : List ℕ) → WalkFault → Type 0
+IsFault start bytes (IllegalAt number) = (front : List ℕ) × IsWrongAt bytes number front × WantsReply front × NoneEnds start front
+IsFault start bytes (BadLineAt number) = (front : List ℕ) × IsWrongAt bytes number front × (¬ WantsReply front) × NoneEnds start front
+IsFault start bytes ReadFault = Unit {0}
+IsFault start bytes NoRoom = Unit {0}
 
 -- The line is the first of those that were left: it stands behind the front, and the walk is behind it.
 pub record HasLine (bytes front line : List ℕ) (l : LinesContent) (remaining : Option (List ℕ)) : Type 0 where
@@ -184,15 +184,15 @@ abbrev pub IsThere : (here next line : List ℕ) → Type 0
 IsThere here next line = line ≡ with_newline here → line ≡ 60 ∷ 32 ∷ next
 
 -- Behind some lines of the text, its next one has to stand.
-abbrev pub GoesOnSaying : (base text : List ℕ) → Type 0
-GoesOnSaying base text =
+abbrev pub GoesOnSaying : (start base text : List ℕ) → Type 0
+GoesOnSaying start base text =
     (given next left : List ℕ) → text ≡ (given ++ 10 ∷ []) ++ (next ++ left) → EndsLine next →
-    IsPlaceInEntry (base ++ marked (given ++ 10 ∷ [])) true (λ (line : List ℕ). line ≡ 60 ∷ 32 ∷ next) × (length next ≤ 4095)
+    IsPlaceInEntry start (base ++ marked (given ++ 10 ∷ [])) true (λ (line : List ℕ). line ≡ 60 ∷ 32 ∷ next) × (length next ≤ 4095)
 
 -- The line is where the text of the reply has to begin.
-pub record IsToBeSaid (base here text : List ℕ) : Type 0 where
-  pub first : (next left : List ℕ) → text ≡ next ++ left → EndsLine next → IsPlaceInEntry base true (IsThere here next)
-  pub further : GoesOnSaying base text
+pub record IsToBeSaid (start base here text : List ℕ) : Type 0 where
+  pub first : (next left : List ℕ) → text ≡ next ++ left → EndsLine next → IsPlaceInEntry start base true (IsThere here next)
+  pub further : GoesOnSaying start base text
 
 -- It is behind some lines of the text of a reply, whose other lines are left.
 pub record IsSaid (bytes base whole rest : List ℕ) (l : LinesContent) (remaining : Option (List ℕ)) : Type 0 where

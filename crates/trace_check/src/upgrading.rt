@@ -80,8 +80,9 @@ impl From<NoRoom> for UpgradeFault {
 /// were written. A sweep becomes Merges of the tombstones that it leaves, at most 256 each; where it leaves none, or is refused, it is
 /// left out. All other entries stay as they are.
 ///
-/// What was written before a fault is a front of the upgraded trace. It is written entry by entry. A WriteFault comes only where a write
-/// failed, or took no bytes, or after 2^64 - 1 writes.
+/// At IllegalAt and BadLineAt what was written is all entries before the one that the wrong line is in, and at ReadFault and NoRoom
+/// those of some first lines, whole entries each time; at AlreadyTwo it is nothing, and at WriteFault a front of such a trace. A
+/// WriteFault comes only where a write failed, or took no bytes, or after 2^64 - 1 writes.
 pub fn upgrade<R: Source, W: Sink>(
     alloc: Global,
     reader: &mut R,

@@ -24,17 +24,18 @@ use Rattle.ds_machine.specs.declared.reply.Reply.{Reply}
 use Rattle.ds_machine.specs.declared.reply.Reply.TheVariants.{Refused}
 use Rattle.ds_words.specs.Command.{store_command}
 use Rattle.store_words.specs.Reply.{reply_lines}
+use Rattle.store_words.specs.declared.wording.Wording.TheVariants.{AsMerge}
 use Rattle.trace_words.specs.declared.asked.Asked.{Asked}
 use Rattle.trace_words.specs.declared.asked.Asked.TheVariants.{Line, Merge}
 use Rattle.trace_words.specs.declared.header.Format.{Format}
 use Rattle.trace_words.specs.declared.header.Format.TheVariants.{One, Two}
 use Rattle.trace_words.specs.declared.header.Header.{Header}
 use Rattle.trace_words.specs.Legal.{StepOf, EntryLeads, AllLead}
-use Rattle.trace_words.specs.OneReply.{HaveOneFirst}
+use Rattle.trace_words.specs.OneReply.{HaveOneFirst, IsTraced}
 use Rattle.trace_words.specs.Text.{TraceEntry, IsEntry, MayAsk, MayMerge, command_asked, worded_as, marked, asked_text, reply_text, entry_text, pass_text, merge_text, plus_text}
 use Rattle.trace_words.specs.Verdict.{IsLegal, MayBegin, WantsReply, Fails}
-use Rattle.trace_words.specs.Walk.{MayComeBehind, IsBehind, IsPlaceInEntry, IsPlus, PlusPlaces, MayReply, ReplyPlaces, WithinReplies}
-use Rattle.trace_words.proofs.EntryLemmas.{asked_one, asked_some, merge_head, merge_not_line, entries_lead}
+use Rattle.trace_words.specs.Walk.{MayComeBehind, IsBehind, IsPlaceInEntry, NoneEnds, IsPlus, PlusPlaces, MayReply, ReplyPlaces, WithinReplies}
+use Rattle.trace_words.proofs.EntryLemmas.{asked_one, asked_some, merge_head, merge_not_line, one_entry, entries_lead}
 use Rattle.trace_words.proofs.MarkLemmas.{BeginsLine, begins_line, marked_first, marked_line, marked_append, reply_begins}
 use Rattle.trace_words.proofs.OneReplyLemmas.{reply_is_one}
 use Rattle.trace_words.proofs.SplitLemmas.{lines_one, without, ends_after}
@@ -127,6 +128,39 @@ legal_wanting front h s count pass asked b le may =
     let c = asks_some h.format pass asked may in
     legal_behind (front ++ entry_text h.limits (wanting pass asked)) h s (suc count) (entries_lead front h s s count (wanting pass asked) b (record { pass = le; asked = may }) (c.0, c.1, wants_step h.format s c.0))
 
+-- ---- no legal trace ends within an entry
+
+-- the marked form of a text that begins with a line
+marked_starts : (text rest : List ℕ) (b : BeginsLine text) → marked text ++ rest ≡ (60 ∷ 32 ∷ (b.front ++ 10 ∷ [])) ++ (marked b.rest ++ rest)
+marked_starts text rest b =
+    ap (λ (l : List ℕ). l ++ rest) (ap (λ (l : List ℕ). marked l) b.is ∙ marked_line b.front b.rest b.whole)
+    ∙ ap (λ (l : List ℕ). 60 ∷ 32 ∷ l) (append_assoc b.front (10 ∷ marked b.rest) rest ∙ sym (append_assoc b.front (10 ∷ []) (marked b.rest ++ rest)))
+
+marked_some : (text : List ℕ) → BeginsLine text → 0 < length (marked text)
+marked_some text b = omega (arith, ap length (sym (append-nil (marked text)) ∙ marked_starts text [] b))
+
+-- what comes before the end of an entry isn't whole entries
+none_whole : (format : Format) (limits : LimitsRecord) (s t : State) (e : TraceEntry) (part more : List ℕ) → IsTraced format s → IsEntry format e → EntryLeads format s e t → entry_text limits e ≡ part ++ more → 0 < length more →
+    (entries : List TraceEntry) (last : State) → All (IsEntry format) entries → AllLead format s entries last → part ≡ flat_map (entry_text limits) entries → part ≡ []
+none_whole format limits s t e part more traced is x whole some [] last each l text = text
+none_whole format limits s t e part more traced is x whole some (f ∷ entries) last each l text =
+    let rest : List ℕ = flat_map (entry_text limits) entries in
+    let one = one_entry format limits e f s t l.0 [] (rest ++ more) traced is (each 0 f (omega arith)) x l.1
+    (append-nil (entry_text limits e) ∙ whole ∙ ap (λ (l : List ℕ). l ++ more) text ∙ append_assoc (entry_text limits f) rest more) in
+    absurd (omega (arith, some, ap length one.1, length-append rest more))
+
+none_within : (front : List ℕ) (h : Header) (s t : State) (count : ℕ) (e : TraceEntry) (part more : List ℕ) → IsBehind front h s count → IsEntry h.format e → EntryLeads h.format s e t → entry_text h.limits e ≡ part ++ more → 0 < length more → NoneEnds front (front ++ part)
+none_within front h s t count e part more b is x whole some p left n same legal =
+    let split : part ≡ p ++ left = append_cancel_left front part (p ++ left) (same ∙ append_assoc front p left) in
+    let g = b.only p n legal in
+    none_whole h.format h.limits s t e p (left ++ more) b.traced is x (whole ∙ ap (λ (l : List ℕ). l ++ more) split ∙ append_assoc p left more) (omega (arith, some, length-append left more)) g.0 g.1 g.2 g.3 g.4
+
+-- for which memory may be wanted
+none_wanting : (front : List ℕ) (h : Header) (s : State) (count pass : ℕ) (asked : Asked) (part more : List ℕ) → IsBehind front h s count → pass ≤ 63 → MayAsk h.format pass asked → entry_text h.limits (wanting pass asked) ≡ part ++ more → 0 < length more → NoneEnds front (front ++ part)
+none_wanting front h s count pass asked part more b le may whole some =
+    let c = asks_some h.format pass asked may in
+    none_within front h s s count (wanting pass asked) part more b (record { pass = le; asked = may }) (c.0, c.1, wants_step h.format s c.0) whole some
+
 -- ---- within the items of a Merge
 
 example : Item
@@ -198,6 +232,11 @@ module _ (front : List ℕ) (h : Header) (s : State) (count pass n : ℕ) (items
       ∙ ap (λ (l : List ℕ). l ++ answer) (sym (append_assoc head (flat_map plus_text items) fill))
       ∙ append_assoc so_far fill answer
 
+  further_some : 0 < length further
+  further_some =
+      let said : List ℕ = reply_lines AsMerge (Refused refusals.NoRoom) h.limits in
+      omega (arith, length-append (flat_map plus_text (replicate (n - length items) example)) (marked said), marked_some said (reply_begins AsMerge (Refused refusals.NoRoom) h.limits))
+
   plus_ends : (i : Item) → IsItem i → EndsLine (plus_text i)
   plus_ends i is = ends_after (43 ∷ 32 ∷ []) _ (without 10 (λ (x : ℕ). nat_lt 10 x) refl (43 ∷ 32 ∷ []) refl) (item_ends i is)
 
@@ -206,13 +245,14 @@ module _ (front : List ℕ) (h : Header) (s : State) (count pass n : ℕ) (items
       let e : EndsLine (with_newline line) = record { front = line; parts = refl; none = whole } in
       (next.0, next.2, (lines_one (with_newline line) (plus_text next.0) more next.1 e (plus_ends next.0 next.2.0) next.3).0)
 
-  plus_place : IsPlaceInEntry (front ++ so_far) false (IsPlus h.format)
+  plus_place : IsPlaceInEntry front (front ++ so_far) false (IsPlus h.format)
   plus_place =
       record {
         begins = begins_by (front ++ so_far) further (front ++ entry_text h.limits (wanting pass (Merge filled))) (suc count) (legal_wanting front h s count pass (Merge filled) b le filled_may)
             (ap (λ (l : List ℕ). front ++ l) filled_text ∙ sym (append_assoc front so_far further));
         wants = not_wanted (front ++ so_far) (ItemComes h.format) plus_only (λ more next. omega (arith, ap (λ (l : List ℕ). get_or l 0 0) next.3));
         ends = ends_by (front ++ so_far) (ItemComes h.format) plus_only (λ next. omega (arith, ap length next.3));
+        none = none_wanting front h s count pass (Merge filled) so_far further b le filled_may filled_text further_some;
         wrong = wrong_by (front ++ so_far) (ItemComes h.format) (IsPlus h.format) plus_only plus_line;
       }
 
@@ -220,12 +260,6 @@ pub plus_places : PlusPlaces
 plus_places front h s count pass n items b le few less all = plus_place front h s count pass n items b le few less all
 
 -- ---- behind what is asked
-
--- the marked form of a text that begins with a line
-marked_starts : (text rest : List ℕ) (b : BeginsLine text) → marked text ++ rest ≡ (60 ∷ 32 ∷ (b.front ++ 10 ∷ [])) ++ (marked b.rest ++ rest)
-marked_starts text rest b =
-    ap (λ (l : List ℕ). l ++ rest) (ap (λ (l : List ℕ). marked l) b.is ∙ marked_line b.front b.rest b.whole)
-    ∙ ap (λ (l : List ℕ). 60 ∷ 32 ∷ l) (append_assoc b.front (10 ∷ marked b.rest) rest ∙ sym (append_assoc b.front (10 ∷ []) (marked b.rest ++ rest)))
 
 not_empty : (text rest : List ℕ) → BeginsLine text → [] ≡ marked text ++ rest → ⊥
 not_empty text rest b e = omega (arith, ap length (e ∙ marked_starts text rest b))
@@ -285,7 +319,7 @@ module _ (front : List ℕ) (h : Header) (s : State) (count pass : ℕ) (asked :
         line_is = first_line text r.rest line more begins whole r.text_is;
       }
 
-  reply_place : IsPlaceInEntry (front ++ asked_text pass asked) true (MayReply h.format h.limits s asked)
+  reply_place : IsPlaceInEntry front (front ++ asked_text pass asked) true (MayReply h.format h.limits s asked)
   reply_place =
       let text : List ℕ = asked_text pass asked in
       let answer : List ℕ = reply_text h.limits (wanting pass asked) in
@@ -298,6 +332,7 @@ module _ (front : List ℕ) (h : Header) (s : State) (count pass : ℕ) (asked :
         begins = begins_by (front ++ text) answer (front ++ (text ++ answer)) (suc count) legal whole;
         wants = wanted (front ++ text) (32 ∷ ((begins.front ++ 10 ∷ []) ++ (marked begins.rest ++ []))) (front ++ (text ++ answer)) (suc count) legal (whole ∙ ap (λ (l : List ℕ). (front ++ text) ++ l) starts);
         ends = ends_by (front ++ text) (ReplyComes h.format h.limits s asked) reply_only (λ r. not_empty (reply_lines (worded_as asked) r.reply h.limits) r.rest (reply_begins (worded_as asked) r.reply h.limits) r.text_is);
+        none = none_wanting front h s count pass asked text answer b le may refl (marked_some said begins);
         wrong = wrong_by (front ++ text) (ReplyComes h.format h.limits s asked) (MayReply h.format h.limits s asked) reply_only reply_line;
       }
 
@@ -349,7 +384,7 @@ module _ (front : List ℕ) (h : Header) (s t : State) (count : ℕ) (e : TraceE
   within_line : (line more : List ℕ) → IsUnbroken line → RestComes (with_newline line ++ more) → with_newline line ≡ 60 ∷ 32 ∷ next
   within_line line more whole r = first_line (next ++ left) r.0 line more left_begins whole r.1 ∙ ap (λ (l : List ℕ). 60 ∷ 32 ∷ l) (sym ends.parts)
 
-  within_place : IsPlaceInEntry (front ++ (asked ++ said)) true (λ (line : List ℕ). line ≡ 60 ∷ 32 ∷ next)
+  within_place : IsPlaceInEntry front (front ++ (asked ++ said)) true (λ (line : List ℕ). line ≡ 60 ∷ 32 ∷ next)
   within_place =
       let behind = entries_lead front h s t count e b is x in
       let legal : IsLegal (front ++ entry_text h.limits e) (suc count) = legal_behind (front ++ entry_text h.limits e) h t (suc count) behind in
@@ -360,6 +395,7 @@ module _ (front : List ℕ) (h : Header) (s t : State) (count : ℕ) (e : TraceE
         begins = begins_by (front ++ (asked ++ said)) (marked (next ++ left)) (front ++ entry_text h.limits e) (suc count) legal whole;
         wants = wanted (front ++ (asked ++ said)) (32 ∷ ((ends.front ++ 10 ∷ []) ++ (marked left ++ []))) (front ++ entry_text h.limits e) (suc count) legal (whole ∙ ap (λ (l : List ℕ). (front ++ (asked ++ said)) ++ l) starts);
         ends = ends_by (front ++ (asked ++ said)) RestComes within_only (λ r. not_empty (next ++ left) r.0 left_begins r.1);
+        none = none_within front h s t count e (asked ++ said) (marked (next ++ left)) b is x (ap (λ (l : List ℕ). asked ++ l) marks ∙ sym (append_assoc asked said (marked (next ++ left)))) (marked_some (next ++ left) left_begins);
         wrong = wrong_by (front ++ (asked ++ said)) RestComes (λ (line : List ℕ). line ≡ 60 ∷ 32 ∷ next) within_only within_line;
       }
 

@@ -15,6 +15,7 @@ use Rattle.trace_words.specs.declared.header.Header.{Header}
 use Rattle.trace_words.specs.Legal.{EntryLeads, IsTrace, opened_by}
 use Rattle.trace_words.specs.Sweep.{tombstones}
 use Rattle.trace_words.specs.Text.{TraceEntry, trace_text}
+use Rattle.trace_words.specs.Verdict.{IsLegal}
 
 -- the header in format 2, which writes the limits of format 1: `64 1024`
 abbrev pub upgraded : Header → Header
@@ -67,6 +68,23 @@ pub record IsUpgraded (text output : List ℕ) (count : ℕ) : Type 0 where
   pub to : IsTrace output (upgraded h) new last
   pub counted : length new ≡ count
 
--- What was written before a fault: nothing, or what the first lines are in format 2, at whose end something may be missing.
+-- What was written where the writer failed: nothing, or what the first lines are in format 2, at whose end something may be missing.
 abbrev pub IsUpgradedInPart : List ℕ → List ℕ → Type 0
 IsUpgradedInPart bytes output = (output ≡ []) ⊎ ((front rest : List (List ℕ)) × (left : List ℕ) × (count : ℕ) × HasLines bytes (front ++ rest) × IsUpgraded (joined front) (output ++ left) count)
+
+-- what the lines are in format 2: nothing, where there are none
+abbrev pub IsUpgradeOf : List (List ℕ) → List ℕ → Type 0
+IsUpgradeOf lines output = ((lines ≡ []) × (output ≡ [])) ⊎ ((count : ℕ) × IsUpgraded (joined lines) output count)
+
+-- What was written where nothing more was read, or no memory was left: what some first lines are, whole entries all of them.
+abbrev pub IsUpgradedSoFar : List ℕ → List ℕ → Type 0
+IsUpgradedSoFar bytes output = (front rest : List (List ℕ)) × HasLines bytes (front ++ rest) × IsUpgradeOf front output
+
+-- What was written before a wrong line: all entries before the one that it is in, and nothing else. No more of the first lines are a
+-- legal trace.
+pub record IsUpgradedBefore (bytes output : List ℕ) : Type 0 where
+  pub front : List (List ℕ)
+  pub rest : List (List ℕ)
+  pub lines : HasLines bytes (front ++ rest)
+  pub written : IsUpgradeOf front output
+  pub last : (more left : List (List ℕ)) (count : ℕ) → rest ≡ more ++ left → IsLegal (joined (front ++ more)) count → more ≡ []

@@ -58,12 +58,17 @@ abbrev pub Wants : Bool → List ℕ → Type 0
 Wants true front = WantsReply front
 Wants false front = ¬ WantsReply front
 
--- A place within an entry: some legal trace begins so and none ends there, a reply line has to stand there or none, and a line that
--- may not stand there is wrong.
-pub record IsPlaceInEntry (front : List ℕ) (is_reply : Bool) (May : List ℕ → Type 0) : Type 0 where
+-- no legal trace ends behind the start, up to the front
+abbrev pub NoneEnds : (start front : List ℕ) → Type 0
+NoneEnds start front = (part left : List ℕ) (n : ℕ) → front ≡ (start ++ part) ++ left → IsLegal (start ++ part) n → part ≡ []
+
+-- A place within the entry that begins at the start: some legal trace begins so and none ends there, or behind the start before, a
+-- reply line has to stand there or none, and a line that may not stand there is wrong.
+pub record IsPlaceInEntry (start front : List ℕ) (is_reply : Bool) (May : List ℕ → Type 0) : Type 0 where
   pub begins : MayBegin front
   pub wants : Wants is_reply front
   pub ends : (n : ℕ) → ¬ IsLegal front n
+  pub none : NoneEnds start front
   pub wrong : (line : List ℕ) (rest : List (List ℕ)) → IsUnbroken line → ¬ May (with_newline line) → Fails front (line ∷ rest)
 
 -- the line of an item that a Merge may have
@@ -74,7 +79,7 @@ IsPlus format line = (i : Item) × MayMerge format i × (line ≡ plus_text i)
 abbrev pub PlusPlaces : Type 0
 PlusPlaces =
     (front : List ℕ) (h : Header) (s : State) (count pass n : ℕ) (items : List Item) → IsBehind front h s count → pass ≤ 63 → n ≤ most_items → length items < n → All (MayMerge h.format) items →
-    IsPlaceInEntry (front ++ (pass_text pass (merge_text n) ++ flat_map plus_text items)) false (IsPlus h.format)
+    IsPlaceInEntry front (front ++ (pass_text pass (merge_text n) ++ flat_map plus_text items)) false (IsPlus h.format)
 
 -- some reply to what was asked begins with the line
 pub record MayReply (format : Format) (limits : LimitsRecord) (s : State) (asked : Asked) (line : List ℕ) : Type 0 where
@@ -93,11 +98,11 @@ pub record MayReply (format : Format) (limits : LimitsRecord) (s : State) (asked
 abbrev pub ReplyPlaces : Type 0
 ReplyPlaces =
     (front : List ℕ) (h : Header) (s : State) (count pass : ℕ) (asked : Asked) → IsBehind front h s count → pass ≤ 63 → MayAsk h.format pass asked →
-    IsPlaceInEntry (front ++ asked_text pass asked) true (MayReply h.format h.limits s asked)
+    IsPlaceInEntry front (front ++ asked_text pass asked) true (MayReply h.format h.limits s asked)
 
 -- and behind some lines of it the next one, for a reply has one text
 abbrev pub WithinReplies : Type 0
 WithinReplies =
     (front : List ℕ) (h : Header) (s t : State) (count : ℕ) (e : TraceEntry) (given next left : List ℕ) → IsBehind front h s count → IsEntry h.format e → EntryLeads h.format s e t →
     reply_lines (worded_as e.asked) e.reply h.limits ≡ (given ++ 10 ∷ []) ++ (next ++ left) → EndsLine next →
-    IsPlaceInEntry (front ++ (asked_text e.pass e.asked ++ marked (given ++ 10 ∷ []))) true (λ (line : List ℕ). line ≡ 60 ∷ 32 ∷ next)
+    IsPlaceInEntry front (front ++ (asked_text e.pass e.asked ++ marked (given ++ 10 ∷ []))) true (λ (line : List ℕ). line ≡ 60 ∷ 32 ∷ next)

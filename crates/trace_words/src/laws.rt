@@ -47,8 +47,9 @@ pub fn traced_states_stay()
     ensures { TracedStays }
 {}
 
-/// Within an entry some legal trace goes on, none ends, and a line that may not stand there is the first wrong one: behind some items
-/// of a Merge another item's has to stand, behind what is asked the first line of a reply, and behind some lines of a reply its next.
+/// Within an entry some legal trace goes on, none ends behind where it begins, and a line that may not stand there is the first wrong
+/// one: behind some items of a Merge another item's has to stand, behind what is asked the first line of a reply, and behind some lines
+/// of a reply its next.
 pub fn places_are_judged()
     ensures plus { PlusPlaces }
     ensures reply { ReplyPlaces }

@@ -9,7 +9,7 @@ returns-in_default-clause-goes g c bytes base here h line_is all some = absurd (
 pub returns-in_err-said-clause-fails : goal.returns-in_err-said-clause-fails
 returns-in_err-said-clause-fails g c =
     carried c.from_residual.result c.in_err-said.field-0.0 _ c.from_residual.ensures.1
-    (λ bytes base here h line_is given. c.in_err-said.ensures.fails bytes base here (g.R.Source.remaining c.args.reader.now) h line_is (given.first c.in-Some.line.now c.in-Some.rest.now c.in-Some.ensures.1 c.in-Some.ensures.0))
+    (λ start bytes base here h line_is given. c.in_err-said.ensures.fails start bytes base here (g.R.Source.remaining c.args.reader.now) h line_is (given.first c.in-Some.line.now c.in-Some.rest.now c.in-Some.ensures.1 c.in-Some.ensures.0))
 
 pub returns-clause-goes : goal.returns-clause-goes
 returns-clause-goes g c =
@@ -23,8 +23,8 @@ returns-clause-goes g c =
 pub returns-clause-fails : goal.returns-clause-fails
 returns-clause-fails g c =
     IfErr-weaker c.further.result _ _
-    (λ fault fails bytes base here h line_is given.
+    (λ fault fails start bytes base here h line_is given.
     let ends = c.in-Some.ensures.0 in
     let whole = c.in-Some.ensures.1 ∙ ap (λ (l : List ℕ). l ++ c.in-Some.rest.now) ends.parts in
-    fails bytes base c.args.text.now ends.front whole given.further (first_said bytes base here c.in-Some.line.now c.args.lines.now (g.R.Source.remaining c.args.reader.now) ends h (sym line_is ∙ c.in_ok-said.ensures.same)))
+    fails start bytes base c.args.text.now ends.front whole given.further (first_said bytes base here c.in-Some.line.now c.args.lines.now (g.R.Source.remaining c.args.reader.now) ends h (sym line_is ∙ c.in_ok-said.ensures.same)))
     c.further.ensures.fails

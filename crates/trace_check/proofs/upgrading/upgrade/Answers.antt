@@ -7,27 +7,27 @@ use Rattle.trace_words.specs.Text.{header_text}
 use Rattle.trace_words.specs.Upgrade.{upgraded}
 use Rattle.trace_check.specs.Steps.{first_spot}
 use Rattle.trace_check.proofs.BeginLemmas.{known_then}
-use Rattle.trace_check.proofs.UpgradingLemmas.{begins_two, handed_on, header_upgrades, never_write, not_written, refused_for, stops_in_header}
+use Rattle.trace_check.proofs.UpgradingLemmas.{begins_two, handed_on, header_upgrades, never_write, not_written, nothing_yet, refused_first, stops_in_header}
 use Rattle.trace_check.proofs.upgrading.upgrade.Goals as goal
 
 pub returns-in_err-walk-clause-stopped : goal.returns-in_err-walk-clause-stopped
 returns-in_err-walk-clause-stopped g c =
     handed_on c.from_residual.result _ _ c.from_residual.ensures.1
     (known_then (g.R.Source.remaining c.args.reader.now) _ _ c.in_err-walk.ensures.fails
-    (λ bytes fault. ([], Appends-nil (g.W.Sink.contents c.args.writer.now), inl refl, refused_for bytes c.in_err-walk.field-0.0 fault [])))
+    (λ bytes fault. ([], Appends-nil (g.W.Sink.contents c.args.writer.now), refused_first bytes c.in_err-walk.field-0.0 fault)))
 
 pub returns-in-Two-clause-stopped : goal.returns-in-Two-clause-stopped
 returns-in-Two-clause-stopped g c =
     let w = c.in_ok-walk.walk in
     let two = sym (ap (λ (h : Header). h.format) c.header-header.ensures) ∙ c.in-Two.is in
     known_then (g.R.Source.remaining c.args.reader.now) _ _ c.in_ok-walk.ensures.begins
-    (λ bytes walks. ([], Appends-nil (g.W.Sink.contents c.args.writer.now), inl refl, (refl, begins_two bytes w (g.R.Source.remaining c.begin.new.reader) walks two)))
+    (λ bytes walks. ([], Appends-nil (g.W.Sink.contents c.args.writer.now), (refl, begins_two bytes w (g.R.Source.remaining c.begin.new.reader) walks two)))
 
 pub returns-in_err-append_header-clause-stopped : goal.returns-in_err-append_header-clause-stopped
 returns-in_err-append_header-clause-stopped g c =
     handed_on c.from_residual-in_err-append_header.result _ _ c.from_residual-in_err-append_header.ensures.1
     (known_then (g.R.Source.remaining c.args.reader.now) _ _ c.in_ok-walk.ensures.begins
-    (λ bytes walks. ([], Appends-nil (g.W.Sink.contents c.args.writer.now), inl refl, tt)))
+    (λ bytes walks. ([], Appends-nil (g.W.Sink.contents c.args.writer.now), nothing_yet bytes)))
 
 pub returns-in_err-write_out-clause-stopped : goal.returns-in_err-write_out-clause-stopped
 returns-in_err-write_out-clause-stopped g c =
@@ -38,7 +38,7 @@ returns-in_err-write_out-clause-stopped g c =
     let e = c.in_err-write_out.ensures.err in
     handed_on c.from_residual-in_err-write_out.result _ _ c.from_residual-in_err-write_out.ensures.1
     (known_then (g.R.Source.remaining c.args.reader.now) _ _ c.in_ok-walk.ensures.begins
-    (λ bytes walks. (e.0, e.3, stops_in_header bytes w (g.R.Source.remaining c.begin.new.reader) walks one e.0 e.1 (sym text ∙ e.2), tt)))
+    (λ bytes walks. (e.0, e.3, stops_in_header bytes w (g.R.Source.remaining c.begin.new.reader) walks one e.0 e.1 (sym text ∙ e.2))))
 
 pub returns-clause-upgraded : goal.returns-clause-upgraded
 returns-clause-upgraded g c =
@@ -75,7 +75,7 @@ returns-clause-stopped g c =
     (λ fault part. known_then (g.R.Source.remaining c.args.reader.now) _ _ c.in_ok-walk.ensures.begins
     (λ bytes walks.
     let e = part (first_spot bytes w.header) first walks (header_upgrades bytes w from walks one) in
-    (first ++ e.0, Appends-trans had mid has first e.0 sent e.1, e.2, e.3 (first ++ e.0))))
+    (first ++ e.0, Appends-trans had mid has first e.0 sent e.1, e.2)))
     c.upgrade_entries.ensures.part
 
 pub returns-in_err-walk-clause-cause : goal.returns-in_err-walk-clause-cause

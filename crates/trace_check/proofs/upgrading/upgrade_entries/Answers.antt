@@ -2,9 +2,9 @@ use Rattle.std.proofs.Common.{◌+◌, ◌∙◌, List, ℕ, Option, IfNone, ari
 use Rattle.std.specs.Io.KnownBytes.{Appends}
 use Rattle.trace_check.specs.declared.passed.Passed.{Passed}
 use Rattle.trace_check.specs.Steps.{EndsThere, GoesPast}
-use Rattle.trace_check.specs.Upgrading.{IsWrittenAs, Refuses, upgrade_fault}
+use Rattle.trace_check.specs.Upgrading.{IsWrittenAs}
 use Rattle.trace_check.proofs.FaultLemmas.{some_at}
-use Rattle.trace_check.proofs.UpgradingLemmas.{ends_upgraded, goes_on_writing, handed_on, never_write, not_written, refused_for, sets_out, stops_between, stops_within}
+use Rattle.trace_check.proofs.UpgradingLemmas.{ends_upgraded, goes_on_writing, handed_on, never_write, not_written, sets_out, stops_between, stops_for, stops_within}
 use Rattle.trace_check.proofs.upgrading.upgrade_entries.Goals as goal
 
 pub loop-entry-init : goal.loop-entry-init
@@ -37,17 +37,14 @@ returns-in_err-passed-clause-part g c =
     (λ b before w x.
     let l = c.loop-entry in
     let u = l.invariant b before w x in
-    let fault = c.in_err-passed.field-0.0 in
-    let part = stops_between b before c.args.walk.header l.walk (g.R.Source.remaining l.reader) (g.W.Sink.contents c.args.writer.now) (g.W.Sink.contents l.writer) l.written u in
-    (part.0, part.1, part.2, subst (λ (t : List ℕ). (output : List ℕ) → Refuses (upgrade_fault fault) t output) u.same (refused_for u.now.bytes fault (c.in_err-passed.ensures.fails u.now u.walks))))
+    stops_for b before c.args.walk.header l.walk (g.R.Source.remaining l.reader) (g.W.Sink.contents c.args.writer.now) (g.W.Sink.contents l.writer) l.written u c.in_err-passed.field-0.0 (c.in_err-passed.ensures.fails u.now u.walks))
 
 pub returns-in_err-count-clause-part : goal.returns-in_err-count-clause-part
 returns-in_err-count-clause-part g c =
     handed_on c.from_residual-in_err-count.result _ _ c.from_residual-in_err-count.ensures.1
     (λ b before w x.
     let l = c.loop-entry in
-    let part = stops_between b before c.args.walk.header l.walk (g.R.Source.remaining l.reader) (g.W.Sink.contents c.args.writer.now) (g.W.Sink.contents l.writer) l.written (l.invariant b before w x) in
-    (part.0, part.1, part.2, λ output. tt))
+    stops_between b before c.args.walk.header l.walk (g.R.Source.remaining l.reader) (g.W.Sink.contents c.args.writer.now) (g.W.Sink.contents l.writer) l.written (l.invariant b before w x))
 
 pub returns-in_err-write_out-clause-part : goal.returns-in_err-write_out-clause-part
 returns-in_err-write_out-clause-part g c =
@@ -62,9 +59,8 @@ returns-in_err-write_out-clause-part g c =
     let goes = some_at c.in_ok-passed.field-0 c.in-Some.passed (GoesPast l.walk from c.next.new.self to) c.in-Some.is c.in_ok-passed.ensures.goes in
     let written = subst (λ (t : List ℕ). IsWrittenAs c.next.new.self c.in-Some.passed t c.append_passed.new.text.items c.in_ok-count.count) c.clear.ensures.items c.in_ok-count.ensures in
     let e = c.in_err-write_out.ensures.err in
-    let part = stops_within b before c.args.walk.header l.walk from had has l.written (l.invariant b before w x) c.next.new.self to c.in-Some.passed goes c.append_passed.new.text.items c.in_ok-count.count written then
-    e.0 e.1 (sym c.as_slice.ensures.value ∙ e.2) e.3 in
-    (part.0, part.1, part.2, λ output. tt))
+    stops_within b before c.args.walk.header l.walk from had has l.written (l.invariant b before w x) c.next.new.self to c.in-Some.passed goes c.append_passed.new.text.items c.in_ok-count.count written then
+    e.0 e.1 (sym c.as_slice.ensures.value ∙ e.2) e.3)
 
 pub returns-in-None-clause-part : goal.returns-in-None-clause-part
 returns-in-None-clause-part g c b before w x =
@@ -79,14 +75,12 @@ returns-in-None-clause-part g c b before w x =
     let sent = subst (λ (t : List ℕ). Appends has then t) c.as_slice.ensures.value c.in_ok-write_out.ensures.ok in
     let on = goes_on_writing b before c.args.walk.header l.walk from had has l.written (l.invariant b before w x) c.next.new.self to c.in-Some.passed goes c.append_passed.new.text.items c.in_ok-count.count written then
     (l.written + c.in_ok-count.count) refl sent in
-    let part = stops_between b before c.args.walk.header c.next.new.self to had then (l.written + c.in_ok-count.count) on in
-    (part.0, part.1, part.2, λ output. tt)
+    stops_between b before c.args.walk.header c.next.new.self to had then (l.written + c.in_ok-count.count) on
 
 pub returns-clause-part : goal.returns-clause-part
 returns-clause-part g c b before w x =
     let l = c.loop-entry in
-    let part = stops_between b before c.args.walk.header l.walk (g.R.Source.remaining l.reader) (g.W.Sink.contents c.args.writer.now) (g.W.Sink.contents l.writer) l.written (l.invariant b before w x) in
-    (part.0, part.1, part.2, λ output. tt)
+    stops_between b before c.args.walk.header l.walk (g.R.Source.remaining l.reader) (g.W.Sink.contents c.args.writer.now) (g.W.Sink.contents l.writer) l.written (l.invariant b before w x)
 
 pub returns-in_err-passed-clause-cause : goal.returns-in_err-passed-clause-cause
 returns-in_err-passed-clause-cause g c =

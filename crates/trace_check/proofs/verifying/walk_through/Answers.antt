@@ -35,4 +35,4 @@ pub returns-in-Err : goal.returns-in-Err
 returns-in-Err g c b w none =
     let l = c.loop-length in
     let k = l.invariant b w none in
-    subst (λ (bytes : List ℕ). IsVerdict bytes c.verdict.result) k.1 (subst (IsVerdict k.0.bytes) (sym c.verdict.ensures) (said_for k.0.bytes c.in-Err.fault (c.in-Err.ensures.fails k.0 k.3)))
+    subst (λ (bytes : List ℕ). IsVerdict bytes c.verdict.result) k.1 (subst (IsVerdict k.0.bytes) (sym c.verdict.ensures) (said_for k.0.front k.0.bytes c.in-Err.fault (c.in-Err.ensures.fails k.0 k.3)))

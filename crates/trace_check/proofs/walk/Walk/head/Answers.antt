@@ -23,6 +23,6 @@ returns-in-Err-clause-fails g c b w =
     let old = c.args.self.now in
     let new = c.next_line.new.lines in
     let there = c.in_ok-next_line.ensures.there c.if-not-branch.false b.bytes b.front w.at in
-    subst (IsFault b.bytes) (sym c.of_line.ensures)
+    subst (IsFault b.front b.bytes) (sym c.of_line.ensures)
     (head_wrong b old.lines new old.store old.header (g.R.Source.remaining c.args.reader.now) (g.R.Source.remaining c.next_line.new.reader) w there.0 c.in-Err.fault c.count.result there.1 there.2
     (λ bad. subst (HasNoHead old.header.format) c.line.ensures (c.in-Err.ensures.none bad)) c.count.ensures.value)

@@ -13,7 +13,7 @@ returns-in_err-wanted_line-clause-fails g c =
     let from = g.R.Source.remaining c.args.reader.now in
     carried c.from_residual.result c.in_err-wanted_line.field-0.0 _ c.from_residual.ensures.1
     (λ b pass most less x.
-    c.in_err-wanted_line.ensures.fails b.bytes (b.front ++ (pass_text pass (merge_text most) ++ flat_map plus_text c.args.items.now)) x.at
+    c.in_err-wanted_line.ensures.fails b.front b.bytes (b.front ++ (pass_text pass (merge_text most) ++ flat_map plus_text c.args.items.now)) x.at
     (plus_place_short b old.lines old.lines old.store old.header from from pass most c.args.items.now old.asked.items x less))
 
 pub returns-in_ok-push-in-Ok-clause-goes : goal.returns-in_ok-push-in-Ok-clause-goes
@@ -37,6 +37,6 @@ returns-in-Err-clause-fails g c b pass most less x =
     let items = c.args.items.now in
     let new = c.wanted_line.new.lines in
     let there = c.in_ok-wanted_line.ensures.there b.bytes (b.front ++ (pass_text pass (merge_text most) ++ flat_map plus_text items)) x.at in
-    subst (IsFault b.bytes) (sym c.of_line.ensures)
+    subst (IsFault b.front b.bytes) (sym c.of_line.ensures)
     (plus_wrong b old.lines new old.store old.header (g.R.Source.remaining c.args.reader.now) (g.R.Source.remaining c.wanted_line.new.reader) pass most items old.asked.items x there.0 c.in-Err.fault c.count.result less there.1 there.2
     (λ bad item may is. c.in-Err.ensures.none bad item may (c.line.ensures ∙ is)) c.count.ensures.value)

@@ -9,7 +9,7 @@ pub returns-in_err-wanted_line-clause-fails : goal.returns-in_err-wanted_line-cl
 returns-in_err-wanted_line-clause-fails g c =
     let old = c.args.self.now in
     carried c.from_residual.result c.in_err-wanted_line.field-0.0 _ c.from_residual.ensures.1
-    (λ b x. c.in_err-wanted_line.ensures.fails b.bytes (b.front ++ asked_text c.args.pass c.args.asked) x.at
+    (λ b x. c.in_err-wanted_line.ensures.fails b.front b.bytes (b.front ++ asked_text c.args.pass c.args.asked) x.at
     (reply_wanted b old.lines old.store old.header (g.R.Source.remaining c.args.reader.now) c.args.pass c.args.asked old.asked.items x))
 
 pub returns-clause-goes : goal.returns-clause-goes
