@@ -7,6 +7,7 @@
 //   REFUSE_READ=n    the n-th read of standard input fails with EIO
 //   REFUSE_WRITE=n   the n-th write to standard output fails with EIO
 //   REFUSE_SHORT=k   each read of standard input gives, and each write to standard output takes, at most k bytes
+//   REFUSE_AGAIN=k   each of these reads and writes is interrupted k times, by EINTR, before it goes through
 //   REFUSE_STACK=F   the file F gets, at the growth that is refused, the place where the program stands in memory and
 //                    the words of its stack from there up to main: they tell who asked (tests/kit/askers.py)
 //   REFUSE_TALLY=F   the file F, four 64-bit words, gets the number of growths, reads and writes that were asked for,
@@ -41,6 +42,8 @@ static uint64_t refused[WORDS]; // which call of each kind fails; 0 for none
 static uint64_t most = SIZE_MAX; // bytes of one read or write
 static uint64_t writes_before;   // so many writes come before the first growth that is counted
 static uint64_t later;           // whether growths and threads behind the one that fails fail too
+static uint64_t interruptions;   // of each read and write before it goes through
+static _Atomic uint64_t interrupted; // how many the next one has behind it
 static uint64_t refused_thread;  // which thread can't be made; 0 for none
 static _Atomic uint64_t threads; // how many were asked for
 static int stack_file = -1; // none
@@ -71,6 +74,7 @@ static void begin(void) {
         most = number_of("REFUSE_SHORT");
     writes_before = number_of("REFUSE_BEHIND");
     later = number_of("REFUSE_LATER");
+    interruptions = number_of("REFUSE_AGAIN");
     refused_thread = number_of("REFUSE_THREAD");
     stack_file = opened("REFUSE_STACK");
     tally = words;
@@ -166,6 +170,17 @@ int posix_memalign(void **to, size_t alignment, size_t size) {
 
 // ---- reads of standard input ----
 
+static int is_interrupted(void) {
+    if (!tally || !interruptions)
+        return 0;
+    if (atomic_fetch_add(&interrupted, 1) < interruptions) {
+        errno = EINTR;
+        return 1;
+    }
+    atomic_store(&interrupted, 0);
+    return 0;
+}
+
 static size_t shorter(size_t count) {
     return tally && count > most ? most : count;
 }
@@ -180,6 +195,8 @@ static const struct iovec *first_filled(const struct iovec *parts, int count) {
 ssize_t read(int file, void *to, size_t count) {
     if (file != STDIN_FILENO)
         return syscall(SYS_read, file, to, count);
+    if (is_interrupted())
+        return -1;
     if (refuses(READ)) {
         errno = EIO;
         return -1;
@@ -206,6 +223,8 @@ ssize_t readv(int file, const struct iovec *parts, int count) {
 ssize_t write(int file, const void *from, size_t count) {
     if (file != STDOUT_FILENO)
         return syscall(SYS_write, file, from, count);
+    if (is_interrupted())
+        return -1;
     if (refuses(WRITE)) {
         errno = EIO;
         return -1;

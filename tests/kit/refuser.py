@@ -34,7 +34,7 @@ class Refuser:
         subprocess.run(words, check=True)
 
     def run(self, case, **refused):
-        """Runs a case with `growth=n`, `read=n` or `write=n` refused, or with `short=k`."""
+        """Runs a case with `growth=n`, `read=n` or `write=n` refused, or with `short=k` or `again=k`."""
         tally, stack = self.file("tally"), self.file("stack")
         for path, empty in ((tally, bytes(32)), (stack, b"")):
             with open(path, "wb") as words:

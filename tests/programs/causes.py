@@ -11,6 +11,7 @@ from typing import List, Tuple
 LAST = 2**62  # where positions and stamps end
 MOST_KEYS = 4096
 MOST_SUBSCRIPTIONS = 128
+FEWER_KEYS, FEWER_SUBSCRIPTIONS = 1024, 64  # of a store with the smaller limits
 MOST_ITEMS = 256  # of one Merge
 
 
@@ -37,9 +38,10 @@ def merge(*offers):
     return "\n".join(["merge", *(f"offer {it}" for it in offers), "end"])
 
 
-def store(first=0, ring=256):
-    """The line that opens a store: where positions and stamps begin, and how many items the journal keeps."""
-    return f"store 1 {first} {ring} {MOST_SUBSCRIPTIONS} {MOST_KEYS}\n"
+def store(first=0, ring=256, fewer=False):
+    """The line that opens a store: where positions and stamps begin, how many items the journal keeps, and within which limits."""
+    subs, keys = (FEWER_SUBSCRIPTIONS, FEWER_KEYS) if fewer else (MOST_SUBSCRIPTIONS, MOST_KEYS)
+    return f"store 1 {first} {ring} {subs} {keys}\n"
 
 
 def begins(left, ring=256):
@@ -47,9 +49,9 @@ def begins(left, ring=256):
     return store(LAST - left, ring)
 
 
-def full():
+def full(keys=MOST_KEYS):
     """As many keys as there may be: the label of eth0, which lives in 3/17, and numbers of tty's."""
-    names = [f"tty{n} u32 tty 1.0 = {n}" for n in range(MOST_KEYS - 1)]
+    names = [f"tty{n} u32 tty 1.0 = {n}" for n in range(keys - 1)]
     blocks = [names[at : at + MOST_ITEMS] for at in range(0, len(names), MOST_ITEMS)]
     return ETH + "\n".join(merge(*it) for it in blocks)
 
@@ -91,6 +93,7 @@ PUBLISH = [
     case("worn over a label", begins(1) + ETH, "publish 0/2 over eth0 label 4.0 = 4/17", "refused worn"),
     case("of the first key", "", "publish 0/2 new eth0 label 3.0 = 3/17", "taken", NOROOM),
     case("of a number of a held key", ETH + MTU + SUB, "publish 3/17 over mtu u32 3.2 = 9", "taken" + OWED),
+    case("of a number where the ring is full", store(ring=1) + ETH + MTU, "publish 3/17 over mtu u32 3.2 = 9", "taken"),
     case("of a label of a held key", ETH + SUB, "publish 0/2 over eth0 label 4.0 = 4/17", "taken" + OWED),
     case("of a text of a held key", ETH + ID + SUB, 'publish 3/17 over id str 3.2 = "down"', "taken" + OWED, NOROOM),
 ]
@@ -255,6 +258,21 @@ OFFER = [
     case("of a higher floor", HELD + SUB + "offer ! eth0 2", "offer ! eth0 3", "taken" + OWED),
 ]
 
+FEWER = store(fewer=True)
+OWED_FEWER = "\nowed 0000000000000001"
+
+WITHIN_FEWER = [
+    case("publish: full", FEWER + full(FEWER_KEYS), 'publish 3/17 new id str 3.0 = "up"', "refused full"),
+    case("publish: of the last key", FEWER + full(FEWER_KEYS - 1), 'publish 3/17 new id str 3.0 = "up"', "taken", NOROOM),
+    case("publish: of a number of a held key", FEWER + ETH + MTU + SUB, "publish 3/17 over mtu u32 3.2 = 9", "taken" + OWED_FEWER),
+    case("merge: full", FEWER + full(FEWER_KEYS), merge("tty0 u32 tty 1.0 = 0", NEW), "stopped 1 full"),
+    case("subscribe: badsub", FEWER, 'subscribe 64 "eth.*" 15 first new', "refused badsub"),
+    case("subscribe: of the last", FEWER, 'subscribe 63 "eth.*" 15 first new', "subscribed 1", NOROOM),
+    case("check: badsub", FEWER, "check 64 0", "refused badsub"),
+    case("sweep: of two entries", FEWER + ETH + MTU + ID + SUB, "sweep 0/2 eth0 3", "swept 2" + OWED_FEWER, NOROOM),
+    case("restart: and what is behind it", FEWER + ETH + SUB, "restart a 2\nretrieve eth0 label", "restarted\nrefused notfound"),
+]
+
 COMMANDS = {
     "publish": PUBLISH,
     "delete": DELETE,
@@ -269,6 +287,7 @@ COMMANDS = {
     "restart": RESTART,
     "merge": MERGE,
     "offer": OFFER,
+    "within 64 and 1024": WITHIN_FEWER,
 }
 
 

@@ -15,6 +15,7 @@ from causes import NOROOM, case, floors
 LONG = 40  # scripts of many items
 SHORT = 60  # scripts that are refused memory
 MOST_KEYS = 4096
+FEWER_KEYS = 1024  # of a holder with the smaller limits
 MOST_FLOORS = 64
 
 
@@ -167,14 +168,29 @@ MANY = [
     case("joined: too many others", *joined_by(2400, 2400, "stopped 1696 full", 1696)),
 ]
 
+READ = [
+    case("the change of a key", ALL_KINDS, "get id str\nget mtu str", ID + "\n-"),
+    case("whether it is a put", ALL_KINDS, "live mac mem\nlive link u32\nlive mtu mem", "live\nnot live\nnot live"),
+    case("the first change behind a key", ALL_KINDS, "after -\nafter id str\nafter mtu u32", "\n".join([LABEL, LINK, "-"])),
+]
+
+FEWER = [
+    case("full", keys(FEWER_KEYS, "tty"), "copy " + ID, "refused full"),
+    case("of the last key", keys(FEWER_KEYS - 1, "tty"), "copy " + ID, "taken", NOROOM),
+    case("of a text of a held key where all keys are used", keys(FEWER_KEYS - 1, "tty") + offers(ID), 'offer id str eth0 2.2 = "down"', "taken"),
+    case("of a higher floor that drops all keys", keys(FEWER_KEYS, "tty") + "offer ! tty 1", "offer ! tty 2", "taken"),
+    case("joined with too many others", keys(FEWER_KEYS - 1, "tty"), join(NEW, TEXT), "stopped 1 full"),
+    case("cleared", keys(FEWER_KEYS, "tty"), "clear\nall", "cleared\nshown 0"),
+]
+
 CLEAR = [case("of all that is held", ALL_KINDS + "offer ! tty 3", "clear\nall", "cleared\nshown 0")]
 
-CALLS = {"a void change": VOID, "merge": MERGE, "raise": RAISE, "join": JOIN, "clear": CLEAR}
+CALLS = {"a void change": VOID, "merge": MERGE, "raise": RAISE, "join": JOIN, "read": READ, "clear": CLEAR}
 
 
-def of_holder(it, name):
+def of_holder(it, name, first="holder"):
     """The case, of a holder that is made first."""
-    return replace(it, name=f"holder: {name}", before=["holder", *it.before])
+    return replace(it, name=f"holder: {name}", before=[first, *it.before])
 
 
 def long_scripts():
@@ -188,5 +204,6 @@ def short_scripts():
 def cases():
     """What else is tried: a name, how, and with what."""
     single = [of_holder(it, f"{call}: {it.name}") for call, cases in CALLS.items() for it in cases]
+    single += [of_holder(it, f"within 64 and {FEWER_KEYS}: {it.name}", f"holder 64 {FEWER_KEYS}") for it in FEWER]
     many = [of_holder(it, it.name) for it in MANY]
     return [(it.name, demos.cause_fault, it) for it in single] + [(it.name, demos.ample_fault, it) for it in many]

@@ -29,7 +29,8 @@ class Session:
     def answer(self, line, _may=None):
         """The line as it is given to the program, and its answers."""
         if line.startswith(b"store "):
-            self.store = model.Store(int(line.split()[3]))
+            incarnation, first, ring, subs, keys = map(int, line.split()[1:])
+            self.store = model.Store(ring, incarnation, first, subs, keys)
             return line.decode(), ["ready"]
         command, taken = model.read(line)
         given = taken[1:] if command == b"restart" else taken  # there is one store, whatever side is named
@@ -42,7 +43,7 @@ class Script(demos.Script):
     def __init__(self, seed, count, subscribes):
         super().__init__(seed, Session)
         self.left_out = NOT_COMMANDS if subscribes else (b"subscribe", *NOT_COMMANDS)
-        self.ask(causes.store(ring=RING if seed % 2 else 256).strip().encode(), None)
+        self.ask(causes.store(ring=RING if seed % 2 else 256, fewer=seed % 3 == 0).strip().encode(), None)
         for line in OPENING:
             self.draw(line)
         while len(self.lines) < count:
@@ -92,7 +93,7 @@ def may_take(store, line):
         return SHOWN if scope is None else ANSWERED if len(scope[0]) <= 128 else None
     if command == b"subscribe":
         sub, (pattern, _), *_ = taken
-        return ANSWERED if sub < 128 and len(pattern) <= 128 else None
+        return ANSWERED if sub < store.subs and len(pattern) <= 128 else None
     if command == b"check":
         return SHOWN
     if command == b"sweep":

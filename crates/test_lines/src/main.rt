@@ -2,9 +2,9 @@
 //!
 //! A contract can't say that memory is there, so a body that always gives up would be proved; here calls that no other
 //! program makes, or not so, are made. It reads nothing, and prints endpoints; lines that were read, copied and written
-//! again; which items cover which; what replies are told as; and a line once each read of some scripts has failed, and one
-//! once each write has. What a line reads as, and how it is answered, is compared by the cases of tests/dsctl. Status 0: all
-//! went so. 1: a call didn't answer so, or memory or writing failed.
+//! again; which items cover which; what replies are told as; a line once each read of some scripts has failed, and one
+//! once each write has; and at last what comes of calls that take no memory. What a line reads as, and how it is answered,
+//! is compared by the cases of tests/dsctl. Status 0: all went so. 1: a call didn't answer so, or memory or writing failed.
 #![tactic(auto)]
 
 mod copies;
@@ -12,6 +12,7 @@ mod endpoints;
 mod lines;
 mod replies;
 mod scripts;
+mod unaided;
 
 use copies::{change_again, item_again, list_again};
 use ds_line::write_item;
@@ -35,7 +36,8 @@ fn print_rows(rt: &impl Print, alloc: Global) -> Option<()> {
     print_list(rt, alloc)?;
     print_covered(rt, alloc)?;
     print_replies(rt, alloc)?;
-    print_scripts(rt, alloc)
+    print_scripts(rt, alloc)?;
+    print_unaided(rt, alloc)
 }
 
 fn print_bytes(rt: &impl Print, bytes: &[u8]) -> Option<()> {
@@ -104,4 +106,22 @@ fn print_scripts(rt: &impl Print, alloc: Global) -> Option<()> {
     println!(rt; "each read failed in turn").ok()?;
     writes_fail(alloc)?;
     println!(rt; "each write failed in turn").ok()
+}
+
+fn print_unaided(rt: &impl Print, alloc: Global) -> Option<()> {
+    println!(rt; "what takes no memory").ok()?;
+    for text in unaided::NAMES {
+        let is_name = unaided::is_name(text);
+        println!(rt; "name {is_name}").ok()?;
+    }
+    for text in unaided::ENDPOINTS {
+        let slot = unaided::slot_of(text);
+        println!(rt; "slot {slot}").ok()?;
+    }
+    for seq in unaided::NUMBERS {
+        let is_made = unaided::is_made(seq);
+        println!(rt; "change {is_made}").ok()?;
+    }
+    let held = unaided::held_at_first(alloc);
+    println!(rt; "held {held}").ok()
 }

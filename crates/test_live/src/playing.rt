@@ -64,8 +64,11 @@ fn take_step<R: Print + Wait>(rt: &R, alloc: Global, world: &mut World, step: St
     }
 }
 
-// Prints the generation of the endpoint that the map has of a label.
+// Prints the generation of the endpoint that the map has of a label, 0 where it has none.
 fn tell_label(rt: &impl Print, follower: &Follower, name: &[u8]) -> Option<()> {
-    let endpoint = follower.map().label(&Name::read(name).ok()?)?;
-    tell(rt, "generation", endpoint.generation().number() as u64)
+    let generation = match follower.map().label(&Name::read(name).ok()?) {
+        Some(endpoint) => endpoint.generation().number(),
+        None => 0,
+    };
+    tell(rt, "generation", generation as u64)
 }

@@ -53,13 +53,13 @@ pub(crate) struct Row {
     pub end: End,
 }
 
-/// All rows.
+/// All rows, the short ones first.
 pub(crate) const ROWS: [Row; 5] = [
     FOLLOW_A_DRIVER,
-    FOLLOW_MANY,
     EXCHANGE_ONE,
-    EXCHANGE_MANY,
     EXCHANGE_BEHIND,
+    FOLLOW_MANY,
+    EXCHANGE_MANY,
 ];
 
 // A follower of `eth.*` learns where a driver is. A limit of 1 is none, and loses it; a later generation owes it a notice; another
@@ -89,15 +89,6 @@ const FOLLOW_A_DRIVER: Row = Row {
     end: End::Map,
 };
 
-// A follower of 300 labels has to check twice, and so to refresh twice, by two calls each.
-const FOLLOW_MANY: Row = Row {
-    ring: 256,
-    sub: 8,
-    pattern: b".*",
-    steps: &[Step::StartMany(0, 300), Step::Refresh(2), Step::Refresh(2)],
-    end: End::Map,
-};
-
 // A label is given to an empty store, and what that one has then is known already. Where the two know it in one version and in two
 // slots, the exchange is stopped.
 const EXCHANGE_ONE: Row = Row {
@@ -117,6 +108,35 @@ const EXCHANGE_ONE: Row = Row {
     end: End::Open,
 };
 
+// A journal of two doesn't reach back to a cursor that is three calls old. Without one all is given, a floor before the changes; given
+// again, nothing of it is new.
+const EXCHANGE_BEHIND: Row = Row {
+    ring: 2,
+    sub: 0,
+    pattern: b".*",
+    steps: &[
+        Step::Ask(Asked::Start(b"eth0", 3, 17)),
+        Step::Give,
+        Step::Ask(Asked::Sweep(b"eth0", 3)),
+        Step::Ask(Asked::Start(b"eth0", 4, 17)),
+        Step::Ask(Asked::Start(b"disk", 1, 17)),
+        Step::Give,
+        Step::Give,
+        Step::Forget,
+        Step::Give,
+    ],
+    end: End::Stores,
+};
+
+// A follower of 300 labels has to check twice, and so to refresh twice, by two calls each.
+const FOLLOW_MANY: Row = Row {
+    ring: 256,
+    sub: 8,
+    pattern: b".*",
+    steps: &[Step::StartMany(0, 300), Step::Refresh(2), Step::Refresh(2)],
+    end: End::Map,
+};
+
 // 300 labels are given by two pages, and what is published behind them by the journal, 256 of it at once.
 const EXCHANGE_MANY: Row = Row {
     ring: 4096,
@@ -128,23 +148,6 @@ const EXCHANGE_MANY: Row = Row {
         Step::Give,
         Step::Look,
         Step::StartMany(300, 600),
-        Step::Give,
-        Step::Give,
-    ],
-    end: End::Stores,
-};
-
-// A journal of two doesn't reach back to a cursor that is three calls old. Without one all is given, a floor before the changes.
-const EXCHANGE_BEHIND: Row = Row {
-    ring: 2,
-    sub: 0,
-    pattern: b".*",
-    steps: &[
-        Step::Ask(Asked::Start(b"eth0", 3, 17)),
-        Step::Give,
-        Step::Ask(Asked::Sweep(b"eth0", 3)),
-        Step::Ask(Asked::Start(b"eth0", 4, 17)),
-        Step::Ask(Asked::Start(b"disk", 1, 17)),
         Step::Give,
         Step::Give,
     ],

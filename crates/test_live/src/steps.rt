@@ -17,9 +17,9 @@ use ds_store::Store;
 use std::alloc::Global;
 use std::sync::Wait;
 
-/// A pass calls. `None` where there is no command, the desk is worn, or the store refuses.
-pub(crate) fn call<W: Wait>(
-    rt: &W,
+/// A pass calls, and what the store refuses is printed. `None` where there is no command, or the desk is worn.
+pub(crate) fn call<R: Print + Wait>(
+    rt: &R,
     desk: &Desk<Box<Store>>,
     pass: &mut Pass<Box<Store>>,
     command: Option<Command>,
@@ -27,15 +27,21 @@ pub(crate) fn call<W: Wait>(
     requires { desk_of pass.old ≡ identity desk.now }
     ensures { desk_of pass.new ≡ identity desk.now }
 {
-    match desk.call(rt, pass, command?).ok()?.reply {
-        Reply::Refused(_) => None,
+    let answer = desk.call(rt, pass, command?).ok()?;
+    tell_refusal(rt, &answer.reply)
+}
+
+// Prints what a store refuses.
+fn tell_refusal(rt: &impl Print, reply: &Reply) -> Option<()> {
+    match reply {
+        Reply::Refused(refusal) => println!(rt; "refused: {refusal}").ok(),
         _ => Some(()),
     }
 }
 
 /// RS starts the drivers of these numbers, from the one up to below the other. Each name has a letter and three digits.
-pub(crate) fn start_many<W: Wait>(
-    rt: &W,
+pub(crate) fn start_many<R: Print + Wait>(
+    rt: &R,
     desk: &Desk<Box<Store>>,
     pass: &mut Pass<Box<Store>>,
     from: u32,

@@ -2,7 +2,8 @@
 //!
 //! `offer ITEM` merges a change or raises a floor, and `copy CHANGE` merges a change that stays with the program. `join`,
 //! offers and `end` join with another holder, which took these items. `all` asks for all that is held, and `clear` has
-//! nothing held.
+//! nothing held. `get NAME KIND` asks for the change of a key, `live NAME KIND` whether it is a put, and `after NAME KIND`, or
+//! `after -`, for the first change behind a key, or of all.
 
 use crate::entries::{Entry, offered, read_line};
 use crate::failure::Failure;
@@ -10,7 +11,8 @@ use crate::subject::{Subject, add, ask_all, word_of};
 use ds_entry::{Change, Item, Items};
 use ds_held::Held;
 use ds_join::{JoinFault, Merge, Stop};
-use ds_line::append_item;
+use ds_line::{append_change, append_item};
+use ds_names::Key;
 use ds_words::ScriptCommand;
 use std::alloc::Global;
 use std::io::Write;
@@ -27,13 +29,24 @@ pub(crate) enum Asked {
     Join(Held),
     /// All that is held.
     All,
+    /// For the change of a key.
+    Get(Key),
+    /// Whether the change of a key is a put.
+    Live(Key),
+    /// For the first change behind a key, or of all.
+    After(Option<Key>),
     /// To hold nothing again.
     Clear,
 }
 
 /// Asks a new holder the lines.
-pub(crate) fn answer_part(rt: &impl Runtime, alloc: Global, lines: &str) -> Result<(), Failure> {
-    ask_all(rt, alloc, &mut Held::new(alloc), lines)
+pub(crate) fn answer_part(
+    rt: &impl Runtime,
+    alloc: Global,
+    mut held: Held,
+    lines: &str,
+) -> Result<(), Failure> {
+    ask_all(rt, alloc, &mut held, lines)
 }
 
 impl Subject for Held {
@@ -45,9 +58,13 @@ impl Subject for Held {
             "join" => Ok(Asked::Join(other(alloc, block)?)),
             "all" => Ok(Asked::All),
             "clear" => Ok(Asked::Clear),
-            line => match line.strip_prefix("copy ") {
-                Some(change) => Ok(Asked::Copy(change_of(alloc, change)?)),
-                None => Ok(Asked::Offer(offered(read_line(alloc, line)?)?)),
+            "after -" => Ok(Asked::After(None)),
+            line => match line.split_once(' ') {
+                Some(("copy", change)) => Ok(Asked::Copy(change_of(alloc, change)?)),
+                Some(("get", key)) => Ok(Asked::Get(key_of(alloc, key)?)),
+                Some(("live", key)) => Ok(Asked::Live(key_of(alloc, key)?)),
+                Some(("after", key)) => Ok(Asked::After(Some(key_of(alloc, key)?))),
+                _ => Ok(Asked::Offer(offered(read_line(alloc, line)?)?)),
             },
         }
     }
@@ -62,11 +79,32 @@ impl Subject for Held {
                 Ok(items) => add_all(text, &items),
                 Err(_) => add(text, "refused noroom\n"),
             },
+            Asked::Get(key) => add_change(text, self.get(&key)),
+            Asked::Live(key) if self.live(&key).is_some() => add(text, "live\n"),
+            Asked::Live(_) => add(text, "not live\n"),
+            Asked::After(key) => add_change(text, self.first_after(key.as_ref())),
             Asked::Clear => {
                 self.clear();
                 add(text, "cleared\n")
             }
         }
+    }
+}
+
+// The key that a `get` names, which is spelled as in a `retrieve`.
+fn key_of(alloc: Global, key: &str) -> Result<Key, Failure> {
+    let line = format!(in alloc; "retrieve {key}")?;
+    match read_line(alloc, line.as_str())? {
+        ScriptCommand::Retrieve { key } => Ok(key),
+        _ => Err(Failure::BadLine),
+    }
+}
+
+// A change, or a dash where there is none.
+fn add_change(text: &mut Vec<u8>, change: Option<&Change>) -> Result<(), Failure> {
+    match change {
+        Some(change) => Ok(append_change(text, change)?),
+        None => add(text, "-\n"),
     }
 }
 

@@ -2,8 +2,8 @@
 //! that refuse them memory.
 //!
 //! Standard input has parts, with an empty line between two of them. The first line of a part says what its other lines ask:
-//! `store INCARNATION FIRST RING SUBS KEYS`, a store that is opened so; `map PATTERN KINDS`, a map of the query; or `holder`.
-//! store.rt, map.rt and holder.rt tell these lines. All lines of a part are read first, and what they ask is made; then
+//! `store INCARNATION FIRST RING SUBS KEYS`, a store that is opened so; `map PATTERN KINDS`, a map of the query; or `holder`, or
+//! `holder SUBS KEYS`, one with these limits. store.rt, map.rt and holder.rt tell these lines. All lines of a part are read first, and what they ask is made; then
 //! `ready` is printed, and only then it is asked, and each answer printed by one write. So a growth of memory behind `ready`
 //! is one of a call's that is tested. Where the first line is refused, that is printed, and nothing is asked.
 //!
@@ -18,6 +18,7 @@ mod map;
 mod store;
 mod subject;
 
+use ds_held::Held;
 use failure::Failure;
 use std::io::{ErrorKind, Read};
 use std::process::ExitCode;
@@ -62,7 +63,10 @@ fn answer_part(rt: &(impl Runtime + AllocGlobal), first: &str, lines: &str) -> R
     if let Some(words) = first.strip_prefix("store ") {
         store::answer_part(rt, alloc, words, lines)
     } else if first == "holder" {
-        holder::answer_part(rt, alloc, lines)
+        holder::answer_part(rt, alloc, Held::new(alloc), lines)
+    } else if let Some(words) = first.strip_prefix("holder ") {
+        let limits = store::limits_of(words)?;
+        holder::answer_part(rt, alloc, Held::bounded(alloc, limits), lines)
     } else {
         map::answer_part(rt, alloc, first, lines)
     }

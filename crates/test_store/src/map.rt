@@ -94,7 +94,9 @@ fn add_taken(text: &mut Vec<u8>, taken: Result<Count, Stop>) -> Result<(), Failu
 }
 
 fn add_entries(text: &mut Vec<u8>, alloc: Global, map: &SubMap) -> Result<(), Failure> {
-    let entries = map.entries(alloc)?;
+    let Ok(entries) = map.entries(alloc) else {
+        return add(text, "refused noroom\n");
+    };
     for item in entries.as_slice() {
         append_item(text, item)?;
     }

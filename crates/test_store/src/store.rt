@@ -71,15 +71,20 @@ impl Seed {
     fn read(words: &str) -> Result<Seed, Failure> {
         let (incarnation, rest) = words.split_once(' ').ok_or(Failure::BadLine)?;
         let (first, rest) = rest.split_once(' ').ok_or(Failure::BadLine)?;
-        let (ring, rest) = rest.split_once(' ').ok_or(Failure::BadLine)?;
-        let (subs, keys) = rest.split_once(' ').ok_or(Failure::BadLine)?;
+        let (ring, limits) = rest.split_once(' ').ok_or(Failure::BadLine)?;
         Ok(Seed {
             incarnation: number(incarnation)?,
             first: number(first)?,
             ring: number(ring)?,
-            limits: Limits::of(number(subs)?, number(keys)?).ok_or(Failure::BadLine)?,
+            limits: limits_of(limits)?,
         })
     }
+}
+
+/// The limits that two words are, `SUBS KEYS`.
+pub(crate) fn limits_of(words: &str) -> Result<Limits, Failure> {
+    let (subs, keys) = words.split_once(' ').ok_or(Failure::BadLine)?;
+    Limits::of(number(subs)?, number(keys)?).ok_or(Failure::BadLine)
 }
 
 fn number<T: FromStr>(word: &str) -> Result<T, Failure>

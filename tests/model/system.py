@@ -1,0 +1,238 @@
+"""A system, driven by one list of events: RS, the numbers that its services draw, a world with a map of labels for each of two servers,
+and their tables. It is asked and tells by lines, as `test_system` is.
+"""
+import copy
+
+from . import lines, restarts, session, tables
+from .store import LABEL, LAST_PLACE, Query, Refused, Store
+from .world import GIVING, MOST_MESSAGES, Map
+
+MOST_EVENTS = 65536
+BARRED = (b"offer", b"publish", b"delete", b"sweep")  # what only RS and the services may ask of a store
+TOLD_LAST = (b"again", b"service", b"death", b"beat", b"tick", b"retrieve")  # they want memory only where nothing else stands against them
+WANTING = (b"map", b"subscribe", *GIVING)  # they may want memory before another cause is looked for
+
+
+class System(session.Session):
+    """A system; the changes that RS and the services made are kept in order, and the numbers of each label that drew some."""
+
+    def __init__(self, seeds, settings, next):
+        super().__init__()
+        if not 1 <= next <= restarts.MOST_GENERATION + 1:
+            raise Refused("outofrange")
+        if not all(1 <= ring <= lines.MOST_RING for _, _, ring in seeds):
+            raise Refused("badring")
+        if any(first > LAST_PLACE for _, first, _ in seeds):
+            raise Refused("badfirst")
+        if seeds[0][0] == seeds[1][0]:
+            raise Refused("oldincarnation")
+        self.rs = restarts.Rs(session.document(settings), next)
+        for side, (incarnation, first, ring) in zip(self.world.stores, seeds):
+            self.world.stores[side] = Store(ring, incarnation, first)
+        self.world.maps = [Map(Query(b".*", 1)) for _ in self.tables]
+        self.made, self.numbers = [], {}
+        for it in self.rs.services.values():
+            self.assign_unit(it["class"], it["unit"], it["label"].encode())
+
+    def assign_unit(self, kind, unit, label):
+        """The unit of a service goes to the table of its class's server, if it has one."""
+        if kind != "server":
+            self.tables[b"net" if kind == "network" else b"file"].assign(unit, kind, label)
+
+    def happen(self, line, ample=None):
+        """The lines that tell what came of an event.
+
+        Memory may be wanting for one step of it, behind so many that are ample: something that RS or a service asks of a store, an
+        item of a delivery, a label of which a table learns, or a request.
+        """
+        word, *taken = line.split(b" ")
+        self.ample = ample
+        if word in (b"put", b"remove", b"again"):
+            return self.refusing(getattr(self, word.decode()), *taken)
+        command, taken = lines.read(line)
+        if command in session.OF_SERVICES:
+            return self.refusing(getattr(self, command.decode()), *taken)
+        if command in BARRED:
+            return [b"refused notallowed"]
+        if command == b"deliver" and ample is not None:
+            return self.deliver_some(*taken)
+        return self.world.answer(command, taken)
+
+    def refusing(self, answer, *taken):
+        """What is answered, or by what it is refused."""
+        try:
+            return answer(*taken)
+        except session.REFUSALS as refused:
+            return [session.refusal(refused)]
+
+    def may_be_refused(self, line):
+        """Whether an event as a whole may be refused for want of memory: no turn of a table is, and no delivery."""
+        word, *taken = line.split(b" ")
+        if word in (b"put", b"remove"):
+            return self.refusing(self.judge, *taken[:3], None if word == b"remove" else taken[3])[0] == "judged"
+        if word in TOLD_LAST:
+            return not copy.deepcopy(self).happen(line)[0].startswith(b"refused ")
+        return word in WANTING and (word not in GIVING or len(self.world.messages) < MOST_MESSAGES)
+
+    # ---- what RS and the services make ----
+
+    def asked_by(self, action):
+        """What the store of the side answers to an action; a label that is offered was made."""
+        verb, _, item = action.partition(b" ")
+        if verb == b"offer":
+            self.made.append(lines.item(item))
+        return super().asked_by(action)
+
+    def judge(self, label, name, kind, word):
+        """What stands against a change of a service, by the first cause, or the place of its kind, its value and its endpoint."""
+        kind, service = lines.KINDS.index(kind), self.rs.services.get(label.decode())
+        if service is None:
+            raise Refused("unknownlabel")
+        if kind == LABEL or name.decode() not in service["publishes"]:
+            raise Refused("notdeclared")
+        state, *instance = self.rs.states[label.decode()]
+        if state != "up":
+            raise Refused("notup")
+        is_number = word is not None and word.isdigit() and int(word) <= lines.MOST_NUMBER
+        if word is not None and kind != (1 if is_number else 2):
+            raise Refused("badkind")
+        return "judged", kind, word if word is None or is_number else b'"%s"' % word, instance[0]
+
+    def put(self, label, name, kind, word):
+        """A service puts a value."""
+        return self.write(label, name, kind, word)
+
+    def remove(self, label, name, kind):
+        """A service takes an entry back."""
+        return self.write(label, name, kind, None)
+
+    def write(self, label, name, kind, word):
+        """A service's change is numbered and made, and the store is asked for it; the number stays spent if that refuses it."""
+        _, kind, value, endpoint = self.judge(label, name, kind, word)
+        generation, number = self.numbers.get(label, (0, 0))
+        version = (endpoint[0], number if generation == endpoint[0] else 0)
+        self.numbers[label] = (version[0], version[1] + 1)
+        self.made.append(lines.Change((name, kind), label, version, value))
+        if value is None:
+            return self.ask(b"delete", (endpoint, (name, kind), version))
+        return self.ask(b"publish", (endpoint, (name, kind), version, value, True))
+
+    def ask(self, command, taken):
+        """What the store of the side answers, want of memory last."""
+        if self.ample is not None and copy.deepcopy(self.world).answer(command, taken)[0] != b"taken":
+            self.ample = None
+        return [session.NO_ROOM] if self.is_wanting() else self.world.answer(command, taken)
+
+    def again(self, number):
+        """A change that was made comes once more."""
+        if int(number) >= len(self.made):
+            raise Refused("nomessage")
+        return self.world.answer(b"offer", (self.made[int(number)],))
+
+    def deliver_some(self, number, holder, count):
+        """A delivery that is stopped for want of memory behind so many items as are ample, if so many are delivered."""
+        given = len(self.world.messages[number]) if number < len(self.world.messages) and count is None else count
+        done, *masks = copy.deepcopy(self.world).answer(b"deliver", (number, holder, self.ample))
+        if given is None or self.ample >= given or not done.startswith(b"merged "):
+            return self.world.answer(b"deliver", (number, holder, count))
+        self.world.answer(b"deliver", (number, holder, self.ample))
+        return [b"stopped %d noroom" % self.ample, *masks]
+
+    # ---- what the servers do ----
+
+    def follow(self, _number):
+        """Both servers look at their maps, the file server first, and the other one where nothing ended that."""
+        rounds, fault = [], None
+        for number, table in enumerate(self.tables.values()):
+            fault = fault or self.look(number, table, rounds)
+        return moved(rounds, None, fault)
+
+    def submit(self, server, request, unit, _number):
+        """A server looks at its map, and takes a request, want of memory last."""
+        table, rounds, own = self.tables[server], [], None
+        fault = self.look([*self.tables].index(server), table, rounds)
+        try:
+            if not fault and self.ample is not None:
+                copy.deepcopy(table).submit(request, unit)
+            fault = fault or (b"noroom" if self.is_wanting() else None)
+            own = None if fault else table.submit(request, unit)
+        except tables.Refused as refused:
+            fault = str(refused).encode()
+        return moved(rounds, own, fault)
+
+    def reply(self, server, endpoint, request):
+        """A driver answers a request."""
+        try:
+            return moved([], self.tables[server].reply(endpoint, request), None)
+        except tables.Refused as refused:
+            return moved([], None, str(refused).encode())
+
+    def look(self, number, table, rounds):
+        """A table learns of the label of each unit what its map holds, a round of moves for each. What ended that, if anything did.
+
+        What is older than what the table knows has no round, and takes no memory.
+        """
+        held = self.world.maps[number].held.held
+        for _, label in [*table.units.values()]:
+            _, (epoch, _), value = held.get((label, LABEL), (None, (-1, None), None))
+            if epoch < 0 or value is None and epoch < (table.newest(label) or 0):
+                continue
+            state = None if value is None else lines.numbers_of(value)
+            try:
+                if self.ample is not None:
+                    copy.deepcopy(table).changed(label, state)
+                if self.is_wanting():
+                    return b"noroom"
+                rounds.append(table.changed(label, state))
+            except tables.Refused:
+                pass
+        return None
+
+    def shown(self):
+        """The lines of what both servers' maps hold."""
+        return [it for one in self.world.maps[: len(self.tables)] for it in one.held.show()]
+
+
+def moved(rounds, own, fault):
+    """The lines of a server's event: each round, the own move, what ended it, and how many rounds there are."""
+    shown = [line for it in rounds for line in session.counted(it)]
+    own_lines = session.told([own] if own else [])
+    return shown + own_lines + ([b"refused " + fault] if fault else []) + [b"rounds %d" % len(rounds)]
+
+
+class Part:
+    """A part of an input: how a system begins, and the events' lines, each with its side."""
+
+    def __init__(self, text):
+        first, _, rest = text.partition(b"\n")
+        settings, _, asked = rest.partition(b"\nend")
+        _, next, *numbers = [it if it == b"system" else int(it) for it in first.split(b" ")]
+        self.begun = ([numbers[:3], numbers[3:]], settings, next)
+        self.events, side = [], b"a"
+        for line in asked.strip(b"\n").split(b"\n") if asked.strip(b"\n") else []:
+            count, _, repeated = line.rpartition(b" times ")
+            if line.startswith(b"side "):
+                side = line[5:]
+            else:
+                self.events += [(side, repeated)] * int(count or 1)
+
+    def answers(self, wanting=(None, None)):
+        """The lines that tell what came of each event, and then of what the maps hold; or why there is none of that.
+
+        `wanting` names an event, from 0 on, for which memory is wanting, and for how many steps of it there is some; None for the number
+        of steps: the whole event is refused, if it may be.
+        """
+        try:
+            system = System(*self.begun)
+        except Refused as refused:
+            return [[b"refused " + str(refused).encode()]]
+        if len(self.events) > MOST_EVENTS:
+            return [[b"refused toomany"]]
+        told = []
+        for at, (side, line) in enumerate(self.events):
+            system.world.current = side
+            if (at, None) == wanting and system.may_be_refused(line):
+                told.append([session.NO_ROOM])
+            else:
+                told.append(system.happen(line, wanting[1] if at == wanting[0] else None))
+        return [*told, system.shown()]
