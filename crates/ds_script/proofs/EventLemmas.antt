@@ -89,7 +89,7 @@ answers_it command old out new a = a
 pub event_answers : (command : ScriptCommand) (old : SessionContent) (out : List ℕ) (new : SessionContent)
     → AnswersAsEvent command old out new ⊎ ((is_plain command ≡ false) × IsLineRefused old out new) → AnswersOrRefuses command old out new
 event_answers command old out new (inl a) = inr (answers_it command old out new a)
-event_answers command old out new (inr r) = inl (plain_room command r.0, r.1)
+event_answers command old out new (inr r) = inl (plain_room command old r.0, r.1)
 
 -- where the command is this one, it is answered as that event
 pub event_answers_as : (command same : ScriptCommand) (old : SessionContent) (out : List ℕ) (new : SessionContent) → command ≡ same
@@ -102,8 +102,9 @@ event_answers_as command same old out new is a = subst (λ (k : ScriptCommand). 
 pub entries_answers : (command : ScriptCommand) (number : ℕ) (session : SessionContent) (m : Option SubMapRecord) → command ≡ Entries number → m ≡ slice_get session.world.maps number → AnswersOrRefuses command session (entries_text m) session
 entries_answers command number session m is at = subst (λ (k : ScriptCommand). AnswersOrRefuses k session (entries_text m) session) (sym is) (inr (refl, ap entries_text at))
 
-pub entries_refused : (command : ScriptCommand) (number : ℕ) (session : SessionContent) → command ≡ Entries number → AnswersOrRefuses command session refused_noroom session
-entries_refused command number session is = subst (λ (k : ScriptCommand). AnswersOrRefuses k session refused_noroom session) (sym is) (inl (tt, (refl, refl)))
+pub entries_refused : (command : ScriptCommand) (number : ℕ) (session : SessionContent) (m : Option SubMapRecord) → command ≡ Entries number → m ≡ slice_get session.world.maps number → m ≢ None
+    → AnswersOrRefuses command session refused_noroom session
+entries_refused command number session m is at there = subst (λ (k : ScriptCommand). AnswersOrRefuses k session refused_noroom session) (sym is) (inl ((λ none. there (at ∙ none)), (refl, refl)))
 
 pub ring_answers : (command : ScriptCommand) (ring : ℕ) (old : SessionContent) (out : List ℕ) (new : SessionContent) → command ≡ Ring ring → AnswersRing ring old out new ⊎ IsLineRefused old out new → AnswersOrRefuses command old out new
 ring_answers command ring old out new is (inl a) = subst (λ (k : ScriptCommand). AnswersOrRefuses k old out new) (sym is) (inr a)

@@ -1,5 +1,5 @@
 -- Lines, and the commands that may stand on them.
-use Rattle.std.proofs.Common.{◌≡◌, ◌≢◌, ℕ, zero, suc, false, List, Result, refl, arith}
+use Rattle.std.proofs.Common.{◌≡◌, ◌≢◌, ℕ, zero, suc, false, true≢false, List, Result, refl, arith}
 use Rattle.ds_machine.specs.declared.command.Scope.TheVariants.{Under}
 use Rattle.ds_words.specs.Command.{IsCommand, CommandTakesMemory, ReadsAs, is_plain}
 use Rattle.ds_words.specs.Later.{IsLater}
@@ -7,6 +7,7 @@ use Rattle.ds_words.specs.declared.command.ScriptCommand.{ScriptCommand}
 use Rattle.ds_words.specs.declared.command.ScriptCommand.TheVariants.{Offer, Show, All, Publish, Subscribe, Map, Entries, Ring, Since, Snapshot, Page, Settings}
 use Rattle.ds_words.specs.declared.fault.CommandFault.{CommandFault}
 use Rattle.ds_script.specs.Answer.{MayStand, AnswerTakesRoom}
+use Rattle.ds_script.specs.Session.{SessionContent}
 
 -- a command that may stand on some line is a command
 pub may_command : (before : ℕ) (command : ScriptCommand) → MayStand before command → IsCommand command
@@ -16,26 +17,26 @@ may_command (suc before) command may = may.0
 -- ---- memory
 
 -- a line with a text, a blob or a pattern takes memory
-pub memory_room : (command : ScriptCommand) → CommandTakesMemory command → AnswerTakesRoom command
-memory_room (Offer i) takes = refl
-memory_room (Publish caller key version value overwrite) takes = refl
-memory_room (Subscribe sub query initial overwrite) takes = refl
-memory_room (Map query) takes = tt
-memory_room (Since (Under query) cursor max) takes = refl
-memory_room (Snapshot (Under query)) takes = refl
-memory_room (Page (Under query) after max) takes = refl
-memory_room (Settings text) takes = tt
-memory_room command takes = absurd takes
+pub memory_room : (command : ScriptCommand) (session : SessionContent) → CommandTakesMemory command → AnswerTakesRoom command session
+memory_room (Offer i) session takes = refl
+memory_room (Publish caller key version value overwrite) session takes = refl
+memory_room (Subscribe sub query initial overwrite) session takes = refl
+memory_room (Map query) session takes = tt
+memory_room (Since (Under query) cursor max) session takes = refl
+memory_room (Snapshot (Under query)) session takes = refl
+memory_room (Page (Under query) after max) session takes = refl
+memory_room (Settings text) session takes = tt
+memory_room command session takes = absurd takes
 
 -- so does what isn't plain
-pub plain_room : (command : ScriptCommand) → is_plain command ≡ false → AnswerTakesRoom command
-plain_room Show e = tt
-plain_room All e = tt
-plain_room (Entries map) e = tt
-plain_room (Ring ring) e = tt
-plain_room (Map query) e = tt
-plain_room (Settings text) e = tt
-plain_room command e = e
+pub plain_room : (command : ScriptCommand) (session : SessionContent) → is_plain command ≡ false → AnswerTakesRoom command session
+plain_room Show session e = tt
+plain_room All session e = tt
+plain_room (Entries map) session e = absurd (true≢false e)
+plain_room (Ring ring) session e = tt
+plain_room (Map query) session e = tt
+plain_room (Settings text) session e = tt
+plain_room command session e = e
 
 -- ---- the first line, and those behind it
 

@@ -1,5 +1,5 @@
 -- What the lines of a script are answered. It is a relation, since memory may be refused at any line.
-use Rattle.std.specs.Prelude.{◌≡◌, ℕ, zero, suc, Bool, true, false, ◌⊎◌, List, [], ◌++◌, length, Option, MatchOption, codes}
+use Rattle.std.specs.Prelude.{◌≡◌, ◌≢◌, ℕ, zero, suc, Bool, true, false, ◌⊎◌, List, [], ◌++◌, length, Option, None, MatchOption, codes}
 use Rattle.std.specs.List.{flat_map, slice_get}
 use Rattle.std.specs.Fmt.{decimal}
 use Rattle.std.specs.Option.{option_map_or}
@@ -118,20 +118,20 @@ AnswersCommand command old out new = AnswersAsEvent command old out new
 abbrev pub IsLineRefused : SessionContent → List ℕ → SessionContent → Type 0
 IsLineRefused old out new = (new ≡ old) × (out ≡ refused_noroom)
 
--- The script itself takes memory for the command: for a copy of what is shown, for the stores' rings, for what the line asks, or for
--- settings. Where others are refused for want of memory, it is the world, RS or a table that refuses them.
-abbrev pub AnswerTakesRoom : ScriptCommand → Type 0
-AnswerTakesRoom lines.Show = Unit {0}
-AnswerTakesRoom lines.All = Unit {0}
-AnswerTakesRoom (lines.Entries map) = Unit {0}
-AnswerTakesRoom (lines.Ring ring) = Unit {0}
-AnswerTakesRoom (lines.Map query) = Unit {0}
-AnswerTakesRoom (lines.Settings text) = Unit {0}
-AnswerTakesRoom command = is_plain command ≡ false
+-- The script itself takes memory for the command: for a copy of what is shown, of a map that is there too, for the stores' rings, for
+-- what the line asks, or for settings. Where others are refused for want of memory, it is the world, RS or a table that refuses them.
+abbrev pub AnswerTakesRoom : ScriptCommand → SessionContent → Type 0
+AnswerTakesRoom lines.Show old = Unit {0}
+AnswerTakesRoom lines.All old = Unit {0}
+AnswerTakesRoom (lines.Entries map) old = slice_get old.world.maps map ≢ None
+AnswerTakesRoom (lines.Ring ring) old = Unit {0}
+AnswerTakesRoom (lines.Map query) old = Unit {0}
+AnswerTakesRoom (lines.Settings text) old = Unit {0}
+AnswerTakesRoom command old = is_plain command ≡ false
 
 -- what a command is answered, memory or not
 abbrev pub AnswersOrRefuses : ScriptCommand → SessionContent → List ℕ → SessionContent → Type 0
-AnswersOrRefuses command old out new = (AnswerTakesRoom command × IsLineRefused old out new) ⊎ AnswersCommand command old out new
+AnswersOrRefuses command old out new = (AnswerTakesRoom command old × IsLineRefused old out new) ⊎ AnswersCommand command old out new
 
 -- ---- lines
 
@@ -186,6 +186,10 @@ AppendsByServices event tick before after old new = (out : List ℕ) × (after �
 -- so is this text, or that there is no memory for it
 abbrev pub AppendsOrRefuses : List ℕ → (before after : List ℕ) → Type 0
 AppendsOrRefuses text before after = (after ≡ before ++ refused_noroom) ⊎ (after ≡ before ++ text)
+
+-- so is what `entries` is answered of a map, if there is one: only then memory may be wanting
+abbrev pub AppendsEntries : Option SubMapRecord → (before after : List ℕ) → Type 0
+AppendsEntries m before after = ((m ≢ None) × (after ≡ before ++ refused_noroom)) ⊎ (after ≡ before ++ entries_text m)
 
 -- so is what the line, behind so many others, is answered
 abbrev pub AppendsLine : ℕ → List ℕ → (before after : List ℕ) → (old new : SessionContent) → Type 0

@@ -95,7 +95,7 @@ MakesEvents command old out new was now =
 -- and so does a line; one that is refused for want of memory, or is bad, lets nothing happen
 abbrev pub LineMakesEvents : BadLines → ℕ → SessionContent → List ℕ → List ℕ → ℕ → SessionContent → Past → Past → Type 0
 LineMakesEvents policy before old line out bad new was now =
-    ((command : ScriptCommand) × IsLineAs (MayStand before) command line × (bad ≡ 0) × ((AnswerTakesRoom command × IsLineRefused old out new × (now ≡ was)) ⊎ MakesEvents command old out new was now))
+    ((command : ScriptCommand) × IsLineAs (MayStand before) command line × (bad ≡ 0) × ((AnswerTakesRoom command old × IsLineRefused old out new × (now ≡ was)) ⊎ MakesEvents command old out new was now))
     ⊎ (TellsBadLine policy before old line out bad new × (now ≡ was))
 
 -- and lines, one after the other

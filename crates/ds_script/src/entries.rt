@@ -2,7 +2,7 @@
 
 ghost use Rattle.std.specs.Prelude.{◌≡◌, OnOk, OnErr};
 ghost use Rattle.std.specs.Option.{option_copied};
-ghost use Rattle.ds_script.specs.Answer.{entries_text, AppendsOrRefuses};
+ghost use Rattle.ds_script.specs.Answer.{AppendsEntries};
 
 use crate::shown::append_items;
 use ds_line::append_all;
@@ -17,7 +17,7 @@ pub(crate) fn append_entries(
     map: Option<&SubMap>,
     output: &mut Vec<u8>,
 ) -> Result<(), NoRoom>
-    ensures answered { OnOk result (AppendsOrRefuses (entries_text (option_copied map.entry)) output.old.items output.new.items) }
+    ensures answered { OnOk result (AppendsEntries (option_copied map.entry) output.old.items output.new.items) }
     ensures unanswered { OnErr result (output.new.items ≡ output.old.items) }
 {
     let Some(map) = map else {

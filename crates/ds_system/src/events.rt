@@ -1,6 +1,6 @@
 //! Lists of events.
 
-ghost use Rattle.std.specs.Prelude.{◌≡◌, ◌++◌, ◌∷◌, [], length, slice_get, OnOk, IfErr, OnErr, IfOk};
+ghost use Rattle.std.specs.Prelude.{◌≡◌, ◌≢◌, ◌++◌, ◌∷◌, [], length, slice_get, OnOk, IfErr, OnErr, IfOk};
 ghost use Rattle.std.specs.Option.{option_copied};
 
 use crate::copying::event_again;
@@ -64,9 +64,10 @@ impl SystemEvents {
         self.events.get(index)
     }
 
-    /// The same events again, in the same order.
+    /// The same events again, in the same order. The copy of none takes no memory.
     pub fn copy(&self, alloc: Global) -> Result<SystemEvents, NoRoom>
-        ensures { IfOk result (λ copy. copy ≡ self.now) }
+        ensures same { IfOk result (λ copy. copy ≡ self.now) }
+        ensures room { OnErr result (self.now ≢ []) }
     {
         let mut events = Vec::new(alloc);
         for event in &self.events {

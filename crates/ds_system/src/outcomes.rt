@@ -1,6 +1,6 @@
 //! Lists of outcomes.
 
-ghost use Rattle.std.specs.Prelude.{◌≡◌, ◌++◌, ◌∷◌, [], length, slice_get, OnOk, IfErr, OnErr, IfOk};
+ghost use Rattle.std.specs.Prelude.{◌≡◌, ◌≢◌, ◌++◌, ◌∷◌, [], length, slice_get, OnOk, IfErr, OnErr, IfOk};
 ghost use Rattle.std.specs.Option.{option_copied};
 
 use ds_names::NoRoom;
@@ -63,9 +63,10 @@ impl SystemOutcomes {
         self.outcomes.get(index)
     }
 
-    /// The same outcomes again, in the same order.
+    /// The same outcomes again, in the same order. The copy of none takes no memory.
     pub fn copy(&self, alloc: Global) -> Result<SystemOutcomes, NoRoom>
-        ensures { IfOk result (λ copy. copy ≡ self.now) }
+        ensures same { IfOk result (λ copy. copy ≡ self.now) }
+        ensures room { OnErr result (self.now ≢ []) }
     {
         let mut outcomes = Vec::new(alloc);
         for outcome in &self.outcomes {

@@ -1,6 +1,6 @@
 //! Systems.
 
-ghost use Rattle.std.specs.Prelude.{◌≡◌, ◌≤◌, [], length, vec_capacity, IfOk, IfErr, OnOk, OnErr};
+ghost use Rattle.std.specs.Prelude.{◌≡◌, ◌≢◌, ◌≤◌, [], length, vec_capacity, IfOk, IfErr, OnOk, OnErr};
 ghost use Rattle.ds_world.specs.Run.{most_events};
 ghost use Rattle.ds_system.specs.Stands.{SystemEventLeads};
 ghost use Rattle.ds_system.specs.Since.{SystemRunLeads, SystemLawsHold, IsSystemRunFault};
@@ -72,13 +72,15 @@ impl System {
     /// hold the same, and no delivery is stopped by a clash or by another owner; and no Send and no Start of either server goes to
     /// an older generation.
     ///
-    /// TooMany above 65536 events, and NoRoom where there is no room for the outcomes: then nothing happens at all.
+    /// TooMany above 65536 events, and NoRoom where there is no room for the outcomes: then nothing happens at all. A run of no
+    /// events takes no memory.
     pub fn run(&mut self, events: SystemEvents) -> Result<SystemOutcomes, WorldFault>
         ensures one_each { IfOk result (λ outcomes. length outcomes ≡ length events) }
         ensures few { OnOk result (length events ≤ most_events) }
         ensures done { IfOk result (λ outcomes. SystemRunLeads events outcomes self.old self.new) }
         ensures laws { IfOk result (λ outcomes. SystemLawsHold events outcomes self.old self.new) }
         ensures refused { IfErr result (λ fault. IsSystemRunFault fault events) }
+        ensures room { IfErr result (λ fault. fault ≡ WorldFault.NoRoom → events ≢ []) }
         ensures unchanged { OnErr result (self.new ≡ self.old) }
     {
         if events.len() > MOST_EVENTS {

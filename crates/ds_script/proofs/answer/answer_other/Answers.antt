@@ -13,7 +13,7 @@ returns-in-Entries-clause-answered c =
     let m = option_copied c.map.result in
     on_ok c.append_entries.result
     (λ a. elim a [
-      | inl same ↦ (refused_noroom, same, entries_refused c.args.command c.in-Entries.map c.args.session.now c.in-Entries.is)
+      | inl refused ↦ (refused_noroom, refused.1, entries_refused c.args.command c.in-Entries.map c.args.session.now m c.in-Entries.is c.map.ensures refused.0)
       | inr same ↦ (entries_text m, same, entries_answers c.args.command c.in-Entries.map c.args.session.now m c.in-Entries.is c.map.ensures)
     ])
     c.append_entries.ensures.answered
