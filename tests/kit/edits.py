@@ -1,0 +1,108 @@
+"""Edits, as they stand in must-fail/ and wrong-bodies/ of a crate: what each changes, and which can be tried by one check."""
+import re
+from dataclasses import dataclass
+
+PARTS = ("src", "specs", "proofs")
+FUNCTION = re.compile(r"( *)(?:pub(?:\([^)]*\))? )?(?:const )?(?:unsafe )?fn (\w+)")
+IMPL = re.compile(r"impl (?:(?:\w+::)*(\w+) for )?(?:\w+::)*(\w+)")  # once what stands in angle brackets is gone
+MOST = 12  # edits that are tried by one check
+
+
+class BadEdit(Exception):
+    """Why an edit can't be tried."""
+
+
+def pairs(edit, crate):
+    """The edit's 'old:' and 'new:' texts, each with the path of its file in the crate."""
+    path, old, found = None, None, []
+    for line in edit.read_text().split("\n"):
+        word, _, rest = line.partition(":")
+        rest = rest.removeprefix(" ")
+        if word == "file":
+            path, old = rest.strip(), None
+            if path.split("/")[0] not in PARTS or not (crate / path).is_file():
+                raise BadEdit(f"there is no file {path}")
+        elif word == "old":
+            old = rest
+        elif word == "new":
+            if path is None or not old:
+                raise BadEdit("a 'new:' line stands before any 'file:' or 'old:' line")
+            found.append((path, old, rest))
+            old = None
+    if not found:
+        raise BadEdit("it has no 'old:' and 'new:' pair")
+    return found
+
+
+def replaced(edit, crate, texts=None):
+    """The texts that the edit makes of these and of the crate's, by their paths. Each 'old:' text stands once where it is applied."""
+    texts = dict(texts or {})
+    for path, old, new in pairs(edit, crate):
+        text = texts.get(path) or (crate / path).read_text()
+        if text.count(old) != 1:
+            raise BadEdit(f"an 'old:' text stands in {path} {text.count(old)} times, and not once")
+        texts[path] = text.replace(old, new)
+    return texts
+
+
+@dataclass(frozen=True)
+class Function:
+    """A function of a source file: its first line there, that where its body opens, its last, and what its name ends in."""
+
+    path: str
+    first: int
+    opening: int
+    last: int
+    name: str
+
+
+def functions(path, text):
+    """The functions of a source file. A method is known by its type, and by its trait behind that."""
+    lines, owner, found = text.split("\n"), "", []
+    module = "".join(f"{part}::" for part in path.removesuffix(".rt").split("/")[1:] if part not in ("lib", "main", "mod"))
+    for at, line in enumerate(lines, 1):
+        if line.startswith(("impl", "trait", "pub trait")):
+            header, left = line.partition("{")[0], None
+            while header != left:
+                header, left = re.sub(r"<[^<>]*>", "", header), header
+            of = IMPL.match(header)
+            owner = f"{of[2]}{of[1] or ''}::" if of else "?::"
+        elif line == "}":
+            owner = ""
+        head = FUNCTION.match(line)
+        if head:
+            opening = next((it for it, end in enumerate(lines[at - 1 :], at) if end.endswith("{")), at)
+            last = next((it for it, end in enumerate(lines[at:], at + 1) if end == head[1] + "}"), at)
+            found.append(Function(path, at, opening, last, f"::{owner or module}{head[2]}"))
+    return found
+
+
+def function_of(edit, crate):
+    """The one function whose body the edit changes; None where it changes more than that, as what callers know of it."""
+    found = set()
+    for path, old, _ in pairs(edit, crate):
+        text = (crate / path).read_text()
+        if not path.startswith("src/") or text.count(old) != 1:
+            return None
+        line = text[: text.index(old)].count("\n") + 1
+        found.add(next((it for it in functions(path, text) if it.opening < line <= it.last), None))
+    return found.pop() if len(found) == 1 else None
+
+
+def groups(edits, crate):
+    """The edits in groups, each of which changes a function at most once. What changes more than one function stands alone."""
+    alone, shared = [], []
+    for edit in edits:
+        try:
+            function = function_of(edit, crate)
+        except BadEdit:
+            function = None
+        if not function:
+            alone.append([edit])
+            continue
+        free = next((it for it in shared if function not in it.values() and len(it) < MOST), None)
+        if free is None:
+            free = {}
+            shared.append(free)
+        free[edit] = function
+    return [list(it) for it in shared] + alone

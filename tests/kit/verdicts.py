@@ -1,0 +1,54 @@
+"""What a check of a crate says of wrong bodies that were put into it."""
+import re
+
+# What rattle says at a place: '[note: ]FILE:LINE:COLUMN: ..'.
+PLACED = re.compile(r"(?:note: )?(?:\./)?([\w./+-]+\.(?:rt|antt)):(\d+):\d+: (.*)")
+# A proof that fails since it names what the edit took away says nothing of the contract.
+NAMES_ALONE = re.compile(r"has no field|is not in scope|has no `|was not admitted")
+# What can't be read, where an edit that only makes a statement false reads well.
+UNREAD = re.compile(r"is not in scope|has no field|is no name|operand is missing|expected the end|cannot continue")
+
+
+def judge(status, output, texts):
+    """Whether the prover refused the edited crate for what it does, and what it said of that."""
+    lines = output.splitlines()
+    if status == 0:
+        return False, "NOT REFUSED: the crate is still proved with this edit"
+    if status != 1 or not any(line.startswith("logic=not-proved") for line in lines):
+        return False, f"BAD EDIT: it did not reach the prover: {next((it for it in lines if 'error' in it), '')[:160]}"
+    placed = [(line, PLACED.match(line)) for line in lines]
+    placed = [(line, it[1], it[3]) for line, it in placed if it and (line.startswith("note: ") or ": error" in line)]
+    for line, file, said in placed:
+        is_own = file in texts or file.startswith(("src/", "specs/"))
+        if is_own and said.startswith("error: ") and (not re.match(r"error: `[^`]*`: ", said) or UNREAD.search(said)):
+            return False, f"BAD EDIT: the prover can't read the edited text: {line[:160]}"
+    content = [line for line, file, said in placed if not (file.startswith("proofs/") and NAMES_ALONE.search(said))]
+    if placed and not content:
+        return False, f"REFUSED FOR A NAME ALONE: {placed[0][0][:160]}"
+    unproved = [line for line in lines if re.match(r"(fn|impl|struct|enum) .*: no proof", line)]
+    return True, f"refused: {(content + unproved + ['without a place'])[0].removeprefix('note: ')[:300]}"
+
+
+def told(function, name, output):
+    """What a check says of one function: why it is refused, for what it does; or None, where that isn't told."""
+    lines = output.splitlines()
+    heads = [re.match(rf"fn ({name}::\S+): (.*)", line) for line in lines]
+    heads = [it for it in heads if it and f"::{it[1]}".endswith(function.name)]
+    if len(heads) != 1 or not re.match("not proved|no proof: expected answers", heads[0][2]):
+        return None
+    answers = f"proofs/{heads[0][1].removeprefix(name + '::').replace('::', '/')}/"
+    for line in lines:
+        placed = PLACED.match(line)
+        if not placed or not (line.startswith("note: src/") or ": error" in line):
+            continue
+        is_own = placed[1] == function.path and function.first <= int(placed[2]) <= function.last
+        if is_own or (placed[1].startswith(answers) and not NAMES_ALONE.search(placed[3])):
+            return f"refused: {line.removeprefix('note: ')[:300]}"
+    return None
+
+
+def is_read(status, output):
+    """Whether a check came to the proofs, and could read all texts."""
+    lines = output.splitlines()
+    unread = [it for it in map(PLACED.match, lines) if it and it[1].startswith(("src/", "specs/")) and it[3].startswith("error: ")]
+    return status == 1 and any(line.startswith("logic=not-proved") for line in lines) and not unread
