@@ -33,7 +33,7 @@ def told(function, name, output):
     """What a check says of one function: why it is refused, for what it does; or None, where that isn't told."""
     lines = output.splitlines()
     heads = [re.match(rf"fn ({name}::\S+): (.*)", line) for line in lines]
-    heads = [it for it in heads if it and f"::{it[1]}".endswith(function.name)]
+    heads = [it for it in heads if it and re.sub(r"\+\w+", "", f"::{it[1]}").endswith(function.name)]
     if len(heads) != 1 or not re.match("not proved|no proof: expected answers", heads[0][2]):
         return None
     answers = f"proofs/{heads[0][1].removeprefix(name + '::').replace('::', '/')}/"
