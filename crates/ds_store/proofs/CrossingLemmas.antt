@@ -23,10 +23,10 @@ content_sync =
 
 pub store_send : IsSend Store.the_row
 store_send =
-    let inside : IsSend in_store.the_row = declared_send in_store.the_type (search (send, sendable) depth 40, (search (content_send, sendable) depth 40, tt)) in
+    let inside : IsSend in_store.the_row = declared_send in_store.the_type (search (send, sendable) depth 40, (search (content_send, crosses, sendable) depth 40, tt)) in
     search (inside, sendable) depth 40
 
 pub store_sync : IsSync Store.the_row
 store_sync =
-    let inside : IsSync in_store.the_row = declared_sync in_store.the_type (search (sync, sendable) depth 40, (search (content_sync, sendable) depth 40, tt)) in
+    let inside : IsSync in_store.the_row = declared_sync in_store.the_type (search (sync, sendable) depth 40, (search (content_sync, crosses, sendable) depth 40, tt)) in
     search (inside, sendable) depth 40

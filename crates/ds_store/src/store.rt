@@ -6,6 +6,7 @@ ghost use Rattle.ds_held.specs.Held.{held_items, IsSound};
 ghost use Rattle.ds_held.specs.Limits.{larger};
 ghost use Rattle.ds_machine.specs.State.{State, opening};
 ghost use Rattle.ds_machine.specs.Machine.{Step};
+ghost use Rattle.ds_machine.specs.declared.refusal.Refusal.TheVariants.{NoRoom};
 ghost use Rattle.ds_machine.specs.Says.{IsReplyTo};
 ghost use Rattle.ds_judge.specs.Last.{IsLast};
 ghost use Rattle.ds_content.specs.Stands.{ContentStands};
@@ -33,7 +34,8 @@ mod sweeping;
 #[derive(Drop)]
 pub struct Store {
     alloc: Global,
-    content: Content,
+    /// In a place of its own, so that who moves or drops a store moves and drops no more than where that is.
+    content: Box<Content>,
 }
 
 impl Model for Store {
@@ -41,7 +43,7 @@ impl Model for Store {
 
     ghost Value = { ContentRecord };
 
-    ghost view = { λ s. s.content };
+    ghost view = { λ s. s.content.value };
 }
 
 // The refusal of a ring or of a first position.
@@ -52,6 +54,17 @@ fn refusal_of_opening(fault: OpenFault) -> Refusal
         OpenFault::BadRing => Refusal::BadRing,
         OpenFault::BadFirst => Refusal::BadFirst,
         OpenFault::NoRoom => Refusal::NoRoom,
+    }
+}
+
+// The store of a content.
+fn boxed(alloc: Global, content: Content) -> Result<Store, Refusal>
+    ensures made { IfOk result (λ store. store ≡ content) }
+    ensures refused { IfErr result (λ refusal. refusal ≡ NoRoom) }
+{
+    match Box::new(alloc, content) {
+        Ok(content) => Ok(Store { alloc, content }),
+        Err(_) => Err(Refusal::NoRoom),
     }
 }
 
@@ -80,7 +93,7 @@ impl Store {
         ensures refused { IfErr result (λ refusal. IsOpenRefusal refusal first ring) }
     {
         match Content::open(alloc, incarnation, first, ring, limits) {
-            Ok(content) => Ok(Store { alloc, content }),
+            Ok(content) => boxed(alloc, content),
             Err(fault) => Err(refusal_of_opening(fault)),
         }
     }

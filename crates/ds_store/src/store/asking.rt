@@ -16,6 +16,7 @@ ghost use Rattle.ds_store.specs.Asking.{asked_here};
 ghost use Rattle.ds_store.specs.Steps.{ContentSteps};
 
 use crate::store::Store;
+use ds_content::Content;
 use ds_entry::Body;
 use ds_judge::{Asked, Standing, answer_to, cause_of_asked, change_asked, is_void_under};
 use ds_machine::{Cause, Refusal, Reply};
@@ -32,17 +33,18 @@ impl Store {
         requires { IsPlace (changes_in self.now.held) asked.now.key place }
         ensures { (body : Body) → machine_standing result ≡ standing_in self.now (change_asked caller.now (request_of asked.now) body) }
     {
-        let _held = self.content.held();
+        let content: &Content = &self.content;
+        let _held = content.held();
         let owner = match caller {
             Some(name) => *name,
             None => Name::rs(),
         };
         Standing {
-            held: self.content.get_at(place),
-            void: is_void_under(self.content.floor(&owner), asked),
-            count: self.content.count(),
-            most: self.content.limits().keys(),
-            position: self.content.cursor().position,
+            held: content.get_at(place),
+            void: is_void_under(content.floor(&owner), asked),
+            count: content.count(),
+            most: content.limits().keys(),
+            position: content.cursor().position,
         }
     }
 

@@ -14,6 +14,7 @@ ghost use Rattle.ds_machine.specs.Standing.{IsFloorFree};
 ghost use Rattle.ds_store.specs.Steps.{ContentSteps};
 
 use crate::store::Store;
+use ds_content::Content;
 use ds_entry::{Change, Floor};
 use ds_judge::{FloorStanding, cause_of_sweep, sweep_answer};
 use ds_machine::{Cause, Command, Refusal, Reply};
@@ -48,10 +49,11 @@ impl Store {
     pub(super) fn floor_standing(&self, floor: &Floor) -> FloorStanding
         ensures { machine_floor_standing floor.now.owner result ≡ floor_standing_in self.now floor.now }
     {
+        let content: &Content = &self.content;
         FloorStanding {
-            held: self.content.floor(&floor.owner),
-            count: self.content.floor_count(),
-            position: self.content.cursor().position,
+            held: content.floor(&floor.owner),
+            count: content.floor_count(),
+            position: content.cursor().position,
         }
     }
 

@@ -24,18 +24,18 @@ returns-in-Some-clause-last c = λ e s stands.
 
 pub returns-clause-step : goal.returns-clause-step
 returns-clause-step c = λ s stands.
-    let v = c.self.inside.content in
+    let v = c.self.inside.content.value in
     let a = request_of c.args.asked.now in
     let here : ContentStands v s = subst (λ (x : ContentRecord). ContentStands x s) (sym c.self.view_is) stands in
     let change = c.change_asked-change.result in
     let none = sym (c.cause_against.ensures.first s stands) ∙ c.in_default.is in
     elim c.match-accept_at.branch [
       | in-Ok-accept_at w ↦
-          (let bits : w.number.result ≡ owed s (Changed change ∷ []) = owed_number s (Changed change) c.in-Ok.owed w.number.result w.number.ensures (c.in-Ok.ensures.owed s change here (ap (λ x. x.key) c.change_asked-change.ensures)) in (
+          (let bits : w.number.result ≡ owed s (Changed change ∷ []) = owed_number s (Changed change) c.in-Ok.owed w.number.result w.number.ensures (c.in-Ok.ensures.owed s change (subst (λ (x : ContentRecord). ContentStands x s) (sym c.deref-3.ensures) here) (ap (λ x. x.key) c.change_asked-change.ensures)) in (
             takes_effect s (Changed change ∷ []),
             subst (λ (r : Reply). Answers s (asking s a c.args.body) r (takes_effect s (Changed change ∷ []))) (sym w.result-is)
-                (asked_taken v s a c.args.body change w.number.result here none (c.change_asked-change.ensures ∙ ap (λ m. change_asked m a c.args.body) c.name_of-caller.ensures) bits),
-            w.in-Ok-accept_at.ensures.ok s here,
+                (asked_taken v s a c.args.body change w.number.result here none (c.change_asked-change.ensures ∙ ap (λ m. change_asked m a c.args.body) (c.name_of-caller.ensures ∙ ap (λ (x : ContentRecord). name_of x.held a.caller) c.deref-2.ensures)) bits),
+            w.in-Ok-accept_at.ensures.ok s (subst (λ (x : ContentRecord). ContentStands x s) (sym c.deref_mut.ensures.value) here),
           ))
-      | in-Err w ↦ (s, inr (record { reply_is = w.result-is; state_is = refl }), subst (λ (x : ContentRecord). ContentStands x s) (sym w.in-Err.ensures.err) here)
+      | in-Err w ↦ (s, inr (record { reply_is = w.result-is; state_is = refl }), subst (λ (x : ContentRecord). ContentStands x s) (sym w.in-Err.ensures.err) (subst (λ (x : ContentRecord). ContentStands x s) (sym c.deref_mut.ensures.value) here))
     ]

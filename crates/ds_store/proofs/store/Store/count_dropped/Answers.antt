@@ -20,7 +20,7 @@ loop-index-preserved c =
     let cs : List ChangeRecord = changes_in c.args.self.now.held in
     let p : ChangeRecord → Bool = λ (x : ChangeRecord). voids c.args.floor.now x && is_some (value_of x) in
     let i = c.loop-index.index in
-    let same : held_changes h ≡ cs = sym (changes_are h) ∙ ap changes_in (c.held-held.ensures.items ∙ ap (λ (x : ContentRecord). x.held) c.self.view_is) in
+    let same : held_changes h ≡ cs = sym (changes_are h) ∙ ap changes_in (c.held-held.ensures.items ∙ ap (λ (x : ContentRecord). x.held) (c.deref.ensures ∙ c.self.view_is)) in
     elim c.match-at.branch [
       | in-Some+then-is_dropped w ↦
           (let at : slice_get cs i ≡ Some w.in-Some.change.now = ap (λ (l : List ChangeRecord). slice_get l i) (sym same) ∙ sym (subst (λ o. option_copied o ≡ slice_get (held_changes h) i) w.in-Some.is c.at.ensures.value) in
@@ -43,7 +43,7 @@ returns c =
     let h = c.held-held.result.now in
     let cs : List ChangeRecord = changes_in c.args.self.now.held in
     let p : ChangeRecord → Bool = λ (x : ChangeRecord). voids c.args.floor.now x && is_some (value_of x) in
-    let same : held_changes h ≡ cs = sym (changes_are h) ∙ ap changes_in (c.held-held.ensures.items ∙ ap (λ (x : ContentRecord). x.held) c.self.view_is) in
+    let same : held_changes h ≡ cs = sym (changes_are h) ∙ ap changes_in (c.held-held.ensures.items ∙ ap (λ (x : ContentRecord). x.held) (c.deref.ensures ∙ c.self.view_is)) in
     let long : length (held_changes h) ≡ length cs = ap (λ (l : List ChangeRecord). length l) same in
     let end : length cs ≤ c.loop-index.index = omega (arith, long, c.loop-index-test.false, c.len-most.ensures.count, count_is h) in
     c.loop-index.invariant.counted ∙ ap (λ (l : List ChangeRecord). length (filter p l)) (few_taken c.loop-index.index cs end)

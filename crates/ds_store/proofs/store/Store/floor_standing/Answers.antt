@@ -8,7 +8,7 @@ use Rattle.ds_content.specs.Standing.{floor_standing_in}
 
 pub returns : goal.returns
 returns c =
-    let v = c.self.inside.content in
+    let v = c.deref-content.result.now in
     let f = c.args.floor.now in
     floor_told_same v f _ c.floor_count.result c.cursor.result.position (ap (option_map (floor_of f.owner)) c.floor.ensures ∙ floor_back v.held f.owner) c.floor_count.ensures.count (ap (λ x. x.position) c.cursor.ensures.value)
-    ∙ ap (λ (x : ContentRecord). floor_standing_in x f) c.self.view_is
+    ∙ ap (λ (x : ContentRecord). floor_standing_in x f) (c.deref-content.ensures ∙ c.self.view_is)

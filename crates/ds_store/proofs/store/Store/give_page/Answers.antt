@@ -1,4 +1,4 @@
-use Rattle.std.proofs.Common.{◌≡◌, sym, subst, IfOk}
+use Rattle.std.proofs.Common.{◌≡◌, sym, ◌∙◌, subst, IfOk}
 use Rattle.ds_feed.specs.Page.{page_of}
 use Rattle.ds_feed.specs.declared.reading.Page.{Page}
 use Rattle.ds_machine.specs.Scope.{is_kept}
@@ -10,5 +10,5 @@ use Rattle.ds_store.proofs.store.Store.give_page.Goals as goal
 
 pub returns-in-Ok : goal.returns-in-Ok
 returns-in-Ok c = λ s stands.
-    let here : ContentStands c.self.inside.content s = subst (λ (x : ContentRecord). ContentStands x s) (sym c.self.view_is) stands in
+    let here : ContentStands c.deref.result.now s = subst (λ (x : ContentRecord). ContentStands x s) (sym (c.deref.ensures ∙ c.self.view_is)) stands in
     subst (λ (x : Scope). IfOk c.page.result (λ (page : Page). page ≡ page_of (is_kept x) c.args.after c.args.max (held s) (cursor s))) c.in-Ok.ensures.asks (c.page.ensures.stands s here)

@@ -17,10 +17,10 @@ under_read s asked read e given answer since is same at max h =
 
 pub returns-in-Ok-given-clause-given : goal.returns-in-Ok-given-clause-given
 returns-in-Ok-given-clause-given c = λ s stands.
-    let here : ContentStands c.self.inside.content s = subst (λ (x : ContentRecord). ContentStands x s) (sym c.self.view_is) stands in
+    let here : ContentStands c.self.inside.content.value s = subst (λ (x : ContentRecord). ContentStands x s) (sym c.self.view_is) stands in
     elim c.match-asker.branch [
-      | in-Ok+in-Under-1 w ↦ under_read s _ _ w.in-Ok.ensures.asks c.match-asker.given w.since-given.result c.in-Ok-given.since c.in-Ok-given.is w.given-is c.args.cursor c.args.max (w.since-given.ensures.given s here)
-      | in-Ok+in-All-1 w ↦ under_read s _ _ w.in-Ok.ensures.asks c.match-asker.given w.since-given.result c.in-Ok-given.since c.in-Ok-given.is w.given-is c.args.cursor c.args.max (w.since-given.ensures.given s here)
+      | in-Ok+in-Under-1 w ↦ under_read s _ _ w.in-Ok.ensures.asks c.match-asker.given w.since-given.result c.in-Ok-given.since c.in-Ok-given.is w.given-is c.args.cursor c.args.max (w.since-given.ensures.given s (subst (λ (x : ContentRecord). ContentStands x s) (sym w.deref.ensures) here))
+      | in-Ok+in-All-1 w ↦ under_read s _ _ w.in-Ok.ensures.asks c.match-asker.given w.since-given.result c.in-Ok-given.since c.in-Ok-given.is w.given-is c.args.cursor c.args.max (w.since-given.ensures.given s (subst (λ (x : ContentRecord). ContentStands x s) (sym w.deref.ensures) here))
       | in-Err+in-Ok-1 w ↦ elim w.match-since.branch [
         | in-Ok-since x ↦ (let is : c.match-asker.given ≡ Ok c.in-Ok-given.since = c.in-Ok-given.is in let other : c.match-asker.given ≡ w.match-since.given = w.given-is in let no = x.given-is in absurd (cc))
         | in-Err-since x ↦ (let is : c.match-asker.given ≡ Ok c.in-Ok-given.since = c.in-Ok-given.is in let other : c.match-asker.given ≡ w.match-since.given = w.given-is in let no = x.given-is in absurd (cc))

@@ -20,10 +20,10 @@ returns-in-Some-clause-last c = λ e s stands.
 
 pub returns-clause-owed : goal.returns-clause-owed
 returns-clause-owed c = λ s stands.
-    let here : ContentStands c.self.inside.content s = subst (λ (x : ContentRecord). ContentStands x s) (sym c.self.view_is) stands in
+    let here : ContentStands c.self.inside.content.value s = subst (λ (x : ContentRecord). ContentStands x s) (sym c.self.view_is) stands in
     elim c.match-accept_at.branch [
       | in-Ok-accept_at w ↦
-          w.total-is ∙ w.add.ensures ∙ ap (either c.args.total.now) (c.in-Ok.ensures.owed s c.args.change.now here (sym c.key-2.ensures.value))
+          w.total-is ∙ w.add.ensures ∙ ap (either c.args.total.now) (c.in-Ok.ensures.owed s c.args.change.now (subst (λ (x : ContentRecord). ContentStands x s) (sym c.deref-2.ensures) here) (sym c.key-2.ensures.value))
           ∙ sym (ap (λ r. owed_after r c.args.total.now (padded (map (is_owed (Changed c.args.change.now ∷ [])) s.subscriptions))) w.result-is)
       | in-Err w ↦ w.total-is ∙ sym (ap (λ r. owed_after r c.args.total.now (padded (map (is_owed (Changed c.args.change.now ∷ [])) s.subscriptions))) w.result-is)
     ]

@@ -12,15 +12,15 @@ use Rattle.ds_entry.specs.Left.{value_in, value_of}
 
 pub returns-in-Err-clause-in_place : goal.returns-in-Err-clause-in_place
 returns-in-Err-clause-in_place c = λ p e.
-    let here : held_at c.self.inside.content.held c.args.key ≡ Some c.in-Some.change.now = sym c.in-Some.ensures.value in
+    let here : held_at c.deref.result.now.held c.args.key ≡ Some c.in-Some.change.now = sym c.in-Some.ensures.value in
     let put = sym c.body.ensures.value ∙ c.in-Put.is in
-    let no : false ≡ true = c.in-Err.ensures.in_place (found_in_place c.self.inside.content.held c.args.key c.in-Some.change.now c.in-Put.value here c.in-Some.ensures.change put p) in
+    let no : false ≡ true = c.in-Err.ensures.in_place (found_in_place c.deref.result.now.held c.args.key c.in-Some.change.now c.in-Put.value here c.in-Some.ensures.change put p) in
     absurd (cc)
 
 pub returns-in-Err-clause-last : goal.returns-in-Err-clause-last
 returns-in-Err-clause-last c = λ s stands.
-    let v = c.self.inside.content in
-    let here : ContentStands v s = subst (λ (x : ContentRecord). ContentStands x s) (sym c.self.view_is) stands in
+    let v = c.deref.result.now in
+    let here : ContentStands v s = subst (λ (x : ContentRecord). ContentStands x s) (sym (c.deref.ensures ∙ c.self.view_is)) stands in
     let found : held_at v.held c.args.key ≡ Some c.in-Some.change.now = sym c.in-Some.ensures.value in
     let put = sym c.body.ensures.value ∙ c.in-Put.is in
     let live : live_at s c.args.key ≡ Some c.in-Put.value =

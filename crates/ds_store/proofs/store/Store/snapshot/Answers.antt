@@ -13,7 +13,7 @@ use Rattle.ds_store.proofs.store.Store.snapshot.Goals as goal
 
 pub returns-in-Ok-snapshot-clause-answer : goal.returns-in-Ok-snapshot-clause-answer
 returns-in-Ok-snapshot-clause-answer c = λ s stands.
-    let here : ContentStands c.self.inside.content s = subst (λ (x : ContentRecord). ContentStands x s) (sym c.self.view_is) stands in
+    let here : ContentStands c.deref.result.now s = subst (λ (x : ContentRecord). ContentStands x s) (sym (c.deref.ensures ∙ c.self.view_is)) stands in
     free_answer s (first_refusal (against_scope c.args.scope.now)) (Snapped (snapshot_of (is_kept c.args.scope.now) (held s) (cursor s))) (Snapped c.in-Ok-snapshot.snapshot)
     c.in-Ok.ensures.none
     (ap Snapped (c.in-Ok-snapshot.ensures.stands s here ∙ ap (λ (x : Scope). snapshot_of (is_kept x) (held s) (cursor s)) (c.in-Ok-asker.ensures.asks ∙ c.in-Ok.ensures.read)))
