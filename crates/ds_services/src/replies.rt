@@ -1,6 +1,6 @@
 //! Lists of replies.
 
-ghost use Rattle.std.specs.Prelude.{◌≡◌, ◌++◌, ◌∷◌, [], length, slice_get, OnOk, IfErr, OnErr, IfOk};
+ghost use Rattle.std.specs.Prelude.{◌≡◌, ◌≢◌, ◌++◌, ◌∷◌, [], length, slice_get, OnOk, IfErr, OnErr, IfOk};
 ghost use Rattle.std.specs.Option.{option_copied};
 
 use ds_machine::Reply;
@@ -63,9 +63,10 @@ impl Replies {
         self.replies.get(index)
     }
 
-    /// The same replies again, in the same order.
+    /// The same replies again, in the same order. The copy of none takes no memory.
     pub fn copy(&self, alloc: Global) -> Result<Replies, NoRoom>
-        ensures { IfOk result (λ copy. copy ≡ self.now) }
+        ensures same { IfOk result (λ copy. copy ≡ self.now) }
+        ensures room { OnErr result (self.now ≢ []) }
     {
         let mut replies = Vec::new(alloc);
         for reply in &self.replies {

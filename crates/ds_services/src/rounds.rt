@@ -1,6 +1,6 @@
 //! Lists of rounds of moves.
 
-ghost use Rattle.std.specs.Prelude.{◌≡◌, ◌++◌, ◌∷◌, [], length, slice_get, OnOk, IfErr, OnErr, IfOk};
+ghost use Rattle.std.specs.Prelude.{◌≡◌, ◌≢◌, ◌++◌, ◌∷◌, [], length, slice_get, OnOk, IfErr, OnErr, IfOk};
 ghost use Rattle.std.specs.Option.{option_copied};
 
 use driver_tables::Moves;
@@ -63,9 +63,10 @@ impl Rounds {
         self.rounds.get(index)
     }
 
-    /// The same rounds again, in the same order.
+    /// The same rounds again, in the same order. The copy of none takes no memory.
     pub fn copy(&self, alloc: Global) -> Result<Rounds, NoRoom>
-        ensures { IfOk result (λ copy. copy ≡ self.now) }
+        ensures same { IfOk result (λ copy. copy ≡ self.now) }
+        ensures room { OnErr result (self.now ≢ []) }
     {
         let mut rounds = Vec::new(alloc);
         for round in &self.rounds {

@@ -7,6 +7,7 @@ ghost use Rattle.ds_machine.specs.Machine.{Step};
 ghost use Rattle.ds_machine.specs.declared.command.Command.TheVariants.{Merge};
 ghost use Rattle.ds_judge.specs.Last.{IsLast};
 ghost use Rattle.ds_content.specs.Stands.{ContentStands};
+ghost use Rattle.ds_store.specs.Steps.{ContentSteps};
 ghost use Rattle.ds_replica.specs.declared.event.Event.TheVariants.{Ask};
 ghost use Rattle.ds_replica.specs.declared.outcome.Outcome.TheVariants.{Replied};
 ghost use Rattle.ds_replica.specs.Happens.{gives_items};
@@ -40,7 +41,7 @@ fn apply(a: &mut Store, b: &mut Store, side: Side, command: Command) -> Reply
 
 // Asks a store to merge an item.
 fn merge_item(store: &mut Store, item: &Item) -> Reply
-    ensures step { (s : State) → ContentStands store.old s → (t : State) × Step s (Merge (item.now ∷ [])) result t × ContentStands store.new t }
+    ensures step { ContentSteps store.old (λ s t. Step s (Merge (item.now ∷ [])) result t) store.new }
     ensures last { (s : State) → ContentStands store.old s → IsLast s (Merge (item.now ∷ [])) result }
     ensures fits { IsReplyTo (Merge (item.now ∷ [])) result }
 {

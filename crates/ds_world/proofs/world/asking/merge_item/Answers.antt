@@ -6,11 +6,12 @@ use Rattle.ds_machine.specs.Says.{IsReplyTo}
 use Rattle.ds_machine.specs.declared.command.Command.TheVariants.{Merge}
 use Rattle.ds_judge.specs.Last.{IsLast}
 use Rattle.ds_content.specs.Stands.{ContentStands}
+use Rattle.ds_store.specs.Steps.{ContentSteps}
 use Rattle.ds_world.proofs.world.asking.merge_item.Goals as goal
 
 pub returns-clause-step : goal.returns-clause-step
 returns-clause-step c =
-    subst (λ (x : List Item). (s : State) → ContentStands c.args.store.now s → (t : State) × Step s (Merge x) c.merge.result t × ContentStands c.merge.new.self t) c.from_ref-items.ensures.value c.merge.ensures.step
+    subst (λ (x : List Item). ContentSteps c.args.store.now (λ s t. Step s (Merge x) c.merge.result t) c.merge.new.self) c.from_ref-items.ensures.value c.merge.ensures.step
 
 pub returns-clause-last : goal.returns-clause-last
 returns-clause-last c = subst (λ (x : List Item). (s : State) → ContentStands c.args.store.now s → IsLast s (Merge x) c.merge.result) c.from_ref-items.ensures.value c.merge.ensures.last
