@@ -71,7 +71,7 @@ fn boxed(alloc: Global, content: Content) -> Result<Store, Refusal>
 impl Store {
     /// A store of this incarnation that holds nothing yet and whose first item will have the position `first`, for 128
     /// subscriptions and 4096 keys. BadRing unless the ring is 1 to 4096, then BadFirst above 2^62, and NoRoom last, for the
-    /// ring.
+    /// ring and for the store's place.
     pub fn open(alloc: Global, incarnation: u64, first: u64, ring: u32) -> Result<Store, Refusal>
         ensures opened { IfOk result (λ store. ContentStands store (opening incarnation first ring larger)) }
         ensures fits { OnOk result (IsRing ring × (first ≤ last_place)) }
