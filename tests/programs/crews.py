@@ -20,11 +20,18 @@ UNREAD = ("2", "two 3", "2 3 ", "2 -1", "0 1", "65 1")  # and of no threads ther
 class Crews:
     """Crews that share one thing; `words` are those of an answer between its numbers, that with ample memory first."""
 
+    program = 0  # of those that tests/soak is given
+
     def __init__(self, shared, sizes, *words):
         self.shared, self.sizes, self.words = shared, sizes, words
 
     def asked(self, threads, calls):
         return f"{self.shared} {threads} {calls}\n".encode()
+
+    def size(self, threads, calls):
+        """What such a crew does, for the sums of tests/soak."""
+        done = {f"calls of a {self.shared}": calls, "takes of notices": calls // 4, "notes that are learnt": calls // 8}
+        return {**{what: threads * count for what, count in done.items()}, "threads": threads}
 
     def lines_of(self, threads, calls):
         """The lines that may answer a crew, that with ample memory first."""

@@ -1,0 +1,44 @@
+"""What tests/programs/live and tests/soak ask of `dsctl live`: threads at two desks, one of which exchanges what their stores hold.
+
+Whatever turns the threads take, the report of some sizes is one. Where memory or a thread is wanting, the run ends by a word and
+prints nothing, or nothing came of it.
+"""
+import pathlib
+
+import harness
+
+DEFAULTS = (2, 2, 3)  # publishers, subscribers, and the turns of each worker
+MOST_EACH, MOST_TURNS = 8, 1000
+ENDS = (b"noroom\n", b"nothread\n", b"stopped\n")  # how a run may end for want of memory
+
+
+def words_of(sizes):
+    """The words that ask for so many publishers, subscribers and turns; none for the defaults."""
+    publishers, subscribers, changes = map(str, sizes)
+    options = ["--publishers", publishers, "--subscribers", subscribers, "--changes", changes]
+    return ["live"] + (options if sizes != DEFAULTS else [])
+
+
+def report_of(sizes):
+    """What a run reports: a label and a number of each publisher, and all is as it is to be."""
+    return f"entries {2 * sizes[0]}\nmaps equal\nreplicas equal\naccount exact\n".encode()
+
+
+def fault(program, sizes):
+    """Runs these sizes, and says what is wrong with the answer, or answers None."""
+    ran = harness.run([program, *words_of(sizes)], b"")
+    wrong = harness.difference(ran.output, report_of(sizes))
+    return wrong or (None if (ran.status, ran.error) == (0, b"") else f"status {ran.status}, standard error {ran.error[:200]!r}")
+
+
+def case_of(sizes, room):
+    empty = pathlib.Path(room) / "empty"
+    empty.write_bytes(b"")
+    return harness.Case(f"live {sizes}", words_of(sizes), empty, report_of(sizes))
+
+
+def refused_fault(ran, sizes):
+    """Says what is wrong with a run of which one growth was refused, or answers None."""
+    if (ran.status, ran.error, ran.output) == (0, b"", report_of(sizes)) or (ran.status == 3 and ran.error in ENDS and ran.output == b""):
+        return None
+    return f"status {ran.status}, output {ran.output[:200]!r}, standard error {ran.error[:200]!r}"
