@@ -1,7 +1,7 @@
 -- What Merges give, one after the other.
-use Rattle.std.proofs.Common.{◌≡◌, ◌⊎◌, ℕ, ◌+◌, ◌-◌, ◌<◌, ◌≤◌, List, [], ◌∷◌, ◌++◌, length, take, drop, Result, Ok, Err, refl, ap, sym, ◌∙◌, subst, inl, inr, arith, append-nil, append_assoc, length-append, length-drop}
+use Rattle.std.proofs.Common.{◌≡◌, ◌≢◌, ◌⊎◌, ℕ, ◌+◌, ◌-◌, ◌<◌, ◌≤◌, List, [], ◌∷◌, ◌++◌, length, take, drop, Result, Ok, Err, refl, ap, sym, ◌∙◌, subst, inl, inr, arith, append-nil, append_assoc, length-append, length-drop}
 use Rattle.std.specs.List.{AllByRecursion}
-use Rattle.std.specs.Result.{IfOk}
+use Rattle.std.specs.Result.{IfErr, IfOk}
 use Rattle.std.proofs.lemmas.List.{take-append-drop}
 use Rattle.std.proofs.lemmas.List.Concat.{flat_map-append}
 use Rattle.std.proofs.lemmas.List.Elements.{Contains-append_cases}
@@ -29,9 +29,9 @@ use Rattle.ds_follow.proofs.MergedLemmas.{held_stays}
 use Rattle.ds_pass.specs.Called.{FoundWorn, Made, MadeCall}
 use Rattle.ds_pass.specs.Record.{AfterEach, HasLegalHistory, PassRecord}
 use Rattle.ds_pass.specs.declared.fault.LiveFault.{LiveFault}
-use Rattle.ds_pass.specs.declared.fault.LiveFault.TheVariants.{Stopped}
+use Rattle.ds_pass.specs.declared.fault.LiveFault.TheVariants.{NoRoom, Stopped}
 use Rattle.ds_pass.proofs.RecordLemmas.{call_last, made_more, made_none}
-use Rattle.ds_exchange.specs.Faults.{IsGivingFault, TellsStop}
+use Rattle.ds_exchange.specs.Faults.{IsGivingFault, LeavesSome, TellsStop}
 use Rattle.ds_exchange.specs.Giving.{AreMerges, GivesAll, GivesOnly, IsWholeMerge, all_given, taken_in_all, taken_told, items_merged}
 
 -- ---- lists of Merges
@@ -117,7 +117,28 @@ only_behind p q r xs ys m a o = record {
 pub only_more : (p q : PassRecord) (xs ys : List Item) → GivesOnly p q xs → GivesOnly p q (xs ++ ys)
 only_more p q xs ys o = record { own = o.own; made = o.made; merges = o.merges; in_order = prefix_append (all_given o.own) xs ys o.in_order }
 
+-- ---- some items are left
+pub leaves_rest : (p q : PassRecord) (items front rest : List Item) (m : ℕ) → GivesAll p q front m → front ++ rest ≡ items → 0 < length rest → LeavesSome p q items
+leaves_rest p q items front rest m g whole some = record {
+  own = g.own;
+  made = g.made;
+  merges = g.merges;
+  left = omega (arith, some, ap (λ (l : List Item). length l) g.items_are, ap (λ (l : List Item). length l) whole, length-append front rest);
+}
+
+pub leaves_behind : (p q r : PassRecord) (xs ys : List Item) (m : ℕ) → GivesAll p q xs m → LeavesSome q r ys → LeavesSome p r (xs ++ ys)
+leaves_behind p q r xs ys m a o = record {
+  own = a.own ++ o.own;
+  made = made_more p q r a.own o.own a.made o.made;
+  merges = whole_both a.own o.own a.merges o.merges;
+  left = omega (arith, o.left, ap (λ (l : List Item). length l) (given_both a.own o.own), length-append (all_given a.own) (all_given o.own), ap (λ (l : List Item). length l) a.items_are, length-append xs ys);
+}
+
 -- ---- one Merge
+pub stop_lacks_no_room : {T : Type 0} (reply : Reply) (result : Result T LiveFault) → IfErr result (TellsStop reply) → IfErr result (λ fault. fault ≢ NoRoom)
+stop_lacks_no_room reply (Ok taken) told = tt
+stop_lacks_no_room reply (Err fault) told = λ none. subst (λ (f : LiveFault). TellsStop reply f) none told
+
 module _ (p q : PassRecord) (items : List Item) (reply : Reply) (place : ℕ) (some : 0 < length items) (few : length items ≤ most_items) (c : MadeCall p q (Merge items) reply place) where
   call : Entry Command Reply
   call = entry p.origin.number (Merge items) reply

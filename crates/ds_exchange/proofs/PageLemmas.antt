@@ -18,9 +18,10 @@ use Rattle.ds_pass.specs.Record.{PassRecord}
 use Rattle.ds_pass.proofs.RecordLemmas.{made_more, made_none}
 use Rattle.ds_exchange.specs.Asking.{AsksOpenPages, GoesByPages, TellsPage, TellsSince}
 use Rattle.ds_exchange.specs.Exchange.{Exchanges, ExchangesOnly}
+use Rattle.ds_exchange.specs.Faults.{FoundNoRoom, LacksRoom, LeavesSome}
 use Rattle.ds_exchange.specs.Giving.{GivesAll, GivesOnly}
 use Rattle.ds_exchange.specs.Telling.{AsksInTurn, AsksPages, IsOpenPage, all_told, cursor_told, first_told, items_told, page_asked, since_asked}
-use Rattle.ds_exchange.proofs.GivingLemmas.{gives_both, gives_none, only_all, only_behind, only_none}
+use Rattle.ds_exchange.proofs.GivingLemmas.{gives_both, gives_none, leaves_behind, only_all, only_behind, only_none}
 
 -- ---- what was told
 pub told_both : (own more : List (Entry Command Reply)) → all_told (own ++ more) ≡ all_told own ++ all_told more
@@ -38,6 +39,9 @@ module _ (p q : PassRecord) (from : Cursor) where
   pub since_fails : (r : PassRecord) → AsksOnce p q (since_asked from) → ExchangesOnly p q r r (Some from)
   since_fails r o = record { own = o.own; made = o.made; asks = since_asks o.own o.once; gives = only_none r (all_told o.own) }
 
+  pub since_lacks : (r : PassRecord) → FoundNoRoom p q → LacksRoom p q r r
+  since_lacks r f = inl (record { before = []; last = f.call; made = f.made; refused = f.refused; taken = 0; gives = gives_none r })
+
   module _ (r s : PassRecord) (since : readings.Since) (t : TellsSince p q from since) where
     journal_told : all_told (t.call ∷ []) ≡ since.items
     journal_told = told_once t.call (Journaled since) t.reply_is
@@ -49,6 +53,9 @@ module _ (p q : PassRecord) (from : Cursor) where
       asks = (t.command_is, refl);
       gives = subst (λ (l : List Item). GivesOnly r s l) (sym journal_told) o;
     }
+
+    pub since_leaves : LeavesSome r s since.items → LacksRoom p q r s
+    since_leaves o = inr (record { own = t.call ∷ []; made = t.made; leaves = subst (λ (l : List Item). LeavesSome r s l) (sym journal_told) o })
 
     pub since_ends : (taken : ℕ) → GivesAll r s since.items taken →
         Exchanges p q r s (Some from) (record { cursor = since.cursor; done = length since.items; taken = taken; more = nat_le most_items (length since.items) })
@@ -97,6 +104,16 @@ module _ (p q r s next : PassRecord) (after : Option Key) (first : Option Cursor
     gives = subst (λ (l : List Item). GivesOnly r s l) (sym (told_both k.own o.own)) (only_all r s (all_told k.own) (all_told o.own) taken k.gives);
   }
 
+  pub page_lacks : FoundNoRoom q next → LacksRoom p next r s
+  page_lacks f = inl (record {
+    before = k.own;
+    last = f.call;
+    made = made_more p q next k.own (f.call ∷ []) k.made f.made;
+    refused = f.refused;
+    taken = taken;
+    gives = k.gives;
+  })
+
   -- it was, and so much of it was given
   module _ (new : PassRecord) (page : Leaf) (t : TellsPage q next after page) where
     made_page : Made p next (k.own ++ t.call ∷ [])
@@ -115,6 +132,13 @@ module _ (p q r s next : PassRecord) (after : Option Key) (first : Option Cursor
       asks = asks_page;
       gives = subst (λ (l : List Item). GivesOnly r new l) (sym page_told) (only_behind r s new (all_told k.own) page.items taken k.gives o);
     }
+
+    pub page_leaves : LeavesSome s new page.items → LacksRoom p next r new
+    page_leaves o = inr (record {
+      own = k.own ++ t.call ∷ [];
+      made = made_page;
+      leaves = subst (λ (l : List Item). LeavesSome r new l) (sym page_told) (leaves_behind r s new (all_told k.own) page.items taken k.gives o);
+    })
 
     module _ (n : ℕ) (g : GivesAll s new page.items n) where
       gives_page : GivesAll r new (all_told (k.own ++ t.call ∷ [])) (taken + n)

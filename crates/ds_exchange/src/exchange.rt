@@ -5,7 +5,7 @@ ghost use Rattle.desk.specs.Desk.{identity};
 ghost use Rattle.desk.specs.Pass.{desk_of};
 ghost use Rattle.ds_pass.specs.Record.{pass_record as seen};
 ghost use Rattle.ds_exchange.specs.Exchange.{Exchanges, ExchangesOnly};
-ghost use Rattle.ds_exchange.specs.Faults.{IsExchangeFault};
+ghost use Rattle.ds_exchange.specs.Faults.{IsExchangeFault, LacksRoom};
 
 use crate::giving::give;
 use crate::telling::{ask_page, ask_since};
@@ -50,6 +50,8 @@ pub fn exchange_once<W: Wait>(
     ensures only { ExchangesOnly (seen pass_a.old) (seen pass_a.new) (seen pass_b.old) (seen pass_b.new) from }
     ensures exchanged { IfOk result (Exchanges (seen pass_a.old) (seen pass_a.new) (seen pass_b.old) (seen pass_b.new) from) }
     ensures fault { IfErr result (IsExchangeFault (seen pass_a.new) (seen pass_b.new)) }
+    ensures room { IfErr result (λ fault. fault ≡ LiveFault.NoRoom →
+        LacksRoom (seen pass_a.old) (seen pass_a.new) (seen pass_b.old) (seen pass_b.new)) }
 {
     match from {
         Some(cursor) => exchange_since(rt, a, pass_a, b, pass_b, cursor),
@@ -73,6 +75,8 @@ fn exchange_since<W: Wait>(
     ensures only { ExchangesOnly (seen pass_a.old) (seen pass_a.new) (seen pass_b.old) (seen pass_b.new) (Some from) }
     ensures exchanged { IfOk result (Exchanges (seen pass_a.old) (seen pass_a.new) (seen pass_b.old) (seen pass_b.new) (Some from)) }
     ensures fault { IfErr result (IsExchangeFault (seen pass_a.new) (seen pass_b.new)) }
+    ensures room { IfErr result (λ fault. fault ≡ LiveFault.NoRoom →
+        LacksRoom (seen pass_a.old) (seen pass_a.new) (seen pass_b.old) (seen pass_b.new)) }
 {
     let Since { items, cursor } = ask_since(rt, a, pass_a, from)?;
     let done = items.len();
@@ -100,6 +104,8 @@ fn exchange_pages<W: Wait>(
     ensures only { ExchangesOnly (seen pass_a.old) (seen pass_a.new) (seen pass_b.old) (seen pass_b.new) None }
     ensures exchanged { IfOk result (Exchanges (seen pass_a.old) (seen pass_a.new) (seen pass_b.old) (seen pass_b.new) None) }
     ensures fault { IfErr result (IsExchangeFault (seen pass_a.new) (seen pass_b.new)) }
+    ensures room { IfErr result (λ fault. fault ≡ LiveFault.NoRoom →
+        LacksRoom (seen pass_a.old) (seen pass_a.new) (seen pass_b.old) (seen pass_b.new)) }
 {
     let mut done = 0u128;
     let mut taken = 0u128;

@@ -1,11 +1,11 @@
 //! What is given to the other store.
 
-ghost use Rattle.std.specs.Prelude.{◌≡◌, ℕ, ◌<◌, ◌≤◌, length, take, drop, IfOk, IfErr, OnOk};
+ghost use Rattle.std.specs.Prelude.{◌≡◌, ◌≢◌, ℕ, ◌<◌, ◌≤◌, length, take, drop, IfOk, IfErr, OnOk};
 ghost use Rattle.desk.specs.Desk.{identity};
 ghost use Rattle.desk.specs.Pass.{desk_of};
 ghost use Rattle.ds_machine.specs.Says.{IsMergeReply};
 ghost use Rattle.ds_pass.specs.Record.{pass_record};
-ghost use Rattle.ds_exchange.specs.Faults.{IsGivingFault, TellsStop};
+ghost use Rattle.ds_exchange.specs.Faults.{IsGivingFault, LeavesSome, TellsStop};
 ghost use Rattle.ds_exchange.specs.Giving.{GivesAll, GivesOnly};
 
 use desk::{Desk, Pass};
@@ -32,6 +32,7 @@ pub(crate) fn give<W: Wait>(
     ensures only { GivesOnly (pass_record pass.old) (pass_record pass.new) items }
     ensures given { IfOk result (GivesAll (pass_record pass.old) (pass_record pass.new) items) }
     ensures fault { IfErr result (IsGivingFault (pass_record pass.new)) }
+    ensures room { IfErr result (λ fault. fault ≡ LiveFault.NoRoom → LeavesSome (pass_record pass.old) (pass_record pass.new) items) }
 {
     let _most = items.len();
     let mut rest = items;
@@ -67,6 +68,7 @@ fn give_part<W: Wait>(
     ensures only { GivesOnly (pass_record pass.old) (pass_record pass.new) part }
     ensures given { IfOk result (GivesAll (pass_record pass.old) (pass_record pass.new) part) }
     ensures fault { IfErr result (IsGivingFault (pass_record pass.new)) }
+    ensures room { IfErr result (λ fault. fault ≢ LiveFault.NoRoom) }
 {
     let answer = ask_desk(rt, desk, pass, Command::Merge { items: part })?;
     taken_of(&answer.reply)

@@ -9,6 +9,7 @@ ghost use Rattle.ds_pass.specs.Called.{AsksOnce};
 ghost use Rattle.ds_pass.specs.Faults.{IsFaultOf, TellsRefusal};
 ghost use Rattle.ds_pass.specs.Record.{pass_record, place_behind};
 ghost use Rattle.ds_exchange.specs.Asking.{TellsPage, TellsSince};
+ghost use Rattle.ds_exchange.specs.Faults.{FoundNoRoom};
 ghost use Rattle.ds_exchange.specs.Telling.{page_asked, since_asked};
 
 use desk::{Desk, Pass};
@@ -34,6 +35,7 @@ pub(crate) fn ask_since<W: Wait>(
     ensures only { AsksOnce (pass_record pass.old) (pass_record pass.new) (since_asked cursor) }
     ensures told { IfOk result (TellsSince (pass_record pass.old) (pass_record pass.new) cursor) }
     ensures fault { IfErr result (IsFaultOf (pass_record pass.new)) }
+    ensures room { IfErr result (λ fault. fault ≡ LiveFault.NoRoom → FoundNoRoom (pass_record pass.old) (pass_record pass.new)) }
 {
     let command = Command::Since {
         scope: Scope::All,
@@ -57,6 +59,7 @@ pub(crate) fn ask_page<W: Wait>(
     ensures told { IfOk result (TellsPage (pass_record pass.old) (pass_record pass.new) after) }
     ensures place { OnOk result (place_behind (pass_record pass.new) ≤ 2 ^ 62) }
     ensures fault { IfErr result (IsFaultOf (pass_record pass.new)) }
+    ensures room { IfErr result (λ fault. fault ≡ LiveFault.NoRoom → FoundNoRoom (pass_record pass.old) (pass_record pass.new)) }
 {
     let command = Command::Page {
         scope: Scope::All,

@@ -1,11 +1,12 @@
 use Rattle.std.proofs.Common.{ℕ, ◌+◌, ◌<◌, ◌^◌, length, Option, Some, None, refl, sym, ◌∙◌, subst, arith, false}
+use Rattle.std.proofs.lemmas.Result.{err_from_is_err_and}
 use Rattle.ds_names.specs.declared.key.Key.{Key}
 use Rattle.ds_feed.specs.declared.cursor.Cursor.{Cursor}
 use Rattle.ds_convergence.specs.Paged.{last_key}
 use Rattle.ds_pass.specs.Record.{PassRecord, pass_record}
 use Rattle.ds_exchange.specs.Asking.{GoesByPages}
 use Rattle.ds_exchange.specs.Exchange.{Exchanges}
-use Rattle.ds_exchange.proofs.PageLemmas.{page_fails, page_only, pages_end, pages_more, pages_none}
+use Rattle.ds_exchange.proofs.PageLemmas.{page_fails, page_lacks, page_leaves, page_only, pages_end, pages_more, pages_none}
 use Rattle.ds_exchange.proofs.exchange.exchange_pages.Goals as goal
 
 pub loop-init : goal.loop-init
@@ -22,6 +23,20 @@ returns-in_err-given-clause-only g c =
     let l = c.loop in
     page_only (pass_record c.args.pass_a.now) (pass_record l.pass_a) (pass_record c.args.pass_b.now) (pass_record l.pass_b) (pass_record c.ask_page.new.pass) l.after l.first l.done l.taken l.invariant.4
     (pass_record c.give.new.pass) c.in_ok-items.field-0 c.in_ok-items.ensures.told c.in_err-given.ensures.only
+
+pub returns-in_err-items-clause-room : goal.returns-in_err-items-clause-room
+returns-in_err-items-clause-room g c =
+    let l = c.loop in
+    let exit = err_from_is_err_and c.from_residual.result c.from_residual.ensures.1 in
+    rw (exit.1, exit.2) (λ none. page_lacks (pass_record c.args.pass_a.now) (pass_record l.pass_a) (pass_record c.args.pass_b.now) (pass_record l.pass_b) (pass_record c.ask_page.new.pass) l.after l.first l.done l.taken l.invariant.4
+    (c.in_err-items.ensures.room none))
+
+pub returns-in_err-given-clause-room : goal.returns-in_err-given-clause-room
+returns-in_err-given-clause-room g c =
+    let l = c.loop in
+    let exit = err_from_is_err_and c.from_residual-in_err-given.result c.from_residual-in_err-given.ensures.1 in
+    rw (exit.1, exit.2) (λ none. page_leaves (pass_record c.args.pass_a.now) (pass_record l.pass_a) (pass_record c.args.pass_b.now) (pass_record l.pass_b) (pass_record c.ask_page.new.pass) l.after l.first l.done l.taken l.invariant.4
+    (pass_record c.give.new.pass) c.in_ok-items.field-0 c.in_ok-items.ensures.told (c.in_err-given.ensures.room none))
 
 pub returns-then-last-clause-only : goal.returns-then-last-clause-only
 returns-then-last-clause-only g c =

@@ -1,7 +1,8 @@
 use Rattle.std.proofs.Common.{ℕ, nat_le, Some, sym, subst}
+use Rattle.std.proofs.lemmas.Result.{err_from_is_err_and}
 use Rattle.ds_pass.specs.Record.{PassRecord, pass_record}
 use Rattle.ds_exchange.specs.Exchange.{Exchanges}
-use Rattle.ds_exchange.proofs.PageLemmas.{since_ends, since_fails, since_only}
+use Rattle.ds_exchange.proofs.PageLemmas.{since_ends, since_fails, since_lacks, since_leaves, since_only}
 use Rattle.ds_exchange.proofs.exchange.exchange_since.Goals as goal
 
 pub returns-in_err-items-clause-only : goal.returns-in_err-items-clause-only
@@ -11,6 +12,17 @@ pub returns-in_err-taken-clause-only : goal.returns-in_err-taken-clause-only
 returns-in_err-taken-clause-only g c =
     since_only (pass_record c.args.pass_a.now) (pass_record c.ask_since.new.pass) c.args.from (pass_record c.args.pass_b.now) (pass_record c.give.new.pass) c.in_ok-items.field-0 c.in_ok-items.ensures.told
     c.in_err-taken.ensures.only
+
+pub returns-in_err-items-clause-room : goal.returns-in_err-items-clause-room
+returns-in_err-items-clause-room g c =
+    let exit = err_from_is_err_and c.from_residual.result c.from_residual.ensures.1 in
+    rw (exit.1, exit.2) (λ none. since_lacks (pass_record c.args.pass_a.now) (pass_record c.ask_since.new.pass) c.args.from (pass_record c.args.pass_b.now) (c.in_err-items.ensures.room none))
+
+pub returns-in_err-taken-clause-room : goal.returns-in_err-taken-clause-room
+returns-in_err-taken-clause-room g c =
+    let exit = err_from_is_err_and c.from_residual-in_err-taken.result c.from_residual-in_err-taken.ensures.1 in
+    rw (exit.1, exit.2) (λ none. since_leaves (pass_record c.args.pass_a.now) (pass_record c.ask_since.new.pass) c.args.from (pass_record c.args.pass_b.now) (pass_record c.give.new.pass) c.in_ok-items.field-0 c.in_ok-items.ensures.told
+    (c.in_err-taken.ensures.room none))
 
 pub returns-clause-only : goal.returns-clause-only
 returns-clause-only g c =

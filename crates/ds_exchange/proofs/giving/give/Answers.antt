@@ -1,7 +1,8 @@
 use Rattle.std.proofs.Common.{[], ◌++◌, refl, ◌∙◌, arith, ap, length, length-drop, List}
+use Rattle.std.proofs.lemmas.Result.{err_from_is_err_and}
 use Rattle.ds_entry.specs.declared.item.Item.{Item}
 use Rattle.ds_pass.specs.Record.{pass_record}
-use Rattle.ds_exchange.proofs.GivingLemmas.{gives_both, gives_end, gives_none, only_front, only_part, part_has_few, part_has_some, parts_more}
+use Rattle.ds_exchange.proofs.GivingLemmas.{gives_both, gives_end, gives_none, leaves_rest, only_front, only_part, part_has_few, part_has_some, parts_more}
 use Rattle.ds_exchange.proofs.giving.give.Goals as goal
 
 pub loop-rest-init : goal.loop-rest-init
@@ -11,6 +12,12 @@ pub returns-in_err-part-clause-only : goal.returns-in_err-part-clause-only
 returns-in_err-part-clause-only g c =
     let l = c.loop-rest in
     only_front (pass_record c.args.pass.now) (pass_record l.pass) c.args.items l.invariant.1.0 l.rest l.taken l.invariant.1.1 l.invariant.1.2
+
+pub returns-in_err-part-clause-room : goal.returns-in_err-part-clause-room
+returns-in_err-part-clause-room g c =
+    let l = c.loop-rest in
+    let exit = err_from_is_err_and c.from_residual.result c.from_residual.ensures.1 in
+    rw (exit.1, exit.2) (λ none. leaves_rest (pass_record c.args.pass.now) (pass_record l.pass) c.args.items l.invariant.1.0 l.rest l.taken l.invariant.1.1 l.invariant.1.2 (omega (arith, c.loop-rest-test.true)))
 
 pub give_part-requires-clause-some : goal.give_part-requires-clause-some
 give_part-requires-clause-some g c = part_has_some c.loop-rest.rest c.in_ok-part.part c.in_ok-part.ensures.part (omega (arith, c.loop-rest-test.true))
