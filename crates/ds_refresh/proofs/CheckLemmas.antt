@@ -1,5 +1,5 @@
 -- What one call of a follower's leaves, by what it was answered.
-use Rattle.std.proofs.Common.{◌≡◌, ℕ, ◌+◌, ◌<◌, List, ◌++◌, length, take, Option, Some, refl, ap, sym, ◌∙◌, subst, inl, inr}
+use Rattle.std.proofs.Common.{◌≡◌, ◌≢◌, ℕ, ◌+◌, ◌<◌, List, ◌++◌, length, take, Option, Some, refl, ap, sym, ◌∙◌, subst, inl, inr}
 use Rattle.history.specs.History.{entry}
 use Rattle.ds_names.specs.Limits.{most_items}
 use Rattle.ds_entry.specs.Under.{under}
@@ -13,7 +13,9 @@ use Rattle.ds_pattern.specs.declared.query.Query.{Query}
 use Rattle.ds_pattern.specs.Under.{is_under}
 use Rattle.ds_machine.specs.declared.command.Command.TheVariants.{Check}
 use Rattle.ds_machine.specs.declared.reply.Reply.{Reply}
-use Rattle.ds_machine.specs.declared.reply.Reply.TheVariants.{Subscribed, Checked}
+use Rattle.ds_machine.specs.declared.reply.Reply.TheVariants.{Subscribed, Checked, Refused}
+use Rattle.ds_machine.specs.declared.refusal.Refusal.{Refusal}
+use Rattle.ds_machine.specs.Says.{IsCheckReply, IsSubscribeReply}
 use Rattle.ds_content.proofs.OpenLemmas.{nothing_is_held}
 use Rattle.ds_submap.specs.Map.{IsMap, SubMapRecord, empty_map, map_of}
 use Rattle.ds_submap.specs.Take.{IsTakeStopped}
@@ -26,6 +28,17 @@ use Rattle.ds_refresh.specs.Follower.{FollowerRecord, follower_of, mapped}
 use Rattle.ds_refresh.specs.KeepsUp.{KeepsUpWith, StandsForFront, StandsIfStamped}
 use Rattle.ds_refresh.specs.Refresh.{EndsBy}
 use Rattle.ds_refresh.proofs.StandLemmas.{checked_current, checked_in, checked_stands, subscribed_stands}
+
+-- ---- a call is told what it asks for, or is refused
+pub subscribe_told : (reply : Reply) → IsSubscribeReply reply → ((stamp owed : ℕ) → reply ≢ Subscribed stamp owed) → ((refusal : Refusal) → reply ≢ Refused refusal) → ⊥
+subscribe_told (Subscribed stamp owed) fits told refused = told stamp owed refl
+subscribe_told (Refused refusal) fits told refused = refused refusal refl
+subscribe_told _ fits told refused = fits
+
+pub check_told : (reply : Reply) → IsCheckReply reply → ((items : List Item) (before after : ℕ) → reply ≢ Checked items before after) → ((refusal : Refusal) → reply ≢ Refused refusal) → ⊥
+check_told (Checked items before after) fits told refused = told items before after refl
+check_told (Refused refusal) fits told refused = refused refusal refl
+check_told _ fits told refused = fits
 
 -- ---- a lost follower emptied its map and subscribed, by a query that is the map's
 pub subscribe_stands : (p q : PassRecord) (sub : ℕ) (query asked : Query) (map : SubMapRecord) (stamp place : ℕ) (reply : Reply) → map ≡ empty_map query → asked ≡ query →

@@ -36,6 +36,7 @@ use Rattle.trace_check.specs.declared.place.Place.TheVariants.{Reply}
 use Rattle.trace_check.specs.declared.passed.Passed.{Passed}
 use Rattle.trace_check.specs.declared.walk.Walk.{Walk}
 use Rattle.trace_check.specs.Passing.{BecomesBy, HasPassed}
+use Rattle.trace_check.specs.Steps.{HasSaid, SaysAll}
 use Rattle.trace_check.specs.Walking.{Spot, IsAt, HasLine, IsFault, IsShort, Walks, spot_behind, HasAsked, Hears, IsEnded, IsThere, IsToBeSaid, IsStopFault, IsForStore}
 use Rattle.trace_check.proofs.FaultLemmas.{wrong_there, place_of}
 use Rattle.trace_check.proofs.ShortLemmas.{reply_short, may_short, reply_ended, reply_some}
@@ -111,6 +112,14 @@ module _ (b : Spot) (old : LinesContent) (store : ContentRecord) (h : Header) (f
         let whole : IsEnded said = subst IsEnded (sym is) (reply_ended (worded_as asked) reply h.limits) in
         let some : 0 < length said = subst (λ (f : List ℕ). 0 < length f) (sym is) (reply_some (worded_as asked) reply h.limits) in
         walks_on l to new (subst (λ (f : List ℕ). IsAt b.bytes (base ++ marked f) l to) is (goes b.bytes base x.line x.here x.line_is whole some)) stands
+
+    -- and is behind an entry more
+    pub passes_said : (before w : Walk) (to : Option (List ℕ)) (passed : Passed) (said : List ℕ) → said ≡ text → HasSaid before from said w to → before.lines ≡ old → before.header ≡ h → before.asked.items ≡ kept → ContentStands before.store t →
+        (h.format ≡ One → BecomesBy b.state h.limits entry passed) → HasPassed b h w to passed
+    passes_said before w to passed said is s lines header asked_is stands becomes =
+        let goes = subst (λ (l : LinesContent). SaysAll l from w.lines to said) lines s.says in
+        let walks = answered_goes said is w.lines to w.store goes (subst (λ (k : ContentRecord). ContentStands k t) (sym s.store) stands) in
+        passes w to passed walks (s.header ∙ header) (s.asked ∙ asked_is) (s.reply ∙ is) becomes
 
     pub answered_fails : (said : List ℕ) → said ≡ text → (fault : WalkFault) →
         ((start bytes base here : List ℕ) → HasLine bytes base here old from → old.line ≡ with_newline here → IsToBeSaid start base here said → IsFault start bytes fault) →

@@ -2,9 +2,12 @@
 use Rattle.std.specs.Prelude.{◌≡◌, Some}
 use Rattle.ds_content.specs.Content.{ContentRecord}
 use Rattle.ds_content.specs.Stands.{ContentStands}
+use Rattle.ds_machine.specs.Machine.{Step}
 use Rattle.ds_machine.specs.State.{State}
 use Rattle.ds_machine.specs.declared.command.Command.{Command}
 use Rattle.ds_machine.specs.declared.reply.Reply.{Reply}
+use Rattle.ds_words.specs.Command.{store_command}
+use Rattle.ds_words.specs.declared.command.ScriptCommand.{ScriptCommand}
 use Rattle.trace_words.specs.declared.asked.Asked.{Asked}
 use Rattle.trace_words.specs.declared.header.Format.{Format}
 use Rattle.trace_words.specs.Legal.{StepOf}
@@ -16,3 +19,8 @@ abbrev pub StepsBy : ContentRecord → Format → Asked → Reply → ContentRec
 StepsBy old format asked reply new =
     (s : State) → ContentStands old s → IsTraced format s →
     (command : Command) × (t : State) × (command_asked asked ≡ Some command) × StepOf format s command reply t × ContentStands new t
+
+-- it takes the step of the store's command that the line says
+abbrev pub StepsAsSaid : ContentRecord → ScriptCommand → Reply → ContentRecord → Type 0
+StepsAsSaid old said reply new =
+    (s : State) → ContentStands old s → (command : Command) × (t : State) × (store_command said ≡ Some command) × Step s command reply t × ContentStands new t

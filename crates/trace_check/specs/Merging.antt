@@ -3,14 +3,19 @@ use Rattle.std.specs.Prelude.{◌≡◌, ℕ, List, [], length}
 use Rattle.std.specs.List.{flat_map}
 use Rattle.ds_entry.specs.declared.item.Item.{Item}
 use Rattle.ds_held.specs.Limits.{LimitsRecord}
+use Rattle.ds_machine.specs.declared.reply.Reply.{Reply}
 use Rattle.ds_machine.specs.declared.reply.Reply.TheVariants.{Merged}
 use Rattle.trace_words.specs.declared.asked.Asked.TheVariants.{Merge}
 use Rattle.trace_words.specs.Text.{TraceEntry, entry_text}
 use Rattle.trace_check.specs.declared.merges.Merges.{Merges}
 
+-- the entry of a pass that merges the items, with this reply
+abbrev pub merge_entry : ℕ → List Item → Reply → TraceEntry
+merge_entry pass items reply = record { pass = pass; asked = Merge items; reply = reply }
+
 -- the entry of a pass that merges the items, all of which took effect, so that this is owed
 abbrev pub taking_entry : ℕ → List Item → ℕ → TraceEntry
-taking_entry pass items owed = record { pass = pass; asked = Merge items; reply = Merged (length items) (length items) 0 owed }
+taking_entry pass items owed = merge_entry pass items (Merged (length items) (length items) 0 owed)
 
 -- there are none
 pub record IsEmpty (merges : Merges) : Type 0 where

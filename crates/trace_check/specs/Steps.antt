@@ -8,10 +8,13 @@ use Rattle.ds_lines.specs.Reading.{LinesContent}
 use Rattle.ds_machine.specs.Machine.{StopsForRoom}
 use Rattle.ds_machine.specs.State.{State}
 use Rattle.ds_machine.specs.declared.command.Command.{Command}
+use Rattle.ds_machine.specs.declared.refusal.Refusal.TheVariants as refusals
 use Rattle.ds_machine.specs.declared.reply.Reply.{Reply}
+use Rattle.ds_machine.specs.declared.reply.Reply.TheVariants as replies
 use Rattle.ds_names.specs.Limits.{most_items}
 use Rattle.ds_words.specs.declared.command.ScriptCommand.{ScriptCommand}
 use Rattle.ds_words.specs.declared.command.ScriptCommand.TheVariants as commands
+use Rattle.store_words.specs.Reply.{reply_lines, refused_noroom}
 use Rattle.store_words.specs.declared.wording.Wording.{Wording}
 use Rattle.trace_words.specs.declared.asked.Asked.{Asked}
 use Rattle.trace_words.specs.declared.asked.Asked.TheVariants as askeds
@@ -28,7 +31,7 @@ use Rattle.trace_check.specs.declared.passed.Passed.{Passed}
 use Rattle.trace_check.specs.declared.place.Place.{Place}
 use Rattle.trace_check.specs.declared.sweep.Sweep.{Sweep}
 use Rattle.trace_check.specs.declared.walk.Walk.{Walk}
-use Rattle.trace_check.specs.Passing.{HasPassed}
+use Rattle.trace_check.specs.Passing.{HasPassed, IsRefusedAs}
 use Rattle.trace_check.specs.Walking.{Spot, IsAt, HasLine, IsRead, IsLongFault, IsShort, Walks, IsFault, Heads, Lists, HasAsked, Hears, IsEnded, IsThere, GoesOnSaying, IsToBeSaid, IsStopFault, IsForStore}
 
 -- ---- lines
@@ -166,6 +169,30 @@ FailsAtItem old from before fault = (b : Spot) (pass most : ℕ) → length befo
 abbrev pub swept_line : Sweep → Asked
 swept_line swept = askeds.Line (commands.Sweep swept.caller swept.owner swept.generation)
 
+-- all lines of this text stood there, the first of which was gone to; it is kept, and what else the walk has stays
+pub record HasSaid (old : Walk) (from : Option (List ℕ)) (text : List ℕ) (new : Walk) (to : Option (List ℕ)) : Type 0 where
+  pub says : SaysAll old.lines from new.lines to text
+  pub store : new.store ≡ old.store
+  pub header : new.header ≡ old.header
+  pub asked : new.asked.items ≡ old.asked.items
+  pub reply : new.reply.items ≡ text
+
+-- so it is with the text of a reply
+abbrev pub SaysReply : Wording → Reply → Walk → Option (List ℕ) → Walk → Option (List ℕ) → Type 0
+SaysReply wording reply old from new to = HasSaid old from (reply_lines wording reply old.header.limits) new to
+
+abbrev pub FailsToSay : Wording → Reply → Walk → Option (List ℕ) → WalkFault → Type 0
+FailsToSay wording reply old from fault = MissesReply old.lines from (reply_lines wording reply old.header.limits) fault
+
+-- the reply for want of memory is kept, and what else the walk has stays; this is what the entry is in format 2
+pub record HasRefused (old : Walk) (asked : Asked) (new : Walk) (passed : Passed) : Type 0 where
+  pub lines : new.lines ≡ old.lines
+  pub store : new.store ≡ old.store
+  pub header : new.header ≡ old.header
+  pub asked_is : new.asked.items ≡ old.asked.items
+  pub reply : new.reply.items ≡ refused_noroom
+  pub becomes : IsRefusedAs old.header.format asked passed
+
 -- behind what is asked, the reply is gone through
 abbrev pub GoesBehind : Walk → Option (List ℕ) → ℕ → Asked → Walk → Option (List ℕ) → Passed → Type 0
 GoesBehind old from pass asked new to passed = (b : Spot) → AsksAt b old from pass asked → HasPassed b old.header new to passed
@@ -183,6 +210,13 @@ FailsAtReply old from pass asked fault = (b : Spot) → HearsAt b old from pass 
 -- that to a command on one line
 abbrev pub PassesLine : Walk → Option (List ℕ) → ℕ → ScriptCommand → Walk → Option (List ℕ) → Passed → Type 0
 PassesLine old from pass command new to passed = GoesPastReply old from pass (askeds.Line command) new to passed
+
+-- whatever its pass
+abbrev pub PassesPlain : Walk → Option (List ℕ) → ScriptCommand → Walk → Option (List ℕ) → Passed → Type 0
+PassesPlain old from command new to passed = (b : Spot) (pass : ℕ) → HearsAt b old from pass (askeds.Line command) → HasPassed b old.header new to passed
+
+abbrev pub FailsAtPlain : Walk → Option (List ℕ) → ScriptCommand → WalkFault → Type 0
+FailsAtPlain old from command fault = (b : Spot) (pass : ℕ) → HearsAt b old from pass (askeds.Line command) → IsFault b.front b.bytes fault
 
 -- that to a sweep
 abbrev pub PassesSweep : Walk → Option (List ℕ) → ℕ → Sweep → Walk → Option (List ℕ) → Passed → Type 0
@@ -214,6 +248,14 @@ StopsNowhere line count = (done : ℕ) → done < count → count ≤ most_items
 abbrev pub StopsMidway : ContentRecord → List Item → ℕ → Reply → ContentRecord → Type 0
 StopsMidway old items done reply new =
     (s : State) → ContentStands old s → length items ≤ most_items → (t : State) × StopsForRoom s items reply t done × ContentStands new t
+
+-- a Merge of those alone took them all, and is answered as one that memory stopped behind them
+abbrev pub EndsMidway : Reply → ℕ → Reply → Type 0
+EndsMidway reply done stopped = (count taken stale owed : ℕ) × (reply ≡ replies.Merged count taken stale owed) × (stopped ≡ replies.MergeStopped done refusals.NoRoom owed)
+
+-- it didn't
+abbrev pub IsUnmerged : Reply → Type 0
+IsUnmerged reply = (count taken stale owed : ℕ) → reply ≢ replies.Merged count taken stale owed
 
 -- a refusal stops it earlier, or there is no room
 abbrev pub FailsToStop : ContentRecord → List Item → (done number : ℕ) → WalkFault → Type 0

@@ -16,7 +16,7 @@ use Rattle.trace_check.specs.declared.passed.Passed.TheVariants.{AsItStands, Swe
 use Rattle.trace_check.specs.declared.upgrading.UpgradeFault.{UpgradeFault}
 use Rattle.trace_check.specs.declared.upgrading.UpgradeFault.TheVariants.{IllegalAt, BadLineAt, AlreadyTwo, ReadFault, WriteFault, NoRoom}
 use Rattle.trace_check.specs.declared.walk.Walk.{Walk}
-use Rattle.trace_check.specs.Steps.{WalksAt}
+use Rattle.trace_check.specs.Steps.{WalksAt, first_spot}
 use Rattle.trace_check.specs.Walking.{Spot}
 
 -- the fault of a walk
@@ -83,3 +83,10 @@ abbrev pub StopsUpgrading : Walk → Option (List ℕ) → (had has : Option (Li
 StopsUpgrading old from had has fault =
     (b : Spot) (before : List ℕ) → WalksAt b old from → Upgrades b old.header before 0 →
     (more : List ℕ) × Appends had has more × Refuses fault b.bytes (before ++ more)
+
+-- so it is of an input whose header was read, and nothing else
+abbrev pub EndsBehindHeader : Walk → Option (List ℕ) → (had has : Option (List ℕ)) → ℕ → Type 0
+EndsBehindHeader old from had has count = (bytes : List ℕ) → WalksAt (first_spot bytes old.header) old from → UpgradesAll bytes had has count
+
+abbrev pub StopsBehindHeader : Walk → Option (List ℕ) → (had has : Option (List ℕ)) → UpgradeFault → Type 0
+StopsBehindHeader old from had has fault = (bytes : List ℕ) → WalksAt (first_spot bytes old.header) old from → UpgradesInPart bytes had has fault

@@ -4,9 +4,10 @@ ghost use Rattle.std.specs.Prelude.{◌≡◌, ◌≢◌, None, IfOk};
 ghost use Rattle.trace_words.specs.declared.asked.Asked.TheVariants as askeds;
 ghost use Rattle.trace_words.specs.Text.{command_asked, worded_as};
 ghost use Rattle.ds_words.specs.Command.{store_command};
-ghost use Rattle.trace_check.specs.Asking.{StepsBy};
+ghost use Rattle.trace_check.specs.Sweeping.{SweepsAs};
+ghost use Rattle.trace_check.specs.Asking.{StepsAsSaid, StepsBy};
 
-use crate::sweep::{older, sweep_older};
+use crate::sweep::{Sweep, older, sweep_older};
 use ds_held::Limits;
 use ds_machine::{Command, Reply};
 use ds_names::NoRoom;
@@ -59,9 +60,36 @@ fn ask_line(
 {
     let wording = command.wording();
     if let Some(sweep) = older(&command, format) {
-        let (reply, _merges) = sweep_older(alloc, store, 0, Limits::smaller(), sweep)?;
-        return Ok(Answer { wording, reply });
+        return ask_older(alloc, store, sweep, wording);
     }
+    ask_plain(alloc, store, command, wording)
+}
+
+// Asks a sweep of format 1, to whose reply this wording belongs.
+fn ask_older(
+    alloc: Global,
+    store: &mut Store,
+    sweep: Sweep,
+    wording: Wording,
+) -> Result<Answer, NoRoom>
+    ensures step { IfOk result (λ answer. SweepsAs store.old sweep answer.reply store.new) }
+    ensures wording { IfOk result (λ answer. answer.wording ≡ wording) }
+{
+    let (reply, _merges) = sweep_older(alloc, store, 0, Limits::smaller(), sweep)?;
+    Ok(Answer { wording, reply })
+}
+
+// Asks as the store's command says, to whose reply this wording belongs.
+fn ask_plain(
+    alloc: Global,
+    store: &mut Store,
+    command: ScriptCommand,
+    wording: Wording,
+) -> Result<Answer, NoRoom>
+    requires { store_command command ≢ None }
+    ensures step { IfOk result (λ answer. StepsAsSaid store.old command answer.reply store.new) }
+    ensures wording { IfOk result (λ answer. answer.wording ≡ wording) }
+{
     match command.into_store_command(alloc)? {
         Some(command) => Ok(Answer {
             wording,

@@ -2,7 +2,7 @@
 
 ghost use Rattle.std.specs.Prelude.{◌≡◌, ◌+◌, ◌-◌, ◌<◌, ◌^◌, ◌++◌, OnOk};
 ghost use Rattle.trace_words.specs.Text.{entry_text};
-ghost use Rattle.trace_check.specs.Merging.{taking_entry, IsEmpty};
+ghost use Rattle.trace_check.specs.Merging.{merge_entry, taking_entry, IsEmpty};
 
 use ds_entry::Item;
 use ds_held::Limits;
@@ -49,8 +49,24 @@ impl Merges {
             stale: 0,
             owed,
         };
+        self.add_entry(alloc, pass, limits, items, &reply)
+    }
+
+    // Adds the entry of a pass that merges the items, with this reply.
+    fn add_entry(
+        &mut self,
+        alloc: Global,
+        pass: u64,
+        limits: Limits,
+        items: &[Item],
+        reply: &Reply,
+    ) -> Result<(), NoRoom>
+        requires { self.old.count < 2 ^ 64 - 1 }
+        ensures text { OnOk result (self.new.text.items ≡ self.old.text.items ++ entry_text limits (merge_entry pass items.now reply.now)) }
+        ensures count { OnOk result (self.new.count ≡ self.old.count + 1) }
+    {
         let mut lines = Vec::new(alloc);
-        append_reply(&mut lines, Wording::AsMerge, &reply, limits)?;
+        append_reply(&mut lines, Wording::AsMerge, reply, limits)?;
         append_merge(&mut self.text, pass, items)?;
         append_marked(&mut self.text, lines.as_slice())?;
         self.count += 1;

@@ -3,7 +3,7 @@
 ghost use Rattle.std.specs.Prelude.{◌≡◌, ◌<◌, length, is_some, IfOk, IfErr, IfSome, IfNone};
 ghost use Rattle.ds_machine.specs.OneStep.{room_wanted};
 ghost use Rattle.trace_words.specs.Noroom.{stopped_line};
-ghost use Rattle.trace_check.specs.Steps.{StopsMidway, FailsToStop, StopsNowhere};
+ghost use Rattle.trace_check.specs.Steps.{EndsMidway, IsUnmerged, StopsMidway, FailsToStop, StopsNowhere};
 
 use crate::fault::WalkFault;
 use crate::sweep::copied;
@@ -39,11 +39,19 @@ pub(crate) fn stopped(
     if wants_room(&reply) {
         return Err(WalkFault::NoRoom);
     }
+    stopped_behind(&reply, done, number)
+}
+
+// What a Merge that is stopped behind so many items is answered, where this is the reply to a Merge of those alone.
+fn stopped_behind(reply: &Reply, done: usize, number: u64) -> Result<Reply, WalkFault>
+    ensures stops { IfOk result (EndsMidway reply.now done) }
+    ensures fails { IfErr result (λ fault. (fault ≡ WalkFault.IllegalAt number) × IsUnmerged reply.now) }
+{
     match reply {
         Reply::Merged { owed, .. } => Ok(Reply::MergeStopped {
             done,
             fault: Refusal::NoRoom,
-            owed,
+            owed: *owed,
         }),
         _ => Err(WalkFault::IllegalAt(number)),
     }

@@ -3,7 +3,7 @@
 ghost use Rattle.std.specs.Prelude.{◌≡◌, IfOk, IfErr, IfSome};
 ghost use Rattle.ds_lines.specs.Streams.{HasFailedWrite};
 ghost use Rattle.trace_words.specs.Upgrade.{upgraded};
-ghost use Rattle.trace_check.specs.Upgrading.{IsWrittenAs, EndsUpgraded, StopsUpgrading, UpgradesAll, UpgradesInPart};
+ghost use Rattle.trace_check.specs.Upgrading.{IsWrittenAs, EndsBehindHeader, EndsUpgraded, StopsBehindHeader, StopsUpgrading, UpgradesAll, UpgradesInPart};
 
 use crate::fault::WalkFault;
 use crate::passed::Passed;
@@ -94,7 +94,21 @@ pub fn upgrade<R: Source, W: Sink>(
         (λ bytes. UpgradesInPart bytes (W.contents writer.old) (W.contents writer.new) fault)) }
     ensures cause { IfErr result (λ fault. fault ≡ UpgradeFault.WriteFault → HasFailedWrite W.writes W.fails writer.new) }
 {
-    let walk = Walk::begin(alloc, reader)?;
+    let mut walk = Walk::begin(alloc, reader)?;
+    upgrade_behind_header(alloc, &mut walk, reader, writer)
+}
+
+// Writes in format 2 the trace whose header the walk read, that header first.
+fn upgrade_behind_header<R: Source, W: Sink>(
+    alloc: Global,
+    walk: &mut Walk,
+    reader: &mut R,
+    writer: &mut W,
+) -> Result<u64, UpgradeFault>
+    ensures upgraded { IfOk result (EndsBehindHeader walk.old (R.remaining reader.old) (W.contents writer.old) (W.contents writer.new)) }
+    ensures stopped { IfErr result (StopsBehindHeader walk.old (R.remaining reader.old) (W.contents writer.old) (W.contents writer.new)) }
+    ensures cause { IfErr result (λ fault. fault ≡ UpgradeFault.WriteFault → HasFailedWrite W.writes W.fails writer.new) }
+{
     let header = walk.header();
     match header.format {
         Format::One => {}
@@ -122,12 +136,12 @@ fn upgraded(header: Header) -> Header
 // Goes through all entries, and writes each in format 2.
 fn upgrade_entries<R: Source, W: Sink>(
     alloc: Global,
-    mut walk: Walk,
+    walk: &mut Walk,
     reader: &mut R,
     writer: &mut W,
 ) -> Result<u64, UpgradeFault>
-    ensures all { IfOk result (EndsUpgraded walk (R.remaining reader.old) (W.contents writer.old) (W.contents writer.new)) }
-    ensures part { IfErr result (StopsUpgrading walk (R.remaining reader.old) (W.contents writer.old) (W.contents writer.new)) }
+    ensures all { IfOk result (EndsUpgraded walk.old (R.remaining reader.old) (W.contents writer.old) (W.contents writer.new)) }
+    ensures part { IfErr result (StopsUpgrading walk.old (R.remaining reader.old) (W.contents writer.old) (W.contents writer.new)) }
     ensures cause { IfErr result (λ fault. fault ≡ UpgradeFault.WriteFault → HasFailedWrite W.writes W.fails writer.new) }
 {
     let mut text = Vec::new(alloc);
@@ -137,7 +151,7 @@ fn upgrade_entries<R: Source, W: Sink>(
             return Ok(written);
         };
         text.clear();
-        let count = append_passed(&mut text, &walk, &passed)?;
+        let count = append_passed(&mut text, walk, &passed)?;
         write_out(writer, text.as_slice())?;
         match written.checked_add(count) {
             Some(more) => written = more,

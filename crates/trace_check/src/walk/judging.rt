@@ -1,9 +1,10 @@
 //! What a walk does at a reply.
 
-ghost use Rattle.std.specs.Prelude.{◌≡◌, ◌≢◌, ◌<◌, length, IfOk, IfErr};
+ghost use Rattle.std.specs.Prelude.{◌≡◌, ◌≢◌, ◌<◌, length, None, IfOk, IfErr, OnOk};
 ghost use Rattle.trace_words.specs.declared.asked.Asked.TheVariants as askeds;
 ghost use Rattle.trace_words.specs.Noroom.{noroom_line, stopped_line};
-ghost use Rattle.trace_check.specs.Steps.{GoesBehind, FailsBehind, GoesPastReply, FailsAtReply, PassesLine, PassesSweep, PassesMerge, FailsAtMerge, PassesFor, FailsFor, swept_line};
+ghost use Rattle.trace_check.specs.Steps.{GoesBehind, FailsBehind, GoesPastReply, FailsAtReply, HasRefused, PassesLine, PassesSweep, PassesMerge, FailsAtMerge, PassesPlain, FailsAtPlain, PassesFor, FailsFor, SaysReply, FailsToSay, swept_line};
+ghost use Rattle.trace_check.specs.Sweeping.{older_of};
 ghost use Rattle.trace_check.specs.Passing.{IsRefusedAs};
 
 use super::Walk;
@@ -16,7 +17,7 @@ use crate::stopping::{stop_of, stopped, wants_room};
 use crate::sweep::{Sweep, older, sweep_older};
 use ds_entry::Items;
 use ds_lines::Source;
-use ds_machine::Command;
+use ds_machine::{Command, Reply};
 use ds_words::ScriptCommand;
 use std::alloc::Global;
 use store_words::{Wording, append_noroom, append_reply};
@@ -49,10 +50,32 @@ impl Walk {
         ensures fails { IfErr result (FailsAtReply self.old (R.remaining reader.old) pass asked) }
     {
         if is_noroom(self.lines.line()) {
-            self.reply.clear();
-            append_noroom(&mut self.reply)?;
-            return Ok(refused(self.alloc, &asked, self.header.format));
+            return self.judge_noroom(&asked);
         }
+        self.judge_asked(reader, pass, asked)
+    }
+
+    // Goes past the reply for want of memory, at which the walk is.
+    fn judge_noroom(&mut self, asked: &Asked) -> Result<Passed, WalkFault>
+        ensures goes { IfOk result (HasRefused self.old asked.now self.new) }
+        ensures fault { IfErr result (λ fault. fault ≡ WalkFault.NoRoom) }
+    {
+        self.reply.clear();
+        append_noroom(&mut self.reply)?;
+        Ok(refused(self.alloc, asked, self.header.format))
+    }
+
+    // Judges any other reply.
+    fn judge_asked<R: Source>(
+        &mut self,
+        reader: &mut R,
+        pass: u64,
+        asked: Asked,
+    ) -> Result<Passed, WalkFault>
+        requires { self.old.lines.line ≢ noroom_line }
+        ensures goes { IfOk result (GoesPastReply self.old (R.remaining reader.old) pass asked self.new (R.remaining reader.new)) }
+        ensures fails { IfErr result (FailsAtReply self.old (R.remaining reader.old) pass asked) }
+    {
         match asked {
             Asked::Line(command) => self.judge_line(reader, pass, command),
             Asked::Merge(items) => self.judge_merge(reader, items),
@@ -72,13 +95,25 @@ impl Walk {
     {
         match older(&command, self.header.format) {
             Some(swept) => self.judge_sweep(reader, pass, swept),
-            None => {
-                let wording = command.wording();
-                match command.into_store_command(self.alloc)? {
-                    Some(command) => self.ask(reader, wording, command),
-                    None => Err(WalkFault::NoRoom),
-                }
-            }
+            None => self.judge_plain(reader, command),
+        }
+    }
+
+    // Judges the reply to one that is no sweep of format 1, whatever its pass.
+    fn judge_plain<R: Source>(
+        &mut self,
+        reader: &mut R,
+        command: ScriptCommand,
+    ) -> Result<Passed, WalkFault>
+        requires line { self.old.lines.line ≢ noroom_line }
+        requires plain { older_of self.old.header.format command ≡ None }
+        ensures goes { IfOk result (PassesPlain self.old (R.remaining reader.old) command self.new (R.remaining reader.new)) }
+        ensures fails { IfErr result (FailsAtPlain self.old (R.remaining reader.old) command) }
+    {
+        let wording = command.wording();
+        match command.into_store_command(self.alloc)? {
+            Some(command) => self.ask(reader, wording, command),
+            None => Err(WalkFault::NoRoom),
         }
     }
 
@@ -108,14 +143,7 @@ impl Walk {
     {
         let number = self.lines.count();
         let reply = stopped(self.alloc, &mut self.store, items, done, number)?;
-        self.reply.clear();
-        append_reply(
-            &mut self.reply,
-            Wording::AsMerge,
-            &reply,
-            self.header.limits,
-        )?;
-        expect(&mut self.lines, reader, self.reply.as_slice())?;
+        self.says(reader, Wording::AsMerge, &reply)?;
         Ok(Passed::AsItStands)
     }
 
@@ -138,14 +166,7 @@ impl Walk {
             self.header.limits,
             swept,
         )?;
-        self.reply.clear();
-        append_reply(
-            &mut self.reply,
-            Wording::AsMerge,
-            &reply,
-            self.header.limits,
-        )?;
-        expect(&mut self.lines, reader, self.reply.as_slice())?;
+        self.says(reader, Wording::AsMerge, &reply)?;
         Ok(Passed::Swept(merges))
     }
 
@@ -163,10 +184,23 @@ impl Walk {
         if wants_room(&reply) {
             return Err(WalkFault::NoRoom);
         }
-        self.reply.clear();
-        append_reply(&mut self.reply, wording, &reply, self.header.limits)?;
-        expect(&mut self.lines, reader, self.reply.as_slice())?;
+        self.says(reader, wording, &reply)?;
         Ok(Passed::AsItStands)
+    }
+
+    // The reply stands there, at whose first line the walk is.
+    fn says<R: Source>(
+        &mut self,
+        reader: &mut R,
+        wording: Wording,
+        reply: &Reply,
+    ) -> Result<(), WalkFault>
+        ensures goes { OnOk result (SaysReply wording reply.now self.old (R.remaining reader.old) self.new (R.remaining reader.new)) }
+        ensures fails { IfErr result (FailsToSay wording reply.now self.old (R.remaining reader.old)) }
+    {
+        self.reply.clear();
+        append_reply(&mut self.reply, wording, reply, self.header.limits)?;
+        expect(&mut self.lines, reader, self.reply.as_slice())
     }
 }
 

@@ -1,13 +1,8 @@
-use Rattle.std.proofs.Common.{◌++◌, ◌∙◌, [], List, ℕ, refl, sym, subst, ap, inl}
-use Rattle.std.specs.Io.KnownBytes.{Appends}
-use Rattle.std.proofs.KnownBytes.{Appends-nil, Appends-trans}
+use Rattle.std.proofs.Common.{[]}
+use Rattle.std.proofs.KnownBytes.{Appends-nil}
 use Rattle.std.proofs.lemmas.Result.{IfOk-weaker, IfErr-weaker}
-use Rattle.trace_words.specs.declared.header.Header.{Header}
-use Rattle.trace_words.specs.Text.{header_text}
-use Rattle.trace_words.specs.Upgrade.{upgraded}
-use Rattle.trace_check.specs.Steps.{first_spot}
 use Rattle.trace_check.proofs.BeginLemmas.{known_then}
-use Rattle.trace_check.proofs.UpgradingLemmas.{begins_two, handed_on, header_upgrades, never_write, not_written, nothing_yet, refused_first, stops_in_header}
+use Rattle.trace_check.proofs.UpgradingLemmas.{handed_on, never_write, refused_first}
 use Rattle.trace_check.proofs.upgrading.upgrade.Goals as goal
 
 pub returns-in_err-walk-clause-stopped : goal.returns-in_err-walk-clause-stopped
@@ -16,76 +11,18 @@ returns-in_err-walk-clause-stopped g c =
     (known_then (g.R.Source.remaining c.args.reader.now) _ _ c.in_err-walk.ensures.fails
     (λ bytes fault. ([], Appends-nil (g.W.Sink.contents c.args.writer.now), refused_first bytes c.in_err-walk.field-0.0 fault)))
 
-pub returns-in-Two-clause-stopped : goal.returns-in-Two-clause-stopped
-returns-in-Two-clause-stopped g c =
-    let w = c.in_ok-walk.walk in
-    let two = sym (ap (λ (h : Header). h.format) c.header-header.ensures) ∙ c.in-Two.is in
-    known_then (g.R.Source.remaining c.args.reader.now) _ _ c.in_ok-walk.ensures.begins
-    (λ bytes walks. ([], Appends-nil (g.W.Sink.contents c.args.writer.now), (refl, begins_two bytes w (g.R.Source.remaining c.begin.new.reader) walks two)))
-
-pub returns-in_err-append_header-clause-stopped : goal.returns-in_err-append_header-clause-stopped
-returns-in_err-append_header-clause-stopped g c =
-    handed_on c.from_residual-in_err-append_header.result _ _ c.from_residual-in_err-append_header.ensures.1
-    (known_then (g.R.Source.remaining c.args.reader.now) _ _ c.in_ok-walk.ensures.begins
-    (λ bytes walks. ([], Appends-nil (g.W.Sink.contents c.args.writer.now), nothing_yet bytes)))
-
-pub returns-in_err-write_out-clause-stopped : goal.returns-in_err-write_out-clause-stopped
-returns-in_err-write_out-clause-stopped g c =
-    let w = c.in_ok-walk.walk in
-    let one = sym (ap (λ (h : Header). h.format) c.header-header.ensures) ∙ c.in-One.is in
-    let header = c.upgraded.ensures ∙ ap (λ (h : Header). upgraded h) c.header-header.ensures in
-    let text = c.as_slice.ensures.value ∙ c.in_ok-append_header.ensures ∙ ap (λ (l : List ℕ). l ++ header_text c.upgraded.result) c.new-text.ensures.items ∙ ap (λ (h : Header). header_text h) header in
-    let e = c.in_err-write_out.ensures.err in
-    handed_on c.from_residual-in_err-write_out.result _ _ c.from_residual-in_err-write_out.ensures.1
-    (known_then (g.R.Source.remaining c.args.reader.now) _ _ c.in_ok-walk.ensures.begins
-    (λ bytes walks. (e.0, e.3, stops_in_header bytes w (g.R.Source.remaining c.begin.new.reader) walks one e.0 e.1 (sym text ∙ e.2))))
-
 pub returns-clause-upgraded : goal.returns-clause-upgraded
 returns-clause-upgraded g c =
-    let w = c.in_ok-walk.walk in
-    let from = g.R.Source.remaining c.begin.new.reader in
-    let had = g.W.Sink.contents c.args.writer.now in
-    let mid = g.W.Sink.contents c.write_out.new.writer in
-    let has = g.W.Sink.contents c.upgrade_entries.new.writer in
-    let one = sym (ap (λ (h : Header). h.format) c.header-header.ensures) ∙ c.in-One.is in
-    let header = c.upgraded.ensures ∙ ap (λ (h : Header). upgraded h) c.header-header.ensures in
-    let text = c.as_slice.ensures.value ∙ c.in_ok-append_header.ensures ∙ ap (λ (l : List ℕ). l ++ header_text c.upgraded.result) c.new-text.ensures.items ∙ ap (λ (h : Header). header_text h) header in
-    let sent = subst (λ (t : List ℕ). Appends had mid t) text c.in_ok-write_out.ensures.ok in
-    let first = header_text (upgraded w.header) in
-    IfOk-weaker c.upgrade_entries.result _ _
-    (λ count all. known_then (g.R.Source.remaining c.args.reader.now) _ _ c.in_ok-walk.ensures.begins
-    (λ bytes walks.
-    let e = all (first_spot bytes w.header) first walks (header_upgrades bytes w from walks one) in
-    (e.0, first ++ e.1, e.2, Appends-trans had mid has first e.1 sent e.3, e.4)))
-    c.upgrade_entries.ensures.all
+    IfOk-weaker c.upgrade_behind_header.result _ _
+    (λ count all. known_then (g.R.Source.remaining c.args.reader.now) _ _ c.in_ok-walk.ensures.begins all)
+    c.upgrade_behind_header.ensures.upgraded
 
 pub returns-clause-stopped : goal.returns-clause-stopped
 returns-clause-stopped g c =
-    let w = c.in_ok-walk.walk in
-    let from = g.R.Source.remaining c.begin.new.reader in
-    let had = g.W.Sink.contents c.args.writer.now in
-    let mid = g.W.Sink.contents c.write_out.new.writer in
-    let has = g.W.Sink.contents c.upgrade_entries.new.writer in
-    let one = sym (ap (λ (h : Header). h.format) c.header-header.ensures) ∙ c.in-One.is in
-    let header = c.upgraded.ensures ∙ ap (λ (h : Header). upgraded h) c.header-header.ensures in
-    let text = c.as_slice.ensures.value ∙ c.in_ok-append_header.ensures ∙ ap (λ (l : List ℕ). l ++ header_text c.upgraded.result) c.new-text.ensures.items ∙ ap (λ (h : Header). header_text h) header in
-    let sent = subst (λ (t : List ℕ). Appends had mid t) text c.in_ok-write_out.ensures.ok in
-    let first = header_text (upgraded w.header) in
-    IfErr-weaker c.upgrade_entries.result _ _
-    (λ fault part. known_then (g.R.Source.remaining c.args.reader.now) _ _ c.in_ok-walk.ensures.begins
-    (λ bytes walks.
-    let e = part (first_spot bytes w.header) first walks (header_upgrades bytes w from walks one) in
-    (first ++ e.0, Appends-trans had mid has first e.0 sent e.1, e.2)))
-    c.upgrade_entries.ensures.part
+    IfErr-weaker c.upgrade_behind_header.result _ _
+    (λ fault part. known_then (g.R.Source.remaining c.args.reader.now) _ _ c.in_ok-walk.ensures.begins part)
+    c.upgrade_behind_header.ensures.stopped
 
 pub returns-in_err-walk-clause-cause : goal.returns-in_err-walk-clause-cause
 returns-in_err-walk-clause-cause g c =
     handed_on c.from_residual.result _ _ c.from_residual.ensures.1 (λ is. absurd (never_write c.in_err-walk.field-0.0 is))
-
-pub returns-in_err-append_header-clause-cause : goal.returns-in_err-append_header-clause-cause
-returns-in_err-append_header-clause-cause g c =
-    handed_on c.from_residual-in_err-append_header.result _ _ c.from_residual-in_err-append_header.ensures.1 (λ is. absurd (not_written is))
-
-pub returns-in_err-write_out-clause-cause : goal.returns-in_err-write_out-clause-cause
-returns-in_err-write_out-clause-cause g c =
-    handed_on c.from_residual-in_err-write_out.result _ _ c.from_residual-in_err-write_out.ensures.1 (λ is. c.in_err-write_out.ensures.cause)

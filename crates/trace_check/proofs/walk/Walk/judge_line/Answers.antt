@@ -3,7 +3,7 @@ use Rattle.std.proofs.lemmas.Result.{IfOk-weaker, IfErr-weaker}
 use Rattle.ds_words.specs.declared.command.ScriptCommand.{ScriptCommand}
 use Rattle.trace_words.specs.declared.asked.Asked.TheVariants as askeds
 use Rattle.trace_check.specs.Steps.{HearsAt}
-use Rattle.trace_check.proofs.ToldLemmas.{older_is, line_for_store}
+use Rattle.trace_check.proofs.ToldLemmas.{older_is}
 use Rattle.trace_check.proofs.walk.Walk.judge_line.Goals as goal
 
 pub returns-in-Some-clause-goes : goal.returns-in-Some-clause-goes
@@ -20,16 +20,11 @@ returns-in-Some-clause-fails g c =
     IfErr-weaker c.judge_sweep.result _ _
     (λ fault fails b x. fails b (subst (λ (k : ScriptCommand). HearsAt b old (g.R.Source.remaining c.args.reader.now) c.args.pass (askeds.Line k)) is.1 x)) c.judge_sweep.ensures.fails
 
-pub returns-in-Some-2-clause-goes : goal.returns-in-Some-2-clause-goes
-returns-in-Some-2-clause-goes g c =
-    let old = c.args.self.now in
-    let asks = sym c.in_ok-command-in-None.ensures.command ∙ c.in-Some-2.is in
-    let f = line_for_store old.header.format c.args.command c.in-Some-2.command c.wording-wording.result old.lines.line (sym c.older.ensures ∙ c.in-None.is) asks c.wording-wording.ensures c.requires in
-    IfOk-weaker c.ask.result _ _ (λ passed goes b x. goes b c.args.pass (askeds.Line c.args.command) f x) c.ask.ensures.goes
+pub judge_plain-requires-clause-plain : goal.judge_plain-requires-clause-plain
+judge_plain-requires-clause-plain g c = sym c.older.ensures ∙ c.in-None.is
 
-pub returns-in-Some-2-clause-fails : goal.returns-in-Some-2-clause-fails
-returns-in-Some-2-clause-fails g c =
-    let old = c.args.self.now in
-    let asks = sym c.in_ok-command-in-None.ensures.command ∙ c.in-Some-2.is in
-    let f = line_for_store old.header.format c.args.command c.in-Some-2.command c.wording-wording.result old.lines.line (sym c.older.ensures ∙ c.in-None.is) asks c.wording-wording.ensures c.requires in
-    IfErr-weaker c.ask.result _ _ (λ fault fails b x. fails b c.args.pass (askeds.Line c.args.command) f x) c.ask.ensures.fails
+pub returns-in-None-clause-goes : goal.returns-in-None-clause-goes
+returns-in-None-clause-goes g c = IfOk-weaker c.judge_plain.result _ _ (λ passed goes b x. goes b c.args.pass x) c.judge_plain.ensures.goes
+
+pub returns-in-None-clause-fails : goal.returns-in-None-clause-fails
+returns-in-None-clause-fails g c = IfErr-weaker c.judge_plain.result _ _ (λ fault fails b x. fails b c.args.pass x) c.judge_plain.ensures.fails
