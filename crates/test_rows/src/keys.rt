@@ -1,16 +1,8 @@
-//! Keys, versions and queries of the rows.
+//! Keys, versions and queries of the readings.
 
 use ds_names::{Generation, Key, Kind, Kinds, Name, Version};
 use ds_pattern::{PatternText, Query};
 use std::alloc::Global;
-
-/// The key of a label.
-pub(crate) fn label_key(text: &[u8]) -> Option<Key> {
-    Some(Key {
-        name: Name::read(text).ok()?,
-        kind: Kind::Label,
-    })
-}
 
 /// The key of a number.
 pub(crate) fn number_key(text: &[u8]) -> Option<Key> {

@@ -1,6 +1,7 @@
 //! What a service is told, in words.
 
 use ds_entry::{Item, Items};
+use ds_names::Name;
 use ds_reader::ReadFault;
 use std::alloc::Global;
 
@@ -18,13 +19,19 @@ fn names_of(alloc: Global, items: &Items) -> Option<String> {
     let mut names = String::new(alloc);
     names.push_str("items").ok()?;
     for item in items.as_slice() {
-        let (word, name) = match item {
-            Item::Change(change) => (" ", change.key().name),
-            Item::Floor(floor) => (" !", floor.owner),
-        };
-        let text = str::from_utf8(name.bytes()).ok()?;
-        names.push_str(word).ok()?;
-        names.push_str(text).ok()?;
+        push_name(&mut names, item)?;
     }
     Some(names)
+}
+
+fn push_name(names: &mut String, item: &Item) -> Option<()> {
+    match item {
+        Item::Change(change) => push_word(names, " ", &change.key().name),
+        Item::Floor(floor) => push_word(names, " !", &floor.owner),
+    }
+}
+
+fn push_word(names: &mut String, mark: &str, name: &Name) -> Option<()> {
+    names.push_str(mark).ok()?;
+    names.push_str(str::from_utf8(name.bytes()).ok()?).ok()
 }

@@ -1,0 +1,91 @@
+//! Events that happen in a world at once: those of a script happen one by one.
+
+use ds_entry::Items;
+use ds_line::read_item;
+use ds_machine::{Command, Reply, Scope};
+use ds_replica::{Event, EventFault, Holder, Outcome, Seed, Side};
+use ds_world::{Events, Outcomes, World};
+use std::alloc::Global;
+
+// What another holder gives store A.
+const LINE: &[u8] = b"a u32 eth0 1.0 = 1\n";
+
+/// Lets four events happen at once, of which the third is refused: store A is given a change, and all that it then holds goes to
+/// store B. `None` where memory is wanting, or something else came of one.
+pub(crate) fn happen_at_once(alloc: Global) -> Option<()> {
+    let mut world = World::new(alloc, seed(1), seed(2)).ok()?;
+    happen_in(alloc, &mut world)
+}
+
+fn seed(incarnation: u64) -> Seed {
+    Seed {
+        incarnation,
+        first: 0,
+        ring: 256,
+    }
+}
+
+fn happen_in(alloc: Global, world: &mut World) -> Option<()> {
+    let outcomes = world.run(events(alloc)?).ok()?;
+    let is_held = world.store(Side::B).held().len() == 1;
+    (is_held && are_wanted(&outcomes)).then_some(())
+}
+
+fn events(alloc: Global) -> Option<Events> {
+    let mut events = Events::new(alloc);
+    add(&mut events, ask(merge(alloc)?))?;
+    add(&mut events, ask(Command::Snapshot { scope: Scope::All }))?;
+    add(&mut events, deliver(9))?;
+    add(&mut events, deliver(0))?;
+    Some(events)
+}
+
+fn add(events: &mut Events, event: Event) -> Option<()> {
+    events.push(event).ok()
+}
+
+// Store A is asked.
+fn ask(command: Command) -> Event {
+    Event::Ask {
+        side: Side::A,
+        command,
+    }
+}
+
+// Another holder gives one change.
+fn merge(alloc: Global) -> Option<Command> {
+    let (item, _) = read_item(alloc, LINE).ok()?;
+    let mut items = Items::new(alloc);
+    items.push(item).ok()?;
+    Some(Command::Merge { items })
+}
+
+// A message goes to store B.
+fn deliver(message: usize) -> Event {
+    Event::Deliver {
+        message,
+        holder: Holder::Store(Side::B),
+        count: None,
+    }
+}
+
+// Whether each event has its outcome.
+fn are_wanted(outcomes: &Outcomes) -> bool {
+    for event in 0..4 {
+        match outcomes.get(event) {
+            Some(outcome) if is_wanted(event, outcome) => {}
+            _ => return false,
+        }
+    }
+    outcomes.len() == 4
+}
+
+fn is_wanted(event: usize, outcome: &Outcome) -> bool {
+    match outcome {
+        Outcome::Replied(Reply::Merged { taken, .. }) => event == 0 && *taken == 1,
+        Outcome::Made { message } => event == 1 && *message == 0,
+        Outcome::Refused(EventFault::NoMessage) => event == 2,
+        Outcome::Merged { taken, .. } => event == 3 && *taken == 1,
+        _ => false,
+    }
+}
