@@ -38,28 +38,45 @@ A run that fails prints nothing, has one word on standard error, and status 3:
 
 /// The subcommand.
 pub(crate) fn live<'a>(alloc: Global) -> Result<Command<'a>, AllocError> {
-    let live = Command::new(alloc, "live")
-        .about(ABOUT)
-        .long_about(LONG_ABOUT);
-    let live = live.arg(number(alloc, PUBLISHERS, "2", "How many publish, 1 to 8").value_parser(
-        clap::value_parser!(u32).range(1..=8),
-    ))?;
-    let live = live.arg(number(alloc, SUBSCRIBERS, "2", "How many follow, 1 to 8").value_parser(
-        clap::value_parser!(u32).range(1..=8),
-    ))?;
-    live.arg(number(alloc, CHANGES, "3", "How many turns each takes, 1 to 1000").value_parser(
-        clap::value_parser!(u32).range(1..=1000),
-    ))
+    let changes = number(
+        alloc,
+        CHANGES,
+        "3",
+        "How many turns each takes, 1 to 1000",
+        1000,
+    );
+    of_both(alloc)?.arg(changes)
 }
 
-// An option whose value is a number.
-fn number<'a>(alloc: Global, name: &'a str, default: &'a str, about: &'a str) -> Arg<'a> {
+// The subcommand with the options of those that follow and of those that publish.
+fn of_both<'a>(alloc: Global) -> Result<Command<'a>, AllocError> {
+    let subscribers = number(alloc, SUBSCRIBERS, "2", "How many follow, 1 to 8", 8);
+    of_publishers(alloc)?.arg(subscribers)
+}
+
+// The subcommand with the option of those that publish alone.
+fn of_publishers<'a>(alloc: Global) -> Result<Command<'a>, AllocError> {
+    Command::new(alloc, "live")
+        .about(ABOUT)
+        .long_about(LONG_ABOUT)
+        .arg(number(alloc, PUBLISHERS, "2", "How many publish, 1 to 8", 8))
+}
+
+// An option whose value is a number, 1 to this one at most.
+fn number<'a>(
+    alloc: Global,
+    name: &'a str,
+    default: &'a str,
+    about: &'a str,
+    most: i64,
+) -> Arg<'a> {
     Arg::new(alloc, name)
         .long(name)
         .action(ArgAction::Set)
         .value_name("N")
         .default_value(default)
         .help(about)
+        .value_parser(clap::value_parser!(u32).range(1..=most))
 }
 
 /// The threads that were asked for. Each option has a default; without it the number would be 0, which is none of a run's.

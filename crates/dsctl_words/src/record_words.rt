@@ -17,11 +17,16 @@ const COUNTS: [&str; 2] = ["1024", "4096"];
 
 /// The subcommand.
 pub(crate) fn record<'a>(alloc: Global) -> Result<Command<'a>, AllocError> {
-    let record = Command::new(alloc, "record")
+    let keys = one_of(alloc, KEYS, &COUNTS, KEYS_ABOUT);
+    of_format(alloc)?.arg(keys)
+}
+
+// The subcommand with the option of the format alone.
+fn of_format<'a>(alloc: Global) -> Result<Command<'a>, AllocError> {
+    Command::new(alloc, "record")
         .about(RECORD_ABOUT)
-        .long_about(RECORD_LONG_ABOUT);
-    let record = record.arg(one_of(alloc, FORMAT, &FORMATS, FORMAT_ABOUT))?;
-    record.arg(one_of(alloc, KEYS, &COUNTS, KEYS_ABOUT))
+        .long_about(RECORD_LONG_ABOUT)
+        .arg(one_of(alloc, FORMAT, &FORMATS, FORMAT_ABOUT))
 }
 
 // An option whose value is one of these.
@@ -47,9 +52,13 @@ pub(crate) fn form_of(given: &ArgMatches<'_>) -> Option<TraceForm> {
 
 /// The fault of format 1 with 4096 keys.
 pub(crate) fn too_many_keys(alloc: Global) -> Result<Error, AllocError> {
-    let mut record = record(alloc)?.bin_name("dsctl record")?;
-    record.error(
+    named_in_full(alloc)?.error(
         ErrorKind::ArgumentConflict,
         "a trace of format 1 has 1024 keys, never 4096",
     )
+}
+
+// The subcommand, as its usage names it.
+fn named_in_full<'a>(alloc: Global) -> Result<Command<'a>, AllocError> {
+    record(alloc)?.bin_name("dsctl record")
 }

@@ -10,6 +10,7 @@ use crate::record_words::{form_of, record, too_many_keys};
 use clap::error::ErrorKind;
 use clap::{Arg, ArgAction, ArgMatches, Command, Error};
 use std::alloc::{AllocError, Global};
+use std::env::Args;
 use std::io;
 use std::rt::Runtime;
 
@@ -65,38 +66,69 @@ pub fn read<R: Runtime + AllocGlobal>(rt: &R) -> Words {
             return Words::Usage;
         }
     };
-    let mut words: Vec<String> = Vec::new(rt.alloc());
+    match listed(rt.alloc(), given) {
+        Ok(words) => understood(rt, &words),
+        Err(AllocError) => Words::NoRoom,
+    }
+}
+
+// The words, one behind another.
+fn listed(alloc: Global, given: Args) -> Result<Vec<String>, AllocError> {
+    let mut words: Vec<String> = Vec::new(alloc);
     for word in given {
         // Not `collect`, which goes on where a growth was refused and asks for less.
         if words.push(word).is_err() {
-            return Words::NoRoom;
+            return Err(AllocError);
         }
     }
-    match parse(rt.alloc(), &words) {
+    Ok(words)
+}
+
+// What the words ask for. Where they are none of the program's, or ask for help, they are answered.
+fn understood<R: Runtime + AllocGlobal>(rt: &R, words: &[String]) -> Words {
+    match parse(rt.alloc(), words) {
         Ok(words) => words,
-        Err(error) => answer(rt, &error, &words),
+        Err(error) => answer(rt, &error, words),
     }
 }
 
 // What the words ask for, if they are the program's.
-fn parse<'a>(alloc: Global, words: &'a [String]) -> Result<Words, Error> {
-    let program: Command<'a> = command(alloc)?;
-    let matches: ArgMatches<'a> = program.try_get_matches_from(words)?;
-    Ok(match matches.subcommand() {
-        Some(("settings", _)) => Words::Settings,
-        Some(("verify", _)) => Words::Verify,
-        Some(("upgrade", _)) => Words::Upgrade,
-        Some(("record", given)) => match form_of(given) {
-            Some(form) => Words::Record(form),
-            None => return Err(too_many_keys(alloc)?),
+fn parse(alloc: Global, words: &[String]) -> Result<Words, Error> {
+    let asked = asked_by(&matches_of(alloc, words)?);
+    match asked {
+        Some(words) => Ok(words),
+        None => Err(too_many_keys(alloc)?),
+    }
+}
+
+// The words as `clap` reads them.
+fn matches_of<'a>(alloc: Global, words: &'a [String]) -> Result<ArgMatches<'a>, Error> {
+    command(alloc)?.try_get_matches_from(words)
+}
+
+// What is asked for; of a trace of format 1 with 4096 keys, which there is none of, `None`.
+fn asked_by(matches: &ArgMatches<'_>) -> Option<Words> {
+    let Some((word, given)) = matches.subcommand() else {
+        return Some(Words::Replay { go_on: None });
+    };
+    Some(match word {
+        "settings" => Words::Settings,
+        "verify" => Words::Verify,
+        "upgrade" => Words::Upgrade,
+        "record" => Words::Record(form_of(given)?),
+        "live" => crew_of(given),
+        _ => Words::Replay {
+            go_on: going_on(given),
         },
-        Some(("live", given)) => crew_of(given),
-        Some(("replay", given)) if given.get_flag(KEEP_GOING) => {
-            Words::Replay { go_on: Some(true) }
-        }
-        Some(("replay", given)) if given.get_flag(STOP) => Words::Replay { go_on: Some(false) },
-        _ => Words::Replay { go_on: None },
     })
+}
+
+// Whether to go on behind a line that can't be read, if that was said.
+fn going_on(given: &ArgMatches<'_>) -> Option<bool> {
+    if given.get_flag(KEEP_GOING) {
+        return Some(true);
+    }
+    given.get_flag(STOP).then_some(false)
 }
 
 // The options to go on behind lines that can't be read, and to end there.
@@ -106,13 +138,27 @@ const STOP: &str = "stop";
 
 // The command line of the program.
 fn command<'a>(alloc: Global) -> Result<Command<'a>, AllocError> {
-    let replay = replay(alloc)?;
-    let program = program(alloc).subcommand(replay)?;
-    let program = program.subcommand(settings(alloc))?;
-    let program = program.subcommand(verify(alloc))?;
-    let program = program.subcommand(upgrade(alloc))?;
-    let program = program.subcommand(record(alloc)?)?;
-    program.subcommand(live(alloc)?)
+    let subcommands = subcommands(alloc)?;
+    program(alloc).subcommands(subcommands)
+}
+
+fn subcommands<'a>(alloc: Global) -> Result<Vec<Command<'a>>, AllocError> {
+    let mut all = Vec::new(alloc);
+    add(&mut all, replay(alloc)?)?;
+    add(&mut all, settings(alloc))?;
+    add_of_traces(alloc, &mut all)?;
+    add(&mut all, live(alloc)?)?;
+    Ok(all)
+}
+
+fn add_of_traces<'a>(alloc: Global, all: &mut Vec<Command<'a>>) -> Result<(), AllocError> {
+    add(all, verify(alloc))?;
+    add(all, upgrade(alloc))?;
+    add(all, record(alloc)?)
+}
+
+fn add<'a>(all: &mut Vec<Command<'a>>, one: Command<'a>) -> Result<(), AllocError> {
+    Ok(all.push(one)?)
 }
 
 // The program, without its subcommands.
@@ -127,12 +173,21 @@ fn program<'a>(alloc: Global) -> Command<'a> {
 }
 
 fn replay<'a>(alloc: Global) -> Result<Command<'a>, AllocError> {
-    let replay = Command::new(alloc, "replay")
+    let stop = stop(alloc)?;
+    going(alloc)?.arg(stop)
+}
+
+// The option to end.
+fn stop<'a>(alloc: Global) -> Result<Arg<'a>, AllocError> {
+    flag(alloc, STOP, STOP_ABOUT).conflicts_with(KEEP_GOING)
+}
+
+// The subcommand of scripts with the option to go on alone.
+fn going<'a>(alloc: Global) -> Result<Command<'a>, AllocError> {
+    Command::new(alloc, "replay")
         .about("Answer a script; no subcommand means this one")
-        .after_help(LINES);
-    let stop = flag(alloc, STOP, STOP_ABOUT).conflicts_with(KEEP_GOING)?;
-    let replay = replay.arg(flag(alloc, KEEP_GOING, KEEP_GOING_ABOUT))?;
-    replay.arg(stop)
+        .after_help(LINES)
+        .arg(flag(alloc, KEEP_GOING, KEEP_GOING_ABOUT))
 }
 
 // An option without a value.
@@ -193,17 +248,24 @@ fn tip(given: &[String]) -> Option<&'static str> {
     if first == "help" {
         return Some(HELP);
     }
-    if !given.iter().skip(1).any(|word| names_file(word.as_str())) {
-        return None;
-    }
-    Some(match first {
+    name_a_file(given).then_some(not_by_name(first))
+}
+
+// What somebody is told who named a file behind this word.
+fn not_by_name(first: &str) -> &'static str {
+    match first {
         "settings" => TEXT,
         "verify" => TRACE,
         "upgrade" => OLDER_TRACE,
         "record" => COMMANDS,
         "live" => NOTHING,
         _ => SCRIPT,
-    })
+    }
+}
+
+// Whether one of the words behind the program's name looks like the name of a file.
+fn name_a_file(given: &[String]) -> bool {
+    given.iter().skip(1).any(|word| names_file(word.as_str()))
 }
 
 // Whether a word looks like the name of a file.
