@@ -16,7 +16,7 @@ use Rattle.ds_script.specs.Causes.{HasWriteCause, HasTurnCause}
 
 -- what it has reached
 abbrev pub reached : {W B : Type 0} → Replay W B → Reached
-reached it = record { session = it.session; waiting = it.output.items; lines = it.tally.lines; bad = it.tally.bad; policy = it.bad_lines }
+reached it = record { session = it.session.now; waiting = it.output.items; lines = it.tally.lines; bad = it.tally.bad; policy = it.bad_lines }
 
 -- the bytes that its writer holds, where they are known
 abbrev pub written : {W B : Type 0} → Writer W → Replay W B → Option (List ℕ)
@@ -116,7 +116,7 @@ pub record KeepsCount {W B : Type 0} (replay : Replay W B) (old new : LinesConte
 
 -- Nothing was read yet, and nothing answered.
 pub record IsAtStart {W B : Type 0} (replay : Replay W B) (at : LinesContent) : Type 0 where
-  pub opened : IsOpened 256 replay.session
+  pub opened : IsOpened 256 replay.session.now
   pub waiting : replay.output.items ≡ []
   pub lines : replay.tally.lines ≡ 0
   pub bad : replay.tally.bad ≡ 0

@@ -1,6 +1,7 @@
 //! Carrying commands out, and their answers.
 
-ghost use Rattle.std.specs.Prelude.{◌≡◌, ◌≤◌, OnOk, OnErr};
+ghost use Rattle.std.specs.Prelude.{◌≡◌, ◌≤◌, ◌++◌, OnOk, OnErr};
+ghost use Rattle.store_words.specs.Outcome.{ring_line};
 ghost use Rattle.ds_words.specs.Command.{IsCommand};
 ghost use Rattle.ds_words.specs.ServiceEvent.{request_event};
 ghost use Rattle.ds_script.specs.Answer.{AppendsCommand, AppendsRing, AppendsSide};
@@ -15,6 +16,7 @@ use ds_replica::Side;
 use ds_words::{Request, ScriptCommand};
 use rs_core::Event;
 use std::alloc::Global;
+use std::mem::swap;
 use store_words::{append_noroom, append_ring, append_side};
 
 /// Carries a command out, and puts its answer behind those that wait.
@@ -107,11 +109,24 @@ fn answer_ring(
     ensures answered { OnOk result (AppendsRing ring output.old.items output.new.items session.old session.new) }
     ensures unanswered { OnErr result (output.new.items ≡ output.old.items) }
 {
-    let Ok(opened) = Session::open(alloc, ring) else {
-        return append_noroom(output);
-    };
+    match Session::open(alloc, ring) {
+        Ok(mut opened) => answer_opened(session, &mut opened, output, ring),
+        Err(_) => append_noroom(output),
+    }
+}
+
+// Says that the journals keep so many items, and changes the session for the one that was opened.
+fn answer_opened(
+    session: &mut Session,
+    opened: &mut Session,
+    output: &mut Vec<u8>,
+    ring: u32,
+) -> Result<(), NoRoom>
+    ensures answered { OnOk result ((output.new.items ≡ output.old.items ++ ring_line ring) × (session.new ≡ opened.old)) }
+    ensures unanswered { OnErr result (output.new.items ≡ output.old.items) }
+{
     append_ring(output, ring)?;
-    *session = opened;
+    swap(session, opened);
     Ok(())
 }
 

@@ -6,7 +6,9 @@ ghost use Rattle.ds_script.specs.declared.report.BadLines.TheVariants.{End};
 ghost use Rattle.ds_script.specs.Replay.{IsReplayed, StopsWith};
 ghost use Rattle.ds_script.specs.Progress.{Stops, Settles};
 ghost use Rattle.ds_script.specs.Causes.{HasCause, SettlesFor};
+ghost use Rattle.ds_script.specs.Session.{IsOpened};
 ghost use Rattle.ds_script.specs.Taking.{KeepsWriter, IsAtStart};
+ghost use Rattle.ds_lines.specs.Reading.{no_lines};
 
 use crate::fault::ReplayFault;
 use crate::report::{BadLines, Nobody, Report};
@@ -83,7 +85,40 @@ pub fn replay_reporting<R: Source, W: Sink, B: Report>(
     let Ok(mut lines) = Lines::new(alloc) else {
         return Err(ReplayFault::NoRoom);
     };
-    let session = Session::open(alloc, RING)?;
+    let mut session = Session::open(alloc, RING)?;
+    replay_over(
+        alloc,
+        &mut session,
+        &mut lines,
+        reader,
+        writer,
+        report,
+        bad_lines,
+    )
+}
+
+// The same over a session that was just opened, and lines of which nothing was read.
+fn replay_over<R: Source, W: Sink, B: Report>(
+    alloc: Global,
+    session: &mut Session,
+    lines: &mut Lines,
+    reader: &mut R,
+    writer: &mut W,
+    report: &mut B,
+    bad_lines: BadLines,
+) -> Result<Replayed, ReplayFault>
+    requires opened { IsOpened 256 session.old }
+    requires nothing { lines.old ≡ no_lines }
+    ensures answered { IfOk result (λ done. (input output : List ℕ)
+        × Consumes (R.remaining reader.old) (R.remaining reader.new) input × IsAtEnd (R.remaining reader.new)
+        × Appends (W.contents writer.old) (W.contents writer.new) output
+        × IsReplayed bad_lines input done.lines done.bad output) }
+    ensures stopped { IfErr result (λ fault. (input output : List ℕ)
+        × Consumes (R.remaining reader.old) (R.remaining reader.new) input
+        × Appends (W.contents writer.old) (W.contents writer.new) output
+        × StopsWith bad_lines fault (R.remaining reader.new) input output) }
+    ensures cause { IfErr result (λ fault. HasCause R.Source W.Sink fault reader.old reader.new writer.new) }
+{
     let mut replay = Replay {
         alloc,
         writer,
@@ -93,10 +128,9 @@ pub fn replay_reporting<R: Source, W: Sink, B: Report>(
         tally: Tally { lines: 0, bad: 0 },
         bad_lines,
     };
-    let ran = replay.run(reader, &mut lines);
+    let ran = replay.run(reader, lines);
     let Replay {
         writer,
-        session: _session,
         output,
         tally,
         ..

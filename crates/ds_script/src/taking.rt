@@ -25,7 +25,7 @@ pub(crate) struct Replay<'a, W, B> {
     pub alloc: Global,
     pub writer: &'a mut W,
     pub report: &'a mut B,
-    pub session: Session,
+    pub session: &'a mut Session,
     pub output: Vec<u8>,
     pub tally: Tally,
     pub bad_lines: BadLines,
@@ -41,13 +41,7 @@ impl<W: Sink, B: Report> Replay<'_, W, B> {
     {
         send_full(self.writer, &mut self.output)?;
         let before = self.tally.lines;
-        match answer_line(
-            self.alloc,
-            line,
-            before,
-            &mut self.session,
-            &mut self.output,
-        ) {
+        match answer_line(self.alloc, line, before, self.session, &mut self.output) {
             Ok(()) => {
                 self.tally.lines += 1;
                 Ok(())

@@ -1,9 +1,9 @@
 -- Behind what was gone through before a wrong line no more of the first lines are a legal trace.
-use Rattle.std.proofs.Common.{◌≡◌, ◌≢◌, ℕ, suc, ◌⊎◌, List, [], ◌∷◌, ◌++◌, get_or, drop, inl, inr, refl, sym, ap, subst, ◌∙◌, arith, append_assoc, append-nil}
+use Rattle.std.proofs.Common.{◌≡◌, ℕ, suc, ◌⊎◌, List, [], ◌∷◌, ◌++◌, get_or, drop, inl, inr, refl, sym, ap, subst, ◌∙◌, arith, append_assoc, append-nil}
 use Rattle.std.specs.List.{All}
 use Rattle.std.proofs.lemmas.Grind.{flat_map-append}
 use Rattle.ds_lines.specs.Lines.{HasLines, IsUnbroken, joined, unended, with_newline}
-use Rattle.trace_words.specs.Verdict.{Fails, IsLegal, IsWrongAt, MayBegin}
+use Rattle.trace_words.specs.Verdict.{Fails, IsLegal, IsWrongAt}
 use Rattle.trace_words.specs.Walk.{NoneEnds}
 use Rattle.trace_check.proofs.BeginLemmas.{joined_none}
 use Rattle.trace_check.proofs.WalkingLemmas.{first_line, only_line}
