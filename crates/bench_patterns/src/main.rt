@@ -36,18 +36,30 @@ fn main(rt: HostRuntime) -> ExitCode {
 }
 
 // The words of the command line.
-fn read_words(rt: &impl Runtime) -> Option<Words> {
+fn read_words(rt: &(impl Runtime + AllocGlobal)) -> Option<Words> {
     let mut args = std::env::args(rt).ok()?;
     let _program = args.next();
-    let copies = args.next()?.as_str().parse::<u32>().ok()?;
-    let rounds = args.next()?.as_str().parse::<u32>().ok()?;
-    let name = Name::read(args.next()?.as_str().as_bytes()).ok()?;
-    let kind = Kind::Label;
+    let copies = number(args.next())?;
+    let rounds = number(args.next())?;
+    let key = label(args.next())?;
     Some(Words {
         copies,
         rounds,
-        key: Key { name, kind },
+        key,
     })
+}
+
+fn number(word: Option<String>) -> Option<u32> {
+    let word = word?;
+    word.as_str().parse::<u32>().ok()
+}
+
+// The key of the label of this name.
+fn label(word: Option<String>) -> Option<Key> {
+    let word = word?;
+    let name = Name::read(word.as_str().as_bytes()).ok()?;
+    let kind = Kind::Label;
+    Some(Key { name, kind })
 }
 
 // Takes the patterns up, and asks them all.
@@ -73,20 +85,31 @@ fn take_up(
     copies: u32,
     filters: &mut Vec<Filter>,
 ) -> Result<&'static str, Failed> {
-    let text = PatternText::of(alloc, line.as_bytes()).map_err(|_: NoRoom| Failed)?;
-    let Some(kinds) = Kinds::of(15) else {
-        unreachable!()
-    };
-    let query = Query { text, kinds };
+    let query = read_query(alloc, line)?;
     for _ in 0..copies {
         match Filter::read(alloc, &query) {
             Ok(filter) => filters.push(filter).map_err(|_| Failed)?,
-            Err(PatternFault::TooLong) => return Ok("toolong"),
-            Err(PatternFault::BadPattern) => return Ok("badpattern"),
-            Err(PatternFault::NoRoom) => return Ok("noroom"),
+            Err(fault) => return Ok(word_of(fault)),
         }
     }
     Ok("taken")
+}
+
+// The query of all kinds under a pattern.
+fn read_query(alloc: Global, line: &str) -> Result<Query, Failed> {
+    let Some(kinds) = Kinds::of(15) else {
+        unreachable!()
+    };
+    let text = PatternText::of(alloc, line.as_bytes()).map_err(|_: NoRoom| Failed)?;
+    Ok(Query { text, kinds })
+}
+
+fn word_of(fault: PatternFault) -> &'static str {
+    match fault {
+        PatternFault::TooLong => "toolong",
+        PatternFault::BadPattern => "badpattern",
+        PatternFault::NoRoom => "noroom",
+    }
 }
 
 // How many of them have the key under them.

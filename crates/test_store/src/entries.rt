@@ -20,31 +20,42 @@ const BLOCKS: [&str; 4] = ["merge", "run", "take", "join"];
 /// The entries of the lines.
 pub(crate) fn read_entries(alloc: Global, lines: &str) -> Result<Vec<Entry>, Failure> {
     let mut entries = Vec::new(alloc);
-    let mut open: Option<Entry> = None;
+    let mut open = None;
     for line in lines.lines() {
-        match open.take() {
-            Some(entry) if line == "end" => entries.push(entry)?,
-            Some(mut entry) => {
-                entry.block.push(read_line(alloc, line)?)?;
-                open = Some(entry);
-            }
-            None => {
-                let entry = Entry {
-                    line: String::from_str(alloc, line)?,
-                    block: Vec::new(alloc),
-                };
-                if BLOCKS.contains(&line) {
-                    open = Some(entry);
-                } else {
-                    entries.push(entry)?;
-                }
-            }
-        }
+        read_on(alloc, &mut entries, &mut open, line)?;
     }
     if open.is_some() {
         return Err(Failure::BadLine);
     }
     Ok(entries)
+}
+
+// Reads a line of the block that is open, or of none.
+fn read_on(
+    alloc: Global,
+    entries: &mut Vec<Entry>,
+    open: &mut Option<Entry>,
+    line: &str,
+) -> Result<(), Failure> {
+    match open.take() {
+        Some(entry) if line == "end" => entries.push(entry)?,
+        Some(entry) => *open = Some(go_on(alloc, entry, line)?),
+        None if BLOCKS.contains(&line) => *open = Some(begin(alloc, line)?),
+        None => entries.push(begin(alloc, line)?)?,
+    }
+    Ok(())
+}
+
+fn begin(alloc: Global, line: &str) -> Result<Entry, Failure> {
+    Ok(Entry {
+        line: String::from_str(alloc, line)?,
+        block: Vec::new(alloc),
+    })
+}
+
+fn go_on(alloc: Global, mut entry: Entry, line: &str) -> Result<Entry, Failure> {
+    entry.block.push(read_line(alloc, line)?)?;
+    Ok(entry)
 }
 
 /// The command of a line of a script.

@@ -56,29 +56,16 @@ impl Subject for Held {
         let Entry { line, block } = entry;
         match line.as_str() {
             "join" => Ok(Asked::Join(other(alloc, block)?)),
-            "all" => Ok(Asked::All),
-            "clear" => Ok(Asked::Clear),
-            "after -" => Ok(Asked::After(None)),
-            line => match line.split_once(' ') {
-                Some(("copy", change)) => Ok(Asked::Copy(change_of(alloc, change)?)),
-                Some(("get", key)) => Ok(Asked::Get(key_of(alloc, key)?)),
-                Some(("live", key)) => Ok(Asked::Live(key_of(alloc, key)?)),
-                Some(("after", key)) => Ok(Asked::After(Some(key_of(alloc, key)?))),
-                _ => Ok(Asked::Offer(offered(read_line(alloc, line)?)?)),
-            },
+            line => asked_by(alloc, line),
         }
     }
 
     fn answer(&mut self, alloc: Global, text: &mut Vec<u8>, asked: Asked) -> Result<(), Failure> {
         match asked {
-            Asked::Offer(Item::Change(change)) => add_merge(text, self.merge(change)),
-            Asked::Offer(Item::Floor(floor)) => add_merge(text, self.raise(floor)),
+            Asked::Offer(item) => add_merge(text, take(self, item)),
             Asked::Copy(change) => add_merge(text, self.merge_copy(alloc, &change)),
             Asked::Join(other) => add_join(text, self.join(alloc, &other)),
-            Asked::All => match self.all(alloc) {
-                Ok(items) => add_all(text, &items),
-                Err(_) => add(text, "refused noroom\n"),
-            },
+            Asked::All => add_all(alloc, text, self),
             Asked::Get(key) => add_change(text, self.get(&key)),
             Asked::Live(key) if self.live(&key).is_some() => add(text, "live\n"),
             Asked::Live(_) => add(text, "not live\n"),
@@ -91,11 +78,31 @@ impl Subject for Held {
     }
 }
 
+// What a line without a block asks.
+fn asked_by(alloc: Global, line: &str) -> Result<Asked, Failure> {
+    match line {
+        "all" => Ok(Asked::All),
+        "clear" => Ok(Asked::Clear),
+        "after -" => Ok(Asked::After(None)),
+        _ => match line.split_once(' ') {
+            Some(("copy", change)) => Ok(Asked::Copy(change_of(alloc, change)?)),
+            Some(("get", key)) => Ok(Asked::Get(key_of(alloc, key)?)),
+            Some(("live", key)) => Ok(Asked::Live(key_of(alloc, key)?)),
+            Some(("after", key)) => Ok(Asked::After(Some(key_of(alloc, key)?))),
+            _ => Ok(Asked::Offer(offered(read_line(alloc, line)?)?)),
+        },
+    }
+}
+
 // The key that a `get` names, which is spelled as in a `retrieve`.
 fn key_of(alloc: Global, key: &str) -> Result<Key, Failure> {
     let line = format!(in alloc; "retrieve {key}")?;
-    match read_line(alloc, line.as_str())? {
-        ScriptCommand::Retrieve { key } => Ok(key),
+    retrieved(&read_line(alloc, line.as_str())?)
+}
+
+fn retrieved(command: &ScriptCommand) -> Result<Key, Failure> {
+    match command {
+        ScriptCommand::Retrieve { key } => Ok(*key),
         _ => Err(Failure::BadLine),
     }
 }
@@ -121,17 +128,20 @@ fn change_of(alloc: Global, change: &str) -> Result<Change, Failure> {
 fn other(alloc: Global, block: Vec<ScriptCommand>) -> Result<Held, Failure> {
     let mut held = Held::new(alloc);
     for command in block {
-        let taken = match offered(command)? {
-            Item::Change(change) => held.merge(change),
-            Item::Floor(floor) => held.raise(floor),
-        };
-        match taken {
+        match take(&mut held, offered(command)?) {
             Ok(_) => {}
             Err(JoinFault::NoRoom) => return Err(Failure::NoRoom),
             Err(_) => return Err(Failure::BadLine),
         }
     }
     Ok(held)
+}
+
+fn take(held: &mut Held, item: Item) -> Result<Merge, JoinFault> {
+    match item {
+        Item::Change(change) => held.merge(change),
+        Item::Floor(floor) => held.raise(floor),
+    }
 }
 
 fn add_merge(text: &mut Vec<u8>, merged: Result<Merge, JoinFault>) -> Result<(), Failure> {
@@ -170,7 +180,14 @@ fn add_fault(text: &mut Vec<u8>, fault: JoinFault) -> Result<(), Failure> {
     }
 }
 
-fn add_all(text: &mut Vec<u8>, items: &Items) -> Result<(), Failure> {
+fn add_all(alloc: Global, text: &mut Vec<u8>, held: &Held) -> Result<(), Failure> {
+    match held.all(alloc) {
+        Ok(items) => add_items(text, &items),
+        Err(_) => add(text, "refused noroom\n"),
+    }
+}
+
+fn add_items(text: &mut Vec<u8>, items: &Items) -> Result<(), Failure> {
     for item in items.as_slice() {
         append_item(text, item)?;
     }

@@ -11,7 +11,7 @@ use ds_entry::Items;
 use ds_join::Stop;
 use ds_line::{append_change, append_item};
 use ds_names::{Key, Kind, Name};
-use ds_pattern::PatternFault;
+use ds_pattern::{PatternFault, Query};
 use ds_submap::{Count, SubMap};
 use ds_words::ScriptCommand;
 use std::alloc::Global;
@@ -40,10 +40,14 @@ pub(crate) fn answer_part(
     first: &str,
     lines: &str,
 ) -> Result<(), Failure> {
-    let ScriptCommand::Map { query } = read_line(alloc, first)? else {
-        return Err(Failure::BadLine);
-    };
-    match SubMap::new(alloc, &query) {
+    match read_line(alloc, first)? {
+        ScriptCommand::Map { query } => ask_map(rt, alloc, &query, lines),
+        _ => Err(Failure::BadLine),
+    }
+}
+
+fn ask_map(rt: &impl Runtime, alloc: Global, query: &Query, lines: &str) -> Result<(), Failure> {
+    match SubMap::new(alloc, query) {
         Ok(mut map) => ask_all(rt, alloc, &mut map, lines),
         Err(PatternFault::TooLong) => print(rt, b"refused toolong\n"),
         Err(PatternFault::BadPattern) => print(rt, b"refused badpattern\n"),

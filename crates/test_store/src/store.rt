@@ -44,17 +44,24 @@ pub(crate) fn answer_part(
     match Store::open_with(alloc, seed.incarnation, seed.first, seed.ring, seed.limits) {
         Ok(mut store) => ask_all(rt, alloc, &mut store, lines),
         Err(Refusal::NoRoom) => Err(Failure::NoRoom),
-        Err(refusal) => {
-            let mut text = Vec::new(alloc);
-            append_reply(
-                &mut text,
-                Wording::AsMerge,
-                &Reply::Refused(refusal),
-                seed.limits,
-            )?;
-            print(rt, text.as_slice())
-        }
+        Err(refusal) => print_refusal(rt, alloc, refusal, seed.limits),
     }
+}
+
+fn print_refusal(
+    rt: &impl Runtime,
+    alloc: Global,
+    refusal: Refusal,
+    limits: Limits,
+) -> Result<(), Failure> {
+    let mut text = Vec::new(alloc);
+    append_reply(
+        &mut text,
+        Wording::AsMerge,
+        &Reply::Refused(refusal),
+        limits,
+    )?;
+    print(rt, text.as_slice())
 }
 
 /// How a store is opened.
@@ -100,14 +107,9 @@ impl Subject for Store {
     fn make(alloc: Global, entry: Entry) -> Result<Asked, Failure> {
         let Entry { line, block } = entry;
         match line.as_str() {
-            "merge" => {
-                let items = items_of(alloc, block)?;
-                Ok(as_merge(Command::Merge { items }))
-            }
+            "merge" => Ok(as_merge(merge_of(alloc, block)?)),
             "run" => Ok(Asked::Run(commands_of(alloc, block)?)),
-            "mismatch" => Ok(as_merge(mismatch()?)),
-            "held" => Ok(Asked::Held),
-            line => asked_by(alloc, &read_line(alloc, line)?),
+            line => asked_by(alloc, line),
         }
     }
 
@@ -117,12 +119,7 @@ impl Subject for Store {
                 let reply = self.apply(command);
                 Ok(append_reply(text, wording, &reply, self.limits())?)
             }
-            Asked::Run(commands) => {
-                for reply in &run(alloc, self, commands)? {
-                    append_reply(text, Wording::AsMerge, reply, self.limits())?;
-                }
-                Ok(())
-            }
+            Asked::Run(commands) => add_run(alloc, text, self, commands),
             Asked::Restart { incarnation } => {
                 self.restart(incarnation);
                 add(text, "restarted\n")
@@ -140,8 +137,21 @@ fn as_merge(command: Command) -> Asked {
     }
 }
 
-// What a script's line asks of the store.
-fn asked_by(alloc: Global, line: &ScriptCommand) -> Result<Asked, Failure> {
+fn merge_of(alloc: Global, block: Vec<ScriptCommand>) -> Result<Command, Failure> {
+    let items = items_of(alloc, block)?;
+    Ok(Command::Merge { items })
+}
+
+// What a line without a block asks of the store.
+fn asked_by(alloc: Global, line: &str) -> Result<Asked, Failure> {
+    match line {
+        "mismatch" => Ok(as_merge(mismatch()?)),
+        "held" => Ok(Asked::Held),
+        _ => asked_by_script(alloc, &read_line(alloc, line)?),
+    }
+}
+
+fn asked_by_script(alloc: Global, line: &ScriptCommand) -> Result<Asked, Failure> {
     if let ScriptCommand::Restart { incarnation, .. } = line {
         return Ok(Asked::Restart {
             incarnation: *incarnation,
@@ -177,6 +187,19 @@ fn mismatch() -> Result<Command, Failure> {
         value: Value::U32(1500),
         overwrite: false,
     })
+}
+
+// Runs the commands, and tells each reply.
+fn add_run(
+    alloc: Global,
+    text: &mut Vec<u8>,
+    store: &mut Store,
+    commands: Vec<Command>,
+) -> Result<(), Failure> {
+    for reply in &run(alloc, store, commands)? {
+        append_reply(text, Wording::AsMerge, reply, store.limits())?;
+    }
+    Ok(())
 }
 
 fn add_held(text: &mut Vec<u8>, store: &Store) -> Result<(), Failure> {

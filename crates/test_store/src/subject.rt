@@ -34,10 +34,7 @@ pub(crate) fn ask_all<S: Subject>(
     subject: &mut S,
     lines: &str,
 ) -> Result<(), Failure> {
-    let mut script = Vec::new(alloc);
-    for entry in read_entries(alloc, lines)? {
-        script.push(S::make(alloc, entry)?)?;
-    }
+    let script = make_all::<S>(alloc, lines)?;
     let mut text = Vec::with_capacity(alloc, ANSWER)?;
     print(rt, b"ready\n")?;
     for asked in script {
@@ -46,6 +43,14 @@ pub(crate) fn ask_all<S: Subject>(
         print(rt, text.as_slice())?;
     }
     Ok(())
+}
+
+fn make_all<S: Subject>(alloc: Global, lines: &str) -> Result<Vec<S::Asked>, Failure> {
+    let mut script = Vec::new(alloc);
+    for entry in read_entries(alloc, lines)? {
+        script.push(S::make(alloc, entry)?)?;
+    }
+    Ok(script)
 }
 
 /// Writes to standard output.
