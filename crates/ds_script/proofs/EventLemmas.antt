@@ -1,12 +1,11 @@
 -- Commands, and what they are answered.
-use Rattle.std.proofs.Common.{◌≡◌, ◌≢◌, ℕ, false, ◌⊎◌, inl, inr, Option, Some, None, MatchOption, List, refl, sym, ap, subst, ◌∙◌}
+use Rattle.std.proofs.Common.{◌≡◌, ◌≢◌, ℕ, ◌⊎◌, inl, inr, Option, Some, None, MatchOption, List, refl, sym, ap, subst, ◌∙◌}
 use Rattle.std.specs.List.{slice_get}
 use Rattle.ds_names.specs.Endpoint.{EndpointRecord}
 use Rattle.ds_submap.specs.Map.{SubMapRecord}
 use Rattle.ds_replica.specs.declared.event.Event.{Event}
 use Rattle.ds_replica.specs.declared.event.Side.{Side as OneSide}
 use Rattle.ds_replica.specs.declared.outcome.Outcome.{Outcome}
-use Rattle.ds_words.specs.Command.{is_plain}
 use Rattle.ds_words.specs.Event.{event_of}
 use Rattle.store_words.specs.Outcome.{side_line}
 use Rattle.ds_words.specs.Wording.{wording}
@@ -18,9 +17,8 @@ use Rattle.ds_words.specs.declared.service.Request.{Request}
 use Rattle.ds_words.specs.declared.service.Server.{Server}
 use Rattle.store_words.specs.declared.wording.Wording.{Wording}
 use Rattle.ds_script.specs.Session.{SessionContent, IsHappening, turned}
-use Rattle.ds_script.specs.Answer.{told_lines, entries_text, AnswersEvent, AnswersAsEvent, AnswersByServers, AnswersRing, AnswersCommand, IsLineRefused, AnswersOrRefuses}
+use Rattle.ds_script.specs.Answer.{told_lines, entries_text, AnswersEvent, AnswersAsEvent, AnswersByServers, AnswersRing, AnswersCommand, IsLineRefused, AnswerTakesRoom, AnswersOrRefuses}
 use Rattle.ds_answers.specs.Services.{AnswersSettings}
-use Rattle.ds_script.proofs.LineLemmas.{plain_room}
 
 -- ---- events
 
@@ -87,13 +85,13 @@ answers_it (Reply server endpoint id) old out new a = absurd a
 answers_it command old out new a = a
 
 pub event_answers : (command : ScriptCommand) (old : SessionContent) (out : List ℕ) (new : SessionContent)
-    → AnswersAsEvent command old out new ⊎ ((is_plain command ≡ false) × IsLineRefused old out new) → AnswersOrRefuses command old out new
+    → AnswersAsEvent command old out new ⊎ (AnswerTakesRoom command old × IsLineRefused old out new) → AnswersOrRefuses command old out new
 event_answers command old out new (inl a) = inr (answers_it command old out new a)
-event_answers command old out new (inr r) = inl (plain_room command old r.0, r.1)
+event_answers command old out new (inr r) = inl r
 
 -- where the command is this one, it is answered as that event
 pub event_answers_as : (command same : ScriptCommand) (old : SessionContent) (out : List ℕ) (new : SessionContent) → command ≡ same
-    → AnswersAsEvent same old out new ⊎ ((is_plain same ≡ false) × IsLineRefused old out new) → AnswersOrRefuses command old out new
+    → AnswersAsEvent same old out new ⊎ (AnswerTakesRoom same old × IsLineRefused old out new) → AnswersOrRefuses command old out new
 event_answers_as command same old out new is a = subst (λ (k : ScriptCommand). AnswersOrRefuses k old out new) (sym is) (event_answers same old out new a)
 
 -- ---- other commands

@@ -4,6 +4,8 @@ use Rattle.std.specs.List.{flat_map, slice_get}
 use Rattle.std.specs.Fmt.{decimal}
 use Rattle.std.specs.Option.{option_map_or}
 use Rattle.ds_entry.specs.declared.item.Item.{Item}
+use Rattle.ds_entry.specs.Change.{IsInPlace}
+use Rattle.ds_entry.specs.Item.{IsItemInPlace}
 use Rattle.ds_line.specs.ItemSpelling.{item_spelling}
 use Rattle.ds_held.specs.Limits.{larger}
 use Rattle.ds_held.specs.Held.{held_items}
@@ -118,9 +120,12 @@ AnswersCommand command old out new = AnswersAsEvent command old out new
 abbrev pub IsLineRefused : SessionContent → List ℕ → SessionContent → Type 0
 IsLineRefused old out new = (new ≡ old) × (out ≡ refused_noroom)
 
--- The script itself takes memory for the command: for a copy of what is shown, of a map that is there too, for the stores' rings, for
--- what the line asks, or for settings. Where others are refused for want of memory, it is the world, RS or a table that refuses them.
+-- The script itself takes memory for the command: for a text or a blob of what is offered or published, for a copy of what is shown,
+-- of a map that is there too, for the stores' rings, for what the line asks, or for settings. Where others are refused for want of
+-- memory, it is the world, RS or a table that refuses them.
 abbrev pub AnswerTakesRoom : ScriptCommand → SessionContent → Type 0
+AnswerTakesRoom (lines.Offer item) old = ¬ IsItemInPlace item
+AnswerTakesRoom (lines.Publish caller key version value overwrite) old = ¬ IsInPlace value
 AnswerTakesRoom lines.Show old = Unit {0}
 AnswerTakesRoom lines.All old = Unit {0}
 AnswerTakesRoom (lines.Entries map) old = slice_get old.world.maps map ≢ None
@@ -128,6 +133,12 @@ AnswerTakesRoom (lines.Ring ring) old = Unit {0}
 AnswerTakesRoom (lines.Map query) old = Unit {0}
 AnswerTakesRoom (lines.Settings text) old = Unit {0}
 AnswerTakesRoom command old = is_plain command ≡ false
+
+-- the line has an item or a value: the store is asked for it with no event made of it
+abbrev pub has_value : ScriptCommand → Bool
+has_value (lines.Offer item) = true
+has_value (lines.Publish caller key version value overwrite) = true
+has_value _ = false
 
 -- what a command is answered, memory or not
 abbrev pub AnswersOrRefuses : ScriptCommand → SessionContent → List ℕ → SessionContent → Type 0
@@ -159,11 +170,11 @@ AppendsRing ring before after old new =
 abbrev pub AppendsSide : Side → (before after : List ℕ) → (old new : SessionContent) → Type 0
 AppendsSide side before after old new = (after ≡ before ++ side_line side) × (new ≡ turned old side)
 
--- So is what a command is answered that is an event. It is refused only where it isn't plain.
+-- so is what a command is answered that is an event
 abbrev pub AppendsEvent : ScriptCommand → (before after : List ℕ) → (old new : SessionContent) → Type 0
 AppendsEvent command before after old new =
     (out : List ℕ) × (after ≡ before ++ out)
-    × (AnswersAsEvent command old out new ⊎ ((is_plain command ≡ false) × IsLineRefused old out new))
+    × (AnswersAsEvent command old out new ⊎ (AnswerTakesRoom command old × IsLineRefused old out new))
 
 -- so is what the store that is asked replies to its command
 abbrev pub AppendsReply : Wording → Command → (before after : List ℕ) → (old new : SessionContent) → Type 0

@@ -1,10 +1,10 @@
 //! Carrying commands out, and their answers.
 
-ghost use Rattle.std.specs.Prelude.{◌≡◌, ◌≤◌, ◌++◌, OnOk, OnErr};
+ghost use Rattle.std.specs.Prelude.{◌≡◌, ◌≤◌, ◌++◌, false, OnOk, OnErr};
 ghost use Rattle.store_words.specs.Outcome.{ring_line};
 ghost use Rattle.ds_words.specs.Command.{IsCommand};
 ghost use Rattle.ds_words.specs.ServiceEvent.{request_event};
-ghost use Rattle.ds_script.specs.Answer.{AppendsCommand, AppendsRing, AppendsSide};
+ghost use Rattle.ds_script.specs.Answer.{AppendsCommand, AppendsRing, AppendsSide, has_value};
 
 use crate::asking::{answer_offer, answer_publish, answer_retrieve};
 use crate::entries::append_entries;
@@ -47,7 +47,7 @@ pub(crate) fn answer_command(
     }
 }
 
-// The same of any command. It stays a call: what is cleared for it would be cleared for each line.
+// The same of any other command. It stays a call: what is cleared for it would be cleared for each line.
 #[inline(never)]
 fn answer_other(
     alloc: Global,
@@ -55,7 +55,8 @@ fn answer_other(
     output: &mut Vec<u8>,
     command: ScriptCommand,
 ) -> Result<(), NoRoom>
-    requires { IsCommand command }
+    requires written { IsCommand command }
+    requires other { has_value command ≡ false }
     ensures answered { OnOk result (AppendsCommand command output.old.items output.new.items session.old session.new) }
     ensures unanswered { OnErr result (output.new.items ≡ output.old.items) }
 {

@@ -1,8 +1,8 @@
 //! Commands that are events of a world, and what is told of them.
 
-ghost use Rattle.std.specs.Prelude.{◌≡◌, ◌≢◌, ◌++◌, None, OnOk, OnErr};
+ghost use Rattle.std.specs.Prelude.{◌≡◌, ◌≢◌, ◌++◌, false, None, OnOk, OnErr};
 ghost use Rattle.ds_words.specs.Event.{event_of};
-ghost use Rattle.ds_script.specs.Answer.{AppendsEvent, told_lines};
+ghost use Rattle.ds_script.specs.Answer.{AppendsEvent, has_value, told_lines};
 
 use crate::session::Session;
 use ds_held::Limits;
@@ -12,14 +12,16 @@ use ds_words::ScriptCommand;
 use std::alloc::Global;
 use store_words::{Wording, append_noroom, append_outcome, append_reply};
 
-/// Lets the event of a command happen, and puts what came of it behind the answers that wait.
+/// Lets the event of a command happen, and puts what came of it behind the answers that wait. What has an item or a value the store
+/// is asked directly.
 pub(crate) fn answer_event(
     alloc: Global,
     session: &mut Session,
     output: &mut Vec<u8>,
     command: ScriptCommand,
 ) -> Result<(), NoRoom>
-    requires { event_of session.old.side command ≢ None }
+    requires event { event_of session.old.side command ≢ None }
+    requires other { has_value command ≡ false }
     ensures answered { OnOk result (AppendsEvent command output.old.items output.new.items session.old session.new) }
     ensures unanswered { OnErr result (output.new.items ≡ output.old.items) }
 {

@@ -64,8 +64,8 @@ pub returns-in-Reply-clause-answered : goal.returns-in-Reply-clause-answered
 returns-in-Reply-clause-answered c =
     on_ok c.reply.result (λ a. (a.0, a.1, answers_as c.args.command _ c.args.session.now a.0 c.reply.new.self c.in-Reply.is a.2)) c.reply.ensures.answered
 
-pub answer_event-requires : goal.answer_event-requires
-answer_event-requires c =
+pub answer_event-requires-clause-event : goal.answer_event-requires-clause-event
+answer_event-requires-clause-event c =
     let not = c.in_default in
     is_event c.args.session.now.side c.args.command not.not-Show not.not-All not.not-Entries not.not-Ring not.not-Side not.not-Settings not.not-Service not.not-Death not.not-Beat
     not.not-Tick not.not-Assign not.not-Follow not.not-Submit not.not-Reply
