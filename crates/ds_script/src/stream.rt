@@ -105,18 +105,18 @@ fn replay_over<R: Source, W: Sink, B: Report>(
     reader: &mut R,
     writer: &mut W,
     report: &mut B,
-    bad_lines: BadLines,
+    policy: BadLines,
 ) -> Result<Replayed, ReplayFault>
     requires opened { IsOpened 256 session.old }
     requires nothing { lines.old ≡ no_lines }
     ensures answered { IfOk result (λ done. (input output : List ℕ)
         × Consumes (R.remaining reader.old) (R.remaining reader.new) input × IsAtEnd (R.remaining reader.new)
         × Appends (W.contents writer.old) (W.contents writer.new) output
-        × IsReplayed bad_lines input done.lines done.bad output) }
+        × IsReplayed policy input done.lines done.bad output) }
     ensures stopped { IfErr result (λ fault. (input output : List ℕ)
         × Consumes (R.remaining reader.old) (R.remaining reader.new) input
         × Appends (W.contents writer.old) (W.contents writer.new) output
-        × StopsWith bad_lines fault (R.remaining reader.new) input output) }
+        × StopsWith policy fault (R.remaining reader.new) input output) }
     ensures cause { IfErr result (λ fault. HasCause R.Source W.Sink fault reader.old reader.new writer.new) }
 {
     let mut replay = Replay {
@@ -126,7 +126,7 @@ fn replay_over<R: Source, W: Sink, B: Report>(
         session,
         output: Vec::new(alloc),
         tally: Tally { lines: 0, bad: 0 },
-        bad_lines,
+        bad_lines: policy,
     };
     let ran = replay.run(reader, lines);
     let Replay {

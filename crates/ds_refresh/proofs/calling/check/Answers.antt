@@ -1,7 +1,7 @@
 use Rattle.std.proofs.Common.{◌≡◌, ◌<◌, length, arith}
 use Rattle.ds_pass.specs.Record.{pass_record}
 use Rattle.ds_refresh.specs.Follower.{follower_of}
-use Rattle.ds_refresh.proofs.CheckLemmas.{map_ends, map_never_stops, map_stands}
+use Rattle.ds_refresh.proofs.CheckLemmas.{check_told, map_ends, map_never_stops, map_stands}
 use Rattle.ds_refresh.proofs.calling.check.Goals as goal
 
 pub returns-then-len-lt256-clause-called : goal.returns-then-len-lt256-clause-called
@@ -37,3 +37,6 @@ unreachable-requires g c =
     c.in_default-fault.not-NoRoom
     (map_never_stops (pass_record c.args.pass.now) (pass_record c.ask_desk.new.pass) c.args.follower.now f.sub f.stamp f.map c.take.new.self c.args.stamp at.before at.after c.in_ok-reply.field-0.place at.items c.in_ok-reply.field-0.reply
     parts c.requires.stamped c.requires.keeps c.in_ok-reply.ensures.called (cc) c.if-before-stamp.false c.in-Err.stop c.held-is_map.ensures.map c.in-Err.ensures.joined c.in-Err.ensures.stopped)
+
+pub unreachable-requires-in_default : goal.unreachable-requires-in_default
+unreachable-requires-in_default g c = check_told c.in_ok-reply.field-0.reply c.in_ok-reply.ensures.fits c.in_default.not-Checked c.in_default.not-Refused
