@@ -31,34 +31,47 @@ pub(crate) fn read_command(line: &str) -> Option<Command> {
         "key" => Some(Command::Key),
         "number" => Some(Command::Number),
         "rows" => Some(Command::Rows),
-        "numbers" => {
-            let generation = Generation::of(read_number(&mut words)?)?;
-            let seq = read_number(&mut words)?;
-            Some(Command::Numbers { generation, seq })
-        }
+        "numbers" => read_numbers(&mut words),
         "state" => Some(Command::State(read_name(&mut words)?)),
-        verb => {
-            let event = read_event(verb, &mut words)?;
-            let tick = read_number(&mut words)?;
-            Some(Command::Event { event, tick })
-        }
+        verb => read_event_at(verb, &mut words),
     }
+}
+
+fn read_numbers(words: &mut Split<'_, char>) -> Option<Command> {
+    let generation = Generation::of(read_number(words)?)?;
+    let seq = read_number(words)?;
+    Some(Command::Numbers { generation, seq })
+}
+
+fn read_event_at(verb: &str, words: &mut Split<'_, char>) -> Option<Command> {
+    let event = read_event(verb, words)?;
+    let tick = read_number(words)?;
+    Some(Command::Event { event, tick })
 }
 
 // The event of a line, but for its tick.
 fn read_event(verb: &str, words: &mut Split<'_, char>) -> Option<Event> {
     match verb {
-        "up" => Some(Event::Up(read_name(words)?)),
-        "stop" => Some(Event::Stop(read_name(words)?)),
-        "refresh" => Some(Event::Refresh(read_name(words)?)),
-        "restart" => Some(Event::Restart(read_name(words)?)),
-        "death" => {
-            let endpoint = read_endpoint(words)?;
-            let cause = read_number(words)?;
-            Some(Event::Death(endpoint, cause))
-        }
+        "death" => read_death(words),
         "beat" => Some(Event::Beat(read_endpoint(words)?)),
         "tick" => Some(Event::Tick),
+        _ => event_of(verb, read_name(words)?),
+    }
+}
+
+fn read_death(words: &mut Split<'_, char>) -> Option<Event> {
+    let endpoint = read_endpoint(words)?;
+    let cause = read_number(words)?;
+    Some(Event::Death(endpoint, cause))
+}
+
+// The event of a service.
+fn event_of(verb: &str, label: Name) -> Option<Event> {
+    match verb {
+        "up" => Some(Event::Up(label)),
+        "stop" => Some(Event::Stop(label)),
+        "refresh" => Some(Event::Refresh(label)),
+        "restart" => Some(Event::Restart(label)),
         _ => None,
     }
 }

@@ -34,15 +34,28 @@ fn main(rt: HostRuntime) -> ExitCode {
 // Takes the lines in turn, up to the first that can't be read.
 fn run(rt: &(impl Runtime + AllocGlobal)) -> Result<(), Failure> {
     let mut session = Session::new(rt.alloc());
+    answer_lines(rt, &mut session)
+}
+
+fn answer_lines(rt: &(impl Runtime + AllocGlobal), session: &mut Session) -> Result<(), Failure> {
     let mut text = Vec::new(rt.alloc());
     let Ok(reader) = BufReader::new(rt.alloc(), rt.reader()) else {
         return Err(Failure::NoRoom);
     };
     for line in reader.lines(rt.alloc()) {
         let line = line.map_err(Failure::of_reading)?;
-        text.clear();
-        session.take(&mut text, line.as_str())?;
-        io::writer(rt).write_all(text.as_slice())?;
+        answer_line(rt, session, &mut text, line.as_str())?;
     }
     Ok(())
+}
+
+fn answer_line(
+    rt: &impl Runtime,
+    session: &mut Session,
+    text: &mut Vec<u8>,
+    line: &str,
+) -> Result<(), Failure> {
+    text.clear();
+    session.take(text, line)?;
+    Ok(io::writer(rt).write_all(text.as_slice())?)
 }

@@ -6,7 +6,7 @@
 use crate::telling::{add_number, tell};
 use driver_tables::{FileClass, FileTable, Move, Moves};
 use ds_names::{Endpoint, Generation, Name, NoRoom};
-use rs_core::{Action, Event, Rs};
+use rs_core::{Action, Actions, Event, Rs};
 use rs_settings::{Settings, read};
 use std::alloc::Global;
 
@@ -30,36 +30,59 @@ fn settings_of(alloc: Global) -> Option<Settings> {
     read(alloc, ETH0).ok()
 }
 
-// How many slots there are, where the first service publishes two names.
 fn settings_row(alloc: Global) -> Option<u64> {
-    let copy = settings_of(alloc)?.copy(alloc).ok()?;
-    let service = copy.services().get(0)?;
-    (service.publishes.len() == 2).then_some(u64::from(copy.slots()))
+    let settings = settings_of(alloc)?;
+    let copy = settings.copy(alloc).ok()?;
+    slots_of(&copy)
+}
+
+// How many slots there are, where the first service publishes two names.
+fn slots_of(settings: &Settings) -> Option<u64> {
+    let service = settings.services().get(0)?;
+    (service.publishes.len() == 2).then_some(u64::from(settings.slots()))
 }
 
 // How many actions start a service, where the second one gives its label to the data store.
 fn actions_row(alloc: Global) -> Option<u64> {
-    let eth0 = Name::read(b"eth0").ok()?;
     let mut rs = Rs::new(alloc, settings_of(alloc)?, 1).ok()?;
-    let copy = rs.event(Event::Up(eth0), 0).ok()?.copy(alloc).ok()?;
+    let copy = started(&mut rs)?.copy(alloc).ok()?;
     matches!(copy.get(1), Some(Action::Offer(_))).then_some(copy.len() as u64)
 }
 
-// The request that a move sends.
+fn started(rs: &mut Rs) -> Option<Actions> {
+    let eth0 = Name::read(b"eth0").ok()?;
+    rs.event(Event::Up(eth0), 0).ok()
+}
+
 fn moves_row(alloc: Global) -> Option<u64> {
-    let mut moves = Moves::new(alloc);
+    let moves = one_move(alloc)?;
+    let copy = moves.copy(alloc).ok()?;
+    sent_first(&copy)
+}
+
+fn one_move(alloc: Global) -> Option<Moves> {
     let endpoint = endpoint_of(1)?;
+    let mut moves = Moves::new(alloc);
     moves.push(Move::Send { id: 4, endpoint }).ok()?;
-    match moves.copy(alloc).ok()?.get(0)? {
+    Some(moves)
+}
+
+// The request that the first move sends.
+fn sent_first(moves: &Moves) -> Option<u64> {
+    match moves.get(0)? {
         Move::Send { id, .. } => Some(*id),
         _ => None,
     }
 }
 
-// The greatest generation that a table knows of a label whose driver ended, where it refuses an older one.
 fn newest_row(alloc: Global) -> Option<u64> {
-    let disk = Name::read(b"disk").ok()?;
     let mut table = FileTable::new(alloc);
+    newest_in(&mut table)
+}
+
+// The greatest generation that a table knows of a label whose driver ended, where it refuses an older one.
+fn newest_in(table: &mut FileTable) -> Option<u64> {
+    let disk = Name::read(b"disk").ok()?;
     table.assign(3, FileClass::Block, &disk).ok()?;
     table.changed(&disk, endpoint_of(2)).ok()?;
     table.changed(&disk, None).ok()?;

@@ -58,17 +58,8 @@ fn read_event(alloc: Global, side: Side, line: &str) -> Result<SystemEvent, Fail
 fn read_own(alloc: Global, side: Side, line: &str) -> Option<SystemEvent> {
     let mut words = line.split(' ');
     match words.next()? {
-        "put" => Some(SystemEvent::Put {
-            label: read_name(&mut words)?,
-            key: read_key(&mut words)?,
-            value: value_of(alloc, words.next()?)?,
-            side,
-        }),
-        "remove" => Some(SystemEvent::Remove {
-            label: read_name(&mut words)?,
-            key: read_key(&mut words)?,
-            side,
-        }),
+        "put" => read_put(alloc, side, &mut words),
+        "remove" => read_remove(side, &mut words),
         "again" => Some(SystemEvent::Again {
             change: read_number(&mut words)?,
             side,
@@ -77,36 +68,70 @@ fn read_own(alloc: Global, side: Side, line: &str) -> Option<SystemEvent> {
     }
 }
 
+fn read_put(alloc: Global, side: Side, words: &mut Split<'_, char>) -> Option<SystemEvent> {
+    let label = read_name(words)?;
+    let key = read_key(words)?;
+    let value = value_of(alloc, words.next()?)?;
+    Some(SystemEvent::Put {
+        label,
+        key,
+        value,
+        side,
+    })
+}
+
+fn read_remove(side: Side, words: &mut Split<'_, char>) -> Option<SystemEvent> {
+    let label = read_name(words)?;
+    let key = read_key(words)?;
+    Some(SystemEvent::Remove { label, key, side })
+}
+
 // The event of a script's line.
 fn event_of(alloc: Global, side: Side, command: ScriptCommand) -> Result<SystemEvent, Failure> {
+    match event_of_services(side, &command) {
+        Some(event) => Ok(event),
+        None => event_of_world(alloc, side, command),
+    }
+}
+
+// The event of a line to RS or to a driver table.
+fn event_of_services(side: Side, command: &ScriptCommand) -> Option<SystemEvent> {
     if let Some((event, tick)) = command.service_event() {
-        return Ok(SystemEvent::Service { event, tick, side });
+        return Some(SystemEvent::Service { event, tick, side });
     }
     match command {
-        ScriptCommand::Follow { .. } => Ok(SystemEvent::Follow),
+        ScriptCommand::Follow { .. } => Some(SystemEvent::Follow),
         ScriptCommand::Submit {
             server,
             id,
             unit,
             ..
-        } => Ok(SystemEvent::Submit {
-            table: table_of(server),
-            id,
-            unit,
+        } => Some(SystemEvent::Submit {
+            table: table_of(*server),
+            id: *id,
+            unit: *unit,
         }),
         ScriptCommand::Reply {
             server,
             endpoint,
             id,
-        } => Ok(SystemEvent::Answered {
-            table: table_of(server),
-            endpoint,
-            id,
+        } => Some(SystemEvent::Answered {
+            table: table_of(*server),
+            endpoint: *endpoint,
+            id: *id,
         }),
-        other => {
-            let event = other.into_event(alloc, side)?;
-            Ok(SystemEvent::World(event.ok_or(Failure::BadLine)?))
-        }
+        _ => None,
+    }
+}
+
+fn event_of_world(
+    alloc: Global,
+    side: Side,
+    command: ScriptCommand,
+) -> Result<SystemEvent, Failure> {
+    match command.into_event(alloc, side)? {
+        Some(event) => Ok(SystemEvent::World(event)),
+        None => Err(Failure::BadLine),
     }
 }
 

@@ -3,9 +3,10 @@
 use crate::failure::Failure;
 use crate::lines::{read_events, read_number};
 use crate::telling::{tell, tell_entries, tell_outcome, word_of_beginning};
+use ds_names::NoRoom;
 use ds_replica::Seed;
-use ds_system::{BeginFault, System};
-use ds_world::WorldFault;
+use ds_system::{BeginFault, System, SystemOutcomes};
+use ds_world::{World, WorldFault};
 use rs_settings::{Settings, SettingsCause, read};
 use std::alloc::Global;
 use std::str::Split;
@@ -16,8 +17,19 @@ pub(crate) fn answer_part(text: &mut Vec<u8>, alloc: Global, part: &str) -> Resu
     let (settings, lines) = rest.split_once("\nend").ok_or(Failure::BadLine)?;
     let beginning = read_beginning(first).ok_or(Failure::BadLine)?;
     let settings = settings_of(alloc, settings)?;
-    match System::new(alloc, settings, beginning.a, beginning.b, beginning.next) {
-        Ok(mut system) => answer_events(text, alloc, &mut system, lines.trim_start()),
+    answer_lines(text, alloc, beginning, settings, lines.trim_start())
+}
+
+fn answer_lines(
+    text: &mut Vec<u8>,
+    alloc: Global,
+    beginning: Beginning,
+    settings: Settings,
+    lines: &str,
+) -> Result<(), Failure> {
+    let Beginning { next, a, b } = beginning;
+    match System::new(alloc, settings, a, b, next) {
+        Ok(mut system) => answer_events(text, alloc, &mut system, lines),
         Err(BeginFault::NoRoom) => Err(Failure::NoRoom),
         Err(fault) => Ok(tell(text, &[b"refused ", word_of_beginning(fault)])?),
     }
@@ -58,7 +70,7 @@ fn settings_of(alloc: Global, text: &str) -> Result<Settings, Failure> {
     }
 }
 
-// Tells what came of each event, and then what the servers' maps hold. Both lists are copied, for that a copy has all of them.
+// Lets the events of the lines happen. The list of them is copied, and that of what came of them, for that a copy has all.
 fn answer_events(
     text: &mut Vec<u8>,
     alloc: Global,
@@ -66,17 +78,28 @@ fn answer_events(
     lines: &str,
 ) -> Result<(), Failure> {
     let events = read_events(alloc, lines)?;
-    let outcomes = match system.run(events.copy(alloc)?) {
-        Ok(outcomes) => outcomes.copy(alloc)?,
-        Err(WorldFault::TooMany) => return Ok(tell(text, &[b"refused toomany"])?),
-        Err(WorldFault::NoRoom) => return Err(Failure::NoRoom),
-    };
+    match system.run(events.copy(alloc)?) {
+        Ok(outcomes) => {
+            let copy = outcomes.copy(alloc)?;
+            Ok(tell_all(text, alloc, system.world(), &copy)?)
+        }
+        Err(WorldFault::TooMany) => Ok(tell(text, &[b"refused toomany"])?),
+        Err(WorldFault::NoRoom) => Err(Failure::NoRoom),
+    }
+}
+
+// Tells what came of each event, and then what the servers' maps hold.
+fn tell_all(
+    text: &mut Vec<u8>,
+    alloc: Global,
+    world: &World,
+    outcomes: &SystemOutcomes,
+) -> Result<(), NoRoom> {
     for index in 0..outcomes.len() {
         if let Some(outcome) = outcomes.get(index) {
-            tell_outcome(text, system.world(), outcome)?;
+            tell_outcome(text, world, outcome)?;
         }
     }
-    tell_entries(text, alloc, system.world(), 0)?;
-    tell_entries(text, alloc, system.world(), 1)?;
-    Ok(())
+    tell_entries(text, alloc, world, 0)?;
+    tell_entries(text, alloc, world, 1)
 }
