@@ -3,6 +3,7 @@
 ghost use Rattle.std.specs.Prelude.{All, ◌≡◌, ◌≤◌, length, Err, true, false, IfOk, OnOk, IsTrue};
 ghost use Rattle.desk.specs.Desk.{identity, pass_count};
 ghost use Rattle.desk.specs.Pass.{desk_of};
+ghost use Rattle.ds_live.specs.Report.{are_exact};
 ghost use Rattle.ds_live.specs.Sizes.{are_fit};
 
 use crate::back::Back;
@@ -13,8 +14,9 @@ use crate::report::{LiveReport, report_of};
 use crate::sizes::Sizes;
 use crate::working::work_all;
 use crew::GivenUp;
-use desk::{Desk, Pass};
+use desk::{Closed, Desk, Pass};
 use ds_pass::LiveFault;
+use ds_refresh::Follower;
 use ds_store::Store;
 use ds_workers::{Desks, Gate};
 use std::alloc::Global;
@@ -71,9 +73,25 @@ fn close_both(
     let shared = share_notes(&first, &mut back.passes);
     let left = close_desk(alloc, first, back.passes);
     let right = close_desk(alloc, second, back.others);
-    if let Some(fault) = fault {
-        return Err(fault);
+    match fault.or(shared.err()) {
+        Some(fault) => Err(fault),
+        None => report_both(alloc, &left, &right, &back.followers),
     }
-    shared?;
-    Ok(report_of(alloc, &left?, &right?, &back.followers)?)
+}
+
+// Reports what two desks held, if both could be closed.
+fn report_both(
+    alloc: Global,
+    left: &Result<Closed<Box<Store>>, LiveFault>,
+    right: &Result<Closed<Box<Store>>, LiveFault>,
+    followers: &Vec<Follower>,
+) -> Result<LiveReport, LiveFault>
+    requires left { IfOk left.now (λ closed. are_exact closed.account ≡ true) }
+    requires right { IfOk right.now (λ closed. are_exact closed.account ≡ true) }
+    ensures account { IfOk result (λ report. report.account ≡ true) }
+{
+    match (left, right) {
+        (Ok(left), Ok(right)) => Ok(report_of(alloc, left, right, followers)?),
+        (Err(fault), _) | (_, Err(fault)) => Err(*fault),
+    }
 }
