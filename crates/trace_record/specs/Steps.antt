@@ -9,6 +9,7 @@ use Rattle.ds_machine.specs.State.{State}
 use Rattle.ds_machine.specs.declared.command.Command.{Command}
 use Rattle.ds_machine.specs.declared.reply.Reply.{Reply}
 use Rattle.store_words.specs.Reply.{reply_lines}
+use Rattle.store_words.specs.declared.wording.Wording.{Wording}
 use Rattle.trace_check.specs.Walking.{IsAt, IsShort}
 use Rattle.trace_words.specs.declared.asked.Asked.{Asked}
 use Rattle.trace_words.specs.declared.asked.Head.{Head}
@@ -136,6 +137,13 @@ abbrev pub MissesLines : Recorder → Option (List ℕ) → Head → Recorder �
 MissesLines old from head new fault = (count : ℕ) × (head ≡ heads.Merge count) × MissesItems old from count new fault
 
 -- ---- the reply
+
+-- the entry waits with this reply, worded so
+pub record AddsReply (wording : Wording) (reply : Reply) (old new : Recorder) : Type 0 where
+  pub header : new.header ≡ old.header
+  pub lines : new.lines ≡ old.lines
+  pub store : new.store ≡ old.store
+  pub output : new.output.items ≡ old.output.items ++ (old.entry.items ++ marked (reply_lines wording reply old.header.limits))
 
 -- The store takes the step that the entry asks for, and the entry waits with its reply.
 pub record AnswersIn (old : Recorder) (asked : Asked) (new : Recorder) (s : State) : Type 0 where

@@ -5,7 +5,7 @@ ghost use Rattle.ds_lines.specs.Lines.{EndsLine};
 ghost use Rattle.ds_lines.specs.Pulling.{LeadsOn};
 ghost use Rattle.trace_words.specs.Text.{command_asked};
 ghost use Rattle.trace_record.specs.Causes.{IsCausedOn};
-ghost use Rattle.trace_record.specs.Steps.{KeepsOutput, OpensAs, HeadsFrom, FailsAtHead, AddsLines, MissesLines, AddsItems, MissesItems, AddsItem, MissesItem, AnswersAsked, AddsEntry, FailsInEntry};
+ghost use Rattle.trace_record.specs.Steps.{KeepsOutput, OpensAs, HeadsFrom, FailsAtHead, AddsLines, MissesLines, AddsItems, MissesItems, AddsItem, MissesItem, AddsReply, AnswersAsked, AddsEntry, FailsInEntry};
 
 use crate::fault::RecordFault;
 use crate::form::Form;
@@ -15,10 +15,11 @@ use crate::place::{Wanted, place_of_item};
 use ds_entry::{Item, Items};
 use ds_line::append_all;
 use ds_lines::{Lines, Source};
+use ds_machine::Reply;
 use ds_names::NoRoom;
 use ds_store::Store;
 use std::alloc::Global;
-use store_words::append_reply;
+use store_words::{Wording, append_reply};
 use trace_check::ask_store;
 use trace_words::{Asked, AskedFault, Head, Header, append_header, append_marked, read_plus};
 
@@ -159,13 +160,17 @@ impl Recorder {
         ensures kept { OnErr result (KeepsOutput self.old self.new) }
     {
         let answer = ask_store(self.alloc, &mut self.store, self.header.format, asked)?;
+        self.add_reply(answer.wording, &answer.reply)
+    }
+
+    // Puts the entry with this reply behind those that wait.
+    fn add_reply(&mut self, wording: Wording, reply: &Reply) -> Result<(), RecordFault>
+        ensures adds { OnOk result (AddsReply wording reply.now self.old self.new) }
+        ensures fault { IfErr result (λ fault. fault ≡ RecordFault.NoRoom) }
+        ensures kept { OnErr result (KeepsOutput self.old self.new) }
+    {
         self.reply.clear();
-        append_reply(
-            &mut self.reply,
-            answer.wording,
-            &answer.reply,
-            self.header.limits,
-        )?;
+        append_reply(&mut self.reply, wording, reply, self.header.limits)?;
         append_marked(&mut self.entry, self.reply.as_slice())?;
         append_all(&mut self.output, &[self.entry.as_slice()])?;
         Ok(())
