@@ -70,31 +70,40 @@ pub fn explain(rt: &(impl Runtime + AllocGlobal), audience: Audience, bad: &BadL
     if audience != Audience::File {
         show_place(rt, bad);
     }
-    let number = bad.number;
-    let place = bad.place;
-    let rest = behind(bad.text, place);
+    let rest = behind(bad.text, bad.place);
     let stray = match bad.expected {
         Expected::Limit => None,
-        _ => stray_at(bad.text, place, rest),
+        _ => stray_at(bad.text, bad.place, rest),
     };
-    if let Some(stray) = stray {
-        let _ = eprintln!(rt; "line {number}, byte {place}: {stray}");
-        return;
+    match stray {
+        Some(stray) => say(rt, bad, stray),
+        None => explain_part(rt, audience, bad, rest),
     }
+}
+
+// Says which part was expected where this stands in its place.
+fn explain_part(
+    rt: &(impl Runtime + AllocGlobal),
+    audience: Audience,
+    bad: &BadLine<'_>,
+    rest: &[u8],
+) {
     match bad.expected {
-        Expected::Command => explain_word(rt, audience, number, rest),
+        Expected::Command => explain_word(rt, audience, bad.number, rest),
         Expected::Name | Expected::Owner | Expected::Label => explain_name(rt, bad, rest),
         Expected::Space => explain_space(rt, bad),
-        Expected::End if read_byte(rest, b'\r').is_some() => {
-            let _ = eprintln!(rt;
-                "line {number}, byte {place}: the end of the line was expected, a carriage return stands there"
-            );
-        }
-        other => {
-            let wanted = wanted(other);
-            let _ = eprintln!(rt; "line {number}, byte {place}: {wanted}");
-        }
+        Expected::End if read_byte(rest, b'\r').is_some() => say(rt, bad, CARRIAGE_RETURN),
+        other => say(rt, bad, wanted(other)),
     }
+}
+
+const CARRIAGE_RETURN: &str = "the end of the line was expected, a carriage return stands there";
+
+// Says this of the place.
+fn say(rt: &impl Runtime, bad: &BadLine<'_>, said: &str) {
+    let number = bad.number;
+    let place = bad.place;
+    let _ = eprintln!(rt; "line {number}, byte {place}: {said}");
 }
 
 // What of a line begins at a place.
@@ -118,18 +127,17 @@ fn show_place(rt: &impl Runtime, bad: &BadLine<'_>) {
 
 // A space that is missing, and the part that belongs behind it.
 fn explain_space(rt: &(impl Runtime + AllocGlobal), bad: &BadLine<'_>) {
-    let number = bad.number;
-    let place = bad.place;
-    let _ = match part_behind(rt.alloc(), bad) {
+    match part_behind(rt.alloc(), bad) {
         Some(expected) => {
+            let number = bad.number;
+            let place = bad.place;
             let part = part(expected);
-            eprintln!(rt; "line {number}, byte {place}: a space was expected, and then {part}")
+            let _ = eprintln!(rt;
+                "line {number}, byte {place}: a space was expected, and then {part}"
+            );
         }
-        None => {
-            let wanted = wanted(Expected::Space);
-            eprintln!(rt; "line {number}, byte {place}: {wanted}")
-        }
-    };
+        None => say(rt, bad, wanted(Expected::Space)),
+    }
 }
 
 // The part that belongs behind a space that is missing: the one that can't be read where the line ends in that space.
@@ -150,15 +158,20 @@ fn part_behind(alloc: Global, bad: &BadLine<'_>) -> Option<Expected> {
 
 // A name that is empty or too long, a service's label too, or the owner of a label.
 fn explain_name(rt: &impl Runtime, bad: &BadLine<'_>, rest: &[u8]) {
-    let number = bad.number;
-    let place = bad.place;
     let wanted = wanted(bad.expected);
-    let count = rest.iter().take_while(|byte| is_name_byte(**byte)).count();
-    let _ = if count == 0 || count > LONGEST_NAME {
-        eprintln!(rt; "line {number}, byte {place}: {wanted}; {count} stand there")
+    let count = name_bytes(rest);
+    if count == 0 || count > LONGEST_NAME {
+        let number = bad.number;
+        let place = bad.place;
+        let _ = eprintln!(rt; "line {number}, byte {place}: {wanted}; {count} stand there");
     } else {
-        eprintln!(rt; "line {number}, byte {place}: {wanted}")
-    };
+        say(rt, bad, wanted);
+    }
+}
+
+// How many bytes of a name a text begins with.
+fn name_bytes(text: &[u8]) -> usize {
+    text.iter().take_while(|byte| is_name_byte(**byte)).count()
 }
 
 // A word that no line begins with.
@@ -172,20 +185,26 @@ fn explain_word(rt: &impl Runtime, audience: Audience, number: u64, text: &[u8])
         let _ = eprintln!(rt; "line {number}, byte 0: a command was expected: see {help}");
         return;
     }
-    let shown = Plain(&word[..word.len().min(FROM)]);
     match nearest(word, &COMMANDS) {
-        Some(command) if command.as_bytes() == word => {
-            let _ = eprintln!(rt;
-                "line {number}, byte 0: `{command}` stands on the first line alone"
-            );
-        }
-        Some(command) => {
-            let _ = eprintln!(rt;
-                "line {number}, byte 0: `{shown}` is no command, the nearest is `{command}`: see {help}"
-            );
-        }
-        None => {
-            let _ = eprintln!(rt; "line {number}, byte 0: `{shown}` is no command: see {help}");
-        }
+        Some(command) if command.as_bytes() == word => explain_first(rt, number, command),
+        near => explain_unknown(rt, number, word, near, help),
     }
+}
+
+// A command that stands on another line than the first.
+fn explain_first(rt: &impl Runtime, number: u64, command: &str) {
+    let _ = eprintln!(rt; "line {number}, byte 0: `{command}` stands on the first line alone");
+}
+
+// A word that is no command, and the nearest one that is.
+fn explain_unknown(rt: &impl Runtime, number: u64, word: &[u8], near: Option<&str>, help: &str) {
+    let shown = Plain(&word[..word.len().min(FROM)]);
+    let _ = match near {
+        Some(near) => {
+            eprintln!(rt;
+                "line {number}, byte 0: `{shown}` is no command, the nearest is `{near}`: see {help}"
+            )
+        }
+        None => eprintln!(rt; "line {number}, byte 0: `{shown}` is no command: see {help}"),
+    };
 }

@@ -28,42 +28,58 @@ pub fn explain_settings(
             explain_field(rt, text, &table, fault);
             Ok(())
         }
-        Err(error) => {
-            let Some(span) = error.span() else {
-                return Err(NoRoom);
-            };
-            let line = line_at(text, span.start);
-            let message = error.message();
-            let _ = eprintln!(rt; "line {line}: {message}");
-            Ok(())
-        }
+        Err(error) => explain_text(rt, text, &error),
     }
+}
+
+// Says what is wrong with a text that is no document. Of a want of memory no place is told.
+fn explain_text(rt: &impl Runtime, text: &[u8], error: &toml::de::Error) -> Result<(), NoRoom> {
+    let Some(span) = error.span() else {
+        return Err(NoRoom);
+    };
+    let line = line_at(text, span.start);
+    let message = error.message();
+    let _ = eprintln!(rt; "line {line}: {message}");
+    Ok(())
 }
 
 // Says what is wrong with a field of a document.
 fn explain_field(rt: &impl Runtime, text: &[u8], table: &Table, fault: SettingsFault) {
-    let fields = match fault.index {
-        Some(index) => service_at(table, index),
-        None => Some(table),
-    };
-    let field = match fields {
-        Some(fields) => field_of(fields, fault),
-        None => "service",
-    };
-    let line = match fault.cause {
-        SettingsCause::Missing => service_line(text, fault.index),
-        _ => field_line(text, fault.index, field.as_bytes()),
-    };
+    let field = field_meant(table, fault);
     let place = Place {
         service: fault.index,
-        line,
+        line: line_of(text, field, fault),
     };
-    let shown = Plain(field.as_bytes());
-    let wrong = wrong(fault.cause);
     let near = match fault.cause {
         SettingsCause::UnknownField => nearest(field.as_bytes(), fields_known(fault.index)),
         _ => None,
     };
+    say(rt, place, field, wrong(fault.cause), near);
+}
+
+// The field that a fault is about.
+fn field_meant(table: &Table, fault: SettingsFault) -> &str {
+    let fields = match fault.index {
+        Some(index) => service_at(table, index),
+        None => Some(table),
+    };
+    match fields {
+        Some(fields) => field_of(fields, fault),
+        None => "service",
+    }
+}
+
+// The line in which the field stands, or its service, if the field is missing.
+fn line_of(text: &[u8], field: &str, fault: SettingsFault) -> Option<usize> {
+    match fault.cause {
+        SettingsCause::Missing => service_line(text, fault.index),
+        _ => field_line(text, fault.index, field.as_bytes()),
+    }
+}
+
+// Says what is wrong with a field, and which one is the nearest that there is.
+fn say(rt: &impl Runtime, place: Place, field: &str, wrong: &str, near: Option<&str>) {
+    let shown = Plain(field.as_bytes());
     let _ = match near {
         Some(near) => eprintln!(rt; "{place}: `{shown}` {wrong}, the nearest is `{near}`"),
         None => eprintln!(rt; "{place}: `{shown}` {wrong}"),
