@@ -4,7 +4,7 @@ ghost use Rattle.std.specs.Prelude.{IfOk, IfErr};
 ghost use Rattle.trace_record.specs.Record.{Records, StopsRecording};
 ghost use Rattle.trace_record.specs.Causes.{IsToBlame, RunIsCaused, SettlesBy};
 ghost use Rattle.trace_record.specs.Reading.{IsReady};
-ghost use Rattle.trace_record.specs.Running.{RunsOn, WritesRest};
+ghost use Rattle.trace_record.specs.Running.{RecordsAll, RunsOn, StopsBefore, WritesRest};
 
 use crate::begin::begin;
 use crate::fault::RecordFault;
@@ -43,7 +43,22 @@ pub fn record<R: Source, W: Sink>(
     let mut lines = Lines::new(alloc)?;
     let beginning = begin(alloc, &mut lines, reader)?;
     let mut recorder = Recorder::open(alloc, lines, form, beginning.ring)?;
-    match run(&mut recorder, reader, writer, beginning.next) {
+    record_all(&mut recorder, reader, writer, beginning.next)
+}
+
+// Records all entries, and writes what waits then, `first` being what came of going to the first line that asks.
+fn record_all<R: Source, W: Sink>(
+    recorder: &mut Recorder,
+    reader: &mut R,
+    writer: &mut W,
+    first: Result<bool, RecordFault>,
+) -> Result<u64, RecordFault>
+    requires { IsReady recorder.old.lines first }
+    ensures whole { IfOk result (RecordsAll recorder.old (R.remaining reader.old) (W.contents writer.old) first (W.contents writer.new)) }
+    ensures stops { IfErr result (StopsBefore recorder.old (R.remaining reader.old) (W.contents writer.old) first (W.contents writer.new)) }
+    ensures cause { IfErr result (RunIsCaused R.Source W.Sink first reader.old reader.new recorder.old.lines.reads writer.new) }
+{
+    match run(recorder, reader, writer, first) {
         Ok(count) => {
             write_out(writer, recorder.output.as_slice())?;
             Ok(count)
