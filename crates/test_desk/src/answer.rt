@@ -2,7 +2,7 @@
 
 use crate::counter::Counter;
 use crate::failure::Failure;
-use crate::labels::publish_labels;
+use crate::labels::{Labels, publish_labels};
 use crate::line::Line;
 use crate::overwrite::overwrite_labels;
 use crate::playing::{play, refuse_desks};
@@ -30,21 +30,7 @@ pub(crate) fn answer<R: Print + Threads + Wait + Sync>(
             tell_review(rt, sizes.threads, review, true)
         }
         Line::Overwrite(sizes) => tell_sum(rt, overwrite_labels(rt, alloc, sizes)),
-        Line::Labels(count) => {
-            let labels = publish_labels(rt, alloc, count).ok_or(Failure::NoRoom)?;
-            tell(
-                rt,
-                &[
-                    Part::Text("changes "),
-                    Part::Number(u128::from(labels.changes)),
-                    Part::Text(" generations "),
-                    Part::Number(u128::from(labels.first)),
-                    Part::Text(" "),
-                    Part::Number(u128::from(labels.second)),
-                    Part::Text("\n"),
-                ],
-            )
-        }
+        Line::Labels(count) => tell_labels(rt, publish_labels(rt, alloc, count)),
         Line::Front(count) => tell_sum(rt, rounds::look(alloc, count)),
         Line::Take(count) => tell_sum(rt, rounds::take(alloc, count)),
         Line::Rows(rows) => {
@@ -55,6 +41,23 @@ pub(crate) fn answer<R: Print + Threads + Wait + Sync>(
         }
         Line::NoDesk => refuse_desks(rt, alloc),
     }
+}
+
+// Prints what is left of labels that were changed.
+fn tell_labels(rt: &impl Print, labels: Option<Labels>) -> Result<(), Failure> {
+    let labels = labels.ok_or(Failure::NoRoom)?;
+    tell(
+        rt,
+        &[
+            Part::Text("changes "),
+            Part::Number(u128::from(labels.changes)),
+            Part::Text(" generations "),
+            Part::Number(u128::from(labels.first)),
+            Part::Text(" "),
+            Part::Number(u128::from(labels.second)),
+            Part::Text("\n"),
+        ],
+    )
 }
 
 // Prints a count of what was only done.

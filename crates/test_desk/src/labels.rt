@@ -30,11 +30,15 @@ pub(crate) fn publish_labels<R: Threads + Wait + Sync>(
     calls: u32,
 ) -> Option<Labels> {
     let store = store_at(alloc, FIRST)?;
-    let mut store = run_crew(rt, alloc, store, 2, Overwrite { calls })?.machine;
+    let mut crew = run_crew(rt, alloc, store, 2, Overwrite { calls })?;
+    labels_in(&mut crew.machine)
+}
+
+fn labels_in(store: &mut Box<Store>) -> Option<Labels> {
     Some(Labels {
         changes: store.cursor().position.wrapping_sub(FIRST),
-        first: generation_of(&mut store, 1)?,
-        second: generation_of(&mut store, 2)?,
+        first: generation_of(store, 1)?,
+        second: generation_of(store, 2)?,
     })
 }
 

@@ -60,8 +60,15 @@ fn run<R: Runtime + AllocGlobal + Threads + Wait + Sync>(rt: &R) -> Result<(), F
     };
     for line in reader.lines(rt.alloc()) {
         let line = line.map_err(Failure::of_reading)?;
-        let asked = read_line(line.as_str()).ok_or(Failure::BadLine)?;
-        answer(rt, rt.alloc(), asked)?;
+        answer_line(rt, line.as_str())?;
     }
     Ok(())
+}
+
+fn answer_line<R: Runtime + AllocGlobal + Threads + Wait + Sync>(
+    rt: &R,
+    line: &str,
+) -> Result<(), Failure> {
+    let asked = read_line(line).ok_or(Failure::BadLine)?;
+    answer(rt, rt.alloc(), asked)
 }

@@ -31,15 +31,44 @@ impl Task<Box<Store>> for Overwrite {
         _board: &Board<Box<Store>, D>,
         worker: &mut Worker<Pass<Box<Store>>>,
     ) -> Option<()> {
-        let answer = worker.call(rt, desk, follow(alloc, 0)?)?;
-        let number = stamp_of(&answer.reply)?.wrapping_sub(FIRST);
+        let number = subscribe(rt, alloc, desk, worker)?;
         let label = label_of(number);
         for turn in 0..self.calls {
-            let driver = driver_of(&label, 1 + turn % 2_000_000, (number % 1000) as u16)?;
-            worker.call(rt, desk, driver.ask(Asked::Start))?;
+            start_again(rt, desk, worker, &label, number, turn)?;
         }
         Some(())
     }
+}
+
+// Follows everything, and gives the number of the subscription.
+fn subscribe<R: Wait>(
+    rt: &R,
+    alloc: Global,
+    desk: &Desk<Box<Store>>,
+    worker: &mut Worker<Pass<Box<Store>>>,
+) -> Option<u64>
+    requires { desk_of worker.old.pass ≡ identity desk.now }
+    ensures { desk_of worker.new.pass ≡ desk_of worker.old.pass }
+{
+    let answer = worker.call(rt, desk, follow(alloc, 0)?)?;
+    Some(stamp_of(&answer.reply)?.wrapping_sub(FIRST))
+}
+
+// Has RS start the driver of the label in a later generation.
+fn start_again<R: Wait>(
+    rt: &R,
+    desk: &Desk<Box<Store>>,
+    worker: &mut Worker<Pass<Box<Store>>>,
+    label: &[u8],
+    number: u64,
+    turn: u32,
+) -> Option<()>
+    requires { desk_of worker.old.pass ≡ identity desk.now }
+    ensures { desk_of worker.new.pass ≡ desk_of worker.old.pass }
+{
+    let driver = driver_of(label, 1 + turn % 2_000_000, (number % 1000) as u16)?;
+    worker.call(rt, desk, driver.ask(Asked::Start))?;
+    Some(())
 }
 
 fn stamp_of(reply: &Reply) -> Option<u64> {

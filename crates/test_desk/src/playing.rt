@@ -3,14 +3,14 @@
 ghost use Rattle.std.specs.Prelude.{◌≡◌, ◌∷◌, [], IfOk, IfSome};
 ghost use Rattle.std.specs.List.{AllByRecursion};
 ghost use Rattle.desk.specs.Desk.{identity};
-ghost use Rattle.desk.specs.Pass.{desk_of};
+ghost use Rattle.desk.specs.Pass.{desk_of, desk_of_note};
 
 use crate::commands::{Asked, driver_of, follow};
 use crate::failure::Failure;
 use crate::new_store::store_at;
 use crate::rows::{NO_DESK, Row, Step};
 use crate::tell::{Part, tell};
-use desk::{Answer, Desk, DeskFault, Pass, Passes};
+use desk::{Answer, Desk, DeskFault, Note, Pass, Passes};
 use ds_machine::{Command, Reply};
 use ds_store::Store;
 use std::alloc::Global;
@@ -18,21 +18,47 @@ use std::sync::Wait;
 
 /// Opens a desk, has its two passes do what the row says, and closes it. What they are answered is printed.
 pub(crate) fn play<R: Print + Wait>(rt: &R, alloc: Global, row: &Row) -> Result<(), Failure> {
+    let (desk, mut one, mut two) = open_two(alloc, row)?;
+    take_steps(rt, alloc, &desk, &mut one, &mut two, row.steps)?;
+    if row.learns {
+        return close_when_learnt(rt, alloc, desk, one, two);
+    }
+    close_both(rt, alloc, desk, one, two, row.sub)?;
+    Ok(())
+}
+
+// A row's desk, and its two passes.
+fn open_two(
+    alloc: Global,
+    row: &Row,
+) -> Result<(Desk<Box<Store>>, Pass<Box<Store>>, Pass<Box<Store>>), Failure>
+    ensures { IfOk result (λ d. (desk_of d.1 ≡ identity d.0) × (desk_of d.2 ≡ identity d.0)) }
+{
     let store = store_at(alloc, row.position).ok_or(Failure::NoRoom)?;
     let Ok((desk, mut passes)) = Desk::<Box<Store>>::open(alloc, store, 2, row.place) else {
         return Err(Failure::NoRoom);
     };
-    let (Some(mut two), Some(mut one)) = (passes.pop(), passes.pop()) else {
-        return Err(Failure::NoRoom);
-    };
-    for step in row.steps {
-        take_step(rt, alloc, &desk, &mut one, &mut two, *step)?;
+    let two = passes.pop().ok_or(Failure::NoRoom)?;
+    let one = passes.pop().ok_or(Failure::NoRoom)?;
+    Ok((desk, one, two))
+}
+
+fn take_steps<R: Print + Wait>(
+    rt: &R,
+    alloc: Global,
+    desk: &Desk<Box<Store>>,
+    one: &mut Pass<Box<Store>>,
+    two: &mut Pass<Box<Store>>,
+    steps: &[Step],
+) -> Result<(), Failure>
+    requires one { desk_of one.old ≡ identity desk.now }
+    requires two { desk_of two.old ≡ identity desk.now }
+    ensures one { desk_of one.new ≡ identity desk.now }
+    ensures two { desk_of two.new ≡ identity desk.now }
+{
+    for step in steps {
+        take_step(rt, alloc, desk, one, two, *step)?;
     }
-    if row.learns {
-        return close_when_learnt(rt, alloc, desk, one, two);
-    }
-    let passes = both(alloc, one, two)?;
-    close(rt, alloc, desk, passes, row.sub)?;
     Ok(())
 }
 
@@ -90,15 +116,7 @@ fn tell_answer(rt: &impl Print, answer: &Answer<Reply>) -> Result<(), Failure> {
             Part::Text(": "),
         ],
     )?;
-    match &answer.reply {
-        Reply::Changed { .. } => tell(rt, &[Part::Text("changed")])?,
-        Reply::Subscribed { stamp, .. } => tell(
-            rt,
-            &[Part::Text("subscribed "), Part::Number(u128::from(*stamp))],
-        )?,
-        Reply::Refused(refusal) => tell(rt, &[Part::Text("refused: "), Part::Refusal(*refusal)])?,
-        _ => tell(rt, &[Part::Text("answered")])?,
-    }
+    tell_reply(rt, &answer.reply)?;
     tell(
         rt,
         &[
@@ -109,6 +127,18 @@ fn tell_answer(rt: &impl Print, answer: &Answer<Reply>) -> Result<(), Failure> {
             Part::Text("\n"),
         ],
     )
+}
+
+fn tell_reply(rt: &impl Print, reply: &Reply) -> Result<(), Failure> {
+    match reply {
+        Reply::Changed { .. } => tell(rt, &[Part::Text("changed")]),
+        Reply::Subscribed { stamp, .. } => tell(
+            rt,
+            &[Part::Text("subscribed "), Part::Number(u128::from(*stamp))],
+        ),
+        Reply::Refused(refusal) => tell(rt, &[Part::Text("refused: "), Part::Refusal(*refusal)]),
+        _ => tell(rt, &[Part::Text("answered")]),
+    }
 }
 
 // Looks how far the history goes, and prints the first place behind what the pass has then seen.
@@ -185,20 +215,42 @@ fn close_when_learnt(
     let Ok(note) = desk.note(&mut one) else {
         return Err(Failure::Worn);
     };
-    let Some((desk, mut passes)) = close(rt, alloc, desk, both(alloc, one, two)?, 0)? else {
+    let Some((desk, one, mut two)) = close_both(rt, alloc, desk, one, two, 0)? else {
         return Ok(());
     };
-    let (Some(mut two), Some(one)) = (passes.pop(), passes.pop()) else {
-        return Err(Failure::NoRoom);
-    };
-    if desk.learn(&mut two, note).is_err() {
+    learn(rt, &desk, &mut two, note)?;
+    close_one_by_one(rt, alloc, desk, one, two)
+}
+
+// Learns a note, and looks.
+fn learn(
+    rt: &impl Print,
+    desk: &Desk<Box<Store>>,
+    pass: &mut Pass<Box<Store>>,
+    note: Note<Box<Store>>,
+) -> Result<(), Failure>
+    requires pass { desk_of pass.old ≡ identity desk.now }
+    requires note { desk_of_note note ≡ identity desk.now }
+    ensures { desk_of pass.new ≡ identity desk.now }
+{
+    if desk.learn(pass, note).is_err() {
         return Err(Failure::Worn);
     }
-    look(rt, &desk, &mut two)?;
-    if passes.push(one).is_err() {
-        return Err(Failure::NoRoom);
-    }
-    let Some((desk, mut passes)) = close(rt, alloc, desk, passes, 0)? else {
+    look(rt, desk, pass)
+}
+
+// Asks to close with the first pass alone, and then with both.
+fn close_one_by_one(
+    rt: &impl Print,
+    alloc: Global,
+    desk: Desk<Box<Store>>,
+    one: Pass<Box<Store>>,
+    two: Pass<Box<Store>>,
+) -> Result<(), Failure>
+    requires one { desk_of one ≡ identity desk }
+    requires two { desk_of two ≡ identity desk }
+{
+    let Some((desk, mut passes)) = close(rt, alloc, desk, alone(alloc, one)?, 0)? else {
         return Ok(());
     };
     if passes.push(two).is_err() {
@@ -206,6 +258,28 @@ fn close_when_learnt(
     }
     close(rt, alloc, desk, passes, 0)?;
     Ok(())
+}
+
+// Closes the desk with both passes, and prints what is left, or why it stays open, and gives it and its passes back.
+fn close_both(
+    rt: &impl Print,
+    alloc: Global,
+    desk: Desk<Box<Store>>,
+    one: Pass<Box<Store>>,
+    two: Pass<Box<Store>>,
+    sub: usize,
+) -> Result<Option<(Desk<Box<Store>>, Pass<Box<Store>>, Pass<Box<Store>>)>, Failure>
+    requires one { desk_of one ≡ identity desk }
+    requires two { desk_of two ≡ identity desk }
+    ensures { IfOk result (λ still. IfSome still (λ d. (d.0 ≡ desk) × (d.1 ≡ one) × (d.2 ≡ two))) }
+{
+    let Some((desk, mut passes)) = close(rt, alloc, desk, both(alloc, one, two)?, sub)? else {
+        return Ok(None);
+    };
+    let (Some(two), Some(one)) = (passes.pop(), passes.pop()) else {
+        return Err(Failure::NoRoom);
+    };
+    Ok(Some((desk, one, two)))
 }
 
 // The two passes of a desk.
@@ -216,8 +290,19 @@ fn both(
 ) -> Result<Passes<Box<Store>>, Failure>
     ensures { IfOk result (λ passes. passes ≡ one ∷ two ∷ []) }
 {
+    let mut passes = alone(alloc, one)?;
+    if passes.push(two).is_err() {
+        return Err(Failure::NoRoom);
+    }
+    Ok(passes)
+}
+
+// One pass of a desk.
+fn alone(alloc: Global, one: Pass<Box<Store>>) -> Result<Passes<Box<Store>>, Failure>
+    ensures { IfOk result (λ passes. passes ≡ one ∷ []) }
+{
     let mut passes = Passes::<Box<Store>>::new(alloc);
-    if passes.push(one).is_err() || passes.push(two).is_err() {
+    if passes.push(one).is_err() {
         return Err(Failure::NoRoom);
     }
     Ok(passes)
@@ -242,14 +327,19 @@ fn close(
             return Ok(Some((stop.desk, stop.passes)));
         }
     };
-    let Some(row) = closed.account.get(sub) else {
-        return Ok(None);
-    };
+    if let Some(row) = closed.account.get(sub) {
+        tell_closed(rt, closed.machine.cursor().position, row)?;
+    }
+    Ok(None)
+}
+
+// Prints how far a store went, and the row of a subscription.
+fn tell_closed(rt: &impl Print, position: u64, row: &desk::Row) -> Result<(), Failure> {
     tell(
         rt,
         &[
             Part::Text("closed: position "),
-            Part::Number(u128::from(closed.machine.cursor().position)),
+            Part::Number(u128::from(position)),
             Part::Text(", raises "),
             Part::Number(u128::from(row.raises)),
             Part::Text(", takes "),
@@ -260,27 +350,34 @@ fn close(
                 ", pending false\n"
             }),
         ],
-    )?;
-    Ok(None)
+    )
 }
 
 /// Asks to open desks that there aren't, and prints why not, and the position of each store that comes back.
 pub(crate) fn refuse_desks(rt: &impl Print, alloc: Global) -> Result<(), Failure> {
     for (passes, place) in &NO_DESK {
-        let store = store_at(alloc, 7).ok_or(Failure::NoRoom)?;
-        match Desk::<Box<Store>>::open(alloc, store, *passes, *place) {
-            Ok(_) => tell(rt, &[Part::Text("opened\n")])?,
-            Err(stop) => tell(
-                rt,
-                &[
-                    Part::Text("no desk: "),
-                    Part::Fault(stop.fault),
-                    Part::Text("; the store is at "),
-                    Part::Number(u128::from(stop.machine.cursor().position)),
-                    Part::Text("\n"),
-                ],
-            )?,
-        }
+        refuse_desk(rt, alloc, *passes, *place)?;
     }
     Ok(())
+}
+
+fn refuse_desk(rt: &impl Print, alloc: Global, passes: u32, place: u64) -> Result<(), Failure> {
+    let store = store_at(alloc, 7).ok_or(Failure::NoRoom)?;
+    match Desk::<Box<Store>>::open(alloc, store, passes, place) {
+        Ok(_) => tell(rt, &[Part::Text("opened\n")]),
+        Err(stop) => tell_no_desk(rt, stop.fault, stop.machine.cursor().position),
+    }
+}
+
+fn tell_no_desk(rt: &impl Print, fault: DeskFault, position: u64) -> Result<(), Failure> {
+    tell(
+        rt,
+        &[
+            Part::Text("no desk: "),
+            Part::Fault(fault),
+            Part::Text("; the store is at "),
+            Part::Number(u128::from(position)),
+            Part::Text("\n"),
+        ],
+    )
 }

@@ -51,31 +51,59 @@ where
     M::Reply: Drop,
 {
     let mut alone = M::begin(alloc)?;
-    let mut legal = !crew.behind;
+    let (legal, noroom) = answer_alone(alloc, &mut alone, &crew.said)?;
+    let legal = legal && !crew.behind && alone.is_as_far_as(&crew.machine);
+    Some((legal, noroom))
+}
+
+// Whether the machine answers all calls so, each at its place, and how many wanted memory.
+fn answer_alone<M: Compared>(alloc: Global, alone: &mut M, said: &[Said]) -> Option<(bool, u64)>
+where
+    M::Reply: Drop,
+{
+    let mut legal = true;
     let mut noroom = 0u64;
-    for (place, one) in (0u64..).zip(&crew.said) {
-        let same = is_answered_so(alloc, &mut alone, one)?;
+    for (place, one) in (0u64..).zip(said) {
+        let same = is_answered_so(alloc, alone, one)?;
         legal &= same && one.place == place && one.seen <= place;
         noroom = noroom.wrapping_add(u64::from(one.kept.wants_room()));
     }
-    Some((legal && alone.is_as_far_as(&crew.machine), noroom))
+    Some((legal, noroom))
 }
 
-// Whether the machine answers the call so. Of one that stopped for want of memory it is given what was done. `None` where memory
-// is wanting here.
+// Whether the machine answers the call so. `None` where memory is wanting here.
 fn is_answered_so<M: Compared>(alloc: Global, alone: &mut M, one: &Said) -> Option<bool>
 where
     M::Reply: Drop,
 {
-    if one.kept == Kept::NoRoom {
-        return Some(true);
+    match one.kept {
+        Kept::NoRoom => Some(true),
+        Kept::Stopped { items, owed } => does_first(alloc, alone, one, items, owed),
+        Kept::Reply { .. } => replies_so(alloc, alone, one),
     }
+}
+
+// Of a call that stopped for want of memory the machine is given what was done: whether it owes so.
+fn does_first<M: Compared>(
+    alloc: Global,
+    alone: &mut M,
+    one: &Said,
+    items: usize,
+    owed: u128,
+) -> Option<bool>
+where
+    M::Reply: Drop,
+{
     let command = M::command_of(alloc, one.seen, one.turn)?;
-    if let Kept::Stopped { items, owed } = one.kept {
-        let reply = alone.answer(M::first_of(alloc, command, items)?);
-        return Some(M::owed(&reply) == owed);
-    }
-    let reply = alone.answer(command);
+    let reply = alone.answer(M::first_of(alloc, command, items)?);
+    Some(M::owed(&reply) == owed)
+}
+
+fn replies_so<M: Compared>(alloc: Global, alone: &mut M, one: &Said) -> Option<bool>
+where
+    M::Reply: Drop,
+{
+    let reply = alone.answer(M::command_of(alloc, one.seen, one.turn)?);
     let kept = M::kept_of(alloc, &reply)?;
     if kept.wants_room() {
         return None;

@@ -31,19 +31,7 @@ where
         worker: &mut Worker<Pass<M>>,
     ) -> Option<()> {
         for turn in 0..self.calls {
-            let seen = desk.front(&mut worker.pass);
-            let answer = worker.call(rt, desk, M::command_of(alloc, seen, turn)?)?;
-            let kept = M::kept_of(alloc, &answer.reply)?;
-            let place = answer.place;
-            worker
-                .said
-                .push(Said {
-                    seen,
-                    turn,
-                    place,
-                    kept,
-                })
-                .ok()?;
+            call_once(rt, alloc, desk, worker, turn)?;
             if turn % 4 == 3 {
                 worker.take(desk, turn / 4 % 16)?;
             }
@@ -53,4 +41,31 @@ where
         }
         worker.take_note(rt, desk, board)
     }
+}
+
+// Makes the call of a turn, and keeps what it was answered.
+fn call_once<M: Compared + Drop, R: Wait>(
+    rt: &R,
+    alloc: Global,
+    desk: &Desk<M>,
+    worker: &mut Worker<Pass<M>>,
+    turn: u32,
+) -> Option<()>
+where
+    M::Command: Drop,
+    M::Reply: Drop,
+    requires { desk_of worker.old.pass ≡ identity desk.now }
+    ensures { desk_of worker.new.pass ≡ desk_of worker.old.pass }
+{
+    let seen = desk.front(&mut worker.pass);
+    let answer = worker.call(rt, desk, M::command_of(alloc, seen, turn)?)?;
+    let kept = M::kept_of(alloc, &answer.reply)?;
+    let place = answer.place;
+    let said = Said {
+        seen,
+        turn,
+        place,
+        kept,
+    };
+    worker.said.push(said).ok()
 }
