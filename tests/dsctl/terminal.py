@@ -51,17 +51,17 @@ class Seen:
     status: int
 
 
-def pieces(program, typed):
+def pieces(program, typed, words=()):
     """Runs the program at a terminal, and types one piece after the other, each once the one before was read, and then ^D."""
     ours, theirs = pty.openpty()
-    started = subprocess.Popen([program], stdin=theirs, stdout=theirs, stderr=theirs)
+    started = subprocess.Popen([program, *words], stdin=theirs, stdout=theirs, stderr=theirs)
     os.close(theirs)
     seen = b""
     for piece in [*typed, b"\x04"]:
         time.sleep(0.2)
         os.write(ours, piece)
     try:
-        while read := shown(ours):
+        while select.select([ours], [], [], harness.SECONDS)[0] and (read := shown(ours)):
             seen += read
         started.wait(timeout=10)
     finally:

@@ -125,14 +125,29 @@ fn replay_input(
         &mut explainer,
         bad_lines,
     );
+    outcome(
+        replayed,
+        explainer.unwritten,
+        reader.0.fault,
+        writer.0.fault,
+    )
+}
+
+// What comes of a replay; with why a bad line's place, the input or an answer failed, where one did.
+fn outcome(
+    replayed: Result<Replayed, ReplayFault>,
+    unwritten: Option<io::Error>,
+    unread: Option<io::Error>,
+    unanswered: Option<io::Error>,
+) -> Result<ExitCode, Failure> {
     match replayed {
         Ok(Replayed { bad: 0, .. }) => Ok(ExitCode::SUCCESS),
-        Err(ReplayFault::BadLine { .. }) if explainer.unwritten.is_some() => {
-            Err(Failure::WriteFault(explainer.unwritten))
+        Err(ReplayFault::BadLine { .. }) if unwritten.is_some() => {
+            Err(Failure::WriteFault(unwritten))
         }
         Ok(_) | Err(ReplayFault::BadLine { .. }) => Ok(ExitCode::from(1)),
-        Err(ReplayFault::ReadFault) => Err(Failure::ReadFault(reader.0.fault)),
-        Err(ReplayFault::WriteFault) => Err(Failure::WriteFault(writer.0.fault)),
+        Err(ReplayFault::ReadFault) => Err(Failure::ReadFault(unread)),
+        Err(ReplayFault::WriteFault) => Err(Failure::WriteFault(unanswered)),
         Err(ReplayFault::NoRoom) => Err(Failure::NoRoom),
     }
 }

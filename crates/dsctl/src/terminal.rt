@@ -55,13 +55,15 @@ pub(crate) fn greet(rt: &impl Runtime, terminals: Terminals, greeting: &str) {
 
 /// Standard input, with a prompt before each line where somebody types it. Of a failed read it keeps why.
 ///
-/// At the prompt an empty line, `help`, `?`, `quit` and `exit` are taken here, and are no lines of the script.
+/// At the prompt an empty line, `help`, `?`, `quit` and `exit` are taken here, and are no lines of the script. Once it has ended it
+/// reads no more, since a terminal would ask for another ^D.
 #[derive(Drop)]
 pub(crate) struct Typed<'a, R: Runtime> {
     rt: &'a R,
     reader: R::Reader,
     prompts: bool,
     begins_line: bool,
+    ended: bool,
     pub(crate) fault: Option<io::Error>,
 }
 
@@ -89,6 +91,7 @@ impl<'a, R: Runtime> Typed<'a, R> {
             reader: rt.reader(),
             prompts: false,
             begins_line: true,
+            ended: false,
             fault: None,
         }
     }
@@ -103,7 +106,11 @@ impl<'a, R: Runtime> Typed<'a, R> {
     // What is meant by what was read. Help is shown where it was asked for.
     fn meaning(&mut self, read: &[u8]) -> Meaning {
         if !self.prompts {
-            return Meaning::Line;
+            return if read.is_empty() {
+                Meaning::End
+            } else {
+                Meaning::Line
+            };
         }
         let began_line = self.begins_line;
         self.begins_line = read.last().copied() == Some(b'\n');
@@ -147,12 +154,18 @@ fn meaning_of(word: &[u8]) -> Meaning {
 
 impl<R: Runtime> Read for Typed<'_, R> {
     fn read(&mut self, buf: &mut [u8]) -> io::Result<usize> {
+        if self.ended {
+            return Ok(0);
+        }
         for _asked in 0..u64::MAX {
             self.prompt();
             match self.reader.read(buf) {
                 Ok(count) => match self.meaning(&buf[..count]) {
                     Meaning::Line => return Ok(count),
-                    Meaning::End => return Ok(0),
+                    Meaning::End => {
+                        self.ended = true;
+                        return Ok(0);
+                    }
                     Meaning::Nothing | Meaning::Help => {}
                 },
                 Err(error) => {

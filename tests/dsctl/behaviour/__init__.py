@@ -42,6 +42,7 @@ ALL = [
     at_a_terminal.stops_where_it_is_asked_to,
     at_a_terminal.takes_words_of_its_own_at_the_prompt,
     at_a_terminal.takes_a_line_in_two_pieces,
+    at_a_terminal.ends_at_one_end,
     at_a_terminal.names_the_keys_of_a_terminal,
     at_a_terminal.greets_who_types_settings,
     at_a_terminal.greets_who_types_a_trace,

@@ -64,6 +64,14 @@ def takes_a_line_in_two_pieces(program):
     assert b"shown 0\n" in ran.seen and b"badline 2 0" in ran.seen and ran.status == 1, f"{ran}"
 
 
+def ends_at_one_end(program):
+    """One ^D where a read begins ends the program, also behind a text without a newline: the terminal isn't asked once more."""
+    for words in ([], ["settings"], ["verify"], ["upgrade"], ["record"]):
+        for typed in ([], [b"show", b"\x04"]):
+            ran = terminal.pieces(program, typed, words)
+            assert ran.status == (1 if typed or words in (["verify"], ["upgrade"]) else 0), f"{words}, {typed}: {ran}"
+
+
 def names_the_keys_of_a_terminal(program):
     """The bytes of a cursor key are told by its name, wherever they stand, and end nothing."""
     for bytes_, name, place in ((b"\x1b[A", b"Up", 0), (b"\x1bOB", b"Down", 0), (b"show\x1b[C", b"Right", 4), (b"nameof 3/1\x1b[D", b"Left", 10)):
