@@ -66,10 +66,10 @@ def takes_a_line_in_two_pieces(program):
 
 def ends_at_one_end(program):
     """One ^D where a read begins ends the program, also behind a text without a newline: the terminal isn't asked once more."""
-    for words in ([], ["settings"], ["verify"], ["upgrade"], ["record"]):
-        for typed in ([], [b"show", b"\x04"]):
+    for words, of_nothing, of_show in ((), 0, 0), (("settings",), 0, 1), (("verify",), 1, 1), (("upgrade",), 1, 1), (("record",), 0, 1):
+        for typed, status in ([], of_nothing), ([b"show", b"\x04"], of_show):
             ran = terminal.pieces(program, typed, words)
-            assert ran.status == (1 if typed or words in (["verify"], ["upgrade"]) else 0), f"{words}, {typed}: {ran}"
+            assert ran.status == status, f"{words}, {typed}: {ran}"
 
 
 def names_the_keys_of_a_terminal(program):
