@@ -2,7 +2,7 @@
 
 use crate::keys::{number_key, version};
 use ds_entry::Value;
-use ds_machine::Command;
+use ds_machine::{Command, Reply};
 use ds_names::{Endpoint, Generation, Key, Name, Version};
 use ds_reader::Others;
 use ds_store::Store;
@@ -16,6 +16,8 @@ pub(crate) struct Driver {
     next: Option<Key>,
     second: Option<Key>,
     third: Option<Key>,
+    /// Whether a number of its was refused.
+    pub is_refused: bool,
 }
 
 impl Others for Driver {
@@ -25,13 +27,14 @@ impl Others for Driver {
         self.second = self.third;
         self.third = None;
         if let Some(key) = next {
-            store.apply(Command::Publish {
+            let reply = store.apply(Command::Publish {
                 caller: self.endpoint,
                 key,
                 version: self.version,
                 value: Value::U32(1500),
                 overwrite: true,
             });
+            self.is_refused |= matches!(reply, Reply::Refused(_));
         }
     }
 }
@@ -54,23 +57,35 @@ pub(crate) fn eth0(endpoint: Endpoint, version: Version) -> Driver {
         next: number_key(b"eth0.c"),
         second: number_key(b"eth0.d"),
         third: number_key(b"eth0.e"),
+        is_refused: false,
+    }
+}
+
+// Gives the store a command. `None` where it is refused.
+fn change(store: &mut Store, command: Command) -> Option<()> {
+    match store.apply(command) {
+        Reply::Refused(_) => None,
+        _ => Some(()),
     }
 }
 
 fn publish(store: &mut Store, caller: Endpoint, text: &[u8], value: Value) -> Option<()> {
     let name = Name::read(text).ok()?;
     let version = first_version()?;
-    store.apply(Command::Publish {
-        caller,
-        key: Key {
-            name,
-            kind: value.kind(),
+    let key = Key {
+        name,
+        kind: value.kind(),
+    };
+    change(
+        store,
+        Command::Publish {
+            caller,
+            key,
+            version,
+            value,
+            overwrite: false,
         },
-        version,
-        value,
-        overwrite: false,
-    });
-    Some(())
+    )
 }
 
 /// In the store RS sweeps what generation 2 left and starts generation 3, which publishes `eth0.a` and `eth0.b`.
@@ -78,11 +93,14 @@ pub(crate) fn begin(store: &mut Store) -> Option<()> {
     let owner = Name::read(b"eth0").ok()?;
     let generation = Generation::of(2)?;
     let caller = endpoint()?;
-    store.apply(Command::Sweep {
-        caller: Endpoint::rs(),
-        owner,
-        generation,
-    });
+    change(
+        store,
+        Command::Sweep {
+            caller: Endpoint::rs(),
+            owner,
+            generation,
+        },
+    )?;
     publish(store, Endpoint::rs(), b"eth0", Value::Label(caller))?;
     publish(store, caller, b"eth0.a", Value::U32(1))?;
     publish(store, caller, b"eth0.b", Value::U32(2))

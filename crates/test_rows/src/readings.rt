@@ -14,20 +14,27 @@ const RING: u32 = 256;
 /// Reads by so many checks of a subscription. What it is told; `None` where memory is wanting.
 pub(crate) fn by_checks(alloc: Global, sub: u32, max: u32, checks: u32) -> Option<String> {
     let mut among = beside_the_driver(begun(alloc, RING)?)?;
-    check(alloc, &mut among, sub, max, checks)
+    let told = check(alloc, &mut among, sub, max, checks)?;
+    (!among.others.is_refused).then_some(told)
 }
 
 /// Reads by four checks of a subscription that another service checks too.
 pub(crate) fn overtaken(alloc: Global, sub: u32) -> Option<String> {
     let store = begun(alloc, RING)?;
-    let others = Rival { sub };
-    check(alloc, &mut Among { store, others }, sub, 2, 4)
+    let others = Rival {
+        sub,
+        is_refused: false,
+    };
+    let mut among = Among { store, others };
+    let told = check(alloc, &mut among, sub, 2, 4)?;
+    (!among.others.is_refused).then_some(told)
 }
 
 /// Reads by so many pages of a store whose journal keeps so many items.
 pub(crate) fn by_pages(alloc: Global, ring: u32, max: u32, pages: u32) -> Option<String> {
     let mut among = beside_the_driver(begun(alloc, ring)?)?;
-    turn_pages(alloc, &mut among, max, pages)
+    let told = turn_pages(alloc, &mut among, max, pages)?;
+    (!among.others.is_refused).then_some(told)
 }
 
 /// Reads by one check of all and by one page of all, where nobody else asks.
