@@ -1,6 +1,6 @@
 //! Another service, which takes a reader's subscription for its own.
 
-use ds_machine::{Command, Reply};
+use ds_machine::Command;
 use ds_reader::Others;
 use ds_store::Store;
 
@@ -9,16 +9,13 @@ use ds_store::Store;
 pub(crate) struct Rival {
     /// The subscription's number.
     pub sub: u32,
-    /// Whether a check of its was refused.
-    pub is_refused: bool,
 }
 
 impl Others for Rival {
     fn ask(&mut self, store: &mut Store) {
-        let reply = store.apply(Command::Check {
+        store.apply(Command::Check {
             sub: self.sub,
             max: 1,
         });
-        self.is_refused |= matches!(reply, Reply::Refused(_));
     }
 }
