@@ -10,12 +10,12 @@ use Rattle.trace_words.specs.Text.{TraceEntry, entry_text}
 use Rattle.trace_check.specs.declared.merges.Merges.{Merges}
 
 -- the entry of a pass that merges the items, with this reply
-abbrev pub replied_merge : ℕ → List Item → Reply → TraceEntry
-replied_merge pass items reply = record { pass = pass; asked = Merge items; reply = reply }
+abbrev pub told_merge : ℕ → List Item → Reply → TraceEntry
+told_merge pass items reply = record { pass = pass; asked = Merge items; reply = reply }
 
 -- the entry of a pass that merges the items, all of which took effect, so that this is owed
 abbrev pub taking_entry : ℕ → List Item → ℕ → TraceEntry
-taking_entry pass items owed = replied_merge pass items (Merged (length items) (length items) 0 owed)
+taking_entry pass items owed = told_merge pass items (Merged (length items) (length items) 0 owed)
 
 -- there are none
 pub record IsEmpty (merges : Merges) : Type 0 where

@@ -2,7 +2,7 @@
 
 ghost use Rattle.std.specs.Prelude.{◌≡◌, ◌+◌, ◌-◌, ◌<◌, ◌^◌, ◌++◌, OnOk};
 ghost use Rattle.trace_words.specs.Text.{entry_text};
-ghost use Rattle.trace_check.specs.Merging.{replied_merge, taking_entry, IsEmpty};
+ghost use Rattle.trace_check.specs.Merging.{told_merge, taking_entry, IsEmpty};
 
 use ds_entry::Item;
 use ds_held::Limits;
@@ -62,7 +62,7 @@ impl Merges {
         reply: &Reply,
     ) -> Result<(), NoRoom>
         requires { self.old.count < 2 ^ 64 - 1 }
-        ensures text { OnOk result (self.new.text.items ≡ self.old.text.items ++ entry_text limits (replied_merge pass items.now reply.now)) }
+        ensures text { OnOk result (self.new.text.items ≡ self.old.text.items ++ entry_text limits (told_merge pass items.now reply.now)) }
         ensures count { OnOk result (self.new.count ≡ self.old.count + 1) }
     {
         let mut lines = Vec::new(alloc);
