@@ -8,6 +8,7 @@ use crate::overwrite::overwrite_labels;
 use crate::playing::{play, refuse_desks};
 use crate::review::{Review, share_and_compare};
 use crate::rounds;
+use crate::rows::Row;
 use crate::tell::{Part, tell};
 use ds_store::Store;
 use std::alloc::Global;
@@ -33,14 +34,17 @@ pub(crate) fn answer<R: Print + Threads + Wait + Sync>(
         Line::Labels(count) => tell_labels(rt, publish_labels(rt, alloc, count)),
         Line::Front(count) => tell_sum(rt, rounds::look(alloc, count)),
         Line::Take(count) => tell_sum(rt, rounds::take(alloc, count)),
-        Line::Rows(rows) => {
-            for row in rows {
-                play(rt, alloc, row)?;
-            }
-            Ok(())
-        }
+        Line::Rows(rows) => play_rows(rt, alloc, rows),
         Line::NoDesk => refuse_desks(rt, alloc),
     }
+}
+
+// Has two passes take the steps of each row.
+fn play_rows<R: Print + Wait>(rt: &R, alloc: Global, rows: &[Row]) -> Result<(), Failure> {
+    for row in rows {
+        play(rt, alloc, row)?;
+    }
+    Ok(())
 }
 
 // Prints what is left of labels that were changed.

@@ -36,12 +36,12 @@ pub(crate) fn read_line(line: &str) -> Option<Line> {
         return read_row(line);
     };
     match word {
-        "counter" => Some(Line::Counter(read_sizes(rest)?)),
-        "store" => Some(Line::Store(read_sizes(rest)?)),
-        "overwrite" => Some(Line::Overwrite(read_sizes(rest)?)),
-        "labels" => Some(Line::Labels(rest.parse().ok()?)),
-        "front" => Some(Line::Front(rest.parse().ok()?)),
-        "take" => Some(Line::Take(rest.parse().ok()?)),
+        "counter" => read_sizes(rest).map(Line::Counter),
+        "store" => read_sizes(rest).map(Line::Store),
+        "overwrite" => read_sizes(rest).map(Line::Overwrite),
+        "labels" => rest.parse().ok().map(Line::Labels),
+        "front" => rest.parse().ok().map(Line::Front),
+        "take" => rest.parse().ok().map(Line::Take),
         _ => None,
     }
 }

@@ -51,7 +51,7 @@ fn subscribe<R: Wait>(
     ensures { desk_of worker.new.pass ≡ desk_of worker.old.pass }
 {
     let answer = worker.call(rt, desk, follow(alloc, 0)?)?;
-    Some(stamp_of(&answer.reply)?.wrapping_sub(FIRST))
+    number_of(&answer.reply)
 }
 
 // Has RS start the driver of the label in a later generation.
@@ -71,9 +71,10 @@ fn start_again<R: Wait>(
     Some(())
 }
 
-fn stamp_of(reply: &Reply) -> Option<u64> {
+// The number of the subscription that the reply tells of.
+fn number_of(reply: &Reply) -> Option<u64> {
     match reply {
-        Reply::Subscribed { stamp, .. } => Some(*stamp),
+        Reply::Subscribed { stamp, .. } => Some(stamp.wrapping_sub(FIRST)),
         _ => None,
     }
 }

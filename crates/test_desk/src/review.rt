@@ -35,12 +35,19 @@ where
 {
     let calls = sizes.calls;
     let crew = run_crew(rt, alloc, M::begin(alloc)?, sizes.threads, Share { calls })?;
-    let (legal, noroom) = compare_with_one(alloc, &crew)?;
+    review_of(alloc, &crew)
+}
+
+fn review_of<M: Compared + Drop>(alloc: Global, crew: &Crew<M>) -> Option<Review>
+where
+    M::Reply: Drop,
+{
+    let (legal, noroom) = compare_with_one(alloc, crew)?;
     Some(Review {
         entries: crew.said.len(),
         legal,
         noroom,
-        exact: account_is_exact(&crew),
+        exact: account_is_exact(crew),
     })
 }
 

@@ -59,14 +59,10 @@ impl Compared for Box<Store> {
     }
 
     fn first_of(alloc: Global, command: Command, items: usize) -> Option<Command> {
-        let Command::Merge { items: all } = command else {
-            return Some(command);
-        };
-        let mut first = Items::new(alloc);
-        for index in 0..items {
-            first.push(all.get(index)?.copy(alloc).ok()?).ok()?;
+        match command {
+            Command::Merge { items: all } => merge_of(first_items(alloc, &all, items)),
+            other => Some(other),
         }
-        Some(Command::Merge { items: first })
     }
 
     fn answer(&mut self, command: Command) -> Reply {
@@ -80,4 +76,20 @@ impl Compared for Box<Store> {
     fn is_as_far_as(&self, other: &Box<Store>) -> bool {
         self.cursor().position == other.cursor().position
     }
+}
+
+fn merge_of(items: Option<Items>) -> Option<Command> {
+    match items {
+        Some(items) => Some(Command::Merge { items }),
+        None => None,
+    }
+}
+
+// Copies of the first so many items. `None` where there aren't so many, or memory is wanting.
+fn first_items(alloc: Global, all: &Items, count: usize) -> Option<Items> {
+    let mut first = Items::new(alloc);
+    for index in 0..count {
+        first.push(all.get(index)?.copy(alloc).ok()?).ok()?;
+    }
+    Some(first)
 }

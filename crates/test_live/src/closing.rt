@@ -13,6 +13,7 @@ use crate::world::World;
 use desk::{Desk, Pass, Passes};
 use ds_entry::Items;
 use ds_machine::{Command, Reply, Scope};
+use ds_refresh::Follower;
 use ds_store::Store;
 use std::alloc::Global;
 
@@ -29,16 +30,56 @@ pub(crate) fn compare(rt: &impl Print, alloc: Global, world: World, row: &Row) -
         other,
         ..
     } = world;
-    let held = held_at_end(alloc, first, both(alloc, caller, reader)?, row.pattern)?;
-    let there = held_at_end(alloc, second, alone(alloc, other)?, row.pattern)?;
-    match row.end {
+    let held = held_at_first(alloc, first, caller, reader, row.pattern);
+    let there = held_at_second(alloc, second, other, row.pattern);
+    tell_end(rt, alloc, row.end, &follower, &held, &there)
+}
+
+// Prints whether what the first store held is what the row compares it with. `None` where memory is wanting, or was.
+fn tell_end(
+    rt: &impl Print,
+    alloc: Global,
+    end: End,
+    follower: &Follower,
+    held: &Option<Items>,
+    there: &Option<Items>,
+) -> Option<()> {
+    let held = held.as_ref()?;
+    let there = there.as_ref()?;
+    match end {
         End::Open => Some(()),
         End::Map => {
             let mapped = follower.map().held().all(alloc).ok()?;
-            tell(rt, "map equal", (mapped == held) as u64)
+            tell(rt, "map equal", (mapped == *held) as u64)
         }
-        End::Stores => tell(rt, "stores equal", (there == held) as u64),
+        End::Stores => tell(rt, "stores equal", (*there == *held) as u64),
     }
+}
+
+// Closes the first desk with its two passes, and gives what its store then holds under the pattern.
+fn held_at_first(
+    alloc: Global,
+    desk: Desk<Box<Store>>,
+    one: Pass<Box<Store>>,
+    two: Pass<Box<Store>>,
+    pattern: &[u8],
+) -> Option<Items>
+    requires one { desk_of one ≡ identity desk }
+    requires two { desk_of two ≡ identity desk }
+{
+    held_at_end(alloc, desk, both(alloc, one, two)?, pattern)
+}
+
+// Closes the second desk with its one pass, and gives what its store then holds under the pattern.
+fn held_at_second(
+    alloc: Global,
+    desk: Desk<Box<Store>>,
+    one: Pass<Box<Store>>,
+    pattern: &[u8],
+) -> Option<Items>
+    requires { desk_of one ≡ identity desk }
+{
+    held_at_end(alloc, desk, alone(alloc, one)?, pattern)
 }
 
 // The two passes of a desk. `None` where memory is wanting.
@@ -72,13 +113,20 @@ fn held_at_end(
 ) -> Option<Items>
     requires { AllByRecursion (λ p. desk_of p ≡ identity desk) passes }
 {
-    let Ok(closed) = desk.close(alloc, passes) else {
-        return None;
-    };
-    let mut store = closed.machine;
+    match desk.close(alloc, passes) {
+        Ok(closed) => {
+            let mut store = closed.machine;
+            held_under(alloc, &mut store, pattern)
+        }
+        Err(_) => None,
+    }
+}
+
+// What a store holds under the pattern. `None` where memory is wanting.
+fn held_under(alloc: Global, store: &mut Store, pattern: &[u8]) -> Option<Items> {
     let scope = Scope::Under(query(alloc, pattern)?);
-    let Reply::Snapped(snapshot) = store.apply(Command::Snapshot { scope }) else {
-        return None;
-    };
-    Some(snapshot.items)
+    match store.apply(Command::Snapshot { scope }) {
+        Reply::Snapped(snapshot) => Some(snapshot.items),
+        _ => None,
+    }
 }

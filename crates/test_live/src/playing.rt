@@ -18,10 +18,23 @@ use std::sync::Wait;
 /// couldn't go on.
 pub(crate) fn play<R: Print + Wait>(rt: &R, alloc: Global, row: &Row) -> Option<()> {
     let mut world = World::new(alloc, row)?;
-    for step in row.steps {
-        take_step(rt, alloc, &mut world, *step)?;
-    }
+    take_steps(rt, alloc, &mut world, row.steps)?;
     compare(rt, alloc, world, row)
+}
+
+fn take_steps<R: Print + Wait>(
+    rt: &R,
+    alloc: Global,
+    world: &mut World,
+    steps: &[Step],
+) -> Option<()>
+    requires { IsWorld world.old }
+    ensures { IsWorld world.new }
+{
+    for step in steps {
+        take_step(rt, alloc, world, *step)?;
+    }
+    Some(())
 }
 
 fn take_step<R: Print + Wait>(rt: &R, alloc: Global, world: &mut World, step: Step) -> Option<()>

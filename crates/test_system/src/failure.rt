@@ -1,5 +1,6 @@
 //! What ends the program before all is answered.
 
+use ds_entry::TextFault;
 use ds_names::NoRoom;
 use ds_words::CommandFault;
 use std::alloc::AllocFailed;
@@ -31,6 +32,15 @@ impl From<io::Error> for Failure {
     // Of writing: a read that fails is told by `main`.
     fn from(_: io::Error) -> Failure {
         Failure::WriteFault
+    }
+}
+
+impl From<TextFault> for Failure {
+    fn from(fault: TextFault) -> Failure {
+        match fault {
+            TextFault::TooLong | TextFault::BadText => Failure::BadLine,
+            TextFault::NoRoom => Failure::NoRoom,
+        }
     }
 }
 

@@ -45,39 +45,45 @@ fn add_events(
 }
 
 fn read_event(alloc: Global, side: Side, line: &str) -> Result<SystemEvent, Failure> {
-    if let Some(event) = read_own(alloc, side, line) {
-        return Ok(event);
+    let mut words = line.split(' ');
+    match words.next() {
+        Some("put") => read_put(alloc, side, &mut words),
+        Some("remove") => read_remove(side, &mut words).ok_or(Failure::BadLine),
+        Some("again") => read_again(side, &mut words).ok_or(Failure::BadLine),
+        _ => read_scripts(alloc, side, line),
     }
+}
+
+// The event of a line that scripts have.
+fn read_scripts(alloc: Global, side: Side, line: &str) -> Result<SystemEvent, Failure> {
     if split_line(line.as_bytes()).is_some() {
         return Err(Failure::BadLine);
     }
     event_of(alloc, side, read_command(alloc, line.as_bytes())?)
 }
 
-// The event of a line that no script has.
-fn read_own(alloc: Global, side: Side, line: &str) -> Option<SystemEvent> {
-    let mut words = line.split(' ');
-    match words.next()? {
-        "put" => read_put(alloc, side, &mut words),
-        "remove" => read_remove(side, &mut words),
-        "again" => Some(SystemEvent::Again {
-            change: read_number(&mut words)?,
-            side,
-        }),
-        _ => None,
-    }
-}
-
-fn read_put(alloc: Global, side: Side, words: &mut Split<'_, char>) -> Option<SystemEvent> {
-    let label = read_name(words)?;
-    let key = read_key(words)?;
-    let value = value_of(alloc, words.next()?)?;
-    Some(SystemEvent::Put {
+fn read_put(
+    alloc: Global,
+    side: Side,
+    words: &mut Split<'_, char>,
+) -> Result<SystemEvent, Failure> {
+    let (label, key, word) = read_put_words(words).ok_or(Failure::BadLine)?;
+    let value = value_of(alloc, word)?;
+    Ok(SystemEvent::Put {
         label,
         key,
         value,
         side,
     })
+}
+
+fn read_put_words<'a>(words: &mut Split<'a, char>) -> Option<(Name, Key, &'a str)> {
+    Some((read_name(words)?, read_key(words)?, words.next()?))
+}
+
+fn read_again(side: Side, words: &mut Split<'_, char>) -> Option<SystemEvent> {
+    let change = read_number(words)?;
+    Some(SystemEvent::Again { change, side })
 }
 
 fn read_remove(side: Side, words: &mut Split<'_, char>) -> Option<SystemEvent> {
@@ -142,10 +148,10 @@ fn table_of(server: Server) -> Table {
     }
 }
 
-fn value_of(alloc: Global, word: &str) -> Option<Value> {
+fn value_of(alloc: Global, word: &str) -> Result<Value, Failure> {
     match word.parse() {
-        Ok(number) => Some(Value::U32(number)),
-        Err(_) => Some(Value::Str(Text::read(alloc, word.as_bytes()).ok()?)),
+        Ok(number) => Ok(Value::U32(number)),
+        Err(_) => Ok(Value::Str(Text::read(alloc, word.as_bytes())?)),
     }
 }
 

@@ -1,6 +1,0 @@
-use Rattle.test_live.specs.World.{IsWorld}
-use Rattle.test_live.proofs.playing.play.Given as goal
-
--- the world is one
-abbrev pub invariant-loop-step : goal.invariant-loop-step
-invariant-loop-step g l = IsWorld l.world

@@ -1,0 +1,6 @@
+use Rattle.test_live.specs.World.{IsWorld}
+use Rattle.test_live.proofs.playing.take_steps.Given as goal
+
+-- the world is one
+abbrev pub invariant-loop-step : goal.invariant-loop-step
+invariant-loop-step g l = IsWorld l.world

@@ -1,0 +1,42 @@
+//! The lines of standard input.
+
+/// What a line asks for.
+#[derive(Clone, Copy)]
+pub(crate) enum Line {
+    /// `WRITERS FOLLOWERS CALLS`
+    Follow(Sizes),
+    /// `gates`
+    Gates,
+}
+
+/// How many threads change the store, how many follow it, 1 to 64 together, and how often each does.
+#[derive(Clone, Copy)]
+pub(crate) struct Sizes {
+    pub writers: u32,
+    pub followers: u32,
+    pub calls: u32,
+}
+
+/// Reads a line. `None` where it is none.
+pub(crate) fn read_line(line: &str) -> Option<Line> {
+    if line == "gates" {
+        return Some(Line::Gates);
+    }
+    read_sizes(line).map(Line::Follow)
+}
+
+fn read_sizes(line: &str) -> Option<Sizes> {
+    let (writers, rest) = line.split_once(' ')?;
+    let (followers, calls) = rest.split_once(' ')?;
+    let writers = writers.parse::<u32>().ok()?;
+    let followers = followers.parse::<u32>().ok()?;
+    let calls = calls.parse::<u32>().ok()?;
+    if writers == 0 || writers > 32 || followers == 0 || followers > 32 {
+        return None;
+    }
+    Some(Sizes {
+        writers,
+        followers,
+        calls,
+    })
+}
