@@ -19,7 +19,7 @@ DOES_WITHOUT = re.compile(r"^((strsim|regex_(class|syntax)|toml(_[a-z]+)?)::|ds_
 # What asks a Since's pattern about keys may want room, and then the cursor is judged all the same: its refusals come before
 # want of memory.
 SEARCH = "regex_vm::pikevm::PikeVm::new"
-CURSOR_REFUSED = re.compile(rb"^refused (oldcursor|ahead|behind)$", re.MULTILINE)
+CURSOR_REFUSED = re.compile(rb"^refused (oldcursor|ahead|behind)$|: refused: the journal doesn't reach back to the cursor$", re.MULTILINE)
 
 
 class Refuser:

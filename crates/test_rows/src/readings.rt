@@ -21,8 +21,13 @@ pub(crate) fn by_checks(alloc: Global, sub: u32, max: u32, checks: u32) -> Optio
 /// Reads by four checks of a subscription that another service checks too.
 pub(crate) fn overtaken(alloc: Global, sub: u32) -> Option<String> {
     let store = begun(alloc, RING)?;
-    let others = Rival { sub };
-    check(alloc, &mut Among { store, others }, sub, 2, 4)
+    let others = Rival {
+        sub,
+        is_wanting: false,
+    };
+    let mut among = Among { store, others };
+    let told = check(alloc, &mut among, sub, 2, 4)?;
+    (!among.others.is_wanting).then_some(told)
 }
 
 /// Reads by so many pages of a store whose journal keeps so many items.

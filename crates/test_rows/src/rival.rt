@@ -1,6 +1,6 @@
 //! Another service, which takes a reader's subscription for its own.
 
-use ds_machine::Command;
+use ds_machine::{Command, Refusal, Reply};
 use ds_reader::Others;
 use ds_store::Store;
 
@@ -9,13 +9,16 @@ use ds_store::Store;
 pub(crate) struct Rival {
     /// The subscription's number.
     pub sub: u32,
+    /// Whether memory was wanting for a check of its.
+    pub is_wanting: bool,
 }
 
 impl Others for Rival {
     fn ask(&mut self, store: &mut Store) {
-        store.apply(Command::Check {
+        let reply = store.apply(Command::Check {
             sub: self.sub,
             max: 1,
         });
+        self.is_wanting |= matches!(reply, Reply::Refused(Refusal::NoRoom));
     }
 }

@@ -4,8 +4,8 @@ use Rattle.test_rows.proofs.rival.RivalOthers.ask.Goals as goal
 
 pub returns : goal.returns
 returns c = λ s stands.
-    let step = c.apply.ensures.step s stands in (
+    let step = c.apply-reply.ensures.step s stands in (
       step.0,
-      record { commands = Check c.args.self.now.sub 1 ∷ []; replies = c.apply.result ∷ []; run = (step.0, step.1, refl) },
+      record { commands = Check c.args.self.now.sub 1 ∷ []; replies = c.apply-reply.result ∷ []; run = (step.0, step.1, refl) },
       step.2,
     )
