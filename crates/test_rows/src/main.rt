@@ -1,25 +1,34 @@
-//! `test_rows`: events of a world, whole readings of a store and what a journal gives, with ample memory, for tests.
+//! `test_rows`: calls that no other program makes, or not so, with ample memory, for tests.
 //!
-//! A contract can't say that memory is there, so a world, a reader or a journal that is always out of memory would be proved;
-//! here they have enough of it. The program reads nothing. It prints a line where events of a world that happen at once had the
-//! outcomes that are wanted; for each reading of a store, whose driver goes on meanwhile, the names of the items that the reader
-//! gives, or why it gave up; and what a journal of two gives from a cursor on. Status 0: done. 1: the events had other outcomes,
+//! A contract can't say that memory is there, so a body that always gives up would be proved; here there is enough of it. The
+//! program reads nothing. It prints a line where events of a world that happen at once had the outcomes that are wanted; for each
+//! reading of a store, whose driver goes on meanwhile, the names of the items that the reader gives, or why it gave up; what a
+//! journal of two gives from a cursor on; endpoints; lines that were read, copied and written again; which items cover which; what
+//! replies are told as; and at last what comes of calls that take no memory. Status 0: done. 1: a call didn't answer as it should,
 //! or memory or writing failed.
 #![tactic(auto)]
 
+mod copies;
 mod driver;
+mod endpoints;
 mod journal;
 mod keys;
+mod lines;
 mod readings;
+mod replies;
 mod rival;
 mod told;
+mod unaided;
 mod world;
 
+use copies::{change_again, item_again, list_again};
 use ds_entry::Items;
 use ds_feed::Since;
 use ds_line::write_item;
 use journal::{Asked, told_by};
+use lines::{CHANGES, FLOORS, PAIRS, covers};
 use readings::{alone, by_checks, by_pages, overtaken};
+use replies::{replies, text_of};
 use std::alloc::Global;
 use std::process::ExitCode;
 
@@ -36,7 +45,14 @@ fn print_rows(rt: &impl Print, alloc: Global) -> Option<()> {
     print_checks(rt, alloc)?;
     print_pages(rt, alloc)?;
     print_alone(rt, alloc)?;
-    print_journal(rt, alloc)
+    print_journal(rt, alloc)?;
+    print_endpoints(rt, alloc)?;
+    print_changes_again(rt, alloc)?;
+    print_items_again(rt, alloc)?;
+    print_list_again(rt, alloc)?;
+    print_covered(rt, alloc)?;
+    print_replies(rt, alloc)?;
+    print_unaided(rt, alloc)
 }
 
 // Subscriptions, items that each check gives at most, and how many checks there may be.
@@ -91,8 +107,83 @@ fn print_since(rt: &impl Print, alloc: Global, since: &Since) -> Option<()> {
 fn print_items(rt: &impl Print, alloc: Global, items: &Items) -> Option<()> {
     for item in items.as_slice() {
         let line = write_item(alloc, item).ok()?;
-        let text = str::from_utf8(line.as_slice()).ok()?;
-        print!(rt; "{text}").ok()?;
+        print_bytes(rt, line.as_slice())?;
     }
     Some(())
+}
+
+fn print_bytes(rt: &impl Print, bytes: &[u8]) -> Option<()> {
+    let text = str::from_utf8(bytes).ok()?;
+    print!(rt; "{text}").ok()
+}
+
+fn print_endpoints(rt: &impl Print, alloc: Global) -> Option<()> {
+    println!(rt; "endpoints").ok()?;
+    for (generation, slot) in endpoints::ENDPOINTS {
+        let printed = endpoints::printed(alloc, generation, slot)?;
+        println!(rt; "{printed}").ok()?;
+    }
+    Some(())
+}
+
+fn print_changes_again(rt: &impl Print, alloc: Global) -> Option<()> {
+    println!(rt; "changes, made again of copies of their parts").ok()?;
+    for line in CHANGES {
+        let written = change_again(alloc, line)?;
+        print_bytes(rt, written.as_slice())?;
+    }
+    Some(())
+}
+
+fn print_items_again(rt: &impl Print, alloc: Global) -> Option<()> {
+    println!(rt; "items, copied one by one").ok()?;
+    for line in FLOORS {
+        let written = item_again(alloc, line)?;
+        print_bytes(rt, written.as_slice())?;
+    }
+    Some(())
+}
+
+fn print_list_again(rt: &impl Print, alloc: Global) -> Option<()> {
+    println!(rt; "items, copied as a list").ok()?;
+    print_items(rt, alloc, &list_again(alloc, &CHANGES)?)
+}
+
+fn print_covered(rt: &impl Print, alloc: Global) -> Option<()> {
+    println!(rt; "whether the one covers the other").ok()?;
+    for (line, other) in PAIRS {
+        let covered = covers(alloc, line, other)?;
+        print_bytes(rt, line)?;
+        print_bytes(rt, other)?;
+        println!(rt; "{covered}").ok()?;
+    }
+    Some(())
+}
+
+fn print_replies(rt: &impl Print, alloc: Global) -> Option<()> {
+    println!(rt; "replies").ok()?;
+    for (wording, reply) in replies() {
+        let text = text_of(alloc, wording, &reply)?;
+        print_bytes(rt, text.as_slice())?;
+    }
+    Some(())
+}
+
+// Comes last, so that all growths behind its first line can be refused.
+fn print_unaided(rt: &impl Print, alloc: Global) -> Option<()> {
+    println!(rt; "what takes no memory").ok()?;
+    for text in unaided::NAMES {
+        let is_name = unaided::is_name(text);
+        println!(rt; "name {is_name}").ok()?;
+    }
+    for text in unaided::ENDPOINTS {
+        let slot = unaided::slot_of(text);
+        println!(rt; "slot {slot}").ok()?;
+    }
+    for seq in unaided::NUMBERS {
+        let is_made = unaided::is_made(seq);
+        println!(rt; "change {is_made}").ok()?;
+    }
+    let held = unaided::held_at_first(alloc);
+    println!(rt; "held {held}").ok()
 }
