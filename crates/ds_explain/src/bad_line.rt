@@ -8,7 +8,7 @@ use ds_line::{Expected, word_at};
 use ds_lines::{LONGEST_LINE, split_line};
 use ds_names::{is_name_byte, read_byte};
 use ds_script::BadLine;
-use ds_words::{CommandFault, read_line};
+use ds_words::{CommandFault, ScriptCommand, read_line};
 use std::alloc::Global;
 use std::rt::Runtime;
 
@@ -150,8 +150,12 @@ fn part_behind(alloc: Global, bad: &BadLine<'_>) -> Option<Expected> {
     block[..front.len()].copy_from_slice(front);
     block[front.len()] = b' ';
     let (line, _) = split_line(&block)?;
-    match read_line(alloc, line) {
-        Err(CommandFault::BadLine { expected, .. }) => Some(expected),
+    expected_of(&read_line(alloc, line))
+}
+
+fn expected_of(read: &Result<ScriptCommand, CommandFault>) -> Option<Expected> {
+    match read {
+        Err(CommandFault::BadLine { expected, .. }) => Some(*expected),
         _ => None,
     }
 }

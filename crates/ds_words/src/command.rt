@@ -10,7 +10,7 @@ use ds_pattern::Query;
 use ds_replica::{Holder, Side};
 
 /// One line of a script, with its parts.
-#[derive(Debug, Drop)]
+#[derive(Drop)]
 pub enum ScriptCommand {
     /// `offer ITEM`: merges the item, a change or a floor, into what is held.
     Offer(Item),

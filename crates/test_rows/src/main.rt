@@ -4,8 +4,8 @@
 //! program reads nothing. It prints a line where events of a world that happen at once had the outcomes that are wanted; for each
 //! reading of a store, whose driver goes on meanwhile, the names of the items that the reader gives, or why it gave up; what a
 //! journal of two gives from a cursor on; endpoints; lines that were read, copied and written again; which items cover which; what
-//! replies are told as; and at last what comes of calls that take no memory. Status 0: done. 1: a call didn't answer as it should,
-//! or memory or writing failed.
+//! replies are told as; a line once each read of some scripts has failed, and one once each write has; and at last what comes of calls
+//! that take no memory. Status 0: done. 1: a call didn't answer as it should, or memory or writing failed.
 #![tactic(auto)]
 
 mod copies;
@@ -17,6 +17,7 @@ mod lines;
 mod readings;
 mod replies;
 mod rival;
+mod scripts;
 mod told;
 mod unaided;
 mod world;
@@ -29,6 +30,7 @@ use journal::{Asked, told_by};
 use lines::{CHANGES, FLOORS, PAIRS, covers};
 use readings::{alone, by_checks, by_pages, overtaken};
 use replies::{replies, text_of};
+use scripts::{reads_fail, writes_fail};
 use std::alloc::Global;
 use std::process::ExitCode;
 
@@ -52,6 +54,7 @@ fn print_rows(rt: &impl Print, alloc: Global) -> Option<()> {
     print_list_again(rt, alloc)?;
     print_covered(rt, alloc)?;
     print_replies(rt, alloc)?;
+    print_scripts(rt, alloc)?;
     print_unaided(rt, alloc)
 }
 
@@ -167,6 +170,13 @@ fn print_replies(rt: &impl Print, alloc: Global) -> Option<()> {
         print_bytes(rt, text.as_slice())?;
     }
     Some(())
+}
+
+fn print_scripts(rt: &impl Print, alloc: Global) -> Option<()> {
+    reads_fail(alloc)?;
+    println!(rt; "each read failed in turn").ok()?;
+    writes_fail(alloc)?;
+    println!(rt; "each write failed in turn").ok()
 }
 
 // Comes last, so that all growths behind its first line can be refused.

@@ -5,14 +5,14 @@
 //! nothing held. `get NAME KIND` asks for the change of a key, `live NAME KIND` whether it is a put, and `after NAME KIND`, or
 //! `after -`, for the first change behind a key, or of all.
 
-use crate::entries::{Entry, offered, read_line};
+use crate::entries::{Entry, name_of, offered, read_line};
 use crate::failure::Failure;
 use crate::subject::{Subject, add, ask_all, word_of};
 use ds_entry::{Change, Item, Items};
 use ds_held::Held;
 use ds_join::{JoinFault, Merge, Stop};
 use ds_line::{append_change, append_item};
-use ds_names::Key;
+use ds_names::{Key, Kind};
 use ds_words::ScriptCommand;
 use std::alloc::Global;
 use std::io::Write;
@@ -55,7 +55,7 @@ impl Subject for Held {
     fn make(alloc: Global, entry: Entry) -> Result<Asked, Failure> {
         let Entry { line, block } = entry;
         match line.as_str() {
-            "join" => Ok(Asked::Join(other(alloc, block)?)),
+            "join" => other(alloc, block).map(Asked::Join),
             line => asked_by(alloc, line),
         }
     }
@@ -85,24 +85,30 @@ fn asked_by(alloc: Global, line: &str) -> Result<Asked, Failure> {
         "clear" => Ok(Asked::Clear),
         "after -" => Ok(Asked::After(None)),
         _ => match line.split_once(' ') {
-            Some(("copy", change)) => Ok(Asked::Copy(change_of(alloc, change)?)),
-            Some(("get", key)) => Ok(Asked::Get(key_of(alloc, key)?)),
-            Some(("live", key)) => Ok(Asked::Live(key_of(alloc, key)?)),
-            Some(("after", key)) => Ok(Asked::After(Some(key_of(alloc, key)?))),
-            _ => Ok(Asked::Offer(offered(read_line(alloc, line)?)?)),
+            Some(("copy", change)) => change_of(alloc, change).map(Asked::Copy),
+            Some(("get", key)) => key_of(key).map(Asked::Get),
+            Some(("live", key)) => key_of(key).map(Asked::Live),
+            Some(("after", key)) => key_of(key).map(Some).map(Asked::After),
+            _ => offered(read_line(alloc, line)?).map(Asked::Offer),
         },
     }
 }
 
-// The key that a `get` names, which is spelled as in a `retrieve`.
-fn key_of(alloc: Global, key: &str) -> Result<Key, Failure> {
-    let line = format!(in alloc; "retrieve {key}")?;
-    retrieved(&read_line(alloc, line.as_str())?)
+// The key of `NAME KIND`.
+fn key_of(words: &str) -> Result<Key, Failure> {
+    let (name, kind) = words.split_once(' ').ok_or(Failure::BadLine)?;
+    Ok(Key {
+        name: name_of(name)?,
+        kind: kind_of(kind)?,
+    })
 }
 
-fn retrieved(command: &ScriptCommand) -> Result<Key, Failure> {
-    match command {
-        ScriptCommand::Retrieve { key } => Ok(*key),
+fn kind_of(word: &str) -> Result<Kind, Failure> {
+    match word {
+        "label" => Ok(Kind::Label),
+        "u32" => Ok(Kind::U32),
+        "str" => Ok(Kind::Str),
+        "mem" => Ok(Kind::Mem),
         _ => Err(Failure::BadLine),
     }
 }

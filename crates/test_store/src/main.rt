@@ -39,7 +39,11 @@ fn main(rt: HostRuntime) -> ExitCode {
 // Answers the parts in turn.
 fn run(rt: &(impl Runtime + AllocGlobal)) -> Result<(), Failure> {
     let text = read_input(rt)?;
-    for part in text.as_str().split("\n\n") {
+    answer_parts(rt, text.as_str())
+}
+
+fn answer_parts(rt: &(impl Runtime + AllocGlobal), text: &str) -> Result<(), Failure> {
+    for part in text.split("\n\n") {
         let (first, lines) = part.split_once('\n').unwrap_or((part, ""));
         answer_part(rt, first, lines)?;
     }

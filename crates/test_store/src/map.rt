@@ -10,7 +10,7 @@ use crate::subject::{Subject, add, ask_all, print, word_of};
 use ds_entry::Items;
 use ds_join::Stop;
 use ds_line::{append_change, append_item};
-use ds_names::{Key, Kind, Name};
+use ds_names::{Endpoint, Key, Kind, Name};
 use ds_pattern::{PatternFault, Query};
 use ds_submap::{Count, SubMap};
 use ds_words::ScriptCommand;
@@ -40,8 +40,14 @@ pub(crate) fn answer_part(
     first: &str,
     lines: &str,
 ) -> Result<(), Failure> {
-    match read_line(alloc, first)? {
-        ScriptCommand::Map { query } => ask_map(rt, alloc, &query, lines),
+    let query = query_of(read_line(alloc, first)?)?;
+    ask_map(rt, alloc, &query, lines)
+}
+
+// The query of a map's line.
+fn query_of(command: ScriptCommand) -> Result<Query, Failure> {
+    match command {
+        ScriptCommand::Map { query } => Ok(query),
         _ => Err(Failure::BadLine),
     }
 }
@@ -61,12 +67,12 @@ impl Subject for SubMap {
     fn make(alloc: Global, entry: Entry) -> Result<Asked, Failure> {
         let Entry { line, block } = entry;
         match line.as_str() {
-            "take" => Ok(Asked::Take(items_of(alloc, block)?)),
+            "take" => items_of(alloc, block).map(Asked::Take),
             "entries" => Ok(Asked::Entries),
             "clear" => Ok(Asked::Clear),
             line => match line.split_once(' ') {
-                Some(("floor-of", owner)) => Ok(Asked::Floor(name_of(owner)?)),
-                Some(("label", name)) => Ok(Asked::Label(name_of(name)?)),
+                Some(("floor-of", owner)) => name_of(owner).map(Asked::Floor),
+                Some(("label", name)) => name_of(name).map(Asked::Label),
                 _ => Err(Failure::BadLine),
             },
         }
@@ -118,13 +124,15 @@ fn add_floor(text: &mut Vec<u8>, map: &SubMap, owner: &Name) -> Result<(), Failu
     written.ok().ok_or(Failure::NoRoom)
 }
 
+fn add_endpoint(text: &mut Vec<u8>, endpoint: Endpoint) -> Result<(), Failure> {
+    let (generation, slot) = (endpoint.generation().number(), endpoint.slot());
+    let written = write!(text, "label {generation}/{slot}\n");
+    written.ok().ok_or(Failure::NoRoom)
+}
+
 fn add_label(text: &mut Vec<u8>, map: &SubMap, name: Name) -> Result<(), Failure> {
     match map.label(&name) {
-        Some(endpoint) => {
-            let (generation, slot) = (endpoint.generation().number(), endpoint.slot());
-            let written = write!(text, "label {generation}/{slot}\n");
-            written.ok().ok_or(Failure::NoRoom)?;
-        }
+        Some(endpoint) => add_endpoint(text, endpoint)?,
         None => add(text, "label -\n")?,
     }
     let kind = Kind::Label;

@@ -8,10 +8,10 @@
 use crate::entries::{Entry, items_of, name_of, read_line};
 use crate::failure::Failure;
 use crate::subject::{Subject, add, ask_all, print};
-use ds_entry::Value;
+use ds_entry::{Items, Value};
 use ds_held::Limits;
 use ds_machine::{Command, Refusal, Reply};
-use ds_names::{Endpoint, Key, Kind, Version};
+use ds_names::{Endpoint, Key, Kind, NoRoom, Version};
 use ds_store::{Store, run};
 use ds_words::ScriptCommand;
 use std::alloc::Global;
@@ -55,13 +55,13 @@ fn print_refusal(
     limits: Limits,
 ) -> Result<(), Failure> {
     let mut text = Vec::new(alloc);
-    append_reply(
-        &mut text,
-        Wording::AsMerge,
-        &Reply::Refused(refusal),
-        limits,
-    )?;
+    add_refusal(&mut text, refusal, limits)?;
     print(rt, text.as_slice())
+}
+
+fn add_refusal(text: &mut Vec<u8>, refusal: Refusal, limits: Limits) -> Result<(), NoRoom> {
+    let reply = Reply::Refused(refusal);
+    append_reply(text, Wording::AsMerge, &reply, limits)
 }
 
 /// How a store is opened.
@@ -107,18 +107,15 @@ impl Subject for Store {
     fn make(alloc: Global, entry: Entry) -> Result<Asked, Failure> {
         let Entry { line, block } = entry;
         match line.as_str() {
-            "merge" => Ok(as_merge(merge_of(alloc, block)?)),
-            "run" => Ok(Asked::Run(commands_of(alloc, block)?)),
+            "merge" => items_of(alloc, block).map(merge_of),
+            "run" => commands_of(alloc, block).map(Asked::Run),
             line => asked_by(alloc, line),
         }
     }
 
     fn answer(&mut self, alloc: Global, text: &mut Vec<u8>, asked: Asked) -> Result<(), Failure> {
         match asked {
-            Asked::Command { command, wording } => {
-                let reply = self.apply(command);
-                Ok(append_reply(text, wording, &reply, self.limits())?)
-            }
+            Asked::Command { command, wording } => add_reply(text, self, command, wording),
             Asked::Run(commands) => add_run(alloc, text, self, commands),
             Asked::Restart { incarnation } => {
                 self.restart(incarnation);
@@ -129,6 +126,17 @@ impl Subject for Store {
     }
 }
 
+// Asks the store a command, and tells the reply.
+fn add_reply(
+    text: &mut Vec<u8>,
+    store: &mut Store,
+    command: Command,
+    wording: Wording,
+) -> Result<(), Failure> {
+    let reply = store.apply(command);
+    Ok(append_reply(text, wording, &reply, store.limits())?)
+}
+
 // A command whose reply is worded as a Merge's.
 fn as_merge(command: Command) -> Asked {
     Asked::Command {
@@ -137,15 +145,14 @@ fn as_merge(command: Command) -> Asked {
     }
 }
 
-fn merge_of(alloc: Global, block: Vec<ScriptCommand>) -> Result<Command, Failure> {
-    let items = items_of(alloc, block)?;
-    Ok(Command::Merge { items })
+fn merge_of(items: Items) -> Asked {
+    as_merge(Command::Merge { items })
 }
 
 // What a line without a block asks of the store.
 fn asked_by(alloc: Global, line: &str) -> Result<Asked, Failure> {
     match line {
-        "mismatch" => Ok(as_merge(mismatch()?)),
+        "mismatch" => mismatch().map(as_merge),
         "held" => Ok(Asked::Held),
         _ => asked_by_script(alloc, &read_line(alloc, line)?),
     }

@@ -36,10 +36,20 @@ pub(crate) fn ask_all<S: Subject>(
 ) -> Result<(), Failure> {
     let script = make_all::<S>(alloc, lines)?;
     let mut text = Vec::with_capacity(alloc, ANSWER)?;
+    answer_all(rt, alloc, subject, &mut text, script)
+}
+
+fn answer_all<S: Subject>(
+    rt: &impl Runtime,
+    alloc: Global,
+    subject: &mut S,
+    text: &mut Vec<u8>,
+    script: Vec<S::Asked>,
+) -> Result<(), Failure> {
     print(rt, b"ready\n")?;
     for asked in script {
         text.clear();
-        subject.answer(alloc, &mut text, asked)?;
+        subject.answer(alloc, text, asked)?;
         print(rt, text.as_slice())?;
     }
     Ok(())

@@ -39,9 +39,16 @@ fn add_events(
     let (count, line) = line.split_once(" times ").unwrap_or(("1", line));
     let count: u32 = count.parse().ok().ok_or(Failure::BadLine)?;
     for _ in 0..count {
-        events.push(read_event(alloc, side, line)?)?;
+        add_event(events, read_event(alloc, side, line)?)?;
     }
     Ok(())
+}
+
+fn add_event(events: &mut SystemEvents, event: SystemEvent) -> Result<(), Failure> {
+    match events.push(event) {
+        Ok(()) => Ok(()),
+        Err(_) => Err(Failure::NoRoom),
+    }
 }
 
 fn read_event(alloc: Global, side: Side, line: &str) -> Result<SystemEvent, Failure> {

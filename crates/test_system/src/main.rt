@@ -17,6 +17,7 @@ mod telling;
 
 use failure::Failure;
 use part::answer_part;
+use std::alloc::Global;
 use std::io::{self, ErrorKind, Read, Write};
 use std::process::ExitCode;
 use std::rt::Runtime;
@@ -33,14 +34,18 @@ fn main(rt: HostRuntime) -> ExitCode {
     ExitCode::from(3)
 }
 
-// Answers the parts in turn, each by one write.
+// Answers the parts in turn, and writes what is told of all.
 fn run(rt: &(impl Runtime + AllocGlobal)) -> Result<(), Failure> {
     let input = read_input(rt)?;
     let mut text = Vec::new(rt.alloc());
-    for part in input.as_str().split("\n\n") {
-        answer_part(&mut text, rt.alloc(), part)?;
+    answer_parts(&mut text, rt.alloc(), input.as_str())?;
+    Ok(io::writer(rt).write_all(text.as_slice())?)
+}
+
+fn answer_parts(text: &mut Vec<u8>, alloc: Global, parts: &str) -> Result<(), Failure> {
+    for part in parts.split("\n\n") {
+        answer_part(text, alloc, part)?;
     }
-    io::writer(rt).write_all(text.as_slice())?;
     Ok(())
 }
 

@@ -30,8 +30,15 @@ fn answer_lines(
     let Beginning { next, a, b } = beginning;
     match System::new(alloc, settings, a, b, next) {
         Ok(mut system) => answer_events(text, alloc, &mut system, lines),
-        Err(BeginFault::NoRoom) => Err(Failure::NoRoom),
-        Err(fault) => Ok(tell(text, &[b"refused ", word_of_beginning(fault)])?),
+        Err(fault) => tell_no_system(text, fault),
+    }
+}
+
+// Says why no system begins, unless memory is wanting.
+fn tell_no_system(text: &mut Vec<u8>, fault: BeginFault) -> Result<(), Failure> {
+    match fault {
+        BeginFault::NoRoom => Err(Failure::NoRoom),
+        fault => Ok(tell(text, &[b"refused ", word_of_beginning(fault)])?),
     }
 }
 

@@ -56,8 +56,13 @@ fn place_behind_pass(alloc: Global, text: &[u8], is_first: bool) -> usize
     if let Some(place) = place_of_merge(text) {
         return place;
     }
-    match read_line_behind(alloc, text, if is_first { 0 } else { 1 }) {
-        Err(CommandFault::BadLine { place, .. }) => place,
+    place_of_read(&read_line_behind(alloc, text, if is_first { 0 } else { 1 }))
+}
+
+// The same of a line that was read; that of an item that a trace hasn't is its item's.
+fn place_of_read(read: &Result<ScriptCommand, CommandFault>) -> usize {
+    match read {
+        Err(CommandFault::BadLine { place, .. }) => *place,
         Ok(ScriptCommand::Offer(_)) => 6,
         _ => 0,
     }

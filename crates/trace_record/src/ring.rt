@@ -2,6 +2,7 @@
 
 ghost use Rattle.std.specs.Prelude.{◌≡◌, true, IfOk, IfSome};
 ghost use Rattle.ds_lines.specs.Lines.{EndsLine};
+ghost use Rattle.ds_words.specs.declared.command.ScriptCommand.{ScriptCommand};
 ghost use Rattle.trace_record.specs.Asking.{ring_text};
 
 use crate::fault::RecordFault;
@@ -25,8 +26,15 @@ pub(crate) fn ring_of(
         Ok(true) => {}
         _ => return Ok(None),
     }
-    match read_line(alloc, line) {
-        Ok(ScriptCommand::Ring { ring }) => Ok(Some(ring)),
+    ring_asked(&read_line(alloc, line))
+}
+
+// How many items the line that was read says, if it is `ring N`.
+fn ring_asked(read: &Result<ScriptCommand, CommandFault>) -> Result<Option<u32>, NoRoom>
+    ensures { IfOk result (λ ring. IfSome ring (λ n. read.now ≡ Ok (ScriptCommand.Ring n))) }
+{
+    match read {
+        Ok(ScriptCommand::Ring { ring }) => Ok(Some(*ring)),
         Err(CommandFault::NoRoom) => Err(NoRoom),
         _ => Ok(None),
     }

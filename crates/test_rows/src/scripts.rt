@@ -1,0 +1,96 @@
+//! A script with its answers, and each read and each write of it failing in turn.
+
+use ds_line::Expected;
+use ds_lines::{FailRead, FailWrite};
+use ds_script::{ReplayFault, replay};
+use std::alloc::Global;
+
+/// A script, its answers, and how it ends.
+struct Row {
+    script: &'static [u8],
+    answers: &'static [u8],
+    end: Result<u64, ReplayFault>,
+}
+
+const ROWS: [Row; 4] = [
+    Row {
+        script: b"offer eth0 label rs 3.0 = 3/17\noffer eth0 label rs 2.0 = 2/9\nshow",
+        answers: b"taken\nstale\neth0 label rs 3.0 = 3/17\nshown 1\n",
+        end: Ok(3),
+    },
+    Row {
+        script: b"show\noffer eth0 label rs 03.0 = 3/17\nshow\n",
+        answers: b"shown 0\n",
+        end: Err(ReplayFault::BadLine {
+            line: 2,
+            place: 20,
+            expected: Expected::Epoch,
+        }),
+    },
+    Row {
+        script: b"offer eth0 label rs 3.0 = 3/17\nsnapshot *\nside b\ndeliver 0 b *\nshow\nmap \".*\" 1\ndeliver 0 m0 *\nentries 0\nclear 0\nentries 0\nrestart b 3\nshow\ndeliver 1 b *\n",
+        answers: b"taken\neth0 label rs 3.0 = 3/17\nsnapshot 1 1 1\nside b\nmerged 1 1 0\neth0 label rs 3.0 = 3/17\nshown 1\nmap 0\nmerged 1 1 0\neth0 label rs 3.0 = 3/17\nshown 1\ncleared\nshown 0\nrestarted\nshown 0\nrefused nomessage\n",
+        end: Ok(13),
+    },
+    Row {
+        script: b"show\nring 2\n",
+        answers: b"shown 0\n",
+        end: Err(ReplayFault::BadLine {
+            line: 2,
+            place: 0,
+            expected: Expected::Command,
+        }),
+    },
+];
+
+// More reads, and more writes, than any of these scripts and its answers take.
+const MOST: u32 = 100;
+
+/// Has each read of each script fail in turn, of seven bytes each, up to a run in which none does. `None` where an answer
+/// isn't the front of what it should be, a failed read isn't told as one, or no run goes through.
+pub(crate) fn reads_fail(alloc: Global) -> Option<()> {
+    for row in &ROWS {
+        go_through(alloc, row, Failing::Read)?;
+    }
+    Some(())
+}
+
+/// The same of each write, of at most five bytes.
+pub(crate) fn writes_fail(alloc: Global) -> Option<()> {
+    for row in &ROWS {
+        go_through(alloc, row, Failing::Write)?;
+    }
+    Some(())
+}
+
+// What fails.
+#[derive(Clone, Copy)]
+enum Failing {
+    Read,
+    Write,
+}
+
+// Which read and which write of a run fail, and with what fault that ends; 0 stands for none.
+fn failure_of(what: Failing, at: u32) -> (u32, u32, ReplayFault) {
+    match what {
+        Failing::Read => (at, 0, ReplayFault::ReadFault),
+        Failing::Write => (0, at, ReplayFault::WriteFault),
+    }
+}
+
+// Runs the script with its first read or write failing, its second, and so on, up to a run in which none does.
+fn go_through(alloc: Global, row: &Row, what: Failing) -> Option<()> {
+    for at in 1..MOST {
+        let (read, write, fault) = failure_of(what, at);
+        let mut reader = FailRead::new(row.script, read, 7);
+        let mut writer = FailWrite::new(alloc, write, 5);
+        let end = replay(alloc, &mut reader, &mut writer);
+        if end == row.end {
+            return (writer.written() == row.answers).then_some(());
+        }
+        if end != Err(fault) || !row.answers.starts_with(writer.written()) {
+            return None;
+        }
+    }
+    None
+}
