@@ -8,15 +8,20 @@ use std::alloc::Global;
 /// whole, the two aren't equal, or memory is wanting.
 pub(crate) fn change_again(alloc: Global, line: &[u8]) -> Option<Vec<u8>> {
     let (change, length) = read_change(alloc, line).ok()?;
-    let body = match change.body() {
-        Body::Put(value) => Body::Put(value.copy(alloc).ok()?),
-        Body::Gone => Body::Gone,
-    };
-    let copy = Change::make(*change.key(), *change.owner(), change.version(), body).ok()?;
+    let copy = made_again(alloc, &change)?;
     if length != line.len() || copy != change {
         return None;
     }
     write_change(alloc, &copy).ok()
+}
+
+// The change, made of a copy of its value.
+fn made_again(alloc: Global, change: &Change) -> Option<Change> {
+    let body = match change.body() {
+        Body::Put(value) => Body::Put(value.copy(alloc).ok()?),
+        Body::Gone => Body::Gone,
+    };
+    Change::make(*change.key(), *change.owner(), change.version(), body).ok()
 }
 
 /// Reads the line of an item, copies the item, and writes the copy. `None` where the line isn't read whole, the two aren't
