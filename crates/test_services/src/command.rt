@@ -27,12 +27,12 @@ pub(crate) enum Command {
 pub(crate) fn read_command(line: &str) -> Option<Command> {
     let mut words = line.split(' ');
     match words.next()? {
-        "settings" => Some(Command::Settings(read_number(&mut words)?)),
+        "settings" => read_number(&mut words).map(Command::Settings),
         "key" => Some(Command::Key),
         "number" => Some(Command::Number),
         "rows" => Some(Command::Rows),
         "numbers" => read_numbers(&mut words),
-        "state" => Some(Command::State(read_name(&mut words)?)),
+        "state" => read_name(&mut words).map(Command::State),
         verb => read_event_at(verb, &mut words),
     }
 }
@@ -53,7 +53,7 @@ fn read_event_at(verb: &str, words: &mut Split<'_, char>) -> Option<Command> {
 fn read_event(verb: &str, words: &mut Split<'_, char>) -> Option<Event> {
     match verb {
         "death" => read_death(words),
-        "beat" => Some(Event::Beat(read_endpoint(words)?)),
+        "beat" => read_endpoint(words).map(Event::Beat),
         "tick" => Some(Event::Tick),
         _ => event_of(verb, read_name(words)?),
     }

@@ -74,7 +74,9 @@ fn read_put(
     side: Side,
     words: &mut Split<'_, char>,
 ) -> Result<SystemEvent, Failure> {
-    let (label, key, word) = read_put_words(words).ok_or(Failure::BadLine)?;
+    let label = read_name(words).ok_or(Failure::BadLine)?;
+    let key = read_key(words).ok_or(Failure::BadLine)?;
+    let word = words.next().ok_or(Failure::BadLine)?;
     let value = value_of(alloc, word)?;
     Ok(SystemEvent::Put {
         label,
@@ -82,10 +84,6 @@ fn read_put(
         value,
         side,
     })
-}
-
-fn read_put_words<'a>(words: &mut Split<'a, char>) -> Option<(Name, Key, &'a str)> {
-    Some((read_name(words)?, read_key(words)?, words.next()?))
 }
 
 fn read_again(side: Side, words: &mut Split<'_, char>) -> Option<SystemEvent> {

@@ -3,6 +3,8 @@
 ghost use Rattle.std.specs.Prelude.{◌≡◌};
 ghost use Rattle.desk.specs.Desk.{identity};
 ghost use Rattle.desk.specs.Pass.{desk_of};
+ghost use Rattle.ds_pass.specs.Record.{pass_record};
+ghost use Rattle.ds_refresh.specs.KeepsUp.{KeepsUpWith};
 
 use crate::asked::{command_of, everything};
 use crate::line::Sizes;
@@ -75,8 +77,7 @@ fn change<R: Wait>(
     Some(())
 }
 
-// A follower's refreshes, each of which that came to a place is kept with what the map then has. In each sixteenth turn the follower
-// is lost, and begins again. Where memory was wanting it goes on.
+// A follower's refreshes. In each sixteenth turn the follower is lost, and begins again.
 fn follow<R: Wait>(
     rt: &R,
     alloc: Global,
@@ -90,20 +91,37 @@ fn follow<R: Wait>(
 {
     let mut follower = Follower::new(alloc, number, everything(alloc)?).ok()?;
     for turn in 0..calls {
-        match refresh(rt, alloc, desk, &mut worker.pass, &mut follower, 65536) {
-            Ok(Fresh::UpTo(place)) => {
-                let view = view_of(alloc, &follower, number, place)?;
-                worker.said.push(view).ok()?;
-            }
-            Ok(Fresh::More) | Err(LiveFault::NoRoom) => {}
-            Err(LiveFault::Refused(Refusal::NoRoom)) => {}
-            Err(_) => return None,
-        }
+        follow_once(rt, alloc, desk, worker, number, &mut follower)?;
         if turn % 16 == 15 {
             follower.lose();
         }
     }
     Some(())
+}
+
+// One refresh. Where it came to a place, that is kept with what the map then has; where memory was wanting, nothing is.
+fn follow_once<R: Wait>(
+    rt: &R,
+    alloc: Global,
+    desk: &Desk<Box<Store>>,
+    worker: &mut Worker<Pass<Box<Store>>>,
+    number: u32,
+    follower: &mut Follower,
+) -> Option<()>
+    requires of_desk { desk_of worker.old.pass ≡ identity desk.now }
+    requires keeps { KeepsUpWith (pass_record worker.old.pass) follower.old }
+    ensures stays { desk_of worker.new.pass ≡ desk_of worker.old.pass }
+    ensures keeps { KeepsUpWith (pass_record worker.new.pass) follower.new }
+{
+    match refresh(rt, alloc, desk, &mut worker.pass, follower, 65536) {
+        Ok(Fresh::UpTo(place)) => {
+            let view = view_of(alloc, follower, number, place)?;
+            worker.said.push(view).ok()
+        }
+        Ok(Fresh::More) | Err(LiveFault::NoRoom) => Some(()),
+        Err(LiveFault::Refused(Refusal::NoRoom)) => Some(()),
+        Err(_) => None,
+    }
 }
 
 // What is kept of a map that was brought up to a place. `None` where memory is wanting.
