@@ -66,26 +66,18 @@ impl Session {
             Command::Settings(next) => {
                 let draft = String::new(self.alloc);
                 self.draft = Some(Draft { next, text: draft });
-                Ok(())
             }
-            command => Ok(self.tell_of(text, command)?),
-        }
-    }
-
-    // Answers a command that isn't settings.
-    fn tell_of(&mut self, text: &mut Vec<u8>, command: Command) -> Result<(), NoRoom> {
-        match command {
-            Command::Settings(_) => Ok(()),
             Command::Numbers { generation, seq } => {
                 self.numbers = Some(Numberer::of(generation, seq));
-                tell(text, b"numbers")
+                tell(text, b"numbers")?;
             }
-            Command::Number => tell_next(text, &mut self.numbers),
-            Command::Rows => tell_rows(text, self.alloc),
-            Command::Event { event, tick } => tell_event(text, &mut self.rs, event, tick),
-            Command::State(label) => tell_service(text, &self.rs, &label),
-            Command::Key => tell_key(text, &self.rs),
+            Command::Number => tell_next(text, &mut self.numbers)?,
+            Command::Rows => tell_rows(text, self.alloc)?,
+            Command::Event { event, tick } => tell_event(text, &mut self.rs, event, tick)?,
+            Command::State(label) => tell_service(text, &self.rs, &label)?,
+            Command::Key => tell_key(text, &self.rs)?,
         }
+        Ok(())
     }
 
     // RS begins anew; where that is refused, the one that there was goes on.
