@@ -22,11 +22,18 @@ pub(crate) fn judge_input(
     match judged.verdict {
         Verdict::ReadFault => Err(Failure::ReadFault(reader.0.fault)),
         Verdict::NoRoom => Err(Failure::NoRoom),
-        verdict => {
-            print_verdict(rt, verdict)?;
-            Ok(explain_wrong_line(rt, &judged))
-        }
+        verdict => tell_verdict(rt, verdict, &judged),
     }
+}
+
+// Prints a verdict on a trace that was read, and says what is wrong with it.
+fn tell_verdict(
+    rt: &(impl Runtime + AllocGlobal),
+    verdict: Verdict,
+    judged: &Judged,
+) -> Result<ExitCode, Failure> {
+    print_verdict(rt, verdict)?;
+    Ok(explain_wrong_line(rt, judged))
 }
 
 // Prints a verdict on a trace that was read.
