@@ -16,14 +16,14 @@ use ds_words::{CommandFault, ScriptCommand, read_line};
 use std::alloc::Global;
 
 /// What an entry asks: the command of a line, or a Merge, whose items stand on lines of their own.
-#[derive(Debug, Drop)]
+#[derive(Drop)]
 pub enum Asked {
     Line(ScriptCommand),
     Merge(Items),
 }
 
 /// What the first line of an entry says: the command, or how many items a Merge has.
-#[derive(Debug, Drop)]
+#[derive(Drop)]
 pub enum Head {
     Line(ScriptCommand),
     Merge(u64),
