@@ -47,7 +47,7 @@ def replaced(edit, crate, texts=None):
 
 @dataclass(frozen=True)
 class Function:
-    """A function of a source file: its first line there, that where its body opens, its last, and what its name ends in."""
+    """A function of a source file: its first line, of its attributes on, that where its body opens, its last, and what its name ends in."""
 
     path: str
     first: int
@@ -73,7 +73,8 @@ def functions(path, text):
         if head:
             opening = next((it for it, end in enumerate(lines[at - 1 :], at) if end.endswith("{")), at)
             last = next((it for it, end in enumerate(lines[at:], at + 1) if end == head[1] + "}"), at)
-            found.append(Function(path, at, opening, last, f"::{owner or module}{head[2]}"))
+            first = next(it for it in range(at, 0, -1) if it == 1 or not lines[it - 2].strip().startswith("#["))
+            found.append(Function(path, first, opening, last, f"::{owner or module}{head[2]}"))
     return found
 
 
