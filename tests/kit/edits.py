@@ -3,7 +3,7 @@ import re
 from dataclasses import dataclass
 
 PARTS = ("src", "specs", "proofs")
-FUNCTION = re.compile(r"( *)(?:pub(?:\([^)]*\))? )?(?:const )?(?:unsafe )?fn (\w+)")
+FUNCTION = re.compile(r'( *)(?:pub(?:\([^)]*\))? )?(?:const )?(?:unsafe )?(?:extern "C" )?fn (\w+)')
 IMPL = re.compile(r"impl (?:(?:\w+::)*(\w+) for )?(?:\w+::)*(\w+)")  # once what stands in angle brackets is gone
 MOST = 12  # edits that are tried by one check
 
