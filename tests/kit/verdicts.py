@@ -4,7 +4,7 @@ import re
 # What rattle says at a place: '[note: ]FILE:LINE:COLUMN: ..'.
 PLACED = re.compile(r"(?:note: )?(?:\./)?([\w./+-]+\.(?:rt|antt)):(\d+):\d+: (.*)")
 # A proof that fails since it names what the edit took away says nothing of the contract.
-NAMES_ALONE = re.compile(r"has no field|is not in scope|has no `|was not admitted")
+NAMES_ALONE = re.compile(r"has no field|` \(nearest: |is not in scope|has no `|was not admitted")
 # An answer to a goal that the edit gave another name: then the goal of the new name has none, and that it isn't proved says nothing either.
 RENAMED = re.compile(r"module `[^`]*\.Goals` has no `")
 # What can't be read, where an edit that only makes a statement false reads well.
