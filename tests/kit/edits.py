@@ -3,7 +3,7 @@ import re
 from dataclasses import dataclass
 
 PARTS = ("src", "specs", "proofs")
-FUNCTION = re.compile(r"( *)(?:pub(?:\([^)]*\))? )?(?:const )?(?:unsafe )?fn (\w+)")
+FUNCTION = re.compile(r'( *)(?:pub(?:\([^)]*\))? )?(?:const )?(?:unsafe )?(?:extern "C" )?fn (\w+)')
 IMPL = re.compile(r"impl (?:(?:\w+::)*(\w+) for )?(?:\w+::)*(\w+)")  # once what stands in angle brackets is gone
 MOST = 12  # edits that are tried by one check
 
@@ -47,7 +47,7 @@ def replaced(edit, crate, texts=None):
 
 @dataclass(frozen=True)
 class Function:
-    """A function of a source file: its first line there, that where its body opens, its last, and what its name ends in."""
+    """A function of a source file: its first line, of its attributes on, that where its body opens, its last, and what its name ends in."""
 
     path: str
     first: int
@@ -73,7 +73,8 @@ def functions(path, text):
         if head:
             opening = next((it for it, end in enumerate(lines[at - 1 :], at) if end.endswith("{")), at)
             last = next((it for it, end in enumerate(lines[at:], at + 1) if end == head[1] + "}"), at)
-            found.append(Function(path, at, opening, last, f"::{owner or module}{head[2]}"))
+            first = next(it for it in range(at, 0, -1) if it == 1 or not lines[it - 2].strip().startswith("#["))
+            found.append(Function(path, first, opening, last, f"::{owner or module}{head[2]}"))
     return found
 
 

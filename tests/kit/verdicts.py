@@ -4,7 +4,9 @@ import re
 # What rattle says at a place: '[note: ]FILE:LINE:COLUMN: ..'.
 PLACED = re.compile(r"(?:note: )?(?:\./)?([\w./+-]+\.(?:rt|antt)):(\d+):\d+: (.*)")
 # A proof that fails since it names what the edit took away says nothing of the contract.
-NAMES_ALONE = re.compile(r"has no field|is not in scope|has no `|was not admitted")
+NAMES_ALONE = re.compile(r"has no field|` \(nearest: |is not in scope|has no `|was not admitted")
+# An answer to a goal that the edit gave another name: then the goal of the new name has none, and that it isn't proved says nothing either.
+RENAMED = re.compile(r"module `[^`]*\.Goals` has no `")
 # What can't be read, where an edit that only makes a statement false reads well.
 UNREAD = re.compile(r"is not in scope|has no field|is no name|operand is missing|expected the end|cannot continue")
 
@@ -22,7 +24,9 @@ def judge(status, output, texts):
         is_own = file in texts or file.startswith(("src/", "specs/"))
         if is_own and said.startswith("error: ") and (not re.match(r"error: `[^`]*`: ", said) or UNREAD.search(said)):
             return False, f"BAD EDIT: the prover can't read the edited text: {line[:160]}"
-    content = [line for line, file, said in placed if not (file.startswith("proofs/") and NAMES_ALONE.search(said))]
+    is_renamed = any(RENAMED.search(said) for _, _, said in placed)
+    content = [it for it in placed if not (it[1].startswith("proofs/") and NAMES_ALONE.search(it[2]))]
+    content = [line for line, file, _ in content if not (is_renamed and file.startswith("src/"))]
     if placed and not content:
         return False, f"REFUSED FOR A NAME ALONE: {placed[0][0][:160]}"
     unproved = [line for line in lines if re.match(r"(fn|impl|struct|enum) .*: no proof", line)]
@@ -37,11 +41,12 @@ def told(function, name, output):
     if len(heads) != 1 or not re.match("not proved|no proof: expected answers", heads[0][2]):
         return None
     answers = f"proofs/{heads[0][1].removeprefix(name + '::').replace('::', '/')}/"
+    is_renamed = any(it and it[1].startswith(answers) and RENAMED.search(it[3]) for it in map(PLACED.match, lines))
     for line in lines:
         placed = PLACED.match(line)
         if not placed or not (line.startswith("note: src/") or ": error" in line):
             continue
-        is_own = placed[1] == function.path and function.first <= int(placed[2]) <= function.last
+        is_own = placed[1] == function.path and function.first <= int(placed[2]) <= function.last and not is_renamed
         if is_own or (placed[1].startswith(answers) and not NAMES_ALONE.search(placed[3])):
             return f"refused: {line.removeprefix('note: ')[:300]}"
     return None
