@@ -1,17 +1,15 @@
 //! `dsctl`: the data store at the command line. It reads standard input and writes standard output.
 //!
-//! The program is thin: the words of the command line are `dsctl_words`'s, the work is `ds_script`'s, `rs_settings`'s, `trace_check`'s,
+//! The program is thin: the words of the command line and of the prompt are `dsctl_words`'s, the work is `ds_script`'s, `rs_settings`'s, `trace_check`'s,
 //! `trace_record`'s and `ds_live`'s, what is said of a line that can't be read is `ds_explain`'s, and what is left here is the printing of
 //! settings, verdicts and reports and the choice of the exit status. 0: done. 1: refused input. 2: usage. 3: memory, reading or writing failed, or a run of
 //! threads, and standard error says which.
 #![tactic(auto)]
 
 mod answers;
-mod failure;
 mod live;
 mod recording;
 mod settings;
-mod terminal;
 mod traces;
 
 use answers::Answers;
@@ -19,14 +17,12 @@ use ds_explain::{Audience, explain};
 use ds_lines::Plain;
 use ds_live::Sizes;
 use ds_script::{BadLine, BadLines, ReplayFault, Replayed, Report, replay_reporting};
-use dsctl_words::Words;
-use failure::Failure;
+use dsctl_words::{Failure, Greeting, Terminals, Typed, Words, greet};
 use std::io::{self, IsTerminal};
 use std::process::ExitCode;
 use std::rt::Runtime;
 use std::sync::Wait;
 use std::thread::Threads;
-use terminal::{Terminals, Typed};
 
 fn main(rt: HostRuntime) -> ExitCode {
     let terminals = Terminals {
@@ -81,6 +77,25 @@ fn bad_lines(go_on: Option<bool>, terminals: Terminals) -> BadLines {
     }
 }
 
+// Who reads what is said of bad lines.
+fn audience(terminals: Terminals) -> Audience {
+    if terminals.are_both() {
+        Audience::Prompt
+    } else if terminals.error {
+        Audience::Terminal
+    } else {
+        Audience::File
+    }
+}
+
+// What somebody is told who types a script.
+fn greeting(bad_lines: BadLines) -> Greeting {
+    match bad_lines {
+        BadLines::End => Greeting::ScriptToStop,
+        BadLines::GoOn => Greeting::Script,
+    }
+}
+
 // Says of each line that can't be read what was expected, and prints the line's number and place where it ends the script.
 #[derive(Drop)]
 struct Explainer<'a, R> {
@@ -110,11 +125,12 @@ fn replay_input(
     terminals: Terminals,
     bad_lines: BadLines,
 ) -> Result<ExitCode, Failure> {
-    let mut reader = Plain(Typed::new(rt, terminals, bad_lines));
+    greet(rt, terminals, greeting(bad_lines));
+    let mut reader = Plain(Typed::prompted(rt, terminals));
     let mut writer = Plain(Answers::new(io::writer(rt)));
     let mut explainer = Explainer {
         rt,
-        audience: terminals.audience(),
+        audience: audience(terminals),
         bad_lines,
         unwritten: None,
     };

@@ -1,11 +1,9 @@
 //! The trace of a run.
 
 use crate::answers::Answers;
-use crate::failure::Failure;
-use crate::terminal::{GREETING_OF_COMMANDS, Terminals, Typed, greet};
 use ds_held::Limits;
 use ds_lines::Plain;
-use dsctl_words::TraceForm;
+use dsctl_words::{Failure, Greeting, Terminals, TraceForm, Typed, greet};
 use std::io;
 use std::process::ExitCode;
 use std::rt::Runtime;
@@ -18,7 +16,7 @@ pub(crate) fn record_input(
     terminals: Terminals,
     form: TraceForm,
 ) -> Result<ExitCode, Failure> {
-    greet(rt, terminals, GREETING_OF_COMMANDS);
+    greet(rt, terminals, Greeting::Commands);
     let mut reader = Plain(Typed::unprompted(rt));
     let mut writer = Plain(Answers::new(io::writer(rt)));
     match record(rt.alloc(), &mut reader, &mut writer, form_of(form)) {

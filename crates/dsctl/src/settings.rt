@@ -1,10 +1,9 @@
 //! What a settings text tells RS, or its first fault.
 
-use crate::failure::Failure;
-use crate::terminal::{GREETING_OF_SETTINGS, Terminals, greet};
-use ds_explain::explain_settings;
-use rs_settings::{Class, Service, Settings, SettingsCause, SettingsFault, read};
-use std::io::{self, BufWriter, ErrorKind, Read, Write};
+use ds_explain::{explain_settings, write_settings};
+use dsctl_words::{Failure, Greeting, Terminals, greet};
+use rs_settings::{Settings, SettingsCause, SettingsFault, read};
+use std::io::{self, BufWriter, ErrorKind, Read};
 use std::process::ExitCode;
 use std::rt::Runtime;
 
@@ -14,7 +13,7 @@ pub(crate) fn show_input(
     rt: &(impl Runtime + AllocGlobal),
     terminals: Terminals,
 ) -> Result<ExitCode, Failure> {
-    greet(rt, terminals, GREETING_OF_SETTINGS);
+    greet(rt, terminals, Greeting::Settings);
     let mut text = Vec::new(rt.alloc());
     if let Err(error) = rt.reader().read_to_end(&mut text) {
         return Err(match error.kind() {
@@ -73,45 +72,5 @@ fn word_of(cause: SettingsCause) -> Option<&'static str> {
         SettingsCause::TwoUnits => Some("twounits"),
         SettingsCause::SharedName => Some("sharedname"),
         SettingsCause::NoRoom => None,
-    }
-}
-
-// Writes a line for each service, and one for all.
-fn write_settings<W: Write>(writer: &mut W, settings: &Settings) -> io::Result<()> {
-    let services = settings.services();
-    for index in 0..services.len() {
-        if let Some(service) = services.get(index) {
-            write_service(writer, service)?;
-        }
-    }
-    let count = services.len();
-    let slots = settings.slots();
-    writeln!(writer, "services {count} slots {slots}")?;
-    writer.flush()
-}
-
-fn write_service<W: Write>(writer: &mut W, service: &Service) -> io::Result<()> {
-    writer.write_all(b"service ")?;
-    writer.write_all(service.label.bytes())?;
-    let class = class_word(service.class);
-    match service.unit {
-        Some(unit) => write!(writer, " {class} {unit}")?,
-        None => write!(writer, " {class} -")?,
-    }
-    let period = service.period;
-    let limit = service.limit;
-    let publishes = service.publishes.len();
-    writeln!(
-        writer,
-        " period {period} limit {limit} publishes {publishes}"
-    )
-}
-
-fn class_word(class: Class) -> &'static str {
-    match class {
-        Class::Block => "block",
-        Class::Character => "character",
-        Class::Network => "network",
-        Class::Server => "server",
     }
 }

@@ -1,10 +1,9 @@
 //! The verdict on a recorded trace, and an older one in format 2.
 
 use crate::answers::Answers;
-use crate::failure::Failure;
-use crate::terminal::{GREETING_OF_TRACE, Terminals, Typed, greet};
 use ds_explain::explain_trace;
 use ds_lines::Plain;
+use dsctl_words::{Failure, Greeting, Terminals, Typed, greet};
 use std::io;
 use std::process::ExitCode;
 use std::rt::Runtime;
@@ -16,7 +15,7 @@ pub(crate) fn judge_input(
     rt: &(impl Runtime + AllocGlobal),
     terminals: Terminals,
 ) -> Result<ExitCode, Failure> {
-    greet(rt, terminals, GREETING_OF_TRACE);
+    greet(rt, terminals, Greeting::Trace);
     let mut reader = Plain(Typed::unprompted(rt));
     let judged = judge(rt.alloc(), &mut reader);
     match judged.verdict {
@@ -67,7 +66,7 @@ pub(crate) fn upgrade_input(
     rt: &(impl Runtime + AllocGlobal),
     terminals: Terminals,
 ) -> Result<ExitCode, Failure> {
-    greet(rt, terminals, GREETING_OF_TRACE);
+    greet(rt, terminals, Greeting::Trace);
     let mut reader = Plain(Typed::unprompted(rt));
     let mut writer = Plain(Answers::new(io::writer(rt)));
     match upgrade(rt.alloc(), &mut reader, &mut writer) {

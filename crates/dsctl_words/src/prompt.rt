@@ -1,55 +1,57 @@
 //! What somebody at a terminal sees beside the answers, on standard error: a greeting, a prompt, and help where they ask for it.
 
-use ds_explain::Audience;
-use ds_script::BadLines;
-use dsctl_words::LINES;
+use crate::help::LINES;
 use std::io::{self, Read};
 use std::rt::Runtime;
 
-const GREETING: &str = "dsctl: `help` shows the lines, ^D ends. A bad line ends nothing";
-
-const GREETING_TO_STOP: &str = "dsctl: `help` shows the lines, ^D ends, and so does a bad line";
-
-/// What somebody is told who types settings.
-pub(crate) const GREETING_OF_SETTINGS: &str =
-    "dsctl: a TOML text, as in dsctl settings --help, ^D ends";
-
-/// What somebody is told who types a trace.
-pub(crate) const GREETING_OF_TRACE: &str = "dsctl: a trace, as in dsctl verify --help, ^D ends";
-
-/// What somebody is told who types commands of which a trace is made.
-pub(crate) const GREETING_OF_COMMANDS: &str =
-    "dsctl: a command a line, as in dsctl record --help, ^D ends";
-
-/// Which of the streams are terminals.
+/// What somebody is told who types.
 #[derive(Clone, Copy, Debug)]
-pub(crate) struct Terminals {
-    pub(crate) input: bool,
-    pub(crate) error: bool,
+pub enum Greeting {
+    /// A script, in which a bad line ends nothing.
+    Script,
+    /// A script that ends at a bad line.
+    ScriptToStop,
+    /// A settings text.
+    Settings,
+    /// A trace.
+    Trace,
+    /// Commands of which a trace is made.
+    Commands,
 }
 
-impl Terminals {
-    /// Whether somebody types the input and sees what standard error is told.
-    pub(crate) fn are_both(&self) -> bool {
-        self.input && self.error
-    }
-
-    /// Who reads what is said of bad lines.
-    pub(crate) fn audience(&self) -> Audience {
-        if self.are_both() {
-            Audience::Prompt
-        } else if self.error {
-            Audience::Terminal
-        } else {
-            Audience::File
+impl Greeting {
+    fn text(self) -> &'static str {
+        match self {
+            Greeting::Script => "dsctl: `help` shows the lines, ^D ends. A bad line ends nothing",
+            Greeting::ScriptToStop => {
+                "dsctl: `help` shows the lines, ^D ends, and so does a bad line"
+            }
+            Greeting::Settings => "dsctl: a TOML text, as in dsctl settings --help, ^D ends",
+            Greeting::Trace => "dsctl: a trace, as in dsctl verify --help, ^D ends",
+            Greeting::Commands => "dsctl: a command a line, as in dsctl record --help, ^D ends",
         }
     }
 }
 
-/// Greets somebody who types.
-pub(crate) fn greet(rt: &impl Runtime, terminals: Terminals, greeting: &str) {
+/// Which of the streams are terminals.
+#[derive(Clone, Copy, Debug)]
+pub struct Terminals {
+    pub input: bool,
+    pub error: bool,
+}
+
+impl Terminals {
+    /// Whether somebody types the input and sees what standard error is told.
+    pub fn are_both(&self) -> bool {
+        self.input && self.error
+    }
+}
+
+/// Greets somebody who types, on standard error. Who doesn't is told nothing.
+pub fn greet(rt: &impl Runtime, terminals: Terminals, greeting: Greeting) {
     if terminals.are_both() {
-        let _ = eprintln!(rt; "{greeting}");
+        let text = greeting.text();
+        let _ = eprintln!(rt; "{text}");
     }
 }
 
@@ -58,34 +60,27 @@ pub(crate) fn greet(rt: &impl Runtime, terminals: Terminals, greeting: &str) {
 /// At the prompt an empty line, `help`, `?`, `quit` and `exit` are taken here, and are no lines of the script. Once it has ended it
 /// reads no more, since a terminal would ask for another ^D.
 #[derive(Drop)]
-pub(crate) struct Typed<'a, R: Runtime> {
+pub struct Typed<'a, R: Runtime> {
     rt: &'a R,
     reader: R::Reader,
     prompts: bool,
     begins_line: bool,
     ended: bool,
-    pub(crate) fault: Option<io::Error>,
+    /// Why the last read that failed did.
+    pub fault: Option<io::Error>,
 }
 
 impl<'a, R: Runtime> Typed<'a, R> {
-    /// Standard input. Where somebody types it, they are greeted.
-    pub(crate) fn new(rt: &'a R, terminals: Terminals, bad_lines: BadLines) -> Typed<'a, R> {
-        let prompts = terminals.are_both();
-        if prompts {
-            let greeting = match bad_lines {
-                BadLines::End => GREETING_TO_STOP,
-                BadLines::GoOn => GREETING,
-            };
-            let _ = eprintln!(rt; "{greeting}");
-        }
+    /// Standard input, with a prompt where somebody types it.
+    pub fn prompted(rt: &'a R, terminals: Terminals) -> Typed<'a, R> {
         Typed {
-            prompts,
+            prompts: terminals.are_both(),
             ..Typed::unprompted(rt)
         }
     }
 
     /// Standard input, whoever types it, with no prompt.
-    pub(crate) fn unprompted(rt: &'a R) -> Typed<'a, R> {
+    pub fn unprompted(rt: &'a R) -> Typed<'a, R> {
         Typed {
             rt,
             reader: rt.reader(),

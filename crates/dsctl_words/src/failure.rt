@@ -6,7 +6,7 @@ use thiserror::Error;
 
 /// What ends the program with status 3, by the word that standard error gets; and why, where the system said so.
 #[derive(Clone, Copy, Debug, Error)]
-pub(crate) enum Failure {
+pub enum Failure {
     #[error("noroom")]
     NoRoom,
     #[error("readfault")]
@@ -20,7 +20,7 @@ pub(crate) enum Failure {
 
 impl Failure {
     /// Says the word on standard error, and in a second line why, where that is a terminal.
-    pub(crate) fn tell(&self, rt: &impl Runtime, at_terminal: bool) {
+    pub fn tell(&self, rt: &impl Runtime, at_terminal: bool) {
         let _ = eprintln!(rt; "{self}");
         if at_terminal {
             self.tell_why(rt);
