@@ -11,9 +11,22 @@ RENAMED = re.compile(r"module `[^`]*\.Goals` has no `")
 UNREAD = re.compile(r"is not in scope|has no field|is no name|operand is missing|expected the end|cannot continue")
 
 
+def whole(output):
+    """The lines of an output, each that begins at a place with the first one that is indented behind it."""
+    lines, goes_on = [], False
+    for line in output.splitlines():
+        if goes_on and line.startswith(" "):
+            lines[-1] += " " + line.strip()
+            goes_on = False
+        else:
+            lines.append(line)
+            goes_on = PLACED.match(line) is not None
+    return lines
+
+
 def judge(status, output, texts):
     """Whether the prover refused the edited crate for what it does, and what it said of that."""
-    lines = output.splitlines()
+    lines = whole(output)
     if status == 0:
         return False, "NOT REFUSED: the crate is still proved with this edit"
     if status != 1 or not any(line.startswith("logic=not-proved") for line in lines):
@@ -35,7 +48,7 @@ def judge(status, output, texts):
 
 def told(function, name, output):
     """What a check says of one function: why it is refused, for what it does; or None, where that isn't told."""
-    lines = output.splitlines()
+    lines = whole(output)
     heads = [re.match(rf"fn ({name}::\S+): (.*)", line) for line in lines]
     heads = [it for it in heads if it and re.sub(r"\+\w+", "", f"::{it[1]}").endswith(function.name)]
     if len(heads) != 1 or not re.match("not proved|no proof: expected answers", heads[0][2]):
