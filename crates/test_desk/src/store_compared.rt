@@ -60,7 +60,7 @@ impl Compared for Box<Store> {
 
     fn first_of(alloc: Global, command: Command, items: usize) -> Option<Command> {
         match command {
-            Command::Merge { items: all } => merge_of(first_items(alloc, &all, items)),
+            Command::Merge { items: all } => first_items(alloc, &all, items).map(merge_of),
             other => Some(other),
         }
     }
@@ -78,11 +78,8 @@ impl Compared for Box<Store> {
     }
 }
 
-fn merge_of(items: Option<Items>) -> Option<Command> {
-    match items {
-        Some(items) => Some(Command::Merge { items }),
-        None => None,
-    }
+fn merge_of(items: Items) -> Command {
+    Command::Merge { items }
 }
 
 // Copies of the first so many items. `None` where there aren't so many, or memory is wanting.

@@ -4,8 +4,8 @@
 //! program reads nothing. It prints a line where events of a world that happen at once had the outcomes that are wanted; for each
 //! reading of a store, whose driver goes on meanwhile, the names of the items that the reader gives, or why it gave up; what a
 //! journal of two gives from a cursor on; endpoints; lines that were read, copied and written again; which items cover which; what
-//! replies are told as; a line once each read of some scripts has failed, and one once each write has; and at last what comes of calls
-//! that take no memory. Status 0: done. 1: a call didn't answer as it should, or memory or writing failed.
+//! replies are told as; a line once a trace and a forged one are judged, and one once each read of a trace has failed; a line once each
+//! read of some scripts has failed, and one once each write has; and at last what comes of calls that take no memory. Status 0: done. 1: a call didn't answer as it should, or memory or writing failed.
 #![tactic(auto)]
 
 mod copies;
@@ -19,6 +19,7 @@ mod replies;
 mod rival;
 mod scripts;
 mod told;
+mod traces;
 mod unaided;
 mod world;
 
@@ -54,6 +55,7 @@ fn print_rows(rt: &impl Print, alloc: Global) -> Option<()> {
     print_list_again(rt, alloc)?;
     print_covered(rt, alloc)?;
     print_replies(rt, alloc)?;
+    print_traces(rt, alloc)?;
     print_scripts(rt, alloc)?;
     print_unaided(rt, alloc)
 }
@@ -170,6 +172,13 @@ fn print_replies(rt: &impl Print, alloc: Global) -> Option<()> {
         print_bytes(rt, text.as_slice())?;
     }
     Some(())
+}
+
+fn print_traces(rt: &impl Print, alloc: Global) -> Option<()> {
+    traces::are_judged(alloc)?;
+    println!(rt; "a trace is legal, and a forged one isn't").ok()?;
+    traces::reads_fail(alloc)?;
+    println!(rt; "each read of a trace failed in turn").ok()
 }
 
 fn print_scripts(rt: &impl Print, alloc: Global) -> Option<()> {

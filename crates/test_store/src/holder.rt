@@ -11,7 +11,7 @@ use crate::subject::{Subject, add, ask_all, word_of};
 use ds_entry::{Change, Item, Items};
 use ds_held::Held;
 use ds_join::{JoinFault, Merge, Stop};
-use ds_line::{append_change, append_item};
+use ds_line::{append_change, append_item, kind_at};
 use ds_names::{Key, Kind};
 use ds_words::ScriptCommand;
 use std::alloc::Global;
@@ -104,11 +104,8 @@ fn key_of(words: &str) -> Result<Key, Failure> {
 }
 
 fn kind_of(word: &str) -> Result<Kind, Failure> {
-    match word {
-        "label" => Ok(Kind::Label),
-        "u32" => Ok(Kind::U32),
-        "str" => Ok(Kind::Str),
-        "mem" => Ok(Kind::Mem),
+    match kind_at(word.as_bytes()) {
+        Some((kind, rest)) if rest.is_empty() => Ok(kind),
         _ => Err(Failure::BadLine),
     }
 }
