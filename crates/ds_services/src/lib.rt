@@ -5,14 +5,19 @@
 //! Tanenbaum and Woodhull, third edition); versions, replicas and messages are of this project.
 #![tactic(auto)]
 
+mod copying;
 mod event;
+mod events;
 mod laws;
 mod outcome;
+mod outcomes;
 mod replies;
 mod rounds;
 
 pub use event::{SystemEvent, Table};
+pub use events::SystemEvents;
 pub use laws::{systems_keep_laws, tables_send_to_no_older, wrong_turns_are_refused};
 pub use outcome::{SystemFault, SystemOutcome};
+pub use outcomes::SystemOutcomes;
 pub use replies::Replies;
 pub use rounds::Rounds;

@@ -6,14 +6,10 @@
 #![tactic(auto)]
 
 mod beginning;
-mod copying;
-mod events;
 mod fault;
-mod outcomes;
 mod system;
 mod turning;
 
-pub use events::SystemEvents;
+pub use ds_services::{SystemEvents, SystemOutcomes};
 pub use fault::BeginFault;
-pub use outcomes::SystemOutcomes;
 pub use system::System;

@@ -5,11 +5,9 @@ ghost use Rattle.ds_world.specs.Run.{most_events};
 ghost use Rattle.ds_system.specs.Stands.{SystemEventLeads};
 ghost use Rattle.ds_system.specs.Since.{SystemRunLeads, SystemLawsHold, IsSystemRunFault};
 
-use crate::events::SystemEvents;
-use crate::outcomes::SystemOutcomes;
 use driver_tables::{FileTable, NetTable};
 use ds_entry::{Body, Change};
-use ds_services::{SystemEvent, SystemOutcome};
+use ds_services::{SystemEvent, SystemEvents, SystemOutcome, SystemOutcomes};
 use ds_world::{World, WorldFault};
 use rs_core::{Numberer, Rs};
 use std::alloc::Global;

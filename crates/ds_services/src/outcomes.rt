@@ -3,8 +3,8 @@
 ghost use Rattle.std.specs.Prelude.{◌≡◌, ◌≢◌, ◌++◌, ◌∷◌, [], length, slice_get, OnOk, IfErr, OnErr, IfOk};
 ghost use Rattle.std.specs.Option.{option_copied};
 
+use crate::outcome::SystemOutcome;
 use ds_names::NoRoom;
-use ds_services::SystemOutcome;
 use std::alloc::{AllocFailed, Global};
 use std::marker::Model;
 

@@ -1,5 +1,5 @@
 use Rattle.std.proofs.Common.{sym}
-use Rattle.ds_system.proofs.copying.event_again.Goals as goal
+use Rattle.ds_services.proofs.copying.event_again.Goals as goal
 
 pub returns-in-Service : goal.returns-in-Service
 returns-in-Service c = sym c.in-Service.is

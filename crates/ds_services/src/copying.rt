@@ -2,10 +2,10 @@
 
 ghost use Rattle.std.specs.Prelude.{◌≡◌, IfOk};
 
+use crate::event::SystemEvent;
 use ds_machine::{Command, Scope};
 use ds_names::NoRoom;
 use ds_replica::Event;
-use ds_services::SystemEvent;
 use std::alloc::Global;
 
 fn scope_again(alloc: Global, scope: &Scope) -> Result<Scope, NoRoom>

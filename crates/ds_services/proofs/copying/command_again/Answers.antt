@@ -1,5 +1,5 @@
 use Rattle.std.proofs.Common.{sym}
-use Rattle.ds_system.proofs.copying.command_again.Goals as goal
+use Rattle.ds_services.proofs.copying.command_again.Goals as goal
 
 pub returns-in-Delete : goal.returns-in-Delete
 returns-in-Delete c = sym c.in-Delete.is

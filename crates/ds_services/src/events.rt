@@ -4,8 +4,8 @@ ghost use Rattle.std.specs.Prelude.{◌≡◌, ◌≢◌, ◌++◌, ◌∷◌, [
 ghost use Rattle.std.specs.Option.{option_copied};
 
 use crate::copying::event_again;
+use crate::event::SystemEvent;
 use ds_names::NoRoom;
-use ds_services::SystemEvent;
 use std::alloc::{AllocFailed, Global};
 use std::marker::Model;
 
