@@ -64,7 +64,7 @@ impl From<NoRoom> for SinceFault {
 ///
 /// Positions begin at `first` and rise by one with each item. The ring's room is made once, so that to take in an
 /// item takes no memory.
-#[derive(Debug, Drop)]
+#[derive(Drop)]
 pub struct Journal {
     incarnation: u64,
     first: u64,

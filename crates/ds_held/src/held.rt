@@ -36,7 +36,7 @@ mod beside;
 ///
 /// So where a floor of an owner is held, nothing of the owner's generations up to it is held but labels, and no call brings
 /// any: what a dropped tombstone had deleted doesn't come back.
-#[derive(Debug, Drop)]
+#[derive(Drop)]
 pub struct Held {
     floors: Vec<Floor>,
     changes: Vec<Change>,

@@ -11,7 +11,7 @@ use ds_names::{Endpoint, Name};
 use std::cmp::Ordering;
 
 /// A label's name with the endpoint that it holds, if it is live.
-#[derive(Clone, Copy, Debug)]
+#[derive(Clone, Copy)]
 pub(crate) struct Named {
     pub endpoint: Option<Endpoint>,
     pub name: Name,

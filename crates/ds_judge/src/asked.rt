@@ -21,7 +21,7 @@ use ds_names::limits::LAST_SEQ;
 use ds_names::{Endpoint, Generation, Key, Name, Version};
 
 /// What the entry has to be before a change: not live, anything, or live.
-#[derive(Clone, Copy, Debug)]
+#[derive(Clone, Copy)]
 pub enum Need {
     NotLive,
     Any,
@@ -29,7 +29,7 @@ pub enum Need {
 }
 
 /// What a caller asks, by a Publish or a Delete, beside the body of the change.
-#[derive(Clone, Copy, Debug)]
+#[derive(Clone, Copy)]
 pub struct Asked {
     pub caller: Endpoint,
     pub key: Key,

@@ -10,7 +10,7 @@ use ds_machine::Refusal;
 use ds_names::limits::{LAST_PLACE, MOST_ITEMS};
 
 /// A Check, with what it meets.
-#[derive(Clone, Copy, Debug)]
+#[derive(Clone, Copy)]
 pub struct CheckCase {
     /// How many places there are for subscriptions.
     pub places: u32,

@@ -16,7 +16,7 @@ use ds_pattern::{Asker, Filter};
 use std::alloc::Global;
 
 /// A scope whose pattern was read, if it has one.
-#[derive(Debug, Drop)]
+#[derive(Drop)]
 pub enum ScopeFilter {
     /// All keys.
     All,

@@ -4,7 +4,7 @@ use ds_entry::Change;
 use ds_names::Generation;
 
 /// What is there before a change.
-#[derive(Clone, Copy, Debug)]
+#[derive(Clone, Copy)]
 pub struct Standing<'a> {
     /// The change that is held for its key.
     pub held: Option<&'a Change>,
@@ -19,7 +19,7 @@ pub struct Standing<'a> {
 }
 
 /// What is there before a floor.
-#[derive(Clone, Copy, Debug)]
+#[derive(Clone, Copy)]
 pub struct FloorStanding {
     /// The generation of the floor that is held of its owner.
     pub held: Option<Generation>,

@@ -15,7 +15,7 @@ use ds_pattern::{Filter, PatternFault, Query};
 use std::alloc::Global;
 
 /// A Subscribe, beside its query, with what it meets.
-#[derive(Clone, Copy, Debug)]
+#[derive(Clone, Copy)]
 pub struct SubscribeCase {
     /// How many places there are for subscriptions.
     pub places: u32,

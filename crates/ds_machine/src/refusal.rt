@@ -76,7 +76,7 @@ pub enum Refusal {
 }
 
 /// What stands against a command with a change or a floor, or against an item: it is held already, or it is refused.
-#[derive(Clone, Copy, Debug)]
+#[derive(Clone, Copy)]
 pub enum Cause {
     Known,
     Refused(Refusal),

@@ -13,7 +13,7 @@ use std::alloc::Global;
 use std::marker::Model;
 
 /// A query that was taken up: it tells which keys are under it.
-#[derive(Debug, Drop)]
+#[derive(Drop)]
 pub struct Filter {
     pattern: Pattern,
     kinds: Kinds,

@@ -15,7 +15,7 @@ use ds_names::Key;
 use ds_pattern::Query;
 
 /// What a Check gave.
-#[derive(Debug, Drop)]
+#[derive(Drop)]
 pub(crate) struct Shown {
     pub items: Items,
     /// The stamp that the subscription had, and the one that it has from then on.

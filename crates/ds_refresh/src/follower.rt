@@ -10,7 +10,7 @@ use std::alloc::Global;
 use std::marker::Model;
 
 /// A map that follows a store by a subscription: new, standing, or lost.
-#[derive(Debug, Drop)]
+#[derive(Drop)]
 pub struct Follower {
     pub(crate) sub: u32,
     // The query of the map, to subscribe to.

@@ -19,7 +19,7 @@ pub enum Holder {
 
 /// An event of a world. Maps and messages have numbers, counted from 0 in the order in which they were made. Of this
 /// project.
-#[derive(Debug, Drop)]
+#[derive(Drop)]
 pub enum Event {
     /// A store is asked. What it gives to a Check, Since, Snapshot or Page is kept as the next message.
     Ask {

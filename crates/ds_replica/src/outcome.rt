@@ -8,7 +8,7 @@ use std::alloc::Global;
 use thiserror::Error;
 
 /// What came of an event. Of this project.
-#[derive(Debug, Drop)]
+#[derive(Drop)]
 pub enum Outcome {
     /// The store replied.
     Replied(Reply),

@@ -15,7 +15,7 @@ pub enum Table {
 
 /// An event of a system. Changes, maps and messages have numbers, counted from 0 in the order in which they were made. Of this
 /// project.
-#[derive(Debug, Drop)]
+#[derive(Drop)]
 pub enum SystemEvent {
     /// RS is told something. Its label changes and its sweeps go to the store of the side.
     Service {

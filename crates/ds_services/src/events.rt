@@ -10,7 +10,7 @@ use std::alloc::{AllocFailed, Global};
 use std::marker::Model;
 
 /// Events of a system, in the order in which they are to happen.
-#[derive(Debug, Drop)]
+#[derive(Drop)]
 pub struct SystemEvents {
     events: Vec<SystemEvent>,
 }

@@ -13,7 +13,7 @@ use std::alloc::Global;
 use thiserror::Error;
 
 /// What came of an event of a system. Of this project.
-#[derive(Debug, Drop)]
+#[derive(Drop)]
 pub enum SystemOutcome {
     /// RS did this, and the store replied so to each change that RS offered and to each sweep.
     Acted {

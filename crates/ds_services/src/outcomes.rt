@@ -9,7 +9,7 @@ use std::alloc::{AllocFailed, Global};
 use std::marker::Model;
 
 /// What came of a system's events, in their order.
-#[derive(Debug, Drop)]
+#[derive(Drop)]
 pub struct SystemOutcomes {
     outcomes: Vec<SystemOutcome>,
 }

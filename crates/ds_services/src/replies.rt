@@ -9,7 +9,7 @@ use std::alloc::{AllocFailed, Global};
 use std::marker::Model;
 
 /// Replies of a store, in their order.
-#[derive(Debug, Drop)]
+#[derive(Drop)]
 pub struct Replies {
     replies: Vec<Reply>,
 }

@@ -9,7 +9,7 @@ use std::alloc::{AllocFailed, Global};
 use std::marker::Model;
 
 /// The moves of each label that was followed, in order: of a Follow the file server's rounds first.
-#[derive(Debug, Drop)]
+#[derive(Drop)]
 pub struct Rounds {
     rounds: Vec<Moves>,
 }

@@ -29,7 +29,7 @@ use std::marker::Model;
 ///
 /// So where a floor of an owner is held, none of its entries is from a generation up to the floor's but labels, and no take
 /// brings one, however late it comes, until the map is cleared.
-#[derive(Debug, Drop)]
+#[derive(Drop)]
 pub struct SubMap {
     filter: Filter,
     held: Held,

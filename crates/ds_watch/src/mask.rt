@@ -6,7 +6,7 @@ ghost use Rattle.ds_watch.specs.Mask.{mask, either};
 use std::marker::Model;
 
 /// Some of the subscriptions, each by the bit of its number.
-#[derive(Clone, Copy, Debug)]
+#[derive(Clone, Copy)]
 pub struct Mask {
     bits: u128,
 }

@@ -7,7 +7,7 @@ use crate::mask::Mask;
 
 /// Of a held change or floor: the subscriptions to which it is owed, and those that it is still to be shown to. A change is owed
 /// to those under whose query its key is, a floor to all.
-#[derive(Clone, Copy, Debug)]
+#[derive(Clone, Copy)]
 pub struct Masks {
     under: Mask,
     unseen: Mask,

@@ -8,7 +8,7 @@ use std::alloc::{AllocFailed, Global};
 use std::marker::Model;
 
 /// Events in the order in which they are to happen.
-#[derive(Debug, Drop)]
+#[derive(Drop)]
 pub struct Events {
     events: Vec<Event>,
 }

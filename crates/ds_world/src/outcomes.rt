@@ -8,7 +8,7 @@ use std::alloc::{AllocFailed, Global};
 use std::marker::Model;
 
 /// What came of events, in their order.
-#[derive(Debug, Drop)]
+#[derive(Drop)]
 pub struct Outcomes {
     outcomes: Vec<Outcome>,
 }

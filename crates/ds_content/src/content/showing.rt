@@ -20,7 +20,7 @@ use ds_watch::Masks;
 use std::alloc::Global;
 
 /// What is shown, and how many held items were passed for that, from the first on.
-#[derive(Debug, Drop)]
+#[derive(Drop)]
 pub struct Shown {
     pub items: Items,
     pub passed: usize,
