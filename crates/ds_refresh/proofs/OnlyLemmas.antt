@@ -1,5 +1,5 @@
 -- That all calls are the follower's, whatever is answered.
-use Rattle.std.proofs.Common.{◌≡◌, ℕ, ◌<◌, ◌≤◌, List, [], ◌∷◌, ◌++◌, Option, Some, None, refl, ap, subst, inl, inr, arith, length-append}
+use Rattle.std.proofs.Common.{◌≡◌, ℕ, ◌<◌, ◌≤◌, List, [], ◌∷◌, ◌++◌, Option, Some, None, refl, ap, ◌∙◌, subst, inl, inr, arith, length-append}
 use Rattle.history.specs.declared.entry.Entry.{Entry}
 use Rattle.history.specs.History.{entry}
 use Rattle.desk.specs.declared.fault.DeskFault.{DeskFault}
@@ -43,8 +43,15 @@ only_call p q f command reply place is c = record { own = entry p.origin.number 
 pub only_subscribe : (p q : PassRecord) (f : FollowerRecord) (asked : Query) (reply : Reply) (place : ℕ) → asked ≡ f.map.query → MadeCall p q (subscribe_anew f.sub asked) reply place → CallsOnly p q f 1
 only_subscribe p q f asked reply place same c = only_call p q f (subscribe_anew f.sub asked) reply place (inl (ap (λ (x : Query). subscribe_anew f.sub x) same)) c
 
+pub only_its_subscribe : (p q : PassRecord) (f : FollowerRecord) (sub : ℕ) (asked : Query) (reply : Reply) (place : ℕ) → sub ≡ f.sub → asked ≡ f.map.query → MadeCall p q (subscribe_anew sub asked) reply place → CallsOnly p q f 1
+only_its_subscribe p q f sub asked reply place same also c =
+    only_call p q f (subscribe_anew sub asked) reply place (inl (ap (λ (s : ℕ). subscribe_anew s asked) same ∙ ap (λ (x : Query). subscribe_anew f.sub x) also)) c
+
 pub only_check : (p q : PassRecord) (f : FollowerRecord) (reply : Reply) (place : ℕ) → MadeCall p q (Check f.sub most_items) reply place → CallsOnly p q f 1
 only_check p q f reply place c = only_call p q f (Check f.sub most_items) reply place (inr refl) c
+
+pub only_its_check : (p q : PassRecord) (f : FollowerRecord) (sub : ℕ) (reply : Reply) (place : ℕ) → sub ≡ f.sub → MadeCall p q (Check sub most_items) reply place → CallsOnly p q f 1
+only_its_check p q f sub reply place same c = only_call p q f (Check sub most_items) reply place (inr (ap (λ (s : ℕ). Check s most_items) same)) c
 
 -- ---- behind calls that were open
 module _ (p q : PassRecord) (f g : FollowerRecord) (count : ℕ) (gone : HasGone p q f g count) where

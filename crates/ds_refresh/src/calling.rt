@@ -75,8 +75,11 @@ fn subscribe<W: Wait>(
         initial: true,
         overwrite: true,
     };
-    let answer = ask_desk(rt, desk, pass, command)?;
-    follower.stamp = Some(stamp_of(&answer.reply)?);
+    let told = {
+        let answer = ask_desk(rt, desk, pass, command)?;
+        stamp_of(&answer.reply)
+    };
+    follower.stamp = Some(told?);
     Ok(())
 }
 

@@ -1,7 +1,8 @@
-use Rattle.std.proofs.Common.{◌≡◌, ◌<◌, length, arith}
+use Rattle.std.proofs.Common.{ap, sym, ◌≡◌, ◌<◌, length, arith}
 use Rattle.ds_pass.specs.Record.{pass_record}
-use Rattle.ds_refresh.specs.Follower.{follower_of}
+use Rattle.ds_refresh.specs.Follower.{FollowerRecord, follower_of}
 use Rattle.ds_refresh.proofs.CheckLemmas.{check_told, map_ends, map_never_stops, map_stands}
+use Rattle.ds_refresh.proofs.OnlyLemmas.{only_its_check}
 use Rattle.ds_refresh.proofs.calling.check.Goals as goal
 
 pub returns-then-len-lt256-clause-called : goal.returns-then-len-lt256-clause-called
@@ -9,7 +10,7 @@ returns-then-len-lt256-clause-called g c =
     let f = c.follower.inside in
     let at = c.in-Checked in
     let few : length at.items < 256 = omega (arith, c.len.ensures, c.if-len-lt256.true) in
-    let parts : c.args.follower.now ≡ follower_of f.sub f.stamp f.map = cc in
+    let parts : c.args.follower.now ≡ follower_of f.sub f.stamp f.map = sym c.follower.view_is in
     map_ends (pass_record c.args.pass.now) (pass_record c.ask_desk.new.pass) c.args.follower.now f.sub f.stamp f.map c.take.new.self c.args.stamp at.before at.after c.in_ok-reply.field-0.place at.items c.in_ok-reply.field-0.reply
     parts c.requires.stamped c.requires.keeps c.in_ok-reply.ensures.called (cc) c.if-before-stamp.false c.in_default-take.ensures.query c.in_default-take.ensures.joined few
 
@@ -17,7 +18,7 @@ pub returns-then-len-lt256-clause-keeps : goal.returns-then-len-lt256-clause-kee
 returns-then-len-lt256-clause-keeps g c =
     let f = c.follower.inside in
     let at = c.in-Checked in
-    let parts : c.args.follower.now ≡ follower_of f.sub f.stamp f.map = cc in
+    let parts : c.args.follower.now ≡ follower_of f.sub f.stamp f.map = sym c.follower.view_is in
     map_stands (pass_record c.args.pass.now) (pass_record c.ask_desk.new.pass) c.args.follower.now f.sub f.stamp f.map c.take.new.self c.args.stamp at.before at.after c.in_ok-reply.field-0.place at.items c.in_ok-reply.field-0.reply
     parts c.requires.stamped c.requires.keeps c.in_ok-reply.ensures.called (cc) c.if-before-stamp.false c.in_default-take.ensures.query c.in_default-take.ensures.joined
 
@@ -25,7 +26,7 @@ pub returns-in-Checked-clause-keeps : goal.returns-in-Checked-clause-keeps
 returns-in-Checked-clause-keeps g c =
     let f = c.follower.inside in
     let at = c.in-Checked in
-    let parts : c.args.follower.now ≡ follower_of f.sub f.stamp f.map = cc in
+    let parts : c.args.follower.now ≡ follower_of f.sub f.stamp f.map = sym c.follower.view_is in
     map_stands (pass_record c.args.pass.now) (pass_record c.ask_desk.new.pass) c.args.follower.now f.sub f.stamp f.map c.take.new.self c.args.stamp at.before at.after c.in_ok-reply.field-0.place at.items c.in_ok-reply.field-0.reply
     parts c.requires.stamped c.requires.keeps c.in_ok-reply.ensures.called (cc) c.if-before-stamp.false c.in_default-take.ensures.query c.in_default-take.ensures.joined
 
@@ -33,10 +34,25 @@ pub unreachable-requires : goal.unreachable-requires
 unreachable-requires g c =
     let f = c.follower.inside in
     let at = c.in-Checked in
-    let parts : c.args.follower.now ≡ follower_of f.sub f.stamp f.map = cc in
+    let parts : c.args.follower.now ≡ follower_of f.sub f.stamp f.map = sym c.follower.view_is in
     c.in_default-fault.not-NoRoom
     (map_never_stops (pass_record c.args.pass.now) (pass_record c.ask_desk.new.pass) c.args.follower.now f.sub f.stamp f.map c.take.new.self c.args.stamp at.before at.after c.in_ok-reply.field-0.place at.items c.in_ok-reply.field-0.reply
     parts c.requires.stamped c.requires.keeps c.in_ok-reply.ensures.called (cc) c.if-before-stamp.false c.in-Err.stop c.held-is_map.ensures.map c.in-Err.ensures.joined c.in-Err.ensures.stopped)
 
 pub unreachable-requires-in_default : goal.unreachable-requires-in_default
 unreachable-requires-in_default g c = check_told c.in_ok-reply.field-0.reply c.in_ok-reply.ensures.fits c.in_default.not-Checked c.in_default.not-Refused
+
+pub returns-then-len-lt256-clause-only : goal.returns-then-len-lt256-clause-only
+returns-then-len-lt256-clause-only g c =
+    let same : c.follower.inside.sub ≡ c.args.follower.now.sub = ap (λ (x : FollowerRecord). x.sub) c.follower.view_is in
+    only_its_check (pass_record c.args.pass.now) (pass_record c.ask_desk.new.pass) c.args.follower.now c.follower.inside.sub c.in_ok-reply.field-0.reply c.in_ok-reply.field-0.place same c.in_ok-reply.ensures.called
+
+pub returns-in-Checked-clause-only : goal.returns-in-Checked-clause-only
+returns-in-Checked-clause-only g c =
+    let same : c.follower.inside.sub ≡ c.args.follower.now.sub = ap (λ (x : FollowerRecord). x.sub) c.follower.view_is in
+    only_its_check (pass_record c.args.pass.now) (pass_record c.ask_desk.new.pass) c.args.follower.now c.follower.inside.sub c.in_ok-reply.field-0.reply c.in_ok-reply.field-0.place same c.in_ok-reply.ensures.called
+
+pub returns-in-Refused-clause-only : goal.returns-in-Refused-clause-only
+returns-in-Refused-clause-only g c =
+    let same : c.follower.inside.sub ≡ c.args.follower.now.sub = ap (λ (x : FollowerRecord). x.sub) c.follower.view_is in
+    only_its_check (pass_record c.args.pass.now) (pass_record c.ask_desk.new.pass) c.args.follower.now c.follower.inside.sub c.in_ok-reply.field-0.reply c.in_ok-reply.field-0.place same c.in_ok-reply.ensures.called

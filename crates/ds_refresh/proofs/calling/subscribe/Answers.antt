@@ -1,5 +1,7 @@
-use Rattle.std.proofs.Common.{sym, ◌∙◌}
+use Rattle.std.proofs.Common.{ap, sym, ◌∙◌}
 use Rattle.ds_pass.specs.Record.{pass_record}
+use Rattle.ds_refresh.specs.Follower.{FollowerRecord}
+use Rattle.ds_refresh.proofs.OnlyLemmas.{only_its_subscribe}
 use Rattle.ds_refresh.proofs.CheckLemmas.{subscribe_stands}
 use Rattle.ds_refresh.proofs.calling.subscribe.Goals as goal
 
@@ -7,5 +9,19 @@ pub returns-clause-keeps : goal.returns-clause-keeps
 returns-clause-keeps g c =
     let f = c.follower.inside in
     let answer = c.in_ok-answer.answer in
-    subscribe_stands (pass_record c.args.pass.now) (pass_record c.ask_desk.new.pass) f.sub f.map.query c.in_ok-query.query c.clear.new.self c.in_ok-stamp_of.field-0 answer.place answer.reply
-    c.clear.ensures (c.in_ok-query.ensures ∙ sym c.follower.invariant) c.in_ok-answer.ensures.called c.in_ok-stamp_of.ensures.stamp
+    subscribe_stands (pass_record c.args.pass.now) (pass_record c.ask_desk.new.pass) f.sub f.map.query c.in_ok-query.query c.clear.new.self c.in_ok-told.field-0 answer.place answer.reply
+    c.clear.ensures (c.in_ok-query.ensures ∙ sym c.follower.invariant) c.in_ok-answer.ensures.called c.in_ok-told.ensures.stamp
+
+pub returns-clause-only : goal.returns-clause-only
+returns-clause-only g c =
+    let f = c.follower.inside in
+    let answer = c.in_ok-answer.answer in
+    only_its_subscribe (pass_record c.args.pass.now) (pass_record c.ask_desk.new.pass) c.args.follower.now f.sub c.in_ok-query.query answer.reply answer.place (ap (λ (x : FollowerRecord). x.sub) c.follower.view_is)
+    ((c.in_ok-query.ensures ∙ sym c.follower.invariant) ∙ ap (λ (x : FollowerRecord). x.map.query) c.follower.view_is) c.in_ok-answer.ensures.called
+
+pub returns-in_err-told-clause-only : goal.returns-in_err-told-clause-only
+returns-in_err-told-clause-only g c =
+    let f = c.follower.inside in
+    let answer = c.in_ok-answer.answer in
+    only_its_subscribe (pass_record c.args.pass.now) (pass_record c.ask_desk.new.pass) c.args.follower.now f.sub c.in_ok-query.query answer.reply answer.place (ap (λ (x : FollowerRecord). x.sub) c.follower.view_is)
+    ((c.in_ok-query.ensures ∙ sym c.follower.invariant) ∙ ap (λ (x : FollowerRecord). x.map.query) c.follower.view_is) c.in_ok-answer.ensures.called

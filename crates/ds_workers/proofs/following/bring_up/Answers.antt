@@ -6,8 +6,7 @@ use Rattle.ds_workers.proofs.following.bring_up.Goals as goal
 pub loop-preserved : goal.loop-preserved
 loop-preserved g c =
     let l = c.loop in
-    let e = c.in_ok-fresh.ensures in
-    (
+    let e = c.in_ok-fresh.ensures in (
       tt,
       tt,
       e.stays ∙ l.invariant.2,
