@@ -5,8 +5,8 @@ use Rattle.std.proofs.lemmas.Grind.{flat_map-append}
 use Rattle.ds_lines.specs.Lines.{HasLines, IsUnbroken, joined, unended, with_newline}
 use Rattle.trace_words.specs.Verdict.{Fails, IsLegal, IsWrongAt}
 use Rattle.trace_words.specs.Walk.{NoneEnds}
-use Rattle.trace_check.proofs.BeginLemmas.{joined_none}
-use Rattle.trace_check.proofs.WalkingLemmas.{first_line, only_line}
+use Rattle.trace_walk.proofs.BeginLemmas.{joined_none}
+use Rattle.trace_walk.proofs.WalkingLemmas.{first_line, only_line}
 
 -- ---- an input has its lines in one way
 

@@ -18,17 +18,17 @@ use Rattle.trace_words.specs.Verdict.{IsWrongAt}
 use Rattle.trace_words.specs.Walk.{NoneEnds}
 use Rattle.trace_words.proofs.EntryLemmas.{trace_more}
 use Rattle.trace_words.proofs.UpgradeLemmas.{become_more, upgraded_is_legal, upgraded_more}
-use Rattle.trace_check.specs.declared.fault.WalkFault.{WalkFault}
-use Rattle.trace_check.specs.declared.fault.WalkFault.TheVariants as walks
-use Rattle.trace_check.specs.declared.passed.Passed.{Passed}
-use Rattle.trace_check.specs.declared.passed.Passed.TheVariants.{AsItStands, Swept}
+use Rattle.trace_walk.specs.declared.fault.WalkFault.{WalkFault}
+use Rattle.trace_walk.specs.declared.fault.WalkFault.TheVariants as walks
+use Rattle.trace_walk.specs.declared.passed.Passed.{Passed}
+use Rattle.trace_walk.specs.declared.passed.Passed.TheVariants.{AsItStands, Swept}
 use Rattle.trace_check.specs.declared.upgrading.UpgradeFault.{UpgradeFault}
 use Rattle.trace_check.specs.declared.upgrading.UpgradeFault.TheVariants.{NoRoom, WriteFault}
-use Rattle.trace_check.specs.declared.walk.Walk.{Walk}
-use Rattle.trace_check.specs.Passing.{HasPassed}
-use Rattle.trace_check.specs.Steps.{WalksAt, EndsThere, first_spot}
-use Rattle.trace_check.specs.Upgrading.{BeginsWithTwo, IsWrittenAs, Refuses, Upgrades, upgrade_fault}
-use Rattle.trace_check.specs.Walking.{Spot, IsAt, IsFault, Walks, spot_behind}
+use Rattle.trace_walk.specs.declared.walk.Walk.{Walk}
+use Rattle.trace_walk.specs.Passing.{HasPassed, IsWrittenAs}
+use Rattle.trace_walk.specs.Steps.{WalksAt, EndsThere, first_spot}
+use Rattle.trace_check.specs.Upgrading.{BeginsWithTwo, Refuses, Upgrades, upgrade_fault}
+use Rattle.trace_walk.specs.Walking.{Spot, IsAt, IsFault, Walks, spot_behind}
 use Rattle.trace_check.proofs.LastLemmas.{none_longer}
 
 -- what the exit of a `?` hands on

@@ -2,8 +2,8 @@
 use Rattle.std.specs.Prelude.{◌≡◌, ◌≢◌, ℕ}
 use Rattle.trace_words.specs.declared.verdict.Verdict.{Verdict}
 use Rattle.trace_words.specs.declared.verdict.Verdict.TheVariants as verdicts
-use Rattle.trace_check.specs.declared.judged.Wanted.{Wanted}
-use Rattle.trace_check.specs.declared.judged.Wanted.TheVariants.{Reply}
+use Rattle.trace_walk.specs.declared.wrong_line.Wanted.{Wanted}
+use Rattle.trace_walk.specs.declared.wrong_line.Wanted.TheVariants.{Reply}
 
 -- the line that the verdict tells has this number, and a line of a reply has to stand there or another one
 abbrev pub IsOfLine : Verdict → ℕ → Wanted → Type 0

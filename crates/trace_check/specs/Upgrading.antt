@@ -6,18 +6,16 @@ use Rattle.trace_words.specs.declared.header.Format.TheVariants.{One, Two}
 use Rattle.trace_words.specs.declared.header.Header.{Header}
 use Rattle.trace_words.specs.declared.verdict.Verdict.TheVariants as verdicts
 use Rattle.trace_words.specs.Legal.{IsTrace, opened_by}
-use Rattle.trace_words.specs.Text.{TraceEntry, IsHeader, header_text, marked, trace_text}
+use Rattle.trace_words.specs.Text.{TraceEntry, IsHeader, header_text, trace_text}
 use Rattle.trace_words.specs.Upgrade.{Become, IsUpgraded, IsUpgradedBefore, IsUpgradedInPart, IsUpgradedSoFar, upgraded}
 use Rattle.trace_words.specs.Verdict.{IsVerdict}
-use Rattle.trace_check.specs.declared.fault.WalkFault.{WalkFault}
-use Rattle.trace_check.specs.declared.fault.WalkFault.TheVariants as walks
-use Rattle.trace_check.specs.declared.passed.Passed.{Passed}
-use Rattle.trace_check.specs.declared.passed.Passed.TheVariants.{AsItStands, Swept}
+use Rattle.trace_walk.specs.declared.fault.WalkFault.{WalkFault}
+use Rattle.trace_walk.specs.declared.fault.WalkFault.TheVariants as walks
 use Rattle.trace_check.specs.declared.upgrading.UpgradeFault.{UpgradeFault}
 use Rattle.trace_check.specs.declared.upgrading.UpgradeFault.TheVariants.{IllegalAt, BadLineAt, AlreadyTwo, ReadFault, WriteFault, NoRoom}
-use Rattle.trace_check.specs.declared.walk.Walk.{Walk}
-use Rattle.trace_check.specs.Steps.{WalksAt, first_spot}
-use Rattle.trace_check.specs.Walking.{Spot}
+use Rattle.trace_walk.specs.declared.walk.Walk.{Walk}
+use Rattle.trace_walk.specs.Steps.{WalksAt, first_spot}
+use Rattle.trace_walk.specs.Walking.{Spot}
 
 -- the fault of a walk
 abbrev pub upgrade_fault : WalkFault → UpgradeFault
@@ -56,11 +54,6 @@ abbrev pub UpgradesInPart : List ℕ → (had has : Option (List ℕ)) → Upgra
 UpgradesInPart bytes had has fault = (output : List ℕ) × Appends had has output × Refuses fault bytes output
 
 -- ---- on the way
-
--- what was appended for an entry that a walk went through, and how many entries that is
-abbrev pub IsWrittenAs : Walk → Passed → List ℕ → List ℕ → ℕ → Type 0
-IsWrittenAs w AsItStands before after count = (after ≡ before ++ (w.asked.items ++ marked w.reply.items)) × (count ≡ 1)
-IsWrittenAs w (Swept merges) before after count = (after ≡ before ++ merges.text.items) × (count ≡ merges.count)
 
 -- What was gone through, behind this header, is legal, and this output is what it is in format 2, with so many entries.
 pub record Upgrades (b : Spot) (h : Header) (output : List ℕ) (count : ℕ) : Type 0 where

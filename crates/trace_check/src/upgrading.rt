@@ -3,17 +3,14 @@
 ghost use Rattle.std.specs.Prelude.{◌≡◌, IfOk, IfErr, IfSome};
 ghost use Rattle.ds_lines.specs.Streams.{HasFailedWrite};
 ghost use Rattle.trace_words.specs.Upgrade.{upgraded};
-ghost use Rattle.trace_check.specs.Upgrading.{IsWrittenAs, EndsBehindHeader, EndsUpgraded, StopsBehindHeader, StopsUpgrading, UpgradesAll, UpgradesInPart};
+ghost use Rattle.trace_check.specs.Upgrading.{EndsBehindHeader, EndsUpgraded, StopsBehindHeader, StopsUpgrading, UpgradesAll, UpgradesInPart};
 
-use crate::fault::WalkFault;
-use crate::passed::Passed;
-use crate::walk::Walk;
-use ds_line::append_all;
 use ds_lines::{Sink, Source, WriteFailed, write_out};
 use ds_names::NoRoom;
 use std::alloc::Global;
 use thiserror::Error;
-use trace_words::{Format, Header, append_header, append_marked};
+use trace_walk::{Walk, WalkFault, append_passed};
+use trace_words::{Format, Header, append_header};
 
 /// Why a trace isn't written in format 2, or not whole.
 #[derive(Clone, Copy, Debug, PartialEq, Eq, Error)]
@@ -159,21 +156,4 @@ fn upgrade_entries<R: Source, W: Sink>(
         }
     }
     Err(UpgradeFault::ReadFault)
-}
-
-// Appends what the entry that the walk went through is in format 2. Gives how many entries that is.
-fn append_passed(text: &mut Vec<u8>, walk: &Walk, passed: &Passed) -> Result<u64, NoRoom>
-    ensures { IfOk result (IsWrittenAs walk.now passed.now text.old.items text.new.items) }
-{
-    match passed {
-        Passed::AsItStands => {
-            append_all(text, &[walk.asked.as_slice()])?;
-            append_marked(text, walk.reply.as_slice())?;
-            Ok(1)
-        }
-        Passed::Swept(merges) => {
-            append_all(text, &[merges.text.as_slice()])?;
-            Ok(merges.count)
-        }
-    }
 }

@@ -2,12 +2,12 @@
 
 ghost use Rattle.std.specs.Prelude.{IfSome};
 ghost use Rattle.trace_words.specs.Verdict.{IsVerdict};
-ghost use Rattle.trace_check.specs.Steps.{EndsWith};
+ghost use Rattle.trace_check.specs.Verifying.{EndsWith};
 
 use crate::judged::Judged;
-use crate::walk::Walk;
 use ds_lines::Source;
 use std::alloc::Global;
+use trace_walk::Walk;
 use trace_words::Verdict;
 
 /// Judges the trace that a reader gives, of format 1 or 2. Where it isn't legal, the first line that no legal trace has in its place

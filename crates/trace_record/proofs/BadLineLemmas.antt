@@ -3,7 +3,7 @@ use Rattle.std.proofs.Common.{◌≡◌, ℕ, suc, ◌<◌, List, [], ◌∷◌,
 use Rattle.std.specs.List.{flat_map}
 use Rattle.ds_lines.specs.Lines.{HasLines, with_newline}
 use Rattle.ds_lines.specs.Reading.{LinesContent}
-use Rattle.trace_check.specs.Walking.{HasLine, IsLong, IsRead, IsShort}
+use Rattle.trace_walk.specs.Walking.{HasLine, IsLong, IsRead, IsShort}
 use Rattle.trace_words.specs.declared.asked.Head.TheVariants as heads
 use Rattle.trace_words.specs.declared.header.Format.{Format}
 use Rattle.trace_words.specs.Head.{IsHeadOf}

@@ -8,8 +8,8 @@ use Rattle.ds_lines.specs.Lines.{HasLines}
 use Rattle.ds_lines.specs.Reading.{LinesContent}
 use Rattle.ds_lines.specs.Transfer.{SendsFront, WritesPart}
 use Rattle.ds_machine.specs.State.{State}
-use Rattle.trace_check.specs.Walking.{IsAt}
-use Rattle.trace_check.proofs.BeginLemmas.{by_known}
+use Rattle.trace_walk.specs.Walking.{IsAt}
+use Rattle.trace_walk.proofs.BeginLemmas.{by_known}
 use Rattle.trace_words.specs.declared.header.Format.{Format}
 use Rattle.trace_words.specs.declared.header.Header.{Header}
 use Rattle.trace_words.specs.Legal.{opened_by}

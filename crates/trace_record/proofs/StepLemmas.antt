@@ -13,7 +13,7 @@ use Rattle.ds_lines.specs.Reading.{LinesContent}
 use Rattle.ds_machine.specs.State.{State}
 use Rattle.ds_words.specs.declared.command.ScriptCommand.{ScriptCommand}
 use Rattle.store_words.specs.Reply.{reply_lines}
-use Rattle.trace_check.specs.Walking.{IsAt, IsShort}
+use Rattle.trace_walk.specs.Walking.{IsAt, IsShort}
 use Rattle.trace_words.specs.declared.asked.Asked.{Asked}
 use Rattle.trace_words.specs.declared.asked.Asked.TheVariants as askeds
 use Rattle.trace_words.specs.declared.asked.Head.{Head}

@@ -8,7 +8,7 @@ use Rattle.ds_lines.specs.Lines.{HasLines, with_newline, joined}
 use Rattle.ds_names.specs.Limits.{most_items}
 use Rattle.ds_words.specs.Command.{command_parts}
 use Rattle.ds_words.specs.declared.command.ScriptCommand.TheVariants.{Ring}
-use Rattle.trace_check.specs.Walking.{IsShort}
+use Rattle.trace_walk.specs.Walking.{IsShort}
 use Rattle.trace_words.specs.declared.asked.Head.{Head}
 use Rattle.trace_words.specs.declared.header.Format.{Format}
 use Rattle.trace_words.specs.Head.{IsHeadOf}

@@ -2,7 +2,7 @@
 use Rattle.std.specs.Prelude.{◌≡◌, ℕ, true, false, Bool, List, [], Option, Result, Ok, Err}
 use Rattle.ds_lines.specs.Lines.{EndsLine, with_newline}
 use Rattle.ds_lines.specs.Reading.{LinesContent}
-use Rattle.trace_check.specs.Walking.{IsAt, IsRead, IsLong, HasLine, IsShort}
+use Rattle.trace_walk.specs.Walking.{IsAt, IsRead, IsLong, HasLine, IsShort}
 use Rattle.trace_words.specs.declared.asked.Head.{Head}
 use Rattle.trace_words.specs.declared.header.Format.{Format}
 use Rattle.trace_words.specs.Head.{IsHeadOf}

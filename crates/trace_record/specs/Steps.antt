@@ -10,7 +10,7 @@ use Rattle.ds_machine.specs.declared.command.Command.{Command}
 use Rattle.ds_machine.specs.declared.reply.Reply.{Reply}
 use Rattle.store_words.specs.Reply.{reply_lines}
 use Rattle.store_words.specs.declared.wording.Wording.{Wording}
-use Rattle.trace_check.specs.Walking.{IsAt, IsShort}
+use Rattle.trace_walk.specs.Walking.{IsAt, IsShort}
 use Rattle.trace_words.specs.declared.asked.Asked.{Asked}
 use Rattle.trace_words.specs.declared.asked.Head.{Head}
 use Rattle.trace_words.specs.declared.asked.Head.TheVariants as heads

@@ -20,7 +20,7 @@ use ds_names::NoRoom;
 use ds_store::Store;
 use std::alloc::Global;
 use store_words::{Wording, append_reply};
-use trace_check::ask_store;
+use trace_walk::ask_store;
 use trace_words::{Asked, AskedFault, Head, Header, append_header, append_marked, read_plus};
 
 /// A recording under way: where it is in the input, the store that answers, with what it was opened, whole entries that wait to be

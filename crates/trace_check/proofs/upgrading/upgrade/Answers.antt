@@ -1,7 +1,7 @@
 use Rattle.std.proofs.Common.{[]}
 use Rattle.std.proofs.KnownBytes.{Appends-nil}
 use Rattle.std.proofs.lemmas.Result.{IfOk-weaker, IfErr-weaker}
-use Rattle.trace_check.proofs.BeginLemmas.{known_then}
+use Rattle.trace_walk.proofs.BeginLemmas.{known_then}
 use Rattle.trace_check.proofs.UpgradingLemmas.{handed_on, never_write, refused_first}
 use Rattle.trace_check.proofs.upgrading.upgrade.Goals as goal
 

@@ -1,9 +1,9 @@
 use Rattle.std.proofs.Common.{◌+◌, ◌∙◌, List, ℕ, Option, IfNone, arith, refl, sym, subst}
 use Rattle.std.specs.Io.KnownBytes.{Appends}
-use Rattle.trace_check.specs.declared.passed.Passed.{Passed}
-use Rattle.trace_check.specs.Steps.{EndsThere, GoesPast}
-use Rattle.trace_check.specs.Upgrading.{IsWrittenAs}
-use Rattle.trace_check.proofs.FaultLemmas.{some_at}
+use Rattle.trace_walk.specs.declared.passed.Passed.{Passed}
+use Rattle.trace_walk.specs.Passing.{IsWrittenAs}
+use Rattle.trace_walk.specs.Steps.{EndsThere, GoesPast}
+use Rattle.trace_walk.proofs.FaultLemmas.{some_at}
 use Rattle.trace_check.proofs.UpgradingLemmas.{ends_upgraded, goes_on_writing, handed_on, never_write, not_written, sets_out, stops_between, stops_for, stops_within}
 use Rattle.trace_check.proofs.upgrading.upgrade_entries.Goals as goal
 

@@ -1,7 +1,7 @@
 use Rattle.std.proofs.Common.{List, ℕ}
-use Rattle.trace_check.specs.Steps.{WalksAt}
+use Rattle.trace_walk.specs.Steps.{WalksAt}
 use Rattle.trace_check.specs.Upgrading.{Upgrades}
-use Rattle.trace_check.specs.Walking.{Spot}
+use Rattle.trace_walk.specs.Walking.{Spot}
 use Rattle.trace_check.proofs.UpgradingLemmas.{IsUnderWay}
 use Rattle.trace_check.proofs.upgrading.upgrade_entries.Given as goal
 

@@ -2,11 +2,11 @@ use Rattle.std.proofs.Common.{List, ℕ, Option, IfNone, refl, sym, subst, arith
 use Rattle.trace_words.specs.declared.header.Header.{Header}
 use Rattle.trace_words.specs.declared.verdict.Verdict.TheVariants.{Legal}
 use Rattle.trace_words.specs.Verdict.{IsVerdict}
-use Rattle.trace_check.specs.declared.passed.Passed.{Passed}
-use Rattle.trace_check.specs.Steps.{EndsThere, GoesPast}
-use Rattle.trace_check.specs.Walking.{Spot, Walks, spot_behind}
-use Rattle.trace_check.proofs.BeginLemmas.{legal_at_end, said_for}
-use Rattle.trace_check.proofs.FaultLemmas.{some_at}
+use Rattle.trace_walk.specs.declared.passed.Passed.{Passed}
+use Rattle.trace_walk.specs.Steps.{EndsThere, GoesPast}
+use Rattle.trace_walk.specs.Walking.{Spot, Walks, spot_behind}
+use Rattle.trace_walk.proofs.BeginLemmas.{legal_at_end, said_for}
+use Rattle.trace_walk.proofs.FaultLemmas.{some_at}
 use Rattle.trace_check.proofs.verifying.walk_through.Goals as goal
 
 pub loop-length-init : goal.loop-length-init

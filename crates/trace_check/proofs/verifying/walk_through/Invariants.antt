@@ -1,6 +1,6 @@
 use Rattle.std.proofs.Common.{◌≡◌}
-use Rattle.trace_check.specs.Steps.{WalksAt}
-use Rattle.trace_check.specs.Walking.{Spot}
+use Rattle.trace_walk.specs.Steps.{WalksAt}
+use Rattle.trace_walk.specs.Walking.{Spot}
 use Rattle.trace_check.proofs.verifying.walk_through.Given as goal
 
 -- from behind the header it came to somewhere behind so many entries

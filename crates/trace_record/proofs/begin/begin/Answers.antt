@@ -1,6 +1,6 @@
 use Rattle.std.proofs.Common.{◌≡◌, ◌∙◌, [], ℕ, List, Bool, true, Result, Ok, inl, inr, refl, sym, subst}
 use Rattle.ds_lines.specs.Lines.{EndsLine, with_newline}
-use Rattle.trace_check.proofs.FaultLemmas.{some_at}
+use Rattle.trace_walk.proofs.FaultLemmas.{some_at}
 use Rattle.trace_record.specs.declared.fault.RecordFault.{RecordFault}
 use Rattle.trace_record.specs.Asking.{ring_text}
 use Rattle.trace_record.specs.Causes.{ReadsLead}

@@ -1,5 +1,5 @@
 use Rattle.std.proofs.Common.{◌+◌, arith}
-use Rattle.trace_check.proofs.WalkingLemmas.{line_comes, none_comes, long_comes}
+use Rattle.trace_walk.proofs.WalkingLemmas.{line_comes, none_comes, long_comes}
 use Rattle.trace_record.proofs.RunLemmas.{front_at}
 use Rattle.trace_record.proofs.line.next_line.Goals as goal
 

@@ -1,7 +1,7 @@
 use Rattle.std.proofs.Common.{◌≡◌, ◌++◌, ◌∙◌, List, ℕ, refl, sym, ap, subst}
 use Rattle.std.proofs.lemmas.Result.{IfOk-weaker, IfErr-weaker}
 use Rattle.ds_lines.specs.Lines.{EndsLine}
-use Rattle.trace_check.specs.Walking.{IsShort}
+use Rattle.trace_walk.specs.Walking.{IsShort}
 use Rattle.trace_words.specs.Head.{IsHeadOf}
 use Rattle.trace_record.specs.declared.fault.RecordFault.TheVariants.{NoRoom}
 use Rattle.trace_record.specs.Asking.{asked_by}

@@ -1,0 +1,19 @@
+use Rattle.std.proofs.Common.{◌+◌, arith, sym, subst}
+use Rattle.trace_walk.specs.declared.fault.WalkFault.{WalkFault}
+use Rattle.trace_walk.specs.Walking.{IsLongFault}
+use Rattle.trace_walk.proofs.WalkingLemmas.{line_comes, none_comes, long_comes, long_fault}
+use Rattle.trace_walk.proofs.place.next_line.Goals as goal
+
+pub returns-in-Line-clause-there : goal.returns-in-Line-clause-there
+returns-in-Line-clause-there g c e bytes front at =
+    line_comes bytes front c.args.lines.now c.pull.new.self (g.R.Source.remaining c.args.reader.now) (g.R.Source.remaining c.pull.new.reader) at c.in-Line.ensures.pulls.0 c.in-Line.ensures.pulls.1 c.in-Line.ensures.pulls.3
+
+pub returns-in-End-clause-none : goal.returns-in-End-clause-none
+returns-in-End-clause-none g c e bytes front at = none_comes bytes front c.args.lines.now (g.R.Source.remaining c.args.reader.now) _ at c.in-End.ensures.pulls.0 c.in-End.ensures.pulls.1
+
+pub returns-in-Long-clause-long : goal.returns-in-Long-clause-long
+returns-in-Long-clause-long g c bytes front at =
+    let l = c.in-Long.ensures.pulls in
+    let number = c.count-number.result + 1 in
+    subst (λ (f : WalkFault). IsLongFault c.args.place bytes front f) (sym c.fault.ensures)
+    (long_fault c.args.place bytes front number (long_comes bytes front c.args.lines.now (g.R.Source.remaining c.args.reader.now) l.0 number at l.1 l.2 l.3 (omega (arith, c.count-number.ensures.value))))

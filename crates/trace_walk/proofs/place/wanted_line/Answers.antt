@@ -1,0 +1,14 @@
+use Rattle.std.proofs.Common.{◌+◌, arith, sym, subst}
+use Rattle.trace_walk.specs.Walking.{IsFault, IsShort}
+use Rattle.trace_walk.proofs.FaultLemmas.{missing, too_long, carried}
+use Rattle.trace_walk.proofs.place.wanted_line.Goals as goal
+
+pub returns-in_err-next_line-clause-fails : goal.returns-in_err-next_line-clause-fails
+returns-in_err-next_line-clause-fails g c =
+    carried c.from_residual.result c.in_err-next_line.field-0.0 _ c.from_residual.ensures.1
+    (λ start bytes front at p. too_long c.args.place start bytes front c.in_err-next_line.field-0.0 (c.in_err-next_line.ensures.long bytes front at) p)
+
+pub returns-else-branch-clause-fails : goal.returns-else-branch-clause-fails
+returns-else-branch-clause-fails g c start bytes front at p =
+    subst (IsFault start bytes) (sym c.fault.ensures)
+    (missing c.args.place start bytes front c.next_line.new.lines.count (c.count.result + 1) IsShort (c.in_ok-next_line.ensures.none c.if-branch.false bytes front at) p (omega (arith, c.count.ensures.value)))

@@ -1,0 +1,22 @@
+use Rattle.std.proofs.Common.{◌∙◌, refl, sym, subst}
+use Rattle.std.proofs.lemmas.Result.{IfOk-weaker, IfErr-weaker}
+use Rattle.trace_walk.specs.declared.fault.WalkFault.{WalkFault}
+use Rattle.trace_walk.specs.Walking.{IsFault}
+use Rattle.trace_walk.proofs.AskLemmas.{noroom_text, passed_over}
+use Rattle.trace_walk.proofs.walk.Walk.answered.Goals as goal
+
+pub returns-then-is_noroom-clause-goes : goal.returns-then-is_noroom-clause-goes
+returns-then-is_noroom-clause-goes g c =
+    let old = c.args.self.now in
+    let w = c.judge_noroom.new.self in
+    let from = g.R.Source.remaining c.args.reader.now in
+    IfOk-weaker c.judge_noroom.result _ _
+    (λ passed r b x.
+    let text = r.reply ∙ sym (noroom_text b old.lines old.store old.header from c.args.pass c.args.asked old.asked.items x) in
+    passed_over b old.lines old.store old.header from c.args.pass c.args.asked old.asked.items x (sym c.line.ensures ∙ c.if-is_noroom.ensures.0 refl) w passed r.lines r.store r.header r.asked_is text
+    (λ one. r.becomes one b.state old.header.limits c.args.pass))
+    c.judge_noroom.ensures.goes
+
+pub returns-then-is_noroom-clause-fails : goal.returns-then-is_noroom-clause-fails
+returns-then-is_noroom-clause-fails g c =
+    IfErr-weaker c.judge_noroom.result _ _ (λ fault is b x. subst (λ (f : WalkFault). IsFault b.front b.bytes f) (sym is) tt) c.judge_noroom.ensures.fault

@@ -1,0 +1,38 @@
+use Rattle.std.proofs.Common.{◌≡◌, List, [], ℕ, refl, sym, subst, ◌∙◌}
+use Rattle.ds_lines.specs.Lines.{with_newline}
+use Rattle.trace_words.specs.Text.{HasNoHeader, header_text}
+use Rattle.trace_words.proofs.WalkLemmas.{header_behind}
+use Rattle.trace_walk.specs.Walking.{IsAt}
+use Rattle.trace_walk.proofs.BeginLemmas.{first_fails, input_empty, line_wrong, at_start, by_known}
+use Rattle.trace_walk.proofs.walk.Walk.begin.Goals as goal
+
+pub returns-in-Ok-false-clause-fails : goal.returns-in-Ok-false-clause-fails
+returns-in-Ok-false-clause-fails g c =
+    by_known (g.R.Source.remaining c.args.reader.now) _
+    (λ bytes known. input_empty bytes _ (c.in-Ok-false.ensures.none c.in-Ok-false.field-0-test bytes [] (at_start bytes c.in_ok-lines.lines (g.R.Source.remaining c.args.reader.now) c.in_ok-lines.ensures known)))
+
+pub returns-in-Err-clause-fails : goal.returns-in-Err-clause-fails
+returns-in-Err-clause-fails g c =
+    by_known (g.R.Source.remaining c.args.reader.now) _
+    (λ bytes known. first_fails bytes c.in-Err.fault (c.in-Err.ensures.long bytes [] (at_start bytes c.in_ok-lines.lines (g.R.Source.remaining c.args.reader.now) c.in_ok-lines.ensures known)))
+
+pub returns-in_default-clause-fails : goal.returns-in_default-clause-fails
+returns-in_default-clause-fails g c =
+    by_known (g.R.Source.remaining c.args.reader.now) _
+    (λ bytes known.
+    let l = c.in-Ok-true.ensures.there c.in-Ok-true.field-0-test bytes [] (at_start bytes c.in_ok-lines.lines (g.R.Source.remaining c.args.reader.now) c.in_ok-lines.ensures known) in
+    line_wrong bytes l.0 1 c.next_line.new.lines (g.R.Source.remaining c.next_line.new.reader) l.2 refl
+    (subst HasNoHeader (c.line.ensures ∙ l.1) c.in_default.ensures.none))
+
+pub returns-clause-begins : goal.returns-clause-begins
+returns-clause-begins g c =
+    by_known (g.R.Source.remaining c.args.reader.now) _
+    (λ bytes known.
+    let l = c.in-Ok-true.ensures.there c.in-Ok-true.field-0-test bytes [] (at_start bytes c.in_ok-lines.lines (g.R.Source.remaining c.args.reader.now) c.in_ok-lines.ensures known) in
+    let h = c.in-Some.header in
+    let text : header_text h ≡ with_newline l.0 = sym c.in-Some.ensures.found.1 ∙ c.line.ensures ∙ l.1 in
+    record {
+      at = subst (λ (f : List ℕ). IsAt bytes f c.next_line.new.lines (g.R.Source.remaining c.next_line.new.reader)) (sym text) l.2.then;
+      stands = c.in-Ok.ensures.opened;
+      behind = header_behind h c.in-Some.ensures.found.0;
+    })

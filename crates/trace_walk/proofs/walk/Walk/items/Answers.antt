@@ -1,0 +1,37 @@
+use Rattle.std.proofs.Common.{length, refl, sym, subst, ap, arith, List, ◌∙◌}
+use Rattle.ds_entry.specs.declared.item.Item.{Item}
+use Rattle.trace_walk.specs.Walking.{Lists}
+use Rattle.trace_walk.proofs.FaultLemmas.{carried}
+use Rattle.trace_walk.proofs.walk.Walk.items.Goals as goal
+
+pub loop-index-init : goal.loop-index-init
+loop-index-init g c = record {
+  header = refl;
+  lists = λ b pass x.
+      let old = c.args.self.now in
+      (ap length c.new-items.ensures, subst (λ (l : List Item). Lists b old.lines old.store old.header (g.R.Source.remaining c.args.reader.now) pass c.args.most l old.asked.items) (sym c.new-items.ensures) x);
+}
+
+pub loop-index-preserved : goal.loop-index-preserved
+loop-index-preserved g c = record {
+  header = c.in_ok-item.ensures.goes.0 ∙ c.loop-index.invariant.header;
+  lists = λ b pass x.
+      let k = c.loop-index.invariant.lists b pass x in
+      let on = c.in_ok-item.ensures.goes.1 b pass c.args.most (omega (arith, k.0, c.loop-index-test.true)) k.1 in
+      (omega (arith, on.0, k.0), on.1);
+}
+
+pub returns-in_err-item-clause-fails : goal.returns-in_err-item-clause-fails
+returns-in_err-item-clause-fails g c =
+    carried c.from_residual.result c.in_err-item.field-0.0 _ c.from_residual.ensures.1
+    (λ b pass x.
+    let k = c.loop-index.invariant.lists b pass x in
+    c.in_err-item.ensures.fails b pass c.args.most (omega (arith, k.0, c.loop-index-test.true)) k.1)
+
+pub returns-clause-goes : goal.returns-clause-goes
+returns-clause-goes g c = (
+  c.loop-index.invariant.header,
+  λ b pass x.
+      let k = c.loop-index.invariant.lists b pass x in
+      (omega (arith, k.0, c.loop-index-test.false, c.loop-index.auto._index-end), k.1),
+)

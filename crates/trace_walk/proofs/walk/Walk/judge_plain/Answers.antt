@@ -1,0 +1,19 @@
+use Rattle.std.proofs.Common.{◌∙◌, sym}
+use Rattle.std.proofs.lemmas.Result.{IfOk-weaker, IfErr-weaker}
+use Rattle.trace_words.specs.declared.asked.Asked.TheVariants as askeds
+use Rattle.trace_walk.proofs.ToldLemmas.{line_for_store}
+use Rattle.trace_walk.proofs.walk.Walk.judge_plain.Goals as goal
+
+pub returns-in-Some-clause-goes : goal.returns-in-Some-clause-goes
+returns-in-Some-clause-goes g c =
+    let old = c.args.self.now in
+    let asks = sym c.in_ok-command.ensures.command ∙ c.in-Some.is in
+    let f = line_for_store old.header.format c.args.command c.in-Some.command c.wording-wording.result old.lines.line c.requires.plain asks c.wording-wording.ensures c.requires.line in
+    IfOk-weaker c.ask.result _ _ (λ passed goes b pass x. goes b pass (askeds.Line c.args.command) f x) c.ask.ensures.goes
+
+pub returns-in-Some-clause-fails : goal.returns-in-Some-clause-fails
+returns-in-Some-clause-fails g c =
+    let old = c.args.self.now in
+    let asks = sym c.in_ok-command.ensures.command ∙ c.in-Some.is in
+    let f = line_for_store old.header.format c.args.command c.in-Some.command c.wording-wording.result old.lines.line c.requires.plain asks c.wording-wording.ensures c.requires.line in
+    IfErr-weaker c.ask.result _ _ (λ fault fails b pass x. fails b pass (askeds.Line c.args.command) f x) c.ask.ensures.fails

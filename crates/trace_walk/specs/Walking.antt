@@ -1,0 +1,220 @@
+-- Where a walk through a trace is in its input.
+use Rattle.std.specs.Prelude.{◌≡◌, ◌≢◌, ℕ, suc, ◌<◌, ◌≤◌, Bool, true, false, List, [], ◌∷◌, ◌++◌, length, take, Option, Some, None}
+use Rattle.std.specs.List.{All, flat_map}
+use Rattle.ds_content.specs.Content.{ContentRecord}
+use Rattle.ds_content.specs.Stands.{ContentStands}
+use Rattle.ds_entry.specs.declared.item.Item.{Item}
+use Rattle.ds_held.specs.Limits.{LimitsRecord}
+use Rattle.ds_lines.specs.Lines.{HasLines, IsUnbroken, EndsLine, with_newline, joined}
+use Rattle.ds_lines.specs.Reading.{LinesContent}
+use Rattle.ds_lines.specs.Pulling.{left}
+use Rattle.ds_names.specs.Limits.{most_items}
+use Rattle.ds_machine.specs.Machine.{Step}
+use Rattle.ds_machine.specs.Merging.{course}
+use Rattle.ds_machine.specs.State.{State}
+use Rattle.ds_machine.specs.declared.command.Command.{Command}
+use Rattle.ds_machine.specs.declared.reply.Reply.{Reply as AReply}
+use Rattle.store_words.specs.declared.wording.Wording.{Wording}
+use Rattle.trace_words.specs.declared.asked.Asked.{Asked}
+use Rattle.trace_words.specs.declared.asked.Asked.TheVariants as askeds
+use Rattle.trace_words.specs.declared.asked.Head.{Head}
+use Rattle.trace_words.specs.declared.asked.AskedFault.{AskedFault}
+use Rattle.trace_words.specs.declared.asked.AskedFault.TheVariants as badly
+use Rattle.trace_words.specs.declared.header.Format.{Format}
+use Rattle.trace_words.specs.declared.header.Format.TheVariants.{One}
+use Rattle.trace_words.specs.declared.header.Header.{Header}
+use Rattle.trace_words.specs.declared.verdict.Verdict.{Verdict}
+use Rattle.trace_words.specs.declared.verdict.Verdict.TheVariants as verdicts
+use Rattle.trace_words.specs.Head.{MayHead, head_text}
+use Rattle.trace_words.specs.Legal.{StepOf}
+use Rattle.trace_words.specs.Noroom.{noroom_line, stopped_line}
+use Rattle.trace_words.specs.Text.{TraceEntry, MayAsk, MayMerge, asked_text, command_asked, entry_text, marked, merge_text, pass_text, plus_text, worded_as}
+use Rattle.trace_words.specs.Upgrade.{BecomesAs}
+use Rattle.trace_words.specs.Verdict.{IsWrongAt, WantsReply}
+use Rattle.trace_words.specs.Walk.{IsBehind, IsPlaceInEntry, NoneEnds}
+use Rattle.trace_walk.specs.declared.fault.WalkFault.{WalkFault}
+use Rattle.trace_walk.specs.declared.fault.WalkFault.TheVariants.{IllegalAt, BadLineAt, ReadFault, NoRoom}
+use Rattle.trace_walk.specs.declared.place.Place.{Place}
+use Rattle.trace_walk.specs.declared.place.Place.TheVariants.{Form, Reply}
+
+-- It went through some of the lines of the input, and the others are left.
+pub record IsAt (bytes front : List ℕ) (l : LinesContent) (remaining : Option (List ℕ)) : Type 0 where
+  pub before : List (List ℕ)
+  pub after : List (List ℕ)
+  pub rest : List ℕ
+  pub lines : HasLines bytes (before ++ after)
+  pub behind : HasLines rest after
+  pub left_is : left l remaining ≡ Some rest
+  pub front_is : front ≡ joined before
+  pub counted : l.count ≡ length before
+
+-- Behind some entries of a trace: the whole input, what was gone through of it, to which state that leads, and how many entries it is.
+pub record Spot : Type 0 where
+  pub bytes : List ℕ
+  pub front : List ℕ
+  pub state : State
+  pub count : ℕ
+
+-- one entry further
+abbrev pub spot_behind : Spot → LimitsRecord → TraceEntry → State → Spot
+spot_behind b limits e t = record { bytes = b.bytes; front = b.front ++ entry_text limits e; state = t; count = suc b.count }
+
+-- The walk is there, and the store stands for the state.
+pub record Walks (b : Spot) (l : LinesContent) (store : ContentRecord) (h : Header) (remaining : Option (List ℕ)) : Type 0 where
+  pub at : IsAt b.bytes b.front l remaining
+  pub stands : ContentStands store b.state
+  pub behind : IsBehind b.front h b.state b.count
+
+-- Why it ended early is a verdict on the input, and no legal trace ends behind the start before the line that is wrong.
+abbrev pub IsFault : (start bytes : List ℕ) → WalkFault → Type 0
+IsFault start bytes (IllegalAt number) = (front : List ℕ) × IsWrongAt bytes number front × WantsReply front × NoneEnds start front
+IsFault start bytes (BadLineAt number) = (front : List ℕ) × IsWrongAt bytes number front × (¬ WantsReply front) × NoneEnds start front
+IsFault start bytes ReadFault = Unit {0}
+IsFault start bytes NoRoom = Unit {0}
+
+-- The line is the first of those that were left: it stands behind the front, and the walk is behind it.
+pub record HasLine (bytes front line : List ℕ) (l : LinesContent) (remaining : Option (List ℕ)) : Type 0 where
+  pub before : List (List ℕ)
+  pub more : List (List ℕ)
+  pub whole : IsUnbroken line
+  pub lines : HasLines bytes (before ++ line ∷ more)
+  pub front_is : front ≡ joined before
+  pub counted : l.count ≡ suc (length before)
+  pub then : IsAt bytes (front ++ with_newline line) l remaining
+
+-- it went through the whole input, which has so many lines
+abbrev pub IsRead : List ℕ → List ℕ → ℕ → Type 0
+IsRead bytes front number = (lines : List (List ℕ)) × HasLines bytes lines × (front ≡ joined lines) × (number ≡ length lines)
+
+-- The next line is above 4096 bytes, and has this number.
+pub record IsLong (bytes front : List ℕ) (number : ℕ) : Type 0 where
+  pub before : List (List ℕ)
+  pub line : List ℕ
+  pub more : List (List ℕ)
+  pub whole : IsUnbroken line
+  pub long : 4096 < length line
+  pub lines : HasLines bytes (before ++ line ∷ more)
+  pub front_is : front ≡ joined before
+  pub counted : number ≡ suc (length before)
+
+-- why no line was gone to, where a line of this sort has to stand
+abbrev pub IsLongFault : Place → List ℕ → List ℕ → WalkFault → Type 0
+IsLongFault Form bytes front (BadLineAt number) = IsLong bytes front number
+IsLongFault Form bytes front (IllegalAt number) = ⊥
+IsLongFault Reply bytes front (IllegalAt number) = IsLong bytes front number
+IsLongFault Reply bytes front (BadLineAt number) = ⊥
+IsLongFault place bytes front _ = Unit {0}
+
+-- the fault of a line of this sort
+abbrev pub line_fault : Place → ℕ → WalkFault
+line_fault Form number = BadLineAt number
+line_fault Reply number = IllegalAt number
+
+-- the fault of a line that can't be read
+abbrev pub of_line : AskedFault → ℕ → WalkFault
+of_line badly.BadLine number = BadLineAt number
+of_line badly.NoRoom number = NoRoom
+
+-- what is said of a trace for a fault
+abbrev pub verdict_of : WalkFault → Verdict
+verdict_of (IllegalAt number) = verdicts.IllegalAt number
+verdict_of (BadLineAt number) = verdicts.BadLineAt number
+verdict_of ReadFault = verdicts.ReadFault
+verdict_of NoRoom = verdicts.NoRoom
+
+-- whether a reply line has to stand there
+abbrev pub is_reply : Place → Bool
+is_reply Form = false
+is_reply Reply = true
+
+-- at most 4096 bytes, and a newline
+abbrev pub IsShort : List ℕ → Type 0
+IsShort line = length line ≤ 4097
+
+-- ---- within an entry, that begins at a spot. The lines of what it asks, so far, are kept.
+
+-- It is behind the first line of an entry.
+pub record Heads (b : Spot) (l : LinesContent) (store : ContentRecord) (h : Header) (remaining : Option (List ℕ)) (pass : ℕ) (head : Head) (kept : List ℕ) : Type 0 where
+  pub at : IsAt b.bytes (b.front ++ head_text pass head) l remaining
+  pub stands : ContentStands store b.state
+  pub behind : IsBehind b.front h b.state b.count
+  pub pass_few : pass ≤ 63
+  pub may : MayHead h.format head
+  pub short : IsShort (head_text pass head)
+  pub kept_is : kept ≡ head_text pass head
+
+-- It is behind some of the items of a Merge.
+pub record Lists (b : Spot) (l : LinesContent) (store : ContentRecord) (h : Header) (remaining : Option (List ℕ)) (pass most : ℕ) (items : List Item) (kept : List ℕ) : Type 0 where
+  pub at : IsAt b.bytes (b.front ++ (pass_text pass (merge_text most) ++ flat_map plus_text items)) l remaining
+  pub stands : ContentStands store b.state
+  pub behind : IsBehind b.front h b.state b.count
+  pub pass_few : pass ≤ 63
+  pub few : most ≤ most_items
+  pub may : All (MayMerge h.format) items
+  pub kept_is : kept ≡ pass_text pass (merge_text most) ++ flat_map plus_text items
+
+-- It is behind what an entry asks.
+pub record HasAsked (b : Spot) (l : LinesContent) (store : ContentRecord) (h : Header) (remaining : Option (List ℕ)) (pass : ℕ) (asked : Asked) (kept : List ℕ) : Type 0 where
+  pub at : IsAt b.bytes (b.front ++ asked_text pass asked) l remaining
+  pub stands : ContentStands store b.state
+  pub behind : IsBehind b.front h b.state b.count
+  pub pass_few : pass ≤ 63
+  pub may : MayAsk h.format pass asked
+  pub kept_is : kept ≡ asked_text pass asked
+
+-- It is at the first line of the reply.
+pub record Hears (b : Spot) (l : LinesContent) (store : ContentRecord) (h : Header) (remaining : Option (List ℕ)) (pass : ℕ) (asked : Asked) (kept : List ℕ) : Type 0 where
+  pub line : List ℕ
+  pub here : HasLine b.bytes (b.front ++ asked_text pass asked) line l remaining
+  pub line_is : l.line ≡ with_newline line
+  pub stands : ContentStands store b.state
+  pub behind : IsBehind b.front h b.state b.count
+  pub pass_few : pass ≤ 63
+  pub may : MayAsk h.format pass asked
+  pub kept_is : kept ≡ asked_text pass asked
+
+-- ---- the reply
+
+-- no line is left without its newline
+abbrev pub IsEnded : List ℕ → Type 0
+IsEnded text = (before last : List ℕ) → text ≡ before ++ last → IsUnbroken last → last ≡ []
+
+-- if this line stands there, it is this one of a reply
+abbrev pub IsThere : (here next line : List ℕ) → Type 0
+IsThere here next line = line ≡ with_newline here → line ≡ 60 ∷ 32 ∷ next
+
+-- Behind some lines of the text, its next one has to stand.
+abbrev pub GoesOnSaying : (start base text : List ℕ) → Type 0
+GoesOnSaying start base text =
+    (given next left : List ℕ) → text ≡ (given ++ 10 ∷ []) ++ (next ++ left) → EndsLine next →
+    IsPlaceInEntry start (base ++ marked (given ++ 10 ∷ [])) true (λ (line : List ℕ). line ≡ 60 ∷ 32 ∷ next) × (length next ≤ 4095)
+
+-- The line is where the text of the reply has to begin.
+pub record IsToBeSaid (start base here text : List ℕ) : Type 0 where
+  pub first : (next left : List ℕ) → text ≡ next ++ left → EndsLine next → IsPlaceInEntry start base true (IsThere here next)
+  pub further : GoesOnSaying start base text
+
+-- It is behind some lines of the text of a reply, whose other lines are left.
+pub record IsSaid (bytes base whole rest : List ℕ) (l : LinesContent) (remaining : Option (List ℕ)) : Type 0 where
+  pub given : List ℕ
+  pub whole_is : whole ≡ (given ++ 10 ∷ []) ++ rest
+  pub at : IsAt bytes (base ++ marked (given ++ 10 ∷ [])) l remaining
+
+-- why a Merge wasn't stopped behind so many of its items
+abbrev pub IsStopFault : State → List Item → (done number : ℕ) → WalkFault → Type 0
+IsStopFault s items done number (IllegalAt place) = (place ≡ number) × ((course s (take done items)).stop ≢ None)
+IsStopFault s items done number (BadLineAt place) = ⊥
+IsStopFault s items done number _ = Unit {0}
+
+-- in format 2 it stays as it is: but for sweeps, what may be asked in format 1
+abbrev pub StaysUpgraded : Format → Asked → Type 0
+StaysUpgraded format asked = format ≡ One → (s : State) (e : TraceEntry) → BecomesAs s e asked (e ∷ [])
+
+-- The store itself answers what is asked, and the line isn't for want of memory.
+pub record IsForStore (format : Format) (asked : Asked) (said : Wording) (command : Command) (line : List ℕ) : Type 0 where
+  pub asks : command_asked asked ≡ Some command
+  pub words : said ≡ worded_as asked
+  pub steps : (s t : State) (reply : AReply) → Step s command reply t → StepOf format s command reply t
+  pub stays : StaysUpgraded format asked
+  pub room : line ≢ noroom_line
+  pub stops : (items : List Item) (done : ℕ) → asked ≡ askeds.Merge items → done < length items → line ≢ stopped_line done

@@ -1,0 +1,100 @@
+//! Asking a store what an entry of a trace asks.
+
+ghost use Rattle.std.specs.Prelude.{◌≡◌, ◌≢◌, None, IfOk};
+ghost use Rattle.trace_words.specs.declared.asked.Asked.TheVariants as askeds;
+ghost use Rattle.trace_words.specs.Text.{command_asked, worded_as};
+ghost use Rattle.ds_words.specs.Command.{store_command};
+ghost use Rattle.trace_walk.specs.Sweeping.{SweepsAs};
+ghost use Rattle.trace_walk.specs.Asking.{StepsAsSaid, StepsBy};
+
+use crate::sweep::{Sweep, older, sweep_older};
+use ds_held::Limits;
+use ds_machine::{Command, Reply};
+use ds_names::NoRoom;
+use ds_store::Store;
+use ds_words::ScriptCommand;
+use std::alloc::Global;
+use store_words::Wording;
+use trace_words::{Asked, Format};
+
+/// What a store answers to what an entry asks: its reply, and how the lines of it are worded.
+#[derive(Drop)]
+pub struct Answer {
+    pub wording: Wording,
+    pub reply: Reply,
+}
+
+/// Asks a store what an entry of a trace asks: one step of the store that the trace is of. A sweep of format 1 leaves tombstones,
+/// and everything else is asked as the store's command says.
+///
+/// Out of memory for a command, or in the midst of such a sweep, it gives no reply, and the store is no more the trace's.
+pub fn ask_store(
+    alloc: Global,
+    store: &mut Store,
+    format: Format,
+    asked: Asked,
+) -> Result<Answer, NoRoom>
+    requires { command_asked asked ≢ None }
+    ensures step { IfOk result (λ answer. StepsBy store.old format asked answer.reply store.new) }
+    ensures wording { IfOk result (λ answer. answer.wording ≡ worded_as asked) }
+{
+    match asked {
+        Asked::Line(command) => ask_line(alloc, store, format, command),
+        Asked::Merge(items) => Ok(Answer {
+            wording: Wording::AsMerge,
+            reply: store.apply(Command::Merge { items }),
+        }),
+    }
+}
+
+// Asks what stands on one line.
+fn ask_line(
+    alloc: Global,
+    store: &mut Store,
+    format: Format,
+    command: ScriptCommand,
+) -> Result<Answer, NoRoom>
+    requires { store_command command ≢ None }
+    ensures step { IfOk result (λ answer. StepsBy store.old format (askeds.Line command) answer.reply store.new) }
+    ensures wording { IfOk result (λ answer. answer.wording ≡ worded_as (askeds.Line command)) }
+{
+    let wording = command.wording();
+    if let Some(sweep) = older(&command, format) {
+        return ask_older(alloc, store, sweep, wording);
+    }
+    ask_plain(alloc, store, command, wording)
+}
+
+// Asks a sweep of format 1, to whose reply this wording belongs.
+fn ask_older(
+    alloc: Global,
+    store: &mut Store,
+    sweep: Sweep,
+    wording: Wording,
+) -> Result<Answer, NoRoom>
+    ensures step { IfOk result (λ answer. SweepsAs store.old sweep answer.reply store.new) }
+    ensures wording { IfOk result (λ answer. answer.wording ≡ wording) }
+{
+    let (reply, _merges) = sweep_older(alloc, store, 0, Limits::smaller(), sweep)?;
+    Ok(Answer { wording, reply })
+}
+
+// Asks as the store's command says, to whose reply this wording belongs.
+fn ask_plain(
+    alloc: Global,
+    store: &mut Store,
+    command: ScriptCommand,
+    wording: Wording,
+) -> Result<Answer, NoRoom>
+    requires { store_command command ≢ None }
+    ensures step { IfOk result (λ answer. StepsAsSaid store.old command answer.reply store.new) }
+    ensures wording { IfOk result (λ answer. answer.wording ≡ wording) }
+{
+    match command.into_store_command(alloc)? {
+        Some(command) => Ok(Answer {
+            wording,
+            reply: store.apply(command),
+        }),
+        None => unreachable!(),
+    }
+}

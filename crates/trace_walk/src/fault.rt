@@ -1,0 +1,67 @@
+//! Why a walk through a trace ends early.
+
+ghost use Rattle.std.specs.Prelude.{◌≡◌};
+ghost use Rattle.trace_walk.specs.Walking.{of_line, verdict_of};
+
+use ds_names::NoRoom;
+use std::alloc::AllocError;
+use trace_words::{AskedFault, Verdict};
+
+/// Why a walk through a trace ended before its input did.
+#[derive(Clone, Copy, Debug, PartialEq, Eq)]
+pub enum WalkFault {
+    /// At this line, from 1, a reply line has to stand that a legal trace has there, and none does.
+    IllegalAt(u64),
+    /// The same of a header, `>` or `+` line.
+    BadLineAt(u64),
+    /// The reader failed, or gave more than can be counted.
+    ReadFault,
+    /// Out of memory.
+    NoRoom,
+}
+
+impl WalkFault {
+    /// The fault of a line that can't be read.
+    pub(crate) fn of_line(fault: AskedFault, number: u64) -> WalkFault
+        ensures { result ≡ of_line fault number }
+    {
+        match fault {
+            AskedFault::BadLine => WalkFault::BadLineAt(number),
+            AskedFault::NoRoom => WalkFault::NoRoom,
+        }
+    }
+
+    /// What is said of the trace for it.
+    pub fn verdict(self) -> Verdict
+        ensures { result ≡ verdict_of self }
+    {
+        match self {
+            WalkFault::IllegalAt(number) => Verdict::IllegalAt(number),
+            WalkFault::BadLineAt(number) => Verdict::BadLineAt(number),
+            WalkFault::ReadFault => Verdict::ReadFault,
+            WalkFault::NoRoom => Verdict::NoRoom,
+        }
+    }
+}
+
+impl From<NoRoom> for WalkFault {
+    ghost use Rattle.std.specs.Prelude.{◌≡◌};
+    ghost use Rattle.trace_walk.specs.declared.fault.WalkFault.TheVariants as faults;
+
+    ghost from_gives = { λ wanting fault. fault ≡ faults.NoRoom };
+
+    fn from(_wanting: NoRoom) -> WalkFault {
+        WalkFault::NoRoom
+    }
+}
+
+impl From<AllocError> for WalkFault {
+    ghost use Rattle.std.specs.Prelude.{◌≡◌};
+    ghost use Rattle.trace_walk.specs.declared.fault.WalkFault.TheVariants as faults;
+
+    ghost from_gives = { λ wanting fault. fault ≡ faults.NoRoom };
+
+    fn from(_wanting: AllocError) -> WalkFault {
+        WalkFault::NoRoom
+    }
+}

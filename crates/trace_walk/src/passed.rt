@@ -1,0 +1,36 @@
+//! What an entry of format 1 is in format 2.
+
+ghost use Rattle.std.specs.Prelude.{IfOk};
+ghost use Rattle.trace_walk.specs.Passing.{IsWrittenAs};
+
+use crate::merges::Merges;
+use crate::walk::Walk;
+use ds_line::append_all;
+use ds_names::NoRoom;
+use trace_words::append_marked;
+
+/// What an entry of format 1, which a walk went through, is in format 2.
+#[derive(Drop)]
+pub enum Passed {
+    /// The same entry.
+    AsItStands,
+    /// A sweep's: Merges of the tombstones that it left, if it left any.
+    Swept(Merges),
+}
+
+/// Appends what the entry that the walk went through is in format 2. Gives how many entries that is.
+pub fn append_passed(text: &mut Vec<u8>, walk: &Walk, passed: &Passed) -> Result<u64, NoRoom>
+    ensures { IfOk result (IsWrittenAs walk.now passed.now text.old.items text.new.items) }
+{
+    match passed {
+        Passed::AsItStands => {
+            append_all(text, &[walk.asked.as_slice()])?;
+            append_marked(text, walk.reply.as_slice())?;
+            Ok(1)
+        }
+        Passed::Swept(merges) => {
+            append_all(text, &[merges.text.as_slice()])?;
+            Ok(merges.count)
+        }
+    }
+}

@@ -1,0 +1,67 @@
+//! What has to stand on a line of a trace, and going to that line.
+
+ghost use Rattle.std.specs.Prelude.{◌≡◌, ◌≤◌, length, true, false, IfOk, IfErr};
+ghost use Rattle.ds_lines.specs.Lines.{EndsLine};
+ghost use Rattle.trace_walk.specs.Walking.{line_fault, is_reply};
+ghost use Rattle.trace_walk.specs.Steps.{ComesToLine, ComesToLong, FindsNone, MissesLine};
+
+use crate::fault::WalkFault;
+use ds_lines::{Lines, Pulled, Source};
+
+/// What has to stand on a line.
+#[derive(Clone, Copy, Debug, PartialEq, Eq)]
+pub(crate) enum Place {
+    /// A header, `>` or `+` line.
+    Form,
+    /// A line of a reply.
+    Reply,
+}
+
+impl Place {
+    /// Why the line of this number isn't as it should be.
+    pub fn fault(self, number: u64) -> WalkFault
+        ensures { result ≡ line_fault self number }
+    {
+        match self {
+            Place::Form => WalkFault::BadLineAt(number),
+            Place::Reply => WalkFault::IllegalAt(number),
+        }
+    }
+}
+
+/// Goes to the next line, where a line of this sort has to stand.
+pub(crate) fn wanted_line<R: Source>(
+    lines: &mut Lines,
+    reader: &mut R,
+    place: Place,
+) -> Result<(), WalkFault>
+    ensures there { IfOk result (λ u. ComesToLine lines.old (R.remaining reader.old) lines.new (R.remaining reader.new)) }
+    ensures fails { IfErr result (λ fault. MissesLine (is_reply place) lines.old (R.remaining reader.old) fault) }
+{
+    if next_line(lines, reader, place)? {
+        Ok(())
+    } else {
+        Err(place.fault(lines.count() + 1))
+    }
+}
+
+/// Goes to the next line. Gives whether there is one.
+pub(crate) fn next_line<R: Source>(
+    lines: &mut Lines,
+    reader: &mut R,
+    place: Place,
+) -> Result<bool, WalkFault>
+    ensures there { IfOk result (λ s. s ≡ true → ComesToLine lines.old (R.remaining reader.old) lines.new (R.remaining reader.new)) }
+    ensures short { IfOk result (λ s. s ≡ true → EndsLine lines.new.line × (length lines.new.line ≤ 4097)) }
+    ensures long { IfErr result (λ fault. ComesToLong place lines.old (R.remaining reader.old) fault) }
+    ensures none { IfOk result (λ s. s ≡ false → FindsNone lines.old (R.remaining reader.old) lines.new.count) }
+{
+    let number = lines.count() + 1;
+    match lines.pull(reader) {
+        Pulled::Line => Ok(true),
+        Pulled::End => Ok(false),
+        Pulled::Long => Err(place.fault(number)),
+        Pulled::ReadFault => Err(WalkFault::ReadFault),
+        Pulled::NoRoom => Err(WalkFault::NoRoom),
+    }
+}

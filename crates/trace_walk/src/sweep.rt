@@ -1,0 +1,167 @@
+//! Sweeps of format 1, which leave tombstones.
+
+ghost use Rattle.std.specs.Prelude.{◌≡◌, ◌≤◌, true, length, Some, IfOk};
+ghost use Rattle.std.specs.List.{slice_get};
+ghost use Rattle.std.specs.Option.{option_and_then};
+ghost use Rattle.ds_held.specs.Held.{held_items, held_changes};
+ghost use Rattle.trace_words.specs.Sweep.{is_swept, tombstone, tombstones};
+ghost use Rattle.trace_walk.specs.Sweeping.{tombstone_over, older_of, MergesPart, SweepsInMerges};
+
+use crate::merges::Merges;
+use ds_entry::{Body, Change, Item, Items};
+use ds_held::{Held, Limits};
+use ds_machine::{Command, Refusal, Reply};
+use ds_names::{Endpoint, Generation, Kind, Name, NoRoom, Version};
+use ds_store::Store;
+use ds_words::ScriptCommand;
+use std::alloc::Global;
+use trace_words::Format;
+
+/// The most items of one Merge.
+const MOST_ITEMS: usize = 256;
+
+/// The last position.
+const LAST_PLACE: u64 = 1 << 62;
+
+/// What RS asks to sweep.
+#[derive(Clone, Copy, Debug)]
+pub(crate) struct Sweep {
+    pub caller: Endpoint,
+    pub owner: Name,
+    pub generation: Generation,
+}
+
+/// The sweep of format 1 that the command is, if it is one.
+pub(crate) fn older(command: &ScriptCommand, format: Format) -> Option<Sweep>
+    ensures { result ≡ older_of format command.now }
+{
+    match (format, command) {
+        (
+            Format::One,
+            ScriptCommand::Sweep {
+                caller,
+                owner,
+                generation,
+            },
+        ) => Some(Sweep {
+            caller: *caller,
+            owner: *owner,
+            generation: *generation,
+        }),
+        _ => None,
+    }
+}
+
+/// RS sweeps what an owner left up to a generation: each live entry of it, labels aside, gets a tombstone of that generation and
+/// the last sequence number. The store merges them, and gives the reply. With it comes what this is as entries of format 2, which a
+/// pass asks of a store of these limits.
+pub(crate) fn sweep_older(
+    alloc: Global,
+    store: &mut Store,
+    pass: u64,
+    limits: Limits,
+    sweep: Sweep,
+) -> Result<(Reply, Merges), NoRoom>
+    ensures { IfOk result (λ r. SweepsInMerges store.old pass limits sweep r store.new) }
+{
+    let mut merges = Merges::new(alloc);
+    if sweep.caller != Endpoint::rs() {
+        return Ok((Reply::Refused(Refusal::NotAllowed), merges));
+    }
+    let gone = tombstones(alloc, store.held(), &sweep)?;
+    if store.cursor().position + gone.len() as u64 > LAST_PLACE {
+        return Ok((Reply::Refused(Refusal::Worn), merges));
+    }
+    let count = gone.len();
+    let mut owed = 0;
+    let mut rest = gone.as_slice();
+    while !rest.is_empty() {
+        let (batch, more) = rest.split_at(rest.len().min(MOST_ITEMS));
+        let mask = merge_part(alloc, store, batch)?;
+        merges.add(alloc, pass, limits, batch, mask)?;
+        owed |= mask;
+        rest = more;
+    }
+    Ok((Reply::Swept { count, owed }, merges))
+}
+
+// The tombstones of a sweep, in the order of the keys.
+fn tombstones(alloc: Global, held: &Held, sweep: &Sweep) -> Result<Items, NoRoom>
+    ensures { IfOk result (λ gone. gone ≡ tombstones (held_items held.now) sweep.now.owner sweep.now.generation) }
+{
+    let mut gone = Items::new(alloc);
+    for index in 0..held.len() {
+        if let Some(tombstone) = tombstone_at(held, index, sweep) {
+            gone.push(tombstone)?;
+        }
+    }
+    Ok(gone)
+}
+
+// The tombstone that a sweep puts over the change at an index, if it puts one.
+fn tombstone_at(held: &Held, index: usize, sweep: &Sweep) -> Option<Item>
+    ensures { result ≡ option_and_then (tombstone_over sweep.now.owner sweep.now.generation) (slice_get (held_changes held.now) index) }
+{
+    let change = held.at(index)?;
+    if !is_swept(change, sweep) {
+        return None;
+    }
+    tombstone(change, sweep)
+}
+
+// Whether a sweep puts a tombstone over the change: a put of the owner's, of a generation up to there, that is no label's.
+fn is_swept(change: &Change, sweep: &Sweep) -> bool
+    ensures { result ≡ is_swept sweep.now.owner sweep.now.generation change.now }
+{
+    let is_label = match change.key().kind {
+        Kind::Label => true,
+        _ => false,
+    };
+    let is_put = match change.body() {
+        Body::Put(_) => true,
+        Body::Gone => false,
+    };
+    !is_label
+        && is_put
+        && change.owner() == &sweep.owner
+        && change.version().epoch.number() <= sweep.generation.number()
+}
+
+// The tombstone that a sweep puts over the change.
+fn tombstone(change: &Change, sweep: &Sweep) -> Option<Item>
+    requires { is_swept sweep.now.owner sweep.now.generation change.now ≡ true }
+    ensures { result ≡ Some (tombstone sweep.now.owner sweep.now.generation change.now) }
+{
+    let version = Version {
+        epoch: sweep.generation,
+        seq: u32::MAX,
+    };
+    match Change::make(*change.key(), sweep.owner, version, Body::Gone) {
+        Ok(tombstone) => Some(Item::Change(tombstone)),
+        Err(_) => None,
+    }
+}
+
+// Gives the store some of the tombstones. Gives what is owed for them.
+fn merge_part(alloc: Global, store: &mut Store, part: &[Item]) -> Result<u128, NoRoom>
+    requires few { length part.now ≤ 256 }
+    ensures { IfOk result (λ mask. MergesPart store.old part.now mask store.new) }
+{
+    let items = copied(alloc, part)?;
+    let reply = store.apply(Command::Merge { items });
+    let Reply::Merged { owed, .. } = reply else {
+        return Err(NoRoom);
+    };
+    Ok(owed)
+}
+
+/// The same items again.
+pub(crate) fn copied(alloc: Global, part: &[Item]) -> Result<Items, NoRoom>
+    ensures { IfOk result (λ items. items ≡ part.now) }
+{
+    let mut items = Items::new(alloc);
+    for index in 0..part.len() {
+        items.push(part[index].copy(alloc)?)?;
+    }
+    Ok(items)
+}

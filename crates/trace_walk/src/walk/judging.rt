@@ -1,0 +1,218 @@
+//! What a walk does at a reply.
+
+ghost use Rattle.std.specs.Prelude.{◌≡◌, ◌≢◌, ◌<◌, length, None, IfOk, IfErr, OnOk};
+ghost use Rattle.trace_words.specs.declared.asked.Asked.TheVariants as askeds;
+ghost use Rattle.trace_words.specs.Noroom.{noroom_line, stopped_line};
+ghost use Rattle.trace_walk.specs.Steps.{GoesBehind, FailsBehind, GoesPastReply, FailsAtReply, HasRefused, PassesLine, PassesSweep, PassesMerge, FailsAtMerge, PassesPlain, FailsAtPlain, PassesFor, FailsFor, SaysReply, FailsToSay, swept_line};
+ghost use Rattle.trace_walk.specs.Sweeping.{older_of};
+ghost use Rattle.trace_walk.specs.Passing.{IsRefusedAs};
+
+use super::Walk;
+use crate::expected::expect;
+use crate::fault::WalkFault;
+use crate::merges::Merges;
+use crate::passed::Passed;
+use crate::place::{Place, wanted_line};
+use crate::stopping::{stop_of, stopped, wants_room};
+use crate::sweep::{Sweep, older, sweep_older};
+use ds_entry::Items;
+use ds_lines::Source;
+use ds_machine::{Command, Reply};
+use ds_words::ScriptCommand;
+use std::alloc::Global;
+use store_words::{Wording, append_noroom, append_reply};
+use trace_words::{Asked, Format, is_noroom};
+
+impl Walk {
+    /// Reads the reply to what was asked, which the store has to give.
+    pub(crate) fn judge<R: Source>(
+        &mut self,
+        reader: &mut R,
+        pass: u64,
+        asked: Asked,
+    ) -> Result<Passed, WalkFault>
+        ensures goes { IfOk result (GoesBehind self.old (R.remaining reader.old) pass asked self.new (R.remaining reader.new)) }
+        ensures fails { IfErr result (FailsBehind self.old (R.remaining reader.old) pass asked) }
+    {
+        wanted_line(&mut self.lines, reader, Place::Reply)?;
+        self.first = self.lines.count();
+        self.answered(reader, pass, asked)
+    }
+
+    // Judges the reply whose first line the walk is at. One for want of memory may stand there, and then nothing changed.
+    fn answered<R: Source>(
+        &mut self,
+        reader: &mut R,
+        pass: u64,
+        asked: Asked,
+    ) -> Result<Passed, WalkFault>
+        ensures goes { IfOk result (GoesPastReply self.old (R.remaining reader.old) pass asked self.new (R.remaining reader.new)) }
+        ensures fails { IfErr result (FailsAtReply self.old (R.remaining reader.old) pass asked) }
+    {
+        if is_noroom(self.lines.line()) {
+            return self.judge_noroom(&asked);
+        }
+        self.judge_asked(reader, pass, asked)
+    }
+
+    // Goes past the reply for want of memory, at which the walk is.
+    fn judge_noroom(&mut self, asked: &Asked) -> Result<Passed, WalkFault>
+        ensures goes { IfOk result (HasRefused self.old asked.now self.new) }
+        ensures fault { IfErr result (λ fault. fault ≡ WalkFault.NoRoom) }
+    {
+        self.reply.clear();
+        append_noroom(&mut self.reply)?;
+        Ok(refused(self.alloc, asked, self.header.format))
+    }
+
+    // Judges any other reply.
+    fn judge_asked<R: Source>(
+        &mut self,
+        reader: &mut R,
+        pass: u64,
+        asked: Asked,
+    ) -> Result<Passed, WalkFault>
+        requires { self.old.lines.line ≢ noroom_line }
+        ensures goes { IfOk result (GoesPastReply self.old (R.remaining reader.old) pass asked self.new (R.remaining reader.new)) }
+        ensures fails { IfErr result (FailsAtReply self.old (R.remaining reader.old) pass asked) }
+    {
+        match asked {
+            Asked::Line(command) => self.judge_line(reader, pass, command),
+            Asked::Merge(items) => self.judge_merge(reader, items),
+        }
+    }
+
+    // Judges the reply to a command that stands on one line.
+    fn judge_line<R: Source>(
+        &mut self,
+        reader: &mut R,
+        pass: u64,
+        command: ScriptCommand,
+    ) -> Result<Passed, WalkFault>
+        requires { self.old.lines.line ≢ noroom_line }
+        ensures goes { IfOk result (PassesLine self.old (R.remaining reader.old) pass command self.new (R.remaining reader.new)) }
+        ensures fails { IfErr result (FailsAtReply self.old (R.remaining reader.old) pass (askeds.Line command)) }
+    {
+        match older(&command, self.header.format) {
+            Some(swept) => self.judge_sweep(reader, pass, swept),
+            None => self.judge_plain(reader, command),
+        }
+    }
+
+    // Judges the reply to one that is no sweep of format 1, whatever its pass.
+    fn judge_plain<R: Source>(
+        &mut self,
+        reader: &mut R,
+        command: ScriptCommand,
+    ) -> Result<Passed, WalkFault>
+        requires line { self.old.lines.line ≢ noroom_line }
+        requires plain { older_of self.old.header.format command ≡ None }
+        ensures goes { IfOk result (PassesPlain self.old (R.remaining reader.old) command self.new (R.remaining reader.new)) }
+        ensures fails { IfErr result (FailsAtPlain self.old (R.remaining reader.old) command) }
+    {
+        let wording = command.wording();
+        match command.into_store_command(self.alloc)? {
+            Some(command) => self.ask(reader, wording, command),
+            None => Err(WalkFault::NoRoom),
+        }
+    }
+
+    // Judges the reply to a Merge.
+    fn judge_merge<R: Source>(&mut self, reader: &mut R, items: Items) -> Result<Passed, WalkFault>
+        requires { self.old.lines.line ≢ noroom_line }
+        ensures goes { IfOk result (PassesMerge self.old (R.remaining reader.old) items self.new (R.remaining reader.new)) }
+        ensures fails { IfErr result (FailsAtMerge self.old (R.remaining reader.old) items) }
+    {
+        match stop_of(self.lines.line(), items.len()) {
+            Some(done) => self.judge_stopped(reader, &items, done),
+            None => self.ask(reader, Wording::AsMerge, Command::Merge { items }),
+        }
+    }
+
+    // A Merge that is stopped for want of memory behind so many items: those are merged.
+    fn judge_stopped<R: Source>(
+        &mut self,
+        reader: &mut R,
+        items: &Items,
+        done: usize,
+    ) -> Result<Passed, WalkFault>
+        requires few { done < length items.now }
+        requires line { self.old.lines.line ≡ stopped_line done }
+        ensures goes { IfOk result (PassesMerge self.old (R.remaining reader.old) items.now self.new (R.remaining reader.new)) }
+        ensures fails { IfErr result (FailsAtMerge self.old (R.remaining reader.old) items.now) }
+    {
+        let number = self.lines.count();
+        let reply = stopped(self.alloc, &mut self.store, items, done, number)?;
+        self.says(reader, Wording::AsMerge, &reply)?;
+        Ok(Passed::AsItStands)
+    }
+
+    // A sweep of format 1.
+    fn judge_sweep<R: Source>(
+        &mut self,
+        reader: &mut R,
+        pass: u64,
+        swept: Sweep,
+    ) -> Result<Passed, WalkFault>
+        requires line { self.old.lines.line ≢ noroom_line }
+        requires format { self.old.header.format ≡ Format.One }
+        ensures goes { IfOk result (PassesSweep self.old (R.remaining reader.old) pass swept self.new (R.remaining reader.new)) }
+        ensures fails { IfErr result (FailsAtReply self.old (R.remaining reader.old) pass (swept_line swept)) }
+    {
+        let (reply, merges) = sweep_older(
+            self.alloc,
+            &mut self.store,
+            pass,
+            self.header.limits,
+            swept,
+        )?;
+        self.says(reader, Wording::AsMerge, &reply)?;
+        Ok(Passed::Swept(merges))
+    }
+
+    // Asks the store, whose reply has to stand there.
+    fn ask<R: Source>(
+        &mut self,
+        reader: &mut R,
+        wording: Wording,
+        command: Command,
+    ) -> Result<Passed, WalkFault>
+        ensures goes { IfOk result (PassesFor wording command self.old (R.remaining reader.old) self.new (R.remaining reader.new)) }
+        ensures fails { IfErr result (FailsFor wording command self.old (R.remaining reader.old)) }
+    {
+        let reply = self.store.apply(command);
+        if wants_room(&reply) {
+            return Err(WalkFault::NoRoom);
+        }
+        self.says(reader, wording, &reply)?;
+        Ok(Passed::AsItStands)
+    }
+
+    // The reply stands there, at whose first line the walk is.
+    fn says<R: Source>(
+        &mut self,
+        reader: &mut R,
+        wording: Wording,
+        reply: &Reply,
+    ) -> Result<(), WalkFault>
+        ensures goes { OnOk result (SaysReply wording reply.now self.old (R.remaining reader.old) self.new (R.remaining reader.new)) }
+        ensures fails { IfErr result (FailsToSay wording reply.now self.old (R.remaining reader.old)) }
+    {
+        self.reply.clear();
+        append_reply(&mut self.reply, wording, reply, self.header.limits)?;
+        expect(&mut self.lines, reader, self.reply.as_slice())
+    }
+}
+
+// What an entry is in format 2 that is refused for want of memory: a sweep of format 1 is left out.
+fn refused(alloc: Global, asked: &Asked, format: Format) -> Passed
+    ensures { IsRefusedAs format asked.now result }
+{
+    match asked {
+        Asked::Line(command) => match older(command, format) {
+            Some(_) => Passed::Swept(Merges::new(alloc)),
+            None => Passed::AsItStands,
+        },
+        Asked::Merge(_) => Passed::AsItStands,
+    }
+}
