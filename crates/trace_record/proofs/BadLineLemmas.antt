@@ -1,17 +1,18 @@
 -- Which line is the first that asks nothing.
 use Rattle.std.proofs.Common.{◌≡◌, ℕ, suc, ◌<◌, List, [], ◌∷◌, ◌++◌, length, Option, inl, inr, refl, sym, ap, subst, ◌∙◌, arith, append_assoc, append-nil, length-append}
 use Rattle.std.specs.List.{flat_map}
-use Rattle.ds_lines.specs.Lines.{HasLines, with_newline}
+use Rattle.ds_lines.specs.Lines.{HasLines, joined, with_newline}
 use Rattle.ds_lines.specs.Reading.{LinesContent}
 use Rattle.trace_walk.specs.Walking.{HasLine, IsLong, IsRead, IsShort}
 use Rattle.trace_words.specs.declared.asked.Head.TheVariants as heads
 use Rattle.trace_words.specs.declared.header.Format.{Format}
 use Rattle.trace_words.specs.Head.{IsHeadOf}
 use Rattle.trace_words.specs.Text.{plus_text}
-use Rattle.trace_record.specs.Asking.{AsksNothing, AsksNothingAt, IsFirstLines, IsNoItem, asked_by}
+use Rattle.trace_record.specs.Asking.{AsksNothing, AsksNothingAt, IsFirstLines, IsNoItem, IsRingLine, asked_by}
 use Rattle.trace_record.specs.Reading.{IsAtLine}
 use Rattle.trace_record.specs.Steps.{LacksNext, LacksOne}
 use Rattle.trace_record.proofs.AskingLemmas.{asked_longer, asked_behind, some_line}
+use Rattle.trace_record.proofs.RingLemmas.{long_no_ring}
 
 -- ---- a line that has to ask
 
@@ -19,9 +20,9 @@ use Rattle.trace_record.proofs.AskingLemmas.{asked_longer, asked_behind, some_li
 pub front_there : (bytes front : List ℕ) (l : LinesContent) (to : Option (List ℕ)) → IsAtLine bytes front l to → IsFirstLines bytes front
 front_there bytes front l to a = let h = a.2 in (h.before, a.0 ∷ h.more, h.lines, h.front_is)
 
-pub asks_nothing : (format : Format) (bytes front line : List ℕ) (l : LinesContent) (to : Option (List ℕ)) (number : ℕ) → HasLine bytes front line l to → AsksNothing format (with_newline line) → number ≡ l.count → AsksNothingAt format bytes front number
-asks_nothing format bytes front line l to number h none e =
-    record { whole = (h.before, line ∷ h.more, h.lines, h.front_is); part = []; before = h.before; rest = line ∷ h.more; lines = h.lines; behind = append-nil front ∙ h.front_is; counted = e ∙ h.counted; stops = inl (refl, none) }
+pub asks_nothing : (format : Format) (bytes front line : List ℕ) (l : LinesContent) (to : Option (List ℕ)) (number : ℕ) → HasLine bytes front line l to → AsksNothing format (with_newline line) → (front ≡ [] → ¬ IsRingLine (with_newline line)) → number ≡ l.count → AsksNothingAt format bytes front number
+asks_nothing format bytes front line l to number h none no_ring e =
+    record { whole = (h.before, line ∷ h.more, h.lines, h.front_is); part = []; before = h.before; rest = line ∷ h.more; lines = h.lines; behind = append-nil front ∙ h.front_is; counted = e ∙ h.counted; stops = inl (refl, none); no_ring = λ first. no_ring (h.front_is ∙ ap (λ (l : List (List ℕ)). joined l) first) }
 
 not_short : (line : List ℕ) → 4096 < length line → IsShort (with_newline line) → ⊥
 not_short line long short = omega (arith, long, short, length-append line (10 ∷ []))
@@ -37,6 +38,7 @@ long_asks_nothing format bytes front number l =
       behind = append-nil front ∙ l.front_is;
       counted = l.counted;
       stops = inl (refl, λ pass head short is. not_short l.line l.long (omega (arith, short, asked_longer (with_newline l.line))));
+      no_ring = λ first. long_no_ring l.line l.long;
     }
 
 -- ---- a line that has to be an item's
@@ -50,17 +52,21 @@ lacks_long format bytes front number l = record { before = l.before; rest = l.li
 pub lacks_all : (format : Format) (bytes front : List ℕ) (count number : ℕ) → IsRead bytes front count → number ≡ suc count → LacksNext format bytes front number
 lacks_all format bytes front count number r e = record { before = r.0; rest = []; lines = subst (HasLines bytes) (sym (append-nil r.0)) r.1; behind = r.2; counted = e ∙ ap suc r.3; lacks = tt }
 
+some_behind : (front line items : List ℕ) → front ++ (with_newline line ++ items) ≡ [] → ⊥
+some_behind front line items none = omega (arith, ap length none, length-append front (with_newline line ++ items), length-append (with_newline line) items, some_line line)
+
 -- behind a Merge's first line and some of its items
 pub lacks_item : (format : Format) (bytes front line : List ℕ) (pass count number : ℕ) → IsFirstLines bytes front → IsHeadOf format pass (heads.Merge count) (asked_by (with_newline line)) → LacksOne format bytes (front ++ with_newline line) count number → AsksNothingAt format bytes front number
 lacks_item format bytes front line pass count number whole head x =
     let items : List ℕ = flat_map plus_text x.items in
+    let behind : front ++ (with_newline line ++ items) ≡ joined x.lacks.before = sym (append_assoc front (with_newline line) items) ∙ x.lacks.behind in
     record {
       whole = whole;
       part = with_newline line ++ items;
       before = x.lacks.before;
       rest = x.lacks.rest;
       lines = x.lacks.lines;
-      behind = sym (append_assoc front (with_newline line) items) ∙ x.lacks.behind;
+      behind = behind;
       counted = x.lacks.counted;
       stops = inr (record {
         pass = pass;
@@ -73,4 +79,5 @@ lacks_item format bytes front line pass count number whole head x =
         less = x.less;
         lacks = x.lacks.lacks;
       });
+      no_ring = λ first. absurd (some_behind front line items (behind ∙ ap (λ (l : List (List ℕ)). joined l) first));
     }

@@ -1,4 +1,5 @@
 pub mod AskingLemmas
+pub mod RingLemmas
 pub mod EntryLemmas
 pub mod BadLineLemmas
 pub mod StepLemmas

@@ -1,5 +1,5 @@
 -- A recording from entry to entry, and its end.
-use Rattle.std.proofs.Common.{◌≡◌, ℕ, suc, Bool, true, false, List, [], ◌∷◌, ◌++◌, Option, Some, Result, Ok, Err, inl, inr, ◌⊎◌, refl, sym, ap, subst, ◌∙◌, append_assoc, append-nil}
+use Rattle.std.proofs.Common.{◌≡◌, ◌≢◌, ℕ, suc, Bool, true, false, List, [], ◌∷◌, ◌++◌, length, Option, Some, Result, Ok, Err, inl, inr, ◌⊎◌, refl, sym, ap, subst, ◌∙◌, arith, append_assoc, append-nil, length-append}
 use Rattle.std.specs.Io.KnownBytes.{Appends}
 use Rattle.std.proofs.KnownBytes.{Appends-nil, Appends-trans}
 use Rattle.ds_content.specs.Content.{ContentRecord}
@@ -19,7 +19,7 @@ use Rattle.trace_record.specs.declared.form.Form.{Form}
 use Rattle.trace_record.specs.declared.form.Form.TheVariants as forms
 use Rattle.trace_record.specs.declared.recorder.Recorder.{Recorder}
 use Rattle.trace_record.specs.Asking.{IsFirstLines, IsAllLines, OpensWith}
-use Rattle.trace_record.specs.Reading.{Comes, ComesToNext, IsAtLine, IsOfInput, IsReady}
+use Rattle.trace_record.specs.Reading.{Comes, ComesToNext, GoesToNoRing, IsAtLine, IsOfInput, IsReady}
 use Rattle.trace_record.specs.Record.{IsRecord, IsBeforeFault, Records, StopsRecording, WritesBy, format_of, header_of}
 use Rattle.trace_record.specs.Running.{HasFailed, HasRun, Runs, RunsTo, WritesRest}
 use Rattle.trace_record.specs.Steps.{AddsEntry, FailsInEntry, OpensAs, Recorded}
@@ -101,6 +101,10 @@ module _ (known : Option (List ℕ)) (first : List ℕ) (had : Option (List ℕ)
 part_more : (had mid has : Option (List ℕ)) (sent waits : List ℕ) → Appends had mid sent → WritesPart mid has waits → WritesPart had has (sent ++ waits)
 part_more had mid has sent waits a p = (sent ++ p.0, p.1, ap (λ (l : List ℕ). sent ++ l) p.2 ∙ sym (append_assoc sent p.0 p.1), Appends-trans had mid has sent p.0 a p.3)
 
+some_more : (first asking more : List ℕ) → more ≢ [] → first ++ (asking ++ more) ≢ []
+some_more first asking [] some none = some refl
+some_more first asking (b ∷ more) some none = omega (arith, ap length none, length-append first (asking ++ b ∷ more), length-append asking (b ∷ more))
+
 -- it waits, and the input is behind the lines that ask it
 pub record IsBehind (known : Option (List ℕ)) (first : List ℕ) (had : Option (List ℕ)) (h : Header) (w : Recorder) (from has : Option (List ℕ)) (count : ℕ) : Type 0 where
   pub sent : List ℕ
@@ -111,6 +115,7 @@ pub record IsBehind (known : Option (List ℕ)) (first : List ℕ) (had : Option
   pub recorded : Recorded h (sent ++ w.output.items) asking state count
   pub stands : ContentStands w.store state
   pub at : (bytes : List ℕ) → known ≡ Some bytes → IsAt bytes (first ++ asking) w.lines from
+  pub some : first ++ asking ≢ []
 
 module _ (known : Option (List ℕ)) (first : List ℕ) (had : Option (List ℕ)) (h : Header) (w new : Recorder) (from to has : Option (List ℕ)) (next : Result Bool RecordFault) (count : ℕ) (r : Runs known first had h w from has next count) (there : next ≡ Ok true) where
   abbrev at_line : (bytes : List ℕ) → known ≡ Some bytes → IsAtLine bytes (first ++ r.asking) w.lines from
@@ -129,6 +134,7 @@ module _ (known : Option (List ℕ)) (first : List ℕ) (had : Option (List ℕ)
         recorded = subst (λ (z : Header). Recorded z (r.sent ++ new.output.items) (r.asking ++ a.more) a.new_state (suc count)) r.header (subst (λ (t : List ℕ). Recorded w.header t (r.asking ++ a.more) a.new_state (suc count)) text a.recorded);
         stands = a.stands;
         at = λ bytes k. subst (λ (f : List ℕ). IsAt bytes f new.lines to) (append_assoc first r.asking a.more) (a.over bytes (first ++ r.asking) (at_line bytes k));
+        some = some_more first r.asking a.more a.some;
       }
 
   -- none is
@@ -141,7 +147,7 @@ module _ (known : Option (List ℕ)) (first : List ℕ) (had : Option (List ℕ)
         state = r.state;
         written = r.written;
         recorded = subst (λ (l : List ℕ). Recorded h (r.sent ++ l) r.asking r.state count) (sym f.1.1) r.recorded;
-        input = λ bytes k. subst (λ (z : Header). IsBeforeFault z.format fault bytes (first ++ r.asking)) r.header (f.2 bytes (first ++ r.asking) (at_line bytes k));
+        input = λ bytes k. subst (λ (z : Header). IsBeforeFault z.format fault bytes (first ++ r.asking)) r.header (f.2 bytes (first ++ r.asking) (at_line bytes k) (λ none. r.no_ring none there));
       })
 
 module _ (known : Option (List ℕ)) (first : List ℕ) (had : Option (List ℕ)) (h : Header) (w : Recorder) (from has now : Option (List ℕ)) (count : ℕ) (b : IsBehind known first had h w from has count) where
@@ -172,14 +178,15 @@ module _ (known : Option (List ℕ)) (first : List ℕ) (had : Option (List ℕ)
         recorded = subst (λ (t : List ℕ). Recorded h t b.asking b.state count) text b.recorded;
         stands = subst (λ (c : ContentRecord). ContentStands c b.state) (sym store) b.stands;
         comes = λ bytes k. subst (λ (l : LinesContent). ComesToNext bytes (first ++ b.asking) l to next) (sym there) (comes bytes (first ++ b.asking) (b.at bytes k));
+        no_ring = λ none. absurd (b.some none);
       }
 
 -- ---- from the beginning to the end
 
 -- before the first entry the header waits
-pub runs_first : (known : Option (List ℕ)) (first : List ℕ) (had : Option (List ℕ)) (form : Form) (ring : ℕ) (lines : LinesContent) (w : Recorder) (from : Option (List ℕ)) (next : Result Bool RecordFault) → OpensAs lines form ring w → ((bytes : List ℕ) → known ≡ Some bytes → ComesToNext bytes first lines from next) →
+pub runs_first : (known : Option (List ℕ)) (first : List ℕ) (had : Option (List ℕ)) (form : Form) (ring : ℕ) (lines : LinesContent) (w : Recorder) (from : Option (List ℕ)) (next : Result Bool RecordFault) → OpensAs lines form ring w → ((bytes : List ℕ) → known ≡ Some bytes → ComesToNext bytes first lines from next) → (first ≡ [] → GoesToNoRing lines next) →
     Runs known first had (header_of form ring) w from had next 0
-runs_first known first had form ring lines w from next o comes =
+runs_first known first had form ring lines w from next o comes no_ring =
     record {
       sent = [];
       asking = [];
@@ -189,6 +196,7 @@ runs_first known first had form ring lines w from next o comes =
       recorded = subst (λ (t : List ℕ). Recorded (header_of form ring) t [] (opened_by (header_of form ring)) 0) (sym o.output_is) (recorded_none (header_of form ring) o.is_header);
       stands = o.stands;
       comes = λ bytes k. subst (λ (f : List ℕ). ComesToNext bytes f w.lines from next) (sym (append-nil first)) (subst (λ (l : LinesContent). ComesToNext bytes first l from next) (sym o.lines_are) (comes bytes k));
+      no_ring = λ none. subst (λ (l : LinesContent). GoesToNoRing l next) (sym o.lines_are) (no_ring (sym (append-nil first) ∙ none));
     }
 
 is_record : (form : Form) (ring : ℕ) (first asking text : List ℕ) (s : State) (count : ℕ) → OpensWith first ring → Recorded (header_of form ring) text asking s count → IsRecord form (first ++ asking) text count

@@ -1,5 +1,5 @@
 -- The parts of an entry, one after the other.
-use Rattle.std.proofs.Common.{◌≡◌, ℕ, ◌+◌, ◌<◌, List, [], ◌∷◌, ◌++◌, length, Option, Result, Ok, Err, refl, sym, ap, subst, ◌∙◌, arith, append_assoc, append-nil, length-append}
+use Rattle.std.proofs.Common.{◌≡◌, ◌≢◌, ℕ, ◌+◌, ◌<◌, List, [], ◌∷◌, ◌++◌, length, Option, Result, Ok, Err, refl, sym, ap, subst, ◌∙◌, arith, append_assoc, append-nil, length-append}
 use Rattle.std.specs.List.{All, flat_map}
 use Rattle.std.specs.Result.{IfErr, IsErrAnd, OnErr}
 use Rattle.std.proofs.lemmas.Result.{err_from_is_err_and}
@@ -27,7 +27,7 @@ use Rattle.trace_words.specs.Text.{TraceEntry, MayAsk, MayMerge, asked_text, ent
 use Rattle.trace_record.specs.declared.fault.RecordFault.{RecordFault}
 use Rattle.trace_record.specs.declared.fault.RecordFault.TheVariants.{BadLine, ReadFault, WriteFault, NoRoom}
 use Rattle.trace_record.specs.declared.recorder.Recorder.{Recorder}
-use Rattle.trace_record.specs.Asking.{AsksNothing, IsFirstLines, asked_by}
+use Rattle.trace_record.specs.Asking.{AsksNothing, IsFirstLines, IsRingLine, asked_by}
 use Rattle.trace_record.specs.Reading.{ComesToNext, IsAtLine}
 use Rattle.trace_record.specs.Record.{IsBeforeFault}
 use Rattle.trace_record.specs.Steps.{AddedEntry, AddedLines, AddsEntry, AddsItem, AddsItems, AddsLines, AnswersAsked, FailsAtHead, MissesItem, FailsInEntry, MissesItems, MissesLines, GoesOver, HeadsFrom, IsLackingNext, IsLackingOne, KeepsOutput, KeepsRun, Recorded, AnswersIn}
@@ -148,6 +148,9 @@ module _ (w read whole new : Recorder) (from to : Option (List ℕ)) (head : Hea
   lines_asked : asked_by (line ++ l.more) ≡ asked_text hf.pass asked
   lines_asked = asked_behind line l.more (omega (arith, ap length ends.parts, length-append ends.front (10 ∷ []))) ∙ ap (λ (t : List ℕ). t ++ l.more) (sym hf.begun) ∙ sym l.whole
 
+  lines_some : line ++ l.more ≢ []
+  lines_some none = omega (arith, ap length none, length-append line l.more, ap length ends.parts, length-append ends.front (10 ∷ []))
+
   lines_over : new.lines ≡ whole.lines → (bytes front : List ℕ) → IsAtLine bytes front w.lines from → IsAt bytes (front ++ (line ++ l.more)) new.lines to
   lines_over stays bytes front a =
       let at = subst (λ (t : List ℕ). IsAt bytes (front ++ t) w.lines from) (sym a.1) a.2.then in
@@ -166,6 +169,7 @@ module _ (w read whole new : Recorder) (from to : Option (List ℕ)) (head : Hea
         added = entry_text h.limits e;
         more = line ++ l.more;
         new_state = q.new_state;
+        some = lines_some;
         recorded = recorded_more h text asking (line ++ l.more) s q.new_state count e r (record { pass = hf.is.0; asked = may }) (q.command, q.asks, step) lines_asked;
         stands = q.stands;
         output = q.output ∙ ap (λ (t : List ℕ). whole.output.items ++ t) (sym told) ∙ ap (λ (t : List ℕ). t ++ entry_text h.limits e) keeps.1;
@@ -194,7 +198,7 @@ entry_lacks w read new from head hf fault f =
     let is = subst (λ (x : Head). IsHeadOf w.header.format hf.pass x (asked_by w.lines.line)) f.1 hf.is in (
       f.2.0,
       (keep.0, keep.1),
-      λ bytes front a.
+      λ bytes front a no_ring.
           let at = subst (λ (z : LinesContent). IsAt bytes (front ++ with_newline a.0) z from) (sym hf.stays) a.2.then in
           lacks_by w.header.format bytes front a.0 hf.pass fault f.0 (front_there bytes front w.lines from a) (subst (λ (t : List ℕ). IsHeadOf w.header.format hf.pass (heads.Merge f.0) (asked_by t)) a.1 is)
           (subst (λ (h : Header). IsLackingOne h.format bytes (front ++ with_newline a.0) f.0 fault) hf.keeps.0 (f.2.2 bytes (front ++ with_newline a.0) at)),
@@ -203,12 +207,12 @@ entry_lacks w read new from head hf fault f =
 -- the first line asks nothing
 pub entry_unread : (w new : Recorder) (from : Option (List ℕ)) (fault : RecordFault) → FailsAtHead w new fault → FailsInEntry w from new fault
 entry_unread w new from (BadLine number place) f =
-    (tt, (f.1.0, f.1.1), λ bytes front a. asks_nothing w.header.format bytes front a.0 w.lines from number a.2 (subst (AsksNothing w.header.format) a.1 f.0.1) f.0.0)
-entry_unread w new from NoRoom f = (tt, (f.1.0, f.1.1), λ bytes front a. front_there bytes front w.lines from a)
+    (tt, (f.1.0, f.1.1), λ bytes front a no_ring. asks_nothing w.header.format bytes front a.0 w.lines from number a.2 (subst (AsksNothing w.header.format) a.1 f.0.1) (λ first is. no_ring first (subst IsRingLine (sym a.1) is)) f.0.0)
+entry_unread w new from NoRoom f = (tt, (f.1.0, f.1.1), λ bytes front a no_ring. front_there bytes front w.lines from a)
 entry_unread w new from ReadFault f = absurd f.0
 entry_unread w new from WriteFault f = absurd f.0
 
 -- memory is wanting for the reply
 pub entry_unanswered : (w mid new : Recorder) (from : Option (List ℕ)) (fault : RecordFault) → fault ≡ NoRoom → KeepsRun w mid → KeepsOutput mid new → FailsInEntry w from new fault
 entry_unanswered w mid new from fault e keep kept =
-    subst (FailsInEntry w from new) (sym e) (tt, (kept.0 ∙ keep.0, kept.1 ∙ keep.1), λ bytes front a. front_there bytes front w.lines from a)
+    subst (FailsInEntry w from new) (sym e) (tt, (kept.0 ∙ keep.0, kept.1 ∙ keep.1), λ bytes front a no_ring. front_there bytes front w.lines from a)

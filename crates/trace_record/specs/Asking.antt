@@ -3,6 +3,7 @@ use Rattle.std.specs.Prelude.{◌≡◌, ℕ, suc, ◌<◌, ◌≤◌, ◌⊎◌
 use Rattle.std.specs.Char.{is_ascii_digit}
 use Rattle.std.specs.List.{All, flat_map}
 use Rattle.ds_entry.specs.declared.item.Item.{Item}
+use Rattle.ds_feed.specs.Kept.{IsRing}
 use Rattle.ds_line.specs.Part.{texts}
 use Rattle.ds_lines.specs.Lines.{HasLines, with_newline, joined}
 use Rattle.ds_names.specs.Limits.{most_items}
@@ -36,6 +37,10 @@ ring_text ring = texts (command_parts (Ring ring))
 abbrev pub OpensWith : List ℕ → ℕ → Type 0
 OpensWith first ring = (first ≡ ring_text ring) ⊎ ((first ≡ []) × (ring ≡ 256))
 
+-- a line that says so of a journal that can be
+abbrev pub IsRingLine : List ℕ → Type 0
+IsRingLine line = (ring : ℕ) × IsRing ring × (line ≡ ring_text ring)
+
 -- ---- the lines of the input, the last of which may have no newline
 
 -- all of them
@@ -61,6 +66,11 @@ abbrev pub BeginsNoEntry : Format → List (List ℕ) → Type 0
 BeginsNoEntry format [] = ⊥
 BeginsNoEntry format (line ∷ lines) = AsksNothing format (with_newline line)
 
+-- the first of the lines isn't `ring N`
+abbrev pub BeginsNoRing : List (List ℕ) → Type 0
+BeginsNoRing [] = Unit {0}
+BeginsNoRing (line ∷ lines) = ¬ IsRingLine (with_newline line)
+
 -- the first of the lines is no item's, or there is none
 abbrev pub BeginsNoItem : Format → List (List ℕ) → Type 0
 BeginsNoItem format [] = Unit {0}
@@ -83,7 +93,7 @@ abbrev pub GoesNotOn : Format → List ℕ → List (List ℕ) → Type 0
 GoesNotOn format part rest = ((part ≡ []) × BeginsNoEntry format rest) ⊎ LacksItem format part rest
 
 -- The line of this number is the first that asks nothing: before it the lines of whole entries stand, the front, and perhaps a part
--- of one.
+-- of one. The first line of all isn't bad where it is `ring N`.
 pub record AsksNothingAt (format : Format) (bytes front : List ℕ) (number : ℕ) : Type 0 where
   pub whole : IsFirstLines bytes front
   pub part : List ℕ
@@ -93,3 +103,4 @@ pub record AsksNothingAt (format : Format) (bytes front : List ℕ) (number : �
   pub behind : front ++ part ≡ joined before
   pub counted : number ≡ suc (length before)
   pub stops : GoesNotOn format part rest
+  pub no_ring : before ≡ [] → BeginsNoRing rest

@@ -1,5 +1,5 @@
 -- Going from line to line of an input, wherever in whatever input that is. `from` and `to` are what the reader has before and after.
-use Rattle.std.specs.Prelude.{◌≡◌, ℕ, true, false, Bool, List, [], Option, Result, Ok, Err}
+use Rattle.std.specs.Prelude.{◌≡◌, ℕ, true, false, Bool, List, [], Option, None, Some, Result, Ok, Err}
 use Rattle.ds_lines.specs.Lines.{EndsLine, with_newline}
 use Rattle.ds_lines.specs.Reading.{LinesContent}
 use Rattle.trace_walk.specs.Walking.{IsAt, IsRead, IsLong, HasLine, IsShort}
@@ -9,7 +9,7 @@ use Rattle.trace_words.specs.Head.{IsHeadOf}
 use Rattle.trace_record.specs.declared.begin.Beginning.{Beginning}
 use Rattle.trace_record.specs.declared.fault.RecordFault.{RecordFault}
 use Rattle.trace_record.specs.declared.fault.RecordFault.TheVariants.{BadLine, WriteFault, NoRoom}
-use Rattle.trace_record.specs.Asking.{OpensWith, IsFirstLines, AsksNothing}
+use Rattle.trace_record.specs.Asking.{OpensWith, IsFirstLines, IsRingLine, AsksNothing, ring_text}
 
 -- a fault of the input, or want of memory
 abbrev pub IsOfInput : RecordFault → Type 0
@@ -37,9 +37,19 @@ IsReady new (Ok true) = EndsLine new.line × IsShort new.line
 IsReady new (Ok false) = Unit {0}
 IsReady new (Err fault) = IsOfInput fault
 
--- Behind a first line that says how many items the journal keeps, or behind nothing, it went to the next line.
+-- the line that is gone to, if one is, isn't `ring N`
+abbrev pub GoesToNoRing : LinesContent → Result Bool RecordFault → Type 0
+GoesToNoRing new next = next ≡ Ok true → ¬ IsRingLine new.line
+
+-- how many items the journal keeps by the line that is gone to, if one is, and if it is `ring N`
+abbrev pub SaysRing : Result Bool RecordFault → List ℕ → Option ℕ → Type 0
+SaysRing next line (Some ring) = (next ≡ Ok true) × (line ≡ ring_text ring)
+SaysRing next line None = next ≡ Ok true → ¬ IsRingLine line
+
+-- Behind a first line that says how many items the journal keeps, or behind nothing, it went to the next line. Behind nothing that
+-- line doesn't say it.
 abbrev pub BeginsInput : LinesContent → Option (List ℕ) → LinesContent → Option (List ℕ) → Beginning → Type 0
-BeginsInput old from new to b = (first : List ℕ) × OpensWith first b.ring × ((bytes : List ℕ) → IsAt bytes [] old from → ComesToNext bytes first new to b.next)
+BeginsInput old from new to b = (first : List ℕ) × OpensWith first b.ring × (first ≡ [] → GoesToNoRing new b.next) × ((bytes : List ℕ) → IsAt bytes [] old from → ComesToNext bytes first new to b.next)
 
 -- what a line asks, in some pass
 abbrev pub IsHeadBehind : Format → List ℕ → Head → Type 0

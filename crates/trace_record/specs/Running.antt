@@ -8,13 +8,14 @@ use Rattle.trace_words.specs.declared.header.Header.{Header}
 use Rattle.trace_record.specs.declared.fault.RecordFault.{RecordFault}
 use Rattle.trace_record.specs.declared.fault.RecordFault.TheVariants.{WriteFault}
 use Rattle.trace_record.specs.declared.recorder.Recorder.{Recorder}
-use Rattle.trace_record.specs.Reading.{ComesToNext}
+use Rattle.trace_record.specs.Reading.{ComesToNext, GoesToNoRing}
 use Rattle.trace_record.specs.declared.form.Form.{Form}
 use Rattle.trace_record.specs.Asking.{IsFirstLines, IsAllLines, OpensWith}
 use Rattle.trace_record.specs.Record.{IsBeforeFault, Records, StopsRecording, header_of}
 use Rattle.trace_record.specs.Steps.{Recorded}
 
--- Of the entries so far a front is written, and the rest waits; and this came of going to the next line.
+-- Of the entries so far a front is written, and the rest waits; and this came of going to the next line. Where that is the first line
+-- of all, it isn't `ring N`.
 pub record Runs (known : Option (List ℕ)) (first : List ℕ) (had : Option (List ℕ)) (h : Header) (w : Recorder) (from has : Option (List ℕ)) (next : Result Bool RecordFault) (count : ℕ) : Type 0 where
   pub sent : List ℕ
   pub asking : List ℕ
@@ -24,6 +25,7 @@ pub record Runs (known : Option (List ℕ)) (first : List ℕ) (had : Option (Li
   pub recorded : Recorded h (sent ++ w.output.items) asking state count
   pub stands : ContentStands w.store state
   pub comes : (bytes : List ℕ) → known ≡ Some bytes → ComesToNext bytes (first ++ asking) w.lines from next
+  pub no_ring : first ++ asking ≡ [] → GoesToNoRing w.lines next
 
 -- Of the entries of some lines a front is written, and the rest waits.
 pub record HasRun (known : Option (List ℕ)) (first : List ℕ) (had : Option (List ℕ)) (h : Header) (waits : List ℕ) (has : Option (List ℕ)) (Holds : List ℕ → List ℕ → Type 0) (count : ℕ) : Type 0 where

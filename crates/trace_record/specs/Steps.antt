@@ -1,5 +1,5 @@
 -- What each part of a recording does, wherever in whatever input it is. `from` and `to` are what the reader has before and after it.
-use Rattle.std.specs.Prelude.{◌≡◌, ℕ, suc, ◌<◌, List, [], ◌∷◌, ◌++◌, length, Option, Some}
+use Rattle.std.specs.Prelude.{◌≡◌, ◌≢◌, ℕ, suc, ◌<◌, List, [], ◌∷◌, ◌++◌, length, Option, Some}
 use Rattle.std.specs.List.{All, flat_map}
 use Rattle.ds_content.specs.Stands.{ContentStands}
 use Rattle.ds_entry.specs.declared.item.Item.{Item}
@@ -24,7 +24,7 @@ use Rattle.trace_record.specs.declared.fault.RecordFault.{RecordFault}
 use Rattle.trace_record.specs.declared.fault.RecordFault.TheVariants.{BadLine, WriteFault}
 use Rattle.trace_record.specs.declared.form.Form.{Form}
 use Rattle.trace_record.specs.declared.recorder.Recorder.{Recorder}
-use Rattle.trace_record.specs.Asking.{AskAll, BeginsNoItem, asked_by}
+use Rattle.trace_record.specs.Asking.{AskAll, BeginsNoItem, IsRingLine, asked_by}
 use Rattle.trace_record.specs.Reading.{IsAtLine, IsBadHead, IsOfInput}
 use Rattle.trace_record.specs.Record.{IsBeforeFault, header_of}
 
@@ -173,6 +173,7 @@ pub record AddedEntry (old : Recorder) (from : Option (List ℕ)) (new : Recorde
   pub added : List ℕ
   pub more : List ℕ
   pub new_state : State
+  pub some : more ≢ []
   pub recorded : Recorded old.header (text ++ added) (asking ++ more) new_state (suc count)
   pub stands : ContentStands new.store new_state
   pub output : new.output.items ≡ old.output.items ++ added
@@ -181,6 +182,7 @@ pub record AddedEntry (old : Recorder) (from : Option (List ℕ)) (new : Recorde
 abbrev pub AddsEntry : Recorder → Option (List ℕ) → Recorder → Option (List ℕ) → Type 0
 AddsEntry old from new to = (new.header ≡ old.header) × ((text asking : List ℕ) (s : State) (count : ℕ) → Recorded old.header text asking s count → ContentStands old.store s → AddedEntry old from new to text asking count)
 
--- none does
+-- none does; a first line of all that is `ring N` isn't read as an entry's
 abbrev pub FailsInEntry : Recorder → Option (List ℕ) → Recorder → RecordFault → Type 0
-FailsInEntry old from new fault = IsOfInput fault × KeepsOutput old new × ((bytes front : List ℕ) → IsAtLine bytes front old.lines from → IsBeforeFault old.header.format fault bytes front)
+FailsInEntry old from new fault =
+    IsOfInput fault × KeepsOutput old new × ((bytes front : List ℕ) → IsAtLine bytes front old.lines from → (front ≡ [] → ¬ IsRingLine old.lines.line) → IsBeforeFault old.header.format fault bytes front)

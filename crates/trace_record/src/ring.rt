@@ -1,9 +1,9 @@
 //! The first line of an input, which may say how many items the journal keeps.
 
-ghost use Rattle.std.specs.Prelude.{◌≡◌, true, IfOk, IfSome};
+ghost use Rattle.std.specs.Prelude.{◌≡◌, ◌↔◌, ℕ, true, IfOk};
 ghost use Rattle.ds_lines.specs.Lines.{EndsLine};
 ghost use Rattle.ds_words.specs.declared.command.ScriptCommand.{ScriptCommand};
-ghost use Rattle.trace_record.specs.Asking.{ring_text};
+ghost use Rattle.trace_record.specs.Reading.{SaysRing};
 
 use crate::fault::RecordFault;
 use ds_names::NoRoom;
@@ -20,7 +20,7 @@ pub(crate) fn ring_of(
     line: &[u8],
 ) -> Result<Option<u32>, NoRoom>
     requires { next ≡ Ok true → EndsLine line.now }
-    ensures { IfOk result (λ ring. IfSome ring (λ n. (next ≡ Ok true) × (line.now ≡ ring_text n))) }
+    ensures { IfOk result (SaysRing next line.now) }
 {
     match next {
         Ok(true) => {}
@@ -31,7 +31,7 @@ pub(crate) fn ring_of(
 
 // How many items the line that was read says, if it is `ring N`.
 fn ring_asked(read: &Result<ScriptCommand, CommandFault>) -> Result<Option<u32>, NoRoom>
-    ensures { IfOk result (λ ring. IfSome ring (λ n. read.now ≡ Ok (ScriptCommand.Ring n))) }
+    ensures { IfOk result (λ ring. (n : ℕ) → (ring ≡ Some n) ↔ (read.now ≡ Ok (ScriptCommand.Ring n))) }
 {
     match read {
         Ok(ScriptCommand::Ring { ring }) => Ok(Some(*ring)),

@@ -1,24 +1,28 @@
-use Rattle.std.proofs.Common.{◌≡◌, ◌∙◌, [], ℕ, List, Bool, true, Result, Ok, inl, inr, refl, sym, subst}
+use Rattle.std.proofs.Common.{◌∙◌, [], ℕ, List, Bool, Result, inl, inr, refl, sym, subst}
 use Rattle.ds_lines.specs.Lines.{EndsLine, with_newline}
-use Rattle.trace_walk.proofs.FaultLemmas.{some_at}
 use Rattle.trace_record.specs.declared.fault.RecordFault.{RecordFault}
-use Rattle.trace_record.specs.Asking.{ring_text}
+use Rattle.trace_record.specs.Asking.{IsRingLine}
 use Rattle.trace_record.specs.Causes.{ReadsLead}
-use Rattle.trace_record.specs.Reading.{ComesToNext, IsReady}
+use Rattle.trace_record.specs.Reading.{ComesToNext, IsReady, SaysRing}
+use Rattle.trace_record.proofs.RingLemmas.{ring_some}
 use Rattle.trace_record.proofs.begin.begin.Goals as goal
 
 pub ring_of-requires : goal.ring_of-requires
 ring_of-requires g c = λ there. let ready = subst (IsReady c.next_line-next.new.lines) there c.next_line-next.ensures.ready in subst EndsLine (sym c.line.ensures) ready.0
 
 pub returns-in_default-clause-begins : goal.returns-in_default-clause-begins
-returns-in_default-clause-begins g c = ([], inr (refl, refl), λ bytes at. c.next_line-next.ensures.comes bytes [] at)
+returns-in_default-clause-begins g c =
+    let none = subst (SaysRing c.next_line-next.result c.line.result.now) c.in_default.is c.in_ok-ring.ensures in
+    ([], inr (refl, refl), λ _ there is. none there (subst IsRingLine (sym c.line.ensures) is), λ bytes at. c.next_line-next.ensures.comes bytes [] at)
 
 pub returns-clause-begins : goal.returns-clause-begins
 returns-clause-begins g c =
     let line = c.next_line-next.new.lines.line in
-    let ring = some_at c.in_ok-ring.field-0 c.in-Some.ring (λ (n : ℕ). (c.next_line-next.result ≡ Ok true) × (c.line.result.now ≡ ring_text n)) c.in-Some.is c.in_ok-ring.ensures in (
+    let ring = subst (SaysRing c.next_line-next.result c.line.result.now) c.in-Some.is c.in_ok-ring.ensures in
+    let opens = sym c.line.ensures ∙ ring.1 in (
       line,
-      inl (sym c.line.ensures ∙ ring.1),
+      inl opens,
+      λ none. absurd (ring_some c.in-Some.ring (sym opens ∙ none)),
       λ bytes at.
           let mid = g.R.Source.remaining c.next_line-next.new.reader in
           let a = subst (λ (r : Result Bool RecordFault). ComesToNext bytes [] c.next_line-next.new.lines mid r) ring.0 (c.next_line-next.ensures.comes bytes [] at) in
@@ -30,7 +34,7 @@ returns-in_default-clause-reads g c = λ first led. c.next_line-next.ensures.rea
 
 pub returns-clause-reads : goal.returns-clause-reads
 returns-clause-reads g c =
-    let ring = some_at c.in_ok-ring.field-0 c.in-Some.ring (λ (n : ℕ). (c.next_line-next.result ≡ Ok true) × (c.line.result.now ≡ ring_text n)) c.in-Some.is c.in_ok-ring.ensures in
+    let ring = subst (SaysRing c.next_line-next.result c.line.result.now) c.in-Some.is c.in_ok-ring.ensures in
     λ first led.
     c.next_line-next-2.ensures.reads first
     (subst (λ (r : Result Bool RecordFault). ReadsLead g.R.Source r first c.next_line-next.new.reader c.next_line-next.new.lines.reads) ring.0 (c.next_line-next.ensures.reads first led))
