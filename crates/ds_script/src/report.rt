@@ -3,7 +3,7 @@
 use ds_line::Expected;
 
 /// What becomes of a script at a line that is no command's.
-#[derive(Clone, Copy, Debug, PartialEq, Eq)]
+#[derive(Clone, Copy, PartialEq, Eq)]
 pub enum BadLines {
     /// The line ends it, and no answer is written for it.
     End,
@@ -12,7 +12,7 @@ pub enum BadLines {
 }
 
 /// A line that is no command's.
-#[derive(Clone, Copy, Debug)]
+#[derive(Clone, Copy)]
 pub struct BadLine<'a> {
     /// Its number, from 1.
     pub number: u64,
@@ -31,7 +31,7 @@ pub trait Report {
 }
 
 /// Whoever isn't told.
-#[derive(Clone, Copy, Debug)]
+#[derive(Clone, Copy)]
 pub(crate) struct Nobody;
 
 impl Report for Nobody {

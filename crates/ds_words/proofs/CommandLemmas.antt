@@ -19,18 +19,10 @@ use Rattle.ds_words.specs.declared.word.Word.TheVariants as words
 use Rattle.ds_words.specs.declared.word.Word.{Word as CommandWord}
 use Rattle.ds_words.specs.Command.{command_word, word_of, behind_word, command_parts, IsCommand, IsCommandFault}
 use Rattle.ds_words.specs.Pieces.{taken_by}
-use Rattle.ds_words.specs.Words.{text_of}
+use Rattle.ds_words.specs.Words.{all_words, text_of}
 use Rattle.ds_words.proofs.StandLemmas.{command_stands, command_parted, newline_last}
 
 -- ---- words
-
--- the words, of which the first that is spelled so is picked
-abbrev all_words : List CommandWord
-all_words =
-    words.Offer ∷ words.Show ∷ words.All ∷ words.Publish ∷ words.Delete ∷ words.Sweep ∷ words.Retrieve ∷ words.NameOf ∷ words.Subscribe
-    ∷ words.Check ∷ words.Map ∷ words.Entries ∷ words.Ring ∷ words.Side ∷ words.Clear ∷ words.Restart ∷ words.Deliver ∷ words.Since
-    ∷ words.Snapshot ∷ words.Page ∷ words.Settings ∷ words.Service ∷ words.Death ∷ words.Beat ∷ words.Tick ∷ words.Assign ∷ words.Follow
-    ∷ words.Submit ∷ words.Reply ∷ []
 
 abbrev alike : List ℕ → List ℕ → Bool
 alike [] [] = true
@@ -38,6 +30,7 @@ alike [] (y ∷ ys) = false
 alike (x ∷ xs) [] = false
 alike (x ∷ xs) (y ∷ ys) = (x == y) && alike xs ys
 
+-- the first of the words that is spelled so
 abbrev picked : List ℕ → List CommandWord → CommandWord
 picked text [] = words.Show
 picked text (w ∷ ws) = if alike (text_of w) text then w else picked text ws

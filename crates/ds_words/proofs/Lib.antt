@@ -1,3 +1,4 @@
+pub mod WordLemmas
 pub mod ItemLemmas
 pub mod PieceLemmas
 pub mod QueryLemmas
@@ -10,6 +11,7 @@ pub mod ScopeLemmas
 pub mod RangeLemmas
 pub mod SlotLemmas
 pub mod TableLemmas
+pub mod LastLemmas
 pub mod OfferLemmas
 pub mod StandLemmas
 pub mod CommandLemmas

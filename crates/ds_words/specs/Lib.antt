@@ -15,3 +15,4 @@ pub mod Later
 pub mod Event
 pub mod Proper
 pub mod Table
+pub mod Last

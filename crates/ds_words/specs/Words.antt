@@ -1,5 +1,5 @@
 -- The words that commands begin with.
-use Rattle.std.specs.Prelude.{ℕ, List, codes}
+use Rattle.std.specs.Prelude.{ℕ, List, [], ◌∷◌, codes}
 use Rattle.ds_words.specs.declared.word.Word.{Word}
 use Rattle.ds_words.specs.declared.word.Word.TheVariants as words
 
@@ -34,6 +34,14 @@ text_of words.Assign = codes "assign"
 text_of words.Follow = codes "follow"
 text_of words.Submit = codes "submit"
 text_of words.Reply = codes "reply"
+
+-- the words, each once
+abbrev pub all_words : List Word
+all_words =
+    words.Offer ∷ words.Show ∷ words.All ∷ words.Publish ∷ words.Delete ∷ words.Sweep ∷ words.Retrieve ∷ words.NameOf ∷ words.Subscribe
+    ∷ words.Check ∷ words.Map ∷ words.Entries ∷ words.Ring ∷ words.Side ∷ words.Clear ∷ words.Restart ∷ words.Deliver ∷ words.Since
+    ∷ words.Snapshot ∷ words.Page ∷ words.Settings ∷ words.Service ∷ words.Death ∷ words.Beat ∷ words.Tick ∷ words.Assign ∷ words.Follow
+    ∷ words.Submit ∷ words.Reply ∷ []
 
 -- the word is of a command to a world
 abbrev pub IsOfWorld : Word → Type 0

@@ -2,9 +2,10 @@
 
 ghost use Rattle.std.specs.Prelude.{◌≡◌, false, IfOk, OnErr};
 ghost use Rattle.ds_words.specs.Command.{is_plain};
-ghost use Rattle.ds_words.specs.Event.{event_of};
+ghost use Rattle.ds_words.specs.Event.{asked_of, event_of};
 
 use crate::command::ScriptCommand;
+use ds_machine::Command;
 use ds_names::NoRoom;
 use ds_replica::{Event, Side};
 use std::alloc::Global;
@@ -32,13 +33,18 @@ impl ScriptCommand {
                 holder,
                 count: widened(count),
             })),
-            asking => {
-                let Some(command) = asking.into_store_command(alloc)? else {
-                    return Ok(None);
-                };
-                Ok(Some(Event::Ask { side, command }))
-            }
+            asking => Ok(asked(side, asking.into_store_command(alloc)?)),
         }
+    }
+}
+
+// The event that the store of the side is asked a command, if there is one.
+fn asked(side: Side, command: Option<Command>) -> Option<Event>
+    ensures { result ≡ asked_of side command }
+{
+    match command {
+        Some(command) => Some(Event::Ask { side, command }),
+        None => None,
     }
 }
 

@@ -159,7 +159,6 @@ pub(crate) fn map_at(alloc: Global, rest: &mut Rest) -> Result<ScriptCommand, Pa
 pub(crate) fn entries_at(rest: &mut Rest) -> Result<ScriptCommand, PartFault>
     ensures { TakesCommand words.Entries rest.old.bytes.now result }
 {
-    let map = rest.place(Expected::Map)?;
-    rest.end()?;
+    let map = rest.last_place(Expected::Map)?;
     Ok(ScriptCommand::Entries { map })
 }

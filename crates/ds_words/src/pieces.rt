@@ -4,6 +4,7 @@ ghost use Rattle.std.specs.Prelude.{◌≡◌, ◌≢◌, ◌∷◌, List, ℕ, 
 ghost use Rattle.ds_words.specs.Command.{initial_word, mode_word};
 ghost use Rattle.ds_line.specs.Piece.{Found, StopsIn};
 ghost use Rattle.ds_line.specs.declared.part_fault.PartFault.TheVariants.{BadPart, NoRoom};
+ghost use Rattle.ds_words.specs.Last.{a_last_place, FindsLast};
 ghost use Rattle.ds_words.specs.Pieces.{an_endpoint, an_initial, a_mode, a_name, a_kind, a_key, a_generation, a_seq, a_version, a_number, a_place, a_kinds, a_value, ValueWantsRoom, an_end};
 
 use ds_entry::Value;
@@ -201,6 +202,17 @@ impl Rest<'_> {
             return Err(stop_at(self.bytes));
         };
         self.bytes = rest;
+        Ok(number)
+    }
+
+    /// Reads a number below 2^64 and the newline behind it.
+    pub fn last_place(&mut self, expected: Expected) -> Result<u64, PartFault>
+        ensures found { IfOk result (λ n. FindsLast n self.old.bytes.now self.new.bytes.now) }
+        ensures stop { IfErr result (λ stop. StopsIn a_last_place stop self.old.bytes.now) }
+        ensures room { IfErr result (λ stop. stop ≢ NoRoom) }
+    {
+        let number = self.place(expected)?;
+        self.end()?;
         Ok(number)
     }
 

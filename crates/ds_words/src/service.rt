@@ -3,7 +3,7 @@
 use driver_tables::FileClass;
 
 /// What RS is asked for a service, as MINIX 3's `service` command asks it.
-#[derive(Clone, Copy, Debug, PartialEq, Eq)]
+#[derive(Clone, Copy)]
 pub enum Request {
     /// `up`: to start it.
     Up,
@@ -16,7 +16,7 @@ pub enum Request {
 }
 
 /// What a driver drives.
-#[derive(Clone, Copy, Debug, PartialEq, Eq)]
+#[derive(Clone, Copy)]
 pub enum Device {
     /// `file MAJOR block` or `file MAJOR character`: a major device of the file server.
     File { major: u8, class: FileClass },
@@ -25,7 +25,7 @@ pub enum Device {
 }
 
 /// The server whose table is meant.
-#[derive(Clone, Copy, Debug, PartialEq, Eq)]
+#[derive(Clone, Copy)]
 pub enum Server {
     /// `file`: the file server.
     File,

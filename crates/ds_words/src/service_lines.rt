@@ -26,8 +26,7 @@ pub(crate) fn service_at(rest: &mut Rest) -> Result<ScriptCommand, PartFault>
 {
     let request = rest.request()?;
     let label = rest.name(Expected::Label)?;
-    let tick = rest.place(Expected::Tick)?;
-    rest.end()?;
+    let tick = rest.last_place(Expected::Tick)?;
     Ok(ScriptCommand::Service {
         request,
         label,
@@ -41,8 +40,7 @@ pub(crate) fn death_at(rest: &mut Rest) -> Result<ScriptCommand, PartFault>
 {
     let endpoint = rest.endpoint(Expected::Endpoint)?;
     let cause = rest.place(Expected::Cause)?;
-    let tick = rest.place(Expected::Tick)?;
-    rest.end()?;
+    let tick = rest.last_place(Expected::Tick)?;
     Ok(ScriptCommand::Death {
         endpoint,
         cause,
@@ -55,8 +53,7 @@ pub(crate) fn beat_at(rest: &mut Rest) -> Result<ScriptCommand, PartFault>
     ensures { TakesCommand words.Beat rest.old.bytes.now result }
 {
     let endpoint = rest.endpoint(Expected::Endpoint)?;
-    let tick = rest.place(Expected::Tick)?;
-    rest.end()?;
+    let tick = rest.last_place(Expected::Tick)?;
     Ok(ScriptCommand::Beat { endpoint, tick })
 }
 
@@ -64,7 +61,6 @@ pub(crate) fn beat_at(rest: &mut Rest) -> Result<ScriptCommand, PartFault>
 pub(crate) fn tick_at(rest: &mut Rest) -> Result<ScriptCommand, PartFault>
     ensures { TakesCommand words.Tick rest.old.bytes.now result }
 {
-    let tick = rest.place(Expected::Tick)?;
-    rest.end()?;
+    let tick = rest.last_place(Expected::Tick)?;
     Ok(ScriptCommand::Tick { tick })
 }

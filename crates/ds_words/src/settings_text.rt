@@ -8,7 +8,7 @@ use std::marker::Model;
 
 /// What stands behind `settings` and a space: any bytes but a newline. Whether they are a settings text is judged by whoever
 /// reads them as one.
-#[derive(Debug, Drop)]
+#[derive(Drop)]
 pub struct SettingsText {
     bytes: Vec<u8>,
 }

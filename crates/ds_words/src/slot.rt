@@ -2,7 +2,7 @@
 
 /// What stands in one place of a line, and which text that is. The names of the manual are these, in capitals, where no other
 /// is given. Before each but `End` stands a space.
-#[derive(Clone, Copy, Debug, PartialEq, Eq)]
+#[derive(Clone, Copy)]
 pub enum Slot {
     /// `CHANGE` or `FLOOR`: an item, with the newline of its line.
     Item,

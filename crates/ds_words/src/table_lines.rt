@@ -21,8 +21,7 @@ pub(crate) fn assign_at(rest: &mut Rest) -> Result<ScriptCommand, PartFault>
 pub(crate) fn follow_at(rest: &mut Rest) -> Result<ScriptCommand, PartFault>
     ensures { TakesCommand words.Follow rest.old.bytes.now result }
 {
-    let map = rest.place(Expected::Map)?;
-    rest.end()?;
+    let map = rest.last_place(Expected::Map)?;
     Ok(ScriptCommand::Follow { map })
 }
 
@@ -33,8 +32,7 @@ pub(crate) fn submit_at(rest: &mut Rest) -> Result<ScriptCommand, PartFault>
     let server = rest.server()?;
     let id = rest.place(Expected::Id)?;
     let unit = rest.unit(Expected::Unit)?;
-    let map = rest.place(Expected::Map)?;
-    rest.end()?;
+    let map = rest.last_place(Expected::Map)?;
     Ok(ScriptCommand::Submit {
         server,
         id,
@@ -49,8 +47,7 @@ pub(crate) fn reply_at(rest: &mut Rest) -> Result<ScriptCommand, PartFault>
 {
     let server = rest.server()?;
     let endpoint = rest.endpoint(Expected::Endpoint)?;
-    let id = rest.place(Expected::Id)?;
-    rest.end()?;
+    let id = rest.last_place(Expected::Id)?;
     Ok(ScriptCommand::Reply {
         server,
         endpoint,

@@ -29,8 +29,7 @@ pub(crate) fn side_at(rest: &mut Rest) -> Result<ScriptCommand, PartFault>
 pub(crate) fn clear_at(rest: &mut Rest) -> Result<ScriptCommand, PartFault>
     ensures { TakesCommand words.Clear rest.old.bytes.now result }
 {
-    let map = rest.place(Expected::Map)?;
-    rest.end()?;
+    let map = rest.last_place(Expected::Map)?;
     Ok(ScriptCommand::Clear { map })
 }
 
@@ -39,8 +38,7 @@ pub(crate) fn restart_at(rest: &mut Rest) -> Result<ScriptCommand, PartFault>
     ensures { TakesCommand words.Restart rest.old.bytes.now result }
 {
     let side = rest.side()?;
-    let incarnation = rest.place(Expected::Incarnation)?;
-    rest.end()?;
+    let incarnation = rest.last_place(Expected::Incarnation)?;
     Ok(ScriptCommand::Restart { side, incarnation })
 }
 

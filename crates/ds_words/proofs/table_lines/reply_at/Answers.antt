@@ -1,5 +1,6 @@
 use Rattle.ds_words.specs.declared.word.Word.TheVariants as words
-use Rattle.ds_words.proofs.TableLemmas.{start, next, exit_here, exit_last, found_last}
+use Rattle.ds_words.proofs.LastLemmas.{exit_row}
+use Rattle.ds_words.proofs.TableLemmas.{start, next, exit_here, found_last}
 use Rattle.ds_words.proofs.table_lines.reply_at.Goals as goal
 
 pub returns-in_err-server : goal.returns-in_err-server
@@ -14,19 +15,13 @@ returns-in_err-endpoint c =
 
 pub returns-in_err-id : goal.returns-in_err-id
 returns-in_err-id c =
-    exit_here c.from_residual-in_err-id.result c.from_residual-in_err-id.ensures.1 (next tt (next tt (start words.Reply
+    exit_row c.from_residual-in_err-id.result c.from_residual-in_err-id.ensures.1 (next tt (next tt (start words.Reply
     c.args.rest.now.bytes.now) c.in_ok-server.ensures.found) c.in_ok-endpoint.ensures.found) c.in_err-id.ensures.room
     c.in_err-id.ensures.stop
-
-pub returns-in_err-end : goal.returns-in_err-end
-returns-in_err-end c =
-    exit_last c.from_residual-in_err-end.result c.from_residual-in_err-end.ensures.1 (next tt (next tt (next tt (start words.Reply
-    c.args.rest.now.bytes.now) c.in_ok-server.ensures.found) c.in_ok-endpoint.ensures.found) c.in_ok-id.ensures.found)
-    c.in_err-end.ensures.room c.in_err-end.ensures.stop
 
 pub returns : goal.returns
 returns c = (
   _,
   found_last (next tt (next tt (next tt (start words.Reply c.args.rest.now.bytes.now) c.in_ok-server.ensures.found)
-      c.in_ok-endpoint.ensures.found) c.in_ok-id.ensures.found) c.in_ok-end.ensures.found,
+      c.in_ok-endpoint.ensures.found) c.in_ok-id.ensures.found.2) c.in_ok-id.ensures.found.3,
 )

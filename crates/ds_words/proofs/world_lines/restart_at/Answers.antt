@@ -1,5 +1,6 @@
 use Rattle.ds_words.specs.declared.word.Word.TheVariants as words
-use Rattle.ds_words.proofs.TableLemmas.{start, next, exit_here, exit_last, found_last}
+use Rattle.ds_words.proofs.LastLemmas.{exit_row}
+use Rattle.ds_words.proofs.TableLemmas.{start, next, exit_here, found_last}
 use Rattle.ds_words.proofs.world_lines.restart_at.Goals as goal
 
 pub returns-in_err-side : goal.returns-in_err-side
@@ -9,18 +10,12 @@ returns-in_err-side c =
 
 pub returns-in_err-incarnation : goal.returns-in_err-incarnation
 returns-in_err-incarnation c =
-    exit_here c.from_residual-in_err-incarnation.result c.from_residual-in_err-incarnation.ensures.1 (next tt (start words.Restart
+    exit_row c.from_residual-in_err-incarnation.result c.from_residual-in_err-incarnation.ensures.1 (next tt (start words.Restart
     c.args.rest.now.bytes.now) c.in_ok-side.ensures.found) c.in_err-incarnation.ensures.room c.in_err-incarnation.ensures.stop
-
-pub returns-in_err-end : goal.returns-in_err-end
-returns-in_err-end c =
-    exit_last c.from_residual-in_err-end.result c.from_residual-in_err-end.ensures.1 (next tt (next tt (start words.Restart
-    c.args.rest.now.bytes.now) c.in_ok-side.ensures.found) c.in_ok-incarnation.ensures.found) c.in_err-end.ensures.room
-    c.in_err-end.ensures.stop
 
 pub returns : goal.returns
 returns c = (
   _,
   found_last (next tt (next tt (start words.Restart c.args.rest.now.bytes.now) c.in_ok-side.ensures.found)
-      c.in_ok-incarnation.ensures.found) c.in_ok-end.ensures.found,
+      c.in_ok-incarnation.ensures.found.2) c.in_ok-incarnation.ensures.found.3,
 )

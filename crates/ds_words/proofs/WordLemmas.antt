@@ -1,0 +1,73 @@
+-- The words of commands: each has its place among all of them.
+use Rattle.std.specs.Prelude.{◌==◌}
+use Rattle.std.proofs.Common.{◌≡◌, ◌≢◌, ℕ, ◌+◌, ◌<◌, ◌≤◌, Bool, true, false, List, length, take, get_or, refl, sym, subst, ◌∙◌, arith}
+use Rattle.std.specs.List.{All}
+use Rattle.std.specs.Cmp.Lexicographic.{pointwise}
+use Rattle.std.proofs.lemmas.Bool.{false≢true}
+use Rattle.std.proofs.lemmas.List.{take_all}
+use Rattle.std.proofs.lemmas.List.Elements.{All-get_or, All-more}
+use Rattle.ds_replica.proofs.BringLemmas.{text_is}
+use Rattle.ds_words.specs.declared.word.Word.{Word}
+use Rattle.ds_words.specs.declared.word.Word.TheVariants as words
+use Rattle.ds_words.specs.Words.{all_words, text_of}
+
+-- the place of a word
+abbrev place : Word → ℕ
+place words.Offer = 0
+place words.Show = 1
+place words.All = 2
+place words.Publish = 3
+place words.Delete = 4
+place words.Sweep = 5
+place words.Retrieve = 6
+place words.NameOf = 7
+place words.Subscribe = 8
+place words.Check = 9
+place words.Map = 10
+place words.Entries = 11
+place words.Ring = 12
+place words.Side = 13
+place words.Clear = 14
+place words.Restart = 15
+place words.Deliver = 16
+place words.Since = 17
+place words.Snapshot = 18
+place words.Page = 19
+place words.Settings = 20
+place words.Service = 21
+place words.Death = 22
+place words.Beat = 23
+place words.Tick = 24
+place words.Assign = 25
+place words.Follow = 26
+place words.Submit = 27
+place words.Reply = 28
+
+place_below : (w : Word) → place w < length all_words
+place_below words.Offer = omega arith
+place_below w = omega arith
+
+at_place : (w : Word) → get_or all_words (place w) words.Show ≡ w
+at_place words.Offer = refl
+at_place w = refl
+
+-- a text that is another than the word's
+abbrev pub IsOther : List ℕ → Word → Type 0
+IsOther text w = text ≢ text_of w
+
+-- a text that was another than the words before one, and is another than that one's
+pub other_too : (text spelled : List ℕ) (ws : List Word) (same : Bool) (i : ℕ) (d : Word) → ws ≡ all_words → i < length ws
+    → All (IsOther text) (take i all_words) → spelled ≡ text_of (get_or ws i d) → same ≡ pointwise ◌==◌ text spelled → same ≡ false
+    → All (IsOther text) (take (i + 1) all_words)
+other_too text spelled ws same i d is lt others spells tells differs =
+    let other : IsOther text (get_or ws i d) = λ one. false≢true (sym differs ∙ tells
+    ∙ subst (λ (t : List ℕ). pointwise ◌==◌ text t ≡ true) (one ∙ sym spells) (text_is text)) in
+    subst (λ (l : List Word). All (IsOther text) (take (i + 1) l)) is (All-more (IsOther text) ws i d lt
+    (subst (λ (l : List Word). All (IsOther text) (take i l)) (sym is) others) other)
+
+-- a text that is another than those of all words is no word's
+pub none_is : (text : List ℕ) (ws : List Word) (n : ℕ) → ws ≡ all_words → length ws ≤ n → All (IsOther text) (take n all_words)
+    → (w : Word) → text ≢ text_of w
+none_is text ws n is le others w =
+    let all : All (IsOther text) all_words = subst (All (IsOther text)) (take_all n all_words (subst (λ (l : List Word). length l ≤ n) is le)) others in
+    subst (IsOther text) (at_place w) (All-get_or (IsOther text) all_words (place w) words.Show (place_below w) all)
