@@ -2,41 +2,52 @@
 
 use std::io::{self, ErrorKind};
 use std::rt::Runtime;
-use thiserror::Error;
 
-/// What ends the program with status 3, by the word that standard error gets; and why, where the system said so.
-#[derive(Clone, Copy, Debug, Error)]
+/// What ends the program with status 3; and why, where the system said so.
+#[derive(Clone, Copy)]
 pub enum Failure {
-    #[error("noroom")]
     NoRoom,
-    #[error("readfault")]
     ReadFault(Option<io::Error>),
-    #[error("writefault")]
     WriteFault(Option<io::Error>),
     /// A run of threads failed, by this word.
-    #[error("{0}")]
     Live(&'static str),
 }
 
 impl Failure {
-    /// Says the word on standard error, and in a second line why, where that is a terminal.
+    /// Says its word on standard error, and in a second line why, where that is a terminal.
     pub fn tell(&self, rt: &impl Runtime, at_terminal: bool) {
-        let _ = eprintln!(rt; "{self}");
+        let _ = rt.eprintln(self.word());
         if at_terminal {
             self.tell_why(rt);
         }
     }
 
-    fn tell_why(&self, rt: &impl Runtime) {
-        let _ = match self {
-            Failure::ReadFault(Some(error)) => eprintln!(rt; "the input can't be read: {error}"),
-            Failure::WriteFault(Some(error)) if error.kind() == ErrorKind::BrokenPipe => {
-                eprintln!(rt; "nobody reads the answers any more")
-            }
-            Failure::WriteFault(Some(error)) => {
-                eprintln!(rt; "the answers can't be written: {error}")
-            }
-            _ => Ok(()),
-        };
+    fn word(&self) -> &'static str {
+        match self {
+            Failure::NoRoom => "noroom",
+            Failure::ReadFault(_) => "readfault",
+            Failure::WriteFault(_) => "writefault",
+            Failure::Live(word) => word,
+        }
     }
+
+    fn tell_why(&self, rt: &impl Runtime) {
+        match self {
+            Failure::ReadFault(Some(error)) => tell_reason(rt, "the input can't be read", *error),
+            Failure::WriteFault(Some(error)) => tell_unwritten(rt, *error),
+            _ => {}
+        }
+    }
+}
+
+fn tell_unwritten(rt: &impl Runtime, error: io::Error) {
+    if error.kind() == ErrorKind::BrokenPipe {
+        let _ = rt.eprintln("nobody reads the answers any more");
+    } else {
+        tell_reason(rt, "the answers can't be written", error);
+    }
+}
+
+fn tell_reason(rt: &impl Runtime, what: &str, error: io::Error) {
+    let _ = eprintln!(rt; "{what}: {error}");
 }

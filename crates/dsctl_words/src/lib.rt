@@ -4,6 +4,7 @@
 //! Nothing of a store stands here, so that the help and the words are proved without one. Of this project.
 #![tactic(auto)]
 
+mod described;
 mod failure;
 mod help;
 mod help_record;

@@ -1,7 +1,9 @@
 //! The words of `dsctl live`.
 
+use crate::described::{add, add_made, described, valued};
 use crate::words::Words;
-use clap::{Arg, ArgAction, ArgMatches, Command};
+use clap::builder::ValueParser;
+use clap::{Arg, ArgMatches, Command};
 use std::alloc::{AllocError, Global};
 
 // The options, by their names.
@@ -36,47 +38,33 @@ A run that fails prints nothing, has one word on standard error, and status 3:
   refused, desk    a store, or the desk at which threads share it, refused a
                    call";
 
-/// The subcommand.
-pub(crate) fn live<'a>(alloc: Global) -> Result<Command<'a>, AllocError> {
-    let changes = number(
-        alloc,
-        CHANGES,
-        "3",
-        "How many turns each takes, 1 to 1000",
-        1000,
-    );
-    of_both(alloc)?.arg(changes)
+/// Adds the subcommand.
+pub(crate) fn add_live<'a>(alloc: Global, all: &mut Vec<Command<'a>>) -> Result<(), AllocError> {
+    let mut options = Vec::new(alloc);
+    add_numbers(alloc, &mut options)?;
+    let live = described(alloc, "live", ABOUT, LONG_ABOUT);
+    add_made(all, live.args(options))
 }
 
-// The subcommand with the options of those that follow and of those that publish.
-fn of_both<'a>(alloc: Global) -> Result<Command<'a>, AllocError> {
-    let subscribers = number(alloc, SUBSCRIBERS, "2", "How many follow, 1 to 8", 8);
-    of_publishers(alloc)?.arg(subscribers)
+fn add_numbers<'a>(alloc: Global, all: &mut Vec<Arg<'a>>) -> Result<(), AllocError> {
+    add_number(alloc, all, PUBLISHERS, "How many publish, 1 to 8", "2", 8)?;
+    add_number(alloc, all, SUBSCRIBERS, "How many follow, 1 to 8", "2", 8)?;
+    add_number(alloc, all, CHANGES, TURNS_ABOUT, "3", 1000)
 }
 
-// The subcommand with the option of those that publish alone.
-fn of_publishers<'a>(alloc: Global) -> Result<Command<'a>, AllocError> {
-    Command::new(alloc, "live")
-        .about(ABOUT)
-        .long_about(LONG_ABOUT)
-        .arg(number(alloc, PUBLISHERS, "2", "How many publish, 1 to 8", 8))
-}
+const TURNS_ABOUT: &str = "How many turns each takes, 1 to 1000";
 
-// An option whose value is a number, 1 to this one at most.
-fn number<'a>(
+// Adds an option whose value is a number, 1 to this one at most.
+fn add_number<'a>(
     alloc: Global,
+    all: &mut Vec<Arg<'a>>,
     name: &'a str,
-    default: &'a str,
     about: &'a str,
+    default: &'a str,
     most: i64,
-) -> Arg<'a> {
-    Arg::new(alloc, name)
-        .long(name)
-        .action(ArgAction::Set)
-        .value_name("N")
-        .default_value(default)
-        .help(about)
-        .value_parser(clap::value_parser!(u32).range(1..=most))
+) -> Result<(), AllocError> {
+    let number = valued(alloc, name, about, ValueParser::Signed(1, most));
+    add(all, number.default_value(default))
 }
 
 /// The threads that were asked for. Each option has a default; without it the number would be 0, which is none of a run's.

@@ -5,7 +5,7 @@ use std::io::{self, Read};
 use std::rt::Runtime;
 
 /// What somebody is told who types.
-#[derive(Clone, Copy, Debug)]
+#[derive(Clone, Copy)]
 pub enum Greeting {
     /// A script, in which a bad line ends nothing.
     Script,
@@ -34,7 +34,7 @@ impl Greeting {
 }
 
 /// Which of the streams are terminals.
-#[derive(Clone, Copy, Debug)]
+#[derive(Clone, Copy)]
 pub struct Terminals {
     pub input: bool,
     pub error: bool,
@@ -51,7 +51,7 @@ impl Terminals {
 pub fn greet(rt: &impl Runtime, terminals: Terminals, greeting: Greeting) {
     if terminals.are_both() {
         let text = greeting.text();
-        let _ = eprintln!(rt; "{text}");
+        let _ = rt.eprintln(text);
     }
 }
 
@@ -73,10 +73,9 @@ pub struct Typed<'a, R: Runtime> {
 impl<'a, R: Runtime> Typed<'a, R> {
     /// Standard input, with a prompt where somebody types it.
     pub fn prompted(rt: &'a R, terminals: Terminals) -> Typed<'a, R> {
-        Typed {
-            prompts: terminals.are_both(),
-            ..Typed::unprompted(rt)
-        }
+        let mut typed = Typed::unprompted(rt);
+        typed.prompts = terminals.are_both();
+        typed
     }
 
     /// Standard input, whoever types it, with no prompt.
@@ -94,30 +93,39 @@ impl<'a, R: Runtime> Typed<'a, R> {
     // Prompts, where somebody types and a line begins.
     fn prompt(&self) {
         if self.prompts && self.begins_line {
-            let _ = eprint!(self.rt; "> ");
+            let _ = self.rt.eprint("> ");
         }
     }
 
-    // What is meant by what was read. Help is shown where it was asked for.
+    // What is meant by what was read.
     fn meaning(&mut self, read: &[u8]) -> Meaning {
-        if !self.prompts {
-            return if read.is_empty() {
-                Meaning::End
-            } else {
-                Meaning::Line
-            };
+        if self.prompts {
+            self.meaning_at_prompt(read)
+        } else if read.is_empty() {
+            Meaning::End
+        } else {
+            Meaning::Line
         }
+    }
+
+    // What is meant by what somebody typed. Help is shown where it was asked for.
+    fn meaning_at_prompt(&mut self, read: &[u8]) -> Meaning {
         let began_line = self.begins_line;
         self.begins_line = read.last().copied() == Some(b'\n');
         if read.is_empty() {
-            let _ = eprintln!(self.rt; "");
-            return Meaning::End;
+            let _ = self.rt.eprintln("");
+            Meaning::End
+        } else if began_line && self.begins_line {
+            self.meaning_of_line(read.trim_ascii())
+        } else {
+            Meaning::Line
         }
-        if !began_line || !self.begins_line {
-            return Meaning::Line;
-        }
-        let meaning = meaning_of(read.trim_ascii());
-        if meaning == Meaning::Help {
+    }
+
+    // What is meant by a whole line, without the space round it.
+    fn meaning_of_line(&self, line: &[u8]) -> Meaning {
+        let meaning = meaning_of(line);
+        if let Meaning::Help = meaning {
             let _ = eprintln!(self.rt; "{LINES}\n\n{AT_THE_PROMPT}");
         }
         meaning
@@ -125,7 +133,7 @@ impl<'a, R: Runtime> Typed<'a, R> {
 }
 
 // What a line means to the prompt.
-#[derive(Clone, Copy, Debug, PartialEq, Eq)]
+#[derive(Clone, Copy)]
 enum Meaning {
     Line,
     Nothing,

@@ -1,9 +1,11 @@
 //! The words of `dsctl record`.
 
+use crate::described::{add, add_made, described, valued};
 use crate::help_record::{FORMAT_ABOUT, KEYS_ABOUT, RECORD_ABOUT, RECORD_LONG_ABOUT};
 use crate::words::TraceForm;
+use clap::builder::ValueParser;
 use clap::error::ErrorKind;
-use clap::{Arg, ArgAction, ArgMatches, Command, Error};
+use clap::{Arg, ArgMatches, Command, Error};
 use std::alloc::{AllocError, Global};
 
 // The options, by their names, and their values.
@@ -15,29 +17,28 @@ const KEYS: &str = "keys";
 
 const COUNTS: [&str; 2] = ["1024", "4096"];
 
-/// The subcommand.
-pub(crate) fn record<'a>(alloc: Global) -> Result<Command<'a>, AllocError> {
-    let keys = one_of(alloc, KEYS, &COUNTS, KEYS_ABOUT);
-    of_format(alloc)?.arg(keys)
+/// Adds the subcommand.
+pub(crate) fn add_record<'a>(alloc: Global, all: &mut Vec<Command<'a>>) -> Result<(), AllocError> {
+    let mut options = Vec::new(alloc);
+    add_forms(alloc, &mut options)?;
+    let record = described(alloc, "record", RECORD_ABOUT, RECORD_LONG_ABOUT);
+    add_made(all, record.args(options))
 }
 
-// The subcommand with the option of the format alone.
-fn of_format<'a>(alloc: Global) -> Result<Command<'a>, AllocError> {
-    Command::new(alloc, "record")
-        .about(RECORD_ABOUT)
-        .long_about(RECORD_LONG_ABOUT)
-        .arg(one_of(alloc, FORMAT, &FORMATS, FORMAT_ABOUT))
+fn add_forms<'a>(alloc: Global, all: &mut Vec<Arg<'a>>) -> Result<(), AllocError> {
+    add_one_of(alloc, all, FORMAT, FORMAT_ABOUT, &FORMATS)?;
+    add_one_of(alloc, all, KEYS, KEYS_ABOUT, &COUNTS)
 }
 
-// An option whose value is one of these.
-fn one_of<'a>(alloc: Global, name: &'a str, values: &'a [&'a str], about: &'a str) -> Arg<'a> {
-    Arg::new(alloc, name)
-        .long(name)
-        .action(ArgAction::Set)
-        .value_name("N")
-        .value_parser(values)
-        .hide_possible_values(true)
-        .help(about)
+// Adds an option whose value is one of these.
+fn add_one_of<'a>(
+    alloc: Global,
+    all: &mut Vec<Arg<'a>>,
+    name: &'a str,
+    about: &'a str,
+    values: &'a [&'a str],
+) -> Result<(), AllocError> {
+    add(all, valued(alloc, name, about, ValueParser::Names(values)))
 }
 
 /// The form that was asked for; of format 1 where 4096 keys were, too, `None`.
@@ -52,13 +53,10 @@ pub(crate) fn form_of(given: &ArgMatches<'_>) -> Option<TraceForm> {
 
 /// The fault of format 1 with 4096 keys.
 pub(crate) fn too_many_keys(alloc: Global) -> Result<Error, AllocError> {
-    named_in_full(alloc)?.error(
-        ErrorKind::ArgumentConflict,
-        "a trace of format 1 has 1024 keys, never 4096",
-    )
-}
-
-// The subcommand, as its usage names it.
-fn named_in_full<'a>(alloc: Global) -> Result<Command<'a>, AllocError> {
-    record(alloc)?.bin_name("dsctl record")
+    Command::new(alloc, "record")
+        .override_usage("dsctl record [OPTIONS]")
+        .error(
+            ErrorKind::ArgumentConflict,
+            "a trace of format 1 has 1024 keys, never 4096",
+        )
 }

@@ -1,21 +1,22 @@
 //! The words of the command line.
 
+use crate::described::{add, add_made, described, flag, named};
 use crate::help::{ABOUT, LINES, LONG_ABOUT};
 use crate::help_traces::{UPGRADE_ABOUT, UPGRADE_LONG_ABOUT, VERIFY_ABOUT, VERIFY_LONG_ABOUT};
 use crate::help_words::{
     AFTER_HELP, KEEP_GOING_ABOUT, SETTINGS_ABOUT, SETTINGS_LONG_ABOUT, STOP_ABOUT,
 };
-use crate::live_words::{crew_of, live};
-use crate::record_words::{form_of, record, too_many_keys};
+use crate::live_words::{add_live, crew_of};
+use crate::record_words::{add_record, form_of, too_many_keys};
 use clap::error::ErrorKind;
-use clap::{Arg, ArgAction, ArgMatches, Command, Error};
+use clap::{Arg, ArgMatches, Command, Error};
 use std::alloc::{AllocError, Global};
 use std::env::Args;
 use std::io;
 use std::rt::Runtime;
 
 /// What the words ask for, or how they were answered.
-#[derive(Clone, Copy, Debug, PartialEq, Eq)]
+#[derive(Clone, Copy)]
 pub enum Words {
     /// To answer a script; and whether to go on behind a line that can't be read, if that was said.
     Replay {
@@ -46,7 +47,7 @@ pub enum Words {
 }
 
 /// The form of a recorded trace.
-#[derive(Clone, Copy, Debug, PartialEq, Eq)]
+#[derive(Clone, Copy)]
 pub enum TraceForm {
     /// Format 1, of 64 subscriptions and 1024 keys.
     One,
@@ -58,14 +59,22 @@ pub enum TraceForm {
 
 /// Reads the words that the program was started with. Answers a wrong word, or a wish for help, itself.
 pub fn read<R: Runtime + AllocGlobal>(rt: &R) -> Words {
-    let given = match std::env::args(rt) {
-        Ok(given) => given,
-        Err(error) if error.kind() == io::ErrorKind::OutOfMemory => return Words::NoRoom,
-        Err(_) => {
-            let _ = eprintln!(rt; "error: a word of the command line isn't UTF-8");
-            return Words::Usage;
-        }
-    };
+    match std::env::args(rt) {
+        Ok(given) => read_given(rt, given),
+        Err(error) => unread(rt, error.kind()),
+    }
+}
+
+// Words that can't be read: there is no memory for them, or one isn't UTF-8.
+fn unread(rt: &impl Runtime, kind: io::ErrorKind) -> Words {
+    if kind == io::ErrorKind::OutOfMemory {
+        return Words::NoRoom;
+    }
+    let _ = rt.eprintln("error: a word of the command line isn't UTF-8");
+    Words::Usage
+}
+
+fn read_given<R: Runtime + AllocGlobal>(rt: &R, given: Args) -> Words {
     match listed(rt.alloc(), given) {
         Ok(words) => understood(rt, &words),
         Err(AllocError) => Words::NoRoom,
@@ -138,82 +147,52 @@ const STOP: &str = "stop";
 
 // The command line of the program.
 fn command<'a>(alloc: Global) -> Result<Command<'a>, AllocError> {
-    let subcommands = subcommands(alloc)?;
+    let mut subcommands = Vec::new(alloc);
+    add_subcommands(alloc, &mut subcommands)?;
     program(alloc).subcommands(subcommands)
-}
-
-fn subcommands<'a>(alloc: Global) -> Result<Vec<Command<'a>>, AllocError> {
-    let mut all = Vec::new(alloc);
-    add(&mut all, replay(alloc)?)?;
-    add(&mut all, settings(alloc))?;
-    add_of_traces(alloc, &mut all)?;
-    add(&mut all, live(alloc)?)?;
-    Ok(all)
-}
-
-fn add_of_traces<'a>(alloc: Global, all: &mut Vec<Command<'a>>) -> Result<(), AllocError> {
-    add(all, verify(alloc))?;
-    add(all, upgrade(alloc))?;
-    add(all, record(alloc)?)
-}
-
-fn add<'a>(all: &mut Vec<Command<'a>>, one: Command<'a>) -> Result<(), AllocError> {
-    Ok(all.push(one)?)
 }
 
 // The program, without its subcommands.
 fn program<'a>(alloc: Global) -> Command<'a> {
-    Command::new(alloc, "dsctl")
+    described(alloc, "dsctl", ABOUT, LONG_ABOUT)
         .version("0.1.0")
-        .about(ABOUT)
-        .long_about(LONG_ABOUT)
         .after_help(LINES)
         .after_long_help(AFTER_HELP)
         .disable_help_subcommand(true)
 }
 
-fn replay<'a>(alloc: Global) -> Result<Command<'a>, AllocError> {
-    let stop = stop(alloc)?;
-    going(alloc)?.arg(stop)
+fn add_subcommands<'a>(alloc: Global, all: &mut Vec<Command<'a>>) -> Result<(), AllocError> {
+    add_replay(alloc, all)?;
+    add_without_options(alloc, all, "settings", SETTINGS_ABOUT, SETTINGS_LONG_ABOUT)?;
+    add_without_options(alloc, all, "verify", VERIFY_ABOUT, VERIFY_LONG_ABOUT)?;
+    add_without_options(alloc, all, "upgrade", UPGRADE_ABOUT, UPGRADE_LONG_ABOUT)?;
+    add_record(alloc, all)?;
+    add_live(alloc, all)
 }
 
-// The option to end.
-fn stop<'a>(alloc: Global) -> Result<Arg<'a>, AllocError> {
-    flag(alloc, STOP, STOP_ABOUT).conflicts_with(KEEP_GOING)
+// Adds a subcommand without options.
+fn add_without_options<'a>(
+    alloc: Global,
+    all: &mut Vec<Command<'a>>,
+    name: &'a str,
+    about: &'a str,
+    long_about: &'a str,
+) -> Result<(), AllocError> {
+    add(all, described(alloc, name, about, long_about))
 }
 
-// The subcommand of scripts with the option to go on alone.
-fn going<'a>(alloc: Global) -> Result<Command<'a>, AllocError> {
-    Command::new(alloc, "replay")
-        .about("Answer a script; no subcommand means this one")
-        .after_help(LINES)
-        .arg(flag(alloc, KEEP_GOING, KEEP_GOING_ABOUT))
+fn add_replay<'a>(alloc: Global, all: &mut Vec<Command<'a>>) -> Result<(), AllocError> {
+    let mut options = Vec::new(alloc);
+    add_flags(alloc, &mut options)?;
+    let about = "Answer a script; no subcommand means this one";
+    let replay = named(alloc, "replay", about).after_help(LINES);
+    add_made(all, replay.args(options))
 }
 
-// An option without a value.
-fn flag<'a>(alloc: Global, name: &'a str, about: &'a str) -> Arg<'a> {
-    Arg::new(alloc, name)
-        .long(name)
-        .action(ArgAction::SetTrue)
-        .help(about)
-}
-
-fn settings<'a>(alloc: Global) -> Command<'a> {
-    Command::new(alloc, "settings")
-        .about(SETTINGS_ABOUT)
-        .long_about(SETTINGS_LONG_ABOUT)
-}
-
-fn verify<'a>(alloc: Global) -> Command<'a> {
-    Command::new(alloc, "verify")
-        .about(VERIFY_ABOUT)
-        .long_about(VERIFY_LONG_ABOUT)
-}
-
-fn upgrade<'a>(alloc: Global) -> Command<'a> {
-    Command::new(alloc, "upgrade")
-        .about(UPGRADE_ABOUT)
-        .long_about(UPGRADE_LONG_ABOUT)
+fn add_flags<'a>(alloc: Global, options: &mut Vec<Arg<'a>>) -> Result<(), AllocError> {
+    add(options, flag(alloc, KEEP_GOING, KEEP_GOING_ABOUT))?;
+    let stop = flag(alloc, STOP, STOP_ABOUT);
+    add_made(options, stop.conflicts_with(KEEP_GOING))
 }
 
 // What somebody is told who named a file.
@@ -242,13 +221,11 @@ const HELP: &str = "Help is an option: dsctl --help, or dsctl settings --help";
 // What is said of words that are none of the program's, beside what `clap` has to say.
 fn tip(given: &[String]) -> Option<&'static str> {
     let first = given.get(1)?.as_str();
-    if first == "--keep-going" || first == "--stop" {
-        return Some(BEHIND_REPLAY);
+    match first {
+        "--keep-going" | "--stop" => Some(BEHIND_REPLAY),
+        "help" => Some(HELP),
+        _ => name_a_file(given).then_some(not_by_name(first)),
     }
-    if first == "help" {
-        return Some(HELP);
-    }
-    name_a_file(given).then_some(not_by_name(first))
 }
 
 // What somebody is told who named a file behind this word.
@@ -284,7 +261,7 @@ fn answer(rt: &impl Runtime, error: &Error, given: &[String]) -> Words {
         ErrorKind::InvalidSubcommand | ErrorKind::UnknownArgument
     ) {
         if let Some(tip) = tip(given) {
-            let _ = eprintln!(rt; "{tip}");
+            let _ = rt.eprintln(tip);
         }
     }
     match (error.use_stderr(), printed) {

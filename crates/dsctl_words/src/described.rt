@@ -1,0 +1,56 @@
+//! What the subcommands and their options have in common.
+
+use clap::builder::ValueParser;
+use clap::{Arg, ArgAction, Command};
+use std::alloc::{AllocError, Global};
+
+/// A subcommand, with what the list of them says of it.
+pub(crate) fn named<'a>(alloc: Global, name: &'a str, about: &'a str) -> Command<'a> {
+    Command::new(alloc, name).about(about)
+}
+
+/// A subcommand, with what the list of them and its own help say of it.
+pub(crate) fn described<'a>(
+    alloc: Global,
+    name: &'a str,
+    about: &'a str,
+    long_about: &'a str,
+) -> Command<'a> {
+    named(alloc, name, about).long_about(long_about)
+}
+
+// An option.
+fn option<'a>(alloc: Global, name: &'a str, about: &'a str) -> Arg<'a> {
+    Arg::new(alloc, name).long(name).help(about)
+}
+
+/// An option without a value.
+pub(crate) fn flag<'a>(alloc: Global, name: &'a str, about: &'a str) -> Arg<'a> {
+    option(alloc, name, about).action(ArgAction::SetTrue)
+}
+
+/// An option with a value, of which its text says what it may be.
+pub(crate) fn valued<'a>(
+    alloc: Global,
+    name: &'a str,
+    about: &'a str,
+    parser: ValueParser<'a>,
+) -> Arg<'a> {
+    option(alloc, name, about)
+        .value_name("N")
+        .value_parser(parser)
+        .hide_possible_values(true)
+}
+
+/// Adds a subcommand or an option.
+pub(crate) fn add<T: Drop>(all: &mut Vec<T>, one: T) -> Result<(), AllocError> {
+    Ok(all.push(one)?)
+}
+
+/// Adds a subcommand or an option that there was memory to make.
+pub(crate) fn add_made<T: Drop>(
+    all: &mut Vec<T>,
+    one: Result<T, AllocError>,
+) -> Result<(), AllocError> {
+    add(all, one?)
+}
