@@ -5,11 +5,12 @@ use crate::failure::Failure;
 use crate::labels::{Labels, publish_labels};
 use crate::line::Line;
 use crate::overwrite::overwrite_labels;
-use crate::playing::{play, refuse_desks};
+use crate::playing::play;
+use crate::refused::refuse_desks;
 use crate::review::{Review, share_and_compare};
 use crate::rounds;
 use crate::rows::Row;
-use crate::tell::{Part, tell};
+use crate::tell::tell;
 use ds_store::Store;
 use std::alloc::Global;
 use std::sync::Wait;
@@ -30,19 +31,25 @@ pub(crate) fn answer<R: Print + Threads + Wait + Sync>(
             let review = share_and_compare::<Box<Store>, R>(rt, alloc, sizes);
             tell_review(rt, sizes.threads, review, true)
         }
-        Line::Overwrite(sizes) => tell_sum(rt, overwrite_labels(rt, alloc, sizes)),
-        Line::Labels(count) => tell_labels(rt, publish_labels(rt, alloc, count)),
-        Line::Front(count) => tell_sum(rt, rounds::look(alloc, count)),
-        Line::Take(count) => tell_sum(rt, rounds::take(alloc, count)),
+        Line::Overwrite(sizes) => {
+            let sum = overwrite_labels::<Box<Store>, R>(rt, alloc, sizes);
+            tell_sum(rt, sum)
+        }
+        Line::Labels(count) => {
+            let labels = publish_labels::<Box<Store>, R>(rt, alloc, count);
+            tell_labels(rt, labels)
+        }
+        Line::Front(count) => tell_sum(rt, rounds::look::<Box<Store>>(alloc, count)),
+        Line::Take(count) => tell_sum(rt, rounds::take::<Box<Store>>(alloc, count)),
         Line::Rows(rows) => play_rows(rt, alloc, rows),
-        Line::NoDesk => refuse_desks(rt, alloc),
+        Line::NoDesk => refuse_desks::<Box<Store>, R>(rt, alloc),
     }
 }
 
 // Has two passes take the steps of each row.
 fn play_rows<R: Print + Wait>(rt: &R, alloc: Global, rows: &[Row]) -> Result<(), Failure> {
     for row in rows {
-        play(rt, alloc, row)?;
+        play::<Box<Store>, R>(rt, alloc, row)?;
     }
     Ok(())
 }
@@ -53,28 +60,18 @@ fn tell_labels(rt: &impl Print, labels: Option<Labels>) -> Result<(), Failure> {
     tell(
         rt,
         &[
-            Part::Text("changes "),
-            Part::Number(u128::from(labels.changes)),
-            Part::Text(" generations "),
-            Part::Number(u128::from(labels.first)),
-            Part::Text(" "),
-            Part::Number(u128::from(labels.second)),
-            Part::Text("\n"),
+            ("changes ", u128::from(labels.changes)),
+            (" generations ", u128::from(labels.first)),
+            (" ", u128::from(labels.second)),
         ],
+        "\n",
     )
 }
 
 // Prints a count of what was only done.
 fn tell_sum(rt: &impl Print, count: Option<u64>) -> Result<(), Failure> {
     let sum = count.ok_or(Failure::NoRoom)?;
-    tell(
-        rt,
-        &[
-            Part::Text("sum "),
-            Part::Number(u128::from(sum)),
-            Part::Text("\n"),
-        ],
-    )
+    tell(rt, &[("sum ", u128::from(sum))], "\n")
 }
 
 // Prints how threads were answered; of a machine that takes memory also how many calls were refused for want of it.
@@ -88,31 +85,16 @@ fn tell_review(
     tell(
         rt,
         &[
-            Part::Text("threads "),
-            Part::Number(u128::from(threads)),
-            Part::Text(" entries "),
-            Part::Number(review.entries as u128),
+            ("threads ", u128::from(threads)),
+            (" entries ", u128::from(review.entries)),
         ],
+        "",
     )?;
     if takes_memory {
-        tell(
-            rt,
-            &[
-                Part::Text(" noroom "),
-                Part::Number(u128::from(review.noroom)),
-            ],
-        )?;
+        tell(rt, &[(" noroom ", u128::from(review.noroom))], "")?;
     }
     let history = if review.legal { "legal" } else { "not legal" };
     let account = if review.exact { "exact" } else { "wrong" };
-    tell(
-        rt,
-        &[
-            Part::Text(" history "),
-            Part::Text(history),
-            Part::Text(" account "),
-            Part::Text(account),
-            Part::Text("\n"),
-        ],
-    )
+    println!(rt; " history {history} account {account}")?;
+    Ok(())
 }

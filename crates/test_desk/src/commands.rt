@@ -83,19 +83,23 @@ pub(crate) fn follow(alloc: Global, sub: u32) -> Option<Command> {
 /// Another holder gives what it has of a driver: a floor under half of its generations, and a number that it published in the
 /// last one. `None` where memory is wanting.
 pub(crate) fn merge(alloc: Global, driver: &Driver, number: u32) -> Option<Command> {
+    let mut items = Items::new(alloc);
+    add_items(&mut items, driver, number)?;
+    Some(Command::Merge { items })
+}
+
+fn add_items(items: &mut Items, driver: &Driver, number: u32) -> Option<()> {
     let owner = driver.key.name;
     let epoch = driver.endpoint.generation();
     let generation = Generation::of(epoch.number() / 2)?;
+    items.push(Item::Floor(Floor { owner, generation })).ok()?;
     let key = Key {
         name: owner,
         kind: Kind::U32,
     };
     let version = Version { epoch, seq: number };
     let change = Change::make(key, owner, version, Body::Put(Value::U32(number))).ok()?;
-    let mut items = Items::new(alloc);
-    items.push(Item::Floor(Floor { owner, generation })).ok()?;
-    items.push(Item::Change(change)).ok()?;
-    Some(Command::Merge { items })
+    items.push(Item::Change(change)).ok()
 }
 
 /// The label of the driver of a number, with its last twelve digits: 64 threads make fewer calls than these can tell apart.

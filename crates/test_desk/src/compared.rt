@@ -13,7 +13,7 @@ pub(crate) trait Compared: Machine {
     fn command_of(alloc: Global, seen: u64, turn: u32) -> Option<Self::Command>;
 
     /// The same command for the first so many of its items alone. `None` where memory is wanting.
-    fn first_of(alloc: Global, command: Self::Command, items: usize) -> Option<Self::Command>;
+    fn first_of(command: Self::Command, items: usize) -> Option<Self::Command>;
 
     /// Answers one thread, with no desk.
     fn answer(&mut self, command: Self::Command) -> Self::Reply;

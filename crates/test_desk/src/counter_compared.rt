@@ -21,7 +21,7 @@ impl Compared for Counter {
     }
 
     /// A counter is asked of no items.
-    fn first_of(_alloc: Global, command: Count, _items: usize) -> Option<Count> {
+    fn first_of(command: Count, _items: usize) -> Option<Count> {
         Some(command)
     }
 

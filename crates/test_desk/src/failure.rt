@@ -16,7 +16,7 @@ pub(crate) enum Failure {
 
 impl Failure {
     /// Why there is no line.
-    pub(crate) fn of_reading(error: io::Error) -> Failure {
+    pub(crate) fn of_reading(error: &io::Error) -> Failure {
         match error.kind() {
             io::ErrorKind::OutOfMemory => Failure::NoRoom,
             _ => Failure::ReadFault,

@@ -1,21 +1,18 @@
-//! What a closed desk's store says of the labels that two threads published.
+//! What the machine of a closed desk says of the labels that two threads published.
 
-use crate::commands::{Asked, driver_of, label_of};
-use crate::new_store::store_at;
-use crate::overwrite::Overwrite;
-use crate::store_compared::FIRST;
-use ds_entry::Value;
-use ds_machine::Reply;
-use ds_store::Store;
+use crate::commands::label_of;
+use crate::followed::Followed;
+use crate::line::Sizes;
+use crate::new_store::FIRST;
+use crate::overwrite::overwrite_by_crew;
 use std::alloc::Global;
 use std::sync::Wait;
 use std::thread::Threads;
-use test_crews::run_crew;
 
 /// What is left of so many changes by each of two threads.
 #[derive(Clone, Copy)]
 pub(crate) struct Labels {
-    /// How far the store's position went.
+    /// How far the machine's position went.
     pub changes: u64,
     /// The generation that the first thread's label names.
     pub first: u32,
@@ -23,35 +20,22 @@ pub(crate) struct Labels {
     pub second: u32,
 }
 
-/// Has two threads change a label each, so often, and asks the store that is left. `None` where memory or a label is wanting.
-pub(crate) fn publish_labels<R: Threads + Wait + Sync>(
-    rt: &R,
-    alloc: Global,
-    calls: u32,
-) -> Option<Labels> {
-    let store = store_at(alloc, FIRST)?;
-    let mut crew = run_crew(rt, alloc, store, 2, Overwrite { calls })?;
+/// Has two threads change a label each, so often, and asks the machine that is left. `None` where memory or a label is wanting.
+pub(crate) fn publish_labels<M, R>(rt: &R, alloc: Global, calls: u32) -> Option<Labels>
+where
+    M: Followed + Send + Drop,
+    M::Command: Drop + Send,
+    M::Reply: Drop + Send,
+    R: Threads + Wait + Sync,
+{
+    let mut crew = overwrite_by_crew::<M, R>(rt, alloc, Sizes { threads: 2, calls })?;
     labels_in(&mut crew.machine)
 }
 
-fn labels_in(store: &mut Box<Store>) -> Option<Labels> {
+fn labels_in<M: Followed>(machine: &mut M) -> Option<Labels> {
     Some(Labels {
-        changes: store.cursor().position.wrapping_sub(FIRST),
-        first: generation_of(store, 1)?,
-        second: generation_of(store, 2)?,
+        changes: machine.position().wrapping_sub(FIRST),
+        first: machine.generation_of(&label_of(1))?,
+        second: machine.generation_of(&label_of(2))?,
     })
-}
-
-// The generation of the endpoint that the label of this number has.
-fn generation_of(store: &mut Box<Store>, number: u64) -> Option<u32> {
-    let driver = driver_of(&label_of(number), 0, 0)?;
-    let reply = store.apply(driver.ask(Asked::Retrieve));
-    found_in(&reply)
-}
-
-fn found_in(reply: &Reply) -> Option<u32> {
-    match reply {
-        Reply::Found(Value::Label(endpoint)) => Some(endpoint.generation().number()),
-        _ => None,
-    }
 }

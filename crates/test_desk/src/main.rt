@@ -13,28 +13,32 @@
 #![tactic(auto)]
 
 mod answer;
+mod closing;
 mod commands;
 mod compared;
 mod counter;
 mod counter_compared;
 mod failure;
+mod followed;
 mod kept;
 mod labels;
 mod line;
 mod new_store;
 mod overwrite;
 mod playing;
+mod refused;
 mod review;
 mod rounds;
 mod rows;
 mod share;
 mod store_compared;
+mod store_followed;
 mod tell;
 
 use answer::answer;
 use failure::Failure;
 use line::read_line;
-use std::io::{BufRead, BufReader};
+use std::io;
 use std::process::ExitCode;
 use std::rt::Runtime;
 use std::sync::Wait;
@@ -55,20 +59,21 @@ fn main(rt: HostRuntime) -> ExitCode {
 
 // Takes the lines in turn, up to the first that can't be read.
 fn run<R: Runtime + AllocGlobal + Threads + Wait + Sync>(rt: &R) -> Result<(), Failure> {
-    let Ok(reader) = BufReader::new(rt.alloc(), rt.reader()) else {
-        return Err(Failure::NoRoom);
-    };
-    for line in reader.lines(rt.alloc()) {
-        let line = line.map_err(Failure::of_reading)?;
-        answer_line(rt, line.as_str())?;
+    for line in rt.lines(rt.alloc()) {
+        answer_line(rt, &line)?;
     }
     Ok(())
 }
 
 fn answer_line<R: Runtime + AllocGlobal + Threads + Wait + Sync>(
     rt: &R,
-    line: &str,
+    line: &io::Result<String>,
 ) -> Result<(), Failure> {
-    let asked = read_line(line).ok_or(Failure::BadLine)?;
-    answer(rt, rt.alloc(), asked)
+    match line {
+        Ok(line) => match read_line(line.as_str()) {
+            Some(asked) => answer(rt, rt.alloc(), asked),
+            None => Err(Failure::BadLine),
+        },
+        Err(error) => Err(Failure::of_reading(error)),
+    }
 }

@@ -6,6 +6,9 @@ use std::alloc::Global;
 /// The incarnation of a new store.
 pub(crate) const INCARNATION: u64 = 1;
 
+/// The position of a new store that is compared or overwritten.
+pub(crate) const FIRST: u64 = 1 << 32;
+
 // How many items the journal of a store keeps.
 const RING: u32 = 256;
 

@@ -1,20 +1,18 @@
-//! Calls of a store that are only made.
+//! Calls of a machine that are only made.
 
 ghost use Rattle.std.specs.Prelude.{◌≡◌};
 ghost use Rattle.desk.specs.Desk.{identity};
 ghost use Rattle.desk.specs.Pass.{desk_of};
 
-use crate::commands::{Asked, driver_of, follow, label_of};
+use crate::commands::label_of;
+use crate::followed::Followed;
 use crate::line::Sizes;
-use crate::new_store::store_at;
-use crate::store_compared::FIRST;
+use crate::new_store::FIRST;
 use desk::{Desk, Pass};
-use ds_machine::Reply;
-use ds_store::Store;
 use std::alloc::Global;
 use std::sync::Wait;
 use std::thread::Threads;
-use test_crews::{Board, DeskName, Task, Worker, run_crew};
+use test_crews::{Board, Crew, DeskName, Task, Worker, run_crew};
 
 /// So many overwrites of a label that no other thread overwrites: it has the number of the thread's subscription.
 #[derive(Clone, Copy)]
@@ -22,16 +20,20 @@ pub(crate) struct Overwrite {
     pub calls: u32,
 }
 
-impl Task<Box<Store>> for Overwrite {
+impl<M: Followed + Drop> Task<M> for Overwrite
+where
+    M::Command: Drop + Send,
+    M::Reply: Drop + Send,
+{
     fn work<R: Wait, D: DeskName>(
         &self,
         rt: &R,
         alloc: Global,
-        desk: &Desk<Box<Store>>,
-        _board: &Board<Box<Store>, D>,
-        worker: &mut Worker<Pass<Box<Store>>>,
+        desk: &Desk<M>,
+        _board: &Board<M, D>,
+        worker: &mut Worker<Pass<M>>,
     ) -> Option<()> {
-        let number = subscribe(rt, alloc, desk, worker)?;
+        let number = subscribe(rt, alloc, desk, worker)?.wrapping_sub(FIRST);
         let label = label_of(number);
         for turn in 0..self.calls {
             start_again(rt, desk, worker, &label, number, turn)?;
@@ -40,54 +42,65 @@ impl Task<Box<Store>> for Overwrite {
     }
 }
 
-// Follows everything, and gives the number of the subscription.
-fn subscribe<R: Wait>(
+// Follows everything, and gives the stamp of the subscription.
+fn subscribe<M: Followed + Drop, R: Wait>(
     rt: &R,
     alloc: Global,
-    desk: &Desk<Box<Store>>,
-    worker: &mut Worker<Pass<Box<Store>>>,
+    desk: &Desk<M>,
+    worker: &mut Worker<Pass<M>>,
 ) -> Option<u64>
+where
+    M::Command: Drop,
+    M::Reply: Drop,
     requires { desk_of worker.old.pass ≡ identity desk.now }
     ensures { desk_of worker.new.pass ≡ desk_of worker.old.pass }
 {
-    let answer = worker.call(rt, desk, follow(alloc, 0)?)?;
-    number_of(&answer.reply)
+    let answer = worker.call(rt, desk, M::follow(alloc, 0)?)?;
+    M::stamp_in(&answer.reply)
 }
 
 // Has RS start the driver of the label in a later generation.
-fn start_again<R: Wait>(
+fn start_again<M: Followed + Drop, R: Wait>(
     rt: &R,
-    desk: &Desk<Box<Store>>,
-    worker: &mut Worker<Pass<Box<Store>>>,
+    desk: &Desk<M>,
+    worker: &mut Worker<Pass<M>>,
     label: &[u8],
     number: u64,
     turn: u32,
 ) -> Option<()>
+where
+    M::Command: Drop,
+    M::Reply: Drop,
     requires { desk_of worker.old.pass ≡ identity desk.now }
     ensures { desk_of worker.new.pass ≡ desk_of worker.old.pass }
 {
-    let driver = driver_of(label, 1 + turn % 2_000_000, (number % 1000) as u16)?;
-    worker.call(rt, desk, driver.ask(Asked::Start))?;
+    let command = M::start(label, 1 + turn % 2_000_000, (number % 1000) as u16)?;
+    worker.call(rt, desk, command)?;
     Some(())
 }
 
-// The number of the subscription that the reply tells of.
-fn number_of(reply: &Reply) -> Option<u64> {
-    match reply {
-        Reply::Subscribed { stamp, .. } => Some(stamp.wrapping_sub(FIRST)),
-        _ => None,
-    }
+/// Has so many threads overwrite a label each of one new machine, which each of them follows. `None` where memory or a place is
+/// wanting.
+pub(crate) fn overwrite_by_crew<M, R>(rt: &R, alloc: Global, sizes: Sizes) -> Option<Crew<M>>
+where
+    M: Followed + Send + Drop,
+    M::Command: Drop + Send,
+    M::Reply: Drop + Send,
+    R: Threads + Wait + Sync,
+{
+    let Sizes { threads, calls } = sizes;
+    let machine = M::begin_at(alloc, FIRST)?;
+    run_crew(rt, alloc, machine, threads, Overwrite { calls })
 }
 
-/// Has so many threads overwrite a label each of one store, which each of them follows. How many bits they raised; `None` where
-/// memory or a place is wanting.
-pub(crate) fn overwrite_labels<R: Threads + Wait + Sync>(
-    rt: &R,
-    alloc: Global,
-    sizes: Sizes,
-) -> Option<u64> {
-    let Sizes { threads, calls } = sizes;
-    let store = store_at(alloc, FIRST)?;
-    let crew = run_crew(rt, alloc, store, threads, Overwrite { calls })?;
+/// How many bits they raised.
+pub(crate) fn overwrite_labels<M, R>(rt: &R, alloc: Global, sizes: Sizes) -> Option<u64>
+where
+    M: Followed + Send + Drop,
+    M::Command: Drop + Send,
+    M::Reply: Drop + Send,
+    R: Threads + Wait + Sync,
+{
+    let crew = overwrite_by_crew::<M, R>(rt, alloc, sizes)?;
     Some(crew.raises)
 }

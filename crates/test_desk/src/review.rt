@@ -12,7 +12,7 @@ use test_crews::{Crew, Kept, Said, run_crew};
 #[derive(Clone, Copy)]
 pub(crate) struct Review {
     /// How many calls they made.
-    pub entries: usize,
+    pub entries: u64,
     /// Whether each place is of one call, behind all that its thread had seen, and one machine that is given the commands in
     /// the order of their places answers each as it was answered, and comes as far; and whether who learnt a note looked as far
     /// as its maker.
@@ -38,44 +38,49 @@ where
     review_of(alloc, &crew)
 }
 
+// Gives one machine the commands in the order of their places, but for those that were refused for want of memory, and of one
+// that was stopped so what was done. `None` where memory is wanting here.
 fn review_of<M: Compared + Drop>(alloc: Global, crew: &Crew<M>) -> Option<Review>
 where
     M::Reply: Drop,
 {
-    let (legal, noroom) = compare_with_one(alloc, crew)?;
-    Some(Review {
-        entries: crew.said.len(),
-        legal,
-        noroom,
-        exact: account_is_exact(crew),
-    })
-}
-
-// Gives one machine the commands in the order of their places, but for those that were refused for want of memory, and of one
-// that was stopped so what was done. Whether all is so, and how many of these there are. `None` where memory is wanting here.
-fn compare_with_one<M: Compared + Drop>(alloc: Global, crew: &Crew<M>) -> Option<(bool, u64)>
-where
-    M::Reply: Drop,
-{
     let mut alone = M::begin(alloc)?;
-    let (legal, noroom) = answer_alone(alloc, &mut alone, &crew.said)?;
-    let legal = legal && !crew.behind && alone.is_as_far_as(&crew.machine);
-    Some((legal, noroom))
+    let mut review = Review {
+        entries: 0,
+        legal: !crew.behind,
+        noroom: 0,
+        exact: account_is_exact(crew),
+    };
+    answer_alone(alloc, &mut alone, &crew.said, &mut review)?;
+    review.legal &= alone.is_as_far_as(&crew.machine);
+    Some(review)
 }
 
-// Whether the machine answers all calls so, each at its place, and how many wanted memory.
-fn answer_alone<M: Compared>(alloc: Global, alone: &mut M, said: &[Said]) -> Option<(bool, u64)>
+// Has the machine answer all calls, in turn.
+fn answer_alone<M: Compared>(
+    alloc: Global,
+    alone: &mut M,
+    said: &[Said],
+    review: &mut Review,
+) -> Option<()>
 where
     M::Reply: Drop,
 {
-    let mut legal = true;
-    let mut noroom = 0u64;
-    for (place, one) in (0u64..).zip(said) {
+    for one in said {
         let same = is_answered_so(alloc, alone, one)?;
-        legal &= same && one.place == place && one.seen <= place;
-        noroom = noroom.wrapping_add(u64::from(one.kept.wants_room()));
+        review.add(one, same);
     }
-    Some((legal, noroom))
+    Some(())
+}
+
+impl Review {
+    // Adds the call of the next place, which was answered as one machine answers it, or was not.
+    fn add(&mut self, one: &Said, same: bool) {
+        let place = self.entries;
+        self.legal &= same && one.place == place && one.seen <= place;
+        self.noroom = self.noroom.wrapping_add(u64::from(one.kept.wants_room()));
+        self.entries = place.wrapping_add(1);
+    }
 }
 
 // Whether the machine answers the call so. `None` where memory is wanting here.
@@ -102,7 +107,7 @@ where
     M::Reply: Drop,
 {
     let command = M::command_of(alloc, one.seen, one.turn)?;
-    let reply = alone.answer(M::first_of(alloc, command, items)?);
+    let reply = alone.answer(M::first_of(command, items)?);
     Some(M::owed(&reply) == owed)
 }
 

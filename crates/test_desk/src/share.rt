@@ -5,7 +5,7 @@ ghost use Rattle.desk.specs.Desk.{identity};
 ghost use Rattle.desk.specs.Pass.{desk_of};
 
 use crate::compared::Compared;
-use desk::{Desk, Pass};
+use desk::{Answer, Desk, Pass};
 use std::alloc::Global;
 use std::sync::Wait;
 use test_crews::{Board, DeskName, Said, Task, Worker};
@@ -58,14 +58,26 @@ where
     ensures { desk_of worker.new.pass ≡ desk_of worker.old.pass }
 {
     let seen = desk.front(&mut worker.pass);
-    let answer = worker.call(rt, desk, M::command_of(alloc, seen, turn)?)?;
+    let command = M::command_of(alloc, seen, turn)?;
+    let answer = worker.call(rt, desk, command)?;
+    keep::<M>(alloc, &mut worker.said, seen, turn, &answer)
+}
+
+// Keeps what a call was answered. `None` where memory is wanting.
+fn keep<M: Compared>(
+    alloc: Global,
+    said: &mut Vec<Said>,
+    seen: u64,
+    turn: u32,
+    answer: &Answer<M::Reply>,
+) -> Option<()> {
     let kept = M::kept_of(alloc, &answer.reply)?;
     let place = answer.place;
-    let said = Said {
+    let one = Said {
         seen,
         turn,
         place,
         kept,
     };
-    worker.said.push(said).ok()
+    said.push(one).ok()
 }

@@ -3,16 +3,13 @@
 use crate::commands::{Asked, driver_of, follow, merge};
 use crate::compared::Compared;
 use crate::kept::kept_of;
-use crate::new_store::{INCARNATION, store_at};
+use crate::new_store::{FIRST, INCARNATION, store_at};
 use ds_entry::Items;
 use ds_feed::Cursor;
 use ds_machine::{Command, Reply, Scope};
 use ds_store::Store;
 use std::alloc::Global;
 use test_crews::Kept;
-
-/// The position of a new store.
-pub(crate) const FIRST: u64 = 1 << 32;
 
 // The labels that threads publish.
 const LABELS: [&[u8]; 4] = [b"disk", b"eth0", b"inet", b"tty"];
@@ -58,9 +55,9 @@ impl Compared for Box<Store> {
         })
     }
 
-    fn first_of(alloc: Global, command: Command, items: usize) -> Option<Command> {
+    fn first_of(command: Command, items: usize) -> Option<Command> {
         match command {
-            Command::Merge { items: all } => first_items(alloc, &all, items).map(merge_of),
+            Command::Merge { items: all } => first_items(all, items).map(merge_of),
             other => Some(other),
         }
     }
@@ -82,11 +79,11 @@ fn merge_of(items: Items) -> Command {
     Command::Merge { items }
 }
 
-// Copies of the first so many items. `None` where there aren't so many, or memory is wanting.
-fn first_items(alloc: Global, all: &Items, count: usize) -> Option<Items> {
-    let mut first = Items::new(alloc);
-    for index in 0..count {
-        first.push(all.get(index)?.copy(alloc).ok()?).ok()?;
+// The first so many items. `None` where there aren't so many, or memory is wanting.
+fn first_items(mut all: Items, count: usize) -> Option<Items> {
+    if count > all.len() {
+        return None;
     }
-    Some(first)
+    all.split_off(count).ok()?;
+    Some(all)
 }

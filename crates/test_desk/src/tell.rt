@@ -2,26 +2,18 @@
 
 use crate::failure::Failure;
 use desk::DeskFault;
-use ds_machine::Refusal;
 
-/// A part of a line.
-#[derive(Clone, Copy)]
-pub(crate) enum Part {
-    Text(&'static str),
-    Number(u128),
-    Refusal(Refusal),
-    Fault(DeskFault),
+/// Prints each text with the number behind it, and then the end.
+pub(crate) fn tell(rt: &impl Print, numbers: &[(&str, u128)], end: &str) -> Result<(), Failure> {
+    for (text, number) in numbers {
+        print!(rt; "{text}{number}")?;
+    }
+    print!(rt; "{end}")?;
+    Ok(())
 }
 
-/// Prints these parts, the newline too where there is to be one.
-pub(crate) fn tell(rt: &impl Print, parts: &[Part]) -> Result<(), Failure> {
-    for part in parts {
-        match *part {
-            Part::Text(text) => print!(rt; "{text}")?,
-            Part::Number(number) => print!(rt; "{number}")?,
-            Part::Refusal(refusal) => print!(rt; "{refusal}")?,
-            Part::Fault(fault) => print!(rt; "{fault}")?,
-        }
-    }
+/// Prints why a desk refused.
+pub(crate) fn tell_fault(rt: &impl Print, fault: DeskFault) -> Result<(), Failure> {
+    println!(rt; "refused by the desk: {fault}")?;
     Ok(())
 }

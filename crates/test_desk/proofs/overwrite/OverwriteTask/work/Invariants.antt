@@ -1,5 +1,5 @@
 use Rattle.std.proofs.Common.{◌≡◌}
-use Rattle.test_desk.proofs.overwrite.OverwriteTaskBoxStore.work.Given as goal
+use Rattle.test_desk.proofs.overwrite.OverwriteTask.work.Given as goal
 
 abbrev pub invariant-loop-turn : goal.invariant-loop-turn
 invariant-loop-turn g l = l.worker.pass.seat.table_id ≡ l.initial.worker.pass.seat.table_id

@@ -1,5 +1,0 @@
-use Rattle.std.proofs.Common.{◌≡◌}
-use Rattle.test_desk.proofs.rounds.take.Given as goal
-
-abbrev pub invariant-loop : goal.invariant-loop
-invariant-loop l = l.pass.seat.table_id ≡ l.desk.table.shared.table_id

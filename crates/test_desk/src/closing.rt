@@ -1,0 +1,191 @@
+//! How a desk with two passes is closed.
+
+ghost use Rattle.std.specs.Prelude.{◌≡◌, ◌∷◌, [], IfSome};
+ghost use Rattle.std.specs.List.{AllByRecursion};
+ghost use Rattle.desk.specs.Desk.{identity};
+ghost use Rattle.desk.specs.Pass.{desk_of, desk_of_note};
+
+use crate::failure::Failure;
+use crate::followed::Followed;
+use crate::playing::look;
+use crate::tell::{tell, tell_fault};
+use desk::{CloseStop, Closed, Desk, Note, Pass, Passes};
+use std::alloc::Global;
+
+/// A desk, and its two passes.
+#[derive(Drop)]
+pub(crate) struct Table<D, P> {
+    pub desk: D,
+    pub one: P,
+    pub two: P,
+}
+
+/// Closes the desk with both passes, and prints what is left, with the row of a subscription; or why it stays open.
+pub(crate) fn close_both<M: Followed + Drop, R: Print>(
+    rt: &R,
+    alloc: Global,
+    table: Table<Desk<M>, Pass<M>>,
+    sub: usize,
+) -> Result<(), Failure>
+where
+    M::Command: Drop,
+    M::Reply: Drop,
+    requires one { desk_of table.one ≡ identity table.desk }
+    requires two { desk_of table.two ≡ identity table.desk }
+{
+    let Table { desk, one, two } = table;
+    let Some(passes) = list_of::<M>(alloc, one, two) else {
+        return Err(Failure::NoRoom);
+    };
+    close(rt, alloc, desk, passes, sub)
+}
+
+/// Asks to close with a note out, then with a pass out, and then with neither.
+pub(crate) fn close_when_learnt<M: Followed + Drop, R: Print>(
+    rt: &R,
+    alloc: Global,
+    table: Table<Desk<M>, Pass<M>>,
+) -> Result<(), Failure>
+where
+    M::Command: Drop,
+    M::Reply: Drop,
+    requires one { desk_of table.one ≡ identity table.desk }
+    requires two { desk_of table.two ≡ identity table.desk }
+{
+    let Table { desk, mut one, two } = table;
+    let Ok(note) = desk.note(&mut one) else {
+        return Err(Failure::Worn);
+    };
+    let Some(passes) = list_of::<M>(alloc, one, two) else {
+        return Err(Failure::NoRoom);
+    };
+    match desk.close(alloc, passes) {
+        Ok(closed) => tell_closed(rt, &closed, 0),
+        Err(stop) => close_with_pass_out(rt, alloc, stop, note),
+    }
+}
+
+// Has the second pass learn the note, and asks to close with the first pass alone, and then with both.
+fn close_with_pass_out<M: Followed + Drop, R: Print>(
+    rt: &R,
+    alloc: Global,
+    mut stop: CloseStop<Desk<M>, Passes<M>>,
+    note: Note<M>,
+) -> Result<(), Failure>
+where
+    M::Command: Drop,
+    M::Reply: Drop,
+    requires passes { AllByRecursion (λ p. desk_of p ≡ identity stop.desk) stop.passes }
+    requires note { desk_of_note note ≡ identity stop.desk }
+{
+    tell_fault(rt, stop.fault)?;
+    let Some(mut two) = stop.passes.pop() else {
+        return Err(Failure::NoRoom);
+    };
+    learn(rt, &stop.desk, &mut two, note)?;
+    match stop.desk.close(alloc, stop.passes) {
+        Ok(closed) => tell_closed(rt, &closed, 0),
+        Err(stop) => close_with_pass_back(rt, alloc, stop, two),
+    }
+}
+
+// Asks to close with a pass that was out.
+fn close_with_pass_back<M: Followed + Drop, R: Print>(
+    rt: &R,
+    alloc: Global,
+    mut stop: CloseStop<Desk<M>, Passes<M>>,
+    two: Pass<M>,
+) -> Result<(), Failure>
+where
+    M::Command: Drop,
+    M::Reply: Drop,
+    requires passes { AllByRecursion (λ p. desk_of p ≡ identity stop.desk) stop.passes }
+    requires two { desk_of two ≡ identity stop.desk }
+{
+    tell_fault(rt, stop.fault)?;
+    if stop.passes.push(two).is_err() {
+        return Err(Failure::NoRoom);
+    }
+    close(rt, alloc, stop.desk, stop.passes, 0)
+}
+
+// Learns a note, and looks.
+fn learn<M: Followed + Drop, R: Print>(
+    rt: &R,
+    desk: &Desk<M>,
+    pass: &mut Pass<M>,
+    note: Note<M>,
+) -> Result<(), Failure>
+where
+    M::Command: Drop,
+    M::Reply: Drop,
+    requires pass { desk_of pass.old ≡ identity desk.now }
+    requires note { desk_of_note note ≡ identity desk.now }
+    ensures { desk_of pass.new ≡ identity desk.now }
+{
+    if desk.learn(pass, note).is_err() {
+        return Err(Failure::Worn);
+    }
+    look(rt, desk, pass)
+}
+
+// The two passes of a desk. `None` where memory is wanting.
+fn list_of<M: Followed + Drop>(alloc: Global, one: Pass<M>, two: Pass<M>) -> Option<Passes<M>>
+where
+    M::Command: Drop,
+    M::Reply: Drop,
+    ensures { IfSome result (λ passes. passes ≡ one ∷ two ∷ []) }
+{
+    let mut passes = Passes::<M>::new(alloc);
+    if passes.push(one).is_err() {
+        return None;
+    }
+    if passes.push(two).is_err() {
+        return None;
+    }
+    Some(passes)
+}
+
+// Closes the desk with these passes, and prints what is left, with the row of a subscription; or why it stays open.
+fn close<M: Followed + Drop, R: Print>(
+    rt: &R,
+    alloc: Global,
+    desk: Desk<M>,
+    passes: Passes<M>,
+    sub: usize,
+) -> Result<(), Failure>
+where
+    M::Command: Drop,
+    M::Reply: Drop,
+    requires { AllByRecursion (λ p. desk_of p ≡ identity desk) passes }
+{
+    match desk.close(alloc, passes) {
+        Ok(closed) => tell_closed(rt, &closed, sub),
+        Err(stop) => tell_fault(rt, stop.fault),
+    }
+}
+
+// Prints how far a machine came, and the row of a subscription.
+fn tell_closed<M: Followed, R: Print>(
+    rt: &R,
+    closed: &Closed<M>,
+    sub: usize,
+) -> Result<(), Failure> {
+    let Some(row) = closed.account.get(sub) else {
+        return Ok(());
+    };
+    let position = closed.machine.position();
+    tell(
+        rt,
+        &[
+            ("closed: position ", u128::from(position)),
+            (", raises ", u128::from(row.raises)),
+            (", takes ", u128::from(row.takes)),
+        ],
+        if row.pending {
+            ", pending true\n"
+        } else {
+            ", pending false\n"
+        },
+    )
+}
