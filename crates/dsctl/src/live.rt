@@ -21,8 +21,8 @@ pub(crate) fn run<R: Runtime + AllocGlobal + Threads + Wait + Sync>(
 // Prints the four lines of a report.
 fn tell(rt: &impl Runtime, report: &LiveReport) -> Result<ExitCode, Failure> {
     let entries = report.entries;
-    let maps = if report.maps { "equal" } else { "differ" };
-    let replicas = if report.replicas { "equal" } else { "differ" };
+    let maps = comparison(report.maps);
+    let replicas = comparison(report.replicas);
     let account = if report.account { "exact" } else { "wrong" };
     let printed = println!(rt;
         "entries {entries}\nmaps {maps}\nreplicas {replicas}\naccount {account}"
@@ -31,6 +31,10 @@ fn tell(rt: &impl Runtime, report: &LiveReport) -> Result<ExitCode, Failure> {
         Ok(()) => Ok(ExitCode::SUCCESS),
         Err(error) => Err(Failure::WriteFault(Some(error))),
     }
+}
+
+fn comparison(are_equal: bool) -> &'static str {
+    if are_equal { "equal" } else { "differ" }
 }
 
 fn failure_of(fault: LiveFault) -> Failure {

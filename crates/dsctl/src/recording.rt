@@ -19,14 +19,25 @@ pub(crate) fn record_input(
     greet(rt, terminals, Greeting::Commands);
     let mut reader = Plain(Typed::unprompted(rt));
     let mut writer = Plain(Answers::new(io::writer(rt)));
-    match record(rt.alloc(), &mut reader, &mut writer, form_of(form)) {
+    let recorded = record(rt.alloc(), &mut reader, &mut writer, form_of(form));
+    outcome(rt, recorded, reader.0.fault, writer.0.fault)
+}
+
+// What comes of a recording; with why the input or the trace failed, where one did.
+fn outcome(
+    rt: &impl Runtime,
+    recorded: Result<u64, RecordFault>,
+    unread: Option<io::Error>,
+    unwritten: Option<io::Error>,
+) -> Result<ExitCode, Failure> {
+    match recorded {
         Ok(_) => Ok(ExitCode::SUCCESS),
         Err(RecordFault::BadLine { line, place }) => {
             let _ = eprintln!(rt; "badline {line} {place}");
             Ok(ExitCode::from(1))
         }
-        Err(RecordFault::ReadFault) => Err(Failure::ReadFault(reader.0.fault)),
-        Err(RecordFault::WriteFault) => Err(Failure::WriteFault(writer.0.fault)),
+        Err(RecordFault::ReadFault) => Err(Failure::ReadFault(unread)),
+        Err(RecordFault::WriteFault) => Err(Failure::WriteFault(unwritten)),
         Err(RecordFault::NoRoom) => Err(Failure::NoRoom),
     }
 }

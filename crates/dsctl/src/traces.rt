@@ -18,33 +18,24 @@ pub(crate) fn judge_input(
     greet(rt, terminals, Greeting::Trace);
     let mut reader = Plain(Typed::unprompted(rt));
     let judged = judge(rt.alloc(), &mut reader);
-    match judged.verdict {
-        Verdict::ReadFault => Err(Failure::ReadFault(reader.0.fault)),
-        Verdict::NoRoom => Err(Failure::NoRoom),
-        verdict => tell_verdict(rt, verdict, &judged),
-    }
+    tell_verdict(rt, &judged, reader.0.fault)
 }
 
-// Prints a verdict on a trace that was read, and says what is wrong with it.
+// Prints the verdict on a trace that was read, and says what is wrong with it; with why a read failed, where one did.
 fn tell_verdict(
     rt: &(impl Runtime + AllocGlobal),
-    verdict: Verdict,
     judged: &Judged,
+    unread: Option<io::Error>,
 ) -> Result<ExitCode, Failure> {
-    print_verdict(rt, verdict)?;
-    Ok(explain_wrong_line(rt, judged))
-}
-
-// Prints a verdict on a trace that was read.
-fn print_verdict(rt: &impl Runtime, verdict: Verdict) -> Result<(), Failure> {
-    let (word, number) = match verdict {
+    let (word, number) = match judged.verdict {
         Verdict::Legal { length } => ("legal", length),
         Verdict::IllegalAt(line) => ("illegal", line),
         Verdict::BadLineAt(line) => ("badline", line),
-        Verdict::ReadFault | Verdict::NoRoom => return Ok(()),
+        Verdict::ReadFault => return Err(Failure::ReadFault(unread)),
+        Verdict::NoRoom => return Err(Failure::NoRoom),
     };
     match println!(rt; "{word} {number}") {
-        Ok(()) => Ok(()),
+        Ok(()) => Ok(explain_wrong_line(rt, judged)),
         Err(error) => Err(Failure::WriteFault(Some(error))),
     }
 }
@@ -69,13 +60,24 @@ pub(crate) fn upgrade_input(
     greet(rt, terminals, Greeting::Trace);
     let mut reader = Plain(Typed::unprompted(rt));
     let mut writer = Plain(Answers::new(io::writer(rt)));
-    match upgrade(rt.alloc(), &mut reader, &mut writer) {
+    let upgraded = upgrade(rt.alloc(), &mut reader, &mut writer);
+    outcome(rt, upgraded, reader.0.fault, writer.0.fault)
+}
+
+// What comes of an upgrade; with why the older trace or the newer one failed, where one did.
+fn outcome(
+    rt: &impl Runtime,
+    upgraded: Result<u64, UpgradeFault>,
+    unread: Option<io::Error>,
+    unwritten: Option<io::Error>,
+) -> Result<ExitCode, Failure> {
+    match upgraded {
         Ok(_) => Ok(ExitCode::SUCCESS),
-        Err(UpgradeFault::ReadFault) => Err(Failure::ReadFault(reader.0.fault)),
-        Err(UpgradeFault::WriteFault) => Err(Failure::WriteFault(writer.0.fault)),
+        Err(UpgradeFault::ReadFault) => Err(Failure::ReadFault(unread)),
+        Err(UpgradeFault::WriteFault) => Err(Failure::WriteFault(unwritten)),
         Err(UpgradeFault::NoRoom) => Err(Failure::NoRoom),
         Err(refusal) => {
-            let _ = eprintln!(rt; "{refusal}");
+            let _ = rt.eprintln(refusal);
             Ok(ExitCode::from(1))
         }
     }
