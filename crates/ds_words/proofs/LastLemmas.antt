@@ -23,15 +23,15 @@ place_stops stop bytes room s = first_stops a_place (λ _. an_end) 2 stop bytes 
 pub end_stops : (n : ℕ) (stop : PartFault) (bytes r : List ℕ) → Found a_place n bytes r → StopsIn an_end stop r → StopsIn a_last_place stop bytes
 end_stops n stop bytes r found s = then_stops a_place (λ _. an_end) 2 stop n bytes r place_fixed place_one found s
 
-row_exits : (w : CommandWord) (bytes : List ℕ) (result : Result ScriptCommand PartFault) (stop : PartFault)
-    → IsErrAnd result (λ (y : PartFault). y ≡ stop) → stop ≢ NoRoom → StopsIn (line_of w) stop bytes → TakesCommand w bytes result
-row_exits w bytes (Ok command) stop exit room s = absurd exit
-row_exits w bytes (Err y) (BadPart left) exit room s =
+row_exits : (w : CommandWord) (bytes : List ℕ) (stop : PartFault) (result : Result ScriptCommand PartFault)
+    → stop ≢ NoRoom → StopsIn (line_of w) stop bytes → IsErrAnd result (λ (y : PartFault). y ≡ stop) → TakesCommand w bytes result
+row_exits w bytes stop (Ok command) room s exit = absurd exit
+row_exits w bytes (BadPart left) (Err y) room s exit =
     subst (λ (p : PartFault). TakesCommand w bytes (Err p)) (sym exit) (line_stops_at w left bytes s)
-row_exits w bytes (Err y) NoRoom exit room s = absurd (room refl)
+row_exits w bytes NoRoom (Err y) room s exit = absurd (room refl)
 
 -- a `?` ends the reader of a line where the slots that are left can't be read
 pub exit_row : {w : CommandWord} {bytes : List ℕ} {k : Kind} {ss : List Slot} {rest : List ℕ} {to : To w k ss} {stop : PartFault}
     (result : Result ScriptCommand PartFault) → IsErrAnd result (λ (y : PartFault). y ≡ stop)
     → Along w bytes k ss rest to → stop ≢ NoRoom → StopsIn (row_of k ss) stop rest → TakesCommand w bytes result
-exit_row {w} {bytes} {stop = stop} result exit a room h = row_exits w bytes result stop exit room (a.stops stop h)
+exit_row {w} {bytes} {stop = stop} result exit a room h = row_exits w bytes stop result room (a.stops stop h) exit
