@@ -17,3 +17,12 @@ returns-in-Again c = subst (λ (e : SystemEvent). SystemEventLeads e c.again.res
 
 pub returns-in-World : goal.returns-in-World
 returns-in-World c = subst (λ (e : SystemEvent). SystemEventLeads e c.pass.result c.args.self.now c.pass.new.self) (sym c.in-World.is) c.pass.ensures
+
+pub returns-in-Follow : goal.returns-in-Follow
+returns-in-Follow c = subst (λ (e : SystemEvent). SystemEventLeads e c.follow.result c.args.self.now c.follow.new.self) (sym c.in-Follow.is) c.follow.ensures
+
+pub returns-in-Submit : goal.returns-in-Submit
+returns-in-Submit c = subst (λ (e : SystemEvent). SystemEventLeads e c.submit.result c.args.self.now c.submit.new.self) (sym c.in-Submit.is) c.submit.ensures
+
+pub returns-in-Answered : goal.returns-in-Answered
+returns-in-Answered c = subst (λ (e : SystemEvent). SystemEventLeads e c.answered.result c.args.self.now c.answered.new.self) (sym c.in-Answered.is) c.answered.ensures
