@@ -5,17 +5,15 @@
 //! nothing held. `get NAME KIND` asks for the change of a key, `live NAME KIND` whether it is a put, and `after NAME KIND`, or
 //! `after -`, for the first change behind a key, or of all.
 
-use crate::entries::{Entry, name_of, offered, read_line};
 use crate::failure::Failure;
-use crate::subject::{Subject, add, ask_all, word_of};
-use ds_entry::{Change, Item, Items};
+use crate::lines::{key_of, limits_at, offered};
+use crate::subject::{Subject, add, add_items, add_number, ask_all, word_of};
+use ds_entry::{Change, Item};
 use ds_held::Held;
 use ds_join::{JoinFault, Merge, Stop};
-use ds_line::{append_change, append_item, kind_at};
-use ds_names::{Key, Kind};
-use ds_words::ScriptCommand;
+use ds_line::{append_all, append_change};
+use ds_names::{Key, NoRoom};
 use std::alloc::Global;
-use std::io::Write;
 use std::rt::Runtime;
 
 /// What a holder is asked.
@@ -41,103 +39,101 @@ pub(crate) enum Asked {
 
 /// Asks a new holder the lines.
 pub(crate) fn answer_part(
-    rt: &impl Runtime,
-    alloc: Global,
-    mut held: Held,
+    rt: &(impl Runtime + AllocGlobal),
+    text: &mut Vec<u8>,
+    first: &str,
     lines: &str,
 ) -> Result<(), Failure> {
-    ask_all(rt, alloc, &mut held, lines)
+    let mut held = new_holder(rt.alloc(), first).ok_or(Failure::BadLine)?;
+    ask_all(rt, &mut held, text, lines)
+}
+
+// The holder of `holder`, or of `holder SUBS KEYS`.
+fn new_holder(alloc: Global, first: &str) -> Option<Held> {
+    if first == "holder" {
+        return Some(Held::new(alloc));
+    }
+    let mut words = first.strip_prefix("holder ")?.split(' ');
+    let limits = limits_at(&mut words)?;
+    Some(Held::bounded(alloc, limits))
 }
 
 impl Subject for Held {
     type Asked = Asked;
 
-    fn make(alloc: Global, entry: Entry) -> Result<Asked, Failure> {
-        let Entry { line, block } = entry;
-        match line.as_str() {
-            "join" => other(alloc, block).map(Asked::Join),
+    fn make(alloc: Global, line: &str) -> Result<Asked, Failure> {
+        match line {
+            "join" => Ok(Asked::Join(Held::new(alloc))),
+            "all" => Ok(Asked::All),
+            "clear" => Ok(Asked::Clear),
+            "after -" => Ok(Asked::After(None)),
             line => asked_by(alloc, line),
         }
     }
 
-    fn answer(&mut self, alloc: Global, text: &mut Vec<u8>, asked: Asked) -> Result<(), Failure> {
+    fn add(alloc: Global, asked: &mut Asked, line: &str) -> Result<(), Failure> {
+        match asked {
+            Asked::Join(other) => give(other, offered(alloc, line)?),
+            _ => Err(Failure::BadLine),
+        }
+    }
+
+    fn answer(&mut self, alloc: Global, text: &mut Vec<u8>, asked: Asked) -> Result<(), NoRoom> {
         match asked {
             Asked::Offer(item) => add_merge(text, take(self, item)),
             Asked::Copy(change) => add_merge(text, self.merge_copy(alloc, &change)),
             Asked::Join(other) => add_join(text, self.join(alloc, &other)),
             Asked::All => add_all(alloc, text, self),
             Asked::Get(key) => add_change(text, self.get(&key)),
-            Asked::Live(key) if self.live(&key).is_some() => add(text, "live\n"),
-            Asked::Live(_) => add(text, "not live\n"),
+            Asked::Live(key) => add_live(text, self.live(&key).is_some()),
             Asked::After(key) => add_change(text, self.first_after(key.as_ref())),
             Asked::Clear => {
                 self.clear();
-                add(text, "cleared\n")
+                add(text, b"cleared\n")
             }
         }
     }
 }
 
-// What a line without a block asks.
+// What a line of some words asks.
 fn asked_by(alloc: Global, line: &str) -> Result<Asked, Failure> {
-    match line {
-        "all" => Ok(Asked::All),
-        "clear" => Ok(Asked::Clear),
-        "after -" => Ok(Asked::After(None)),
-        _ => match line.split_once(' ') {
-            Some(("copy", change)) => change_of(alloc, change).map(Asked::Copy),
-            Some(("get", key)) => key_of(key).map(Asked::Get),
-            Some(("live", key)) => key_of(key).map(Asked::Live),
-            Some(("after", key)) => key_of(key).map(Some).map(Asked::After),
-            _ => offered(read_line(alloc, line)?).map(Asked::Offer),
-        },
+    if line.starts_with("offer ") {
+        return offered(alloc, line).map(Asked::Offer);
+    }
+    match line.strip_prefix("copy ") {
+        Some(change) => change_of(alloc, change).map(Asked::Copy),
+        None => asked_of_key(line).ok_or(Failure::BadLine),
     }
 }
 
-// The key of `NAME KIND`.
-fn key_of(words: &str) -> Result<Key, Failure> {
-    let (name, kind) = words.split_once(' ').ok_or(Failure::BadLine)?;
-    Ok(Key {
-        name: name_of(name)?,
-        kind: kind_of(kind)?,
-    })
-}
-
-fn kind_of(word: &str) -> Result<Kind, Failure> {
-    match kind_at(word.as_bytes()) {
-        Some((kind, rest)) if rest.is_empty() => Ok(kind),
-        _ => Err(Failure::BadLine),
-    }
-}
-
-// A change, or a dash where there is none.
-fn add_change(text: &mut Vec<u8>, change: Option<&Change>) -> Result<(), Failure> {
-    match change {
-        Some(change) => Ok(append_change(text, change)?),
-        None => add(text, "-\n"),
+// What is asked of a key by `get NAME KIND`, `live` or `after`.
+fn asked_of_key(line: &str) -> Option<Asked> {
+    let (word, key) = line.split_once(' ')?;
+    let key = key_of(key)?;
+    match word {
+        "get" => Some(Asked::Get(key)),
+        "live" => Some(Asked::Live(key)),
+        "after" => Some(Asked::After(Some(key))),
+        _ => None,
     }
 }
 
 // The change of a `copy`, which is spelled as in an `offer`.
 fn change_of(alloc: Global, change: &str) -> Result<Change, Failure> {
     let line = format!(in alloc; "offer {change}")?;
-    match offered(read_line(alloc, line.as_str())?)? {
+    match offered(alloc, line.as_str())? {
         Item::Change(change) => Ok(change),
         Item::Floor(_) => Err(Failure::BadLine),
     }
 }
 
-// Another holder, which took the items of a block.
-fn other(alloc: Global, block: Vec<ScriptCommand>) -> Result<Held, Failure> {
-    let mut held = Held::new(alloc);
-    for command in block {
-        match take(&mut held, offered(command)?) {
-            Ok(_) => {}
-            Err(JoinFault::NoRoom) => return Err(Failure::NoRoom),
-            Err(_) => return Err(Failure::BadLine),
-        }
+// Another holder takes an item.
+fn give(other: &mut Held, item: Item) -> Result<(), Failure> {
+    match take(other, item) {
+        Ok(_) => Ok(()),
+        Err(JoinFault::NoRoom) => Err(Failure::NoRoom),
+        Err(_) => Err(Failure::BadLine),
     }
-    Ok(held)
 }
 
 fn take(held: &mut Held, item: Item) -> Result<Merge, JoinFault> {
@@ -147,53 +143,59 @@ fn take(held: &mut Held, item: Item) -> Result<Merge, JoinFault> {
     }
 }
 
-fn add_merge(text: &mut Vec<u8>, merged: Result<Merge, JoinFault>) -> Result<(), Failure> {
+// A change, or a dash where there is none.
+fn add_change(text: &mut Vec<u8>, change: Option<&Change>) -> Result<(), NoRoom> {
+    match change {
+        Some(change) => append_change(text, change),
+        None => add(text, b"-\n"),
+    }
+}
+
+fn add_live(text: &mut Vec<u8>, is_live: bool) -> Result<(), NoRoom> {
+    match is_live {
+        true => add(text, b"live\n"),
+        false => add(text, b"not live\n"),
+    }
+}
+
+fn add_merge(text: &mut Vec<u8>, merged: Result<Merge, JoinFault>) -> Result<(), NoRoom> {
     match merged {
-        Ok(Merge::Taken) => add(text, "taken\n"),
-        Ok(Merge::Known) => add(text, "known\n"),
-        Ok(Merge::Stale) => add(text, "stale\n"),
+        Ok(Merge::Taken) => add(text, b"taken\n"),
+        Ok(Merge::Known) => add(text, b"known\n"),
+        Ok(Merge::Stale) => add(text, b"stale\n"),
         Err(fault) => {
-            add(text, "refused ")?;
+            add(text, b"refused ")?;
             add_fault(text, fault)
         }
     }
 }
 
-fn add_join(text: &mut Vec<u8>, joined: Result<(), Stop>) -> Result<(), Failure> {
+fn add_join(text: &mut Vec<u8>, joined: Result<(), Stop>) -> Result<(), NoRoom> {
     match joined {
-        Ok(()) => add(text, "joined\n"),
+        Ok(()) => add(text, b"joined\n"),
         Err(Stop { done, fault }) => {
-            write!(text, "stopped {done} ").ok().ok_or(Failure::NoRoom)?;
+            add_number(text, b"stopped ", done as u64, b" ")?;
             add_fault(text, fault)
         }
     }
 }
 
-fn add_fault(text: &mut Vec<u8>, fault: JoinFault) -> Result<(), Failure> {
+fn add_fault(text: &mut Vec<u8>, fault: JoinFault) -> Result<(), NoRoom> {
     match fault {
         JoinFault::Clash { version } => {
-            let (epoch, seq) = (version.epoch.number(), version.seq);
-            let written = write!(text, "clash {epoch}.{seq}\n");
-            written.ok().ok_or(Failure::NoRoom)
+            add_number(text, b"clash ", u64::from(version.epoch.number()), b".")?;
+            add_number(text, b"", u64::from(version.seq), b"\n")
         }
-        other => {
-            add(text, word_of(other))?;
-            add(text, "\n")
-        }
+        other => append_all(text, &[word_of(other), b"\n"]),
     }
 }
 
-fn add_all(alloc: Global, text: &mut Vec<u8>, held: &Held) -> Result<(), Failure> {
+fn add_all(alloc: Global, text: &mut Vec<u8>, held: &Held) -> Result<(), NoRoom> {
     match held.all(alloc) {
-        Ok(items) => add_items(text, &items),
-        Err(_) => add(text, "refused noroom\n"),
+        Ok(items) => {
+            add_items(text, &items)?;
+            add_number(text, b"shown ", items.len() as u64, b"\n")
+        }
+        Err(_) => add(text, b"refused noroom\n"),
     }
-}
-
-fn add_items(text: &mut Vec<u8>, items: &Items) -> Result<(), Failure> {
-    for item in items.as_slice() {
-        append_item(text, item)?;
-    }
-    let count = items.len();
-    write!(text, "shown {count}\n").ok().ok_or(Failure::NoRoom)
 }

@@ -3,22 +3,22 @@
 //!
 //! Standard input has parts, with an empty line between two of them. The first line of a part says what its other lines ask:
 //! `store INCARNATION FIRST RING SUBS KEYS`, a store that is opened so; `map PATTERN KINDS`, a map of the query; or `holder`, or
-//! `holder SUBS KEYS`, one with these limits. store.rt, map.rt and holder.rt tell these lines. All lines of a part are read first, and what they ask is made; then
-//! `ready` is printed, and only then it is asked, and each answer printed by one write. So a growth of memory behind `ready`
-//! is one of a call's that is tested. Where the first line is refused, that is printed, and nothing is asked.
+//! `holder SUBS KEYS`, one with these limits. store.rt, map.rt and holder.rt tell these lines. All lines of a part are read
+//! first, and what they ask is made; then `ready` is printed, and only then it is asked, and each answer printed by one write.
+//! So a growth of memory behind `ready` is one of a call's that is tested. Where the first line is refused, that is printed, and
+//! nothing is asked.
 //!
 //! Status 0: done. 1: a line that can't be read, or an item that the other holder of a `join` doesn't take. 3: memory,
 //! reading or writing failed, and standard error says which.
 #![tactic(auto)]
 
-mod entries;
 mod failure;
 mod holder;
+mod lines;
 mod map;
 mod store;
 mod subject;
 
-use ds_held::Held;
 use failure::Failure;
 use std::io::{ErrorKind, Read};
 use std::process::ExitCode;
@@ -36,16 +36,23 @@ fn main(rt: HostRuntime) -> ExitCode {
     ExitCode::from(3)
 }
 
+// Bytes of one answer for which there is room before the first is asked for.
+const ANSWER: usize = 1 << 20;
+
 // Answers the parts in turn.
 fn run(rt: &(impl Runtime + AllocGlobal)) -> Result<(), Failure> {
-    let text = read_input(rt)?;
-    answer_parts(rt, text.as_str())
+    let input = read_input(rt)?;
+    let mut text = Vec::with_capacity(rt.alloc(), ANSWER)?;
+    answer_parts(rt, &mut text, input.as_str())
 }
 
-fn answer_parts(rt: &(impl Runtime + AllocGlobal), text: &str) -> Result<(), Failure> {
-    for part in text.split("\n\n") {
-        let (first, lines) = part.split_once('\n').unwrap_or((part, ""));
-        answer_part(rt, first, lines)?;
+fn answer_parts(
+    rt: &(impl Runtime + AllocGlobal),
+    text: &mut Vec<u8>,
+    input: &str,
+) -> Result<(), Failure> {
+    for part in input.split("\n\n") {
+        answer_part(rt, text, part)?;
     }
     Ok(())
 }
@@ -62,16 +69,17 @@ fn read_input(rt: &(impl Runtime + AllocGlobal)) -> Result<String, Failure> {
 }
 
 // Makes what the first line says, and asks it the others.
-fn answer_part(rt: &(impl Runtime + AllocGlobal), first: &str, lines: &str) -> Result<(), Failure> {
-    let alloc = rt.alloc();
+fn answer_part(
+    rt: &(impl Runtime + AllocGlobal),
+    text: &mut Vec<u8>,
+    part: &str,
+) -> Result<(), Failure> {
+    let (first, lines) = part.split_once('\n').unwrap_or((part, ""));
     if let Some(words) = first.strip_prefix("store ") {
-        store::answer_part(rt, alloc, words, lines)
-    } else if first == "holder" {
-        holder::answer_part(rt, alloc, Held::new(alloc), lines)
-    } else if let Some(words) = first.strip_prefix("holder ") {
-        let limits = store::limits_of(words)?;
-        holder::answer_part(rt, alloc, Held::bounded(alloc, limits), lines)
+        store::answer_part(rt, text, words, lines)
+    } else if first.starts_with("holder") {
+        holder::answer_part(rt, text, first, lines)
     } else {
-        map::answer_part(rt, alloc, first, lines)
+        map::answer_part(rt, text, first, lines)
     }
 }

@@ -4,18 +4,17 @@
 //! OWNER` for the generation of a floor, and `label NAME` for the endpoint of a label and the change that is held for it.
 //! `clear` empties it.
 
-use crate::entries::{Entry, items_of, name_of, read_line};
 use crate::failure::Failure;
-use crate::subject::{Subject, add, ask_all, print, word_of};
-use ds_entry::Items;
+use crate::lines::{add_offer, read_line};
+use crate::subject::{Subject, add, add_items, add_number, ask_all, print, word_of};
+use ds_entry::{Items, Value};
 use ds_join::Stop;
-use ds_line::{append_change, append_item};
-use ds_names::{Endpoint, Key, Kind, Name};
-use ds_pattern::{PatternFault, Query};
+use ds_line::{append_all, append_change, append_value};
+use ds_names::{Endpoint, Key, Kind, Name, NoRoom};
+use ds_pattern::PatternFault;
 use ds_submap::{Count, SubMap};
 use ds_words::ScriptCommand;
 use std::alloc::Global;
-use std::io::Write;
 use std::rt::Runtime;
 
 /// What a map is asked.
@@ -35,26 +34,26 @@ pub(crate) enum Asked {
 
 /// Makes the map of a script's line, and asks it the lines.
 pub(crate) fn answer_part(
-    rt: &impl Runtime,
-    alloc: Global,
+    rt: &(impl Runtime + AllocGlobal),
+    text: &mut Vec<u8>,
     first: &str,
     lines: &str,
 ) -> Result<(), Failure> {
-    let query = query_of(read_line(alloc, first)?)?;
-    ask_map(rt, alloc, &query, lines)
+    let command = read_line(rt.alloc(), first)?;
+    ask_map(rt, text, &command, lines)
 }
 
-// The query of a map's line.
-fn query_of(command: ScriptCommand) -> Result<Query, Failure> {
-    match command {
-        ScriptCommand::Map { query } => Ok(query),
-        _ => Err(Failure::BadLine),
-    }
-}
-
-fn ask_map(rt: &impl Runtime, alloc: Global, query: &Query, lines: &str) -> Result<(), Failure> {
-    match SubMap::new(alloc, query) {
-        Ok(mut map) => ask_all(rt, alloc, &mut map, lines),
+fn ask_map(
+    rt: &(impl Runtime + AllocGlobal),
+    text: &mut Vec<u8>,
+    command: &ScriptCommand,
+    lines: &str,
+) -> Result<(), Failure> {
+    let ScriptCommand::Map { query } = command else {
+        return Err(Failure::BadLine);
+    };
+    match SubMap::new(rt.alloc(), query) {
+        Ok(mut map) => ask_all(rt, &mut map, text, lines),
         Err(PatternFault::TooLong) => print(rt, b"refused toolong\n"),
         Err(PatternFault::BadPattern) => print(rt, b"refused badpattern\n"),
         Err(PatternFault::NoRoom) => Err(Failure::NoRoom),
@@ -64,21 +63,23 @@ fn ask_map(rt: &impl Runtime, alloc: Global, query: &Query, lines: &str) -> Resu
 impl Subject for SubMap {
     type Asked = Asked;
 
-    fn make(alloc: Global, entry: Entry) -> Result<Asked, Failure> {
-        let Entry { line, block } = entry;
-        match line.as_str() {
-            "take" => items_of(alloc, block).map(Asked::Take),
+    fn make(alloc: Global, line: &str) -> Result<Asked, Failure> {
+        match line {
+            "take" => Ok(Asked::Take(Items::new(alloc))),
             "entries" => Ok(Asked::Entries),
             "clear" => Ok(Asked::Clear),
-            line => match line.split_once(' ') {
-                Some(("floor-of", owner)) => name_of(owner).map(Asked::Floor),
-                Some(("label", name)) => name_of(name).map(Asked::Label),
-                _ => Err(Failure::BadLine),
-            },
+            line => asked_of_name(line).ok_or(Failure::BadLine),
         }
     }
 
-    fn answer(&mut self, alloc: Global, text: &mut Vec<u8>, asked: Asked) -> Result<(), Failure> {
+    fn add(alloc: Global, asked: &mut Asked, line: &str) -> Result<(), Failure> {
+        match asked {
+            Asked::Take(items) => add_offer(alloc, items, line),
+            _ => Err(Failure::BadLine),
+        }
+    }
+
+    fn answer(&mut self, alloc: Global, text: &mut Vec<u8>, asked: Asked) -> Result<(), NoRoom> {
         match asked {
             Asked::Take(items) => add_taken(text, self.take(alloc, &items)),
             Asked::Entries => add_entries(text, alloc, self),
@@ -86,58 +87,69 @@ impl Subject for SubMap {
             Asked::Label(name) => add_label(text, self, name),
             Asked::Clear => {
                 self.clear();
-                add(text, "cleared\n")
+                add(text, b"cleared\n")
             }
         }
     }
 }
 
-fn add_taken(text: &mut Vec<u8>, taken: Result<Count, Stop>) -> Result<(), Failure> {
-    let written = match taken {
-        Ok(Count { done, taken, stale }) => write!(text, "taken {done} {taken} {stale}\n"),
-        Err(Stop { done, fault }) => {
-            let word = word_of(fault);
-            write!(text, "stopped {done} {word}\n")
+// What is asked of a name by `floor-of OWNER` or `label NAME`.
+fn asked_of_name(line: &str) -> Option<Asked> {
+    let (word, name) = line.split_once(' ')?;
+    let name = Name::read(name.as_bytes()).ok()?;
+    match word {
+        "floor-of" => Some(Asked::Floor(name)),
+        "label" => Some(Asked::Label(name)),
+        _ => None,
+    }
+}
+
+fn add_taken(text: &mut Vec<u8>, taken: Result<Count, Stop>) -> Result<(), NoRoom> {
+    match taken {
+        Ok(Count { done, taken, stale }) => {
+            add_number(text, b"taken ", done as u64, b" ")?;
+            add_number(text, b"", taken as u64, b" ")?;
+            add_number(text, b"", stale as u64, b"\n")
         }
-    };
-    written.ok().ok_or(Failure::NoRoom)
-}
-
-fn add_entries(text: &mut Vec<u8>, alloc: Global, map: &SubMap) -> Result<(), Failure> {
-    let Ok(entries) = map.entries(alloc) else {
-        return add(text, "refused noroom\n");
-    };
-    for item in entries.as_slice() {
-        append_item(text, item)?;
+        Err(Stop { done, fault }) => {
+            add_number(text, b"stopped ", done as u64, b" ")?;
+            append_all(text, &[word_of(fault), b"\n"])
+        }
     }
-    let (shown, held) = (entries.len(), map.held().len());
-    let written = write!(text, "entries {shown} of {held}\n");
-    written.ok().ok_or(Failure::NoRoom)
 }
 
-fn add_floor(text: &mut Vec<u8>, map: &SubMap, owner: &Name) -> Result<(), Failure> {
-    let Some(generation) = map.held().floor(owner) else {
-        return add(text, "floor -\n");
-    };
-    let generation = generation.number();
-    let written = write!(text, "floor {generation}\n");
-    written.ok().ok_or(Failure::NoRoom)
-}
-
-fn add_endpoint(text: &mut Vec<u8>, endpoint: Endpoint) -> Result<(), Failure> {
-    let (generation, slot) = (endpoint.generation().number(), endpoint.slot());
-    let written = write!(text, "label {generation}/{slot}\n");
-    written.ok().ok_or(Failure::NoRoom)
-}
-
-fn add_label(text: &mut Vec<u8>, map: &SubMap, name: Name) -> Result<(), Failure> {
-    match map.label(&name) {
-        Some(endpoint) => add_endpoint(text, endpoint)?,
-        None => add(text, "label -\n")?,
+fn add_entries(text: &mut Vec<u8>, alloc: Global, map: &SubMap) -> Result<(), NoRoom> {
+    match map.entries(alloc) {
+        Ok(entries) => add_shown(text, &entries, map.held().len()),
+        Err(_) => add(text, b"refused noroom\n"),
     }
+}
+
+fn add_shown(text: &mut Vec<u8>, entries: &Items, held: usize) -> Result<(), NoRoom> {
+    add_items(text, entries)?;
+    add_number(text, b"entries ", entries.len() as u64, b" of ")?;
+    add_number(text, b"", held as u64, b"\n")
+}
+
+fn add_floor(text: &mut Vec<u8>, map: &SubMap, owner: &Name) -> Result<(), NoRoom> {
+    match map.held().floor(owner) {
+        Some(generation) => add_number(text, b"floor ", u64::from(generation.number()), b"\n"),
+        None => add(text, b"floor -\n"),
+    }
+}
+
+fn add_label(text: &mut Vec<u8>, map: &SubMap, name: Name) -> Result<(), NoRoom> {
+    add_endpoint(text, map.label(&name))?;
     let kind = Kind::Label;
     match map.get(&Key { name, kind }) {
-        Some(change) => Ok(append_change(text, change)?),
+        Some(change) => append_change(text, change),
         None => Ok(()),
+    }
+}
+
+fn add_endpoint(text: &mut Vec<u8>, label: Option<Endpoint>) -> Result<(), NoRoom> {
+    match label {
+        Some(endpoint) => append_value(text, b"label ", &Value::Label(endpoint), b"\n"),
+        None => add(text, b"label -\n"),
     }
 }

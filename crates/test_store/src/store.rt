@@ -5,19 +5,16 @@
 //! replies is told as a Merge's. `mismatch` is a Publish of a number under a key of another kind. `held` asks how much the
 //! store holds, where it stands, and which one it is.
 
-use crate::entries::{Entry, items_of, name_of, read_line};
 use crate::failure::Failure;
-use crate::subject::{Subject, add, ask_all, print};
+use crate::lines::{add_offer, limits_at, number_at, read_line};
+use crate::subject::{Subject, add, add_number, ask_all, print};
 use ds_entry::{Items, Value};
 use ds_held::Limits;
 use ds_machine::{Command, Refusal, Reply};
-use ds_names::{Endpoint, Key, Kind, NoRoom, Version};
+use ds_names::{Endpoint, Key, Kind, Name, NoRoom, Version};
 use ds_store::{Store, run};
-use ds_words::ScriptCommand;
 use std::alloc::Global;
-use std::io::Write;
 use std::rt::Runtime;
-use std::str::FromStr;
 use store_words::{Wording, append_reply};
 
 /// What a store is asked.
@@ -25,6 +22,8 @@ use store_words::{Wording, append_reply};
 pub(crate) enum Asked {
     /// A command, and how its reply is worded.
     Command { command: Command, wording: Wording },
+    /// A Merge.
+    Merge(Items),
     /// A list of commands, which is run.
     Run(Vec<Command>),
     /// To begin again as this incarnation.
@@ -35,33 +34,28 @@ pub(crate) enum Asked {
 
 /// Opens a store, and asks it the lines.
 pub(crate) fn answer_part(
-    rt: &impl Runtime,
-    alloc: Global,
+    rt: &(impl Runtime + AllocGlobal),
+    text: &mut Vec<u8>,
     words: &str,
     lines: &str,
 ) -> Result<(), Failure> {
-    let seed = Seed::read(words)?;
-    match Store::open_with(alloc, seed.incarnation, seed.first, seed.ring, seed.limits) {
-        Ok(mut store) => ask_all(rt, alloc, &mut store, lines),
+    let seed = Seed::read(words).ok_or(Failure::BadLine)?;
+    match seed.open(rt.alloc()) {
+        Ok(mut store) => ask_all(rt, &mut store, text, lines),
         Err(Refusal::NoRoom) => Err(Failure::NoRoom),
-        Err(refusal) => print_refusal(rt, alloc, refusal, seed.limits),
+        Err(refusal) => print_refusal(rt, text, refusal, seed.limits),
     }
 }
 
 fn print_refusal(
     rt: &impl Runtime,
-    alloc: Global,
+    text: &mut Vec<u8>,
     refusal: Refusal,
     limits: Limits,
 ) -> Result<(), Failure> {
-    let mut text = Vec::new(alloc);
-    add_refusal(&mut text, refusal, limits)?;
+    text.clear();
+    append_reply(text, Wording::AsMerge, &Reply::Refused(refusal), limits)?;
     print(rt, text.as_slice())
-}
-
-fn add_refusal(text: &mut Vec<u8>, refusal: Refusal, limits: Limits) -> Result<(), NoRoom> {
-    let reply = Reply::Refused(refusal);
-    append_reply(text, Wording::AsMerge, &reply, limits)
 }
 
 /// How a store is opened.
@@ -75,116 +69,99 @@ struct Seed {
 
 impl Seed {
     // `INCARNATION FIRST RING SUBS KEYS`
-    fn read(words: &str) -> Result<Seed, Failure> {
-        let (incarnation, rest) = words.split_once(' ').ok_or(Failure::BadLine)?;
-        let (first, rest) = rest.split_once(' ').ok_or(Failure::BadLine)?;
-        let (ring, limits) = rest.split_once(' ').ok_or(Failure::BadLine)?;
-        Ok(Seed {
-            incarnation: number(incarnation)?,
-            first: number(first)?,
-            ring: number(ring)?,
-            limits: limits_of(limits)?,
+    fn read(words: &str) -> Option<Seed> {
+        let mut words = words.split(' ');
+        Some(Seed {
+            incarnation: number_at(&mut words)?,
+            first: number_at(&mut words)?,
+            ring: number_at(&mut words)?,
+            limits: limits_at(&mut words)?,
         })
     }
-}
 
-/// The limits that two words are, `SUBS KEYS`.
-pub(crate) fn limits_of(words: &str) -> Result<Limits, Failure> {
-    let (subs, keys) = words.split_once(' ').ok_or(Failure::BadLine)?;
-    Limits::of(number(subs)?, number(keys)?).ok_or(Failure::BadLine)
-}
-
-fn number<T: FromStr>(word: &str) -> Result<T, Failure>
-where
-    T::Err: Drop,
-{
-    word.parse().ok().ok_or(Failure::BadLine)
+    fn open(&self, alloc: Global) -> Result<Store, Refusal> {
+        Store::open_with(alloc, self.incarnation, self.first, self.ring, self.limits)
+    }
 }
 
 impl Subject for Store {
     type Asked = Asked;
 
-    fn make(alloc: Global, entry: Entry) -> Result<Asked, Failure> {
-        let Entry { line, block } = entry;
-        match line.as_str() {
-            "merge" => items_of(alloc, block).map(merge_of),
-            "run" => commands_of(alloc, block).map(Asked::Run),
+    fn make(alloc: Global, line: &str) -> Result<Asked, Failure> {
+        match line {
+            "merge" => Ok(Asked::Merge(Items::new(alloc))),
+            "run" => Ok(Asked::Run(Vec::new(alloc))),
+            "mismatch" => mismatch().ok_or(Failure::BadLine),
+            "held" => Ok(Asked::Held),
             line => asked_by(alloc, line),
         }
     }
 
-    fn answer(&mut self, alloc: Global, text: &mut Vec<u8>, asked: Asked) -> Result<(), Failure> {
+    fn add(alloc: Global, asked: &mut Asked, line: &str) -> Result<(), Failure> {
+        match asked {
+            Asked::Merge(items) => add_offer(alloc, items, line),
+            Asked::Run(commands) => add_command(alloc, commands, line),
+            _ => Err(Failure::BadLine),
+        }
+    }
+
+    fn answer(&mut self, alloc: Global, text: &mut Vec<u8>, asked: Asked) -> Result<(), NoRoom> {
         match asked {
             Asked::Command { command, wording } => add_reply(text, self, command, wording),
+            Asked::Merge(items) => {
+                add_reply(text, self, Command::Merge { items }, Wording::AsMerge)
+            }
             Asked::Run(commands) => add_run(alloc, text, self, commands),
             Asked::Restart { incarnation } => {
                 self.restart(incarnation);
-                add(text, "restarted\n")
+                add(text, b"restarted\n")
             }
             Asked::Held => add_held(text, self),
         }
     }
 }
 
-// Asks the store a command, and tells the reply.
-fn add_reply(
-    text: &mut Vec<u8>,
-    store: &mut Store,
-    command: Command,
-    wording: Wording,
-) -> Result<(), Failure> {
-    let reply = store.apply(command);
-    Ok(append_reply(text, wording, &reply, store.limits())?)
-}
-
-// A command whose reply is worded as a Merge's.
-fn as_merge(command: Command) -> Asked {
-    Asked::Command {
-        command,
-        wording: Wording::AsMerge,
-    }
-}
-
-fn merge_of(items: Items) -> Asked {
-    as_merge(Command::Merge { items })
-}
-
-// What a line without a block asks of the store.
+// What a script's line asks of the store.
 fn asked_by(alloc: Global, line: &str) -> Result<Asked, Failure> {
-    match line {
-        "mismatch" => mismatch().map(as_merge),
-        "held" => Ok(Asked::Held),
-        _ => asked_by_script(alloc, &read_line(alloc, line)?),
+    if let Some(words) = line.strip_prefix("restart ") {
+        return restart_of(words).ok_or(Failure::BadLine);
+    }
+    let wording = wording_of(line);
+    let command = command_of(alloc, line)?;
+    Ok(Asked::Command { command, wording })
+}
+
+// `SIDE INCARNATION`
+fn restart_of(words: &str) -> Option<Asked> {
+    let (_, incarnation) = words.split_once(' ')?;
+    let incarnation = incarnation.parse().ok()?;
+    Some(Asked::Restart { incarnation })
+}
+
+fn wording_of(line: &str) -> Wording {
+    if line.starts_with("offer ") {
+        Wording::AsOffer
+    } else {
+        Wording::AsMerge
     }
 }
 
-fn asked_by_script(alloc: Global, line: &ScriptCommand) -> Result<Asked, Failure> {
-    if let ScriptCommand::Restart { incarnation, .. } = line {
-        return Ok(Asked::Restart {
-            incarnation: *incarnation,
-        });
-    }
-    Ok(Asked::Command {
-        command: line.store_command(alloc)?.ok_or(Failure::BadLine)?,
-        wording: line.wording(),
-    })
+fn command_of(alloc: Global, line: &str) -> Result<Command, Failure> {
+    let command = read_line(alloc, line)?.into_store_command(alloc)?;
+    command.ok_or(Failure::BadLine)
 }
 
-fn commands_of(alloc: Global, block: Vec<ScriptCommand>) -> Result<Vec<Command>, Failure> {
-    let mut commands = Vec::new(alloc);
-    for line in block {
-        let command = line.into_store_command(alloc)?;
-        commands.push(command.ok_or(Failure::BadLine)?)?;
-    }
-    Ok(commands)
+fn add_command(alloc: Global, commands: &mut Vec<Command>, line: &str) -> Result<(), Failure> {
+    let command = command_of(alloc, line)?;
+    Ok(commands.push(command)?)
 }
 
 // RS publishes a number under a key of another kind, which no line of a script can ask, and with the last sequence number.
-fn mismatch() -> Result<Command, Failure> {
-    Ok(Command::Publish {
+fn mismatch() -> Option<Asked> {
+    let command = Command::Publish {
         caller: Endpoint::rs(),
         key: Key {
-            name: name_of("mtu")?,
+            name: Name::read(b"mtu").ok()?,
             kind: Kind::Str,
         },
         version: Version {
@@ -193,7 +170,20 @@ fn mismatch() -> Result<Command, Failure> {
         },
         value: Value::U32(1500),
         overwrite: false,
-    })
+    };
+    let wording = Wording::AsMerge;
+    Some(Asked::Command { command, wording })
+}
+
+// Asks the store a command, and tells the reply.
+fn add_reply(
+    text: &mut Vec<u8>,
+    store: &mut Store,
+    command: Command,
+    wording: Wording,
+) -> Result<(), NoRoom> {
+    let reply = store.apply(command);
+    append_reply(text, wording, &reply, store.limits())
 }
 
 // Runs the commands, and tells each reply.
@@ -202,19 +192,22 @@ fn add_run(
     text: &mut Vec<u8>,
     store: &mut Store,
     commands: Vec<Command>,
-) -> Result<(), Failure> {
-    for reply in &run(alloc, store, commands)? {
-        append_reply(text, Wording::AsMerge, reply, store.limits())?;
+) -> Result<(), NoRoom> {
+    let replies = run(alloc, store, commands)?;
+    add_replies(text, replies.as_slice(), store.limits())
+}
+
+fn add_replies(text: &mut Vec<u8>, replies: &[Reply], limits: Limits) -> Result<(), NoRoom> {
+    for reply in replies {
+        append_reply(text, Wording::AsMerge, reply, limits)?;
     }
     Ok(())
 }
 
-fn add_held(text: &mut Vec<u8>, store: &Store) -> Result<(), Failure> {
-    let (keys, floors) = (store.held().len(), store.held().floor_count());
-    let (position, incarnation) = (store.cursor().position, store.incarnation());
-    let written = write!(
-        text,
-        "held {keys} floors {floors} position {position} incarnation {incarnation}\n"
-    );
-    written.ok().ok_or(Failure::NoRoom)
+fn add_held(text: &mut Vec<u8>, store: &Store) -> Result<(), NoRoom> {
+    let held = store.held();
+    add_number(text, b"held ", held.len() as u64, b" floors ")?;
+    add_number(text, b"", held.floor_count() as u64, b" position ")?;
+    add_number(text, b"", store.cursor().position, b" incarnation ")?;
+    add_number(text, b"", store.incarnation(), b"\n")
 }

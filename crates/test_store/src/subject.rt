@@ -1,22 +1,25 @@
 //! What is asked by the lines of a part.
 
-use crate::entries::{Entry, read_entries};
 use crate::failure::Failure;
+use ds_entry::Items;
 use ds_join::JoinFault;
+use ds_line::{append_all, append_item};
+use ds_names::NoRoom;
+use itoa::Buffer;
 use std::alloc::Global;
 use std::io::{self, Write};
 use std::rt::Runtime;
 
-// Bytes of one answer for which there is room before the first is asked for.
-const ANSWER: usize = 1 << 20;
-
 /// What is asked by the lines of a part.
 pub(crate) trait Subject {
-    /// What an entry asks.
+    /// What a line asks, with the lines of its block where it begins one.
     type Asked: Drop;
 
-    /// Makes what an entry asks.
-    fn make(alloc: Global, entry: Entry) -> Result<Self::Asked, Failure>;
+    /// Makes what a line asks.
+    fn make(alloc: Global, line: &str) -> Result<Self::Asked, Failure>;
+
+    /// Puts a line of a block behind what its first line asks.
+    fn add(alloc: Global, asked: &mut Self::Asked, line: &str) -> Result<(), Failure>;
 
     /// Asks it, and puts the answer into the text, which has room for it.
     fn answer(
@@ -24,43 +27,82 @@ pub(crate) trait Subject {
         alloc: Global,
         text: &mut Vec<u8>,
         asked: Self::Asked,
-    ) -> Result<(), Failure>;
+    ) -> Result<(), NoRoom>;
 }
 
-/// Makes all that the lines ask, says that it is ready, and has it answered.
+/// Makes all that the lines ask, says that it is ready, and has it answered in turn.
 pub(crate) fn ask_all<S: Subject>(
-    rt: &impl Runtime,
-    alloc: Global,
+    rt: &(impl Runtime + AllocGlobal),
     subject: &mut S,
+    text: &mut Vec<u8>,
     lines: &str,
 ) -> Result<(), Failure> {
-    let script = make_all::<S>(alloc, lines)?;
-    let mut text = Vec::with_capacity(alloc, ANSWER)?;
-    answer_all(rt, alloc, subject, &mut text, script)
+    let mut script = Vec::new(rt.alloc());
+    make_all::<S>(rt.alloc(), &mut script, lines)?;
+    answer_all(rt, subject, text, script)
+}
+
+// The lines that begin a block.
+const BLOCKS: [&str; 4] = ["merge", "run", "take", "join"];
+
+fn make_all<S: Subject>(
+    alloc: Global,
+    script: &mut Vec<S::Asked>,
+    lines: &str,
+) -> Result<(), Failure> {
+    let mut is_open = false;
+    for line in lines.lines() {
+        is_open = make_next::<S>(alloc, script, line, is_open)?;
+    }
+    if is_open {
+        Err(Failure::BadLine)
+    } else {
+        Ok(())
+    }
+}
+
+// Makes what a line asks, or puts it into the block that is open. Whether one is open behind it.
+fn make_next<S: Subject>(
+    alloc: Global,
+    script: &mut Vec<S::Asked>,
+    line: &str,
+    is_open: bool,
+) -> Result<bool, Failure> {
+    if !is_open {
+        script.push(S::make(alloc, line)?)?;
+        return Ok(BLOCKS.contains(&line));
+    }
+    if line == "end" {
+        return Ok(false);
+    }
+    if let Some(asked) = script.last_mut() {
+        S::add(alloc, asked, line)?;
+    }
+    Ok(true)
 }
 
 fn answer_all<S: Subject>(
-    rt: &impl Runtime,
-    alloc: Global,
+    rt: &(impl Runtime + AllocGlobal),
     subject: &mut S,
     text: &mut Vec<u8>,
     script: Vec<S::Asked>,
 ) -> Result<(), Failure> {
     print(rt, b"ready\n")?;
     for asked in script {
-        text.clear();
-        subject.answer(alloc, text, asked)?;
-        print(rt, text.as_slice())?;
+        answer_next(rt, subject, text, asked)?;
     }
     Ok(())
 }
 
-fn make_all<S: Subject>(alloc: Global, lines: &str) -> Result<Vec<S::Asked>, Failure> {
-    let mut script = Vec::new(alloc);
-    for entry in read_entries(alloc, lines)? {
-        script.push(S::make(alloc, entry)?)?;
-    }
-    Ok(script)
+fn answer_next<S: Subject>(
+    rt: &(impl Runtime + AllocGlobal),
+    subject: &mut S,
+    text: &mut Vec<u8>,
+    asked: S::Asked,
+) -> Result<(), Failure> {
+    text.clear();
+    subject.answer(rt.alloc(), text, asked)?;
+    print(rt, text.as_slice())
 }
 
 /// Writes to standard output.
@@ -69,16 +111,35 @@ pub(crate) fn print(rt: &impl Runtime, text: &[u8]) -> Result<(), Failure> {
 }
 
 /// Puts words behind a text.
-pub(crate) fn add(text: &mut Vec<u8>, words: &str) -> Result<(), Failure> {
-    Ok(text.extend_from_slice(words.as_bytes())?)
+pub(crate) fn add(text: &mut Vec<u8>, words: &[u8]) -> Result<(), NoRoom> {
+    append_all(text, &[words])
+}
+
+/// Puts a number behind a text, between words.
+pub(crate) fn add_number(
+    text: &mut Vec<u8>,
+    before: &[u8],
+    number: u64,
+    after: &[u8],
+) -> Result<(), NoRoom> {
+    let mut digits = Buffer::new();
+    append_all(text, &[before, digits.format(number).as_bytes(), after])
+}
+
+/// Puts the line of each item behind a text.
+pub(crate) fn add_items(text: &mut Vec<u8>, items: &Items) -> Result<(), NoRoom> {
+    for item in items.as_slice() {
+        append_item(text, item)?;
+    }
+    Ok(())
 }
 
 /// The word for why a change or a floor isn't taken.
-pub(crate) fn word_of(fault: JoinFault) -> &'static str {
+pub(crate) fn word_of(fault: JoinFault) -> &'static [u8] {
     match fault {
-        JoinFault::NotOwner => "notowner",
-        JoinFault::Clash { .. } => "clash",
-        JoinFault::Full => "full",
-        JoinFault::NoRoom => "noroom",
+        JoinFault::NotOwner => b"notowner",
+        JoinFault::Clash { .. } => b"clash",
+        JoinFault::Full => b"full",
+        JoinFault::NoRoom => b"noroom",
     }
 }
