@@ -1,5 +1,5 @@
 -- How a run goes on.
-use Rattle.std.proofs.Common.{◌≡◌, List, [], ◌∷◌, ◌++◌, length, refl, subst, arith}
+use Rattle.std.proofs.Common.{◌≡◌, ◌<◌, List, [], ◌∷◌, ◌++◌, length, length-append, append-nil, refl, sym, ◌∙◌, subst, arith}
 use Rattle.ds_replica.specs.declared.event.Event.{Event}
 use Rattle.ds_replica.specs.declared.outcome.Outcome.{Outcome}
 use Rattle.ds_replica.specs.World.{World}
@@ -31,3 +31,13 @@ told_more [] [] old mid new event outcome e run leads told = (new, subst (λ (x 
 told_more [] (o ∷ outcomes) old mid new event outcome e run leads told = absurd (omega (arith, e))
 told_more (x ∷ events) [] old mid new event outcome e run leads told = absurd (omega (arith, e))
 told_more (x ∷ events) (o ∷ outcomes) old mid new event outcome e run leads told = (run.0, run.1, run.2, told_more events outcomes run.0 mid new event outcome (omega (arith, e)) run.3 leads told)
+
+-- where none is left all have happened
+pub all_happened : (before left events : List Event) → before ++ left ≡ events → length left ≡ 0 → before ≡ events
+all_happened before [] events e l = sym (append-nil before) ∙ e
+all_happened before (event ∷ left) events e l = absurd (omega (arith, l))
+
+-- where one is left they aren't all
+pub one_left : (before left after events : List Event) (event : Event) → before ++ left ≡ events → left ≡ event ∷ after → length before < length events
+one_left before left after events event e is =
+    subst (λ (es : List Event). length before < length es) e (subst (λ (l : List Event). length before < length (before ++ l)) (sym is) (omega (arith, length-append before (event ∷ after))))

@@ -1,12 +1,14 @@
-use Rattle.std.proofs.Common.{◌≡◌, ◌<◌, ◌++◌, ◌∷◌, [], List, length, refl, ap, sym, ◌∙◌, subst, arith}
+use Rattle.std.proofs.Common.{◌≤◌, All, ◌≡◌, ◌<◌, ◌++◌, ◌∷◌, [], List, length, refl, ap, sym, ◌∙◌, subst, arith}
+use Rattle.std.proofs.lemmas.List.Elements.{All-push}
+use Rattle.ds_replica.specs.declared.outcome.Outcome.TheVariants.{Refused, Replied, Made}
+use Rattle.ds_replica.specs.declared.outcome.EventFault.TheVariants.{MessagesFull, NoRoom}
+use Rattle.ds_world.specs.World.{HasItems, WorldRecord, world_of}
 use Rattle.ds_machine.specs.declared.reply.Reply.{Reply}
 use Rattle.ds_replica.specs.declared.event.Event.TheVariants.{Ask}
-use Rattle.ds_replica.specs.declared.outcome.Outcome.TheVariants.{Replied, Made}
 use Rattle.ds_replica.specs.Happens.{items_given}
-use Rattle.ds_world.specs.World.{WorldRecord, world_of}
 use Rattle.ds_world.specs.Run.{EventLeads}
 use Rattle.ds_world.specs.Told.{IsAskTold}
-use Rattle.ds_world.proofs.AskLemmas.{replied, replied_so, made, made_so, few_free, no_items, some_items}
+use Rattle.ds_world.proofs.AskLemmas.{messages_full, no_room_for_message, replied, replied_so, made, made_so, few_free, no_items, some_items}
 use Rattle.ds_world.proofs.world.World.ask_for_items.Goals as goal
 
 pub returns-then-has_items-clause-leads : goal.returns-then-has_items-clause-leads
@@ -68,3 +70,39 @@ returns-clause-told c =
     subst (λ (l : List Reply). IsAskTold c.args.side c.args.command (Replied reply) c.args.self.now (world_of a b maps l))
     (sym c.reserve.ensures.items)
     (subst (λ (v : WorldRecord). IsAskTold c.args.side c.args.command (Replied reply) v (world_of a b maps messages)) c.self.view_is (told, refl))
+
+pub returns-then-message-ge-MOST_MESSAGES-clause-leads : goal.returns-then-message-ge-MOST_MESSAGES-clause-leads
+returns-then-message-ge-MOST_MESSAGES-clause-leads c =
+    let inside = c.self.inside in
+    let value : WorldRecord = world_of inside.a inside.b inside.maps.items inside.messages.items in
+    let full : 65536 ≤ length inside.messages.items = omega (arith, c.len-message.ensures, inside.messages.ok.0, c.if-message-ge-MOST_MESSAGES.true) in
+    subst (λ (v : WorldRecord). EventLeads (Ask c.args.side c.args.command) (Refused MessagesFull) v v) c.self.view_is (messages_full value c.args.side c.args.command c.requires full)
+
+pub returns-then-message-ge-MOST_MESSAGES-clause-told : goal.returns-then-message-ge-MOST_MESSAGES-clause-told
+returns-then-message-ge-MOST_MESSAGES-clause-told c = refl
+
+pub returns-in_default-clause-leads : goal.returns-in_default-clause-leads
+returns-in_default-clause-leads c =
+    let ask = Ask c.args.side c.args.command in
+    let inside = c.self.inside in
+    let messages = inside.messages.items in
+    let value : WorldRecord = world_of inside.a inside.b inside.maps.items messages in
+    let few : length messages < 65536 = omega (arith, c.len-message.ensures, inside.messages.ok.0, c.if-message-ge-MOST_MESSAGES.false) in
+    subst (λ (l : List Reply). EventLeads ask (Refused NoRoom) c.args.self.now (world_of inside.a inside.b inside.maps.items l)) (sym c.reserve.ensures.items)
+    (subst (λ (v : WorldRecord). EventLeads ask (Refused NoRoom) v value) c.self.view_is (no_room_for_message value c.args.side c.args.command c.requires few))
+
+pub returns-in_default-clause-told : goal.returns-in_default-clause-told
+returns-in_default-clause-told c = c.reserve.ensures.items ∙ ap (λ (v : WorldRecord). v.messages) c.self.view_is
+
+pub invariant_of-self : goal.invariant_of-self
+invariant_of-self c = (c.self.invariant.0, subst (All HasItems) (sym c.reserve.ensures.items) c.self.invariant.1)
+
+pub invariant_of-self-then-has_items : goal.invariant_of-self-then-has_items
+invariant_of-self-then-has_items c =
+    let messages = c.self.inside.messages.items in
+    let reply = c.apply-reply.result in
+    let more = c.push_reserved.ensures.items ∙ ap (λ (l : List Reply). l ++ reply ∷ []) c.reserve.ensures.items in
+    (c.self.invariant.0, subst (All HasItems) (sym more) (All-push HasItems messages reply c.self.invariant.1 (sym c.if-has_items.ensures)))
+
+pub invariant_of-self-else-has_items : goal.invariant_of-self-else-has_items
+invariant_of-self-else-has_items c = (c.self.invariant.0, subst (All HasItems) (sym c.reserve.ensures.items) c.self.invariant.1)

@@ -1,6 +1,8 @@
+use Rattle.std.proofs.lemmas.List.Elements.{All-set}
 use Rattle.std.proofs.Common.{◌≡◌, List, ◌≤◌, ◌<◌, length, None, Some, sym, subst, arith, refl}
 use Rattle.std.specs.List.{slice_get, slice_set}
 use Rattle.std.proofs.lemmas.Option.{slice_get_read}
+use Rattle.ds_submap.specs.Map.{IsMap}
 use Rattle.ds_entry.specs.declared.item.Item.{Item}
 use Rattle.ds_replica.specs.Delivery.{MapTakes}
 use Rattle.ds_replica.specs.Happens.{tally_outcome}
@@ -14,7 +16,7 @@ use Rattle.ds_replica.specs.declared.outcome.EventFault.TheVariants.{NoMessage, 
 use Rattle.ds_world.specs.Tally.{tally_of}
 use Rattle.ds_world.specs.Run.{EventLeads}
 use Rattle.ds_world.specs.Told.{IsMapTold, IsTold}
-use Rattle.ds_world.proofs.DeliverLemmas.{no_message, no_map, too_many_for_map, to_map, map_told, map_at}
+use Rattle.ds_world.proofs.DeliverLemmas.{map_refused, no_message, no_map, too_many_for_map, to_map, map_told, map_at}
 use Rattle.ds_world.proofs.world.World.deliver_to_map.Goals as goal
 
 pub returns-clause-leads : goal.returns-clause-leads
@@ -86,3 +88,18 @@ returns-in_default-first_of-clause-leads c =
     let at = map_at value.maps j within in
     subst (λ (v : WorldRecord). EventLeads (Deliver k (Map j) c.args.count) (Refused TooMany) v v) c.self.view_is
     (too_many_for_map value k c.args.count items there j at.0 at.1 c.in_default-first_of.ensures.none)
+
+pub returns-in_default-clause-told : goal.returns-in_default-clause-told
+returns-in_default-clause-told c = map_refused c.args.self.now c.args.message c.args.map c.args.count NoMessage
+
+pub returns-then-map-len-clause-told : goal.returns-then-map-len-clause-told
+returns-then-map-len-clause-told c = map_refused c.args.self.now c.args.message c.args.map c.args.count NoMap
+
+pub returns-in_default-first_of-clause-told : goal.returns-in_default-first_of-clause-told
+returns-in_default-first_of-clause-told c = map_refused c.args.self.now c.args.message c.args.map c.args.count TooMany
+
+pub invariant_of-self : goal.invariant_of-self
+invariant_of-self c = (All-set IsMap c.self.inside.maps.items c.args.map c.take_all.new.map c.take_all.ensures.map c.self.invariant.0, c.self.invariant.1)
+
+pub index_mut-requires : goal.index_mut-requires
+index_mut-requires c = subst (λ n. c.args.map < n) c.len.ensures c.if-map-len.false

@@ -13,9 +13,9 @@ use Rattle.ds_world.specs.declared.tally.Tally.{Tally}
 use Rattle.ds_world.specs.Run.{EventLeads}
 use Rattle.ds_world.specs.Tally.{tally_of}
 use Rattle.ds_world.specs.Steps.{ItemsAreTaken}
-use Rattle.ds_world.proofs.DeliverLemmas.{carried, told_so, led, store_told, no_message, too_many_for_store, to_a, to_b}
-use Rattle.ds_world.proofs.world.World.deliver_to_store.Goals as goal
+use Rattle.ds_world.proofs.DeliverLemmas.{store_refused, carried, told_so, led, store_told, no_message, too_many_for_store, to_a, to_b}
 use Rattle.ds_world.proofs.world.World.deliver_to_store.Goals.{in-A, in-B}
+use Rattle.ds_world.proofs.world.World.deliver_to_store.Goals as goal
 
 pub returns-clause-leads : goal.returns-clause-leads
 returns-clause-leads c =
@@ -88,3 +88,12 @@ returns-in_default-first_of-clause-leads c =
     let there : kept_items value.messages k ≡ Some items = subst (λ (l : List Reply). kept_items l k ≡ Some items) c.deref.ensures.value c.in-Some.ensures.some in
     subst (λ (v : WorldRecord). EventLeads (Deliver k (Store c.args.side) c.args.count) (Refused TooMany) v v) c.self.view_is
     (too_many_for_store value k c.args.count items there c.args.side c.in_default-first_of.ensures.none)
+
+pub returns-in_default-clause-told : goal.returns-in_default-clause-told
+returns-in_default-clause-told c = store_refused c.args.self.now c.args.message c.args.side c.args.count NoMessage
+
+pub returns-in_default-first_of-clause-told : goal.returns-in_default-first_of-clause-told
+returns-in_default-first_of-clause-told c = store_refused c.args.self.now c.args.message c.args.side c.args.count TooMany
+
+pub invariant_of-self : goal.invariant_of-self
+invariant_of-self c = c.self.invariant

@@ -19,3 +19,17 @@ returns-clause-account c = (
   },
   account_fits_at_start c.args.a c.args.b larger (inr refl),
 )
+
+pub returns-clause-made : goal.returns-clause-made
+returns-clause-made c = record {
+  a = c.in_ok-first.ensures.opened;
+  b = c.in_ok-second.ensures.opened;
+  maps = ap (λ (l : List SubMapRecord). map map_state l) (sym c.new.ensures.items);
+  messages = ap (λ (l : List Reply). map items_given l) c.new-2.ensures.items;
+}
+
+pub returns-clause-fits : goal.returns-clause-fits
+returns-clause-fits c = c.in_default.ensures.none
+
+pub opened-requires : goal.opened-requires
+opened-requires c = c.in_default.ensures.none.a_is

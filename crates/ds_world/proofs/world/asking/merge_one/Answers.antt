@@ -1,4 +1,5 @@
 use Rattle.std.proofs.Common.{◌∷◌, [], sym, subst}
+use Rattle.ds_judge.specs.Last.{IsLast}
 use Rattle.ds_machine.specs.State.{State}
 use Rattle.ds_machine.specs.Machine.{Step}
 use Rattle.ds_machine.specs.declared.command.Command.TheVariants.{Merge}
@@ -20,3 +21,16 @@ returns-in-B-clause-step c =
     let t = c.merge_item-in-B.ensures.step w.b second in
     subst (λ (side : Side). (s : State) × Step (store_at w side) (Merge (c.args.item.now ∷ [])) c.merge_item-in-B.result s × ContentStands c.args.a.now (with_state w side s).a × ContentStands c.merge_item-in-B.new.store (with_state w side s).b)
     (sym c.in-B.is) (t.0, t.1, first, t.2)
+
+pub returns-in-A-clause-last : goal.returns-in-A-clause-last
+returns-in-A-clause-last c = λ w first second. subst (λ (side : Side). IsLast (store_at w side) (Merge (c.args.item.now ∷ [])) c.merge_item.result) (sym c.in-A.is) (c.merge_item.ensures.last w.a first)
+
+pub returns-in-B-clause-last : goal.returns-in-B-clause-last
+returns-in-B-clause-last c =
+    λ w first second. subst (λ (side : Side). IsLast (store_at w side) (Merge (c.args.item.now ∷ [])) c.merge_item-in-B.result) (sym c.in-B.is) (c.merge_item-in-B.ensures.last w.b second)
+
+pub returns-in-A-clause-fits : goal.returns-in-A-clause-fits
+returns-in-A-clause-fits c = c.merge_item.ensures.fits
+
+pub returns-in-B-clause-fits : goal.returns-in-B-clause-fits
+returns-in-B-clause-fits c = c.merge_item-in-B.ensures.fits
