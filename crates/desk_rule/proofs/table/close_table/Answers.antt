@@ -1,7 +1,7 @@
-use Rattle.std.proofs.Common.{ap, ◌+◌, ◌∙◌, sym}
+use Rattle.std.proofs.Common.{◌≡◌, ◌+◌, ◌<◌, Bool, false, List, length, get_or, set, get_or-set_same, ap, sym, ◌∙◌, arith}
 use Rattle.std.specs.Prelude.{slice_index}
 use Rattle.std.specs.Int.{bit_at}
-use Rattle.std.specs.Mem.Slots.{slots_items}
+use Rattle.std.specs.Mem.Slots.{slots_counts, slots_filled, slots_items, slots_len}
 use Rattle.desk_rule.specs.Notices.{taken_by}
 use Rattle.desk_rule.proofs.TableLemmas.{closed_machine, final_machine, final_notices, some_is}
 use Rattle.desk_rule.proofs.table.close_table.Goals as goal
@@ -20,3 +20,15 @@ returns-clause-balance g c server bit small = (final_notices _ _ _ _ _ _ _ _ _ c
 
 pub returns-clause-few : goal.returns-clause-few
 returns-clause-few g c server bit small = (final_notices _ _ _ _ _ _ _ _ _ c.close_with-closed.ensures.values.2 c.requires.all server bit small).1
+
+-- the one slot is empty
+pub free-requires : goal.free-requires
+free-requires g c k below =
+    let was = c.close_with-closed.result in
+    let now = c.take-slot.new.self in
+    let t = c.take-slot.ensures.others in
+    let one : slots_len was.slots ≡ 1 = c.close_with-closed.ensures.counts.1 ∙ c.requires.at.2 in
+    let few : slots_len now.slots ≡ 1 = t.2 ∙ one in
+    let none : k ≡ 0 = omega (arith, below, few) in
+    let within : 0 < length (slots_filled was.slots) = omega (arith, one, (slots_counts was.slots).1) in
+    ap (λ (l : List Bool). get_or l k false) t.1 ∙ (ap (λ j. get_or (set (slots_filled was.slots) 0 false) j false) none ∙ get_or-set_same (slots_filled was.slots) 0 false false within)
