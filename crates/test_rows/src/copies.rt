@@ -1,18 +1,31 @@
 //! What is read is copied, and written again.
 
-use ds_entry::{Body, Change, Items};
+use crate::lines::{CHANGES, FLOORS, read_items};
+use crate::telling::{tell, tell_items};
+use ds_entry::{Body, Change, Item, Items};
 use ds_line::{read_change, read_item, write_change, write_item};
 use std::alloc::Global;
 
-/// Reads the line of a change, makes the change again of a copy of its value, and writes that. `None` where the line isn't read
-/// whole, the two aren't equal, or memory is wanting.
-pub(crate) fn change_again(alloc: Global, line: &[u8]) -> Option<Vec<u8>> {
-    let (change, length) = read_change(alloc, line).ok()?;
-    let copy = made_again(alloc, &change)?;
-    if length != line.len() || copy != change {
+/// Each change, made again of a copy of its value. `None` where a line isn't read whole, the two aren't equal, or memory is
+/// wanting.
+pub(crate) fn tell_changes(text: &mut Vec<u8>, alloc: Global) -> Option<()> {
+    tell(text, &[b"changes, made again of copies of their parts\n"])?;
+    for line in CHANGES {
+        match read_change(alloc, line) {
+            Ok((change, length)) if length == line.len() => tell_change(text, alloc, &change)?,
+            _ => return None,
+        }
+    }
+    Some(())
+}
+
+fn tell_change(text: &mut Vec<u8>, alloc: Global, change: &Change) -> Option<()> {
+    let copy = made_again(alloc, change)?;
+    if copy != *change {
         return None;
     }
-    write_change(alloc, &copy).ok()
+    let line = write_change(alloc, &copy).ok()?;
+    tell(text, &[line.as_slice()])
 }
 
 // The change, made of a copy of its value.
@@ -24,24 +37,39 @@ fn made_again(alloc: Global, change: &Change) -> Option<Change> {
     Change::make(*change.key(), *change.owner(), change.version(), body).ok()
 }
 
-/// Reads the line of an item, copies the item, and writes the copy. `None` where the line isn't read whole, the two aren't
-/// equal, or memory is wanting.
-pub(crate) fn item_again(alloc: Global, line: &[u8]) -> Option<Vec<u8>> {
-    let (item, length) = read_item(alloc, line).ok()?;
-    let copy = item.copy(alloc).ok()?;
-    if length != line.len() || copy != item {
-        return None;
+/// Each item, copied. `None` where a line isn't read whole, the two aren't equal, or memory is wanting.
+pub(crate) fn tell_items_again(text: &mut Vec<u8>, alloc: Global) -> Option<()> {
+    tell(text, &[b"items, copied one by one\n"])?;
+    for line in FLOORS {
+        match read_item(alloc, line) {
+            Ok((item, length)) if length == line.len() => tell_item(text, alloc, &item)?,
+            _ => return None,
+        }
     }
-    write_item(alloc, &copy).ok()
+    Some(())
 }
 
-/// Reads the items of these lines into a list, and copies it. `None` where the two aren't equal, or memory is wanting.
-pub(crate) fn list_again(alloc: Global, lines: &[&[u8]]) -> Option<Items> {
-    let mut items = Items::new(alloc);
-    for line in lines {
-        let (item, _) = read_item(alloc, line).ok()?;
-        items.push(item).ok()?;
+fn tell_item(text: &mut Vec<u8>, alloc: Global, item: &Item) -> Option<()> {
+    let copy = item.copy(alloc).ok()?;
+    if copy != *item {
+        return None;
     }
+    let line = write_item(alloc, &copy).ok()?;
+    tell(text, &[line.as_slice()])
+}
+
+/// Items, copied as a list. `None` where the two aren't equal, or memory is wanting.
+pub(crate) fn tell_list(text: &mut Vec<u8>, alloc: Global) -> Option<()> {
+    tell(text, &[b"items, copied as a list\n"])?;
+    let mut items = Items::new(alloc);
+    read_items(alloc, &mut items, &CHANGES)?;
+    tell_copy(text, alloc, &items)
+}
+
+fn tell_copy(text: &mut Vec<u8>, alloc: Global, items: &Items) -> Option<()> {
     let copy = items.copy(alloc).ok()?;
-    if copy == items { Some(copy) } else { None }
+    if copy != *items {
+        return None;
+    }
+    tell_items(text, &copy)
 }

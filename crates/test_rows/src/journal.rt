@@ -1,8 +1,10 @@
 //! A journal of two. A store asks by `since_under`; who wants all keys asks by `since`.
 
+use crate::telling::{tell, tell_items, tell_number};
 use ds_feed::{Cursor, Journal, Since, SinceFault};
 use ds_line::read_item;
 use std::alloc::Global;
+use std::io::Write;
 
 // The incarnation of the journal.
 const INCARNATION: u64 = 1;
@@ -14,55 +16,48 @@ const LINES: [&[u8]; 3] = [
     b"c u32 eth0 1.2 = 2\n",
 ];
 
-/// What it is asked.
-#[derive(Clone, Copy)]
-pub(crate) struct Asked {
-    pub position: u64,
-    pub max: u32,
-}
+// Positions, and how many items are asked for at most.
+const ASKED: [(u64, u32); 5] = [(0, 8), (4, 8), (1, 8), (1, 1), (3, 8)];
 
-/// Questions, each of a journal of its own.
-pub(crate) const ASKED: [Asked; 5] = [
-    Asked {
-        position: 0,
-        max: 8,
-    },
-    Asked {
-        position: 4,
-        max: 8,
-    },
-    Asked {
-        position: 1,
-        max: 8,
-    },
-    Asked {
-        position: 1,
-        max: 1,
-    },
-    Asked {
-        position: 3,
-        max: 8,
-    },
-];
-
-/// What it tells. `None` where memory is wanting.
-pub(crate) fn told_by(alloc: Global, asked: Asked) -> Option<Result<Since, SinceFault>> {
-    let journal = journal_of_two(alloc)?;
-    let cursor = Cursor {
-        incarnation: INCARNATION,
-        position: asked.position,
-    };
-    Some(journal.since(alloc, cursor, asked.max))
-}
-
-fn journal_of_two(alloc: Global) -> Option<Journal> {
+/// What it tells from each position on. `None` where memory is wanting.
+pub(crate) fn tell_rows(text: &mut Vec<u8>, alloc: Global) -> Option<()> {
+    tell(text, &[b"a journal of two, after a, b and c\n"])?;
     let mut journal = Journal::new(alloc, INCARNATION, 0, 2).ok()?;
+    tell_all(text, alloc, &mut journal)
+}
+
+fn tell_all(text: &mut Vec<u8>, alloc: Global, journal: &mut Journal) -> Option<()> {
     for line in LINES {
-        let (item, _) = read_item(alloc, line).ok()?;
-        if journal.cursor().position >= 1 << 62 {
-            return None;
-        }
-        journal.push(item);
+        push(alloc, journal, line)?;
     }
-    Some(journal)
+    for (position, max) in ASKED {
+        tell_number(text, b"since ", position, b", at most ")?;
+        tell_number(text, b"", u64::from(max), b"\n")?;
+        let cursor = Cursor {
+            incarnation: INCARNATION,
+            position,
+        };
+        tell_since(text, &journal.since(alloc, cursor, max))?;
+    }
+    Some(())
+}
+
+fn push(alloc: Global, journal: &mut Journal, line: &[u8]) -> Option<()> {
+    if journal.cursor().position >= 1 << 62 {
+        return None;
+    }
+    let (item, _) = read_item(alloc, line).ok()?;
+    journal.push(item);
+    Some(())
+}
+
+// The line of each item, and how far they go.
+fn tell_since(text: &mut Vec<u8>, since: &Result<Since, SinceFault>) -> Option<()> {
+    match since {
+        Ok(since) => {
+            tell_items(text, &since.items)?;
+            tell_number(text, b"up to ", since.cursor.position, b"\n")
+        }
+        Err(fault) => write!(text, "{fault}\n").ok(),
+    }
 }

@@ -1,5 +1,7 @@
 //! Lines of items.
 
+use crate::telling::{tell, tell_whether};
+use ds_entry::Items;
 use ds_line::read_item;
 use std::alloc::Global;
 
@@ -25,19 +27,39 @@ pub(crate) const FLOORS: [&[u8]; 5] = [
     b"motd str eth0 3.1 = \"!\"\n",
 ];
 
-/// What a floor ends, and what it doesn't.
-pub(crate) const PAIRS: [(&[u8], &[u8]); 6] = [
-    (b"! eth0 3\n", b"mtu u32 eth0 3.7 = 1500\n"),
-    (b"! eth0 3\n", b"! eth0 2\n"),
-    (b"mtu u32 eth0 3.7 = 1500\n", b"! eth0 3\n"),
-    (b"! eth0 3\n", b"mtu u32 eth0 4.0 = 1500\n"),
-    (b"! eth0 3\n", b"eth0 label rs 3.0 = 3/17\n"),
-    (b"! eth0 3\n", b"irq u32 tty 3.0 = 4\n"),
+// What a floor ends, and what it doesn't.
+const PAIRS: [[&[u8]; 2]; 6] = [
+    [b"! eth0 3\n", b"mtu u32 eth0 3.7 = 1500\n"],
+    [b"! eth0 3\n", b"! eth0 2\n"],
+    [b"mtu u32 eth0 3.7 = 1500\n", b"! eth0 3\n"],
+    [b"! eth0 3\n", b"mtu u32 eth0 4.0 = 1500\n"],
+    [b"! eth0 3\n", b"eth0 label rs 3.0 = 3/17\n"],
+    [b"! eth0 3\n", b"irq u32 tty 3.0 = 4\n"],
 ];
 
-/// Whether the item of the one line covers that of the other. `None` where a line isn't an item's, or memory is wanting.
-pub(crate) fn covers(alloc: Global, line: &[u8], other: &[u8]) -> Option<bool> {
-    let (item, _) = read_item(alloc, line).ok()?;
-    let (other, _) = read_item(alloc, other).ok()?;
-    Some(item.covers(&other))
+/// Whether the one covers the other. `None` where memory is wanting.
+pub(crate) fn tell_rows(text: &mut Vec<u8>, alloc: Global) -> Option<()> {
+    tell(text, &[b"whether the one covers the other\n"])?;
+    for pair in &PAIRS {
+        tell(text, pair)?;
+        let mut items = Items::new(alloc);
+        read_items(alloc, &mut items, pair)?;
+        tell_covered(text, &items)?;
+    }
+    Some(())
+}
+
+// Whether the first item covers the second.
+fn tell_covered(text: &mut Vec<u8>, items: &Items) -> Option<()> {
+    let is_covered = items.get(0)?.covers(items.get(1)?);
+    tell_whether(text, b"", is_covered)
+}
+
+/// Reads the items of these lines into a list. `None` where a line isn't an item's, or memory is wanting.
+pub(crate) fn read_items(alloc: Global, items: &mut Items, lines: &[&[u8]]) -> Option<()> {
+    for line in lines {
+        let (item, _) = read_item(alloc, line).ok()?;
+        items.push(item).ok()?;
+    }
+    Some(())
 }

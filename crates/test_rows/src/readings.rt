@@ -1,48 +1,103 @@
 //! A service reads what is under `eth0` while its driver goes on.
 
-use crate::driver::{Driver, begin, endpoint, eth0, first_version};
+use crate::driver::{begin, endpoint, eth0, first_version};
 use crate::keys::all_under;
 use crate::rival::Rival;
-use crate::told::tell;
-use ds_reader::{Among, Asks, Reading, read_by_checks, read_by_pages};
+use crate::telling::tell;
+use ds_entry::{Item, Items};
+use ds_reader::{Among, Asks, ReadFault, Reading, read_by_checks, read_by_pages};
 use ds_store::Store;
 use std::alloc::Global;
+use std::io::Write;
+
+/// How a store is read.
+#[derive(Clone, Copy)]
+struct Way {
+    /// The subscription that is checked, or none where pages are turned.
+    sub: Option<u32>,
+    /// How many items each check or page gives at most.
+    max: u32,
+    /// How many checks or pages there may be.
+    questions: u32,
+}
+
+// Readings while the driver goes on: what stands before that which each tells, how many items the store's journal keeps, and how it
+// is read.
+const DRIVEN: [(&[u8], u32, Option<u32>, u32, u32); 9] = [
+    (b"subscription 40, 4 checks of 2: ", RING, Some(40), 2, 4),
+    (b"subscription 40, 3 checks of 2: ", RING, Some(40), 2, 3),
+    (b"subscription 40, 0 checks of 2: ", RING, Some(40), 2, 0),
+    (
+        b"subscription 1000, 4 checks of 2: ",
+        RING,
+        Some(1000),
+        2,
+        4,
+    ),
+    (b"subscription 40, 4 checks of 0: ", RING, Some(40), 0, 4),
+    (b"ring 256, 3 pages of 2: ", RING, None, 2, 3),
+    (b"ring 256, 1 pages of 4: ", RING, None, 4, 1),
+    (b"ring 256, 1 pages of 2: ", RING, None, 2, 1),
+    (b"ring 1, 3 pages of 2: ", 1, None, 2, 3),
+];
 
 // How many items the journal of a store keeps, where nothing else is said.
 const RING: u32 = 256;
 
-/// Reads by so many checks of a subscription. What it is told; `None` where memory is wanting.
-pub(crate) fn by_checks(alloc: Global, sub: u32, max: u32, checks: u32) -> Option<String> {
-    let mut among = beside_the_driver(begun(alloc, RING)?)?;
-    let told = check(alloc, &mut among, sub, max, checks)?;
-    (!among.others.is_refused).then_some(told)
+/// What each reading tells. `None` where memory is wanting.
+pub(crate) fn tell_rows(text: &mut Vec<u8>, alloc: Global) -> Option<()> {
+    for (title, ring, sub, max, questions) in DRIVEN {
+        tell(text, &[title])?;
+        let way = Way {
+            sub,
+            max,
+            questions,
+        };
+        tell_driven(text, alloc, ring, way)?;
+    }
+    tell(text, &[b"subscription 40, another checks it too: "])?;
+    tell_overtaken(text, alloc, 40)?;
+    tell(text, &[b"nobody else asks, one check: "])?;
+    tell_alone(text, alloc, Some(0))?;
+    tell(text, &[b"nobody else asks, one page: "])?;
+    tell_alone(text, alloc, None)
 }
 
-/// Reads by four checks of a subscription that another service checks too.
-pub(crate) fn overtaken(alloc: Global, sub: u32) -> Option<String> {
-    let store = begun(alloc, RING)?;
+// The driver asks too, and none of its numbers is refused.
+fn tell_driven(text: &mut Vec<u8>, alloc: Global, ring: u32, way: Way) -> Option<()> {
+    let others = eth0(endpoint()?, first_version()?);
+    let store = begun(alloc, ring)?;
+    let mut among = Among { store, others };
+    read(text, alloc, &mut among, way)?;
+    (!among.others.is_refused).then_some(())
+}
+
+// Another service checks the subscription too, and memory is wanting for none of its checks.
+fn tell_overtaken(text: &mut Vec<u8>, alloc: Global, sub: u32) -> Option<()> {
     let others = Rival {
         sub,
         is_wanting: false,
     };
+    let store = begun(alloc, RING)?;
     let mut among = Among { store, others };
-    let told = check(alloc, &mut among, sub, 2, 4)?;
-    (!among.others.is_wanting).then_some(told)
+    let way = Way {
+        sub: Some(sub),
+        max: 2,
+        questions: 4,
+    };
+    read(text, alloc, &mut among, way)?;
+    (!among.others.is_wanting).then_some(())
 }
 
-/// Reads by so many pages of a store whose journal keeps so many items.
-pub(crate) fn by_pages(alloc: Global, ring: u32, max: u32, pages: u32) -> Option<String> {
-    let mut among = beside_the_driver(begun(alloc, ring)?)?;
-    let told = turn_pages(alloc, &mut among, max, pages)?;
-    (!among.others.is_refused).then_some(told)
-}
-
-/// Reads by one check of all and by one page of all, where nobody else asks.
-pub(crate) fn alone(alloc: Global) -> Option<(String, String)> {
+// Nobody else asks, and one question is enough.
+fn tell_alone(text: &mut Vec<u8>, alloc: Global, sub: Option<u32>) -> Option<()> {
     let mut store = begun(alloc, RING)?;
-    let checked = check(alloc, &mut store, 0, 256, 1)?;
-    let paged = turn_pages(alloc, &mut store, 256, 1)?;
-    Some((checked, paged))
+    let way = Way {
+        sub,
+        max: 256,
+        questions: 1,
+    };
+    read(text, alloc, &mut store, way)
 }
 
 // A store whose journal keeps so many items, with what is under `eth0` at first.
@@ -52,27 +107,40 @@ fn begun(alloc: Global, ring: u32) -> Option<Store> {
     Some(store)
 }
 
-// The driver asks it too.
-fn beside_the_driver(store: Store) -> Option<Among<Driver>> {
-    let others = eth0(endpoint()?, first_version()?);
-    Some(Among { store, others })
-}
-
-fn check<A: Asks>(alloc: Global, asked: &mut A, sub: u32, max: u32, checks: u32) -> Option<String> {
-    let reading = reading(alloc, max, checks)?;
-    tell(alloc, &read_by_checks(alloc, asked, sub, &reading))
-}
-
-fn turn_pages<A: Asks>(alloc: Global, asked: &mut A, max: u32, pages: u32) -> Option<String> {
-    let reading = reading(alloc, max, pages)?;
-    tell(alloc, &read_by_pages(alloc, asked, &reading))
-}
-
-// What is asked: all kinds under `eth0`, at most so many items at a time.
-fn reading(alloc: Global, max: u32, questions: u32) -> Option<Reading> {
-    Some(Reading {
+// Reads all kinds under `eth0`.
+fn read<A: Asks>(text: &mut Vec<u8>, alloc: Global, asked: &mut A, way: Way) -> Option<()> {
+    let reading = Reading {
         query: all_under(alloc, b"eth0.*")?,
-        max,
-        questions,
-    })
+        max: way.max,
+        questions: way.questions,
+    };
+    match way.sub {
+        Some(sub) => tell_read(text, &read_by_checks(alloc, asked, sub, &reading)),
+        None => tell_read(text, &read_by_pages(alloc, asked, &reading)),
+    }
+}
+
+// The names of the items behind the word `items`, or why the reader gave up.
+fn tell_read(text: &mut Vec<u8>, read: &Result<Items, ReadFault>) -> Option<()> {
+    match read {
+        Ok(items) => tell_names(text, items),
+        Err(ReadFault::Refused(refusal)) => write!(text, "refused: {refusal}\n").ok(),
+        Err(fault) => write!(text, "{fault}\n").ok(),
+    }
+}
+
+// The name of each change's key, and the owner of each floor behind `!`, in their order.
+fn tell_names(text: &mut Vec<u8>, items: &Items) -> Option<()> {
+    tell(text, &[b"items"])?;
+    for item in items.as_slice() {
+        tell_name(text, item)?;
+    }
+    tell(text, &[b"\n"])
+}
+
+fn tell_name(text: &mut Vec<u8>, item: &Item) -> Option<()> {
+    match item {
+        Item::Change(change) => tell(text, &[b" ", change.key().name.bytes()]),
+        Item::Floor(floor) => tell(text, &[b" !", floor.owner.bytes()]),
+    }
 }

@@ -1,18 +1,28 @@
 //! Replies, told each in a text of its own.
 
+use crate::telling::tell;
 use ds_entry::Value;
 use ds_held::Limits;
 use ds_machine::{Refusal, Reply};
 use std::alloc::Global;
 use store_words::{Wording, write_reply};
 
-/// Replies, and how each is worded. One of the notices that the first owes is for subscription 40.
-pub(crate) fn replies() -> [(Wording, Reply); 3] {
-    [
-        (Wording::AsOffer, taken(1 << 40)),
-        (Wording::AsMerge, Reply::Found(Value::U32(1500))),
-        (Wording::AsMerge, Reply::Refused(Refusal::NotFound)),
-    ]
+/// The text of each reply. One of the notices that the first owes is for subscription 40. `None` where memory is wanting.
+pub(crate) fn tell_rows(text: &mut Vec<u8>, alloc: Global) -> Option<()> {
+    tell(text, &[b"replies\n"])?;
+    tell_reply(text, alloc, Wording::AsOffer, &taken(1 << 40))?;
+    tell_reply(
+        text,
+        alloc,
+        Wording::AsMerge,
+        &Reply::Found(Value::U32(1500)),
+    )?;
+    tell_reply(
+        text,
+        alloc,
+        Wording::AsMerge,
+        &Reply::Refused(Refusal::NotFound),
+    )
 }
 
 // One item that took effect.
@@ -25,7 +35,7 @@ fn taken(owed: u128) -> Reply {
     }
 }
 
-/// The text of a reply that is so worded. `None` where memory is wanting.
-pub(crate) fn text_of(alloc: Global, wording: Wording, reply: &Reply) -> Option<Vec<u8>> {
-    write_reply(alloc, wording, reply, Limits::larger()).ok()
+fn tell_reply(text: &mut Vec<u8>, alloc: Global, wording: Wording, reply: &Reply) -> Option<()> {
+    let lines = write_reply(alloc, wording, reply, Limits::larger()).ok()?;
+    tell(text, &[lines.as_slice()])
 }

@@ -1,5 +1,6 @@
 //! A script with its answers, and each read and each write of it failing in turn.
 
+use crate::telling::tell;
 use ds_line::Expected;
 use ds_lines::{FailRead, FailWrite};
 use ds_script::{ReplayFault, replay};
@@ -46,19 +47,22 @@ const ROWS: [Row; 4] = [
 // More reads, and more writes, than any of these scripts and its answers take.
 const MOST: u32 = 100;
 
-/// Has each read of each script fail in turn, of seven bytes each, up to a run in which none does. `None` where an answer
-/// isn't the front of what it should be, a failed read isn't told as one, or no run goes through.
-pub(crate) fn reads_fail(alloc: Global) -> Option<()> {
-    for row in &ROWS {
-        go_through(alloc, row, Failing::Read)?;
-    }
-    Some(())
+/// Has each read of each script fail in turn, of seven bytes each, up to a run in which none does, and says so. `None` where an
+/// answer isn't the front of what it should be, a failed read isn't told as one, or no run goes through.
+pub(crate) fn tell_reads(text: &mut Vec<u8>, alloc: Global) -> Option<()> {
+    go_through_all(alloc, Failing::Read)?;
+    tell(text, &[b"each read failed in turn\n"])
 }
 
 /// The same of each write, of at most five bytes.
-pub(crate) fn writes_fail(alloc: Global) -> Option<()> {
+pub(crate) fn tell_writes(text: &mut Vec<u8>, alloc: Global) -> Option<()> {
+    go_through_all(alloc, Failing::Write)?;
+    tell(text, &[b"each write failed in turn\n"])
+}
+
+fn go_through_all(alloc: Global, what: Failing) -> Option<()> {
     for row in &ROWS {
-        go_through(alloc, row, Failing::Write)?;
+        go_through(alloc, row, what)?;
     }
     Some(())
 }

@@ -1,34 +1,44 @@
-//! Calls that take no memory.
+//! Calls that take no memory. They are told in a text that has room for them by now.
 
+use crate::telling::{tell_number, tell_whether};
 use ds_entry::{Body, Change, Value};
 use ds_held::Held;
 use ds_names::{Endpoint, Generation, Key, Kind, Name, Version};
 use std::alloc::Global;
 
-/// Texts, two of which are no names.
-pub(crate) const NAMES: [&[u8]; 3] = [b"eth0", b"", b"eth 0"];
+// Texts, two of which are no names.
+const NAMES: [&[u8]; 3] = [b"eth0", b"", b"eth 0"];
 
-/// Texts, two of which are no endpoints.
-pub(crate) const ENDPOINTS: [&[u8]; 3] = [b"3/17", b"03/17", b"3/1024"];
+// Texts, two of which are no endpoints.
+const ENDPOINTS: [&[u8]; 3] = [b"3/17", b"03/17", b"3/1024"];
 
-/// Sequence numbers, the last of which no number has.
-pub(crate) const NUMBERS: [u32; 2] = [0, 4294967295];
+// Sequence numbers, the last of which no number has.
+const NUMBERS: [u32; 2] = [0, 4294967295];
 
-/// Whether the text is a name.
-pub(crate) fn is_name(text: &[u8]) -> bool {
-    Name::read(text).is_ok()
+/// What comes of them: names, endpoints and changes that are made or not, and how many changes a new holder has.
+pub(crate) fn tell_rows(text: &mut Vec<u8>, alloc: Global) -> Option<()> {
+    for name in NAMES {
+        tell_whether(text, b"name ", Name::read(name).is_ok())?;
+    }
+    for endpoint in ENDPOINTS {
+        tell_number(text, b"slot ", u64::from(slot_of(endpoint)), b"\n")?;
+    }
+    for seq in NUMBERS {
+        tell_whether(text, b"change ", is_made(seq))?;
+    }
+    tell_number(text, b"held ", Held::new(alloc).len() as u64, b"\n")
 }
 
-/// The slot of an endpoint's text, 0 where it is none.
-pub(crate) fn slot_of(text: &[u8]) -> u16 {
+// The slot of an endpoint's text, 0 where it is none.
+fn slot_of(text: &[u8]) -> u16 {
     match Endpoint::read(text) {
         Ok(endpoint) => endpoint.slot(),
         Err(_) => 0,
     }
 }
 
-/// Whether there is a change of a number with this sequence number.
-pub(crate) fn is_made(seq: u32) -> bool {
+// Whether there is a change of a number with this sequence number.
+fn is_made(seq: u32) -> bool {
     match change_of(seq) {
         Some(change) => change.version().seq == seq,
         None => false,
@@ -43,9 +53,4 @@ fn change_of(seq: u32) -> Option<Change> {
     let epoch = Generation::of(3)?;
     let body = Body::Put(Value::U32(1500));
     Change::make(key, Name::read(b"eth0").ok()?, Version { epoch, seq }, body).ok()
-}
-
-/// How many changes a new holder has.
-pub(crate) fn held_at_first(alloc: Global) -> usize {
-    Held::new(alloc).len()
 }

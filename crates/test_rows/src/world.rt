@@ -1,5 +1,6 @@
 //! Events that happen in a world at once: those of a script happen one by one.
 
+use crate::telling::tell;
 use ds_entry::Items;
 use ds_line::read_item;
 use ds_machine::{Command, Reply, Scope};
@@ -10,11 +11,12 @@ use std::alloc::Global;
 // What another holder gives store A.
 const LINE: &[u8] = b"a u32 eth0 1.0 = 1\n";
 
-/// Lets four events happen at once, of which the third is refused: store A is given a change, and all that it then holds goes to
-/// store B. `None` where memory is wanting, or something else came of one.
-pub(crate) fn happen_at_once(alloc: Global) -> Option<()> {
+/// Lets four events happen at once, of which the third is refused, and says so: store A is given a change, and all that it then
+/// holds goes to store B. `None` where memory is wanting, or something else came of one.
+pub(crate) fn tell_rows(text: &mut Vec<u8>, alloc: Global) -> Option<()> {
     let mut world = World::new(alloc, seed(1), seed(2)).ok()?;
-    happen_in(alloc, &mut world)
+    happen_in(alloc, &mut world)?;
+    tell(text, &[b"four events of a world at once\n"])
 }
 
 fn seed(incarnation: u64) -> Seed {
@@ -26,18 +28,18 @@ fn seed(incarnation: u64) -> Seed {
 }
 
 fn happen_in(alloc: Global, world: &mut World) -> Option<()> {
-    let outcomes = world.run(events(alloc)?).ok()?;
+    let mut events = Events::new(alloc);
+    add_events(alloc, &mut events)?;
+    let outcomes = world.run(events).ok()?;
     let is_held = world.store(Side::B).held().len() == 1;
     (is_held && are_wanted(&outcomes)).then_some(())
 }
 
-fn events(alloc: Global) -> Option<Events> {
-    let mut events = Events::new(alloc);
-    add(&mut events, ask(merge(alloc)?))?;
-    add(&mut events, ask(Command::Snapshot { scope: Scope::All }))?;
-    add(&mut events, deliver(9))?;
-    add(&mut events, deliver(0))?;
-    Some(events)
+fn add_events(alloc: Global, events: &mut Events) -> Option<()> {
+    add(events, ask(merge(alloc)?))?;
+    add(events, ask(Command::Snapshot { scope: Scope::All }))?;
+    add(events, deliver(9))?;
+    add(events, deliver(0))
 }
 
 fn add(events: &mut Events, event: Event) -> Option<()> {
