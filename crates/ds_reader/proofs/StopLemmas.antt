@@ -1,5 +1,5 @@
 -- Where a question isn't answered, the reader gives up.
-use Rattle.std.proofs.Common.{◌≡◌, ℕ, true, List, Option, sym, subst, inl, inr}
+use Rattle.std.proofs.Common.{◌≡◌, ℕ, true, List, Option, Result, Ok, Err, IfOk, IsErrAnd, sym, subst, inl, inr}
 use Rattle.ds_names.specs.declared.key.Key.{Key}
 use Rattle.ds_entry.specs.declared.item.Item.{Item}
 use Rattle.ds_feed.specs.declared.cursor.Cursor.{Cursor}
@@ -110,3 +110,19 @@ module _ {A : Type 0} (laws : ReaderLaws) (stands : A → State → Type 0) (wor
   stops_page s reading scope items after from count NoRoom same h k = absurd h
   stops_page s reading scope items after from count Unfinished same h k = absurd h
   stops_page s reading scope items after from count Overtaken same h k = absurd h
+
+-- ---- what a reader that gives up says
+-- it has read nothing
+pub nothing_read : {T E : Type 0} (r : Result T E) (P : T → Type 0) (Q : E → Type 0) → IsErrAnd r Q → IfOk r P
+nothing_read (Ok x) P Q h = absurd h
+nothing_read (Err y) P Q h = tt
+
+-- for want of memory it doesn't say that it can ask no more
+pub has_room : {T X : Type 0} (r : Result T ReadFault) → IsErrAnd r (λ y. y ≡ NoRoom) → r ≡ Err Worn → X
+has_room (Ok x) h e = absurd h
+has_room (Err y) h e = absurd (cc)
+
+-- it says so only where the fault does that it passes on
+pub by_fault : {T X : Type 0} (r : Result T ReadFault) (fault : ReadFault) → IsErrAnd r (λ y. y ≡ fault) → (fault ≡ Worn → X) → r ≡ Err Worn → X
+by_fault (Ok x) fault h says e = absurd h
+by_fault (Err y) fault h says e = says (cc)

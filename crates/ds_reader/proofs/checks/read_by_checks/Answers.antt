@@ -1,13 +1,13 @@
-use Rattle.std.proofs.Common.{◌≡◌, ◌+◌, ◌<◌, ◌≤◌, List, length, arith, sym, ◌∙◌, subst}
+use Rattle.std.proofs.Common.{refl, ◌≡◌, ◌+◌, ◌<◌, ◌≤◌, List, length, arith, sym, ◌∙◌, subst}
 use Rattle.std.proofs.lemmas.Result.{err_from_is_err_and}
 use Rattle.ds_entry.specs.declared.item.Item.{Item}
 use Rattle.ds_pattern.specs.declared.query.Query.{Query}
-use Rattle.ds_machine.specs.declared.reply.Reply.TheVariants as replies
 use Rattle.ds_reader.specs.Asked.{Asked, subscribe_anew}
 use Rattle.ds_reader.specs.ReadWhole.{IsReadWhole}
+use Rattle.ds_reader.proofs.StopLemmas.{nothing_read, has_room, by_fault, stops_worn, stops_check, stops_subscribe}
 use Rattle.ds_reader.proofs.CheckLemmas.{Checking, begun, all_full, checked_on, gone, overtaken, read_whole}
 use Rattle.ds_reader.proofs.QuestionLemmas.{by_checks, checks_more, has_begun}
-use Rattle.ds_reader.proofs.StopLemmas.{stops_check, stops_subscribe}
+use Rattle.ds_machine.specs.declared.reply.Reply.TheVariants as replies
 use Rattle.ds_reader.proofs.checks.read_by_checks.Goals as goal
 
 pub returns-in_err-stamp-clause-stopped : goal.returns-in_err-stamp-clause-stopped
@@ -170,3 +170,68 @@ returns-clause-only g c =
     let q = c.loop-question in
     let small : q._question ≤ c.args.reading.now.questions = omega (arith, c.loop-question-test.false, q.auto._question-end) in
     by_checks g.A.Asks.asks_once c.args.sub c.args.reading.now q._question c.args.asked.now q.asked small q.invariant.1
+
+-- ---- which reader asked, and what a reader that gives up says
+
+pub returns-in_err-query-clause-worn : goal.returns-in_err-query-clause-worn
+returns-in_err-query-clause-worn g c = has_room c.from_residual.result c.from_residual.ensures.1
+
+pub returns-in_err-query-clause-same : goal.returns-in_err-query-clause-same
+returns-in_err-query-clause-same g c = refl
+
+pub returns-in_err-stamp-clause-worn : goal.returns-in_err-stamp-clause-worn
+returns-in_err-stamp-clause-worn g c = by_fault c.from_residual-in_err-stamp.result c.in_err-stamp.field-0.0 c.from_residual-in_err-stamp.ensures.1 (stops_worn c.laws.ensures g.A.Asks.stands g.A.Asks.is_worn c.args.asked.now c.subscribe.new.asked _ c.in_err-stamp.field-0.0 c.in_err-stamp.ensures.refused)
+
+pub returns-in_err-stamp-clause-same : goal.returns-in_err-stamp-clause-same
+returns-in_err-stamp-clause-same g c = c.subscribe.ensures.same
+
+pub returns-in_err-shown-clause-worn : goal.returns-in_err-shown-clause-worn
+returns-in_err-shown-clause-worn g c = by_fault c.from_residual-in_err-shown.result c.in_err-shown.field-0.0 c.from_residual-in_err-shown.ensures.1 (stops_worn c.laws.ensures g.A.Asks.stands g.A.Asks.is_worn c.loop-question.asked c.check.new.asked _ c.in_err-shown.field-0.0 c.in_err-shown.ensures.refused)
+
+pub returns-in_err-shown-clause-same : goal.returns-in_err-shown-clause-same
+returns-in_err-shown-clause-same g c = c.check.ensures.same ∙ c.loop-question.invariant.0
+
+pub returns-in_err-append-clause-worn : goal.returns-in_err-append-clause-worn
+returns-in_err-append-clause-worn g c = has_room c.from_residual-in_err-append.result c.from_residual-in_err-append.ensures.1
+
+pub returns-in_err-append-clause-same : goal.returns-in_err-append-clause-same
+returns-in_err-append-clause-same g c = c.check.ensures.same ∙ c.loop-question.invariant.0
+
+pub returns-then-shown-stamp-clause-whole : goal.returns-then-shown-stamp-clause-whole
+returns-then-shown-stamp-clause-whole g c = tt
+
+pub returns-then-shown-stamp-clause-worn : goal.returns-then-shown-stamp-clause-worn
+returns-then-shown-stamp-clause-worn g c = λ e. absurd (cc)
+
+pub returns-then-shown-stamp-clause-same : goal.returns-then-shown-stamp-clause-same
+returns-then-shown-stamp-clause-same g c = c.check.ensures.same ∙ c.loop-question.invariant.0
+
+pub returns-then-len-reading-clause-stopped : goal.returns-then-len-reading-clause-stopped
+returns-then-len-reading-clause-stopped g c = tt
+
+pub returns-then-len-reading-clause-worn : goal.returns-then-len-reading-clause-worn
+returns-then-len-reading-clause-worn g c = λ e. absurd (cc)
+
+pub returns-then-len-reading-clause-same : goal.returns-then-len-reading-clause-same
+returns-then-len-reading-clause-same g c = c.check.ensures.same ∙ c.loop-question.invariant.0
+
+pub returns-clause-whole : goal.returns-clause-whole
+returns-clause-whole g c = tt
+
+pub returns-clause-worn : goal.returns-clause-worn
+returns-clause-worn g c = λ e. absurd (cc)
+
+pub returns-clause-same : goal.returns-clause-same
+returns-clause-same g c = c.loop-question.invariant.0
+
+pub returns-in_err-query-clause-whole : goal.returns-in_err-query-clause-whole
+returns-in_err-query-clause-whole g c = nothing_read c.from_residual.result _ _ c.from_residual.ensures.1
+
+pub returns-in_err-stamp-clause-whole : goal.returns-in_err-stamp-clause-whole
+returns-in_err-stamp-clause-whole g c = nothing_read c.from_residual-in_err-stamp.result _ _ c.from_residual-in_err-stamp.ensures.1
+
+pub returns-in_err-shown-clause-whole : goal.returns-in_err-shown-clause-whole
+returns-in_err-shown-clause-whole g c = nothing_read c.from_residual-in_err-shown.result _ _ c.from_residual-in_err-shown.ensures.1
+
+pub returns-in_err-append-clause-whole : goal.returns-in_err-append-clause-whole
+returns-in_err-append-clause-whole g c = nothing_read c.from_residual-in_err-append.result _ _ c.from_residual-in_err-append.ensures.1

@@ -6,10 +6,10 @@ use Rattle.ds_machine.specs.declared.command.Scope.{Scope}
 use Rattle.ds_machine.specs.Scope.{is_kept}
 use Rattle.ds_reader.specs.CaughtUp.{IsCaughtUp}
 use Rattle.ds_reader.specs.Questions.{IsSinceOf}
+use Rattle.ds_reader.proofs.StopLemmas.{nothing_read, has_room, by_fault, stops_worn, stops_since}
 use Rattle.ds_reader.proofs.StateLemmas.{journaled_there}
 use Rattle.ds_reader.proofs.SinceLemmas.{Catching, caught_on, caught_up, gone, not_begun}
 use Rattle.ds_reader.proofs.QuestionLemmas.{fewer, none_asked, sinces_more}
-use Rattle.ds_reader.proofs.StopLemmas.{stops_since}
 use Rattle.ds_reader.proofs.pages.catch_up.Goals as goal
 
 pub loop-question-init : goal.loop-question-init
@@ -133,3 +133,50 @@ returns-clause-only g c =
     let reading = c.args.reading.now in
     let small : q._question ≤ reading.questions = omega (arith, c.loop-question-test.false, q.auto._question-end) in
     fewer g.A.Asks.asks_once (IsSinceOf reading) q._question reading.questions c.args.asked.now q.asked small q.invariant.1
+
+-- ---- which reader asked, and what a reader that gives up says
+
+pub returns-in_err-scope-clause-worn : goal.returns-in_err-scope-clause-worn
+returns-in_err-scope-clause-worn g c = has_room c.from_residual.result c.from_residual.ensures.1
+
+pub returns-in_err-scope-clause-same : goal.returns-in_err-scope-clause-same
+returns-in_err-scope-clause-same g c = c.loop-question.invariant.0
+
+pub returns-in_err-given-clause-worn : goal.returns-in_err-given-clause-worn
+returns-in_err-given-clause-worn g c = by_fault c.from_residual-in_err-given.result c.in_err-given.field-0.0 c.from_residual-in_err-given.ensures.1 (stops_worn c.laws.ensures g.A.Asks.stands g.A.Asks.is_worn c.loop-question.asked c.since.new.asked _ c.in_err-given.field-0.0 c.in_err-given.ensures.refused)
+
+pub returns-in_err-given-clause-same : goal.returns-in_err-given-clause-same
+returns-in_err-given-clause-same g c = c.since.ensures.same ∙ c.loop-question.invariant.0
+
+pub returns-in_err-append-clause-worn : goal.returns-in_err-append-clause-worn
+returns-in_err-append-clause-worn g c = has_room c.from_residual-in_err-append.result c.from_residual-in_err-append.ensures.1
+
+pub returns-in_err-append-clause-same : goal.returns-in_err-append-clause-same
+returns-in_err-append-clause-same g c = c.since.ensures.same ∙ c.loop-question.invariant.0
+
+pub returns-then-len-reading-clause-stopped : goal.returns-then-len-reading-clause-stopped
+returns-then-len-reading-clause-stopped g c = tt
+
+pub returns-then-len-reading-clause-worn : goal.returns-then-len-reading-clause-worn
+returns-then-len-reading-clause-worn g c = λ e. absurd (cc)
+
+pub returns-then-len-reading-clause-same : goal.returns-then-len-reading-clause-same
+returns-then-len-reading-clause-same g c = c.since.ensures.same ∙ c.loop-question.invariant.0
+
+pub returns-clause-caught : goal.returns-clause-caught
+returns-clause-caught g c = tt
+
+pub returns-clause-worn : goal.returns-clause-worn
+returns-clause-worn g c = λ e. absurd (cc)
+
+pub returns-clause-same : goal.returns-clause-same
+returns-clause-same g c = c.loop-question.invariant.0
+
+pub returns-in_err-scope-clause-caught : goal.returns-in_err-scope-clause-caught
+returns-in_err-scope-clause-caught g c = nothing_read c.from_residual.result _ _ c.from_residual.ensures.1
+
+pub returns-in_err-given-clause-caught : goal.returns-in_err-given-clause-caught
+returns-in_err-given-clause-caught g c = nothing_read c.from_residual-in_err-given.result _ _ c.from_residual-in_err-given.ensures.1
+
+pub returns-in_err-append-clause-caught : goal.returns-in_err-append-clause-caught
+returns-in_err-append-clause-caught g c = nothing_read c.from_residual-in_err-append.result _ _ c.from_residual-in_err-append.ensures.1

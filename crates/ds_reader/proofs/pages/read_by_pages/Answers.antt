@@ -1,4 +1,4 @@
-use Rattle.std.proofs.Common.{◌≡◌, ◌+◌, ◌++◌, ◌≤◌, List, Option, Some, None, arith, refl, sym, ◌∙◌, subst, inl, inr}
+use Rattle.std.proofs.Common.{Err, ap, ◌≡◌, ◌+◌, ◌++◌, ◌≤◌, List, Option, Some, None, arith, refl, sym, ◌∙◌, subst, inl, inr}
 use Rattle.std.specs.Option.{unwrap_or}
 use Rattle.std.proofs.lemmas.Result.{err_from_is_err_and}
 use Rattle.ds_names.specs.declared.key.Key.{Key}
@@ -12,10 +12,10 @@ use Rattle.ds_machine.specs.State.{held, cursor}
 use Rattle.ds_reader.specs.CaughtUp.{IsCaughtUp}
 use Rattle.ds_reader.specs.GivesUp.{StopsSinces}
 use Rattle.ds_reader.specs.Questions.{IsPageOf}
+use Rattle.ds_reader.proofs.StopLemmas.{nothing_read, has_room, by_fault, stops_worn, stops_page}
 use Rattle.ds_reader.proofs.StateLemmas.{paged_there}
 use Rattle.ds_reader.proofs.PageLemmas.{Paging, all_paged, gone, not_begun, paged_on, read_whole}
 use Rattle.ds_reader.proofs.QuestionLemmas.{by_both, by_pages, none_asked, pages_more}
-use Rattle.ds_reader.proofs.StopLemmas.{stops_page}
 use Rattle.ds_reader.proofs.pages.read_by_pages.Goals as goal
 
 pub loop-question-init : goal.loop-question-init
@@ -179,3 +179,59 @@ returns-clause-only g c =
     let q = c.loop-question in
     let small : q._question ≤ c.args.reading.now.questions = omega (arith, c.loop-question-test.false, q.auto._question-end) in
     by_pages g.A.Asks.asks_once c.args.reading.now q._question c.args.asked.now q.asked small q.invariant.1
+
+-- ---- which reader asked, and what a reader that gives up says
+
+pub returns-in_err-scope-clause-worn : goal.returns-in_err-scope-clause-worn
+returns-in_err-scope-clause-worn g c = has_room c.from_residual.result c.from_residual.ensures.1
+
+pub returns-in_err-scope-clause-same : goal.returns-in_err-scope-clause-same
+returns-in_err-scope-clause-same g c = c.loop-question.invariant.0
+
+pub returns-in_err-given-clause-worn : goal.returns-in_err-given-clause-worn
+returns-in_err-given-clause-worn g c = by_fault c.from_residual-in_err-given.result c.in_err-given.field-0.0 c.from_residual-in_err-given.ensures.1 (stops_worn c.laws.ensures g.A.Asks.stands g.A.Asks.is_worn c.loop-question.asked c.page.new.asked _ c.in_err-given.field-0.0 c.in_err-given.ensures.refused)
+
+pub returns-in_err-given-clause-same : goal.returns-in_err-given-clause-same
+returns-in_err-given-clause-same g c = c.page.ensures.same ∙ c.loop-question.invariant.0
+
+pub returns-in_err-append-clause-worn : goal.returns-in_err-append-clause-worn
+returns-in_err-append-clause-worn g c = has_room c.from_residual-in_err-append.result c.from_residual-in_err-append.ensures.1
+
+pub returns-in_err-append-clause-same : goal.returns-in_err-append-clause-same
+returns-in_err-append-clause-same g c = c.page.ensures.same ∙ c.loop-question.invariant.0
+
+pub returns-in_err-catch_up-clause-worn : goal.returns-in_err-catch_up-clause-worn
+returns-in_err-catch_up-clause-worn g c = by_fault c.from_residual-in_err-catch_up.result c.in_err-catch_up.field-0.0 c.from_residual-in_err-catch_up.ensures.1 (λ e. c.in_err-catch_up.ensures.worn (ap Err e))
+
+pub returns-in_err-catch_up-clause-same : goal.returns-in_err-catch_up-clause-same
+returns-in_err-catch_up-clause-same g c = c.catch_up.ensures.same ∙ c.page.ensures.same ∙ c.loop-question.invariant.0
+
+pub returns-then-given-clause-stopped : goal.returns-then-given-clause-stopped
+returns-then-given-clause-stopped g c = tt
+
+pub returns-then-given-clause-worn : goal.returns-then-given-clause-worn
+returns-then-given-clause-worn g c = λ e. absurd (cc)
+
+pub returns-then-given-clause-same : goal.returns-then-given-clause-same
+returns-then-given-clause-same g c = c.catch_up.ensures.same ∙ c.page.ensures.same ∙ c.loop-question.invariant.0
+
+pub returns-clause-whole : goal.returns-clause-whole
+returns-clause-whole g c = tt
+
+pub returns-clause-worn : goal.returns-clause-worn
+returns-clause-worn g c = λ e. absurd (cc)
+
+pub returns-clause-same : goal.returns-clause-same
+returns-clause-same g c = c.loop-question.invariant.0
+
+pub returns-in_err-scope-clause-whole : goal.returns-in_err-scope-clause-whole
+returns-in_err-scope-clause-whole g c = nothing_read c.from_residual.result _ _ c.from_residual.ensures.1
+
+pub returns-in_err-given-clause-whole : goal.returns-in_err-given-clause-whole
+returns-in_err-given-clause-whole g c = nothing_read c.from_residual-in_err-given.result _ _ c.from_residual-in_err-given.ensures.1
+
+pub returns-in_err-append-clause-whole : goal.returns-in_err-append-clause-whole
+returns-in_err-append-clause-whole g c = nothing_read c.from_residual-in_err-append.result _ _ c.from_residual-in_err-append.ensures.1
+
+pub returns-in_err-catch_up-clause-whole : goal.returns-in_err-catch_up-clause-whole
+returns-in_err-catch_up-clause-whole g c = nothing_read c.from_residual-in_err-catch_up.result _ _ c.from_residual-in_err-catch_up.ensures.1
