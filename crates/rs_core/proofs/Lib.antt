@@ -2,3 +2,4 @@ pub mod FindLemmas
 pub mod KeptLemmas
 pub mod RunLemmas
 pub mod SaysLemmas
+pub mod RefusalLemmas

@@ -1,4 +1,5 @@
-use Rattle.std.proofs.Common.{sym}
+use Rattle.std.proofs.Common.{◌∙◌, ap, sym}
+use Rattle.ds_machine.specs.declared.command.Command.TheVariants.{Publish, Subscribe, Since, Snapshot, Page, Merge}
 use Rattle.ds_services.proofs.copying.command_again.Goals as goal
 
 pub returns-in-Delete : goal.returns-in-Delete
@@ -15,3 +16,27 @@ returns-in-NameOf c = sym c.in-NameOf.is
 
 pub returns-in-Check : goal.returns-in-Check
 returns-in-Check c = sym c.in-Check.is
+
+pub returns-in_ok-copy-in-Publish : goal.returns-in_ok-copy-in-Publish
+returns-in_ok-copy-in-Publish c =
+    let p = c.in-Publish in ap (λ v. Publish p.caller p.key p.version v p.overwrite) c.in_ok-copy-in-Publish.ensures.same ∙ sym p.is
+
+pub returns-in_ok-copy-in-Subscribe : goal.returns-in_ok-copy-in-Subscribe
+returns-in_ok-copy-in-Subscribe c =
+    let p = c.in-Subscribe in ap (λ q. Subscribe p.sub q p.initial p.overwrite) c.in_ok-copy-in-Subscribe.ensures ∙ sym p.is
+
+pub returns-in_ok-scope_again-in-Since : goal.returns-in_ok-scope_again-in-Since
+returns-in_ok-scope_again-in-Since c =
+    let p = c.in-Since in ap (λ s. Since s p.cursor p.max) c.in_ok-scope_again-in-Since.ensures ∙ sym p.is
+
+pub returns-in_ok-scope_again-in-Snapshot : goal.returns-in_ok-scope_again-in-Snapshot
+returns-in_ok-scope_again-in-Snapshot c =
+    let p = c.in-Snapshot in ap (λ s. Snapshot s) c.in_ok-scope_again-in-Snapshot.ensures ∙ sym p.is
+
+pub returns-in_ok-scope_again-in-Page : goal.returns-in_ok-scope_again-in-Page
+returns-in_ok-scope_again-in-Page c =
+    let p = c.in-Page in ap (λ s. Page s p.after p.max) c.in_ok-scope_again-in-Page.ensures ∙ sym p.is
+
+pub returns-in_ok-copy-in-Merge : goal.returns-in_ok-copy-in-Merge
+returns-in_ok-copy-in-Merge c =
+    let p = c.in-Merge in ap (λ i. Merge i) c.in_ok-copy-in-Merge.ensures ∙ sym p.is

@@ -1,4 +1,5 @@
-use Rattle.std.proofs.Common.{sym}
+use Rattle.std.proofs.Common.{◌∙◌, ap, sym}
+use Rattle.ds_services.specs.declared.event.SystemEvent.TheVariants.{Put, World}
 use Rattle.ds_services.proofs.copying.event_again.Goals as goal
 
 pub returns-in-Service : goal.returns-in-Service
@@ -18,3 +19,11 @@ returns-in-Submit c = sym c.in-Submit.is
 
 pub returns-in-Answered : goal.returns-in-Answered
 returns-in-Answered c = sym c.in-Answered.is
+
+pub returns-in_ok-copy-in-Put : goal.returns-in_ok-copy-in-Put
+returns-in_ok-copy-in-Put c =
+    let p = c.in-Put in ap (λ v. Put p.label p.key v p.side) c.in_ok-copy-in-Put.ensures.same ∙ sym p.is
+
+pub returns-in_ok-world_event_again-in-World : goal.returns-in_ok-world_event_again-in-World
+returns-in_ok-world_event_again-in-World c =
+    let p = c.in-World in ap (λ e. World e) c.in_ok-world_event_again-in-World.ensures ∙ sym p.is
