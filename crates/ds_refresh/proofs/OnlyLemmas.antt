@@ -40,15 +40,9 @@ only_worn p q f limit fault w = record { own = []; made = w.made; few = omega ar
 only_call : (p q : PassRecord) (f : FollowerRecord) (command : Command) (reply : Reply) (place : ℕ) → IsOfFollower f.sub f.map.query command → MadeCall p q command reply place → CallsOnly p q f 1
 only_call p q f command reply place is c = record { own = entry p.origin.number command reply ∷ []; made = c.made; few = omega arith; theirs = (is, tt) }
 
-pub only_subscribe : (p q : PassRecord) (f : FollowerRecord) (asked : Query) (reply : Reply) (place : ℕ) → asked ≡ f.map.query → MadeCall p q (subscribe_anew f.sub asked) reply place → CallsOnly p q f 1
-only_subscribe p q f asked reply place same c = only_call p q f (subscribe_anew f.sub asked) reply place (inl (ap (λ (x : Query). subscribe_anew f.sub x) same)) c
-
 pub only_its_subscribe : (p q : PassRecord) (f : FollowerRecord) (sub : ℕ) (asked : Query) (reply : Reply) (place : ℕ) → sub ≡ f.sub → asked ≡ f.map.query → MadeCall p q (subscribe_anew sub asked) reply place → CallsOnly p q f 1
 only_its_subscribe p q f sub asked reply place same also c =
     only_call p q f (subscribe_anew sub asked) reply place (inl (ap (λ (s : ℕ). subscribe_anew s asked) same ∙ ap (λ (x : Query). subscribe_anew f.sub x) also)) c
-
-pub only_check : (p q : PassRecord) (f : FollowerRecord) (reply : Reply) (place : ℕ) → MadeCall p q (Check f.sub most_items) reply place → CallsOnly p q f 1
-only_check p q f reply place c = only_call p q f (Check f.sub most_items) reply place (inr refl) c
 
 pub only_its_check : (p q : PassRecord) (f : FollowerRecord) (sub : ℕ) (reply : Reply) (place : ℕ) → sub ≡ f.sub → MadeCall p q (Check sub most_items) reply place → CallsOnly p q f 1
 only_its_check p q f sub reply place same c = only_call p q f (Check sub most_items) reply place (inr (ap (λ (s : ℕ). Check s most_items) same)) c

@@ -35,13 +35,13 @@ text_of words.Follow = codes "follow"
 text_of words.Submit = codes "submit"
 text_of words.Reply = codes "reply"
 
--- the words, each once
+-- the words, each once, those first that scripts have most of
 abbrev pub all_words : List Word
 all_words =
-    words.Offer ∷ words.Show ∷ words.All ∷ words.Publish ∷ words.Delete ∷ words.Sweep ∷ words.Retrieve ∷ words.NameOf ∷ words.Subscribe
-    ∷ words.Check ∷ words.Map ∷ words.Entries ∷ words.Ring ∷ words.Side ∷ words.Clear ∷ words.Restart ∷ words.Deliver ∷ words.Since
-    ∷ words.Snapshot ∷ words.Page ∷ words.Settings ∷ words.Service ∷ words.Death ∷ words.Beat ∷ words.Tick ∷ words.Assign ∷ words.Follow
-    ∷ words.Submit ∷ words.Reply ∷ []
+    words.Offer ∷ words.Publish ∷ words.Retrieve ∷ words.Check ∷ words.NameOf ∷ words.Deliver ∷ words.Since ∷ words.Page ∷ words.Show
+    ∷ words.All ∷ words.Delete ∷ words.Sweep ∷ words.Subscribe ∷ words.Map ∷ words.Entries ∷ words.Ring ∷ words.Side ∷ words.Clear
+    ∷ words.Restart ∷ words.Snapshot ∷ words.Settings ∷ words.Service ∷ words.Death ∷ words.Beat ∷ words.Tick ∷ words.Assign
+    ∷ words.Follow ∷ words.Submit ∷ words.Reply ∷ []
 
 -- the word is of a command to a world
 abbrev pub IsOfWorld : Word → Type 0

@@ -51,31 +51,31 @@ pub(crate) fn word_of(text: &[u8]) -> Option<Word>
     None
 }
 
-// The words, each once.
+// The words, each once, those first that scripts have most of.
 fn all_words() -> &'static [Word]
     ensures { result.now ≡ all_words }
 {
     &[
         Word::Offer,
+        Word::Publish,
+        Word::Retrieve,
+        Word::Check,
+        Word::NameOf,
+        Word::Deliver,
+        Word::Since,
+        Word::Page,
         Word::Show,
         Word::All,
-        Word::Publish,
         Word::Delete,
         Word::Sweep,
-        Word::Retrieve,
-        Word::NameOf,
         Word::Subscribe,
-        Word::Check,
         Word::Map,
         Word::Entries,
         Word::Ring,
         Word::Side,
         Word::Clear,
         Word::Restart,
-        Word::Deliver,
-        Word::Since,
         Word::Snapshot,
-        Word::Page,
         Word::Settings,
         Word::Service,
         Word::Death,

@@ -15,29 +15,15 @@ pub(crate) fn show_input(
 ) -> Result<ExitCode, Failure> {
     greet(rt, terminals, Greeting::Settings);
     let mut text = Vec::new(rt.alloc());
-    read_whole(rt, &mut text)?;
-    show_text(rt, text.as_slice())
-}
-
-// Reads all of standard input.
-fn read_whole(rt: &impl Runtime, text: &mut Vec<u8>) -> Result<(), Failure> {
-    match rt.reader().read_to_end(text) {
-        Ok(_) => Ok(()),
-        Err(error) => Err(unread(error)),
+    if let Err(error) = rt.reader().read_to_end(&mut text) {
+        return Err(match error.kind() {
+            ErrorKind::OutOfMemory => Failure::NoRoom,
+            _ => Failure::ReadFault(Some(error)),
+        });
     }
-}
-
-fn unread(error: io::Error) -> Failure {
-    match error.kind() {
-        ErrorKind::OutOfMemory => Failure::NoRoom,
-        _ => Failure::ReadFault(Some(error)),
-    }
-}
-
-fn show_text(rt: &(impl Runtime + AllocGlobal), text: &[u8]) -> Result<ExitCode, Failure> {
-    match read(rt.alloc(), text) {
+    match read(rt.alloc(), text.as_slice()) {
         Ok(settings) => show(rt, &settings),
-        Err(fault) => show_fault(rt, text, fault),
+        Err(fault) => show_fault(rt, text.as_slice(), fault),
     }
 }
 

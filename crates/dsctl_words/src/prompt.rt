@@ -97,34 +97,25 @@ impl<'a, R: Runtime> Typed<'a, R> {
         }
     }
 
-    // What is meant by what was read.
+    // What is meant by what was read. Help is shown where it was asked for.
     fn meaning(&mut self, read: &[u8]) -> Meaning {
-        if self.prompts {
-            self.meaning_at_prompt(read)
-        } else if read.is_empty() {
-            Meaning::End
-        } else {
-            Meaning::Line
+        if !self.prompts {
+            return if read.is_empty() {
+                Meaning::End
+            } else {
+                Meaning::Line
+            };
         }
-    }
-
-    // What is meant by what somebody typed. Help is shown where it was asked for.
-    fn meaning_at_prompt(&mut self, read: &[u8]) -> Meaning {
         let began_line = self.begins_line;
         self.begins_line = read.last().copied() == Some(b'\n');
         if read.is_empty() {
             let _ = self.rt.eprintln("");
-            Meaning::End
-        } else if began_line && self.begins_line {
-            self.meaning_of_line(read.trim_ascii())
-        } else {
-            Meaning::Line
+            return Meaning::End;
         }
-    }
-
-    // What is meant by a whole line, without the space round it.
-    fn meaning_of_line(&self, line: &[u8]) -> Meaning {
-        let meaning = meaning_of(line);
+        if !began_line || !self.begins_line {
+            return Meaning::Line;
+        }
+        let meaning = meaning_of(read.trim_ascii());
         if let Meaning::Help = meaning {
             let _ = eprintln!(self.rt; "{LINES}\n\n{AT_THE_PROMPT}");
         }

@@ -13,6 +13,7 @@ use ds_held::Limits;
 use ds_machine::{Command, Refusal, Reply};
 use ds_names::{Endpoint, Key, Kind, Name, NoRoom, Version};
 use ds_store::{Store, run};
+use ds_words::ScriptCommand;
 use std::alloc::Global;
 use std::rt::Runtime;
 use store_words::{Wording, append_reply};
@@ -123,27 +124,13 @@ impl Subject for Store {
 
 // What a script's line asks of the store.
 fn asked_by(alloc: Global, line: &str) -> Result<Asked, Failure> {
-    if let Some(words) = line.strip_prefix("restart ") {
-        return restart_of(words).ok_or(Failure::BadLine);
+    let line = read_line(alloc, line)?;
+    if let ScriptCommand::Restart { incarnation, .. } = line {
+        return Ok(Asked::Restart { incarnation });
     }
-    let wording = wording_of(line);
-    let command = command_of(alloc, line)?;
+    let wording = line.wording();
+    let command = line.into_store_command(alloc)?.ok_or(Failure::BadLine)?;
     Ok(Asked::Command { command, wording })
-}
-
-// `SIDE INCARNATION`
-fn restart_of(words: &str) -> Option<Asked> {
-    let (_, incarnation) = words.split_once(' ')?;
-    let incarnation = incarnation.parse().ok()?;
-    Some(Asked::Restart { incarnation })
-}
-
-fn wording_of(line: &str) -> Wording {
-    if line.starts_with("offer ") {
-        Wording::AsOffer
-    } else {
-        Wording::AsMerge
-    }
 }
 
 fn command_of(alloc: Global, line: &str) -> Result<Command, Failure> {

@@ -20,9 +20,20 @@ use Rattle.trace_record.proofs.RingLemmas.{long_no_ring}
 pub front_there : (bytes front : List ℕ) (l : LinesContent) (to : Option (List ℕ)) → IsAtLine bytes front l to → IsFirstLines bytes front
 front_there bytes front l to a = let h = a.2 in (h.before, a.0 ∷ h.more, h.lines, h.front_is)
 
-pub asks_nothing : (format : Format) (bytes front line : List ℕ) (l : LinesContent) (to : Option (List ℕ)) (number : ℕ) → HasLine bytes front line l to → AsksNothing format (with_newline line) → (front ≡ [] → ¬ IsRingLine (with_newline line)) → number ≡ l.count → AsksNothingAt format bytes front number
+pub asks_nothing : (format : Format) (bytes front line : List ℕ) (l : LinesContent) (to : Option (List ℕ)) (number : ℕ) → HasLine bytes front line l to →
+    AsksNothing format (with_newline line) → (front ≡ [] → ¬ IsRingLine (with_newline line)) → number ≡ l.count → AsksNothingAt format bytes front number
 asks_nothing format bytes front line l to number h none no_ring e =
-    record { whole = (h.before, line ∷ h.more, h.lines, h.front_is); part = []; before = h.before; rest = line ∷ h.more; lines = h.lines; behind = append-nil front ∙ h.front_is; counted = e ∙ h.counted; stops = inl (refl, none); no_ring = λ first. no_ring (h.front_is ∙ ap (λ (l : List (List ℕ)). joined l) first) }
+    record {
+      whole = (h.before, line ∷ h.more, h.lines, h.front_is);
+      part = [];
+      before = h.before;
+      rest = line ∷ h.more;
+      lines = h.lines;
+      behind = append-nil front ∙ h.front_is;
+      counted = e ∙ h.counted;
+      stops = inl (refl, none);
+      no_ring = λ first. no_ring (h.front_is ∙ ap (λ (l : List (List ℕ)). joined l) first);
+    }
 
 not_short : (line : List ℕ) → 4096 < length line → IsShort (with_newline line) → ⊥
 not_short line long short = omega (arith, long, short, length-append line (10 ∷ []))

@@ -180,13 +180,17 @@ pub returns-in_err-query-clause-same : goal.returns-in_err-query-clause-same
 returns-in_err-query-clause-same g c = refl
 
 pub returns-in_err-stamp-clause-worn : goal.returns-in_err-stamp-clause-worn
-returns-in_err-stamp-clause-worn g c = by_fault c.from_residual-in_err-stamp.result c.in_err-stamp.field-0.0 c.from_residual-in_err-stamp.ensures.1 (stops_worn c.laws.ensures g.A.Asks.stands g.A.Asks.is_worn c.args.asked.now c.subscribe.new.asked _ c.in_err-stamp.field-0.0 c.in_err-stamp.ensures.refused)
+returns-in_err-stamp-clause-worn g c =
+    by_fault c.from_residual-in_err-stamp.result c.in_err-stamp.field-0.0 c.from_residual-in_err-stamp.ensures.1
+    (stops_worn c.laws.ensures g.A.Asks.stands g.A.Asks.is_worn c.args.asked.now c.subscribe.new.asked _ c.in_err-stamp.field-0.0 c.in_err-stamp.ensures.refused)
 
 pub returns-in_err-stamp-clause-same : goal.returns-in_err-stamp-clause-same
 returns-in_err-stamp-clause-same g c = c.subscribe.ensures.same
 
 pub returns-in_err-shown-clause-worn : goal.returns-in_err-shown-clause-worn
-returns-in_err-shown-clause-worn g c = by_fault c.from_residual-in_err-shown.result c.in_err-shown.field-0.0 c.from_residual-in_err-shown.ensures.1 (stops_worn c.laws.ensures g.A.Asks.stands g.A.Asks.is_worn c.loop-question.asked c.check.new.asked _ c.in_err-shown.field-0.0 c.in_err-shown.ensures.refused)
+returns-in_err-shown-clause-worn g c =
+    by_fault c.from_residual-in_err-shown.result c.in_err-shown.field-0.0 c.from_residual-in_err-shown.ensures.1
+    (stops_worn c.laws.ensures g.A.Asks.stands g.A.Asks.is_worn c.loop-question.asked c.check.new.asked _ c.in_err-shown.field-0.0 c.in_err-shown.ensures.refused)
 
 pub returns-in_err-shown-clause-same : goal.returns-in_err-shown-clause-same
 returns-in_err-shown-clause-same g c = c.check.ensures.same ∙ c.loop-question.invariant.0

@@ -143,7 +143,9 @@ pub returns-in_err-scope-clause-same : goal.returns-in_err-scope-clause-same
 returns-in_err-scope-clause-same g c = c.loop-question.invariant.0
 
 pub returns-in_err-given-clause-worn : goal.returns-in_err-given-clause-worn
-returns-in_err-given-clause-worn g c = by_fault c.from_residual-in_err-given.result c.in_err-given.field-0.0 c.from_residual-in_err-given.ensures.1 (stops_worn c.laws.ensures g.A.Asks.stands g.A.Asks.is_worn c.loop-question.asked c.since.new.asked _ c.in_err-given.field-0.0 c.in_err-given.ensures.refused)
+returns-in_err-given-clause-worn g c =
+    by_fault c.from_residual-in_err-given.result c.in_err-given.field-0.0 c.from_residual-in_err-given.ensures.1
+    (stops_worn c.laws.ensures g.A.Asks.stands g.A.Asks.is_worn c.loop-question.asked c.since.new.asked _ c.in_err-given.field-0.0 c.in_err-given.ensures.refused)
 
 pub returns-in_err-given-clause-same : goal.returns-in_err-given-clause-same
 returns-in_err-given-clause-same g c = c.since.ensures.same ∙ c.loop-question.invariant.0
