@@ -118,12 +118,12 @@ pub only_more : (p q : PassRecord) (xs ys : List Item) → GivesOnly p q xs → 
 only_more p q xs ys o = record { own = o.own; made = o.made; merges = o.merges; in_order = prefix_append (all_given o.own) xs ys o.in_order }
 
 -- ---- some items are left
-pub leaves_rest : (p q : PassRecord) (items front rest : List Item) (m : ℕ) → GivesAll p q front m → front ++ rest ≡ items → 0 < length rest → LeavesSome p q items
-leaves_rest p q items front rest m g whole some = record {
+pub leaves_rest : (p q : PassRecord) (items front rest : List Item) (m : ℕ) → GivesAll p q front m → front ++ rest ≡ items → most_items < length rest → LeavesSome p q items
+leaves_rest p q items front rest m g whole many = record {
   own = g.own;
   made = g.made;
   merges = g.merges;
-  left = omega (arith, some, ap (λ (l : List Item). length l) g.items_are, ap (λ (l : List Item). length l) whole, length-append front rest);
+  left = omega (arith, many, ap (λ (l : List Item). length l) g.items_are, ap (λ (l : List Item). length l) whole, length-append front rest);
 }
 
 pub leaves_behind : (p q r : PassRecord) (xs ys : List Item) (m : ℕ) → GivesAll p q xs m → LeavesSome q r ys → LeavesSome p r (xs ++ ys)
@@ -212,6 +212,14 @@ module _ (rest part : List Item) (is : part ≡ take most_items rest) where
 pub gives_end : (p q : PassRecord) (items front rest : List Item) (m : ℕ) → GivesAll p q front m → front ++ rest ≡ items → length rest ≡ 0 → GivesAll p q items m
 gives_end p q items front [] m g whole none = subst (λ (l : List Item). GivesAll p q l m) (sym (append-nil front) ∙ whole) g
 gives_end p q items front (x ∷ rest) m g whole none = absurd (omega (arith, none))
+
+-- the last of them
+module _ (p q r : PassRecord) (items front rest : List Item) (m : ℕ) (g : GivesAll p q front m) (whole : front ++ rest ≡ items) where
+  pub gives_rest : (n : ℕ) → GivesAll q r rest n → GivesAll p r items (m + n)
+  gives_rest n o = subst (λ (l : List Item). GivesAll p r l (m + n)) whole (gives_both p q r front rest m n g o)
+
+  pub only_rest : GivesOnly q r rest → GivesOnly p r items
+  only_rest o = subst (λ (l : List Item). GivesOnly p r l) whole (only_behind p q r front rest m g o)
 
 pub only_front : (p q : PassRecord) (items front rest : List Item) (m : ℕ) → GivesAll p q front m → front ++ rest ≡ items → GivesOnly p q items
 only_front p q items front rest m g whole = subst (λ (l : List Item). GivesOnly p q l) whole (only_all p q front rest m g)

@@ -18,6 +18,7 @@ use Rattle.ds_pass.specs.Faults.{TellsRefusal}
 use Rattle.ds_pass.specs.Record.{PassRecord}
 use Rattle.ds_pass.specs.declared.fault.LiveFault.{LiveFault}
 use Rattle.ds_pass.specs.declared.fault.LiveFault.TheVariants as faults
+use Rattle.ds_pass.proofs.FaultLemmas.{refused_for_room}
 use Rattle.ds_exchange.specs.Asking.{GetsTold, TellsPage, TellsSince}
 use Rattle.ds_exchange.specs.Faults.{FoundNoRoom}
 use Rattle.ds_exchange.specs.Telling.{page_asked, since_asked}
@@ -42,10 +43,6 @@ told_page p q after reply place (Ok page) c is = gets_told p q (page_asked after
 told_page p q after reply place (Err fault) c is = tt
 
 -- ---- memory was wanting
-refused_for_room : (refusal : Refusal) (fault : LiveFault) → fault ≡ faults.NoRoom → TellsRefusal refusal fault → refusal ≡ refusals.NoRoom
-refused_for_room refusal fault none (inl told) = told.0
-refused_for_room refusal fault none (inr told) = absurd (let same : faults.NoRoom ≡ faults.Refused refusal = sym none ∙ told.1 in cc)
-
 pub found_no_room : {T : Type 0} (p q : PassRecord) (command : Command) (reply : Reply) (place : ℕ) (result : Result T LiveFault) → MadeCall p q command reply place →
     IfErr result (λ fault. (refusal : Refusal) × (reply ≡ replies.Refused refusal) × TellsRefusal refusal fault) → IfErr result (λ fault. fault ≡ faults.NoRoom → FoundNoRoom p q)
 found_no_room p q command reply place (Ok told) c is = tt

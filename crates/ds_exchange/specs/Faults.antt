@@ -1,8 +1,9 @@
 -- Which faults an exchange answers.
-use Rattle.std.specs.Prelude.{◌≡◌, ◌⊎◌, ℕ, ◌<◌, ◌^◌, List, [], ◌∷◌, ◌++◌, length}
+use Rattle.std.specs.Prelude.{◌≡◌, ◌⊎◌, ℕ, ◌+◌, ◌<◌, ◌^◌, List, [], ◌∷◌, ◌++◌, length}
 use Rattle.std.specs.List.{AllByRecursion}
 use Rattle.history.specs.declared.entry.Entry.{Entry}
 use Rattle.desk.specs.declared.fault.DeskFault.TheVariants.{Worn}
+use Rattle.ds_names.specs.Limits.{most_items}
 use Rattle.ds_entry.specs.declared.item.Item.{Item}
 use Rattle.ds_machine.specs.declared.command.Command.{Command}
 use Rattle.ds_machine.specs.declared.refusal.Refusal.{Refusal}
@@ -54,12 +55,12 @@ pub record FoundNoRoom (p q : PassRecord) : Type 0 where
   pub made : Made p q (call ∷ [])
   pub refused : call.reply ≡ replies.Refused refusals.NoRoom
 
--- Merges were made that did all their items, and some items are left, of which a part may have to be cut off
+-- Merges were made that did all their items, and more items are left than one Merge may have, so that a part has to be cut off
 pub record LeavesSome (r s : PassRecord) (items : List Item) : Type 0 where
   pub own : List (Entry Command Reply)
   pub made : Made r s own
   pub merges : AllByRecursion IsWholeMerge own
-  pub left : length (all_given own) < length items
+  pub left : length (all_given own) + most_items < length items
 
 -- the last question was refused for that, once all that was told before it was given
 pub record AskedNoRoom (p q r s : PassRecord) : Type 0 where
@@ -70,12 +71,13 @@ pub record AskedNoRoom (p q r s : PassRecord) : Type 0 where
   pub taken : ℕ
   pub gives : GivesAll r s (all_told before) taken
 
--- some of what was told is left
+-- more of what was told is left than one Merge may have
 pub record ToldMore (p q r s : PassRecord) : Type 0 where
   pub own : List (Entry Command Reply)
   pub made : Made p q own
   pub leaves : LeavesSome r s (all_told own)
 
--- an exchange that lacked memory: it asked for what the store had none for, or it had still to give; so no Merge was stopped
+-- an exchange that lacked memory: it asked for what the store had none for, or it had still to give more than one Merge may have; so
+-- no Merge was stopped
 abbrev pub LacksRoom : PassRecord → PassRecord → PassRecord → PassRecord → Type 0
 LacksRoom p q r s = AskedNoRoom p q r s ⊎ ToldMore p q r s

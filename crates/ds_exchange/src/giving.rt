@@ -37,20 +37,25 @@ pub(crate) fn give<W: Wait>(
     let _most = items.len();
     let mut rest = items;
     let mut taken = 0usize;
-    while rest.len() > 0 {
+    while rest.len() > MOST {
         let part = first_part(&mut rest)?;
         let count = give_part(rt, desk, pass, part)?;
+        taken += count;
+    }
+    if rest.len() > 0 {
+        let count = give_part(rt, desk, pass, rest)?;
         taken += count;
     }
     Ok(taken)
 }
 
-// Takes the first 256 items off the list, or all where it has no more.
+// Takes the first 256 items off the list.
 fn first_part(items: &mut Items) -> Result<Items, NoRoom>
+    requires { 256 ≤ length items.old }
     ensures part { IfOk result (λ part. part ≡ take 256 items.old) }
     ensures rest { OnOk result (items.new ≡ drop 256 items.old) }
 {
-    let behind = items.split_off(MOST.min(items.len()))?;
+    let behind = items.split_off(MOST)?;
     Ok(mem::replace(items, behind))
 }
 

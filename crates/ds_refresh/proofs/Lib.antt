@@ -2,4 +2,5 @@ mod StandLemmas
 mod CheckLemmas
 mod OnlyLemmas
 mod GoneLemmas
+mod RoomLemmas
 pub mod LawLemmas

@@ -10,3 +10,4 @@ pub mod Numbers
 pub mod Laws
 pub mod Sending
 pub mod Wrong
+pub mod Copying

@@ -1,6 +1,7 @@
 //! What comes of an event of a system.
 
-ghost use Rattle.std.specs.Prelude.{◌≡◌, IfOk};
+ghost use Rattle.std.specs.Prelude.{◌≡◌, IfOk, OnErr};
+ghost use Rattle.ds_services.specs.Copying.{CopyTakesRoom};
 
 use crate::replies::Replies;
 use crate::rounds::Rounds;
@@ -36,9 +37,10 @@ pub enum SystemOutcome {
 }
 
 impl SystemOutcome {
-    /// The same outcome again.
+    /// The same outcome again. The copy of a refusal, and of lists of nothing, takes no memory.
     pub fn copy(&self, alloc: Global) -> Result<SystemOutcome, NoRoom>
-        ensures { IfOk result (λ copy. copy ≡ self.now) }
+        ensures same { IfOk result (λ copy. copy ≡ self.now) }
+        ensures room { OnErr result (CopyTakesRoom self.now) }
     {
         match self {
             SystemOutcome::Acted { actions, replies } => Ok(SystemOutcome::Acted {

@@ -17,7 +17,7 @@ pub returns-in_err-part-clause-room : goal.returns-in_err-part-clause-room
 returns-in_err-part-clause-room g c =
     let l = c.loop-rest in
     let exit = err_from_is_err_and c.from_residual.result c.from_residual.ensures.1 in
-    rw (exit.1, exit.2) (λ none. leaves_rest (pass_record c.args.pass.now) (pass_record l.pass) c.args.items l.invariant.1.0 l.rest l.taken l.invariant.1.1 l.invariant.1.2 (omega (arith, c.loop-rest-test.true)))
+    rw (exit.1, exit.2) (λ none. leaves_rest (pass_record c.args.pass.now) (pass_record l.pass) c.args.items l.invariant.1.0 l.rest l.taken l.invariant.1.1 l.invariant.1.2 (omega (arith, c.loop-rest-test.true, c.len.ensures)))
 
 pub give_part-requires-clause-some : goal.give_part-requires-clause-some
 give_part-requires-clause-some g c = part_has_some c.loop-rest.rest c.in_ok-part.part c.in_ok-part.ensures.part (omega (arith, c.loop-rest-test.true))

@@ -1,8 +1,11 @@
 use Rattle.std.proofs.Common.{ap, sym, ◌∙◌}
+use Rattle.std.proofs.lemmas.Result.{err_from_is_err_and}
 use Rattle.ds_pass.specs.Record.{pass_record}
+use Rattle.ds_reader.specs.Asked.{subscribe_anew}
 use Rattle.ds_refresh.specs.Follower.{FollowerRecord}
 use Rattle.ds_refresh.proofs.OnlyLemmas.{only_its_subscribe}
 use Rattle.ds_refresh.proofs.CheckLemmas.{subscribe_stands}
+use Rattle.ds_refresh.proofs.RoomLemmas.{lacks_refused, lacks_unasked}
 use Rattle.ds_refresh.proofs.calling.subscribe.Goals as goal
 
 pub returns-clause-keeps : goal.returns-clause-keeps
@@ -25,3 +28,11 @@ returns-in_err-told-clause-only g c =
     let answer = c.in_ok-answer.answer in
     only_its_subscribe (pass_record c.args.pass.now) (pass_record c.ask_desk.new.pass) c.args.follower.now f.sub c.in_ok-query.query answer.reply answer.place (ap (λ (x : FollowerRecord). x.sub) c.follower.view_is)
     ((c.in_ok-query.ensures ∙ sym c.follower.invariant) ∙ ap (λ (x : FollowerRecord). x.map.query) c.follower.view_is) c.in_ok-answer.ensures.called
+
+pub returns-in_err-query-clause-room : goal.returns-in_err-query-clause-room
+returns-in_err-query-clause-room g c =
+    let exit = err_from_is_err_and c.from_residual.result c.from_residual.ensures.1 in
+    rw (exit.1, exit.2) (λ none. lacks_unasked (pass_record c.args.pass.now) c.args.follower.now c.requires.lost)
+
+pub returns-in_err-told-clause-room : goal.returns-in_err-told-clause-room
+returns-in_err-told-clause-room g c = ?

@@ -1,8 +1,10 @@
 use Rattle.std.proofs.Common.{◌≡◌, ℕ, Option, None, Some, refl, ◌∙◌, subst, arith}
+use Rattle.std.proofs.lemmas.Result.{err_from_is_err_and}
 use Rattle.ds_pass.specs.Record.{pass_record}
 use Rattle.ds_refresh.specs.Refresh.{HasGone, TakesOneCall}
 use Rattle.ds_refresh.proofs.GoneLemmas.{gone_all, gone_ends, gone_none, gone_on, same_later}
 use Rattle.ds_refresh.proofs.OnlyLemmas.{only_gone, only_more}
+use Rattle.ds_refresh.proofs.RoomLemmas.{lacks_later}
 use Rattle.ds_refresh.proofs.refreshing.call_until.Goals as goal
 
 pub loop-made-init : goal.loop-made-init
@@ -15,6 +17,12 @@ pub returns-in_err-place-clause-only : goal.returns-in_err-place-clause-only
 returns-in_err-place-clause-only g c =
     let l = c.loop-made in
     only_more (pass_record c.args.pass.now) (pass_record l.pass) c.args.follower.now l.follower l._made l.invariant.1 (pass_record c.call_once.new.pass) c.args.limit c.loop-made-test.true c.in_err-place.ensures.only
+
+pub returns-in_err-place-clause-room : goal.returns-in_err-place-clause-room
+returns-in_err-place-clause-room g c =
+    let l = c.loop-made in
+    let exit = err_from_is_err_and c.from_residual.result c.from_residual.ensures.1 in
+    rw (exit.1, exit.2) (λ none. lacks_later (pass_record c.args.pass.now) (pass_record l.pass) (pass_record c.call_once.new.pass) c.args.follower.now l.follower l._made l.invariant.1 (c.in_err-place.ensures.room none))
 
 pub returns-in-Some-clause-only : goal.returns-in-Some-clause-only
 returns-in-Some-clause-only g c =
