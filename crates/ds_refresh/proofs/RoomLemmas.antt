@@ -1,5 +1,5 @@
 -- Where a refresh lacks memory.
-use Rattle.std.proofs.Common.{◌≡◌, ℕ, ◌+◌, ◌<◌, List, [], ◌∷◌, ◌++◌, length, slice_get, Option, Some, None, refl, ap, sym, ◌∙◌, subst, inl, inr, arith}
+use Rattle.std.proofs.Common.{◌≡◌, ℕ, ◌<◌, List, [], ◌∷◌, length, slice_get, Option, Some, None, refl, ap, sym, ◌∙◌, subst, inl, inr, arith}
 use Rattle.history.specs.declared.entry.Entry.{Entry}
 use Rattle.history.specs.History.{entry}
 use Rattle.ds_names.specs.Limits.{most_items}
@@ -7,7 +7,6 @@ use Rattle.ds_entry.specs.declared.item.Item.{Item}
 use Rattle.ds_machine.specs.declared.command.Command.{Command}
 use Rattle.ds_machine.specs.declared.command.Command.TheVariants.{Check}
 use Rattle.ds_machine.specs.declared.refusal.Refusal.{Refusal}
-use Rattle.ds_machine.specs.declared.refusal.Refusal.TheVariants as refusals
 use Rattle.ds_machine.specs.declared.reply.Reply.{Reply}
 use Rattle.ds_machine.specs.declared.reply.Reply.TheVariants.{Checked, Refused}
 use Rattle.ds_pass.specs.Called.{MadeCall}
@@ -19,6 +18,7 @@ use Rattle.ds_pass.proofs.FaultLemmas.{refused_for_room}
 use Rattle.ds_pass.proofs.RecordLemmas.{made_more, made_none}
 use Rattle.ds_refresh.specs.Faults.{CallLacksRoom, LacksRoom, LacksRoomNow}
 use Rattle.ds_refresh.specs.Follower.{FollowerRecord}
+use Rattle.ds_refresh.specs.FollowerCalls.{Checks}
 use Rattle.ds_refresh.specs.Refresh.{HasGone}
 
 -- ---- at one call
@@ -38,14 +38,14 @@ pub lacks_given : (p q : PassRecord) (f : FollowerRecord) (sub stamp before afte
     MadeCall p q (Check sub most_items) reply place → reply ≡ Checked items before after → before ≡ stamp → 0 < length items → LacksRoomNow p q f
 lacks_given p q f sub stamp before after place items reply same stamped c told own some =
     let e : Entry Command Reply = entry p.origin.number (Check sub most_items) reply in
-    let checks = record {
+    let checks : Checks f.sub e items stamp after = record {
       command = ap (λ (s : ℕ). Check s most_items) same;
       reply = told ∙ ap (λ (b : ℕ). Checked items b after) own;
     } in
     record {
       own = e ∷ [];
       made = c.made;
-      lacks = subst (λ (o : Option ℕ). CallLacksRoom f.sub (e ∷ []) o) (sym stamped) (refl, inr (items, (after, (checks, some))));
+      lacks = subst (λ (o : Option ℕ). CallLacksRoom f.sub (e ∷ []) o) (sym stamped) (refl, inr (items, after, checks, some));
     }
 
 pub some_there : (items : List Item) (n : ℕ) (i : Item) → slice_get items n ≡ Some i → 0 < length items

@@ -35,4 +35,9 @@ returns-in_err-query-clause-room g c =
     rw (exit.1, exit.2) (λ none. lacks_unasked (pass_record c.args.pass.now) c.args.follower.now c.requires.lost)
 
 pub returns-in_err-told-clause-room : goal.returns-in_err-told-clause-room
-returns-in_err-told-clause-room g c = ?
+returns-in_err-told-clause-room g c =
+    let asked = subscribe_anew c.follower.inside.sub c.in_ok-query.query in
+    let answer = c.in_ok-answer.answer in
+    let exit = err_from_is_err_and c.from_residual-in_err-told.result c.from_residual-in_err-told.ensures.1 in
+    rw (exit.1, exit.2) (λ none. lacks_refused (pass_record c.args.pass.now) (pass_record c.ask_desk.new.pass) c.args.follower.now asked answer.reply answer.place c.in_err-told.field-0.0 c.in_ok-answer.ensures.called none
+    c.in_err-told.ensures.refused)
