@@ -42,11 +42,11 @@ pub(crate) fn give<W: Wait>(
         let count = give_part(rt, desk, pass, part)?;
         taken += count;
     }
-    if rest.len() > 0 {
-        let count = give_part(rt, desk, pass, rest)?;
-        taken += count;
+    if rest.len() == 0 {
+        return Ok(taken);
     }
-    Ok(taken)
+    let count = give_part(rt, desk, pass, rest)?;
+    Ok(taken + count)
 }
 
 // Takes the first 256 items off the list.

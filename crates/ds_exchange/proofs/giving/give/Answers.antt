@@ -2,7 +2,7 @@ use Rattle.std.proofs.Common.{[], ◌++◌, refl, ◌∙◌, arith, ap, length, 
 use Rattle.std.proofs.lemmas.Result.{err_from_is_err_and}
 use Rattle.ds_entry.specs.declared.item.Item.{Item}
 use Rattle.ds_pass.specs.Record.{pass_record}
-use Rattle.ds_exchange.proofs.GivingLemmas.{gives_both, gives_end, gives_none, leaves_rest, only_front, only_part, part_has_few, part_has_some, parts_more}
+use Rattle.ds_exchange.proofs.GivingLemmas.{gives_both, gives_end, gives_none, gives_rest, leaves_rest, only_front, only_part, only_rest, part_has_few, part_has_some, parts_more}
 use Rattle.ds_exchange.proofs.giving.give.Goals as goal
 
 pub loop-rest-init : goal.loop-rest-init
@@ -46,12 +46,27 @@ loop-rest-preserved g c =
       ),
     )
 
+pub returns-then-len-eq0-clause-only : goal.returns-then-len-eq0-clause-only
+returns-then-len-eq0-clause-only g c =
+    let l = c.loop-rest in
+    only_front (pass_record c.args.pass.now) (pass_record l.pass) c.args.items l.invariant.1.0 l.rest l.taken l.invariant.1.1 l.invariant.1.2
+
+pub returns-then-len-eq0-clause-given : goal.returns-then-len-eq0-clause-given
+returns-then-len-eq0-clause-given g c =
+    let l = c.loop-rest in
+    gives_end (pass_record c.args.pass.now) (pass_record l.pass) c.args.items l.invariant.1.0 l.rest l.taken l.invariant.1.1 l.invariant.1.2 (omega (arith, c.if-len-eq0.true, c.len-2.ensures))
+
+pub returns-in_err-count-2-clause-only : goal.returns-in_err-count-2-clause-only
+returns-in_err-count-2-clause-only g c =
+    let l = c.loop-rest in
+    only_rest (pass_record c.args.pass.now) (pass_record l.pass) (pass_record c.give_part-2.new.pass) c.args.items l.invariant.1.0 l.rest l.taken l.invariant.1.1 l.invariant.1.2 c.in_err-count-2.ensures.only
+
 pub returns-clause-only : goal.returns-clause-only
 returns-clause-only g c =
     let l = c.loop-rest in
-    only_front (pass_record c.args.pass.now) (pass_record l.pass) c.args.items l.invariant.1.0 l.rest l.taken l.invariant.1.1 l.invariant.1.2
+    only_rest (pass_record c.args.pass.now) (pass_record l.pass) (pass_record c.give_part-2.new.pass) c.args.items l.invariant.1.0 l.rest l.taken l.invariant.1.1 l.invariant.1.2 c.in_ok-count-2.ensures.only
 
 pub returns-clause-given : goal.returns-clause-given
 returns-clause-given g c =
     let l = c.loop-rest in
-    gives_end (pass_record c.args.pass.now) (pass_record l.pass) c.args.items l.invariant.1.0 l.rest l.taken l.invariant.1.1 l.invariant.1.2 (omega (arith, c.loop-rest-test.false))
+    gives_rest (pass_record c.args.pass.now) (pass_record l.pass) (pass_record c.give_part-2.new.pass) c.args.items l.invariant.1.0 l.rest l.taken l.invariant.1.1 l.invariant.1.2 c.in_ok-count-2.count c.in_ok-count-2.ensures.given
