@@ -16,17 +16,17 @@ use Rattle.ds_pass.specs.declared.fault.LiveFault.{LiveFault}
 use Rattle.ds_pass.specs.declared.fault.LiveFault.TheVariants as faults
 use Rattle.ds_pass.proofs.FaultLemmas.{refused_for_room}
 use Rattle.ds_pass.proofs.RecordLemmas.{made_more, made_none}
-use Rattle.ds_refresh.specs.Faults.{CallLacksRoom, LacksRoom, LacksRoomNow}
+use Rattle.ds_refresh.specs.Faults.{CallLacksRoom, LacksRoom, LacksNow}
 use Rattle.ds_refresh.specs.Follower.{FollowerRecord}
 use Rattle.ds_refresh.specs.FollowerCalls.{Checks}
 use Rattle.ds_refresh.specs.Refresh.{HasGone}
 
 -- ---- at one call
-pub lacks_unasked : (p : PassRecord) (f : FollowerRecord) → f.stamp ≡ None → LacksRoomNow p p f
+pub lacks_unasked : (p : PassRecord) (f : FollowerRecord) → f.stamp ≡ None → LacksNow p p f
 lacks_unasked p f lost = record { own = []; made = made_none p; lacks = subst (λ (o : Option ℕ). CallLacksRoom f.sub [] o) (sym lost) tt }
 
 pub lacks_refused : (p q : PassRecord) (f : FollowerRecord) (command : Command) (reply : Reply) (place : ℕ) (fault : LiveFault) → MadeCall p q command reply place → fault ≡ faults.NoRoom →
-    (refusal : Refusal) × (reply ≡ Refused refusal) × TellsRefusal refusal fault → LacksRoomNow p q f
+    (refusal : Refusal) × (reply ≡ Refused refusal) × TellsRefusal refusal fault → LacksNow p q f
 lacks_refused p q f command reply place fault c none is =
     record {
       own = entry p.origin.number command reply ∷ [];
@@ -35,7 +35,7 @@ lacks_refused p q f command reply place fault c none is =
     }
 
 pub lacks_given : (p q : PassRecord) (f : FollowerRecord) (sub stamp before after place : ℕ) (items : List Item) (reply : Reply) → sub ≡ f.sub → f.stamp ≡ Some stamp →
-    MadeCall p q (Check sub most_items) reply place → reply ≡ Checked items before after → before ≡ stamp → 0 < length items → LacksRoomNow p q f
+    MadeCall p q (Check sub most_items) reply place → reply ≡ Checked items before after → before ≡ stamp → 0 < length items → LacksNow p q f
 lacks_given p q f sub stamp before after place items reply same stamped c told own some =
     let e : Entry Command Reply = entry p.origin.number (Check sub most_items) reply in
     let checks : Checks f.sub e items stamp after = record {
@@ -53,7 +53,7 @@ some_there [] n i is = absurd (cc)
 some_there (x ∷ items) n i is = omega arith
 
 -- ---- behind calls that were open
-pub lacks_later : (p q r : PassRecord) (f g : FollowerRecord) (count : ℕ) → HasGone p q f g count → LacksRoomNow q r g → LacksRoom p r f
+pub lacks_later : (p q r : PassRecord) (f g : FollowerRecord) (count : ℕ) → HasGone p q f g count → LacksNow q r g → LacksRoom p r f
 lacks_later p q r f g count gone now = record {
   own = gone.own;
   last = now.own;

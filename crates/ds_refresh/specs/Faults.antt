@@ -33,7 +33,7 @@ CallLacksRoom sub [] None = Unit {0}
 CallLacksRoom sub [] (Some stamp) = ⊥
 CallLacksRoom sub (e ∷ es) stamp = (es ≡ []) × ((e.reply ≡ Refused refusals.NoRoom) ⊎ GivesSome sub e stamp)
 
-pub record LacksRoomNow (p q : PassRecord) (f : FollowerRecord) : Type 0 where
+pub record LacksNow (p q : PassRecord) (f : FollowerRecord) : Type 0 where
   pub own : List (Entry Command Reply)
   pub made : Made p q own
   pub lacks : CallLacksRoom f.sub own f.stamp

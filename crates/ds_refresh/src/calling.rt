@@ -7,7 +7,7 @@ ghost use Rattle.ds_machine.specs.Says.{IsSubscribeReply};
 ghost use Rattle.ds_pass.specs.Faults.{IsFaultOf, TellsRefusal};
 ghost use Rattle.ds_machine.specs.declared.refusal.Refusal.{Refusal};
 ghost use Rattle.ds_pass.specs.Record.{pass_record};
-ghost use Rattle.ds_refresh.specs.Faults.{LacksRoomNow};
+ghost use Rattle.ds_refresh.specs.Faults.{LacksNow};
 ghost use Rattle.ds_refresh.specs.Follower.{IsSameFollower};
 ghost use Rattle.ds_refresh.specs.KeepsUp.{KeepsUpWith};
 ghost use Rattle.ds_refresh.specs.Refresh.{CallsOnly, TakesOneCall};
@@ -41,7 +41,7 @@ pub(crate) fn call_once<W: Wait>(
     ensures keeps { OnOk result (KeepsUpWith (pass_record pass.new) follower.new) }
     ensures same { IsSameFollower follower.old follower.new }
     ensures fault { IfErr result (IsFaultOf (pass_record pass.new)) }
-    ensures room { IfErr result (λ fault. fault ≡ LiveFault.NoRoom → LacksRoomNow (pass_record pass.old) (pass_record pass.new) follower.old) }
+    ensures room { IfErr result (λ fault. fault ≡ LiveFault.NoRoom → LacksNow (pass_record pass.old) (pass_record pass.new) follower.old) }
 {
     match follower.stamp {
         None => {
@@ -68,7 +68,7 @@ fn subscribe<W: Wait>(
     ensures keeps { OnOk result (KeepsUpWith (pass_record pass.new) follower.new) }
     ensures same { IsSameFollower follower.old follower.new }
     ensures fault { IfErr result (IsFaultOf (pass_record pass.new)) }
-    ensures room { IfErr result (λ fault. fault ≡ LiveFault.NoRoom → LacksRoomNow (pass_record pass.old) (pass_record pass.new) follower.old) }
+    ensures room { IfErr result (λ fault. fault ≡ LiveFault.NoRoom → LacksNow (pass_record pass.old) (pass_record pass.new) follower.old) }
 {
     follower.map.clear();
     let query = follower.query.copy(alloc)?;
@@ -117,7 +117,7 @@ fn check<W: Wait>(
     ensures keeps { OnOk result (KeepsUpWith (pass_record pass.new) follower.new) }
     ensures same { IsSameFollower follower.old follower.new }
     ensures fault { IfErr result (IsFaultOf (pass_record pass.new)) }
-    ensures room { IfErr result (λ fault. fault ≡ LiveFault.NoRoom → LacksRoomNow (pass_record pass.old) (pass_record pass.new) follower.old) }
+    ensures room { IfErr result (λ fault. fault ≡ LiveFault.NoRoom → LacksNow (pass_record pass.old) (pass_record pass.new) follower.old) }
 {
     let command = Command::Check {
         sub: follower.sub,
