@@ -9,7 +9,7 @@ ghost use Rattle.ds_pass.specs.Reads.{CallsByPages};
 ghost use Rattle.ds_pass.specs.Record.{pass_record};
 ghost use Rattle.ds_reader.specs.Asked.{ComesTo};
 ghost use Rattle.ds_reader.specs.GivesUp.{StopsPages};
-ghost use Rattle.ds_reader.specs.ReadWhole.{IsReadWhole};
+ghost use Rattle.ds_reader.specs.ReadWhole.{AreRead, IsReadWhole};
 
 use crate::at_desk::AtDesk;
 use desk::{Desk, Pass};
@@ -33,6 +33,7 @@ pub fn read_at_desk<W: Wait>(
 ) -> (Pass<Box<Store>>, Result<Items, ReadFault>)
     requires { desk_of pass ≡ identity desk.now }
     ensures whole { IfOk result.1 (λ items. ComesTo (λ p s. LedTo p s) pass result.0 (λ _ t. IsReadWhole t reading.now.query items)) }
+    ensures items { IfOk result.1 (λ items. ComesTo (λ p s. LedTo p s) pass result.0 (λ s t. AreRead s t reading.now items)) }
     ensures stopped { IfErr result.1 (λ fault. ComesTo (λ p s. LedTo p s) pass result.0 (λ s t. StopsPages s t reading.now fault)) }
     ensures only { CallsByPages reading.now (pass_record pass) (pass_record result.0) }
     ensures same { pass_origin result.0 ≡ pass_origin pass }

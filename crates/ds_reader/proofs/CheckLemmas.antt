@@ -1,5 +1,5 @@
 -- The checks of a reader are whole.
-use Rattle.std.proofs.Common.{◌≡◌, ◌≢◌, ℕ, ◌+◌, ◌<◌, ◌≤◌, true, List, [], ◌∷◌, ◌++◌, length, Some, refl, ap, sym, ◌∙◌, subst}
+use Rattle.std.proofs.Common.{◌≡◌, ◌≢◌, ℕ, ◌+◌, ◌<◌, ◌≤◌, true, List, [], ◌∷◌, ◌++◌, length, Some, refl, ap, sym, ◌∙◌, subst, arith}
 use Rattle.std.specs.List.{All}
 use Rattle.std.proofs.lemmas.List.{length_push}
 use Rattle.std.proofs.lemmas.List.Elements.{All-nil, All-push}
@@ -23,9 +23,9 @@ use Rattle.ds_machine.specs.Says.{IsShown}
 use Rattle.ds_machine.specs.declared.command.Command.TheVariants as commands
 use Rattle.ds_machine.specs.declared.reply.Reply.TheVariants as replies
 use Rattle.ds_reader.specs.Asked.{Asked, Went}
-use Rattle.ds_reader.specs.GivesUp.{AreAllFull, IsFull, IsOvertaken, Shows}
+use Rattle.ds_reader.specs.GivesUp.{AreAllFull, IsCheckedMore, IsFull, IsOvertaken, Shows}
 use Rattle.ds_reader.specs.Laws.{ReaderLaws}
-use Rattle.ds_reader.specs.ReadWhole.{IsReadWhole}
+use Rattle.ds_reader.specs.ReadWhole.{AreChecked, IsReadWhole}
 use Rattle.ds_reader.specs.declared.reading.Reading.{Reading}
 use Rattle.ds_reader.proofs.StateLemmas.{asked_on, went_on, went_reached}
 use Rattle.ds_reader.proofs.UnderLemmas.{checks_passed, part_under}
@@ -211,6 +211,9 @@ module _ (laws : ReaderLaws) (stood : State → Type 0) (s : State) (sub : ℕ) 
           stands = stands;
         }
 
+    pub read_each : AreChecked s t query (items ++ more)
+    read_each = (k.turns ++ turn ∷ [], all, sym all_items)
+
     -- the last one gave fewer than it asked for
     pub read_whole : length more < max → IsReadWhole t query (items ++ more)
     unfolding turn
@@ -228,3 +231,21 @@ module _ (laws : ReaderLaws) (stood : State → Type 0) (s : State) (sub : ℕ) 
               (subst (λ (l : List Item). IsWhole t.feed (is_under query) (given t.feed.accepted (l ++ more)) (feeds.position mid.feed))
               k.items_are law);
         }
+
+-- one more that told the reader's own stamp, and gave items
+pub checked_more : (laws : ReaderLaws) → (stood : State → Type 0) (s : State) (sub stamp count : ℕ) (reading : Reading) (items more : List Item)
+    (k : Checking stood s sub reading.max reading.query items stamp count) (t : State) (before after : ℕ) →
+    Asked k.now (commands.Check sub reading.max) (replies.Checked more before after) t → before ≡ stamp → more ≢ [] →
+    count < reading.questions → (turns : List CheckTurn) × IsCheckedMore s t reading turns
+unfolding turn
+checked_more laws stood s sub stamp count reading items more k t before after a own some few = (
+  k.turns,
+  record {
+    turn = turn laws stood s sub reading.query items more reading.max stamp count k t before after a own;
+    are = all laws stood s sub reading.query items more reading.max stamp count k t before after a own;
+    full = k.full;
+    asked = refl;
+    some = some;
+    few = omega (arith, k.count_is, few);
+  },
+)

@@ -1,5 +1,5 @@
 -- The pages of a reader are whole, with what the journal gives.
-use Rattle.std.proofs.Common.{◌≡◌, ℕ, ◌+◌, ◌≤◌, Bool, true, false, List, [], ◌∷◌, ◌++◌, length, Option, Some, None, refl, ap, sym, ◌∙◌, subst, arith, append_assoc}
+use Rattle.std.proofs.Common.{◌≡◌, ◌≢◌, ℕ, ◌+◌, ◌≤◌, Bool, true, false, List, [], ◌∷◌, ◌++◌, length, Option, Some, None, refl, ap, sym, ◌∙◌, subst, arith, append_assoc}
 use Rattle.std.specs.Option.{unwrap_or}
 use Rattle.std.proofs.lemmas.List.{length_push}
 use Rattle.std.proofs.lemmas.List.Elements.{All-nil, All-push}
@@ -23,10 +23,10 @@ use Rattle.ds_machine.specs.State.{State, held, cursor, next_position}
 use Rattle.ds_machine.specs.Effect.{GoesOn}
 use Rattle.ds_machine.specs.declared.command.Scope.TheVariants.{Under}
 use Rattle.ds_reader.specs.Asked.{Went}
-use Rattle.ds_reader.specs.GivesUp.{AreAllOpen, ArePaged}
+use Rattle.ds_reader.specs.GivesUp.{AreAllOpen, ArePaged, IsPagedMore}
 use Rattle.ds_reader.specs.Laws.{ReaderLaws}
 use Rattle.ds_reader.specs.CaughtUp.{IsCaughtUp}
-use Rattle.ds_reader.specs.ReadWhole.{IsReadWhole}
+use Rattle.ds_reader.specs.ReadWhole.{AreRead, IsReadWhole}
 use Rattle.ds_reader.specs.declared.reading.Reading.{Reading}
 use Rattle.ds_reader.proofs.StateLemmas.{no_earlier, went_on, went_reached}
 use Rattle.ds_join.proofs.ItemTopLemmas.{part_union}
@@ -108,6 +108,11 @@ module _ (laws : ReaderLaws) (stood : State → Type 0) (s : State) (reading : R
         let m : next_position k.now ≤ next_position t = no_earlier k.now t (went_on laws k.now t went) in
         let n : position_after (next_position s) k.turns ≤ next_position t = omega (arith, l, m) in
         subst (λ (r : ℕ). position_after (next_position s) k.turns ≤ r) (sym place) n
+
+    -- that gave items
+    pub paged_more : page.items ≢ [] → IsPagedMore s t reading k.turns
+    unfolding turn
+    paged_more some = record { open_ones = still_open; turn = turn; is = is_turn; asked = refl; some = some }
 
     -- that isn't the last
     pub paged_on : (next : State → Type 0) → next t → page.last ≡ false →
@@ -193,4 +198,20 @@ module _ (laws : ReaderLaws) (stood : State → Type 0) (s : State) (reading : R
               (sym p.from_is)
               (subst (λ (x : List Item). IsWhole u.feed (is_under query) (given known x)
               (cursor_after (unwrap_or (first_cursor k.turns) page.cursor) caught.turns).position) same law));
+        }
+
+    pub read_each : page.last ≡ true → (u : State) (all : List Item) → GoesOn t u →
+        IsCaughtUp u reading.query (unwrap_or from page.cursor) (items ++ page.items) all → AreRead s u reading all
+    unfolding turn all_paged
+    read_each last u all goes caught =
+        record {
+          from = unwrap_or from page.cursor;
+          pages = all_paged last u goes;
+          turns = caught.turns;
+          are = caught.are;
+          items_are =
+              sym
+              (ap (λ (x : List Item). x ++ (page.items ++ journaled caught.turns)) k.items_are
+              ∙ sym (append_assoc items page.items (journaled caught.turns))
+              ∙ sym caught.items_are);
         }

@@ -1,5 +1,5 @@
 -- What the journal gives a reader, reply by reply.
-use Rattle.std.proofs.Common.{◌≡◌, ℕ, ◌+◌, ◌<◌, ◌≤◌, List, [], ◌∷◌, ◌++◌, length, ap, sym, ◌∙◌, subst, append_assoc, append-nil, refl}
+use Rattle.std.proofs.Common.{◌≡◌, ◌≢◌, ℕ, ◌+◌, ◌<◌, ◌≤◌, List, [], ◌∷◌, ◌++◌, length, ap, sym, ◌∙◌, subst, append_assoc, append-nil, refl}
 use Rattle.std.proofs.lemmas.List.{length_push}
 use Rattle.std.proofs.lemmas.List.Elements.{All-nil, All-push}
 use Rattle.ds_entry.specs.declared.item.Item.{Item}
@@ -14,7 +14,7 @@ use Rattle.ds_machine.specs.State.{State}
 use Rattle.ds_machine.specs.Effect.{GoesOn}
 use Rattle.ds_machine.specs.declared.command.Scope.TheVariants.{Under}
 use Rattle.ds_reader.specs.Asked.{Went}
-use Rattle.ds_reader.specs.GivesUp.{IsFullSince, AreFullSinces}
+use Rattle.ds_reader.specs.GivesUp.{IsFullSince, IsJournaledMore, AreFullSinces}
 use Rattle.ds_reader.specs.Laws.{ReaderLaws}
 use Rattle.ds_reader.specs.CaughtUp.{IsCaughtUp}
 use Rattle.ds_reader.specs.declared.reading.Reading.{Reading}
@@ -76,6 +76,11 @@ module _ (laws : ReaderLaws) (stood : State → Type 0) (s : State) (reading : R
     unfolding turn
     all_items = ap (λ (l : List Item). l ++ since.items) k.items_are ∙ append_assoc items (journaled k.turns) since.items ∙
         ap (λ (l : List Item). items ++ l) (sym (laws.sinces.items_more k.turns turn))
+
+    -- that gave items
+    pub journaled_more : since.items ≢ [] → IsJournaledMore t reading from k.turns
+    unfolding turn
+    journaled_more some = record { turn = turn; are = are; full = k.all.full; asked = refl; some = some }
 
     -- that gave as many items as it was asked for
     pub caught_on : (next : State → Type 0) → next t → reading.max ≤ length since.items →

@@ -1,6 +1,6 @@
 -- When a reader gives up: where memory is wanting for what it was given, where the store refuses its question, and where as many
 -- questions as may be weren't enough.
-use Rattle.std.specs.Prelude.{◌≡◌, ◌≢◌, ◌⊎◌, ℕ, ◌≤◌, true, List, [], length, None, Some, All}
+use Rattle.std.specs.Prelude.{◌≡◌, ◌≢◌, ◌⊎◌, ℕ, ◌<◌, ◌≤◌, true, List, [], ◌∷◌, ◌++◌, length, None, Some, All}
 use Rattle.std.specs.Option.{unwrap_or}
 use Rattle.ds_entry.specs.declared.item.Item.{Item}
 use Rattle.ds_feed.specs.declared.cursor.Cursor.{Cursor}
@@ -23,7 +23,7 @@ use Rattle.ds_machine.specs.declared.reply.Reply.TheVariants as replies
 use Rattle.ds_judge.specs.Last.{IsLast}
 use Rattle.ds_reader.specs.Asked.{Goes, subscribe_anew}
 use Rattle.ds_reader.specs.declared.fault.ReadFault.{ReadFault}
-use Rattle.ds_reader.specs.declared.fault.ReadFault.TheVariants.{Refused, Unfinished, Overtaken}
+use Rattle.ds_reader.specs.declared.fault.ReadFault.TheVariants.{Refused, NoRoom, Unfinished, Overtaken}
 use Rattle.ds_reader.specs.declared.reading.Reading.{Reading}
 
 -- in this state the store refuses the command for this cause, and want of memory comes last
@@ -67,14 +67,25 @@ pub record IsOvertaken (s t : State) (sub : ℕ) (reading : Reading) (turns : Li
   pub differs : seer.stamp ≢ all.was_left.shows.seer.stamp
   pub goes : GoesOn found t
 
+-- behind the Checks so far, all of them full, one more gave the reader items, for which it had no memory
+pub record IsCheckedMore (s t : State) (reading : Reading) (turns : List CheckTurn) : Type 0 where
+  pub turn : CheckTurn
+  pub are : AreChecks s.feed t.feed (is_under reading.query) [] (turns ++ turn ∷ [])
+  pub full : All (IsFull reading.max) turns
+  pub asked : turn.max ≡ reading.max
+  pub some : turn.items ≢ []
+  pub few : length turns < reading.questions
+
 -- the store, which is `t` now, refused the Subscribe, with which the reader begins, or the next Check, or another took the
--- subscription over, or there were as many Checks as may be
+-- subscription over, or there were as many Checks as may be; memory was wanting before the reader asked anything, or for what a
+-- Check of its own subscription gave
 abbrev pub StopsChecks : State → State → ℕ → Reading → ReadFault → Type 0
 StopsChecks s t sub reading (Refused refusal) =
     IsCommandRefused t (subscribe_anew sub reading.query) refusal ⊎
     ((turns : List CheckTurn) × AreAllFull s t sub reading turns × IsCommandRefused t (Check sub reading.max) refusal)
 StopsChecks s t sub reading Unfinished = (turns : List CheckTurn) × AreAllFull s t sub reading turns × (length turns ≡ reading.questions)
 StopsChecks s t sub reading Overtaken = (turns : List CheckTurn) × IsOvertaken s t sub reading turns
+StopsChecks s t sub reading NoRoom = (t ≡ s) ⊎ ((turns : List CheckTurn) × IsCheckedMore s t reading turns)
 StopsChecks s t sub reading _ = Unit {0}
 
 -- ---- a reader by the journal
@@ -89,12 +100,23 @@ pub record AreFullSinces (t : State) (reading : Reading) (from : Cursor) (turns 
   pub are : AreSince t.feed (is_under reading.query) from turns
   pub full : All (IsFullSince reading.max) turns
 
--- the next question to the journal was refused, or there were as many as may be
+-- behind the replies so far, all of them full, one more gave items
+pub record IsJournaledMore (t : State) (reading : Reading) (from : Cursor) (turns : List SinceTurn) : Type 0 where
+  pub turn : SinceTurn
+  pub are : AreSince t.feed (is_under reading.query) from (turns ++ turn ∷ [])
+  pub full : All (IsFullSince reading.max) turns
+  pub asked : turn.max ≡ reading.max
+  pub some : turn.since.items ≢ []
+
+-- the next question to the journal was refused, or there were as many as may be; memory was wanting for the next question, or for
+-- what it gave
 abbrev pub StopsSinces : State → Reading → Cursor → ReadFault → Type 0
 StopsSinces t reading from (Refused refusal) =
     (turns : List SinceTurn) × AreFullSinces t reading from turns ×
     IsCommandRefused t (Since (Under reading.query) (cursor_after from turns) reading.max) refusal
 StopsSinces t reading from Unfinished = (turns : List SinceTurn) × AreFullSinces t reading from turns × (length turns ≡ reading.questions)
+StopsSinces t reading from NoRoom =
+    (turns : List SinceTurn) × (length turns < reading.questions) × (AreFullSinces t reading from turns ⊎ IsJournaledMore t reading from turns)
 StopsSinces t reading from _ = Unit {0}
 
 -- ---- a reader by pages
@@ -115,12 +137,22 @@ pub record ArePaged (s t : State) (reading : Reading) (from : Cursor) : Type 0 w
   pub ends : last.page.last ≡ true
   pub from_is : from ≡ unwrap_or (first_cursor pages) last.page.cursor
 
--- the next page was refused, or there were as many as may be
+-- behind the pages so far, none of them the last, one more gave items
+pub record IsPagedMore (s t : State) (reading : Reading) (pages : List PageTurn) : Type 0 where
+  pub open_ones : AreAllOpen s t reading pages
+  pub turn : PageTurn
+  pub is : IsPageTurn t.feed (is_under reading.query) (key_after None pages) turn
+  pub asked : turn.max ≡ reading.max
+  pub some : turn.page.items ≢ []
+
+-- the next page was refused, or there were as many as may be; memory was wanting for the next question, or for what it gave
 abbrev pub StopsOpen : State → State → Reading → ReadFault → Type 0
 StopsOpen s t reading (Refused refusal) =
     (pages : List PageTurn) × AreAllOpen s t reading pages ×
     IsCommandRefused t (Page (Under reading.query) (key_after None pages) reading.max) refusal
 StopsOpen s t reading Unfinished = (pages : List PageTurn) × AreAllOpen s t reading pages × (length pages ≡ reading.questions)
+StopsOpen s t reading NoRoom =
+    (pages : List PageTurn) × (length pages < reading.questions) × (AreAllOpen s t reading pages ⊎ IsPagedMore s t reading pages)
 StopsOpen s t reading _ = Unit {0}
 
 -- it stopped before the last page, or behind it at the journal

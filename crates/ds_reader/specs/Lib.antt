@@ -1,7 +1,7 @@
 pub mod Asked
 pub mod Questions
-pub mod ReadWhole
 pub mod CaughtUp
 pub mod GivesUp
+pub mod ReadWhole
 pub mod Laws
 pub mod Stops

@@ -1,16 +1,34 @@
 -- What a service has that read a store whole.
-use Rattle.std.specs.Prelude.{List}
+use Rattle.std.specs.Prelude.{◌≡◌, List, [], ◌++◌}
 use Rattle.ds_entry.specs.declared.item.Item.{Item}
 use Rattle.ds_entry.specs.Under.{under}
 use Rattle.ds_join.specs.ItemTop.{IsPartOf}
+use Rattle.ds_feed.specs.declared.cursor.Cursor.{Cursor}
 use Rattle.ds_pattern.specs.declared.query.Query.{Query}
 use Rattle.ds_pattern.specs.Under.{is_under}
+use Rattle.ds_convergence.specs.Checked.{CheckTurn, AreChecks}
+use Rattle.ds_convergence.specs.Gathered.{checked, journaled, paged}
+use Rattle.ds_convergence.specs.Journaled.{SinceTurn, AreSince}
 use Rattle.ds_convergence.specs.Sent.{given}
 use Rattle.ds_convergence.specs.Whole.{IsWhole}
 use Rattle.ds_machine.specs.State.{State, next_position}
+use Rattle.ds_reader.specs.GivesUp.{ArePaged}
+use Rattle.ds_reader.specs.declared.reading.Reading.{Reading}
 
 -- the items were all accepted and are under the query, and they are whole under it up to the store's cursor: all that is under it
 -- and took effect by then is covered by one of them
 pub record IsReadWhole (t : State) (query : Query) (items : List Item) : Type 0 where
   pub among : IsPartOf items (under (is_under query) t.feed.accepted)
   pub whole : IsWhole t.feed (is_under query) (given t.feed.accepted items) (next_position t)
+
+-- the items are just what the Checks since the Subscribe gave, each time the first that hadn't been shown, in their order
+abbrev pub AreChecked : State → State → Query → List Item → Type 0
+AreChecked s t query items = (turns : List CheckTurn) × AreChecks s.feed t.feed (is_under query) [] turns × (items ≡ checked turns)
+
+-- the items are just what the pages gave, in their order, and behind them what the journal did from the first page's cursor on
+pub record AreRead (s t : State) (reading : Reading) (items : List Item) : Type 0 where
+  pub from : Cursor
+  pub pages : ArePaged s t reading from
+  pub turns : List SinceTurn
+  pub are : AreSince t.feed (is_under reading.query) from turns
+  pub items_are : items ≡ paged pages.pages ++ (pages.last.page.items ++ journaled turns)

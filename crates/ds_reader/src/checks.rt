@@ -4,7 +4,7 @@ ghost use Rattle.std.specs.Prelude.{◌≡◌, Err, IfOk, IfErr};
 ghost use Rattle.ds_reader.specs.Asked.{ComesTo};
 ghost use Rattle.ds_reader.specs.GivesUp.{StopsChecks};
 ghost use Rattle.ds_reader.specs.Questions.{AsksByChecks};
-ghost use Rattle.ds_reader.specs.ReadWhole.{IsReadWhole};
+ghost use Rattle.ds_reader.specs.ReadWhole.{AreChecked, IsReadWhole};
 
 use crate::asking::{check, subscribe};
 use crate::asks::Asks;
@@ -31,6 +31,7 @@ pub fn read_by_checks<A: Asks>(
     reading: &Reading,
 ) -> Result<Items, ReadFault>
     ensures whole { IfOk result (λ items. ComesTo A.stands asked.old asked.new (λ _ t. IsReadWhole t reading.now.query items)) }
+    ensures items { IfOk result (λ items. ComesTo A.stands asked.old asked.new (λ s t. AreChecked s t reading.now.query items)) }
     ensures stopped { IfErr result (λ fault. ComesTo A.stands asked.old asked.new (λ s t. StopsChecks s t sub reading.now fault)) }
     ensures only { AsksByChecks A.asks_once sub reading.now asked.old asked.new }
     ensures worn { result ≡ Err ReadFault.Worn → A.is_worn asked.new }

@@ -5,7 +5,7 @@ ghost use Rattle.ds_reader.specs.Asked.{ComesTo};
 ghost use Rattle.ds_reader.specs.CaughtUp.{IsCaughtUp};
 ghost use Rattle.ds_reader.specs.GivesUp.{StopsPages, StopsSinces};
 ghost use Rattle.ds_reader.specs.Questions.{AsksByPages, AsksFew, IsSinceOf};
-ghost use Rattle.ds_reader.specs.ReadWhole.{IsReadWhole};
+ghost use Rattle.ds_reader.specs.ReadWhole.{AreRead, IsReadWhole};
 
 use crate::asking::{page, since};
 use crate::asks::Asks;
@@ -60,6 +60,7 @@ pub fn read_by_pages<A: Asks>(
     reading: &Reading,
 ) -> Result<Items, ReadFault>
     ensures whole { IfOk result (λ items. ComesTo A.stands asked.old asked.new (λ _ t. IsReadWhole t reading.now.query items)) }
+    ensures items { IfOk result (λ items. ComesTo A.stands asked.old asked.new (λ s t. AreRead s t reading.now items)) }
     ensures stopped { IfErr result (λ fault. ComesTo A.stands asked.old asked.new (λ s t. StopsPages s t reading.now fault)) }
     ensures only { AsksByPages A.asks_once reading.now asked.old asked.new }
     ensures worn { result ≡ Err ReadFault.Worn → A.is_worn asked.new }

@@ -1,11 +1,11 @@
-use Rattle.std.proofs.Common.{refl, ◌≡◌, ◌+◌, ◌<◌, ◌≤◌, List, length, arith, sym, ◌∙◌, subst}
+use Rattle.std.proofs.Common.{refl, ◌≡◌, ◌+◌, ◌<◌, ◌≤◌, List, length, arith, sym, ◌∙◌, subst, inl, inr}
 use Rattle.std.proofs.lemmas.Result.{err_from_is_err_and}
 use Rattle.ds_entry.specs.declared.item.Item.{Item}
 use Rattle.ds_pattern.specs.declared.query.Query.{Query}
 use Rattle.ds_reader.specs.Asked.{Asked, subscribe_anew}
-use Rattle.ds_reader.specs.ReadWhole.{IsReadWhole}
+use Rattle.ds_reader.specs.ReadWhole.{AreChecked, IsReadWhole}
 use Rattle.ds_reader.proofs.StopLemmas.{nothing_read, has_room, by_fault, stops_worn, stops_check, stops_subscribe}
-use Rattle.ds_reader.proofs.CheckLemmas.{Checking, begun, all_full, checked_on, gone, overtaken, read_whole}
+use Rattle.ds_reader.proofs.CheckLemmas.{Checking, begun, all_full, checked_more, checked_on, gone, overtaken, read_each, read_whole}
 use Rattle.ds_reader.proofs.QuestionLemmas.{by_checks, checks_more, has_begun}
 use Rattle.ds_machine.specs.declared.reply.Reply.TheVariants as replies
 use Rattle.ds_reader.proofs.checks.read_by_checks.Goals as goal
@@ -70,7 +70,9 @@ returns-in_err-append-clause-stopped g c =
       gone c.laws.ensures (g.A.Asks.stands q.asked) s c.args.sub reading.query q.items shown.items reading.max q.stamp q._question k a.0
           shown.before shown.after a.1,
       a.2,
-      tt,
+      inr
+          (checked_more c.laws.ensures (g.A.Asks.stands q.asked) s c.args.sub q.stamp q._question reading q.items shown.items k a.0
+          shown.before shown.after a.1 c.if-shown-stamp.false c.in_err-append.ensures.room (omega (arith, c.loop-question-test.true))),
     )))
 
 pub returns-then-len-reading-clause-whole : goal.returns-then-len-reading-clause-whole
@@ -86,7 +88,7 @@ returns-then-len-reading-clause-whole g c = λ s stands.
       gone c.laws.ensures stood s c.args.sub reading.query q.items shown.items reading.max q.stamp q._question k a.0 shown.before
           shown.after a.1,
       a.2,
-      subst (λ (l : List Item). IsReadWhole a.0 reading.query l) (sym c.in_ok-append.ensures)
+      subst (λ (l : List Item). IsReadWhole a.0 reading.query l) (sym c.in_ok-append.ensures.added)
           (read_whole c.laws.ensures stood s c.args.sub reading.query q.items shown.items reading.max q.stamp q._question k a.0 shown.before
           shown.after a.1 c.if-shown-stamp.false few),
     )
@@ -106,7 +108,7 @@ loop-question-preserved g c = (
       let a = c.in_ok-shown.ensures.shown k.now k.stands in
       let full : reading.max ≤ length shown.items = omega (arith, c.len.ensures, c.if-len-reading.false) in
       subst (λ (l : List Item). Checking next s c.args.sub reading.max reading.query l shown.after (q._question + 1))
-      (sym c.in_ok-append.ensures)
+      (sym c.in_ok-append.ensures.added)
       (checked_on c.laws.ensures stood s c.args.sub reading.query q.items shown.items reading.max q.stamp q._question k a.0 shown.before
       shown.after a.1 c.if-shown-stamp.false next a.2 full)),
 )
@@ -239,3 +241,45 @@ returns-in_err-shown-clause-whole g c = nothing_read c.from_residual-in_err-show
 
 pub returns-in_err-append-clause-whole : goal.returns-in_err-append-clause-whole
 returns-in_err-append-clause-whole g c = nothing_read c.from_residual-in_err-append.result _ _ c.from_residual-in_err-append.ensures.1
+
+pub returns-in_err-query-clause-stopped : goal.returns-in_err-query-clause-stopped
+returns-in_err-query-clause-stopped g c =
+    let exit = err_from_is_err_and c.from_residual.result c.from_residual.ensures.1 in
+    rw (exit.1, exit.2) (λ s stands. (s, c.laws.ensures.same s, stands, inl refl))
+
+-- ---- each item is given once
+
+pub returns-then-len-reading-clause-items : goal.returns-then-len-reading-clause-items
+returns-then-len-reading-clause-items g c = λ s stands.
+    let q = c.loop-question in
+    let reading = c.args.reading.now in
+    let stood = g.A.Asks.stands q.asked in
+    let shown = c.in_ok-shown.shown in
+    let k = q.invariant.2 s stands in
+    let a = c.in_ok-shown.ensures.shown k.now k.stands in (
+      a.0,
+      gone c.laws.ensures stood s c.args.sub reading.query q.items shown.items reading.max q.stamp q._question k a.0 shown.before
+          shown.after a.1,
+      a.2,
+      subst (λ (l : List Item). AreChecked s a.0 reading.query l) (sym c.in_ok-append.ensures.added)
+          (read_each c.laws.ensures stood s c.args.sub reading.query q.items shown.items reading.max q.stamp q._question k a.0 shown.before
+          shown.after a.1 c.if-shown-stamp.false),
+    )
+
+pub returns-then-shown-stamp-clause-items : goal.returns-then-shown-stamp-clause-items
+returns-then-shown-stamp-clause-items g c = tt
+
+pub returns-clause-items : goal.returns-clause-items
+returns-clause-items g c = tt
+
+pub returns-in_err-query-clause-items : goal.returns-in_err-query-clause-items
+returns-in_err-query-clause-items g c = nothing_read c.from_residual.result _ _ c.from_residual.ensures.1
+
+pub returns-in_err-stamp-clause-items : goal.returns-in_err-stamp-clause-items
+returns-in_err-stamp-clause-items g c = nothing_read c.from_residual-in_err-stamp.result _ _ c.from_residual-in_err-stamp.ensures.1
+
+pub returns-in_err-shown-clause-items : goal.returns-in_err-shown-clause-items
+returns-in_err-shown-clause-items g c = nothing_read c.from_residual-in_err-shown.result _ _ c.from_residual-in_err-shown.ensures.1
+
+pub returns-in_err-append-clause-items : goal.returns-in_err-append-clause-items
+returns-in_err-append-clause-items g c = nothing_read c.from_residual-in_err-append.result _ _ c.from_residual-in_err-append.ensures.1

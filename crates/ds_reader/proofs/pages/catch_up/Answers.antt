@@ -1,4 +1,4 @@
-use Rattle.std.proofs.Common.{◌≡◌, ◌+◌, ◌<◌, ◌≤◌, List, length, arith, refl, sym, ◌∙◌, subst}
+use Rattle.std.proofs.Common.{◌≡◌, ◌+◌, ◌<◌, ◌≤◌, List, length, arith, refl, sym, ◌∙◌, subst, inl, inr}
 use Rattle.std.proofs.lemmas.Result.{err_from_is_err_and}
 use Rattle.ds_entry.specs.declared.item.Item.{Item}
 use Rattle.ds_feed.specs.Since.{IsGiven}
@@ -8,7 +8,7 @@ use Rattle.ds_reader.specs.CaughtUp.{IsCaughtUp}
 use Rattle.ds_reader.specs.Questions.{IsSinceOf}
 use Rattle.ds_reader.proofs.StopLemmas.{nothing_read, has_room, by_fault, stops_worn, stops_since}
 use Rattle.ds_reader.proofs.StateLemmas.{journaled_there}
-use Rattle.ds_reader.proofs.SinceLemmas.{Catching, caught_on, caught_up, gone, not_begun}
+use Rattle.ds_reader.proofs.SinceLemmas.{Catching, caught_on, caught_up, gone, journaled_more, not_begun}
 use Rattle.ds_reader.proofs.QuestionLemmas.{fewer, none_asked, sinces_more}
 use Rattle.ds_reader.proofs.pages.catch_up.Goals as goal
 
@@ -37,7 +37,7 @@ loop-question-preserved g c = (
       let is = subst (λ (x : Scope). IsGiven a.0.feed (is_kept x) q.at reading.max given) c.in_ok-scope.ensures there.0 in
       let full : reading.max ≤ length given.items = omega (arith, c.len.ensures, c.if-len-reading.false) in
       subst (λ (l : List Item). Catching next s reading c.args.from given.cursor c.args.items.now l (q._question + 1))
-      (sym c.in_ok-append.ensures)
+      (sym c.in_ok-append.ensures.added)
       (caught_on c.laws.ensures stood s reading c.args.from q.at c.args.items.now q.items q._question k a.0 there.1 given is next a.2
       full)),
 )
@@ -45,7 +45,8 @@ loop-question-preserved g c = (
 pub returns-in_err-scope-clause-stopped : goal.returns-in_err-scope-clause-stopped
 returns-in_err-scope-clause-stopped g c =
     let exit = err_from_is_err_and c.from_residual.result c.from_residual.ensures.1 in
-    rw (exit.1, exit.2) (λ s stands. (let k = c.loop-question.invariant.2 s stands in (k.now, k.goes, k.stands, tt)))
+    rw (exit.1, exit.2) (λ s stands. (let k = c.loop-question.invariant.2 s stands in
+    let test = c.loop-question-test.true in (k.now, k.goes, k.stands, (k.turns, omega (arith, test, k.count_is), inl k.all))))
 
 pub returns-in_err-given-clause-stopped : goal.returns-in_err-given-clause-stopped
 returns-in_err-given-clause-stopped g c =
@@ -64,11 +65,20 @@ returns-in_err-append-clause-stopped g c =
     let q = c.loop-question in
     let k = q.invariant.2 s stands in
     let a = c.in_ok-given.ensures.given k.now k.stands in
-    let there = journaled_there c.laws.ensures k.now a.0 _ q.at reading.max c.in_ok-given.given a.1 in (
+    let given = c.in_ok-given.given in
+    let there = journaled_there c.laws.ensures k.now a.0 _ q.at reading.max given a.1 in
+    let is = subst (λ (x : Scope). IsGiven a.0.feed (is_kept x) q.at reading.max given) c.in_ok-scope.ensures there.0 in
+    let test = c.loop-question-test.true in (
       a.0,
       gone c.laws.ensures (g.A.Asks.stands q.asked) s reading c.args.from q.at c.args.items.now q.items q._question k a.0 there.1,
       a.2,
-      tt,
+      (
+        k.turns,
+        omega (arith, test, k.count_is),
+        inr
+            (journaled_more c.laws.ensures (g.A.Asks.stands q.asked) s reading c.args.from q.at c.args.items.now q.items q._question k
+            a.0 there.1 given is c.in_err-append.ensures.room),
+      ),
     )))
 
 pub returns-then-len-reading-clause-caught : goal.returns-then-len-reading-clause-caught
@@ -86,7 +96,7 @@ returns-then-len-reading-clause-caught g c = λ s stands.
       a.0,
       gone c.laws.ensures stood s reading c.args.from q.at c.args.items.now q.items q._question k a.0 there.1,
       a.2,
-      subst (λ (l : List Item). IsCaughtUp a.0 reading.query c.args.from c.args.items.now l) (sym c.in_ok-append.ensures) all,
+      subst (λ (l : List Item). IsCaughtUp a.0 reading.query c.args.from c.args.items.now l) (sym c.in_ok-append.ensures.added) all,
     )
 
 pub returns-clause-stopped : goal.returns-clause-stopped

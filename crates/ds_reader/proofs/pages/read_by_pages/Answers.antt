@@ -14,7 +14,7 @@ use Rattle.ds_reader.specs.GivesUp.{StopsSinces}
 use Rattle.ds_reader.specs.Questions.{IsPageOf}
 use Rattle.ds_reader.proofs.StopLemmas.{nothing_read, has_room, by_fault, stops_worn, stops_page}
 use Rattle.ds_reader.proofs.StateLemmas.{paged_there}
-use Rattle.ds_reader.proofs.PageLemmas.{Paging, all_paged, gone, not_begun, paged_on, read_whole}
+use Rattle.ds_reader.proofs.PageLemmas.{Paging, all_paged, gone, not_begun, paged_more, paged_on, read_each, read_whole}
 use Rattle.ds_reader.proofs.QuestionLemmas.{by_both, by_pages, none_asked, pages_more}
 use Rattle.ds_reader.proofs.pages.read_by_pages.Goals as goal
 
@@ -46,7 +46,7 @@ loop-question-preserved g c = (
       let on = paged_on c.laws.ensures (g.A.Asks.stands q.asked) s reading q.items q.after q.from q._question k a.0 there.1 given is next
       a.2 c.if-given.false in
       subst (λ (l : List Item). Paging next s reading l c.go_behind.new.key (Some c.unwrap_or-first.result) (q._question + 1))
-      (sym c.in_ok-append.ensures)
+      (sym c.in_ok-append.ensures.added)
       (subst (λ (x : Option Key). Paging next s reading (q.items ++ given.items) x (Some c.unwrap_or-first.result) (q._question + 1))
       (sym c.go_behind.ensures)
       (subst (λ (x : Cursor). Paging next s reading (q.items ++ given.items) (last_key q.after given.items) (Some x) (q._question + 1))
@@ -63,7 +63,8 @@ returns-clause-stopped g c = λ s stands.
 pub returns-in_err-scope-clause-stopped : goal.returns-in_err-scope-clause-stopped
 returns-in_err-scope-clause-stopped g c =
     let exit = err_from_is_err_and c.from_residual.result c.from_residual.ensures.1 in
-    rw (exit.1, exit.2) (λ s stands. (let k = c.loop-question.invariant.2 s stands in (k.now, k.goes, k.stands, inl tt)))
+    rw (exit.1, exit.2) (λ s stands. (let k = c.loop-question.invariant.2 s stands in
+    let test = c.loop-question-test.true in (k.now, k.goes, k.stands, inl (k.turns, omega (arith, test, k.count_is), inl k.all))))
 
 pub returns-in_err-given-clause-stopped : goal.returns-in_err-given-clause-stopped
 returns-in_err-given-clause-stopped g c =
@@ -80,11 +81,21 @@ returns-in_err-append-clause-stopped g c =
     (let q = c.loop-question in
     let k = q.invariant.2 s stands in
     let a = c.in_ok-given.ensures.given k.now k.stands in
-    let there = paged_there c.laws.ensures k.now a.0 _ q.after c.args.reading.now.max c.in_ok-given.given a.1 in (
+    let given = c.in_ok-given.given in
+    let reading = c.args.reading.now in
+    let there = paged_there c.laws.ensures k.now a.0 _ q.after reading.max given a.1 in
+    let is = subst (λ (x : Scope). given ≡ page_of (is_kept x) q.after reading.max (held a.0) (cursor a.0)) c.in_ok-scope.ensures there.0 in
+    let test = c.loop-question-test.true in (
       a.0,
-      gone c.laws.ensures (g.A.Asks.stands q.asked) s c.args.reading.now q.items q.after q.from q._question k a.0 there.1,
+      gone c.laws.ensures (g.A.Asks.stands q.asked) s reading q.items q.after q.from q._question k a.0 there.1,
       a.2,
-      inl tt,
+      inl (
+        k.turns,
+        omega (arith, test, k.count_is),
+        inr
+            (paged_more c.laws.ensures (g.A.Asks.stands q.asked) s reading q.items q.after q.from q._question k a.0 there.1 given is
+            c.in_err-append.ensures.room),
+      ),
     )))
 
 pub returns-in_err-catch_up-clause-stopped : goal.returns-in_err-catch_up-clause-stopped
@@ -126,13 +137,52 @@ returns-then-given-clause-whole g c = λ s stands.
     let first = subst (λ (x : Cursor). IsCaughtUp b.0 reading.query x c.append.new.items c.catch_up.new.items) c.unwrap_or-first.ensures b.3
     in
     let caught = subst (λ (l : List Item). IsCaughtUp b.0 reading.query (unwrap_or q.from given.cursor) l c.catch_up.new.items)
-    c.in_ok-append.ensures first in (
+    c.in_ok-append.ensures.added first in (
       b.0,
       c.laws.ensures.later s a.0 b.0 (gone c.laws.ensures stood s reading q.items q.after q.from q._question k a.0 there.1) b.1,
       b.2,
       read_whole c.laws.ensures stood s reading q.items q.after q.from q._question k a.0 there.1 given is c.if-given.true b.0
           c.catch_up.new.items b.1 caught,
     )
+
+-- ---- each item is given once
+
+pub returns-then-given-clause-items : goal.returns-then-given-clause-items
+returns-then-given-clause-items g c = λ s stands.
+    let reading = c.args.reading.now in
+    let q = c.loop-question in
+    let stood = g.A.Asks.stands q.asked in
+    let given = c.in_ok-given.given in
+    let k = q.invariant.2 s stands in
+    let a = c.in_ok-given.ensures.given k.now k.stands in
+    let there = paged_there c.laws.ensures k.now a.0 _ q.after reading.max given a.1 in
+    let is = subst (λ (x : Scope). given ≡ page_of (is_kept x) q.after reading.max (held a.0) (cursor a.0)) c.in_ok-scope.ensures there.0 in
+    let b = c.in_ok-catch_up.ensures.caught a.0 a.2 in
+    let first = subst (λ (x : Cursor). IsCaughtUp b.0 reading.query x c.append.new.items c.catch_up.new.items) c.unwrap_or-first.ensures b.3
+    in
+    let caught = subst (λ (l : List Item). IsCaughtUp b.0 reading.query (unwrap_or q.from given.cursor) l c.catch_up.new.items)
+    c.in_ok-append.ensures.added first in (
+      b.0,
+      c.laws.ensures.later s a.0 b.0 (gone c.laws.ensures stood s reading q.items q.after q.from q._question k a.0 there.1) b.1,
+      b.2,
+      read_each c.laws.ensures stood s reading q.items q.after q.from q._question k a.0 there.1 given is c.if-given.true b.0
+          c.catch_up.new.items b.1 caught,
+    )
+
+pub returns-clause-items : goal.returns-clause-items
+returns-clause-items g c = tt
+
+pub returns-in_err-scope-clause-items : goal.returns-in_err-scope-clause-items
+returns-in_err-scope-clause-items g c = nothing_read c.from_residual.result _ _ c.from_residual.ensures.1
+
+pub returns-in_err-given-clause-items : goal.returns-in_err-given-clause-items
+returns-in_err-given-clause-items g c = nothing_read c.from_residual-in_err-given.result _ _ c.from_residual-in_err-given.ensures.1
+
+pub returns-in_err-append-clause-items : goal.returns-in_err-append-clause-items
+returns-in_err-append-clause-items g c = nothing_read c.from_residual-in_err-append.result _ _ c.from_residual-in_err-append.ensures.1
+
+pub returns-in_err-catch_up-clause-items : goal.returns-in_err-catch_up-clause-items
+returns-in_err-catch_up-clause-items g c = nothing_read c.from_residual-in_err-catch_up.result _ _ c.from_residual-in_err-catch_up.ensures.1
 
 -- ---- what it asked
 pub returns-in_err-scope-clause-only : goal.returns-in_err-scope-clause-only
