@@ -2,6 +2,8 @@
 use Rattle.std.specs.Prelude.{◌≡◌, ℕ, List, [], ◌++◌, Result, MatchResult}
 use Rattle.std.specs.Io.KnownBytes.{Appends}
 use Rattle.ds_script.specs.declared.fault.ReplayFault.{ReplayFault}
+use Rattle.ds_script.specs.declared.fault.ReplayFault.TheVariants.{BadLine}
+use Rattle.ds_line.specs.declared.expected.Expected.{Expected}
 use Rattle.ds_lines.specs.declared.streams.Sink.{Ghosts as Writer}
 use Rattle.ds_script.specs.Replay.{badline}
 use Rattle.ds_script.specs.Progress.{EndsAtBad, TellsBad}
@@ -11,6 +13,11 @@ use Rattle.ds_script.specs.Causes.{HasWriteCause}
 abbrev pub EndsFor : {W : Type 0} → Writer W → ReplayFault → (number place : ℕ) → (from to : W) → (old new : List ℕ) → Type 0
 EndsFor w fault number place from to old new =
     HasWriteCause w fault to × EndsAtBad fault number place (w.contents from) (w.contents to) old new
+
+-- a bad line's fault tells the part that was expected
+abbrev pub TellsExpected : ReplayFault → Expected → Type 0
+TellsExpected (BadLine number place told) expected = told ≡ expected
+TellsExpected _ expected = Unit {0}
 
 -- The line is passed over: its answer is written behind those that waited; or why it isn't.
 abbrev pub PassesOver : {W T : Type 0} → Writer W → (number place : ℕ) → (from to : W) → (old new : List ℕ) → Result T ReplayFault → Type 0

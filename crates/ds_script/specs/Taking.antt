@@ -1,10 +1,12 @@
 -- What the steps of a replay do: to what it drives and the answers that wait, and to the writer.
-use Rattle.std.specs.Prelude.{◌≡◌, ℕ, suc, Bool, List, [], ◌∷◌, Option, Result, MatchResult}
+use Rattle.std.specs.Prelude.{◌≡◌, ℕ, ◌≤◌, suc, Bool, List, [], ◌∷◌, Option, Result, MatchResult}
 use Rattle.std.specs.Io.KnownBytes.{IsAtEnd}
 use Rattle.ds_lines.specs.Lines.{IsUnbroken, unended, with_newline}
 use Rattle.ds_script.specs.declared.fault.ReplayFault.{ReplayFault}
 use Rattle.ds_lines.specs.declared.streams.Source.{Ghosts as Reader}
 use Rattle.ds_lines.specs.declared.streams.Sink.{Ghosts as Writer}
+use Rattle.ds_script.specs.declared.report.BadLines.{BadLines}
+use Rattle.ds_script.specs.declared.report.BadLines.TheVariants.{End, GoOn}
 use Rattle.ds_script.specs.declared.taking.Replay.{Replay}
 use Rattle.ds_script.specs.Session.{IsOpened}
 use Rattle.ds_lines.specs.Reading.{LinesContent, no_lines}
@@ -76,6 +78,11 @@ abbrev pub TakesFront : {W B T : Type 0} → Writer W → Replay W B → Replay 
 TakesFront w old new front result =
     MatchResult result (λ _. (reached new ≡ reached old) × (new.writer.now ≡ old.writer.now))
     (λ fault. IsCaused w new fault × StopsInText w old new front fault)
+
+-- So many bytes are kept of a line whose end wasn't read: no more than a line may have, where a bad line ends the replay.
+abbrev pub IsShort : BadLines → ℕ → Type 0
+IsShort End n = n ≤ 4096
+IsShort GoOn n = n ≤ 16777216
 
 -- What is pending is answered as the last line, if something is.
 abbrev pub TakesUnended : {W B T : Type 0} → Writer W → Replay W B → Replay W B → List ℕ → Result T ReplayFault → Type 0

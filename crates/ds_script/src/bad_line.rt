@@ -2,7 +2,7 @@
 
 ghost use Rattle.std.specs.Prelude.{◌≡◌, ◌++◌, OnOk, OnErr};
 ghost use Rattle.ds_script.specs.Replay.{badline};
-ghost use Rattle.ds_script.specs.Passing.{EndsFor, PassesOver};
+ghost use Rattle.ds_script.specs.Passing.{EndsFor, PassesOver, TellsExpected};
 
 use crate::fault::ReplayFault;
 use crate::report::{BadLine, Report};
@@ -18,7 +18,8 @@ pub(crate) fn end_at<W: Sink, B: Report>(
     bad: &BadLine<'_>,
     output: &mut Vec<u8>,
 ) -> ReplayFault
-    ensures { EndsFor W.Sink result bad.now.number bad.now.place writer.old writer.new output.old.items output.new.items }
+    ensures ends { EndsFor W.Sink result bad.now.number bad.now.place writer.old writer.new output.old.items output.new.items }
+    ensures expected { TellsExpected result bad.now.expected }
 {
     let Ok(()) = send(writer, output) else {
         return ReplayFault::WriteFault;

@@ -6,7 +6,7 @@ use Rattle.ds_script.proofs.taking.Replay.judge_front.Goals as goal
 
 pub returns-in-End-clause-takes : goal.returns-in-End-clause-takes
 returns-in-End-clause-takes g c =
-    let e = c.end_at.ensures in
+    let e = c.end_at.ensures.ends in
     let had = g.W.Sink.contents c.args.self.now.writer.now in
     let has = g.W.Sink.contents c.end_at.new.writer in (
       e.0,

@@ -20,7 +20,7 @@ returns-in_err-pass_over-in-GoOn-clause-takes g c =
 
 pub returns-in-End-clause-takes : goal.returns-in-End-clause-takes
 returns-in-End-clause-takes g c =
-    let e = c.end_at.ensures in
+    let e = c.end_at.ensures.ends in
     let had = g.W.Sink.contents c.args.self.now.writer.now in
     let has = g.W.Sink.contents c.end_at.new.writer in (
       e.0,
