@@ -1,5 +1,5 @@
 -- What one question to the store that tells leaves.
-use Rattle.std.proofs.Common.{◌≡◌, ℕ, [], ◌∷◌, Option, Result, Ok, Err, inl, inr, refl, ap, sym, ◌∙◌}
+use Rattle.std.proofs.Common.{◌≡◌, ℕ, [], ◌∷◌, Option, Result, Ok, Err, refl, ap, ◌∙◌}
 use Rattle.std.specs.Result.{IfErr, IfOk}
 use Rattle.history.specs.History.{entry}
 use Rattle.desk.specs.declared.fault.DeskFault.{DeskFault}
@@ -9,7 +9,6 @@ use Rattle.ds_feed.specs.declared.reading.Since as readings
 use Rattle.ds_feed.specs.declared.reading.Page.{Page as Leaf}
 use Rattle.ds_machine.specs.declared.command.Command.{Command}
 use Rattle.ds_machine.specs.declared.refusal.Refusal.{Refusal}
-use Rattle.ds_machine.specs.declared.refusal.Refusal.TheVariants as refusals
 use Rattle.ds_machine.specs.declared.reply.Reply.{Reply}
 use Rattle.ds_machine.specs.declared.reply.Reply.TheVariants as replies
 use Rattle.ds_machine.specs.declared.reply.Reply.TheVariants.{Journaled, Paged}
