@@ -80,9 +80,9 @@ TakesFront w old new front result =
     (λ fault. IsCaused w new fault × StopsInText w old new front fault)
 
 -- So many bytes are kept of a line whose end wasn't read: no more than a line may have, where a bad line ends the replay.
-abbrev pub IsShort : BadLines → ℕ → Type 0
-IsShort End n = n ≤ 4096
-IsShort GoOn n = n ≤ 16777216
+abbrev pub IsShortFront : BadLines → ℕ → Type 0
+IsShortFront End n = n ≤ 4096
+IsShortFront GoOn n = n ≤ 16777216
 
 -- What is pending is answered as the last line, if something is.
 abbrev pub TakesUnended : {W B T : Type 0} → Writer W → Replay W B → Replay W B → List ℕ → Result T ReplayFault → Type 0

@@ -2,7 +2,7 @@
 
 ghost use Rattle.std.specs.Prelude.{◌≡◌, ◌<◌, ◌+◌, ◌^◌, suc, length, OnOk, IfErr};
 ghost use Rattle.ds_lines.specs.Lines.{EndsLine, IsUnbroken};
-ghost use Rattle.ds_script.specs.Taking.{IsShort, KeepsWriter, TakesLine, TakesBad, TakesWhole, TakesFront, TakesLast, TakesUnended};
+ghost use Rattle.ds_script.specs.Taking.{IsShortFront, KeepsWriter, TakesLine, TakesBad, TakesWhole, TakesFront, TakesLast, TakesUnended};
 
 use crate::bad_line::{end_at, pass_over};
 use crate::fault::ReplayFault;
@@ -84,7 +84,7 @@ impl<W: Sink, B: Report> Replay<'_, W, B> {
         ensures takes { TakesWhole W.Sink self.old self.new lines.old.rest lines.new.rest result }
         ensures count { OnOk result (self.new.tally.lines ≡ lines.new.count) }
         ensures reads { lines.new.reads ≡ lines.old.reads }
-        ensures short { OnOk result (IsShort self.new.bad_lines (length lines.new.rest)) }
+        ensures short { OnOk result (IsShortFront self.new.bad_lines (length lines.new.rest)) }
     {
         while lines.next() {
             self.take_line(lines.line())?;
@@ -98,7 +98,7 @@ impl<W: Sink, B: Report> Replay<'_, W, B> {
         requires few { self.old.tally.lines < 2 ^ 62 }
         ensures same { KeepsWriter self.old self.new }
         ensures takes { TakesFront W.Sink self.old self.new front.now result }
-        ensures short { OnOk result (IsShort self.new.bad_lines (length front.now)) }
+        ensures short { OnOk result (IsShortFront self.new.bad_lines (length front.now)) }
         ensures room { IfErr result (λ fault. fault ≡ ReplayFault.NoRoom → 16777216 < length front.now) }
     {
         match self.bad_lines {
