@@ -22,16 +22,16 @@ IsRefreshFault limit q fault = (2 ≤ limit) × (limit ≤ 65536) × IsFaultOf q
 -- ---- where memory may be wanting
 
 -- a Check gave the follower some items, under its own stamp, which its map has to take in
-abbrev pub GaveItems : ℕ → Entry Command Reply → Option ℕ → Type 0
-GaveItems sub e None = ⊥
-GaveItems sub e (Some stamp) = (items : List Item) × (after : ℕ) × Checks sub e items stamp after × (0 < length items)
+abbrev pub TellsItems : ℕ → Entry Command Reply → Option ℕ → Type 0
+TellsItems sub e None = ⊥
+TellsItems sub e (Some stamp) = (items : List Item) × (after : ℕ) × Checks sub e items stamp after × (0 < length items)
 
 -- a follower of this last stamp, or none: a lost one didn't come to subscribe, for which it copies its query; or one call was made,
 -- which the store refused for that, or which gave it some items
 abbrev pub CallLacksRoom : ℕ → List (Entry Command Reply) → Option ℕ → Type 0
 CallLacksRoom sub [] None = Unit {0}
 CallLacksRoom sub [] (Some stamp) = ⊥
-CallLacksRoom sub (e ∷ es) stamp = (es ≡ []) × ((e.reply ≡ Refused refusals.NoRoom) ⊎ GaveItems sub e stamp)
+CallLacksRoom sub (e ∷ es) stamp = (es ≡ []) × ((e.reply ≡ Refused refusals.NoRoom) ⊎ TellsItems sub e stamp)
 
 pub record LacksNow (p q : PassRecord) (f : FollowerRecord) : Type 0 where
   pub own : List (Entry Command Reply)
@@ -39,7 +39,7 @@ pub record LacksNow (p q : PassRecord) (f : FollowerRecord) : Type 0 where
   pub lacks : CallLacksRoom f.sub own f.stamp
 
 -- behind calls that didn't end the refresh, and left the follower with this stamp
-pub record LacksMemory (p q : PassRecord) (f : FollowerRecord) : Type 0 where
+pub record WantsRoom (p q : PassRecord) (f : FollowerRecord) : Type 0 where
   pub own : List (Entry Command Reply)
   pub last : List (Entry Command Reply)
   pub stamp : Option ℕ
