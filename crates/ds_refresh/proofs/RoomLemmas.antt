@@ -16,7 +16,7 @@ use Rattle.ds_pass.specs.declared.fault.LiveFault.{LiveFault}
 use Rattle.ds_pass.specs.declared.fault.LiveFault.TheVariants as faults
 use Rattle.ds_pass.proofs.FaultLemmas.{refused_for_room}
 use Rattle.ds_pass.proofs.RecordLemmas.{made_more, made_none}
-use Rattle.ds_refresh.specs.Faults.{CallLacksRoom, WantsRoom, LacksNow}
+use Rattle.ds_refresh.specs.Faults.{CallLacksRoom, RunsShort, LacksNow}
 use Rattle.ds_refresh.specs.Follower.{FollowerRecord}
 use Rattle.ds_refresh.specs.FollowerCalls.{Checks}
 use Rattle.ds_refresh.specs.Refresh.{HasGone}
@@ -53,7 +53,7 @@ some_there [] n i is = absurd (cc)
 some_there (x ∷ items) n i is = omega arith
 
 -- ---- behind calls that were open
-pub lacks_later : (p q r : PassRecord) (f g : FollowerRecord) (count : ℕ) → HasGone p q f g count → LacksNow q r g → WantsRoom p r f
+pub lacks_later : (p q r : PassRecord) (f g : FollowerRecord) (count : ℕ) → HasGone p q f g count → LacksNow q r g → RunsShort p r f
 lacks_later p q r f g count gone now = record {
   own = gone.own;
   last = now.own;

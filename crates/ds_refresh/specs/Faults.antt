@@ -38,8 +38,8 @@ pub record LacksNow (p q : PassRecord) (f : FollowerRecord) : Type 0 where
   pub made : Made p q own
   pub lacks : CallLacksRoom f.sub own f.stamp
 
--- behind calls that didn't end the refresh, and left the follower with this stamp
-pub record WantsRoom (p q : PassRecord) (f : FollowerRecord) : Type 0 where
+-- a refresh that ran short of it: behind calls that didn't end it, and left the follower with this stamp
+pub record RunsShort (p q : PassRecord) (f : FollowerRecord) : Type 0 where
   pub own : List (Entry Command Reply)
   pub last : List (Entry Command Reply)
   pub stamp : Option ℕ

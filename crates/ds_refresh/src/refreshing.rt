@@ -5,7 +5,7 @@ ghost use Rattle.desk.specs.Desk.{identity};
 ghost use Rattle.desk.specs.Pass.{desk_of};
 ghost use Rattle.ds_pass.specs.Faults.{IsFaultOf};
 ghost use Rattle.ds_pass.specs.Record.{pass_record};
-ghost use Rattle.ds_refresh.specs.Faults.{IsRefreshFault, WantsRoom};
+ghost use Rattle.ds_refresh.specs.Faults.{IsRefreshFault, RunsShort};
 ghost use Rattle.ds_refresh.specs.Follower.{IsSameFollower};
 ghost use Rattle.ds_refresh.specs.KeepsUp.{KeepsUpWith};
 ghost use Rattle.ds_refresh.specs.Refresh.{CallsOnly, Refreshes};
@@ -49,7 +49,7 @@ pub fn refresh<W: Wait>(
     ensures keeps { KeepsUpWith (pass_record pass.new) follower.new }
     ensures same { IsSameFollower follower.old follower.new }
     ensures fault { IfErr result (IsRefreshFault limit (pass_record pass.new)) }
-    ensures room { IfErr result (λ fault. fault ≡ LiveFault.NoRoom → WantsRoom (pass_record pass.old) (pass_record pass.new) follower.old) }
+    ensures room { IfErr result (λ fault. fault ≡ LiveFault.NoRoom → RunsShort (pass_record pass.old) (pass_record pass.new) follower.old) }
     ensures untouched { result ≡ Err LiveFault.BadLimit → pass.new ≡ pass.old }
     ensures lost { OnErr result (follower.new.stamp ≡ None) }
     ensures limit { OnOk result ((2 ≤ limit) × (limit ≤ 65536)) }
@@ -83,7 +83,7 @@ fn call_until<W: Wait>(
     ensures keeps { OnOk result (KeepsUpWith (pass_record pass.new) follower.new) }
     ensures same { IsSameFollower follower.old follower.new }
     ensures fault { IfErr result (IsFaultOf (pass_record pass.new)) }
-    ensures room { IfErr result (λ fault. fault ≡ LiveFault.NoRoom → WantsRoom (pass_record pass.old) (pass_record pass.new) follower.old) }
+    ensures room { IfErr result (λ fault. fault ≡ LiveFault.NoRoom → RunsShort (pass_record pass.old) (pass_record pass.new) follower.old) }
 {
     for _made in 0..limit {
         if let Some(place) = call_once(rt, alloc, desk, pass, follower)? {
