@@ -10,4 +10,5 @@ pub mod Void
 pub mod Left
 pub mod Under
 pub mod ItemCovers
+pub mod Lent
 pub mod CoverLaws

@@ -5,6 +5,7 @@ ghost use Rattle.std.specs.Ordering.{eq_by_cmp};
 ghost use Rattle.ds_names.specs.Key.{key_cmp};
 ghost use Rattle.ds_entry.specs.Covers.{covers as change_covers};
 ghost use Rattle.ds_entry.specs.Item.{IsItem, IsItemInPlace, item_cmp};
+ghost use Rattle.ds_entry.specs.Lent.{item_lent};
 ghost use Rattle.ds_entry.specs.ItemCovers.{covers};
 
 use crate::change::Change;
@@ -18,6 +19,26 @@ use std::cmp::Ordering;
 pub enum Item {
     Change(Change),
     Floor(Floor),
+}
+
+/// An item that is lent.
+#[derive(Clone, Copy)]
+pub enum ItemRef<'a> {
+    Change(&'a Change),
+    Floor(&'a Floor),
+}
+
+impl ItemRef<'_> {
+    /// The item itself. The copy takes memory only for the value of a put, and only for a text or a blob.
+    pub fn copy(self, alloc: Global) -> Result<Item, NoRoom>
+        ensures same { IfOk result (λ item. item ≡ item_lent self.entry) }
+        ensures in_place { IsItemInPlace (item_lent self.entry) → IsOk result }
+    {
+        match self {
+            ItemRef::Change(change) => Ok(Item::Change(change.copy(alloc)?)),
+            ItemRef::Floor(floor) => Ok(Item::Floor(*floor)),
+        }
+    }
 }
 
 impl Item {

@@ -18,7 +18,7 @@ pub use blob::{Blob, BlobFault};
 pub use body::{Body, Value};
 pub use change::{Change, EntryFault};
 pub use floor::Floor;
-pub use item::Item;
+pub use item::{Item, ItemRef};
 pub use items::Items;
 pub use laws::{items_are_ordered, items_cover_one_another};
 pub use text::{Text, TextFault};

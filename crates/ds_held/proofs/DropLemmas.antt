@@ -1,13 +1,14 @@
--- Marks that are dropped in place: those that stay move to the front, and what is behind them is cut off in the end.
-use Rattle.std.proofs.Common.{◌≡◌, ℕ, zero, suc, ◌+◌, ◌<◌, ◌≤◌, List, [], ◌∷◌, ◌++◌, length, get_or, set, take, drop, Bool, true, false, not, cond, Some, append_assoc, append-nil, refl, sym, ap, ◌∙◌, subst, arith}
+-- Changes, and marks beside them, that are dropped in place: those that stay move to the front, and what is behind them is cut off in the end.
+use Rattle.std.proofs.Common.{◌≡◌, ℕ, zero, suc, ◌+◌, ◌<◌, ◌≤◌, List, [], ◌∷◌, ◌++◌, length, get_or, set, take, drop, Bool, true, false, not, cond, ◌&&◌, is_some, Some, append_assoc, append-nil, refl, sym, ap, ◌∙◌, subst, arith}
 use Rattle.std.proofs.lemmas.Option.{same_Some}
 use Rattle.std.proofs.lemmas.List.{take_all}
 use Rattle.std.proofs.lemmas.List.Edits.{swap_is, length-swap}
 use Rattle.std.specs.List.{slice_get, swap}
 use Rattle.ds_entry.specs.Change.{ChangeRecord}
+use Rattle.ds_entry.specs.Left.{value_of}
 use Rattle.ds_entry.specs.Void.{voids}
 use Rattle.ds_entry.specs.declared.floor.Floor.{Floor}
-use Rattle.ds_held.specs.Kept.{marks_left}
+use Rattle.ds_held.specs.Kept.{left_by_floor, marks_left, puts_void_by}
 
 none_and : (n : ℕ) → 0 + n ≡ n
 none_and n = omega arith
@@ -100,6 +101,26 @@ some_at [] i w = absurd (omega (arith, w))
 some_at (x ∷ xs) zero w = (x, refl)
 some_at (x ∷ xs) (suc i) w = some_at xs i (omega (arith, w))
 
+next : (i : ℕ) → suc i ≡ i + 1
+next i = omega arith
+
+none_and' : (n : ℕ) → n ≡ n + 0
+none_and' n = omega arith
+
+at_most_one : (b : Bool) → cond b 1 0 ≤ 1
+at_most_one true = omega arith
+at_most_one false = omega arith
+
+slice_back : {X : Type 0} (xs ys : List X) (n : ℕ) → slice_get (xs ++ ys) (length xs + n) ≡ slice_get ys n
+slice_back [] ys n = ap (slice_get ys) (none_and n)
+slice_back (x ∷ xs) ys n = ap (slice_get (x ∷ (xs ++ ys))) (one_and (length xs) n) ∙ slice_back xs ys n
+
+get_drop : {X : Type 0} (i : ℕ) (xs : List X) → slice_get (drop i xs) 0 ≡ slice_get xs i
+get_drop zero [] = refl
+get_drop zero (x ∷ xs) = refl
+get_drop (suc i) [] = refl
+get_drop (suc i) (x ∷ xs) = get_drop i xs
+
 module _ {M : Type 0} (f : Floor) where
   -- what is left of one more
   left_next : (i : ℕ) (cs : List ChangeRecord) (ms : List M) (c : ChangeRecord) (m : M) → slice_get cs i ≡ Some c → slice_get ms i ≡ Some m → marks_left f (take (suc i) cs) (take (suc i) ms) ≡ marks_left f (take i cs) (take i ms) ++ cond (voids f c) [] (m ∷ [])
@@ -125,6 +146,14 @@ module _ {M : Type 0} (f : Floor) where
   dropping_starts [] (m ∷ ms) = record { others = []; is = refl; here = refl; gap = refl }
   dropping_starts (c ∷ cs) [] = record { others = []; is = refl; here = refl; gap = refl }
   dropping_starts (c ∷ cs) (m ∷ ms) = record { others = []; is = refl; here = refl; gap = refl }
+
+  -- what wasn't looked at stands where it stood
+  pub still : (cs : List ChangeRecord) (ms now : List M) (left i : ℕ) → Dropping cs ms now left i → slice_get now i ≡ slice_get ms i
+  still cs ms now left i d =
+      let front = marks_left f (take i cs) (take i ms) in
+      let behind : i ≡ length (front ++ d.others) + 0 = omega (arith, length_both front d.others, d.here, d.gap) in
+      ap (λ l. slice_get l i) (d.is ∙ sym (append_assoc front d.others (drop i ms))) ∙ ap (slice_get ((front ++ d.others) ++ drop i ms)) behind
+      ∙ slice_back (front ++ d.others) (drop i ms) 0 ∙ get_drop i ms
 
   module _ (cs : List ChangeRecord) (ms now : List M) (left i : ℕ) (d : Dropping cs ms now left i) (c : ChangeRecord) (m : M) (e : slice_get cs i ≡ Some c) (g : slice_get ms i ≡ Some m) where
     abbrev front : List M
@@ -181,18 +210,100 @@ module _ {M : Type 0} (f : Floor) where
       ∙ take_front (marks_left f (take i cs) (take i ms)) (d.others ++ drop i ms)
       ∙ ap (λ l. marks_left f l (take i ms)) (take_all i cs all) ∙ ap (marks_left f cs) (take_all i ms (omega (arith, all, e)))
 
-  -- one more mark, whether it stays or not
-  pub dropping_next : (cs : List ChangeRecord) (ms now : List M) (left i : ℕ) → Dropping cs ms now left i → (c : ChangeRecord) → i < length cs → c ≡ get_or cs i c → length ms ≡ length cs → (v : Bool) → v ≡ voids f c → (then : List M) (more : ℕ)
-      → then ≡ cond (not v) (swap now left i) now → more ≡ cond (not v) (left + 1) left → left ≤ i → length now ≡ length cs → Dropping cs ms then more (i + 1) × (more ≤ i + 1) × (length then ≡ length cs)
-  dropping_next cs ms now left i d c w a e true v then more t l low n =
-      let m = some_at ms i (omega (arith, w, e)) in (
-        subst (λ (k : ℕ). Dropping cs ms then k (i + 1)) (sym l) (subst (λ (x : List M). Dropping cs ms x left (i + 1)) (sym t) (dropping_passes cs ms now left i d c m.0 (read_at cs i c w a) m.1 (sym v))),
-        omega (arith, l, low),
-        ap length t ∙ n,
-      )
-  dropping_next cs ms now left i d c w a e false v then more t l low n =
-      let m = some_at ms i (omega (arith, w, e)) in (
-        subst (λ (k : ℕ). Dropping cs ms then k (i + 1)) (sym l) (subst (λ (x : List M). Dropping cs ms x (left + 1) (i + 1)) (sym t) (dropping_keeps cs ms now left i d c m.0 (read_at cs i c w a) m.1 (sym v))),
-        omega (arith, l, low),
-        ap length t ∙ length-swap now left i ∙ n,
-      )
+module _ (f : Floor) where
+  abbrev is_put_void : ChangeRecord → Bool
+  is_put_void c = voids f c && is_some (value_of c)
+
+  one_put : (b : Bool) (c : ChangeRecord) → length (cond b (c ∷ []) []) ≡ cond b 1 0
+  one_put true c = refl
+  one_put false c = refl
+
+  puts_next : (i : ℕ) (cs : List ChangeRecord) (c : ChangeRecord) → slice_get cs i ≡ Some c
+      → length (puts_void_by f (take (suc i) cs)) ≡ length (puts_void_by f (take i cs)) + cond (is_put_void c) 1 0
+  puts_next i [] c e = absurd (cc)
+  puts_next zero (x ∷ cs) c e =
+      one_put (is_put_void x) x ∙ ap (λ (z : ChangeRecord). cond {A = ℕ} (is_put_void z) 1 0) (same_Some x c e) ∙ sym (none_and (cond (is_put_void c) 1 0))
+  puts_next (suc i) (x ∷ cs) c e =
+      elim (is_put_void x) as (λ v. length (cond v (x ∷ puts_void_by f (take (suc i) cs)) (puts_void_by f (take (suc i) cs)))
+      ≡ length (cond v (x ∷ puts_void_by f (take i cs)) (puts_void_by f (take i cs))) + cond (is_put_void c) 1 0) [
+        | true ↦ omega (arith, puts_next i cs c e)
+        | false ↦ puts_next i cs c e
+      ]
+
+  -- what is left of changes, as if they were marks beside themselves
+  left_themselves : (cs : List ChangeRecord) → marks_left f cs cs ≡ left_by_floor f cs
+  left_themselves [] = refl
+  left_themselves (c ∷ cs) = elim (voids f c) as (λ v. cond v (marks_left f cs cs) (c ∷ marks_left f cs cs) ≡ cond (not v) (c ∷ left_by_floor f cs) (left_by_floor f cs)) [
+    | true ↦ left_themselves cs
+    | false ↦ ap (λ l. c ∷ l) (left_themselves cs)
+  ]
+
+module _ {M : Type 0} (f : Floor) where
+  -- what the walk over both lists keeps: in each those that stay are in front, and the puts that don't are counted
+  pub record Dropped (cs : List ChangeRecord) (ms : List M) (kept : List ChangeRecord) (marks : List M) (left i count : ℕ) : Type 0 where
+    pub changes : Dropping f cs cs kept left i
+    pub beside : Dropping f cs ms marks left i
+    pub low : left ≤ i
+    pub long : length kept ≡ length cs
+    pub each : length marks ≡ length cs
+    pub counted : count ≡ length (puts_void_by f (take i cs))
+    pub few : count ≤ i
+
+  pub dropped_so : (cs : List ChangeRecord) (ms : List M) (kept kept' : List ChangeRecord) (marks marks' : List M) (left left' i count count' : ℕ) → Dropped cs ms kept marks left i count
+      → kept' ≡ kept → marks' ≡ marks → left' ≡ left → count' ≡ count → Dropped cs ms kept' marks' left' i count'
+  dropped_so cs ms kept kept' marks marks' left left' i count count' d a b e g =
+      subst (λ (l : List ChangeRecord). Dropped cs ms l marks' left' i count') (sym a) (subst (λ (l : List M). Dropped cs ms kept l left' i count') (sym b)
+      (subst (λ (n : ℕ). Dropped cs ms kept marks n i count') (sym e) (subst (λ (n : ℕ). Dropped cs ms kept marks left i n) (sym g) d)))
+
+  pub dropped_at_first : (cs : List ChangeRecord) (ms : List M) → length ms ≡ length cs → Dropped cs ms cs ms 0 0 0
+  dropped_at_first cs ms e = record {
+    changes = dropping_starts f cs cs;
+    beside = dropping_starts f cs ms;
+    low = omega arith;
+    long = refl;
+    each = e;
+    counted = refl;
+    few = omega arith;
+  }
+
+  module _ (cs : List ChangeRecord) (ms : List M) (same : length ms ≡ length cs) (kept : List ChangeRecord) (marks : List M) (left i count : ℕ) (d : Dropped cs ms kept marks left i count) (c : ChangeRecord) (within : i < length cs) (at : c ≡ get_or kept i c) where
+    here : slice_get cs i ≡ Some c
+    here = sym (still f cs cs kept left i d.changes) ∙ read_at kept i c (omega (arith, within, d.long)) at
+
+    mark : (m : M) × (slice_get ms i ≡ Some m)
+    mark = some_at ms i (omega (arith, within, same))
+
+    after : length (puts_void_by f (take (i + 1) cs)) ≡ count + cond (is_put_void f c) 1 0
+    after = ap (λ n. length (puts_void_by f (take n cs))) (sym (next i)) ∙ puts_next f i cs c here ∙ ap (λ n. n + cond (is_put_void f c) 1 0) (sym d.counted)
+
+    pub dropped_void : voids f c ≡ true → (n : ℕ) → n ≡ cond (is_some (value_of c)) 1 0 → Dropped cs ms kept marks left (i + 1) (count + n)
+    dropped_void v n e = record {
+      changes = dropping_passes f cs cs kept left i d.changes c c here here v;
+      beside = dropping_passes f cs ms marks left i d.beside c mark.0 here mark.1 v;
+      low = omega (arith, d.low);
+      long = d.long;
+      each = d.each;
+      counted = ap (λ k. count + k) (e ∙ ap (λ b. cond (b && is_some (value_of c)) 1 0) (sym v)) ∙ sym after;
+      few = omega (arith, d.few, e, at_most_one (is_some (value_of c)));
+    }
+
+    pub dropped_kept : voids f c ≡ false → Dropped cs ms (swap kept left i) (swap marks left i) (left + 1) (i + 1) count
+    dropped_kept v = record {
+      changes = dropping_keeps f cs cs kept left i d.changes c c here here v;
+      beside = dropping_keeps f cs ms marks left i d.beside c mark.0 here mark.1 v;
+      low = omega (arith, d.low);
+      long = length-swap kept left i ∙ d.long;
+      each = length-swap marks left i ∙ d.each;
+      counted = none_and' count ∙ ap (λ b. count + cond (b && is_some (value_of c)) 1 0) (sym v) ∙ sym after;
+      few = omega (arith, d.few);
+    }
+
+  module _ (cs : List ChangeRecord) (ms : List M) (same : length ms ≡ length cs) (kept : List ChangeRecord) (marks : List M) (left i count : ℕ) (d : Dropped cs ms kept marks left i count) (all : length cs ≤ i) where
+    pub dropped_changes : take left kept ≡ left_by_floor f cs
+    dropped_changes = dropping_ends f cs cs kept left i d.changes all refl ∙ left_themselves f cs
+
+    pub dropped_marks : take left marks ≡ marks_left f cs ms
+    dropped_marks = dropping_ends f cs ms marks left i d.beside all same
+
+    pub dropped_count : count ≡ length (puts_void_by f cs)
+    dropped_count = d.counted ∙ ap (λ l. length (puts_void_by f l)) (take_all i cs all)

@@ -9,5 +9,6 @@ pub mod JoinLemmas
 pub mod LeftLemmas
 pub mod KeptLemmas
 pub mod FloorLemmas
+pub mod BesideLemmas
 pub mod DropLemmas
 pub mod MemoryLemmas

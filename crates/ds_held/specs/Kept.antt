@@ -1,5 +1,5 @@
 -- How lists of floors and changes are seen as a holding.
-use Rattle.std.specs.Prelude.{◌≡◌, if◌then◌else◌, ℕ, ◌<◌, ◌≤◌, List, [], ◌∷◌, map, filter, not, length, All, Option, Result, Ok, Err, slice_set}
+use Rattle.std.specs.Prelude.{◌≡◌, if◌then◌else◌, ℕ, ◌<◌, ◌≤◌, ◌&&◌, List, [], ◌∷◌, map, filter, not, length, All, Option, is_some, Result, Ok, Err, MatchResult, ⊤, slice_set}
 use Rattle.std.specs.List.{insert, HoldsAt}
 use Rattle.std.specs.List.Sorted.{IsPartitionPoint}
 use Rattle.std.specs.declared.cmp.Ordering.{Ordering}
@@ -9,6 +9,7 @@ use lib.Dec.{T}
 use Rattle.ds_names.specs.declared.key.Key.{Key}
 use Rattle.ds_names.specs.Key.{name_cmp, key_cmp}
 use Rattle.ds_entry.specs.Change.{ChangeRecord, IsChange}
+use Rattle.ds_entry.specs.Left.{value_of}
 use Rattle.ds_entry.specs.Void.{voids}
 use Rattle.ds_entry.specs.declared.floor.Floor.{Floor}
 use Rattle.ds_entry.specs.declared.item.Item.{Item}
@@ -80,13 +81,21 @@ IsPlace changes key place = IsPlaceOf key_cmp (λ (c : ChangeRecord). c.key) cha
 abbrev pub IsFloorPlace : List Floor → List ℕ → Result ℕ ℕ → Type 0
 IsFloorPlace floors owner place = IsPlaceOf name_cmp (λ (f : Floor). f.owner) floors owner place
 
+-- the place is one of an element, or of one more, in a list of this length
+abbrev pub IsWithin : Result ℕ ℕ → ℕ → Type 0
+IsWithin place len = MatchResult place (λ i. i < len) (λ i. i ≤ len)
+
+-- nothing stands at the place
+abbrev pub IsGap : Result ℕ ℕ → Type 0
+IsGap place = MatchResult place (λ i. ⊥) (λ i. ⊤)
+
 -- the list with the element at that place
 module _ {X : Type 0} where
   abbrev pub put_at : List X → Result ℕ ℕ → X → List X
   put_at xs (Ok i) x = slice_set xs i x
   put_at xs (Err i) x = insert xs i x
 
--- an element came to its place: it was taken, or memory for one more was wanting
+-- a change that is to be taken came to its place: it was, or memory for one more was wanting
 abbrev pub IsPut : Result ℕ ℕ → Result Merge JoinFault → Type 0
 IsPut place (Ok Taken) = Unit {0}
 IsPut place (Ok Known) = ⊥
@@ -108,6 +117,10 @@ module _ {X : Type 0} where
 -- the changes that the floor doesn't make void
 abbrev pub left_by_floor : Floor → List ChangeRecord → List ChangeRecord
 left_by_floor f changes = filter (λ (c : ChangeRecord). not (voids f c)) changes
+
+-- the puts among those that it makes void
+abbrev pub puts_void_by : Floor → List ChangeRecord → List ChangeRecord
+puts_void_by f changes = filter (λ (c : ChangeRecord). voids f c && is_some (value_of c)) changes
 
 -- the marks beside the changes that the floor doesn't make void
 module _ {M : Type 0} where

@@ -1,9 +1,10 @@
 //! Holders of changes and floors.
 
 ghost use Rattle.std.specs.Prelude.{◌≡◌, ◌≤◌, ◌++◌, ◌∷◌, [], All, IfOk, IfErr, IfSome, OnOk, filter, option_and_then, slice_get, take};
-ghost use Rattle.std.specs.Option.{option_copied};
+ghost use Rattle.std.specs.Option.{option_copied, option_map};
 ghost use Rattle.std.specs.List.{find};
 ghost use Rattle.ds_entry.specs.Change.{IsChange, IsValue};
+ghost use Rattle.ds_entry.specs.Lent.{item_lent};
 ghost use Rattle.ds_entry.specs.declared.item.Item.TheVariants.{Change as Changed, Floor as Floored};
 ghost use Rattle.ds_join.specs.Reading.{comes_after};
 ghost use Rattle.ds_join.specs.ItemTop.{IsTop};
@@ -21,9 +22,9 @@ use crate::join::join_into;
 use crate::limits::Limits;
 use crate::list::{merge_copy, merge_into};
 use crate::order::{behind, change_at, first_of, nth};
-use crate::reading::copy_all;
+use crate::reading::{copy_all, item_at};
 use crate::void::raise_into;
-use ds_entry::{Body, Change, Floor, Items, Value};
+use ds_entry::{Body, Change, Floor, ItemRef, Items, Value};
 use ds_join::{JoinFault, Merge, Stop};
 use ds_names::{Generation, Key, Name, NoRoom};
 use std::alloc::Global;
@@ -177,6 +178,14 @@ impl Held {
         ensures { result.now ≡ filter (comes_after (option_copied after.entry)) (held_changes self.now) }
     {
         behind(&self.changes, after)
+    }
+
+    /// The item at an index from 0: floors first, in the order of their owners' names, and then changes in the order of the keys.
+    /// `None` behind the last one.
+    pub fn item_at(&self, index: usize) -> Option<ItemRef<'_>>
+        ensures { option_map item_lent result ≡ slice_get (held_items self.now) index }
+    {
+        item_at(&self.floors, &self.changes, index)
     }
 
     /// All that is held: the floors by the names of their owners, and then the changes in the order of the keys.

@@ -1,8 +1,8 @@
 //! Merging into a list of changes in the order of their keys, over floors.
 
-ghost use Rattle.std.specs.Prelude.{◌≡◌, ◌≤◌, Ok, IfErr, OnOk, vec_len};
+ghost use Rattle.std.specs.Prelude.{◌≡◌, ◌≤◌, Ok, IfErr, OnOk, OnErr, length};
 ghost use Rattle.ds_entry.specs.Change.{IsChange};
-ghost use Rattle.ds_held.specs.Kept.{holding_of, left_by_floor, list_after, put_at, AreKept, IsPlace, IsPut};
+ghost use Rattle.ds_held.specs.Kept.{holding_of, left_by_floor, list_after, put_at, AreKept, IsGap, IsPlace, IsPut, IsWithin};
 ghost use Rattle.ds_held.specs.Merge.{after_merge, AnswersHeld, AnswersNew, AnswersOwn, IsMergeRefused, MergeAnswer, UnlessVoid};
 
 use crate::floors::is_void;
@@ -58,7 +58,7 @@ fn judge_new(count: usize, most: usize, is_void: bool) -> Result<Merge, JoinFaul
 }
 
 // What a change, whose place is told, is answered, where there is memory for it.
-pub(crate) fn outlook(
+fn outlook(
     floors: &[Floor],
     changes: &[Change],
     limits: Limits,
@@ -76,8 +76,26 @@ pub(crate) fn outlook(
     }
 }
 
-// Puts a change at its place. In the place of another one it takes no memory.
-pub(crate) fn put(
+// Puts an element at its place in a list. In the place of another one it takes no memory.
+pub(crate) fn put<T: Drop>(
+    list: &mut Vec<T>,
+    place: Result<usize, usize>,
+    element: T,
+) -> Result<(), NoRoom>
+    requires { IsWithin place (length list.old.items) }
+    ensures put { OnOk result (list.new.items ≡ put_at list.old.items place element) }
+    ensures same { OnErr result (list.new.items ≡ list.old.items) }
+    ensures gap { OnErr result (IsGap place) }
+{
+    match place {
+        Ok(i) => list[i] = element,
+        Err(i) => list.insert(i, element)?,
+    }
+    Ok(())
+}
+
+// Puts a change that is to be taken at its place.
+fn take(
     changes: &mut Vec<Change>,
     place: Result<usize, usize>,
     change: Change,
@@ -88,15 +106,9 @@ pub(crate) fn put(
     ensures change { IsChange change }
 {
     let _key = change.key();
-    match place {
-        Ok(i) => {
-            changes[i] = change;
-            Ok(Merge::Taken)
-        }
-        Err(i) => match changes.insert(i, change) {
-            Ok(()) => Ok(Merge::Taken),
-            Err(_) => Err(JoinFault::NoRoom),
-        },
+    match put(changes, place, change) {
+        Ok(()) => Ok(Merge::Taken),
+        Err(NoRoom) => Err(JoinFault::NoRoom),
     }
 }
 
@@ -116,7 +128,7 @@ pub(crate) fn merge_into(
 {
     let place = place_of(changes, change.key());
     match outlook(floors, changes, limits, place, &change)? {
-        Merge::Taken => put(changes, place, change),
+        Merge::Taken => take(changes, place, change),
         other => Ok(other),
     }
 }
@@ -139,7 +151,7 @@ pub(crate) fn merge_copy(
     let place = place_of(changes, change.key());
     match outlook(floors, changes, limits, place, change)? {
         Merge::Taken => match change.copy(alloc) {
-            Ok(copy) => put(changes, place, copy),
+            Ok(copy) => take(changes, place, copy),
             Err(NoRoom) => Err(JoinFault::NoRoom),
         },
         other => Ok(other),

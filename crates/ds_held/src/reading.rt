@@ -1,12 +1,29 @@
-//! Copies of all that is held.
+//! What is held, item by item, and copies of all of it.
 
-ghost use Rattle.std.specs.Prelude.{◌≡◌, ◌++◌, map, IfOk, OnOk};
+ghost use Rattle.std.specs.Prelude.{◌≡◌, ◌++◌, map, slice_get, IfOk, OnOk};
+ghost use Rattle.std.specs.Option.{option_map};
+ghost use Rattle.ds_entry.specs.Lent.{item_lent};
 ghost use Rattle.ds_held.specs.Held.{change_item};
 ghost use Rattle.ds_held.specs.Kept.{floored};
 
-use ds_entry::{Change, Floor, Item, Items};
+use ds_entry::{Change, Floor, Item, ItemRef, Items};
 use ds_names::NoRoom;
 use std::alloc::Global;
+
+// The item at an index, the floors first.
+pub(crate) fn item_at<'a>(
+    floors: &'a [Floor],
+    changes: &'a [Change],
+    index: usize,
+) -> Option<ItemRef<'a>>
+    ensures { option_map item_lent result ≡ slice_get (map floored floors.now ++ map change_item changes.now) index }
+{
+    if index < floors.len() {
+        return Some(ItemRef::Floor(&floors[index]));
+    }
+    let change = changes.get(index - floors.len())?;
+    Some(ItemRef::Change(change))
+}
 
 // Adds the floors to a list of items.
 fn add_floors(items: &mut Items, floors: &[Floor]) -> Result<(), NoRoom>

@@ -1,21 +1,21 @@
-//! What a holder gives those that keep marks beside it: places in its lists, and the steps of a merge and of a raised floor.
+//! What a holder gives those that keep marks beside it, and judge before they ask: places in its lists, and the steps of a merge
+//! and of a raised floor.
 
-ghost use Rattle.std.specs.Prelude.{◌≡◌, length, Ok};
+ghost use Rattle.std.specs.Prelude.{◌≡◌, length, Ok, None, IfOk, OnOk, OnErr};
 ghost use Rattle.ds_entry.specs.Change.{IsChange};
 ghost use Rattle.ds_join.specs.declared.merge.Merge.TheVariants.{Taken};
-ghost use Rattle.ds_held.specs.Held.{held_changes, held_floors, IsSound};
-ghost use Rattle.ds_held.specs.Kept.{left_by_floor, list_after, marks_left, put_at, IsFloorPlace, IsPlace, IsPut};
+ghost use Rattle.ds_held.specs.Held.{floor_for, held_changes, held_floors, held_for, IsSound};
+ghost use Rattle.ds_held.specs.Kept.{left_by_floor, marks_left, put_at, puts_void_by, IsFloorPlace, IsPlace};
 ghost use Rattle.ds_held.specs.Merge.{after_merge, MergeAnswer};
 ghost use Rattle.ds_held.specs.Raise.{after_raise, RaiseAnswer};
 
 use super::Held;
 use crate::floors;
-use crate::list::{outlook, put};
+use crate::list::put;
 use crate::order::place_of;
-use crate::void::raise_beside;
+use crate::void::raise_at;
 use ds_entry::{Change, Floor};
-use ds_join::{JoinFault, Merge};
-use ds_names::{Key, Name};
+use ds_names::{Key, Name, NoRoom};
 
 impl Held {
     /// Where the change of a key stands, by an index from 0 in the order of the keys, or else where it would. One search finds
@@ -26,27 +26,20 @@ impl Held {
         place_of(&self.changes, key)
     }
 
-    /// What [`Held::merge`] answers a change whose place is told, where there is memory for it. It takes none, and changes
-    /// nothing.
-    pub fn outlook(&self, place: Result<usize, usize>, change: &Change) -> Result<Merge, JoinFault>
-        requires { IsPlace (held_changes self.now) change.now.key place }
-        ensures { MergeAnswer self.now change.now result }
-    {
-        outlook(&self.floors, &self.changes, self.limits, place, change)
-    }
-
-    /// Puts a change that is to be taken at its place, as [`Held::outlook`] tells it. All else stays.
+    /// Puts a change that is to be taken at its place: what [`Held::merge`] would answer was judged before. All else stays.
     ///
     /// It takes memory only for a key that isn't held, and only for want of it is the change refused; then nothing changes.
-    pub fn put(&mut self, place: Result<usize, usize>, change: Change) -> Result<Merge, JoinFault>
+    pub fn put(&mut self, place: Result<usize, usize>, change: Change) -> Result<(), NoRoom>
         requires place { IsPlace (held_changes self.old) change.key place }
         requires taken { MergeAnswer self.old change (Ok Taken) }
-        ensures put { IsPut place result }
-        ensures after { self.new ≡ after_merge self.old change result }
-        ensures list { held_changes self.new ≡ list_after (held_changes self.old) (put_at (held_changes self.old) place change) result }
+        ensures after { OnOk result (self.new ≡ after_merge self.old change (Ok Taken)) }
+        ensures list { OnOk result (held_changes self.new ≡ put_at (held_changes self.old) place change) }
+        ensures same { OnErr result (self.new ≡ self.old) }
+        ensures new { OnErr result (held_for self.old change.key ≡ None) }
         ensures sound { IsSound self.new }
         ensures change { IsChange change }
     {
+        let _key = change.key();
         put(&mut self.changes, place, change)
     }
 
@@ -58,28 +51,30 @@ impl Held {
         floors::place_of(&self.floors, owner)
     }
 
-    /// Raises the floor of an owner, as [`Held::raise`] does, and drops from a list beside the changes what stands beside the
-    /// dropped ones. The others in the list stay, in their order.
+    /// Puts a floor that is to be taken at its owner's place, and drops what it makes void: what [`Held::raise`] would answer was
+    /// judged before. From a list beside the changes it drops what stands beside the dropped ones; the others in the list stay, in
+    /// their order. It tells how many puts it dropped.
     ///
-    /// It takes memory only for an owner who has no floor. A refusal changes neither what is held nor the list.
-    pub fn raise_beside<M: Drop>(
+    /// It takes memory only for an owner who has no floor, and only for want of it is the floor refused; then neither what is held
+    /// nor the list changes.
+    pub fn raise_at<M: Drop>(
         &mut self,
-        marks: &mut Vec<M>,
+        place: Result<usize, usize>,
         floor: Floor,
-    ) -> Result<Merge, JoinFault>
-        requires { length marks.old.items ≡ length (held_changes self.old) }
-        ensures answer { RaiseAnswer self.old floor result }
-        ensures after { self.new ≡ after_raise self.old floor result }
-        ensures list { held_changes self.new ≡ list_after (held_changes self.old) (left_by_floor floor (held_changes self.old)) result }
-        ensures marks { marks.new.items ≡ list_after marks.old.items (marks_left floor (held_changes self.old) marks.old.items) result }
+        marks: &mut Vec<M>,
+    ) -> Result<usize, NoRoom>
+        requires place { IsFloorPlace (held_floors self.old) floor.owner place }
+        requires taken { RaiseAnswer self.old floor (Ok Taken) }
+        requires beside { length marks.old.items ≡ length (held_changes self.old) }
+        ensures after { OnOk result (self.new ≡ after_raise self.old floor (Ok Taken)) }
+        ensures list { OnOk result (held_changes self.new ≡ left_by_floor floor (held_changes self.old)) }
+        ensures marks { OnOk result (marks.new.items ≡ marks_left floor (held_changes self.old) marks.old.items) }
+        ensures count { IfOk result (λ count. count ≡ length (puts_void_by floor (held_changes self.old))) }
+        ensures same { OnErr result (self.new ≡ self.old) }
+        ensures same_marks { OnErr result (marks.new.items ≡ marks.old.items) }
+        ensures new { OnErr result (floor_for self.old floor.owner ≡ None) }
         ensures sound { IsSound self.new }
     {
-        raise_beside(
-            &mut self.floors,
-            &mut self.changes,
-            marks,
-            self.limits,
-            floor,
-        )
+        raise_at(&mut self.floors, &mut self.changes, marks, place, floor)
     }
 }

@@ -1,0 +1,14 @@
+use Rattle.std.proofs.Common.{◌++◌, map, sym, ap, ◌∙◌}
+use Rattle.std.specs.List.{slice_get}
+use Rattle.ds_held.specs.Held.{Holding, held_items, change_item}
+use Rattle.ds_held.specs.Kept.{floored}
+use Rattle.ds_held.proofs.KeptLemmas.{items_are}
+use Rattle.ds_held.proofs.held.Held.item_at.Goals as goal
+
+pub returns : goal.returns
+returns c =
+    c.item_at.ensures ∙ ap (λ l. slice_get (map floored l ++ map change_item c.deref-2.result.now) c.args.index) c.deref.ensures.value
+    ∙ ap (λ l. slice_get (map floored c.self.inside.floors.items ++ map change_item l) c.args.index) c.deref-2.ensures.value
+    ∙ ap (λ l. slice_get l c.args.index)
+    (sym (items_are c.self.inside.floors.items c.self.inside.changes.items c.self.inside.limits c.self.invariant.owners c.self.invariant.keys))
+    ∙ ap (λ (h : Holding). slice_get (held_items h) c.args.index) c.self.view_is
