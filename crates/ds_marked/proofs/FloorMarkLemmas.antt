@@ -12,18 +12,14 @@ use lib.Dec.{T}
 use Rattle.ds_names.specs.Key.{name_cmp}
 use Rattle.ds_entry.specs.Change.{ChangeRecord}
 use Rattle.ds_entry.specs.declared.floor.Floor.{Floor}
-use Rattle.ds_join.specs.declared.merge.Merge.{Merge}
-use Rattle.ds_join.specs.declared.merge.Merge.TheVariants.{Taken, Known, Stale}
-use Rattle.ds_join.specs.declared.merge.JoinFault.{JoinFault}
-use Rattle.ds_join.specs.declared.merge.JoinFault.TheVariants.{NoRoom}
+use Rattle.ds_join.specs.declared.merge.Merge.TheVariants.{Taken}
 use Rattle.ds_held.specs.Limits.{LimitsRecord}
 use Rattle.ds_held.specs.Held.{Holding, held_changes, held_floors, floor_for, floor_count, nothing_held}
-use Rattle.ds_held.specs.Merge.{after_merge}
-use Rattle.ds_held.specs.Raise.{AnswersFloor, RaiseAnswer, after_raise}
-use Rattle.ds_held.specs.Kept.{owned, by_owner, floors_map, AreOwnersRising, IsFloorPlace, IsPut, put_at, list_after}
+use Rattle.ds_held.specs.Raise.{after_raise}
+use Rattle.ds_held.specs.Kept.{owned, by_owner, floors_map, AreOwnersRising, IsFloorPlace, IsGap, put_at}
 use Rattle.ds_held.proofs.PlaceLemmas.{put_there, get_none}
 use Rattle.ds_held.proofs.FloorLemmas.{floor_from, owned_back, floors_back, floors_are}
-use Rattle.ds_marked.specs.Marked.{MarkedHolding, nothing_marked, floor_marks_after, floor_remarked}
+use Rattle.ds_marked.specs.Marked.{MarkedHolding, nothing_marked, floor_remarked}
 use Rattle.ds_marked.specs.Beside.{marks_beside, marked_owners, marks_beside_floors, IsBesideFloors}
 use Rattle.ds_marked.proofs.RowMarkLemmas.{place_from_get, find_mark, marked_too, marks_put, each_put, marks_at, marks_past}
 use Rattle.ds_marked.proofs.MarkLemmas.{marks_nothing}
@@ -42,40 +38,23 @@ module _ (h : Holding) where
   pub floor_missing : (owner : List ℕ) (i : ℕ) → IsFloorPlace (held_floors h) owner (Err i) → floor_for h owner ≡ None
   floor_missing owner i p = ap (λ (m : FinMap name_cmp ℕ). get m owner) (sym floors_held) ∙ get_none name_cmp nat_list_cmp_total exact_bytes owned (held_floors h) owner i p
 
-  -- a merge leaves the floors
-  pub merge_leaves : (c : ChangeRecord) (r : Result Merge JoinFault) → held_floors (after_merge h c r) ≡ held_floors h
-  merge_leaves c (Ok Taken) = refl
-  merge_leaves c (Ok Known) = refl
-  merge_leaves c (Ok Stale) = refl
-  merge_leaves c (Err fault) = refl
-
   -- a floor that is taken stands at its place
-  module _ (f : Floor) (place : Result ℕ ℕ) (at : IsFloorPlace (held_floors h) f.owner place) where
-    pub raise_puts : (r : Result Merge JoinFault) → held_floors (after_raise h f r) ≡ list_after (held_floors h) (put_at (held_floors h) place f) r
-    raise_puts (Ok Taken) =
-        ap (λ es. map floor_from es)
-        (entries-insert nat_list_cmp_total h.floors f.owner f.generation ∙ ap (put name_cmp f.owner f.generation) (sym own_floors)
-        ∙ sym (put_there name_cmp nat_list_cmp_total exact_bytes owned (held_floors h) f place rising_floors at))
-        ∙ floors_back (put_at (held_floors h) place f)
-    raise_puts (Ok Known) = refl
-    raise_puts (Ok Stale) = refl
-    raise_puts (Err fault) = refl
+  pub raise_puts : (f : Floor) (place : Result ℕ ℕ) → IsFloorPlace (held_floors h) f.owner place → held_floors (after_raise h f (Ok Taken)) ≡ put_at (held_floors h) place f
+  raise_puts f place at =
+      ap (λ es. map floor_from es)
+      (entries-insert nat_list_cmp_total h.floors f.owner f.generation ∙ ap (put name_cmp f.owner f.generation) (sym own_floors)
+      ∙ sym (put_there name_cmp nat_list_cmp_total exact_bytes owned (held_floors h) f place rising_floors at))
+      ∙ floors_back (put_at (held_floors h) place f)
 
-    -- no room for a mark is told of the floor of a new owner alone, and where there may be one more
-    pub raise_wants : floor_count h < 64 → IsPut place (Err NoRoom) → RaiseAnswer h f (Err NoRoom)
-    raise_wants = by_place place at
-      where
-        by_place : (p : Result ℕ ℕ) → IsFloorPlace (held_floors h) f.owner p → floor_count h < 64 → IsPut p (Err NoRoom) → RaiseAnswer h f (Err NoRoom)
-        by_place (Ok i) at few put = absurd put
-        by_place (Err i) at few put = subst (λ o. AnswersFloor o (floor_count h) f.generation (Err NoRoom)) (sym (floor_missing f.owner i at)) few
+  pub floor_room_there : (owner : List ℕ) (place : Result ℕ ℕ) (n cap : ℕ) → IsFloorPlace (held_floors h) owner place → n ≡ length (held_floors h) → MatchResult place (λ i. ⊤) (λ i. n < cap)
+      → MatchResult place (λ i. i < n) (λ i. (i ≤ n) × (n < cap))
+  floor_room_there owner (Ok i) n cap at e w = omega (arith, at.0, e)
+  floor_room_there owner (Err i) n cap at e w = (omega (arith, at.0, e), w)
 
-    -- where a floor is taken there is room for its mark
-    pub room_for_floor : (n cap : ℕ) → n ≡ length (held_floors h) → RaiseAnswer h f (Ok Taken) → (floor_count h < 64 → MatchResult place (λ i. ⊤) (λ i. n < cap)) → MatchResult place (λ i. i < n) (λ i. (i ≤ n) × (n < cap))
-    room_for_floor n cap e a room = by_place place at room
-      where
-        by_place : (p : Result ℕ ℕ) → IsFloorPlace (held_floors h) f.owner p → (floor_count h < 64 → MatchResult p (λ i. ⊤) (λ i. n < cap)) → MatchResult p (λ i. i < n) (λ i. (i ≤ n) × (n < cap))
-        by_place (Ok i) at room = omega (arith, at.0, e)
-        by_place (Err i) at room = (omega (arith, at.0, e), room (subst (λ o. AnswersFloor o (floor_count h) f.generation (Ok Taken)) (floor_missing f.owner i at) a))
+  -- where nothing stands at an owner's place, the owner has no floor
+  pub gap_has_no_floor : (owner : List ℕ) (place : Result ℕ ℕ) → IsFloorPlace (held_floors h) owner place → IsGap place → floor_for h owner ≡ None
+  gap_has_no_floor owner (Ok i) at gap = absurd gap
+  gap_has_no_floor owner (Err i) at gap = floor_missing owner i at
 
 -- ---- what is found beside an owner
 module _ {M : Type 0} (h : Holding) (ms : List M) (beside : IsBesideFloors h ms) where
@@ -114,39 +93,17 @@ module _ {M : Type 0} (h : Holding) (ms : List M) (beside : IsBesideFloors h ms)
       by_found (Some f) q = marks_at name_cmp nat_list_cmp_total exact_bytes owned (held_floors h) ms i f m (rising_floors h) beside q
 
   -- ---- what a raised floor and its mark leave
-  module _ (f : Floor) (place : Result ℕ ℕ) (at : IsFloorPlace (held_floors h) f.owner place) (m : M) where
-    raised_each : (r : Result Merge JoinFault) → length (list_after ms (put_at ms place m) r) ≡ length (list_after (held_floors h) (put_at (held_floors h) place f) r)
-    raised_each (Ok Taken) = each_put name_cmp nat_list_cmp_total exact_bytes owned (held_floors h) ms f m place beside at
-    raised_each (Ok Known) = beside
-    raised_each (Ok Stale) = beside
-    raised_each (Err fault) = beside
+  module _ (f : Floor) (place : Result ℕ ℕ) (at : IsFloorPlace (held_floors h) f.owner place) (m : M) (new : Holding) (ns : List M) (after : new ≡ after_raise h f (Ok Taken)) (marks : ns ≡ put_at ms place m) where
+    list : held_floors new ≡ put_at (held_floors h) place f
+    list = ap (λ (x : Holding). held_floors x) after ∙ raise_puts h f place at
 
-    raised_marks : (r : Result Merge JoinFault) → marks_beside_floors (list_after (held_floors h) (put_at (held_floors h) place f) r) (list_after ms (put_at ms place m) r) ≡ floor_marks_after (marks_beside_floors (held_floors h) ms) f.owner m r
-    raised_marks (Ok Taken) = marks_put name_cmp nat_list_cmp_total exact_bytes owned (held_floors h) ms f m place (rising_floors h) beside at
-    raised_marks (Ok Known) = refl
-    raised_marks (Ok Stale) = refl
-    raised_marks (Err fault) = refl
+    pub floor_beside_raised : IsBesideFloors new ns
+    floor_beside_raised = ap length marks ∙ each_put name_cmp nat_list_cmp_total exact_bytes owned (held_floors h) ms f m place beside at ∙ sym (ap length list)
 
-    module _ (r : Result Merge JoinFault) (new : Holding) (ns : List M) (after : new ≡ after_raise h f r) (marks : ns ≡ list_after ms (put_at ms place m) r) where
-      list : held_floors new ≡ list_after (held_floors h) (put_at (held_floors h) place f) r
-      list = ap (λ (x : Holding). held_floors x) after ∙ raise_puts h f place at r
-
-      pub floor_beside_raised : IsBesideFloors new ns
-      floor_beside_raised = ap length marks ∙ raised_each r ∙ sym (ap length list)
-
-      pub floor_marks_raised : marks_beside_floors (held_floors new) ns ≡ floor_marks_after (marks_beside_floors (held_floors h) ms) f.owner m r
-      floor_marks_raised = ap (λ l. marks_beside_floors l ns) list ∙ ap (marks_beside_floors (list_after (held_floors h) (put_at (held_floors h) place f) r)) marks ∙ raised_marks r
-
-  -- ---- what a merge leaves
-  module _ (c : ChangeRecord) (r : Result Merge JoinFault) (new : Holding) (after : new ≡ after_merge h c r) where
-    same : held_floors new ≡ held_floors h
-    same = ap (λ (x : Holding). held_floors x) after ∙ merge_leaves h c r
-
-    pub floor_beside_merged : IsBesideFloors new ms
-    floor_beside_merged = beside ∙ sym (ap length same)
-
-    pub floor_marks_merged : marks_beside_floors (held_floors new) ms ≡ marks_beside_floors (held_floors h) ms
-    floor_marks_merged = ap (λ l. marks_beside_floors l ms) same
+    pub floor_marks_raised : marks_beside_floors (held_floors new) ns ≡ finite.insert (marks_beside_floors (held_floors h) ms) f.owner m
+    floor_marks_raised =
+        ap (λ l. marks_beside_floors l ns) list ∙ ap (marks_beside_floors (put_at (held_floors h) place f)) marks
+        ∙ marks_put name_cmp nat_list_cmp_total exact_bytes owned (held_floors h) ms f m place (rising_floors h) beside at
 
 -- ---- nothing
 module _ (lim : LimitsRecord) (h : Holding) (e : h ≡ nothing_held lim) where

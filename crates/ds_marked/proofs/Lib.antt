@@ -2,3 +2,4 @@ pub mod LeftMarkLemmas
 pub mod RowMarkLemmas
 pub mod MarkLemmas
 pub mod FloorMarkLemmas
+pub mod PutLemmas

@@ -2,7 +2,7 @@
 use Rattle.std.proofs.Common.{◌≡◌, ℕ, ◌<◌, ◌≤◌, List, [], ◌∷◌, length, set, map, true, false, cond, Option, Some, None, is_some, Result, Ok, Err, refl, sym, ap, ◌∙◌, subst, arith, length-set}
 use Rattle.std.specs.List.{slice_get}
 use Rattle.std.specs.Option.{option_map, IfSome}
-use Rattle.std.specs.Result.{MatchResult}
+use Rattle.std.specs.Result.{MatchResult, OnErr}
 use Rattle.std.specs.Prelude.{⊤}
 use Rattle.std.specs.Ordering.{eq_by_cmp, is_eq}
 use Rattle.std.specs.Cmp.{tied_itself}
@@ -15,18 +15,13 @@ use Rattle.ds_names.specs.Key.{key_cmp}
 use Rattle.ds_names.proofs.OrderLemmas.{keys_total, exact_keys}
 use Rattle.ds_entry.specs.Change.{ChangeRecord}
 use Rattle.ds_entry.specs.declared.floor.Floor.{Floor}
-use Rattle.ds_join.specs.declared.merge.Merge.{Merge}
-use Rattle.ds_join.specs.declared.merge.Merge.TheVariants.{Taken, Known, Stale}
-use Rattle.ds_join.specs.declared.merge.JoinFault.{JoinFault}
-use Rattle.ds_join.specs.declared.merge.JoinFault.TheVariants.{NotOwner, Clash, Full, NoRoom}
 use Rattle.ds_held.specs.Limits.{LimitsRecord}
 use Rattle.ds_held.specs.Held.{Holding, held_changes, held_for, held_count, nothing_held, is_void_at, IsSound}
-use Rattle.ds_held.specs.Merge.{AnswersFor, MergeAnswer}
 use Rattle.ds_held.specs.Raise.{at_kept_keys}
-use Rattle.ds_held.specs.Kept.{keyed, by_key, changes_map, AreKeysRising, IsPlace, IsPut, put_at, list_after, left_by_floor, marks_left}
+use Rattle.ds_held.specs.Kept.{keyed, by_key, changes_map, AreKeysRising, IsGap, IsPlace, put_at, left_by_floor, marks_left}
 use Rattle.ds_held.proofs.EntryLemmas.{unlike}
-use Rattle.ds_held.proofs.KeptLemmas.{change_there, change_none, changes_are, kept_nothing, none_more}
-use Rattle.ds_marked.specs.Marked.{marks_after, marks_raised, remarked}
+use Rattle.ds_held.proofs.KeptLemmas.{change_there, change_none, changes_are, kept_nothing}
+use Rattle.ds_marked.specs.Marked.{remarked}
 use Rattle.ds_marked.specs.Beside.{marked_keys, marks_beside, IsBeside}
 use Rattle.ds_marked.proofs.RowMarkLemmas.{place_from_get, find_mark, marked_too, marks_put, each_put, marks_at, marks_past}
 use Rattle.ds_marked.proofs.LeftMarkLemmas.{marks_are_left, each_left}
@@ -68,19 +63,15 @@ module _ (h : Holding) (sound : IsSound h) where
   pub held_missing : (key : Key) (i : ℕ) → IsPlace (held_changes h) key (Err i) → held_for h key ≡ None
   held_missing key i p = ap (λ (m : FinMap key_cmp ChangeRecord). get m key) (sym changes_held) ∙ change_none (held_changes h) key i p
 
-  -- a change that is to be taken comes to its place, or memory for one more is wanting
-  pub put_answers : (c : ChangeRecord) (place : Result ℕ ℕ) (r : Result Merge JoinFault) → IsPlace (held_changes h) c.key place → MergeAnswer h c (Ok Taken) → IsPut place r → MergeAnswer h c r
-  put_answers c place (Ok Taken) p a put = a
-  put_answers c place (Ok Known) p a put = absurd put
-  put_answers c place (Ok Stale) p a put = absurd put
-  put_answers c (Ok i) (Err fault) p a put = absurd put
-  put_answers c (Err i) (Err NotOwner) p a put = absurd put
-  put_answers c (Err i) (Err (Clash v)) p a put = absurd put
-  put_answers c (Err i) (Err Full) p a put = absurd put
-  put_answers c (Err i) (Err NoRoom) p a put =
-      let none = held_missing c.key i p in
-      subst (λ o. AnswersFor o (is_void_at h c) (held_count h) h.limits.keys c (Err NoRoom)) (sym none)
-      (none_more (is_void_at h c) (held_count h) h.limits.keys c (subst (λ o. AnswersFor o (is_void_at h c) (held_count h) h.limits.keys c (Ok Taken)) none a))
+  -- where nothing stands at a key's place, nothing is held for the key
+  pub gap_missing : (key : Key) (place : Result ℕ ℕ) → IsPlace (held_changes h) key place → IsGap place → held_for h key ≡ None
+  gap_missing key (Ok i) p gap = absurd gap
+  gap_missing key (Err i) p gap = held_missing key i p
+
+-- what holds holds of a refusal
+pub of_refusal : {U E P : Type 0} (r : Result U E) → P → OnErr r P
+of_refusal (Ok u) p = tt
+of_refusal (Err e) p = p
 
 -- ---- what is found beside a key
 module _ {M : Type 0} where
@@ -115,49 +106,31 @@ module _ {M : Type 0} where
     pub beside_set : (i : ℕ) (m : M) → IsBeside h (set ms i m)
     beside_set i m = record { sound = beside.sound; each = omega (arith, length-set ms i m, beside.each) }
 
--- ---- what a merge of a change and its mark leaves
-module _ {M : Type 0} (h : Holding) (ms : List M) (beside : IsBeside h ms) (c : ChangeRecord) (place : Result ℕ ℕ) (at : IsPlace (held_changes h) c.key place) (m : M) where
-  merged_each : (r : Result Merge JoinFault) → length (list_after ms (put_at ms place m) r) ≡ length (list_after (held_changes h) (put_at (held_changes h) place c) r)
-  merged_each (Ok Taken) = each_put key_cmp keys_total exact_keys keyed (held_changes h) ms c m place beside.each at
-  merged_each (Ok Known) = beside.each
-  merged_each (Ok Stale) = beside.each
-  merged_each (Err fault) = beside.each
+-- ---- what a change that is put, and its mark, leave
+module _ {M : Type 0} (h : Holding) (ms : List M) (beside : IsBeside h ms) (c : ChangeRecord) (place : Result ℕ ℕ) (at : IsPlace (held_changes h) c.key place) (m : M) (new : Holding) (ns : List M)
+    (marks : ns ≡ put_at ms place m) (list : held_changes new ≡ put_at (held_changes h) place c) where
+  pub beside_put : IsSound new → IsBeside new ns
+  beside_put sound = record {
+    sound = sound;
+    each = ap length marks ∙ each_put key_cmp keys_total exact_keys keyed (held_changes h) ms c m place beside.each at ∙ sym (ap length list);
+  }
 
-  merged_marks : (r : Result Merge JoinFault) → marks_beside (list_after (held_changes h) (put_at (held_changes h) place c) r) (list_after ms (put_at ms place m) r) ≡ marks_after (marks_beside (held_changes h) ms) c.key m r
-  merged_marks (Ok Taken) = marks_put key_cmp keys_total exact_keys keyed (held_changes h) ms c m place (rising_held h beside.sound) beside.each at
-  merged_marks (Ok Known) = refl
-  merged_marks (Ok Stale) = refl
-  merged_marks (Err fault) = refl
-
-  module _ (r : Result Merge JoinFault) (new : Holding) (ns : List M) (sound : IsSound new) (marks : ns ≡ list_after ms (put_at ms place m) r) (list : held_changes new ≡ list_after (held_changes h) (put_at (held_changes h) place c) r) where
-    pub beside_merged : IsBeside new ns
-    beside_merged = record { sound = sound; each = ap length marks ∙ merged_each r ∙ sym (ap length list) }
-
-    pub marks_merged : marks_beside (held_changes new) ns ≡ marks_after (marks_beside (held_changes h) ms) c.key m r
-    marks_merged = ap (λ l. marks_beside l ns) list ∙ ap (marks_beside (list_after (held_changes h) (put_at (held_changes h) place c) r)) marks ∙ merged_marks r
+  pub marks_with : marks_beside (held_changes new) ns ≡ finite.insert (marks_beside (held_changes h) ms) c.key m
+  marks_with =
+      ap (λ l. marks_beside l ns) list ∙ ap (marks_beside (put_at (held_changes h) place c)) marks
+      ∙ marks_put key_cmp keys_total exact_keys keyed (held_changes h) ms c m place (rising_held h beside.sound) beside.each at
 
 -- ---- what a raised floor leaves
-module _ {M : Type 0} (h : Holding) (ms : List M) (beside : IsBeside h ms) (f : Floor) where
-  raised_each : (r : Result Merge JoinFault) → length (list_after ms (marks_left f (held_changes h) ms) r) ≡ length (list_after (held_changes h) (left_by_floor f (held_changes h)) r)
-  raised_each (Ok Taken) = each_left f (held_changes h) ms beside.each
-  raised_each (Ok Known) = beside.each
-  raised_each (Ok Stale) = beside.each
-  raised_each (Err fault) = beside.each
+module _ {M : Type 0} (h : Holding) (ms : List M) (beside : IsBeside h ms) (f : Floor) (new : Holding) (ns : List M)
+    (marks : ns ≡ marks_left f (held_changes h) ms) (list : held_changes new ≡ left_by_floor f (held_changes h)) where
+  pub beside_raised : IsSound new → IsBeside new ns
+  beside_raised sound = record { sound = sound; each = ap length marks ∙ each_left f (held_changes h) ms beside.each ∙ sym (ap length list) }
 
-  raised_marks : (r : Result Merge JoinFault) → marks_beside (list_after (held_changes h) (left_by_floor f (held_changes h)) r) (list_after ms (marks_left f (held_changes h) ms) r) ≡ marks_raised h.changes (marks_beside (held_changes h) ms) f r
-  raised_marks (Ok Taken) =
-      marks_are_left f (held_changes h) ms beside.each (rising_held h beside.sound)
-      ∙ ap (λ (m : FinMap key_cmp ChangeRecord). at_kept_keys f m (marks_beside (held_changes h) ms)) (changes_held h beside.sound)
-  raised_marks (Ok Known) = refl
-  raised_marks (Ok Stale) = refl
-  raised_marks (Err fault) = refl
-
-  module _ (r : Result Merge JoinFault) (new : Holding) (ns : List M) (sound : IsSound new) (marks : ns ≡ list_after ms (marks_left f (held_changes h) ms) r) (list : held_changes new ≡ list_after (held_changes h) (left_by_floor f (held_changes h)) r) where
-    pub beside_raised : IsBeside new ns
-    beside_raised = record { sound = sound; each = ap length marks ∙ raised_each r ∙ sym (ap length list) }
-
-    pub marks_kept : marks_beside (held_changes new) ns ≡ marks_raised h.changes (marks_beside (held_changes h) ms) f r
-    marks_kept = ap (λ l. marks_beside l ns) list ∙ ap (marks_beside (list_after (held_changes h) (left_by_floor f (held_changes h)) r)) marks ∙ raised_marks r
+  pub marks_kept : marks_beside (held_changes new) ns ≡ at_kept_keys f h.changes (marks_beside (held_changes h) ms)
+  marks_kept =
+      ap (λ l. marks_beside l ns) list ∙ ap (marks_beside (left_by_floor f (held_changes h))) marks
+      ∙ marks_are_left f (held_changes h) ms beside.each (rising_held h beside.sound)
+      ∙ ap (λ (k : FinMap key_cmp ChangeRecord). at_kept_keys f k (marks_beside (held_changes h) ms)) (changes_held h beside.sound)
 
 -- ---- another mark at an index
 module _ {M : Type 0} where
@@ -182,9 +155,3 @@ module _ {M : Type 0} where
 pub room_there : (xs : List ChangeRecord) (key : Key) (n cap : ℕ) (p : Result ℕ ℕ) → IsPlace xs key p → n ≡ length xs → MatchResult p (λ i. ⊤) (λ i. n < cap) → MatchResult p (λ i. i < n) (λ i. (i ≤ n) × (n < cap))
 room_there xs key n cap (Ok i) at e w = omega (arith, at.0, e)
 room_there xs key n cap (Err i) at e w = (omega (arith, at.0, e), w)
-
--- what is put is taken, unless there is no room
-pub put_is_taken : {X : Type 0} (place : Result ℕ ℕ) (old taken : List X) (m : Merge) → IsPut place (Ok m) → taken ≡ list_after old taken (Ok m)
-put_is_taken place old taken Taken p = refl
-put_is_taken place old taken Known p = absurd p
-put_is_taken place old taken Stale p = absurd p

@@ -1,4 +1,5 @@
 pub mod Marked
+pub mod Put
 pub mod Beside
 pub mod Room
 pub mod Coded

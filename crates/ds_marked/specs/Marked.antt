@@ -1,17 +1,13 @@
 -- What a holder with marks holds: beside each change and each floor a mark of the caller's.
-use Rattle.std.specs.Prelude.{◌≡◌, List, ℕ, Option, Some, None, is_some, length, slice_get, Result, Ok, Err}
+use Rattle.std.specs.Prelude.{◌≡◌, List, ℕ, Option, Some, None, is_some, length, slice_get, Result}
 use Rattle.std.specs.FinMap.{FinMap, empty, get, insert}
 use Rattle.ds_names.specs.declared.key.Key.{Key}
 use Rattle.ds_names.specs.Key.{name_cmp, key_cmp}
 use Rattle.ds_entry.specs.Change.{ChangeRecord}
 use Rattle.ds_entry.specs.declared.floor.Floor.{Floor}
-use Rattle.ds_join.specs.declared.merge.Merge.{Merge}
-use Rattle.ds_join.specs.declared.merge.Merge.TheVariants.{Taken, Known, Stale}
-use Rattle.ds_join.specs.declared.merge.JoinFault.{JoinFault}
 use Rattle.ds_held.specs.Limits.{LimitsRecord}
 use Rattle.ds_held.specs.Held.{Holding, held_changes, held_floors, held_for, floor_for, nothing_held}
 use Rattle.ds_held.specs.Kept.{IsPlace}
-use Rattle.ds_held.specs.Raise.{at_kept_keys}
 
 -- what is held, from each held key its mark, and from each owner the mark of its floor
 pub record MarkedHolding (M : Type 0) : Type 0 where
@@ -46,27 +42,6 @@ module _ {M : Type 0} where
   pub record AreFloorMarks (h : MarkedHolding M) (marks : List M) : Type 0 where
     pub each : length marks ≡ length (held_floors h.held)
     pub own : (k : ℕ) (f : Floor) → slice_get (held_floors h.held) k ≡ Some f → slice_get marks k ≡ floor_mark_for h f.owner
-
-  -- a change that is taken has the mark that came with it; after any other answer nothing has changed
-  abbrev pub marks_after : FinMap key_cmp M → Key → M → Result Merge JoinFault → FinMap key_cmp M
-  marks_after old key mark (Ok Taken) = insert old key mark
-  marks_after old key mark (Ok Known) = old
-  marks_after old key mark (Ok Stale) = old
-  marks_after old key mark (Err fault) = old
-
-  -- a floor that is taken drops the marks of the changes that it makes void
-  abbrev pub marks_raised : FinMap key_cmp ChangeRecord → FinMap key_cmp M → Floor → Result Merge JoinFault → FinMap key_cmp M
-  marks_raised changes old f (Ok Taken) = at_kept_keys f changes old
-  marks_raised changes old f (Ok Known) = old
-  marks_raised changes old f (Ok Stale) = old
-  marks_raised changes old f (Err fault) = old
-
-  -- and has the mark that came with it, in place of the one of its owner's floor before; after any other answer nothing has changed
-  abbrev pub floor_marks_after : FinMap name_cmp M → List ℕ → M → Result Merge JoinFault → FinMap name_cmp M
-  floor_marks_after old owner mark (Ok Taken) = insert old owner mark
-  floor_marks_after old owner mark (Ok Known) = old
-  floor_marks_after old owner mark (Ok Stale) = old
-  floor_marks_after old owner mark (Err fault) = old
 
   -- the marks with another one for the change, where there is a change
   abbrev pub remarked : FinMap key_cmp M → Option ChangeRecord → M → FinMap key_cmp M

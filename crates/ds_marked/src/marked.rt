@@ -1,23 +1,21 @@
 //! Holders of changes and floors with a mark beside each.
 
-ghost use Rattle.std.specs.Prelude.{◌≡◌, ◌≤◌, ◌++◌, ◌∷◌, [], Some, IfSome, OnOk, slice_get};
+ghost use Rattle.std.specs.Prelude.{◌≡◌, Ok, None, length, IfOk, IfSome, OnOk, OnErr};
 ghost use Rattle.std.specs.Option.{option_map};
 ghost use Rattle.ds_entry.specs.Change.{IsChange};
-ghost use Rattle.ds_entry.specs.declared.item.Item.TheVariants.{Change as Changed, Floor as Floored};
-ghost use Rattle.ds_join.specs.ItemTop.{IsTop};
-ghost use Rattle.ds_held.specs.Held.{held_changes, held_floors, held_items, floor_count, IsSound};
-ghost use Rattle.ds_held.specs.Kept.{IsHeldAt, IsPlace};
-ghost use Rattle.ds_held.specs.Merge.{after_merge, MergeAnswer};
-ghost use Rattle.ds_held.specs.Raise.{after_raise, RaiseAnswer};
-ghost use Rattle.ds_marked.specs.Marked.{mark_for, floor_mark_for, marks_after, marks_raised, floor_marks_after};
+ghost use Rattle.ds_join.specs.declared.merge.Merge.TheVariants.{Taken};
+ghost use Rattle.ds_held.specs.Held.{held_changes, held_floors, held_for, floor_for, IsSound};
+ghost use Rattle.ds_held.specs.Kept.{puts_void_by, IsFloorPlace, IsHeldAt, IsPlace};
+ghost use Rattle.ds_held.specs.Merge.{MergeAnswer};
+ghost use Rattle.ds_held.specs.Raise.{RaiseAnswer};
 ghost use Rattle.ds_marked.specs.Marked.{nothing_marked, remarked_at, floor_remarked_at, AreMarks, AreFloorMarks, HasMarks, IsMarkAt};
+ghost use Rattle.ds_marked.specs.Put.{IsPutMarked, IsRaisedMarked};
 
 use ds_entry::{Change, Floor};
 use ds_held::{Held, Limits};
-use ds_join::{JoinFault, Merge};
-use ds_names::Key;
-use pairs::{floor_pair_at, pair_at};
-use putting::{merge_marked, raise_marked, set_at};
+use ds_names::NoRoom;
+use pairs::pair_at;
+use putting::{put_marked, raise_marked, set_at};
 use std::alloc::Global;
 use std::marker::Model;
 
@@ -72,14 +70,6 @@ impl<M: Drop> Marked<M> {
         &self.held
     }
 
-    /// Where the change of a key stands, by an index from 0 in the order of the keys, or else where it would. It is found by
-    /// one search, and [`Marked::get_at`] and [`Marked::merge_at`] need no other.
-    pub fn place(&self, key: &Key) -> Result<usize, usize>
-        ensures { IsPlace (held_changes self.now.held) key.now result }
-    {
-        self.held.place(key)
-    }
-
     /// The change that is held for the key whose place this is, and its mark.
     pub fn get_at(&self, place: Result<usize, usize>) -> Option<(&Change, &M)>
         ensures change { IsHeldAt self.now.held place (option_map (λ p. p.0.now) result) }
@@ -91,16 +81,6 @@ impl<M: Drop> Marked<M> {
             Ok(index) => pair_at(&self.held, &self.marks, index),
             Err(_) => None,
         }
-    }
-
-    /// The change at an index from 0, in the order of the keys, and its mark. `None` behind the last one.
-    pub fn at(&self, index: usize) -> Option<(&Change, &M)>
-        ensures change { option_map (λ p. p.0.now) result ≡ slice_get (held_changes self.now.held) index }
-        ensures mark { IfSome result (λ p. mark_for self.now p.0.now.key ≡ Some p.1.now) }
-        ensures sound { IsSound self.now.held }
-        ensures valid { IfSome result (λ p. IsChange p.0.now) }
-    {
-        pair_at(&self.held, &self.marks, index)
     }
 
     /// The marks of all changes, in the order of their keys.
@@ -117,60 +97,50 @@ impl<M: Drop> Marked<M> {
         self.floor_marks.as_slice()
     }
 
-    /// How many owners have floors, at most 64.
-    pub fn floor_count(&self) -> usize
-        ensures count { result ≡ floor_count self.now.held }
-        ensures few { result ≤ 64 }
-        ensures sound { IsSound self.now.held }
-    {
-        self.held.floor_count()
-    }
-
-    /// The floor at an index from 0, in the order of the owners' names, and its mark. `None` behind the last one.
-    pub fn floor_at(&self, index: usize) -> Option<(Floor, &M)>
-        ensures floor { option_map (λ p. p.0) result ≡ slice_get (held_floors self.now.held) index }
-        ensures mark { IfSome result (λ p. floor_mark_for self.now p.0.owner ≡ Some p.1.now) }
-        ensures sound { IsSound self.now.held }
-    {
-        floor_pair_at(&self.held, &self.floor_marks, index)
-    }
-
-    /// Merges a change whose place is told, as [`Held::merge`] does. Where it is taken, the mark stands beside it, in place of
-    /// the one that stood there.
-    pub fn merge_at(
+    /// Puts a change that is to be taken, and its mark, at their place, as [`Held::put`] does. The mark comes in place of the one
+    /// that stood there.
+    ///
+    /// It takes memory only for a key that isn't held; want of it changes nothing.
+    pub fn put_at(
         &mut self,
         place: Result<usize, usize>,
         change: Change,
         mark: M,
-    ) -> Result<Merge, JoinFault>
-        requires { IsPlace (held_changes self.old.held) change.key place }
-        ensures answer { MergeAnswer self.old.held change result }
-        ensures held { self.new.held ≡ after_merge self.old.held change result }
-        ensures marks { self.new.marks ≡ marks_after self.old.marks change.key mark result }
-        ensures floor_marks { self.new.floor_marks ≡ self.old.floor_marks }
-        ensures joined { OnOk result (IsTop (held_items self.new.held) (held_items self.old.held ++ Changed change ∷ [])) }
+    ) -> Result<(), NoRoom>
+        requires place { IsPlace (held_changes self.old.held) change.key place }
+        requires taken { MergeAnswer self.old.held change (Ok Taken) }
+        ensures put { OnOk result (IsPutMarked self.old change mark self.new) }
+        ensures same { OnErr result (self.new ≡ self.old) }
+        ensures new { OnErr result (held_for self.old.held change.key ≡ None) }
         ensures sound { IsSound self.new.held }
         ensures change { IsChange change }
     {
-        merge_marked(&mut self.held, &mut self.marks, place, change, mark)
+        put_marked(&mut self.held, &mut self.marks, place, change, mark)
     }
 
-    /// Raises the floor of an owner, as [`Held::raise`] does. Where it is taken, the mark stands beside it, in place of the
-    /// one that stood beside the owner's floor before, and the marks of what it drops are dropped.
+    /// Puts a floor that is to be taken, and its mark, at their place, as [`Held::raise_at`] does, and drops what it makes void, with
+    /// its marks. It tells how many puts it dropped. The mark comes in place of the one that stood beside the owner's floor before.
     ///
-    /// It takes memory only for an owner who has no floor.
-    pub fn raise(&mut self, floor: Floor, mark: M) -> Result<Merge, JoinFault>
-        ensures answer { RaiseAnswer self.old.held floor result }
-        ensures held { self.new.held ≡ after_raise self.old.held floor result }
-        ensures marks { self.new.marks ≡ marks_raised self.old.held.changes self.old.marks floor result }
-        ensures floor_marks { self.new.floor_marks ≡ floor_marks_after self.old.floor_marks floor.owner mark result }
-        ensures joined { OnOk result (IsTop (held_items self.new.held) (held_items self.old.held ++ Floored floor ∷ [])) }
+    /// It takes memory only for an owner who has no floor; want of it changes nothing.
+    pub fn raise_at(
+        &mut self,
+        place: Result<usize, usize>,
+        floor: Floor,
+        mark: M,
+    ) -> Result<usize, NoRoom>
+        requires place { IsFloorPlace (held_floors self.old.held) floor.owner place }
+        requires taken { RaiseAnswer self.old.held floor (Ok Taken) }
+        ensures raised { OnOk result (IsRaisedMarked self.old floor mark self.new) }
+        ensures count { IfOk result (λ count. count ≡ length (puts_void_by floor (held_changes self.old.held))) }
+        ensures same { OnErr result (self.new ≡ self.old) }
+        ensures new { OnErr result (floor_for self.old.held floor.owner ≡ None) }
         ensures sound { IsSound self.new.held }
     {
         raise_marked(
             &mut self.held,
             &mut self.marks,
             &mut self.floor_marks,
+            place,
             floor,
             mark,
         )

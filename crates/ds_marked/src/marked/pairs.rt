@@ -1,12 +1,12 @@
-//! A change or a floor with its mark.
+//! A change with its mark.
 
 ghost use Rattle.std.specs.Prelude.{◌≡◌, IfSome, slice_get};
 ghost use Rattle.std.specs.Option.{option_map};
 ghost use Rattle.ds_entry.specs.Change.{IsChange};
-ghost use Rattle.ds_held.specs.Held.{held_changes, held_floors};
-ghost use Rattle.ds_marked.specs.Beside.{IsBeside, IsBesideFloors};
+ghost use Rattle.ds_held.specs.Held.{held_changes};
+ghost use Rattle.ds_marked.specs.Beside.{IsBeside};
 
-use ds_entry::{Change, Floor};
+use ds_entry::Change;
 use ds_held::Held;
 
 // The change at an index, and its mark.
@@ -23,25 +23,6 @@ pub(super) fn pair_at<'a, M>(
     match held.at(index) {
         Some(change) => match marks.get(index) {
             Some(mark) => Some((change, mark)),
-            None => None,
-        },
-        None => None,
-    }
-}
-
-// The floor at an index, and its mark.
-pub(super) fn floor_pair_at<'a, M>(
-    held: &Held,
-    marks: &'a [M],
-    index: usize,
-) -> Option<(Floor, &'a M)>
-    requires { IsBesideFloors held.now marks.now }
-    ensures floor { option_map (λ p. p.0) result ≡ slice_get (held_floors held.now) index }
-    ensures mark { option_map (λ p. p.1.now) result ≡ slice_get marks.now index }
-{
-    match held.floor_at(index) {
-        Some(floor) => match marks.get(index) {
-            Some(mark) => Some((floor, mark)),
             None => None,
         },
         None => None,
