@@ -1,24 +1,24 @@
 -- What is listed of a holder of changes and floors: no floor makes a label void, so that a raised floor drops none.
-use Rattle.std.proofs.Common.{◌≡◌, ℕ, ◌≤◌, ◌<◌, ◌&&◌, nat_le, not, false, cond, List, Option, Some, None, Result, Ok, Err, refl, sym, ap, ◌∙◌, subst, arith}
+use Rattle.std.proofs.Common.{◌≡◌, ℕ, ◌&&◌, nat_le, not, false, cond, List, Option, Some, None, Result, Ok, Err, refl, sym, ap, ◌∙◌, subst}
 use Rattle.std.specs.Ordering.{eq_by_cmp}
 use Rattle.std.specs.FinMap.{get, get-retain_keys}
 use Rattle.std.specs.Option.{option_map}
+use Rattle.std.specs.Result.{OnOk, OnErr}
+use Rattle.std.proofs.lemmas.Option.{same_Some}
 use Rattle.ds_names.specs.declared.key.Key.{Key}
 use Rattle.ds_names.specs.declared.kind.Kind.TheVariants.{Label}
 use Rattle.ds_names.specs.Key.{name_cmp, label_key}
 use Rattle.ds_names.proofs.OrderLemmas.{exact_keys}
 use Rattle.ds_entry.specs.Change.{ChangeRecord}
-use Rattle.ds_entry.specs.Floor.{floor_of}
 use Rattle.ds_entry.specs.Void.{voids}
 use Rattle.ds_entry.specs.declared.floor.Floor.{Floor}
-use Rattle.ds_join.specs.declared.merge.Merge.{Merge}
-use Rattle.ds_join.specs.declared.merge.Merge.TheVariants.{Taken, Known, Stale}
-use Rattle.ds_join.specs.declared.merge.JoinFault.{JoinFault}
-use Rattle.ds_join.specs.declared.merge.JoinFault.TheVariants.{NoRoom}
-use Rattle.ds_held.specs.Held.{Holding, held_for, held_count, floor_for, is_below, is_void_at, IsSound}
-use Rattle.ds_held.specs.Merge.{AnswersNew, AnswersFor, MergeAnswer, after_merge}
+use Rattle.ds_join.specs.declared.merge.Merge.TheVariants.{Taken}
+use Rattle.ds_held.specs.Held.{Holding, held_for, IsSound}
 use Rattle.ds_held.specs.Raise.{stays, after_raise}
+use Rattle.ds_marked.specs.Marked.{MarkedHolding}
+use Rattle.ds_marked.specs.Put.{IsPutMarked, IsRaisedMarked}
 use Rattle.ds_index.specs.declared.named.Named.{Named}
+use Rattle.ds_index.specs.Named.{named_at}
 use Rattle.ds_index.specs.Indexed.{endpoint_left, holder_for, IsIndexed}
 use Rattle.ds_index.proofs.IndexedLemmas.{other_indexed}
 use Rattle.ds_names.specs.Kind.{is_label}
@@ -27,36 +27,11 @@ use Rattle.ds_names.specs.Kind.{is_label}
 label_stands : (f : Floor) (c : ChangeRecord) → c.key.kind ≡ Label → voids f c ≡ false
 label_stands f c e = ap (λ k. not (is_label k) && (eq_by_cmp name_cmp c.owner f.owner && nat_le c.version.epoch f.generation)) e
 
-label_not_void : (h : Holding) (c : ChangeRecord) → c.key.kind ≡ Label → is_void_at h c ≡ false
-label_not_void h c e = by_floor (floor_for h c.owner)
-  where
-    by_floor : (o : Option ℕ) → is_below o c ≡ false
-    by_floor None = refl
-    by_floor (Some g) = label_stands (floor_of c.owner g) c e
-
--- a full holder takes no other key
-pub full_kept : (old : Holding) (c : ChangeRecord) (r : Result Merge JoinFault) → MergeAnswer old c r → held_for old c.key ≡ None → c.key.kind ≡ Label → old.limits.keys ≤ held_count old → after_merge old c r ≡ old
-full_kept old c r answer none label full =
-    by_answer r (subst (λ b. AnswersFor None b (held_count old) old.limits.keys c r) (label_not_void old c label) (subst (λ o. AnswersFor o (is_void_at old c) (held_count old) old.limits.keys c r) none answer))
-  where
-    by_answer : (r : Result Merge JoinFault) → AnswersNew (held_count old) old.limits.keys r → after_merge old c r ≡ old
-    by_answer (Ok Taken) few = absurd (omega (arith, few, full))
-    by_answer (Ok Known) a = refl
-    by_answer (Ok Stale) a = refl
-    by_answer (Err fault) a = refl
-
--- no room is told of a new label alone, and of one for which the holder has a place
-pub room_wanted_for : (old : Holding) (c : ChangeRecord) → held_for old c.key ≡ None → c.key.kind ≡ Label → held_count old < old.limits.keys → MergeAnswer old c (Err NoRoom)
-room_wanted_for old c none label few =
-    subst (λ o. AnswersFor o (is_void_at old c) (held_count old) old.limits.keys c (Err NoRoom)) (sym none)
-    (subst (λ b. AnswersFor None b (held_count old) old.limits.keys c (Err NoRoom)) (sym (label_not_void old c label)) few)
-
 -- the labels are listed as they are held after the change of another key
-pub unlabelled_kept : (old : Holding) (c : ChangeRecord) (r : Result Merge JoinFault) (names : List Named) → IsIndexed old.changes names → (c.key.kind ≡ Label → ⊥) → IsIndexed (after_merge old c r).changes names
-unlabelled_kept old c (Ok Taken) names i other = other_indexed old.changes c names i other
-unlabelled_kept old c (Ok Known) names i other = i
-unlabelled_kept old c (Ok Stale) names i other = i
-unlabelled_kept old c (Err fault) names i other = i
+pub other_put : {M U E : Type 0} (old new : MarkedHolding M) (c : ChangeRecord) (m : M) (r : Result U E) (names : List Named) → IsIndexed old.held.changes names → (c.key.kind ≡ Label → ⊥)
+    → OnOk r (IsPutMarked old c m new) → OnErr r (new ≡ old) → IsIndexed new.held.changes names
+other_put old new c m (Ok u) names i other put same = subst (λ (h : Holding). IsIndexed h.changes names) (sym put.held) (other_indexed old.held.changes c names i other)
+other_put old new c m (Err e) names i other put same = subst (λ h. IsIndexed h.held.changes names) (sym same) i
 
 -- and after a floor is raised
 module _ (old : Holding) (sound : IsSound old) (f : Floor) (names : List Named) (i : IsIndexed old.changes names) where
@@ -72,11 +47,24 @@ module _ (old : Holding) (sound : IsSound old) (f : Floor) (names : List Named) 
   same_holder : (name : List ℕ) → holder_for (after_raise old f (Ok Taken)).changes name ≡ holder_for old.changes name
   same_holder name = ap (option_map endpoint_left) (same_label name)
 
-  pub raised_kept : (r : Result Merge JoinFault) → IsIndexed (after_raise old f r).changes names
-  raised_kept (Ok Taken) = record {
+  raised_indexed : IsIndexed (after_raise old f (Ok Taken)).changes names
+  raised_indexed = record {
     listed = λ p e. i.listed p (sym (same_holder p.name) ∙ e);
     held = λ p h. same_holder p.name ∙ i.held p h;
   }
-  raised_kept (Ok Known) = i
-  raised_kept (Ok Stale) = i
-  raised_kept (Err fault) = i
+
+pub raised_kept : {M U E : Type 0} (old new : MarkedHolding M) (f : Floor) (m : M) (r : Result U E) (names : List Named) → IsSound old.held → IsIndexed old.held.changes names
+    → OnOk r (IsRaisedMarked old f m new) → OnErr r (new ≡ old) → IsIndexed new.held.changes names
+raised_kept old new f m (Ok u) names sound i raised same = subst (λ (h : Holding). IsIndexed h.changes names) (sym raised.held) (raised_indexed old.held sound f names i)
+raised_kept old new f m (Err e) names sound i raised same = subst (λ h. IsIndexed h.held.changes names) (sym same) i
+
+-- what is listed of a label that is held
+pub listed_is : (o : Option ChangeRecord) (name : List ℕ) (before : Named) → option_map (λ (c : ChangeRecord). named_at (endpoint_left c) name) o ≡ Some before
+    → (before.name ≡ name) × (option_map endpoint_left o ≡ Some before.endpoint)
+listed_is None name before e = absurd (cc)
+listed_is (Some c) name before e =
+    let is = same_Some (named_at (endpoint_left c) name) before e in (ap (λ (p : Named). p.name) (sym is), ap (λ (p : Named). Some p.endpoint) is)
+
+pub unlisted_is : (o : Option ChangeRecord) (name : List ℕ) → option_map (λ (c : ChangeRecord). named_at (endpoint_left c) name) o ≡ None → o ≡ None
+unlisted_is None name e = refl
+unlisted_is (Some c) name e = absurd (cc)
