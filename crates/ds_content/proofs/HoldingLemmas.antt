@@ -1,14 +1,9 @@
 -- What is held, as a holder keeps it and as items.
 use Rattle.std.proofs.Common.{◌≡◌, ℕ, zero, suc, ◌+◌, ap₂, ◌<◌, Bool, true, false, List, [], ◌∷◌, ◌++◌, map, length, Option, Some, None, Result, Ok, Err, refl, ap, sym, ◌∙◌, subst, inl, inr, arith, Contains}
-use Rattle.std.proofs.lemmas.Cmp.{tied_itself}
 use Rattle.std.specs.Prelude.{slice_get}
 use Rattle.std.specs.FinMap.{entries, len-entries}
 use Rattle.std.specs.Option.{option_map}
-use Rattle.std.specs.declared.cmp.Ordering.TheVariants.{Less, Equal, Greater}
 use Rattle.ds_names.specs.declared.key.Key.{Key}
-use Rattle.ds_names.specs.declared.version.Version.{Version}
-use Rattle.ds_names.specs.Version.{version_cmp}
-use Rattle.ds_names.proofs.OrderLemmas.{versions_total}
 use Rattle.ds_entry.specs.Change.{ChangeRecord}
 use Rattle.ds_entry.specs.Floor.{floor_of}
 use Rattle.ds_entry.specs.Void.{voids, voids_it, is_void}
@@ -18,19 +13,18 @@ use Rattle.ds_entry.specs.declared.item.Item.TheVariants.{Change as Changed, Flo
 use Rattle.ds_entry.proofs.Members.{Contains-from_list_any, none_pass}
 use Rattle.ds_entry.proofs.ItemLemmas.{voids-is, covers-refl}
 use Rattle.ds_join.specs.ItemTop.{IsTop}
-use Rattle.ds_join.specs.declared.merge.Merge.{Merge}
-use Rattle.ds_join.specs.declared.merge.Merge.TheVariants.{Taken, Known, Stale}
-use Rattle.ds_join.specs.declared.merge.JoinFault.{JoinFault}
-use Rattle.ds_join.specs.declared.merge.JoinFault.TheVariants.{NotOwner, Clash, Full, NoRoom}
+use Rattle.ds_join.specs.declared.merge.Merge.TheVariants.{Taken}
 use Rattle.ds_held.specs.Held.{Holding, held_items, held_changes, held_floors, held_for, held_count, floor_for, floor_count, floor_item, change_item, is_below, is_void_at, IsSound}
-use Rattle.ds_held.specs.Kept.{floored}
+use Rattle.ds_held.specs.Kept.{floored, IsFloorPlace}
+use Rattle.ds_marked.proofs.FloorMarkLemmas.{floor_found, floor_missing}
+use Rattle.std.proofs.lemmas.Option.{get_or_from_slice_get}
+use Rattle.ds_content.proofs.FlagLemmas.{past_end}
 use Rattle.ds_held.specs.Merge.{MergeAnswer, AnswersFor}
 use Rattle.ds_held.specs.Raise.{RaiseAnswer, AnswersFloor}
 use Rattle.ds_held.proofs.HeldLemmas.{is_held, change_in, floor_in, held_is_top, count_is}
 use Rattle.ds_machine.specs.Parts.{changes_in, floors_in, held_at, floor_at}
 use Rattle.ds_machine.specs.Standing.{HasRoom, HasFloorRoom}
 use Rattle.ds_machine.proofs.PartLemmas.{key_found, key_missing, owner_found, owner_missing}
-use Rattle.ds_content.specs.Taken.{IsTakenOrNoRoom}
 use Rattle.std.proofs.lemmas.List.{length-map}
 
 -- ---- the changes and the floors
@@ -108,81 +102,50 @@ module _ (h : Holding) (sound : IsSound h) where
           sym (below r.0 r.1 r.2)
       by_test false e = sym (none_below (floor_for h c.owner) refl e)
 
--- ---- the answer to an item that nothing stands against
-same_differs : (v w : Version) → version_cmp v w ≡ Less → v ≡ w → ⊥
-same_differs v w l e =
-    let itself : version_cmp v v ≡ Equal = tied_itself versions_total v in
-    let here : version_cmp v v ≡ Less = ap (version_cmp v) e ∙ l in
-    absurd (let no : Less ≡ Equal = sym here ∙ itself in cc)
+-- ---- the generation of a floor whose place was found
+pub generation_of : (owner : List ℕ) (o : Option ℕ) → o ≡ option_map (λ (f : Floor). f.generation) (option_map (floor_of owner) o)
+generation_of owner None = refl
+generation_of owner (Some g) = refl
 
-taken_own : (h c : ChangeRecord) (r : Result Merge JoinFault) → HasRoom (Some h) 0 0 c → AnswersFor (Some h) false 0 0 c r → IsTakenOrNoRoom r
-taken_own h c r room (inl n) = absurd (n.0 room.0)
-taken_own h c (Ok Taken) room (inr a) = tt
-taken_own h c (Ok Known) room (inr a) = same_differs h.version c.version room.1 (ap (λ (x : ChangeRecord). x.version) a.1)
-taken_own h c (Ok Stale) room (inr a) = absurd (let no : Less ≡ Greater = sym room.1 ∙ a.1 in cc)
-taken_own h c (Err NotOwner) room (inr a) = a.1
-taken_own h c (Err (Clash v)) room (inr a) = same_differs h.version c.version room.1 a.1.0
-taken_own h c (Err Full) room (inr a) = a.1
-taken_own h c (Err NoRoom) room (inr a) = tt
+floor_there : (h : Holding) (owner : List ℕ) (place : Result ℕ ℕ) → IsFloorPlace (held_floors h) owner place → (i : ℕ) → place ≡ Ok i → (o : Option Floor) → o ≡ slice_get (held_floors h) i → option_map (λ (f : Floor). f.generation) o ≡ floor_for h owner
+floor_there h owner place p i q None e =
+    let here : IsFloorPlace (held_floors h) owner (Ok i) = subst (IsFloorPlace (held_floors h) owner) q p in
+    let past = past_end (held_floors h) i (sym e) in
+    let within = here.0 in
+    absurd (omega (arith, past, within))
+floor_there h owner place p i q (Some f) e =
+    ap (λ (x : Floor). Some x.generation) (sym (get_or_from_slice_get (held_floors h) i f f (sym e))) ∙ sym (floor_found h owner i f (subst (IsFloorPlace (held_floors h) owner) q p))
 
-taken_new : (count most : ℕ) (c : ChangeRecord) (r : Result Merge JoinFault) → HasRoom None count most c → AnswersFor None false count most c r → IsTakenOrNoRoom r
-taken_new count most c (Ok Taken) room a = tt
-taken_new count most c (Ok Known) room a = a
-taken_new count most c (Ok Stale) room a = a
-taken_new count most c (Err NotOwner) room a = a
-taken_new count most c (Err (Clash v)) room a = a
-taken_new count most c (Err Full) room a = let l : count < most = room in let e : count ≡ most = a in absurd (omega (arith, l, e))
-taken_new count most c (Err NoRoom) room a = tt
+pub generation_at : (h : Holding) (sound : IsSound h) (owner : List ℕ) (place : Result ℕ ℕ) → IsFloorPlace (held_floors h) owner place → (i : ℕ) → place ≡ Ok i → (o : Option Floor) → o ≡ slice_get (held_floors h) i
+    → option_map (λ (f : Floor). f.generation) o ≡ option_map (λ (f : Floor). f.generation) (floor_at (held_items h) owner)
+generation_at h sound owner place p i q o e =
+    floor_there h owner place p i q o e ∙ generation_of owner (floor_for h owner) ∙ ap (option_map (λ (f : Floor). f.generation)) (sym (floor_at-is h sound owner))
 
-taken_or_full : (o : Option ChangeRecord) (count most : ℕ) (c : ChangeRecord) (r : Result Merge JoinFault) → HasRoom o count most c → AnswersFor o false count most c r → IsTakenOrNoRoom r
-taken_or_full None count most c r room a = taken_new count most c r room a
-taken_or_full (Some h) count most c r room a = taken_own h c r room a
+pub no_generation_at : (h : Holding) (sound : IsSound h) (owner : List ℕ) (place : Result ℕ ℕ) → IsFloorPlace (held_floors h) owner place → (i : ℕ) → place ≡ Err i
+    → None ≡ option_map (λ (f : Floor). f.generation) (floor_at (held_items h) owner)
+no_generation_at h sound owner place p i q =
+    ap (option_map (λ (f : Floor). f.generation))
+    (sym (floor_at-is h sound owner ∙ ap (option_map (floor_of owner)) (floor_missing h owner i (subst (IsFloorPlace (held_floors h) owner) q p))))
 
-pub change_taken : (h : Holding) (sound : IsSound h) (c : ChangeRecord) (most : ℕ) (r : Result Merge JoinFault) → most ≡ h.limits.keys → HasRoom (held_at (held_items h) c.key) (length (changes_in (held_items h))) most c → is_void (held_items h) c ≡ false → MergeAnswer h c r → IsTakenOrNoRoom r
-change_taken h sound c most r e room kept answer =
-    let void : is_void_at h c ≡ false = sym (void-is h sound c) ∙ kept in
-    let here : HasRoom (held_for h c.key) (held_count h) h.limits.keys c =
-    subst (λ n. HasRoom (held_for h c.key) (held_count h) n c) e (subst (λ n. HasRoom (held_for h c.key) n most c) (changes_counted h) (subst (λ o. HasRoom o (length (changes_in (held_items h))) most c) (held_at-is h sound c.key) room)) in
-    taken_or_full (held_for h c.key) (held_count h) h.limits.keys c r here (subst (λ b. AnswersFor (held_for h c.key) b (held_count h) h.limits.keys c r) void answer)
+-- ---- what nothing stands against is to be taken
+change_by : (o : Option ChangeRecord) (count most : ℕ) (c : ChangeRecord) → HasRoom o count most c → AnswersFor o false count most c (Ok Taken)
+change_by None count most c room = room
+change_by (Some h) count most c room = inr room
 
--- only a change of a key that isn't held wants memory
-not_room : (r : Result Merge JoinFault) → r ≡ Err NoRoom → r ≡ Err NotOwner → ⊥
-not_room r e f = cc
+pub change_taken : (h : Holding) (sound : IsSound h) (c : ChangeRecord) → HasRoom (held_at (held_items h) c.key) (length (changes_in (held_items h))) h.limits.keys c → is_void (held_items h) c ≡ false → MergeAnswer h c (Ok Taken)
+change_taken h sound c room kept =
+    subst (λ b. AnswersFor (held_for h c.key) b (held_count h) h.limits.keys c (Ok Taken)) (sym (sym (void-is h sound c) ∙ kept))
+    (change_by (held_for h c.key) (held_count h) h.limits.keys c
+    (subst (λ n. HasRoom (held_for h c.key) n h.limits.keys c) (changes_counted h) (subst (λ o. HasRoom o (length (changes_in (held_items h))) h.limits.keys c) (held_at-is h sound c.key) room)))
 
-no_room_by : (o : Option ChangeRecord) (count most : ℕ) (c : ChangeRecord) → AnswersFor o false count most c (Err NoRoom) → o ≡ None
-no_room_by None count most c a = refl
-no_room_by (Some h) count most c (inl n) = absurd (not_room (Err NoRoom) refl n.1)
-no_room_by (Some h) count most c (inr a) = absurd a.1
+floor_by : (o : Option ℕ) (count : ℕ) (f : Floor) → HasFloorRoom (option_map (floor_of f.owner) o) count f → AnswersFloor o count f.generation (Ok Taken)
+floor_by None count f room = room
+floor_by (Some g) count f room = room
 
-pub change_new : (h : Holding) (sound : IsSound h) (c : ChangeRecord) → is_void (held_items h) c ≡ false → MergeAnswer h c (Err NoRoom) → held_at (held_items h) c.key ≡ None
-change_new h sound c kept answer =
-    let void : is_void_at h c ≡ false = sym (void-is h sound c) ∙ kept in
-    held_at-is h sound c.key ∙ no_room_by (held_for h c.key) (held_count h) h.limits.keys c (subst (λ b. AnswersFor (held_for h c.key) b (held_count h) h.limits.keys c (Err NoRoom)) void answer)
-
-raised_by : (o : Option ℕ) (count : ℕ) (f : Floor) (r : Result Merge JoinFault) → HasFloorRoom (option_map (floor_of f.owner) o) count f → AnswersFloor o count f.generation r → IsTakenOrNoRoom r
-raised_by None count f (Ok Taken) room a = tt
-raised_by None count f (Ok Known) room a = a
-raised_by None count f (Ok Stale) room a = a
-raised_by None count f (Err NotOwner) room a = a
-raised_by None count f (Err (Clash v)) room a = a
-raised_by None count f (Err Full) room a = let l : count < 64 = room in let e : count ≡ 64 = a in absurd (omega (arith, l, e))
-raised_by None count f (Err NoRoom) room a = tt
-raised_by (Some g) count f (Ok Taken) room a = tt
-raised_by (Some g) count f (Ok Known) room a = let l : g < f.generation = room in let e : g ≡ f.generation = a in absurd (omega (arith, l, e))
-raised_by (Some g) count f (Ok Stale) room a = let l : g < f.generation = room in let e : f.generation < g = a in absurd (omega (arith, l, e))
-raised_by (Some g) count f (Err fault) room a = absurd a
-
-pub floor_taken : (h : Holding) (sound : IsSound h) (f : Floor) (r : Result Merge JoinFault) → HasFloorRoom (floor_at (held_items h) f.owner) (length (floors_in (held_items h))) f → RaiseAnswer h f r → IsTakenOrNoRoom r
-floor_taken h sound f r room answer =
-    raised_by (floor_for h f.owner) (floor_count h) f r
-    (subst (λ n. HasFloorRoom (option_map (floor_of f.owner) (floor_for h f.owner)) n f) (floors_counted h) (subst (λ o. HasFloorRoom o (length (floors_in (held_items h))) f) (floor_at-is h sound f.owner) room)) answer
-
-raise_no_room : (o : Option ℕ) (count generation : ℕ) → AnswersFloor o count generation (Err NoRoom) → o ≡ None
-raise_no_room None count generation a = refl
-raise_no_room (Some g) count generation a = absurd a
-
-pub floor_new : (h : Holding) (sound : IsSound h) (f : Floor) → RaiseAnswer h f (Err NoRoom) → floor_at (held_items h) f.owner ≡ None
-floor_new h sound f answer = floor_at-is h sound f.owner ∙ ap (option_map (floor_of f.owner)) (raise_no_room (floor_for h f.owner) (floor_count h) f.generation answer)
+pub floor_taken : (h : Holding) (sound : IsSound h) (f : Floor) → HasFloorRoom (floor_at (held_items h) f.owner) (length (floors_in (held_items h))) f → RaiseAnswer h f (Ok Taken)
+floor_taken h sound f room =
+    floor_by (floor_for h f.owner) (floor_count h) f
+    (subst (λ n. HasFloorRoom (option_map (floor_of f.owner) (floor_for h f.owner)) n f) (floors_counted h) (subst (λ o. HasFloorRoom o (length (floors_in (held_items h))) f) (floor_at-is h sound f.owner) room))
 
 -- ---- the item at an index
 module _ {X Y : Type 0} (f : X → Item) (g : Y → Item) where

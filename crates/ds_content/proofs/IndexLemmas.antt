@@ -1,5 +1,5 @@
 -- What stands beside the item at an index, and whether it is under a query.
-use Rattle.std.proofs.Common.{◌≡◌, ℕ, map, inl, inr, length-append, ◌+◌, ◌<◌, ◌≤◌, Bool, true, false, List, [], length, get_or, Option, Some, None, is_some, refl, ap, sym, ◌∙◌, subst, arith, Contains}
+use Rattle.std.proofs.Common.{◌≡◌, ℕ, map, inl, inr, length-append, ◌+◌, ◌<◌, ◌≤◌, Bool, true, false, List, [], ◌∷◌, zero, suc, length, get_or, Option, Some, None, is_some, refl, ap, sym, ◌∙◌, subst, arith, Contains}
 use Rattle.std.specs.Prelude.{slice_get}
 use Rattle.std.specs.Option.{option_map, option_map_or}
 use Rattle.std.proofs.lemmas.Option.{same_Some}
@@ -25,6 +25,13 @@ use Rattle.std.proofs.lemmas.List.{length-map}
 pub none_mapped : {X Y : Type 0} (f : X → Y) (o : Option X) → option_map f o ≡ None → o ≡ None
 none_mapped f None e = refl
 none_mapped f (Some x) e = absurd (cc)
+
+-- where no element stands at an index, no mark does
+pub none_beside : {X M : Type 0} (xs : List X) (ms : List M) (index : ℕ) → length ms ≡ length xs → slice_get xs index ≡ None → slice_get ms index ≡ None
+none_beside xs [] index e none = refl
+none_beside [] (m ∷ ms) index e none = absurd (omega (arith, e))
+none_beside (x ∷ xs) (m ∷ ms) zero e none = absurd (cc)
+none_beside (x ∷ xs) (m ∷ ms) (suc index) e none = none_beside xs ms index (omega (arith, e)) none
 
 module _ (h : MarkedHolding Masks) (index : ℕ) (r : Option Masks) where
   module _ (low : index < floor_count h.held) where

@@ -85,10 +85,6 @@ pub if_ok : {A E : Type 0} (P Q : A → Type 0) (r : Result A E) → ((x : A) �
 if_ok P Q (Ok x) f p = f x p
 if_ok P Q (Err e) f p = tt
 
-pub generation_of : (owner : List ℕ) (o : Option ℕ) → o ≡ option_map (λ (f : Floor). f.generation) (option_map (floor_of owner) o)
-generation_of owner None = refl
-generation_of owner (Some g) = refl
-
 pub if_err : {T E : Type 0} {P Q : Type 0} (r : Result T E) → (P → Q) → OnErr r P → OnErr r Q
 if_err (Ok x) f p = tt
 if_err (Err e) f p = f p

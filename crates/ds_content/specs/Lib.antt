@@ -4,7 +4,6 @@ pub mod Stands
 pub mod Owed
 pub mod Given
 pub mod Standing
-pub mod Taken
 pub mod Kept
 pub mod Marking
 pub mod Shown

@@ -1,6 +1,6 @@
 //! The content of a store.
 
-ghost use Rattle.std.specs.Prelude.{◌≡◌, ◌≤◌, length, map, slice_index_or, None, IfOk, IfErr, IfSome, OnOk};
+ghost use Rattle.std.specs.Prelude.{◌≡◌, ◌≤◌, ℕ, List, length, map, slice_index_or, None, IfOk, IfErr, IfSome, OnOk};
 ghost use Rattle.std.specs.Option.{option_copied, option_map};
 ghost use Rattle.ds_names.specs.declared.key.Key.{Key};
 ghost use Rattle.ds_entry.specs.Change.{ChangeRecord, IsChange};
@@ -8,7 +8,7 @@ ghost use Rattle.ds_entry.specs.Void.{is_void};
 ghost use Rattle.ds_entry.specs.declared.floor.Floor.{Floor};
 ghost use Rattle.ds_feed.specs.Kept.{cursor_of, IsRing, IsJournalFault};
 ghost use Rattle.ds_held.specs.Held.{held_items, IsSound};
-ghost use Rattle.ds_held.specs.Kept.{IsPlace};
+ghost use Rattle.ds_held.specs.Kept.{IsFloorPlace, IsPlace};
 ghost use Rattle.ds_machine.specs.Parts.{changes_in, floors_in, held_at, floor_at};
 ghost use Rattle.ds_machine.specs.State.{State, opening};
 ghost use Rattle.ds_watch.specs.Followed.{Followed};
@@ -121,7 +121,7 @@ impl Content {
     pub fn place(&self, key: &Key) -> Result<usize, usize>
         ensures { IsPlace (changes_in self.now.held) key.now result }
     {
-        self.held.place(key)
+        self.held.held().place(key)
     }
 
     /// The change that is held for the key whose place this is.
@@ -129,7 +129,7 @@ impl Content {
         ensures value { (key : Key) → IsPlace (changes_in self.now.held) key place → option_copied result ≡ held_at self.now.held key }
         ensures change { IfSome (option_copied result) IsChange }
     {
-        match self.held.get_at(place) {
+        match self.held.marked().get_at(place) {
             Some((change, _)) => Some(change),
             None => None,
         }
@@ -156,6 +156,27 @@ impl Content {
         ensures few { result ≤ 64 }
     {
         self.held.held().floor_count()
+    }
+
+    /// Where the floor of an owner stands, by an index from 0 in the order of the owners' names, or else where it would. It is found
+    /// by one search, and the functions that take a floor's place need no other.
+    pub fn floor_place(&self, owner: &Name) -> Result<usize, usize>
+        ensures { IsFloorPlace (floors_in self.now.held) owner.now result }
+    {
+        self.held.held().floor_place(owner)
+    }
+
+    /// The generation of the floor of the owner whose place this is.
+    pub fn floor_at(&self, place: Result<usize, usize>) -> Option<Generation>
+        ensures { (owner : List ℕ) → IsFloorPlace (floors_in self.now.held) owner place
+            → result ≡ option_map (λ (f : Floor). f.generation) (floor_at self.now.held owner) }
+    {
+        let held = self.held.held();
+        let Ok(index) = place else {
+            return None;
+        };
+        let floor = held.floor_at(index)?;
+        Some(floor.generation)
     }
 
     /// The generation of an owner's floor.

@@ -9,12 +9,12 @@ ghost use Rattle.ds_held.specs.Held.{held_changes, held_floors, held_for, floor_
 ghost use Rattle.ds_held.specs.Kept.{puts_void_by, IsFloorPlace, IsPlace};
 ghost use Rattle.ds_held.specs.Merge.{MergeAnswer};
 ghost use Rattle.ds_held.specs.Raise.{RaiseAnswer};
-ghost use Rattle.ds_marked.specs.Marked.{nothing_marked, remarked_at, floor_remarked_at};
+ghost use Rattle.ds_marked.specs.Marked.{nothing_marked, remarked_at, floor_remarked_at, HasMarks};
 ghost use Rattle.ds_marked.specs.Put.{IsPutMarked, IsRaisedMarked};
 
 use crate::index::Index;
 use ds_entry::{Change, Floor};
-use ds_held::Limits;
+use ds_held::{Held, Limits};
 use ds_marked::Marked;
 use ds_names::{Endpoint, Name, NoRoom};
 use putting::put_indexed;
@@ -53,6 +53,15 @@ impl<M: Drop> Indexed<M> {
             marked: Marked::bounded(alloc, limits),
             index: Index::new(alloc),
         }
+    }
+
+    /// What is held, without the marks.
+    pub fn held(&self) -> &Held
+        ensures value { result.now ≡ self.now.held }
+        ensures sound { IsSound self.now.held }
+        ensures marked { HasMarks self.now }
+    {
+        self.marked.held()
     }
 
     /// What is held, with its marks.

@@ -1,5 +1,5 @@
 -- The held floors as a list, and marks beside them.
-use Rattle.std.proofs.Common.{◌≡◌, ℕ, ◌<◌, ◌≤◌, List, [], length, set, map, Option, Some, None, is_some, Result, Ok, Err, refl, sym, ap, ◌∙◌, subst, arith, length-set}
+use Rattle.std.proofs.Common.{◌≡◌, ℕ, ◌<◌, ◌≤◌, List, [], length, get_or, set, map, Option, Some, None, is_some, Result, Ok, Err, refl, sym, ap, ◌∙◌, subst, arith, length-set}
 use Rattle.std.proofs.lemmas.Cmp.{nat_list_cmp_total}
 use Rattle.std.proofs.lemmas.Map.Lookups.{exact_bytes}
 use Rattle.std.specs.List.{slice_get}
@@ -17,7 +17,7 @@ use Rattle.ds_held.specs.Limits.{LimitsRecord}
 use Rattle.ds_held.specs.Held.{Holding, held_changes, held_floors, floor_for, floor_count, nothing_held}
 use Rattle.ds_held.specs.Raise.{after_raise}
 use Rattle.ds_held.specs.Kept.{owned, by_owner, floors_map, AreOwnersRising, IsFloorPlace, IsGap, put_at}
-use Rattle.ds_held.proofs.PlaceLemmas.{put_there, get_none}
+use Rattle.ds_held.proofs.PlaceLemmas.{put_there, get_there, get_none}
 use Rattle.ds_held.proofs.FloorLemmas.{floor_from, owned_back, floors_back, floors_are}
 use Rattle.ds_marked.specs.Marked.{MarkedHolding, nothing_marked, floor_remarked}
 use Rattle.ds_marked.specs.Beside.{marks_beside, marked_owners, marks_beside_floors, IsBesideFloors}
@@ -34,6 +34,9 @@ module _ (h : Holding) where
 
   floors_held : floors_map (held_floors h) ≡ h.floors
   floors_held = same_map nat_list_cmp_total exact_bytes _ _ (λ q. get-from_entries nat_list_cmp_total (by_owner (held_floors h)) q ∙ ap (find name_cmp q) own_floors ∙ sym (get-entries h.floors q))
+
+  pub floor_found : (owner : List ℕ) (i : ℕ) (d : Floor) → IsFloorPlace (held_floors h) owner (Ok i) → floor_for h owner ≡ Some (get_or (held_floors h) i d).generation
+  floor_found owner i d p = ap (λ (m : FinMap name_cmp ℕ). get m owner) (sym floors_held) ∙ get_there name_cmp nat_list_cmp_total exact_bytes owned (held_floors h) owner i d rising_floors p
 
   pub floor_missing : (owner : List ℕ) (i : ℕ) → IsFloorPlace (held_floors h) owner (Err i) → floor_for h owner ≡ None
   floor_missing owner i p = ap (λ (m : FinMap name_cmp ℕ). get m owner) (sym floors_held) ∙ get_none name_cmp nat_list_cmp_total exact_bytes owned (held_floors h) owner i p

@@ -10,13 +10,11 @@ ghost use Rattle.ds_watch.specs.Followed.{owed_for};
 ghost use Rattle.ds_watch.specs.Mask.{padded};
 ghost use Rattle.ds_content.specs.Stands.{ContentStands, StandsAfter};
 ghost use Rattle.ds_content.specs.Owed.{owed_flags};
-ghost use Rattle.ds_content.specs.Taken.{IsTakenOrNoRoom};
 ghost use Rattle.ds_content.specs.Standing.{standing_in};
 ghost use Rattle.ds_machine.specs.Standing.{IsFree};
 
 use crate::content::Content;
 use ds_entry::{Change, Item};
-use ds_join::{JoinFault, Merge};
 use ds_names::{Key, NoRoom};
 use ds_watch::{Mask, Masks};
 
@@ -31,7 +29,7 @@ impl Content {
         ensures held { OnErr result (held_at self.now.held key.now ≡ None) }
     {
         let _held = self.held.held();
-        match self.held.get_at(place) {
+        match self.held.marked().get_at(place) {
             Some((_, masks)) => Ok(masks.under()),
             None => self.subscriptions.owed(self.alloc, key),
         }
@@ -55,25 +53,8 @@ impl Content {
     {
         let item = Item::Change(change.copy(self.alloc)?);
         let _held = self.held.held();
-        taken(self.held.merge_at(place, change, Masks::fresh(owed)))?;
+        self.held.put_at(place, change, Masks::fresh(owed))?;
         self.journal.push(item);
         Ok(())
-    }
-}
-
-/// Only want of memory keeps out an item against which nothing stands.
-pub(super) fn taken(answer: Result<Merge, JoinFault>) -> Result<(), NoRoom>
-    requires { IsTakenOrNoRoom answer }
-    ensures ok { OnOk result (answer ≡ Ok Merge.Taken) }
-    ensures err { OnErr result (answer ≡ Err JoinFault.NoRoom) }
-{
-    match answer {
-        Ok(Merge::Taken) => Ok(()),
-        Ok(Merge::Known) => unreachable!(),
-        Ok(Merge::Stale) => unreachable!(),
-        Err(JoinFault::NotOwner) => unreachable!(),
-        Err(JoinFault::Clash { .. }) => unreachable!(),
-        Err(JoinFault::Full) => unreachable!(),
-        Err(JoinFault::NoRoom) => Err(NoRoom),
     }
 }

@@ -2,10 +2,11 @@
 
 ghost use Rattle.std.specs.Prelude.{◌≡◌, None, filter, is_some, slice_get, IfOk, OnOk};
 ghost use Rattle.ds_entry.specs.Item.{passes};
+ghost use Rattle.ds_entry.specs.Lent.{item_lent};
 ghost use Rattle.ds_held.specs.Held.{held_items};
 ghost use Rattle.ds_content.specs.Shown.{IsItemAdded};
 
-use ds_entry::{Item, Items};
+use ds_entry::{Item, ItemRef, Items};
 use ds_feed::KeyScope;
 use ds_held::Held;
 use ds_names::NoRoom;
@@ -15,16 +16,20 @@ use std::alloc::Global;
 pub(super) fn copy_at(alloc: Global, held: &Held, index: usize) -> Result<Option<Item>, NoRoom>
     ensures { IfOk result (λ item. item ≡ slice_get (held_items held.now) index) }
 {
-    let floors = held.floor_count();
-    if index < floors {
-        return match held.floor_at(index) {
-            Some(floor) => Ok(Some(Item::Floor(floor))),
-            None => Ok(None),
-        };
-    }
-    match held.at(index - floors) {
-        Some(change) => Ok(Some(Item::Change(change.copy(alloc)?))),
+    match held.item_at(index) {
+        Some(item) => Ok(Some(item.copy(alloc)?)),
         None => Ok(None),
+    }
+}
+
+// Whether the item is under the scope, as every floor is.
+fn admits<S: KeyScope>(scope: &mut S, item: ItemRef<'_>) -> bool
+    ensures answer { result ≡ passes (S.keeps scope.old) (item_lent item.entry) }
+    ensures scope { S.keeps scope.new ≡ S.keeps scope.old }
+{
+    match item {
+        ItemRef::Change(change) => scope.admits(change.key()),
+        ItemRef::Floor(_) => true,
     }
 }
 
@@ -42,19 +47,11 @@ fn add_at<S: KeyScope>(
     ensures same { OnOk result (slice_get (held_items held.now) index ≡ None → items.new ≡ items.old) }
     ensures scope { S.keeps scope.new ≡ S.keeps scope.old }
 {
-    let floors = held.floor_count();
-    if index < floors {
-        let Some(floor) = held.floor_at(index) else {
-            return Ok(false);
-        };
-        items.push(Item::Floor(floor))?;
-        return Ok(true);
-    }
-    let Some(change) = held.at(index - floors) else {
+    let Some(item) = held.item_at(index) else {
         return Ok(false);
     };
-    if scope.admits(change.key()) {
-        items.push(Item::Change(change.copy(alloc)?))?;
+    if admits(scope, item) {
+        items.push(item.copy(alloc)?)?;
     }
     Ok(true)
 }

@@ -2,11 +2,8 @@
 
 ghost use Rattle.std.specs.Prelude.{◌≡◌, ◌<◌, ◌≤◌, ◌&&◌, Some, None, length, map, false, slice_get, slice_index_or, IfOk};
 ghost use Rattle.std.specs.Option.{option_map};
-ghost use Rattle.ds_entry.specs.Change.{ChangeRecord};
-ghost use Rattle.ds_entry.specs.declared.floor.Floor.{Floor};
 ghost use Rattle.ds_entry.specs.declared.item.Item as items;
-ghost use Rattle.ds_held.specs.Held.{held_items, held_changes, held_floors};
-ghost use Rattle.ds_marked.specs.Marked.{mark_for, floor_mark_for};
+ghost use Rattle.ds_held.specs.Held.{held_items};
 ghost use Rattle.ds_watch.specs.Masks.{shown_to, made_at};
 ghost use Rattle.ds_content.specs.Kept.{masks_at};
 ghost use Rattle.ds_content.specs.Marking.{IsSet, IsRemarked, AreRemarked};
@@ -14,45 +11,32 @@ ghost use Rattle.ds_content.specs.Shown.{says_unseen, is_to_show, IsNext};
 ghost use Rattle.ds_pattern.specs.Under.{is_under};
 ghost use Rattle.ds_entry.specs.Item.{passes};
 
+use ds_entry::ItemRef;
 use ds_held::Held;
 use ds_index::Indexed;
+use ds_marked::Marked;
 use ds_names::NoRoom;
 use ds_pattern::{Asker, Filter};
 use ds_watch::Masks;
 use std::alloc::Global;
 
-// The masks beside the floor at the index.
-fn floor_masks(held: &Indexed<Masks>, index: usize) -> Option<Masks>
-    ensures here { (f : Floor) → slice_get (held_floors held.now.held) index ≡ Some f → result ≡ floor_mark_for held.now f.owner }
-    ensures none { slice_get (held_floors held.now.held) index ≡ None → result ≡ None }
+// The masks at the index.
+fn nth(marks: &[Masks], index: usize) -> Option<Masks>
+    ensures { result ≡ slice_get marks.now index }
 {
-    match held.floor_at(index) {
-        Some((_, masks)) => Some(*masks),
-        None => None,
-    }
-}
-
-// The masks beside the change at the index.
-fn change_masks(held: &Indexed<Masks>, index: usize) -> Option<Masks>
-    ensures here { (c : ChangeRecord) → slice_get (held_changes held.now.held) index ≡ Some c → result ≡ mark_for held.now c.key }
-    ensures none { slice_get (held_changes held.now.held) index ≡ None → result ≡ None }
-{
-    match held.at(index) {
-        Some((_, masks)) => Some(*masks),
-        None => None,
-    }
+    marks.get(index).copied()
 }
 
 // The masks beside the item at the index, floors first and then changes in key order.
-fn masks_of(held: &Indexed<Masks>, index: usize) -> Option<Masks>
+fn masks_of(held: &Marked<Masks>, index: usize) -> Option<Masks>
     ensures here { (i : items.Item) → slice_get (held_items held.now.held) index ≡ Some i → result ≡ masks_at held.now i }
     ensures none { slice_get (held_items held.now.held) index ≡ None → result ≡ None }
 {
-    let floors = held.floor_count();
-    if index < floors {
-        floor_masks(held, index)
+    let floors = held.floor_marks();
+    if index < floors.len() {
+        nth(floors, index)
     } else {
-        change_masks(held, index - floors)
+        nth(held.marks(), index - floors.len())
     }
 }
 
@@ -72,7 +56,7 @@ fn next_mask(marks: &[Masks], from: usize, sub: usize) -> Option<usize>
 
 /// The index of the first held item, from this one on, that is still to be shown to the subscription with this number; floors
 /// come first and then changes in key order. It looks at the masks alone, one behind the other.
-pub(super) fn next_unseen(held: &Indexed<Masks>, from: usize, sub: usize) -> Option<usize>
+pub(super) fn next_unseen(held: &Marked<Masks>, from: usize, sub: usize) -> Option<usize>
     requires { sub < 128 }
     ensures { IsNext (is_to_show held.now sub) (held_items held.now.held) from result }
 {
@@ -88,7 +72,8 @@ pub(super) fn next_unseen(held: &Indexed<Masks>, from: usize, sub: usize) -> Opt
 fn set_masks(held: &mut Indexed<Masks>, index: usize, masks: Masks)
     ensures { IsSet held.old held.new index masks }
 {
-    let floors = held.floor_count();
+    let _held = held.held();
+    let floors = held.marked().floor_marks().len();
     if index < floors {
         held.set_floor_mark(index, masks);
     } else {
@@ -101,7 +86,7 @@ fn show_one(held: &mut Indexed<Masks>, index: usize, sub: usize)
     requires { sub < 128 }
     ensures { IsRemarked held.old held.new index (shown_to sub) }
 {
-    if let Some(masks) = masks_of(held, index) {
+    if let Some(masks) = masks_of(held.marked(), index) {
         set_masks(held, index, masks.shown_to(sub));
     }
 }
@@ -112,7 +97,7 @@ pub(super) fn show_first(held: &mut Indexed<Masks>, count: usize, sub: usize)
     ensures { AreRemarked held.old held.new count (λ k. shown_to sub) }
 {
     let mut passed = 0;
-    while let Some(index) = next_unseen(held, passed, sub) {
+    while let Some(index) = next_unseen(held.marked(), passed, sub) {
         if index >= count {
             return;
         }
@@ -126,7 +111,7 @@ fn make_one(held: &mut Indexed<Masks>, index: usize, sub: usize, is_under: bool,
     requires { sub < 128 }
     ensures { IsRemarked held.old held.new index (made_at sub is_under initial) }
 {
-    if let Some(masks) = masks_of(held, index) {
+    if let Some(masks) = masks_of(held.marked(), index) {
         set_masks(held, index, masks.made_at(sub, is_under, initial));
     }
 }
@@ -147,13 +132,9 @@ fn is_under_at(held: &Held, asker: &mut Asker<'_>, index: usize) -> Option<bool>
     ensures told { result ≡ option_map (passes (is_under asker.old)) (slice_get (held_items held.now) index) }
     ensures same { asker.new ≡ asker.old }
 {
-    let floors = held.floor_count();
-    if index < floors {
-        return Some(true);
-    }
-    match held.at(index - floors) {
-        Some(change) => Some(asker.admits(change.key())),
-        None => None,
+    match held.item_at(index)? {
+        ItemRef::Change(change) => Some(asker.admits(change.key())),
+        ItemRef::Floor(_) => Some(true),
     }
 }
 

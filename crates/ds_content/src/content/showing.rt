@@ -14,7 +14,7 @@ use crate::content::copying::copy_at;
 use crate::content::marking::{next_unseen, show_first};
 use ds_entry::Items;
 use ds_held::Held;
-use ds_index::Indexed;
+use ds_marked::Marked;
 use ds_names::NoRoom;
 use ds_watch::Masks;
 use std::alloc::Global;
@@ -40,7 +40,7 @@ fn add_copy(alloc: Global, items: &mut Items, held: &Held, index: usize) -> Resu
 // The first `max` held items that are to be shown to the subscription with this number.
 fn first_unseen(
     alloc: Global,
-    held: &Indexed<Masks>,
+    held: &Marked<Masks>,
     sub: usize,
     max: usize,
 ) -> Result<Shown, NoRoom>
@@ -50,7 +50,7 @@ fn first_unseen(
 {
     let content = held.held();
     let _keys = content.limits().keys();
-    let floors = held.floor_count();
+    let floors = content.floor_count();
     let changes = content.len();
     let count = floors + changes;
     let mut items = Items::new(alloc);
@@ -78,7 +78,7 @@ impl Content {
         ensures refused { InEachWith self.now sub (λ s x. OnErr result (has_unseen s x ≡ true)) }
     {
         let _held = self.held.held();
-        first_unseen(self.alloc, &self.held, sub as usize, max as usize)
+        first_unseen(self.alloc, self.held.marked(), sub as usize, max as usize)
     }
 
     /// These items were shown to the subscription with this number, at the next stamp. It takes no memory.

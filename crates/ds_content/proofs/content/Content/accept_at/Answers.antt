@@ -1,6 +1,5 @@
 use Rattle.std.proofs.Common.{◌≡◌, [], ◌∷◌, ◌++◌, None, map, refl, ap, sym, ◌∙◌, subst, inl, Ok, ◌⊎◌}
 use Rattle.std.specs.FinMap.{insert}
-use Rattle.std.specs.Result.{OnOk}
 use Rattle.ds_entry.specs.Change.{ChangeRecord, IsBodyInPlace}
 use Rattle.ds_entry.specs.declared.item.Item.TheVariants.{Change as Changed}
 use Rattle.ds_feed.specs.Feed as feeds
@@ -8,8 +7,8 @@ use Rattle.ds_feed.specs.Feed.{Feed}
 use Rattle.ds_feed.specs.Kept.{Keeps}
 use Rattle.ds_held.specs.Held.{Holding, held_items}
 use Rattle.ds_held.specs.Kept.{IsPlace}
-use Rattle.ds_held.specs.Merge.{after_merge, MergeAnswer}
-use Rattle.ds_marked.specs.Marked.{marks_after}
+use Rattle.ds_held.specs.Merge.{after_merge}
+use Rattle.ds_held.proofs.KeptLemmas.{merged_joins}
 use Rattle.ds_join.specs.ItemTop.{IsTop}
 use Rattle.ds_join.specs.declared.merge.Merge.TheVariants.{Taken}
 use Rattle.ds_machine.specs.Parts.{changes_in, held_at}
@@ -22,49 +21,52 @@ use Rattle.ds_content.specs.Followed.{watches_item}
 use Rattle.ds_content.specs.Kept.{content_of}
 use Rattle.ds_content.specs.Stands.{ContentStands}
 use Rattle.ds_content.proofs.EnterLemmas.{effect, marked_then, places_then, change_view}
-use Rattle.ds_content.proofs.HoldingLemmas.{changes_are, change_taken, change_new}
+use Rattle.ds_content.proofs.HoldingLemmas.{changes_are, change_taken, held_at-is}
 use Rattle.ds_content.proofs.KeptLemmas.{change_here, change_kept}
 use Rattle.ds_content.proofs.OpenLemmas.{on_err}
 use Rattle.ds_content.proofs.RoomLemmas.{change_enters}
 use Rattle.ds_content.proofs.content.Content.accept_at.Goals as goal
-use Rattle.ds_content.proofs.content.Content.accept_at.Goals.{In_ok-taken, After-push}
+use Rattle.ds_content.proofs.content.Content.accept_at.Goals.{In_ok-put_at, After-push}
 use Rattle.ds_content.specs.Standing.{standing_in}
 use Rattle.ds_machine.specs.Standing.{IsFree}
 
-free : (c : In_ok-taken) → IsFree (standing_in (content_of c.self.inside) c.args.change) c.args.change
-free c = subst (λ (v : ContentRecord). IsFree (standing_in v c.args.change) c.args.change) (sym c.self.view_is) c.requires.free
+-- what stands before the change, read off the fields
+free_in : (v : ContentRecord) (now : ContentRecord) (c : ChangeRecord) → v ≡ now → IsFree (standing_in now c) c → IsFree (standing_in v c) c
+free_in v now c is f = subst (λ (x : ContentRecord). IsFree (standing_in x c) c) (sym is) f
 
-pub merge_at-requires : goal.merge_at-requires
-merge_at-requires c =
+free : (c : In_ok-put_at) → IsFree (standing_in (content_of c.self.inside) c.args.change) c.args.change
+free c = free_in (content_of c.self.inside) c.args.self.now c.args.change c.self.view_is c.requires.free
+
+pub put_at-requires-clause-place : goal.put_at-requires-clause-place
+put_at-requires-clause-place c =
     subst (λ l. IsPlace l c.args.change.key c.args.place) (changes_are c.self.inside.held.held) (subst (λ (v : ContentRecord). IsPlace (changes_in v.held) c.args.change.key c.args.place) (sym c.self.view_is) c.requires.place)
 
-pub taken-requires : goal.taken-requires
-taken-requires c =
-    let f : IsFree (standing_in (content_of c.self.inside) c.args.change) c.args.change = subst (λ (v : ContentRecord). IsFree (standing_in v c.args.change) c.args.change) (sym c.self.view_is) c.requires.free in
-    change_taken c.self.inside.held.held c.held-held.ensures.sound c.args.change c.self.inside.held.held.limits.keys c.merge_at.result refl f.room f.valid c.merge_at.ensures.answer
+pub put_at-requires-clause-taken : goal.put_at-requires-clause-taken
+put_at-requires-clause-taken c =
+    let f = free_in (content_of c.self.inside) c.args.self.now c.args.change c.self.view_is c.requires.free in
+    change_taken c.self.inside.held.held c.held-held.ensures.sound c.args.change f.room f.valid
 
-pub returns-in_err-taken-clause-wants : goal.returns-in_err-taken-clause-wants
-returns-in_err-taken-clause-wants c =
-    let f : IsFree (standing_in (content_of c.self.inside) c.args.change) c.args.change = subst (λ (v : ContentRecord). IsFree (standing_in v c.args.change) c.args.change) (sym c.self.view_is) c.requires.free in
+pub returns-in_err-put_at-clause-wants : goal.returns-in_err-put_at-clause-wants
+returns-in_err-put_at-clause-wants c =
     let new : held_at (held_items c.self.inside.held.held) c.args.change.key ≡ None =
-    change_new c.self.inside.held.held c.held-held.ensures.sound c.args.change f.valid (subst (λ r. MergeAnswer c.self.inside.held.held c.args.change r) c.in_err-taken.ensures.err c.merge_at.ensures.answer) in
-    on_err c.from_residual-in_err-taken.result ((held_at c.args.self.now.held c.args.change.key ≡ None) ⊎ (IsBodyInPlace c.args.change.body → ⊥)) (inl (subst (λ (v : ContentRecord). held_at v.held c.args.change.key ≡ None) c.self.view_is new))
+    held_at-is c.self.inside.held.held c.held-held.ensures.sound c.args.change.key ∙ c.in_err-put_at.ensures.new in
+    on_err c.from_residual-in_err-put_at.result ((held_at c.args.self.now.held c.args.change.key ≡ None) ⊎ (IsBodyInPlace c.args.change.body → ⊥)) (inl (subst (λ (v : ContentRecord). held_at v.held c.args.change.key ≡ None) c.self.view_is new))
+
+held : (c : In_ok-put_at) → c.put_at.new.self.held ≡ after_merge c.self.inside.held.held c.args.change (Ok Taken)
+held c = c.in_ok-put_at.ensures.put.held
 
 -- what is held is the top with the change
-joined : (c : In_ok-taken) → IsTop (held_items c.merge_at.new.self.held) (held_items c.self.inside.held.held ++ Changed c.args.change ∷ [])
-joined c = subst (λ r. OnOk r (IsTop (held_items c.merge_at.new.self.held) (held_items c.self.inside.held.held ++ Changed c.args.change ∷ []))) c.in_ok-taken.ensures.ok c.merge_at.ensures.joined
-
-held : (c : In_ok-taken) → c.merge_at.new.self.held ≡ after_merge c.self.inside.held.held c.args.change (Ok Taken)
-held c = c.merge_at.ensures.held ∙ ap (λ r. after_merge c.self.inside.held.held c.args.change r) c.in_ok-taken.ensures.ok
+joined : (c : In_ok-put_at) → IsTop (held_items c.put_at.new.self.held) (held_items c.self.inside.held.held ++ Changed c.args.change ∷ [])
+joined c =
+    merged_joins c.self.inside.held.held c.put_at.new.self.held c.args.change (Ok Taken) c.held-held.ensures.sound
+    (change_taken c.self.inside.held.held c.held-held.ensures.sound c.args.change (free c).room (free c).valid) (held c)
 
 -- its masks came with it
-marks : (c : In_ok-taken) → c.merge_at.new.self.marks ≡ insert c.self.inside.held.marks c.args.change.key (fresh c.args.owed)
-marks c =
-    c.merge_at.ensures.marks ∙ ap (λ r. marks_after c.self.inside.held.marks c.args.change.key c.fresh.result r) c.in_ok-taken.ensures.ok
-    ∙ ap (λ (m : Masks). insert c.self.inside.held.marks c.args.change.key m) c.fresh.ensures
+marks : (c : In_ok-put_at) → c.put_at.new.self.marks ≡ insert c.self.inside.held.marks c.args.change.key (fresh c.args.owed)
+marks c = c.in_ok-put_at.ensures.put.marks ∙ ap (λ (m : Masks). insert c.self.inside.held.marks c.args.change.key m) c.fresh.ensures
 
 -- it is owed to those under whose query it is
-owes : (c : In_ok-taken) → c.args.owed ≡ padded (map (watches_item (Changed c.args.change)) c.self.inside.subscriptions)
+owes : (c : In_ok-put_at) → c.args.owed ≡ padded (map (watches_item (Changed c.args.change)) c.self.inside.subscriptions)
 owes c = c.requires.owed ∙ change_view c.self.inside.held c.self.inside.journal c.self.inside.stamp c.self.inside.subscriptions c.args.self.now c.self.view_is c.args.change
 
 pushed : (c : After-push) → (f : Feed) → Keeps c.self.inside.journal f → Keeps c.push.new.self (feeds.accepts f (Changed c.args.change))
@@ -72,23 +74,23 @@ pushed c f keeps = subst (λ (x : ChangeRecord). Keeps c.push.new.self (feeds.ac
 
 pub returns-clause-ok : goal.returns-clause-ok
 returns-clause-ok c = λ s stands.
-    let b = (goal.at.returns-clause-ok c).In_ok-taken in
+    let b = (goal.at.returns-clause-ok c).In_ok-put_at in
     let d = (goal.at.returns-clause-ok c).After-push in
     let old = c.self.inside.held in
-    let new = c.merge_at.new.self in
+    let new = c.put_at.new.self in
     effect old new c.self.inside.journal c.push.new.self c.self.inside.stamp c.self.inside.subscriptions (Changed c.args.change) c.args.owed (joined b) (ap (λ (h : Holding). h.limits) (held b))
-    (change_here old new c.args.change c.args.owed c.merge_at.ensures.sound (held b) (marks b) c.merge_at.ensures.floor_marks)
-    (change_kept old new c.args.change c.args.owed c.merge_at.ensures.sound (held b) (marks b) c.merge_at.ensures.floor_marks) (owes b) (pushed d)
+    (change_here old new c.args.change c.args.owed c.put_at.ensures.sound (held b) (marks b) b.in_ok-put_at.ensures.put.floor_marks)
+    (change_kept old new c.args.change c.args.owed c.put_at.ensures.sound (held b) (marks b) b.in_ok-put_at.ensures.put.floor_marks) (owes b) (pushed d)
     (λ t stood. change_enters (content_of c.self.inside) t c.args.change stood (free b)) s (subst (λ (v : ContentRecord). ContentStands v s) (sym c.self.view_is) stands)
 
 pub invariant_of-self-2 : goal.invariant_of-self-2
 invariant_of-self-2 c =
-    let b = (goal.at.invariant_of-self-2 c).In_ok-taken in
+    let b = (goal.at.invariant_of-self-2 c).In_ok-put_at in
     let d = (goal.at.invariant_of-self-2 c).After-push in
     let old = c.self.inside.held in
-    let new = c.merge_at.new.self in
-    let here = change_here old new c.args.change c.args.owed c.merge_at.ensures.sound (held b) (marks b) c.merge_at.ensures.floor_marks in
-    let kept = change_kept old new c.args.change c.args.owed c.merge_at.ensures.sound (held b) (marks b) c.merge_at.ensures.floor_marks in
+    let new = c.put_at.new.self in
+    let here = change_here old new c.args.change c.args.owed c.put_at.ensures.sound (held b) (marks b) b.in_ok-put_at.ensures.put.floor_marks in
+    let kept = change_kept old new c.args.change c.args.owed c.put_at.ensures.sound (held b) (marks b) b.in_ok-put_at.ensures.put.floor_marks in
     let bounds : new.held.limits ≡ old.held.limits = ap (λ (h : Holding). h.limits) (held b) in
     let enters = λ (t : State) (stood : ContentStands (content_of c.self.inside) t). change_enters (content_of c.self.inside) t c.args.change stood (free b) in
     let stood = c.self.invariant.stood in

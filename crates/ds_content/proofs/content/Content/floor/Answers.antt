@@ -4,8 +4,7 @@ use Rattle.ds_entry.specs.declared.floor.Floor.{Floor}
 use Rattle.ds_held.specs.Held.{Holding, floor_for}
 use Rattle.ds_machine.specs.Parts.{floor_at}
 use Rattle.ds_content.specs.Content.{ContentRecord}
-use Rattle.ds_content.proofs.HoldingLemmas.{floor_at-is}
-use Rattle.ds_content.proofs.OpenLemmas.{generation_of}
+use Rattle.ds_content.proofs.HoldingLemmas.{floor_at-is, generation_of}
 use Rattle.ds_content.proofs.content.Content.floor.Goals as goal
 
 pub returns : goal.returns

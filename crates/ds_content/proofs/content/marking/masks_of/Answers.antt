@@ -1,22 +1,29 @@
-use Rattle.std.proofs.Common.{◌<◌, arith}
-use Rattle.ds_held.specs.Held.{floor_count}
-use Rattle.ds_content.proofs.IndexLemmas.{floor_beside, floor_none, change_beside, change_none}
+use Rattle.std.proofs.Common.{◌≡◌, ◌<◌, ◌+◌, length, ◌∙◌, arith}
+use Rattle.ds_held.specs.Held.{held_changes, held_floors, floor_count}
+use Rattle.ds_content.proofs.HoldingLemmas.{count_floors}
+use Rattle.ds_content.proofs.IndexLemmas.{floor_beside, floor_none, change_beside, change_none, none_beside}
 use Rattle.ds_content.proofs.content.marking.masks_of.Goals as goal
 
 pub returns-then-index-floors-clause-here : goal.returns-then-index-floors-clause-here
 returns-then-index-floors-clause-here c =
-    let low : c.args.index < floor_count c.args.held.now.held = omega (arith, c.floor_count-floors.ensures.count, c.if-index-floors.true) in
-    floor_beside c.args.held.now c.args.index c.floor_masks.result low c.floor_masks.ensures.here
+    let n = count_floors c.args.held.now.held in
+    let low : c.args.index < floor_count c.args.held.now.held = omega (arith, n, c.floor_marks-floors.ensures.each, c.if-index-floors.true) in
+    floor_beside c.args.held.now c.args.index c.nth.result low (λ f e. c.nth.ensures ∙ c.floor_marks-floors.ensures.own c.args.index f e)
 
 pub returns-then-index-floors-clause-none : goal.returns-then-index-floors-clause-none
 returns-then-index-floors-clause-none c =
-    let low : c.args.index < floor_count c.args.held.now.held = omega (arith, c.floor_count-floors.ensures.count, c.if-index-floors.true) in
-    floor_none c.args.held.now c.args.index c.floor_masks.result low c.floor_masks.ensures.none
+    let n = count_floors c.args.held.now.held in
+    let low : c.args.index < floor_count c.args.held.now.held = omega (arith, n, c.floor_marks-floors.ensures.each, c.if-index-floors.true) in
+    floor_none c.args.held.now c.args.index c.nth.result low (λ e. c.nth.ensures ∙ none_beside (held_floors c.args.held.now.held) c.floor_marks-floors.result.now c.args.index c.floor_marks-floors.ensures.each e)
 
 pub returns-else-index-floors-clause-here : goal.returns-else-index-floors-clause-here
 returns-else-index-floors-clause-here c =
-    change_beside c.args.held.now c.args.index c.change_masks.result _ (omega (arith, c.floor_count-floors.ensures.count, c.if-index-floors.false)) c.change_masks.ensures.here
+    let n = count_floors c.args.held.now.held in
+    change_beside c.args.held.now c.args.index c.nth-else-index-floors.result _ (omega (arith, n, c.floor_marks-floors.ensures.each, c.if-index-floors.false))
+    (λ x e. c.nth-else-index-floors.ensures ∙ c.marks.ensures.own _ x e)
 
 pub returns-else-index-floors-clause-none : goal.returns-else-index-floors-clause-none
 returns-else-index-floors-clause-none c =
-    change_none c.args.held.now c.args.index c.change_masks.result _ (omega (arith, c.floor_count-floors.ensures.count, c.if-index-floors.false)) c.change_masks.ensures.none
+    let n = count_floors c.args.held.now.held in
+    change_none c.args.held.now c.args.index c.nth-else-index-floors.result _ (omega (arith, n, c.floor_marks-floors.ensures.each, c.if-index-floors.false))
+    (λ e. c.nth-else-index-floors.ensures ∙ none_beside (held_changes c.args.held.now.held) c.marks.result.now _ c.marks.ensures.each e)

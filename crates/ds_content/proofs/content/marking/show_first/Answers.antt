@@ -1,8 +1,9 @@
-use Rattle.std.proofs.Common.{◌≡◌, ◌<◌, ◌≤◌, ◌+◌, length, ap, arith}
+use Rattle.std.proofs.Common.{◌≡◌, ◌<◌, ◌≤◌, ◌+◌, Some, None, length, ap, subst, arith}
 use Rattle.std.proofs.lemmas.Option.{slice_get_within}
 use Rattle.ds_held.specs.Held.{Holding, held_items}
 use Rattle.ds_watch.specs.Masks.{shown_to}
 use Rattle.ds_content.specs.Marking.{AreRemarked}
+use Rattle.ds_content.specs.Shown.{IsNext, is_to_show}
 use Rattle.ds_content.proofs.NextLemmas.{remarked_past}
 use Rattle.ds_content.proofs.RemarkLemmas.{none_remarked, remarked_more}
 use Rattle.ds_content.proofs.content.marking.show_first.Goals as goal
@@ -13,7 +14,7 @@ loop-index-init c = record { shown = none_remarked c.args.held.now (λ k. shown_
 pub loop-index-smaller : goal.loop-index-smaller
 loop-index-smaller c =
     let hs = held_items c.loop-index.held.held in
-    let next = c.in-Some.ensures in
+    let next = subst (λ h. IsNext (is_to_show h c.args.sub) (held_items h.held) c.loop-index.passed (Some c.in-Some.index)) c.marked.ensures c.in-Some.ensures in
     let from = next.there.0 in
     let within : c.in-Some.index < length hs = slice_get_within hs c.in-Some.index next.there.1.0 next.there.1.1 in
     let same = ap (λ (h : Holding). length (held_items h)) c.show_one.ensures.held in
@@ -21,7 +22,7 @@ loop-index-smaller c =
 
 pub loop-index-preserved : goal.loop-index-preserved
 loop-index-preserved c =
-    let next = c.in-Some.ensures in
+    let next = subst (λ h. IsNext (is_to_show h c.args.sub) (held_items h.held) c.loop-index.passed (Some c.in-Some.index)) c.marked.ensures c.in-Some.ensures in
     let before : AreRemarked c.args.held.now c.loop-index.held c.in-Some.index (λ k. shown_to c.args.sub) =
     remarked_past c.args.held.now c.loop-index.held c.loop-index.passed c.in-Some.index c.args.sub next.there.0 c.loop-index.invariant.shown (λ k i e l below. next.none_before k i e l below) in
     record {
@@ -31,11 +32,11 @@ loop-index-preserved c =
 
 pub returns-then-index-count : goal.returns-then-index-count
 returns-then-index-count c =
-    let next = c.in-Some.ensures in
+    let next = subst (λ h. IsNext (is_to_show h c.args.sub) (held_items h.held) c.loop-index.passed (Some c.in-Some.index)) c.marked.ensures c.in-Some.ensures in
     remarked_past c.args.held.now c.loop-index.held c.loop-index.passed c.args.count c.args.sub c.loop-index.invariant.within c.loop-index.invariant.shown
     (λ k i e l below. next.none_before k i e l (omega (arith, below, c.if-index-count.true)))
 
 pub returns : goal.returns
 returns c =
     remarked_past c.args.held.now c.loop-index.held c.loop-index.passed c.args.count c.args.sub c.loop-index.invariant.within c.loop-index.invariant.shown
-    (λ k i e l below. c.in_default.ensures.none_before k i e l tt)
+    (λ k i e l below. (subst (λ h. IsNext (is_to_show h c.args.sub) (held_items h.held) c.loop-index.passed None) c.marked.ensures c.in_default.ensures).none_before k i e l tt)

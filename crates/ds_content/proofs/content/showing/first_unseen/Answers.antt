@@ -3,7 +3,7 @@ use Rattle.std.specs.List.{list_any, slice_get}
 use Rattle.std.proofs.lemmas.Option.{slice_get_within}
 use Rattle.ds_entry.specs.declared.item.Item.{Item}
 use Rattle.ds_entry.proofs.Members.{list_any-from_Contains}
-use Rattle.ds_held.specs.Held.{Holding, held_items, held_count}
+use Rattle.ds_held.specs.Held.{Holding, held_items, held_count, floor_count}
 use Rattle.ds_content.specs.Shown.{is_to_show}
 use Rattle.ds_content.proofs.FlagLemmas.{index_among, filter_more}
 use Rattle.ds_content.proofs.IndexLemmas.{few_items}
@@ -23,10 +23,10 @@ returns-in_err-add_copy-clause-refused c =
 few : (c : After-len-changes) → length (held_items c.args.held.now.held) ≤ 4160
 few c =
     few_items c.args.held.now.held c.limits.result c.len-changes.result c.floor_count-floors.result (c.limits.ensures ∙ ap (λ (h : Holding). h.limits) c.held-content.ensures.value) c.keys-keys.ensures.limits
-    (c.len-changes.ensures.count ∙ ap held_count c.held-content.ensures.value) (omega (arith, c.len-changes.ensures.few, ap (λ (h : Holding). h.limits.keys) c.held-content.ensures.value)) c.floor_count-floors.ensures.count c.floor_count-floors.ensures.few
+    (c.len-changes.ensures.count ∙ ap held_count c.held-content.ensures.value) (omega (arith, c.len-changes.ensures.few, ap (λ (h : Holding). h.limits.keys) c.held-content.ensures.value)) (c.floor_count-floors.ensures.count ∙ ap (λ (h : Holding). floor_count h) c.held-content.ensures.value) c.floor_count-floors.ensures.few
 
 all : (c : After-len-changes) → length (held_items c.args.held.now.held) ≡ c.floor_count-floors.result + c.len-changes.result
-all c = items_counted c.args.held.now.held c.len-changes.result c.floor_count-floors.result (c.len-changes.ensures.count ∙ ap held_count c.held-content.ensures.value) c.floor_count-floors.ensures.count
+all c = items_counted c.args.held.now.held c.len-changes.result c.floor_count-floors.result (c.len-changes.ensures.count ∙ ap held_count c.held-content.ensures.value) (c.floor_count-floors.ensures.count ∙ ap (λ (h : Holding). floor_count h) c.held-content.ensures.value)
 
 pub overflow_add-count : goal.overflow_add-count
 overflow_add-count c = let d = (goal.at.overflow_add-count c).After-len-changes in omega (arith, few d, all d)
