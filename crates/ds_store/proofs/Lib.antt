@@ -1,6 +1,5 @@
 pub mod StandingLemmas
 pub mod AnswerLemmas
-pub mod CountLemmas
 pub mod MergeLemmas
 pub mod WatchLemmas
 pub mod ReadingLemmas

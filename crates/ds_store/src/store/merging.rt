@@ -2,8 +2,8 @@
 
 ghost use Rattle.std.specs.Prelude.{◌≡◌, Err, IfNone};
 ghost use Rattle.ds_entry.specs.declared.item.Item.TheVariants.{Change as Changed, Floor as Floored};
-ghost use Rattle.ds_held.specs.Kept.{IsPlace};
-ghost use Rattle.ds_machine.specs.Parts.{changes_in};
+ghost use Rattle.ds_held.specs.Kept.{IsFloorPlace, IsPlace};
+ghost use Rattle.ds_machine.specs.Parts.{changes_in, floors_in};
 ghost use Rattle.ds_machine.specs.Standing.{cause_of, IsFree, IsFloorFree};
 ghost use Rattle.ds_machine.specs.State.{State};
 ghost use Rattle.ds_machine.specs.Machine.{Step};
@@ -49,12 +49,13 @@ impl Store {
         cause_of_change(&standing, change)
     }
 
-    // The first cause against a floor that another holder gave.
-    fn cause_of_floor(&self, floor: &Floor) -> Option<Cause>
+    // The first cause against a floor that another holder gave, where the place of its owner is told.
+    fn cause_of_floor(&self, place: Result<usize, usize>, floor: &Floor) -> Option<Cause>
+        requires { IsFloorPlace (floors_in self.now.held) floor.now.owner place }
         ensures first { (s : State) → ContentStands self.now s → result ≡ cause_of s (Floored floor.now) }
         ensures free { IfNone result (IsFloorFree (floor_standing_in self.now floor.now) floor.now) }
     {
-        let standing = self.floor_standing(floor);
+        let standing = self.floor_standing(place, floor);
         cause_of_floor(&standing, floor)
     }
 
@@ -89,12 +90,13 @@ impl Store {
         ensures step { ContentSteps self.old (λ s t. MergesItem s (Floored floor) result t) self.new }
         ensures last { result ≡ Err Refusal.NoRoom → InEachState self.old (λ s. MayLackItem s (Floored floor)) }
     {
-        if let Some(cause) = self.cause_of_floor(&floor) {
+        let place = self.content.floor_place(&floor.owner);
+        if let Some(cause) = self.cause_of_floor(place, &floor) {
             return passed_as(cause);
         }
         let owed = self.content.owed_by_floor();
-        match self.content.raise(floor, owed) {
-            Ok(()) => {
+        match self.content.raise_at(place, floor, owed) {
+            Ok(_) => {
                 total.add(owed);
                 Ok(Merge::Taken)
             }
