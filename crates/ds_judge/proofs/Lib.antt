@@ -1,5 +1,5 @@
 pub mod HeldLemmas
 pub mod FreeLemmas
-pub mod FaultLemmas
+pub mod MadeLemmas
 pub mod RoomLemmas
 pub mod LastLemmas

@@ -3,11 +3,9 @@ use Rattle.std.specs.Prelude.{◌≡◌, ℕ, Bool, true, false, not, ◌&&◌, 
 use Rattle.ds_names.specs.declared.version.Version.{Version}
 use Rattle.ds_names.specs.Endpoint.{EndpointRecord, is_rs}
 use Rattle.ds_entry.specs.Change.{ChangeRecord}
-use Rattle.ds_entry.specs.ChangeFault.{IsEntryFault}
 use Rattle.ds_entry.specs.Floor.{floor_of}
 use Rattle.ds_entry.specs.Void.{voids}
 use Rattle.ds_entry.specs.declared.body.Body.{Body}
-use Rattle.ds_entry.specs.declared.change.EntryFault.{EntryFault}
 use Rattle.ds_machine.specs.Order.{by_version, by_room}
 use Rattle.ds_machine.specs.Asking.{AskedChange, against_asked}
 use Rattle.ds_machine.specs.declared.refusal.Cause.{Cause}
@@ -56,7 +54,3 @@ is_void_under (Some generation) c = voids (floor_of c.owner generation) c
 -- the name is RS's where the caller is RS
 abbrev pub NamesRs : Option (List ℕ) → EndpointRecord → Type 0
 NamesRs name caller = is_rs caller ≡ true → name ≡ Some rs_name
-
--- the parts make a change
-abbrev pub MakesChange : ChangeRecord → Type 0
-MakesChange c = (fault : EntryFault) → ¬ IsEntryFault fault c

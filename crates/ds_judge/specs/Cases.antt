@@ -1,5 +1,5 @@
 -- What a Subscribe and a Check meet, as the machine has it.
-use Rattle.std.specs.Prelude.{◌≡◌, ℕ, ◌<◌, ◌≤◌, Bool, true, ◌&&◌, cond, nat_le, Option, Some, None}
+use Rattle.std.specs.Prelude.{◌≡◌, ℕ, ◌<◌, ◌≤◌, Bool, ◌&&◌, cond, nat_le, Option, Some, None, is_some}
 use Rattle.ds_pattern.specs.declared.query.Query.{Query}
 use Rattle.ds_machine.specs.Calling as machine
 use Rattle.ds_machine.specs.Order.{first_refusal}
@@ -15,7 +15,7 @@ machine_subscribe x query = record { places = x.places; taken = x.taken; stamp =
 
 -- a Check, with whether something is to be shown, and the last stamp
 abbrev pub machine_check : CheckCase → Bool → ℕ → machine.CheckCase
-machine_check x some stamp = record { places = x.places; taken = x.taken; some = some; stamp = stamp; sub = x.sub; max = x.max }
+machine_check x some stamp = record { places = x.places; taken = is_some x.last; some = some; stamp = stamp; sub = x.sub; max = x.max }
 
 -- the first refusal of a Check, where something is to be shown or isn't, and with this last stamp
 abbrev pub refusal_of_case : CheckCase → Bool → ℕ → Option Refusal
@@ -25,9 +25,9 @@ refusal_of_case x some stamp = first_refusal (machine.against_check (machine_che
 abbrev pub refusal_of_showing : Bool → ℕ → Option Refusal
 refusal_of_showing some stamp = cond (some && nat_le last_place stamp) (Some Worn) None
 
--- there is a subscription at its place, and it asks for 1 to 256 items
-pub record IsCheckable (x : CheckCase) : Type 0 where
+-- there is a subscription at its place, with this stamp, and it asks for 1 to 256 items
+pub record IsCheckable (x : CheckCase) (stamp : ℕ) : Type 0 where
   pub place : x.sub < x.places
   pub some : 0 < x.max
   pub few : x.max ≤ most_items
-  pub made : x.taken ≡ true
+  pub made : x.last ≡ Some stamp

@@ -1,16 +1,17 @@
 //! What callers ask: publishing and deleting.
 
-ghost use Rattle.std.specs.Prelude.{◌≡◌, ℕ, List, Option, Some, None, IfNone};
-ghost use Rattle.std.specs.Option.{option_copied};
+ghost use Rattle.std.specs.Prelude.{◌≡◌, ◌<◌, ◌≤◌, ◌^◌, ℕ, List, Option, Some, None, IfNone};
+ghost use Rattle.std.specs.Option.{option_copied, unwrap_or};
 ghost use Rattle.std.specs.List.{find};
 ghost use Rattle.ds_entry.specs.declared.body.Body.{Body};
 ghost use Rattle.ds_machine.specs.Order.{first_cause};
 ghost use Rattle.ds_machine.specs.Asking.{published, deleted, is_label_change, is_callers_version, is_live, change_asked};
-ghost use Rattle.ds_judge.specs.Asked.{request_of, causes_against, cause_by_need, by_held, is_void_under, NamesRs, MakesChange};
+ghost use Rattle.ds_judge.specs.Asked.{request_of, causes_against, cause_by_need, by_held, is_void_under, NamesRs};
 ghost use Rattle.ds_judge.specs.Standing.{machine_standing};
 ghost use Rattle.ds_names.specs.Kind.{is_label};
 ghost use Rattle.ds_names.specs.Endpoint.{is_rs};
-ghost use Rattle.ds_entry.specs.Change.{is_of_kind, is_label_body};
+ghost use Rattle.ds_names.specs.Name.{IsName, rs_name};
+ghost use Rattle.ds_entry.specs.Change.{IsChange, IsBody, is_of_kind, is_label_body};
 ghost use Rattle.ds_machine.specs.Standing.{IsFree};
 
 use crate::change::{cause_by_room, cause_by_version};
@@ -73,20 +74,26 @@ pub fn is_void_under(floor: Option<Generation>, asked: &Asked) -> bool
     }
 }
 
-/// The change that is asked for, in the name of the caller. That no cause stands against it says that its parts make a
-/// change.
-pub fn change_asked(asked: &Asked, body: Body, caller: Option<Name>) -> Change
-    requires { MakesChange (change_asked caller (request_of asked.now) body) }
-    ensures { result ≡ change_asked caller (request_of asked.now) body }
+// The owner of what a caller of this name asks for: the caller, and RS where there is no name.
+fn owner_of(caller: &Option<Name>) -> Name
+    ensures value { result ≡ unwrap_or caller.now rs_name }
+    ensures name { IsName result }
 {
     let owner = match caller {
-        Some(name) => name,
+        Some(name) => *name,
         None => Name::rs(),
     };
-    match Change::make(asked.key, owner, asked.version, body) {
-        Ok(change) => change,
-        Err(_) => unreachable!(),
-    }
+    let _bytes = owner.bytes();
+    owner
+}
+
+/// The change that is asked for, in the name of the caller. That no cause stands against it says that its parts make a
+/// change, so nothing is judged again.
+pub fn change_asked(asked: &Asked, body: Body, caller: Option<Name>) -> Change
+    requires { IsChange (change_asked caller (request_of asked.now) body) }
+    ensures { result ≡ change_asked caller (request_of asked.now) body }
+{
+    Change::from_parts(asked.key, owner_of(&caller), asked.version, body)
 }
 
 // Whether what is asked for keeps the rule of labels.
@@ -145,7 +152,8 @@ fn first_cause_of(
     asked: &Asked,
     body: &Body,
 ) -> Option<Cause>
-    ensures { result ≡ first_cause (Some asked.now.version) (causes_against standing.now caller asked.now body.now) }
+    ensures first { result ≡ first_cause (Some asked.now.version) (causes_against standing.now caller asked.now body.now) }
+    ensures valid { IsBody body.now }
 {
     let is_label = asked.key.kind.is_label();
     if !body.is_of_kind(asked.key.kind) {
@@ -166,6 +174,19 @@ fn first_cause_of(
     cause_by_held(standing, &owner, asked, body)
 }
 
+// The parts of what a caller of this name asks for are in their ranges, as their types say.
+fn parts_are_in_range(asked: &Asked, caller: &Option<Name>)
+    ensures name { IsName asked.now.key.name }
+    ensures owner { IsName (unwrap_or caller.now rs_name) }
+    ensures epoch { asked.now.version.epoch ≤ 2097151 }
+    ensures seq { asked.now.version.seq < 2 ^ 32 }
+{
+    let _name = asked.key.name.bytes();
+    let _owner = owner_of(caller);
+    let _epoch = asked.version.epoch.number();
+    let _seq = asked.version.seq;
+}
+
 /// The first cause against what a caller asks for, where `caller` is its name: BadKind, BadLabel, BadVersion, NoCaller,
 /// NotAllowed, and then by what is held NotOwner, Clash, Stale, Known, Exists, NotFound, Full, Worn. Where there is none, the
 /// change that is asked for can be made, has room for its key or takes the place of what is held there, no floor makes it
@@ -178,7 +199,8 @@ pub fn cause_of_asked(
 ) -> Option<Cause>
     ensures first { result ≡ first_cause (Some asked.now.version) (causes_against standing.now caller asked.now body.now) }
     ensures free { IfNone result (IsFree (machine_standing standing.now) (change_asked caller (request_of asked.now) body.now)) }
-    ensures made { IfNone result (NamesRs caller asked.now.caller → MakesChange (change_asked caller (request_of asked.now) body.now)) }
+    ensures made { IfNone result (NamesRs caller asked.now.caller → IsChange (change_asked caller (request_of asked.now) body.now)) }
 {
+    parts_are_in_range(asked, &caller);
     first_cause_of(standing, caller, asked, body)
 }

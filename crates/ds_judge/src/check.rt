@@ -1,7 +1,6 @@
 //! What stands against a Check.
 
-ghost use Rattle.std.specs.Prelude.{◌≡◌, ℕ, ◌<◌, Bool, true, None, IfNone};
-ghost use Rattle.std.specs.Option.{option_or};
+ghost use Rattle.std.specs.Prelude.{◌≡◌, ℕ, ◌<◌, Bool, true, Some, None, IfNone, IfOk, IfErr, OnOk};
 ghost use Rattle.ds_machine.specs.Calling.{is_no_max};
 ghost use Rattle.ds_judge.specs.Cases.{refusal_of_case, refusal_of_showing, IsCheckable};
 ghost use Rattle.ds_names.specs.Limits.{last_place};
@@ -14,8 +13,8 @@ use ds_names::limits::{LAST_PLACE, MOST_ITEMS};
 pub struct CheckCase {
     /// How many places there are for subscriptions.
     pub places: u32,
-    /// Whether there is a subscription at its place.
-    pub taken: bool,
+    /// The stamp of the last Subscribe or Check of the subscription at its place, if there is one.
+    pub last: Option<u64>,
     /// Its place.
     pub sub: u32,
     /// How many items it asks for.
@@ -29,22 +28,20 @@ pub(crate) fn is_no_max(max: u32) -> bool
     max == 0 || max as usize > MOST_ITEMS
 }
 
-/// The first refusal of a Check before it is known whether something is to be shown: BadSub, TooMany, NotFound. Behind it
-/// stands only what stands against showing.
-pub fn refusal_of_check(case: CheckCase) -> Option<Refusal>
-    ensures first { (some : Bool) (stamp : ℕ) → refusal_of_case case some stamp ≡ option_or result (refusal_of_showing some stamp) }
-    ensures checkable { IfNone result (IsCheckable case) }
+/// The stamp before a Check: that of the subscription's last Subscribe or Check. Or the first refusal, before it is known
+/// whether something is to be shown: BadSub, TooMany, NotFound. Behind it stands only what stands against showing.
+pub fn stamp_before(case: CheckCase) -> Result<u64, Refusal>
+    ensures checkable { IfOk result (IsCheckable case) }
+    ensures none { OnOk result ((some : Bool) (stamp : ℕ) → refusal_of_case case some stamp ≡ refusal_of_showing some stamp) }
+    ensures refused { IfErr result (λ refusal. (some : Bool) (stamp : ℕ) → refusal_of_case case some stamp ≡ Some refusal) }
 {
     if case.sub >= case.places {
-        return Some(Refusal::BadSub);
+        return Err(Refusal::BadSub);
     }
     if is_no_max(case.max) {
-        return Some(Refusal::TooMany);
+        return Err(Refusal::TooMany);
     }
-    if !case.taken {
-        return Some(Refusal::NotFound);
-    }
-    None
+    case.last.ok_or(Refusal::NotFound)
 }
 
 /// What stands against showing, where `some` says that something is to be shown: Worn where the last stamp is 2^62. A Check

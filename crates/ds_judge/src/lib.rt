@@ -21,7 +21,7 @@ mod subscribe;
 pub use answer::{answer_to, passed_as, sweep_answer};
 pub use asked::{Asked, Need, cause_of_asked, change_asked, deleted, is_void_under, published};
 pub use change::cause_of_change;
-pub use check::{CheckCase, refusal_of_check, refusal_of_showing};
+pub use check::{CheckCase, refusal_of_showing, stamp_before};
 pub use floor::{cause_of_floor, cause_of_sweep};
 pub use laws::{outcomes_have_room, scopes_may_lack_room, want_of_room_is_no_cause};
 pub use reading::{refusal_of_journal, refusal_of_merge, scope_of_page, scope_of_since};

@@ -1,7 +1,7 @@
 -- What a Subscribe and a Check are answered, in the words of a store's content.
 use Rattle.std.proofs.Common.{◌≡◌, ℕ, zero, suc, ◌+◌, ◌<◌, ◌||◌, Bool, true, false, cond, List, [], ◌∷◌, ◌++◌, filter, length, take, get_or, Option, Some, None, is_some, refl, ap, ap₂, sym, ◌∙◌, inl, inr, arith}
 use Rattle.std.specs.List.{list_any}
-use Rattle.std.specs.Option.{option_map, option_map_or, option_or, unwrap_or}
+use Rattle.std.specs.Option.{option_map, option_map_or, unwrap_or}
 use Rattle.ds_entry.specs.declared.item.Item.{Item}
 use Rattle.ds_pattern.specs.declared.query.Query.{Query}
 use Rattle.ds_watch.specs.Followed.{Followed}
@@ -29,8 +29,12 @@ mapped_some : {X Y : Type 0} (f : X → Y) (o : Option X) → is_some (option_ma
 mapped_some f None = refl
 mapped_some f (Some x) = refl
 
+-- the stamp of the subscription at the place
+abbrev pub stamp_at : ContentRecord → ℕ → Option ℕ
+stamp_at v sub = option_map (λ (f : Followed). f.stamp) (get_or v.subscriptions sub None)
+
 -- there is a subscription where it has a stamp
-pub taken_is : (v : ContentRecord) (s : State) (sub : ℕ) (o : Option ℕ) → ContentStands v s → o ≡ option_map (λ (f : Followed). f.stamp) (get_or v.subscriptions sub None) → is_some o ≡ is_some (subscription_at s sub)
+pub taken_is : (v : ContentRecord) (s : State) (sub : ℕ) (o : Option ℕ) → ContentStands v s → o ≡ stamp_at v sub → is_some o ≡ is_some (subscription_at s sub)
 taken_is v s sub o stands e =
     ap is_some e ∙ mapped_some (λ (f : Followed). f.stamp) (get_or v.subscriptions sub None) ∙ ap is_some (place_of v s stands sub) ∙ mapped_some (followed_of (held s)) (subscription_at s sub)
 
@@ -69,39 +73,48 @@ check_of places taken some stamp sub max = record { places = places; taken = tak
 abbrev pub is_shown : State → Option Subscription → Bool
 is_shown s seer = option_map_or (has_unseen s) seer false
 
--- what stands against a Check, where what stands before showing is known
-pub check_judged : (s : State) (sub max : ℕ) (places : ℕ) (taken : Bool) (r : Option Refusal) → places ≡ s.limits.subs → taken ≡ is_some (subscription_at s sub)
-    → ((some : Bool) (stamp : ℕ) → first_refusal (against_check (check_of places taken some stamp sub max)) ≡ option_or r (refusal_of_showing some stamp))
-    → first_refusal (against_check (check_case s sub max (subscription_at s sub))) ≡ option_or r (refusal_of_showing (is_shown s (subscription_at s sub)) s.stamp)
-check_judged s sub max places taken r p q first =
-    let some = is_shown s (subscription_at s sub) in
-    let same : check_of places taken some s.stamp sub max ≡ check_case s sub max (subscription_at s sub) = λ i. record { places = p i; taken = q i; some = some; stamp = s.stamp; sub = sub; max = max } in
-    sym (ap (λ (x : CheckCase). first_refusal (against_check x)) same) ∙ first some s.stamp
-
 pub check_refused : (s : State) (sub max : ℕ) (r : Refusal) → first_refusal (against_check (check_case s sub max (subscription_at s sub))) ≡ Some r → IsOutcome (checking s sub max) (Refused r) s
 check_refused s sub max r e =
     let rest = option_map_or (λ f. shows s sub f (take max (unseen s f))) (subscription_at s sub) (Refused refusals.NotFound, s) in
     let result : Option Refusal → Reply × State = λ o. option_map_or (λ x. (Refused x, s)) o rest in
     record { reply_is = sym (ap (λ o. (result o).0) e); state_is = sym (ap (λ o. (result o).1) e) }
 
--- the subscription with a stamp
-pub record Seen (s : State) (sub stamp : ℕ) : Type 0 where
+-- a Check against which nothing stands before showing: its subscription, whose stamp this is, and what stands against showing
+pub record IsBegun (s : State) (sub max stamp : ℕ) : Type 0 where
   pub seer : Subscription
   pub here : subscription_at s sub ≡ Some seer
   pub stamp_is : stamp ≡ seer.stamp
+  pub left : first_refusal (against_check (check_case s sub max (subscription_at s sub))) ≡ refusal_of_showing (has_unseen s seer) s.stamp
 
-pub seen_at : (v : ContentRecord) (s : State) (sub n : ℕ) → ContentStands v s → Some n ≡ option_map (λ (f : Followed). f.stamp) (get_or v.subscriptions sub None) → Seen s sub n
-seen_at v s sub n stands e = by_place (subscription_at s sub) refl
-  where
-    there : Some n ≡ option_map (λ (f : Followed). f.stamp) (option_map (followed_of (held s)) (subscription_at s sub))
-    there = e ∙ ap (option_map (λ (f : Followed). f.stamp)) (place_of v s stands sub)
+-- what a Check meets: so many places, and at its own a subscription with this stamp, or none
+module _ (v : ContentRecord) (s : State) (sub max places : ℕ) (last : Option ℕ) (stands : ContentStands v s) (p : places ≡ v.limits.subs) (q : last ≡ stamp_at v sub) where
+  -- what stands against it in each case is this
+  abbrev IsAgainst : (Bool → ℕ → Option Refusal) → Type 0
+  IsAgainst f = (some : Bool) (stamp : ℕ) → first_refusal (against_check (check_of places (is_some last) some stamp sub max)) ≡ f some stamp
 
-    by_place : (o : Option Subscription) → subscription_at s sub ≡ o → Seen s sub n
-    by_place None q = absurd (let no : Some n ≡ None = there ∙ ap (λ o. option_map (λ (f : Followed). f.stamp) (option_map (followed_of (held s)) o)) q in cc)
-    by_place (Some seer) q =
-        let same : Some n ≡ Some seer.stamp = there ∙ ap (λ o. option_map (λ (f : Followed). f.stamp) (option_map (followed_of (held s)) o)) q in
-        let one : n ≡ seer.stamp = cc in
-        record { seer = seer; here = q; stamp_is = one }
+  judged : (f : Bool → ℕ → Option Refusal) → IsAgainst f → first_refusal (against_check (check_case s sub max (subscription_at s sub))) ≡ f (is_shown s (subscription_at s sub)) s.stamp
+  judged f all =
+      let some = is_shown s (subscription_at s sub) in
+      let limit = p ∙ ap (λ l. l.subs) stands.limits in
+      let taken = taken_is v s sub last stands q in
+      let same : check_of places (is_some last) some s.stamp sub max ≡ check_case s sub max (subscription_at s sub) = λ i. record { places = limit i; taken = taken i; some = some; stamp = s.stamp; sub = sub; max = max } in
+      sym (ap (λ (x : CheckCase). first_refusal (against_check x)) same) ∙ all some s.stamp
+
+  pub check_first : (r : Refusal) → IsAgainst (λ some stamp. Some r) → IsOutcome (checking s sub max) (Refused r) s
+  check_first r all = check_refused s sub max r (judged (λ some stamp. Some r) all)
+
+  pub begun : (n : ℕ) → last ≡ Some n → IsAgainst refusal_of_showing → IsBegun s sub max n
+  begun n made all = by_place (subscription_at s sub) refl
+    where
+      there : Some n ≡ option_map (λ (f : Followed). f.stamp) (option_map (followed_of (held s)) (subscription_at s sub))
+      there = sym made ∙ q ∙ ap (option_map (λ (f : Followed). f.stamp)) (place_of v s stands sub)
+
+      by_place : (o : Option Subscription) → subscription_at s sub ≡ o → IsBegun s sub max n
+      by_place None e = absurd (let no : Some n ≡ None = there ∙ ap (λ o. option_map (λ (f : Followed). f.stamp) (option_map (followed_of (held s)) o)) e in cc)
+      by_place (Some seer) e =
+          let same : Some n ≡ Some seer.stamp = there ∙ ap (λ o. option_map (λ (f : Followed). f.stamp) (option_map (followed_of (held s)) o)) e in
+          let one : n ≡ seer.stamp = cc in
+          record { seer = seer; here = e; stamp_is = one; left = judged refusal_of_showing all ∙ ap (λ o. refusal_of_showing (is_shown s o) s.stamp) e }
 
 -- ---- what is shown
 -- there are some

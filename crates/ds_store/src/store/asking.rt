@@ -1,12 +1,13 @@
 //! What callers ask: publishing and deleting.
 
 ghost use Rattle.std.specs.Prelude.{◌≡◌, None, IfNone};
+ghost use Rattle.ds_entry.specs.Change.{IsChange};
 ghost use Rattle.ds_held.specs.Kept.{IsPlace};
 ghost use Rattle.ds_machine.specs.Parts.{changes_in};
 ghost use Rattle.ds_machine.specs.Asking.{cause_against, change_asked, name_of};
 ghost use Rattle.ds_machine.specs.Machine.{Answers, asking};
 ghost use Rattle.ds_machine.specs.State.{State};
-ghost use Rattle.ds_judge.specs.Asked.{request_of, MakesChange};
+ghost use Rattle.ds_judge.specs.Asked.{request_of};
 ghost use Rattle.ds_judge.specs.Last.{MayLackAsked};
 ghost use Rattle.ds_judge.specs.Standing.{machine_standing};
 ghost use Rattle.ds_content.specs.Stands.{ContentStands, InEachState};
@@ -60,7 +61,7 @@ impl Store {
         requires named { caller.now ≡ name_of self.now.held asked.now.caller }
         ensures first { (s : State) → ContentStands self.now s → result ≡ cause_against s (request_of asked.now) body.now }
         ensures free { let c = asked_here self.now (request_of asked.now) body.now in IfNone result (IsFree (standing_in self.now c) c) }
-        ensures made { IfNone result (MakesChange (asked_here self.now (request_of asked.now) body.now)) }
+        ensures made { IfNone result (IsChange (asked_here self.now (request_of asked.now) body.now)) }
     {
         let standing = self.standing_before(place, asked, caller);
         cause_of_asked(&standing, *caller, asked, body)

@@ -9,7 +9,7 @@ ghost use Rattle.ds_content.specs.Stands.{ContentStands};
 ghost use Rattle.ds_store.specs.Steps.{ContentSteps};
 
 use crate::store::Store;
-use ds_judge::{CheckCase, SubscribeCase, refusal_of_check, refusal_of_showing, take_up};
+use ds_judge::{CheckCase, SubscribeCase, refusal_of_showing, stamp_before, take_up};
 use ds_machine::{Command, Refusal, Reply};
 use ds_names::NoRoom;
 use ds_pattern::Query;
@@ -60,18 +60,15 @@ impl Store {
         ensures step { ContentSteps self.old (λ s t. Answers s (checking s sub max) result t) self.new }
         ensures last { (s : State) → ContentStands self.old s → IsLast s (Command.Check sub max) result }
     {
-        let before = self.content.stamp_of(sub);
         let case = CheckCase {
             places: self.content.limits().subs(),
-            taken: before.is_some(),
+            last: self.content.stamp_of(sub),
             sub,
             max,
         };
-        if let Some(refusal) = refusal_of_check(case) {
-            return Reply::Refused(refusal);
-        }
-        let Some(before) = before else {
-            return Reply::Refused(Refusal::NotFound);
+        let before = match stamp_before(case) {
+            Ok(before) => before,
+            Err(refusal) => return Reply::Refused(refusal),
         };
         let stamp = self.content.stamp();
         let Ok(shown) = self.content.first_unseen(sub, max) else {

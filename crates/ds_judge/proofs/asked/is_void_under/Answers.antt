@@ -1,7 +1,7 @@
 use Rattle.std.proofs.Common.{Some, sym, ◌∙◌}
 use Rattle.ds_machine.specs.Asking.{change_asked}
 use Rattle.ds_judge.specs.Asked.{request_of}
-use Rattle.ds_judge.proofs.FaultLemmas.{void_by_epoch}
+use Rattle.ds_judge.proofs.MadeLemmas.{void_by_epoch}
 use Rattle.ds_judge.proofs.asked.is_void_under.Goals as goal
 
 pub returns-then-not-is_label : goal.returns-then-not-is_label
