@@ -119,6 +119,7 @@ impl Journal {
     }
 
     /// Takes in the next item; a full ring loses its oldest one. It takes no memory.
+    #[inline(always)]
     pub fn push(&mut self, item: Item)
         requires { self.old.position < last_place }
         ensures { (f : Feed) → Keeps self.old f → Keeps self.new (accepts f item) }

@@ -77,6 +77,7 @@ fn outlook(
 }
 
 // Puts an element at its place in a list. In the place of another one it takes no memory.
+#[inline(always)]
 pub(crate) fn put<T: Drop>(
     list: &mut Vec<T>,
     place: Result<usize, usize>,

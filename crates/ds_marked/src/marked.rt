@@ -101,6 +101,7 @@ impl<M: Drop> Marked<M> {
     /// that stood there.
     ///
     /// It takes memory only for a key that isn't held; want of it changes nothing.
+    #[inline(always)]
     pub fn put_at(
         &mut self,
         place: Result<usize, usize>,

@@ -29,6 +29,7 @@ impl Held {
     /// Puts a change that is to be taken at its place: what [`Held::merge`] would answer was judged before. All else stays.
     ///
     /// It takes memory only for a key that isn't held, and only for want of it is the change refused; then nothing changes.
+    #[inline(always)]
     pub fn put(&mut self, place: Result<usize, usize>, change: Change) -> Result<(), NoRoom>
         requires place { IsPlace (held_changes self.old) change.key place }
         requires taken { MergeAnswer self.old change (Ok Taken) }

@@ -49,6 +49,7 @@ pub(super) fn set_at<M: Drop>(marks: &mut Vec<M>, index: usize, mark: M)
 }
 
 // Puts a change that is to be taken, and its mark, at their place. Room for both is there before either is.
+#[inline(always)]
 pub(super) fn put_marked<M: Drop>(
     held: &mut Held,
     marks: &mut Vec<M>,
