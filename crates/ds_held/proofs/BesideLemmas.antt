@@ -12,13 +12,13 @@ use Rattle.ds_held.specs.Limits.{LimitsRecord}
 use Rattle.ds_held.specs.Held.{Holding, held_changes, held_floors, held_for, floor_for}
 use Rattle.ds_held.specs.Merge.{MergeAnswer, after_merge}
 use Rattle.ds_held.specs.Raise.{RaiseAnswer, after_raise}
-use Rattle.ds_held.specs.Kept.{owned, holding_of, left_by_floor, marks_left, puts_void_by, put_at, AreKept, IsPlaceOf, IsPlace, IsFloorPlace, IsGap, IsWithin}
+use Rattle.ds_held.specs.Kept.{owned, holding_of, left_by_floor, marks_left, puts_void_by, put_at, AreKept, IsPlaceOf, IsPlace, IsFloorPlace, IsGap, IsPlaceIn}
 use Rattle.ds_held.proofs.PlaceLemmas.{get_none}
 use Rattle.ds_held.proofs.FloorLemmas.{floors_are}
 use Rattle.ds_held.proofs.KeptLemmas.{changes_are, change_none, merged_after, merged_kept, raised_after, raised_kept}
 
 -- a place that was found is one of the list
-place_within : {K X : Type 0} (R : K → K → Ordering) (key : X → K) (xs : List X) (sought : K) (place : Result ℕ ℕ) → IsPlaceOf R key xs sought place → IsWithin place (length xs)
+place_within : {K X : Type 0} (R : K → K → Ordering) (key : X → K) (xs : List X) (sought : K) (place : Result ℕ ℕ) → IsPlaceOf R key xs sought place → IsPlaceIn place (length xs)
 place_within R key xs sought (Ok i) p = p.0
 place_within R key xs sought (Err i) p = p.0
 
@@ -37,7 +37,7 @@ module _ (fs : List Floor) (xs : List ChangeRecord) (lim : LimitsRecord) (kept :
   change_place : (h : Holding) → held ≡ h → (c : ChangeRecord) (place : Result ℕ ℕ) → IsPlace (held_changes h) c.key place → IsPlace xs c.key place
   change_place h is c place p = subst (λ l. IsPlace l c.key place) (ap held_changes (sym is) ∙ changes_are fs xs lim kept.keys) p
 
-  pub change_within : (h : Holding) → held ≡ h → (c : ChangeRecord) (place : Result ℕ ℕ) → IsPlace (held_changes h) c.key place → IsWithin place (length xs)
+  pub change_within : (h : Holding) → held ≡ h → (c : ChangeRecord) (place : Result ℕ ℕ) → IsPlace (held_changes h) c.key place → IsPlaceIn place (length xs)
   change_within h is c place p = place_within key_cmp (λ (x : ChangeRecord). x.key) xs c.key place (change_place h is c place p)
 
   put_facts : {U E : Type 0} (c : ChangeRecord) → IsChange c → (place : Result ℕ ℕ) → IsPlace xs c.key place → MergeAnswer held c (Ok Taken)
@@ -81,7 +81,7 @@ module _ (fs : List Floor) (xs : List ChangeRecord) (lim : LimitsRecord) (kept :
   floor_place : (h : Holding) → held ≡ h → (owner : List ℕ) (place : Result ℕ ℕ) → IsFloorPlace (held_floors h) owner place → IsFloorPlace fs owner place
   floor_place h is owner place p = subst (λ l. IsFloorPlace l owner place) (ap held_floors (sym is) ∙ floors_are fs xs lim kept.owners) p
 
-  pub floor_within : (h : Holding) → held ≡ h → (owner : List ℕ) (place : Result ℕ ℕ) → IsFloorPlace (held_floors h) owner place → IsWithin place (length fs)
+  pub floor_within : (h : Holding) → held ≡ h → (owner : List ℕ) (place : Result ℕ ℕ) → IsFloorPlace (held_floors h) owner place → IsPlaceIn place (length fs)
   floor_within h is owner place p = place_within name_cmp (λ (f : Floor). f.owner) fs owner place (floor_place h is owner place p)
 
   raise_facts : {M E : Type 0} (f : Floor) (place : Result ℕ ℕ) → IsFloorPlace fs f.owner place → RaiseAnswer held f (Ok Taken) → (ms : List M) (r : Result ℕ E) (gs : List Floor) (ys : List ChangeRecord) (left : List M)

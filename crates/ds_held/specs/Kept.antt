@@ -82,8 +82,8 @@ abbrev pub IsFloorPlace : List Floor → List ℕ → Result ℕ ℕ → Type 0
 IsFloorPlace floors owner place = IsPlaceOf name_cmp (λ (f : Floor). f.owner) floors owner place
 
 -- the place is one of an element, or of one more, in a list of this length
-abbrev pub IsWithin : Result ℕ ℕ → ℕ → Type 0
-IsWithin place len = MatchResult place (λ i. i < len) (λ i. i ≤ len)
+abbrev pub IsPlaceIn : Result ℕ ℕ → ℕ → Type 0
+IsPlaceIn place len = MatchResult place (λ i. i < len) (λ i. i ≤ len)
 
 -- nothing stands at the place
 abbrev pub IsGap : Result ℕ ℕ → Type 0

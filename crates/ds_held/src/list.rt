@@ -2,7 +2,7 @@
 
 ghost use Rattle.std.specs.Prelude.{◌≡◌, ◌≤◌, Ok, IfErr, OnOk, OnErr, length};
 ghost use Rattle.ds_entry.specs.Change.{IsChange};
-ghost use Rattle.ds_held.specs.Kept.{holding_of, left_by_floor, list_after, put_at, AreKept, IsGap, IsPlace, IsPut, IsWithin};
+ghost use Rattle.ds_held.specs.Kept.{holding_of, left_by_floor, list_after, put_at, AreKept, IsGap, IsPlace, IsPut, IsPlaceIn};
 ghost use Rattle.ds_held.specs.Merge.{after_merge, AnswersHeld, AnswersNew, AnswersOwn, IsMergeRefused, MergeAnswer, UnlessVoid};
 
 use crate::floors::is_void;
@@ -83,7 +83,7 @@ pub(crate) fn put<T: Drop>(
     place: Result<usize, usize>,
     element: T,
 ) -> Result<(), NoRoom>
-    requires { IsWithin place (length list.old.items) }
+    requires { IsPlaceIn place (length list.old.items) }
     ensures put { OnOk result (list.new.items ≡ put_at list.old.items place element) }
     ensures same { OnErr result (list.new.items ≡ list.old.items) }
     ensures gap { OnErr result (IsGap place) }

@@ -3,7 +3,7 @@
 ghost use Rattle.std.specs.Prelude.{◌≡◌, if◌then◌else◌, length, is_some, IfOk, OnOk, OnErr};
 ghost use Rattle.ds_entry.specs.Left.{value_of};
 ghost use Rattle.ds_held.specs.Kept.{holding_of, left_by_floor, list_after, marks_left, put_at, puts_void_by};
-ghost use Rattle.ds_held.specs.Kept.{AreKept, IsGap, IsWithin};
+ghost use Rattle.ds_held.specs.Kept.{AreKept, IsGap, IsPlaceIn};
 ghost use Rattle.ds_held.specs.Raise.{after_raise, RaiseAnswer};
 
 use crate::floors::raise;
@@ -80,7 +80,7 @@ pub(crate) fn raise_at<M: Drop>(
     place: Result<usize, usize>,
     floor: Floor,
 ) -> Result<usize, NoRoom>
-    requires place { IsWithin place (length floors.old.items) }
+    requires place { IsPlaceIn place (length floors.old.items) }
     requires each { length marks.old.items ≡ length changes.old.items }
     ensures floors { OnOk result (floors.new.items ≡ put_at floors.old.items place floor) }
     ensures changes { OnOk result (changes.new.items ≡ left_by_floor floor changes.old.items) }
