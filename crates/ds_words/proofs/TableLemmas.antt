@@ -1,19 +1,14 @@
 -- Each command's line by the table: its row of slots, and what of a line can be read, slot by slot.
-use Rattle.std.proofs.Common.{◌≡◌, ◌≢◌, ℕ, List, [], ◌∷◌, Option, None, Some, Result, Ok, Err, refl, sym, subst, ◌∙◌}
-use Rattle.std.specs.Result.{IsErrAnd}
+use Rattle.std.proofs.Common.{◌≡◌, ◌≢◌, ℕ, List, [], ◌∷◌, Result, Ok, Err, refl, sym, subst}
+use Rattle.std.specs.Result.{IsErrAnd, MatchResult}
 use Rattle.ds_names.specs.declared.kind.Kind.{Kind}
 use Rattle.ds_names.specs.declared.kind.Kind.TheVariants.{U32}
-use Rattle.ds_entry.specs.declared.body.Value.{Value}
 use Rattle.ds_entry.specs.Change.{IsInPlace}
-use Rattle.ds_line.specs.Spelling.{escaped}
+use Rattle.ds_entry.specs.Item.{IsItemInPlace}
 use Rattle.ds_line.specs.Piece.{Piece, Found, StopsIn}
 use Rattle.ds_line.specs.declared.part_fault.PartFault.{PartFault}
 use Rattle.ds_line.specs.declared.part_fault.PartFault.TheVariants.{BadPart, NoRoom}
 use Rattle.ds_line.proofs.PieceLemmas.{One, Views, view_found, view_stops, both_found}
-use Rattle.ds_feed.specs.declared.cursor.Cursor.{Cursor}
-use Rattle.ds_machine.specs.declared.command.Scope.{Scope}
-use Rattle.ds_machine.specs.declared.command.Scope.TheVariants.{All as AllKeys, Under}
-use Rattle.ds_pattern.specs.declared.query.Query.{Query}
 use Rattle.ds_words.specs.declared.command.ScriptCommand.{ScriptCommand}
 use Rattle.ds_words.specs.declared.command.ScriptCommand.TheVariants.{Offer, Show, All as Everything, Publish, Delete, Sweep, Retrieve, NameOf, Subscribe, Check, Map, Entries, Ring, Side as OnSide, Clear, Restart, Deliver, Since, Snapshot, Page, Settings, Service, Death, Beat, Tick, Assign, Follow, Submit, Reply}
 use Rattle.ds_words.specs.declared.slot.Slot.{Slot}
@@ -21,56 +16,19 @@ use Rattle.ds_words.specs.declared.slot.Slot.TheVariants as slots
 use Rattle.ds_words.specs.declared.word.Word.{Word as CommandWord}
 use Rattle.ds_words.specs.declared.word.Word.TheVariants as words
 use Rattle.ds_words.specs.Command.{command_word, behind_word, IsCommand, CommandTakesMemory}
-use Rattle.ds_words.specs.Pieces.{a_value, taken_by, FindsPattern, TakesCommand, ValueWantsRoom}
-use Rattle.ds_words.specs.Scope.{ScopeTakesMemory, Writes}
+use Rattle.ds_words.specs.Pieces.{taken_by, TakesCommand}
+use Rattle.ds_words.specs.Reads.{ReadsOr}
+use Rattle.ds_words.specs.Row.{command_in, slot_wants, ReadsRow, GivesCommand, TakesRow}
 use Rattle.ds_words.specs.Table.{slots_of, piece_of, kind_after, row_of, line_of, IsByTable}
 use Rattle.ds_words.proofs.OneLemmas.{one_behind, one_view}
 use Rattle.ds_words.proofs.OpenLemmas.{open_first_stops, open_then_stops}
-use Rattle.ds_words.proofs.QueryLemmas.{escaped_one, query_is}
 use Rattle.ds_words.proofs.SlotLemmas.{some_of, slot_one, IsInner, slot_apart}
 
 -- ---- the command of a word and of what stands in its slots
 
-abbrev pub query_of : List ℕ → ℕ → Query
-query_of text kinds = record { text = text; kinds = kinds }
-
-abbrev pub cursor_of : ℕ → ℕ → Cursor
-cursor_of incarnation position = record { incarnation = incarnation; position = position }
-
-abbrev pub command_of : (w : CommandWord) → (line_of w).Of → ScriptCommand
-command_of words.Offer x = Offer x
-command_of words.Show x = Show
-command_of words.All x = Everything
-command_of words.Publish x = Publish x.0 x.1.1.0 x.1.1.1.0 x.1.1.1.1 x.1.0
-command_of words.Delete x = Delete x.0 x.1.0 x.1.1.0
-command_of words.Sweep x = Sweep x.0 x.1.0 x.1.1.0
-command_of words.Retrieve x = Retrieve x.0
-command_of words.NameOf x = NameOf x.0
-command_of words.Subscribe x = Subscribe x.0 (query_of x.1.0 x.1.1.0) x.1.1.1.0 x.1.1.1.1.0
-command_of words.Check x = Check x.0 x.1.0
-command_of words.Map x = Map (query_of x.0 x.1.0)
-command_of words.Entries x = Entries x.0
-command_of words.Ring x = Ring x.0
-command_of words.Side x = OnSide x.0
-command_of words.Clear x = Clear x.0
-command_of words.Restart x = Restart x.0 x.1.0
-command_of words.Deliver x = Deliver x.0 x.1.0 x.1.1.0
-command_of words.Since x = Since x.0 (cursor_of x.1.0 x.1.1.0) x.1.1.1.0
-command_of words.Snapshot x = Snapshot x.0
-command_of words.Page x = Page x.0 x.1.0.0 x.1.0.1
-command_of words.Settings x = Settings x
-command_of words.Service x = Service x.0 x.1.0 x.1.1.0
-command_of words.Death x = Death x.0 x.1.0 x.1.1.0
-command_of words.Beat x = Beat x.0 x.1.0
-command_of words.Tick x = Tick x.0
-command_of words.Assign x = Assign x.0 x.1.0
-command_of words.Follow x = Follow x.0
-command_of words.Submit x = Submit x.0 x.1.0 x.1.1.0 x.1.1.1.0
-command_of words.Reply x = Reply x.0 x.1.0 x.1.1.0
-
 -- it is one, and its line is what the slots have
 made : (w : CommandWord) (x : (line_of w).Of) → (line_of w).Can x
-    → IsCommand (command_of w x) × (command_word (command_of w x) ≡ w) × (behind_word (command_of w x) ≡ (line_of w).parts x)
+    → IsCommand (command_in w x) × (command_word (command_in w x) ≡ w) × (behind_word (command_in w x) ≡ (line_of w).parts x)
 made words.Offer x can = (can, refl, refl)
 made words.Show x can = (tt, refl, refl)
 made words.All x can = (tt, refl, refl)
@@ -108,7 +66,7 @@ pub record Row (m : ScriptCommand) (w : CommandWord) : Type 0 where
   pub fields : (line_of w).Of
   pub can : (line_of w).Can fields
   pub parts : (line_of w).parts fields ≡ behind_word m
-  pub back : command_of w fields ≡ m
+  pub back : command_in w fields ≡ m
 
 pub row : (m : ScriptCommand) → IsCommand m → Row m (command_word m)
 row (Offer i) is = record { fields = i; can = is; parts = refl; back = refl }
@@ -167,7 +125,7 @@ word_row w m is same = subst (λ (v : CommandWord). Row m v) same (row m is)
 -- the commands of a word are what its slots may have
 view_of : (w : CommandWord) → Views (line_of w) (taken_by w)
 view_of w = record {
-  to = command_of w;
+  to = command_in w;
   can = λ x can. let m = made w x can in (m.0, m.1);
   parts = λ x can. (made w x can).2;
   from = λ m is. let r = word_row w m is.0 is.1 in (r.fields, r.can, r.parts);
@@ -175,7 +133,7 @@ view_of w = record {
 
 pub by_table : (w : CommandWord) → IsByTable w
 by_table w = record {
-  makes = λ x can. let m = made w x can in (command_of w x, m.0, m.1, m.2);
+  makes = λ x can. let m = made w x can in (command_in w x, m.0, m.1, m.2);
   made = λ m is same. let r = word_row w m is same in (r.fields, r.can, r.parts);
 }
 
@@ -200,20 +158,20 @@ word_one w = one_view (line_of w) (taken_by w) (view_of w) (row_one U32 (slots_o
 -- ---- along a line
 
 -- how the slots that are left fill the line
-abbrev pub To : CommandWord → Kind → List Slot → Type 0
+abbrev To : CommandWord → Kind → List Slot → Type 0
 To w k ss = (row_of k ss).Of → (line_of w).Of
 
 -- What was read of the word's line ends where the rest begins. What comes of the slots that are left comes of the line.
-pub record Along (w : CommandWord) (bytes : List ℕ) (k : Kind) (ss : List Slot) (rest : List ℕ) (to : To w k ss) : Type 0 where
-  pub stops : (stop : PartFault) → StopsIn (row_of k ss) stop rest → StopsIn (line_of w) stop bytes
-  pub found : (x : (row_of k ss).Of) (after : List ℕ) → Found (row_of k ss) x rest after → Found (line_of w) (to x) bytes after
+record Along (w : CommandWord) (bytes : List ℕ) (k : Kind) (ss : List Slot) (rest : List ℕ) (to : To w k ss) : Type 0 where
+  stops : (stop : PartFault) → StopsIn (row_of k ss) stop rest → StopsIn (line_of w) stop bytes
+  found : (x : (row_of k ss).Of) (after : List ℕ) → Found (row_of k ss) x rest after → Found (line_of w) (to x) bytes after
 
 -- nothing is read
-pub start : (w : CommandWord) (bytes : List ℕ) → Along w bytes U32 (slots_of w) bytes (λ x. x)
+start : (w : CommandWord) (bytes : List ℕ) → Along w bytes U32 (slots_of w) bytes (λ x. x)
 start w bytes = record { stops = λ stop s. s; found = λ x after f. f }
 
 -- a slot is read
-pub next : {w : CommandWord} {bytes : List ℕ} {k : Kind} {s t : Slot} {ss : List Slot}
+next : {w : CommandWord} {bytes : List ℕ} {k : Kind} {s t : Slot} {ss : List Slot}
     {rest : List ℕ} {to : To w k (s ∷ t ∷ ss)} {x : (piece_of k s).Of} {r : List ℕ}
     → IsInner s → Along w bytes k (s ∷ t ∷ ss) rest to → Found (piece_of k s) x rest r
     → Along w bytes (kind_after k s x) (t ∷ ss) r (λ y. to (x, y))
@@ -224,93 +182,130 @@ next {w} {bytes} {k} {s} {t} {ss} {rest} {to} {x} {r} inner a f =
       found = λ y after h. a.found (x, y) after (both_found (piece_of k s) more x y rest r after f h);
     }
 
-pub line_stops_at : (w : CommandWord) (left : ℕ) (bytes : List ℕ) → StopsIn (line_of w) (BadPart left) bytes
-    → StopsIn (taken_by w) (BadPart left) bytes
-line_stops_at w left bytes s = view_stops (line_of w) (taken_by w) (view_of w) (BadPart left) bytes s
+-- ---- what the readers of slots answer
 
-line_stops : (w : CommandWord) (stop : PartFault) (bytes : List ℕ) → stop ≢ NoRoom → StopsIn (line_of w) stop bytes
-    → TakesCommand w bytes (Err stop)
-line_stops w (BadPart left) bytes room s = line_stops_at w left bytes s
-line_stops w NoRoom bytes room s = absurd (room refl)
+-- there are slots, and each but the last can have another behind it
+abbrev IsRow : List Slot → Type 0
+IsRow [] = ⊥
+IsRow (s ∷ []) = Unit {0}
+IsRow (slots.Item ∷ t ∷ ss) = ⊥
+IsRow (slots.Value ∷ t ∷ ss) = ⊥
+IsRow (slots.Text ∷ t ∷ ss) = ⊥
+IsRow (s ∷ t ∷ ss) = IsRow (t ∷ ss)
+
+row_first : (s t : Slot) (ss : List Slot) → IsRow (s ∷ t ∷ ss) → IsInner s × IsRow (t ∷ ss)
+row_first slots.Item t ss is = absurd is
+row_first slots.Value t ss is = absurd is
+row_first slots.Text t ss is = absurd is
+row_first s t ss is = (tt, is)
+
+slots_are : (w : CommandWord) → IsRow (slots_of w)
+slots_are words.Offer = tt
+slots_are w = tt
+
+-- what the slot has takes memory
+abbrev IsBig : (k : Kind) (s : Slot) → (piece_of k s).Of → Type 0
+IsBig k slots.Item i = ¬ IsItemInPlace i
+IsBig k slots.Value value = ¬ IsInPlace value
+IsBig k s x = ⊥
+
+-- and so does what the last slot of a row has
+abbrev EndsBig : (k : Kind) (ss : List Slot) → (row_of k ss).Of → Type 0
+EndsBig k [] x = ⊥
+EndsBig k (s ∷ []) x = IsBig k s x
+EndsBig k (s ∷ t ∷ ss) x = EndsBig (kind_after k s x.0) (t ∷ ss) x.1
+
+big_takes : (w : CommandWord) (x : (line_of w).Of) → EndsBig U32 (slots_of w) x → CommandTakesMemory (command_in w x)
+big_takes words.Offer x big = big
+big_takes words.Publish x big = big
+big_takes w x big = absurd big
+
+inner_wants : (k : Kind) (s : Slot) (bytes : List ℕ) → IsInner s → ¬ slot_wants k s bytes
+inner_wants k slots.Item bytes inner wants = absurd inner
+inner_wants k slots.Value bytes inner wants = absurd inner
+inner_wants k s bytes inner wants = wants
+
+big_stands : (k : Kind) (s : Slot) (bytes : List ℕ) → slot_wants k s bytes
+    → (x : (piece_of k s).Of) × (rest : List ℕ) × Found (piece_of k s) x bytes rest × IsBig k s x
+big_stands k slots.Item bytes wants = wants
+big_stands k slots.Value bytes wants = wants
+big_stands k s bytes wants = absurd wants
+
+-- ---- what the reader of a line answers
 
 -- a slot can't be read, and others come behind it
-pub stops_here : {w : CommandWord} {bytes : List ℕ} {k : Kind} {s t : Slot} {ss : List Slot}
-    {rest : List ℕ} {to : To w k (s ∷ t ∷ ss)} {stop : PartFault}
+stops_here : (w : CommandWord) (bytes : List ℕ) (k : Kind) (s t : Slot) (ss : List Slot) (rest : List ℕ) (to : To w k (s ∷ t ∷ ss)) (stop : PartFault)
     → Along w bytes k (s ∷ t ∷ ss) rest to → stop ≢ NoRoom → StopsIn (piece_of k s) stop rest → TakesCommand w bytes (Err stop)
-stops_here {w} {bytes} {k} {s} {t} {ss} {rest} {to} {stop} a room h =
-    line_stops w stop bytes room (a.stops stop (open_first_stops (piece_of k s) (λ y. row_of (kind_after k s y) (t ∷ ss)) stop rest
+stops_here w bytes k s t ss rest to (BadPart left) a room h =
+    view_stops (line_of w) (taken_by w) (view_of w) (BadPart left) bytes
+    (a.stops (BadPart left) (open_first_stops (piece_of k s) (λ y. row_of (kind_after k s y) (t ∷ ss)) (BadPart left) rest
     (λ y can. row_some (kind_after k s y) (t ∷ ss)) room h))
-
--- the last slot can't be read
-pub stops_last : {w : CommandWord} {bytes : List ℕ} {k : Kind} {s : Slot} {rest : List ℕ} {to : To w k (s ∷ [])} {stop : PartFault}
-    → Along w bytes k (s ∷ []) rest to → stop ≢ NoRoom → StopsIn (piece_of k s) stop rest → TakesCommand w bytes (Err stop)
-stops_last {w} {bytes} {k} {s} {rest} {to} {stop} a room h = line_stops w stop bytes room (a.stops stop h)
+stops_here w bytes k s t ss rest to NoRoom a room h = absurd (room refl)
 
 -- all slots are read
-pub found_last : {w : CommandWord} {bytes : List ℕ} {k : Kind} {s : Slot}
-    {rest : List ℕ} {to : To w k (s ∷ [])} {x : (piece_of k s).Of} {after : List ℕ}
-    → Along w bytes k (s ∷ []) rest to → Found (piece_of k s) x rest after → Found (taken_by w) (command_of w (to x)) bytes after
+found_last : (w : CommandWord) (bytes : List ℕ) (k : Kind) (s : Slot) (rest : List ℕ) (to : To w k (s ∷ [])) (x : (piece_of k s).Of) (after : List ℕ)
+    → Along w bytes k (s ∷ []) rest to → Found (piece_of k s) x rest after → Found (taken_by w) (command_in w (to x)) bytes after
 unfolding view_of
-found_last {w} {bytes} {k} {s} {rest} {to} {x} {after} a f = view_found (line_of w) (taken_by w) (view_of w) (to x) bytes after
-    (a.found x after f)
+found_last w bytes k s rest to x after a f = view_found (line_of w) (taken_by w) (view_of w) (to x) bytes after (a.found x after f)
 
--- all slots are read, and there is no room for what they say
-pub no_room : {w : CommandWord} {bytes : List ℕ} {k : Kind} {s : Slot}
-    {rest : List ℕ} {to : To w k (s ∷ [])} {x : (piece_of k s).Of} {after : List ℕ}
-    → Along w bytes k (s ∷ []) rest to → Found (piece_of k s) x rest after → CommandTakesMemory (command_of w (to x))
-    → TakesCommand w bytes (Err NoRoom)
-no_room {w} {bytes} {k} {s} {rest} {to} {x} {after} a f memory = (command_of w (to x), after, found_last a f, memory)
+-- the last slot can't be read, or there is no room for what it has
+stops_last : (w : CommandWord) (bytes : List ℕ) (k : Kind) (s : Slot) (rest : List ℕ) (to : To w k (s ∷ [])) (stop : PartFault)
+    → Along w bytes k (s ∷ []) rest to → ((x : (piece_of k s).Of) → IsBig k s x → CommandTakesMemory (command_in w (to x)))
+    → (stop ≡ NoRoom → slot_wants k s rest) → StopsIn (piece_of k s) stop rest → TakesCommand w bytes (Err stop)
+stops_last w bytes k s rest to (BadPart left) a takes room h =
+    view_stops (line_of w) (taken_by w) (view_of w) (BadPart left) bytes (a.stops (BadPart left) h)
+stops_last w bytes k s rest to NoRoom a takes room h =
+    let big = big_stands k s rest (room refl) in
+    (command_in w (to big.0), big.1, found_last w bytes k s rest to big.0 big.1 a big.2, takes big.0 big.3)
 
--- a last value can't be read, or there is no room for it
-stops_value : {w : CommandWord} {bytes : List ℕ} {k : Kind} {rest : List ℕ} {to : To w k (slots.Value ∷ [])} (stop : PartFault)
-    → Along w bytes k (slots.Value ∷ []) rest to → ((value : Value) → ¬ IsInPlace value → CommandTakesMemory (command_of w (to value)))
-    → StopsIn (a_value k) stop rest → (stop ≡ NoRoom → ValueWantsRoom k rest)
-    → TakesCommand w bytes (Err stop)
-stops_value {w} {bytes} {k} {rest} {to} (BadPart left) a memory h wants = line_stops_at w left bytes (a.stops (BadPart left) h)
-stops_value {w} {bytes} {k} {rest} {to} NoRoom a memory h wants = let v = wants refl in no_room a v.2 (memory v.0 v.3)
+-- the reader answers why
+answers_stop : (w : CommandWord) (bytes : List ℕ) (result : Result ScriptCommand PartFault) (stop : PartFault)
+    → IsErrAnd result (λ (it : PartFault). it ≡ stop) → TakesCommand w bytes (Err stop) → TakesCommand w bytes result
+answers_stop w bytes (Ok command) stop exit takes = absurd exit
+answers_stop w bytes (Err it) stop exit takes = subst (λ (x : PartFault). TakesCommand w bytes (Err x)) (sym exit) takes
 
--- ---- where a `?` ends the reader of a line
+-- the reader answers the command, or that there is no room for it
+answers_command : (w : CommandWord) (bytes after : List ℕ) (result : Result ScriptCommand PartFault) (command : ScriptCommand)
+    → Found (taken_by w) command bytes after → GivesCommand command result → TakesCommand w bytes result
+answers_command w bytes after (Ok given) command f same = (after, subst (λ (x : ScriptCommand). Found (taken_by w) x bytes after) same f)
+answers_command w bytes after (Err it) command f big =
+    subst (λ (x : PartFault). TakesCommand w bytes (Err x)) (sym big.0) (command, after, f, big.1)
 
-exits : (w : CommandWord) (bytes : List ℕ) (result : Result ScriptCommand PartFault) (stop : PartFault)
-    → IsErrAnd result (λ (y : PartFault). y ≡ stop) → TakesCommand w bytes (Err stop) → TakesCommand w bytes result
-exits w bytes (Ok command) stop exit takes = absurd exit
-exits w bytes (Err y) stop exit takes = subst (λ (s : PartFault). TakesCommand w bytes (Err s)) (sym exit) takes
+takes_last : (w : CommandWord) (bytes : List ℕ) (result : Result ScriptCommand PartFault) (k : Kind) (s : Slot) (rest : List ℕ) (to : To w k (s ∷ []))
+    → Along w bytes k (s ∷ []) rest to → ((x : (piece_of k s).Of) → IsBig k s x → CommandTakesMemory (command_in w (to x)))
+    → (r : Result (piece_of k s).Of PartFault) (after : List ℕ) → ReadsOr (slot_wants k s rest) (piece_of k s) rest r after
+    → MatchResult r (λ x. GivesCommand (command_in w (to x)) result) (λ (stop : PartFault). IsErrAnd result (λ (it : PartFault). it ≡ stop))
+    → TakesCommand w bytes result
+unfolding ReadsOr
+takes_last w bytes result k s rest to a takes (Ok x) after reads told =
+    answers_command w bytes after result (command_in w (to x)) (found_last w bytes k s rest to x after a reads.found) told
+takes_last w bytes result k s rest to a takes (Err stop) after reads told =
+    answers_stop w bytes result stop told (stops_last w bytes k s rest to stop a takes reads.room reads.stop)
 
--- at a slot that others stand behind
-pub exit_here : {w : CommandWord} {bytes : List ℕ} {k : Kind} {s t : Slot} {ss : List Slot} {rest : List ℕ} {to : To w k (s ∷ t ∷ ss)}
-    {stop : PartFault} (result : Result ScriptCommand PartFault) → IsErrAnd result (λ (y : PartFault). y ≡ stop)
-    → Along w bytes k (s ∷ t ∷ ss) rest to → stop ≢ NoRoom → StopsIn (piece_of k s) stop rest → TakesCommand w bytes result
-exit_here {w} {bytes} {stop = stop} result exit a room h = exits w bytes result stop exit (stops_here a room h)
+takes_first : (w : CommandWord) (bytes : List ℕ) (result : Result ScriptCommand PartFault) (k : Kind) (s t : Slot) (ss : List Slot)
+    (rest : List ℕ) (to : To w k (s ∷ t ∷ ss)) → Along w bytes k (s ∷ t ∷ ss) rest to → IsInner s
+    → (r : Result (piece_of k s).Of PartFault) (after : List ℕ) → ReadsOr (slot_wants k s rest) (piece_of k s) rest r after
+    → (Next : (piece_of k s).Of → Type 0)
+    → ((x : (piece_of k s).Of) → Along w bytes (kind_after k s x) (t ∷ ss) after (λ y. to (x, y)) → Next x → TakesCommand w bytes result)
+    → MatchResult r Next (λ (stop : PartFault). IsErrAnd result (λ (it : PartFault). it ≡ stop))
+    → TakesCommand w bytes result
+unfolding ReadsOr
+takes_first w bytes result k s t ss rest to a inner (Ok x) after reads Next more told = more x (next inner a reads.found) told
+takes_first w bytes result k s t ss rest to a inner (Err stop) after reads Next more told =
+    answers_stop w bytes result stop told (stops_here w bytes k s t ss rest to stop a (λ is. inner_wants k s rest inner (reads.room is)) reads.stop)
 
--- at the last slot
-pub exit_last : {w : CommandWord} {bytes : List ℕ} {k : Kind} {s : Slot} {rest : List ℕ} {to : To w k (s ∷ [])}
-    {stop : PartFault} (result : Result ScriptCommand PartFault) → IsErrAnd result (λ (y : PartFault). y ≡ stop)
-    → Along w bytes k (s ∷ []) rest to → stop ≢ NoRoom → StopsIn (piece_of k s) stop rest → TakesCommand w bytes result
-exit_last {w} {bytes} {stop = stop} result exit a room h = exits w bytes result stop exit (stops_last a room h)
+takes_slots : (w : CommandWord) (bytes : List ℕ) (result : Result ScriptCommand PartFault) (k : Kind) (ss : List Slot) (rest : List ℕ) (to : To w k ss)
+    → Along w bytes k ss rest to → IsRow ss → ((x : (row_of k ss).Of) → EndsBig k ss x → CommandTakesMemory (command_in w (to x)))
+    → ReadsRow k ss rest (λ x. GivesCommand (command_in w (to x)) result) (λ (stop : PartFault). IsErrAnd result (λ (it : PartFault). it ≡ stop))
+    → TakesCommand w bytes result
+takes_slots w bytes result k [] rest to a row takes reads = absurd row
+takes_slots w bytes result k (s ∷ []) rest to a row takes reads = takes_last w bytes result k s rest to a takes reads.0 reads.1 reads.2 reads.3
+takes_slots w bytes result k (s ∷ t ∷ ss) rest to a row takes reads =
+    let first = row_first s t ss row in
+    takes_first w bytes result k s t ss rest to a first.0 reads.0 reads.1 reads.2 _
+    (λ x along more. takes_slots w bytes result (kind_after k s x) (t ∷ ss) reads.1 (λ y. to (x, y)) along first.1 (λ y big. takes (x, y) big) more)
+    reads.3
 
--- at a last value
-pub exit_value : {w : CommandWord} {bytes : List ℕ} {k : Kind} {rest : List ℕ} {to : To w k (slots.Value ∷ [])}
-    {stop : PartFault} (result : Result ScriptCommand PartFault) → IsErrAnd result (λ (y : PartFault). y ≡ stop)
-    → Along w bytes k (slots.Value ∷ []) rest to → ((value : Value) → ¬ IsInPlace value → CommandTakesMemory (command_of w (to value)))
-    → StopsIn (a_value k) stop rest → (stop ≡ NoRoom → ValueWantsRoom k rest) → TakesCommand w bytes result
-exit_value {w} {bytes} {stop = stop} result exit a memory h wants = exits w bytes result stop exit (stops_value stop a memory h wants)
-
--- ---- what takes memory
-
--- a command that is found, made of the same thing under another name
-pub found_so : {T : Type 0} {a b : T} {bytes rest : List ℕ} (w : CommandWord) (make : T → ScriptCommand) → a ≡ b
-    → Found (taken_by w) (make a) bytes rest → Found (taken_by w) (make b) bytes rest
-found_so {T} {a} {b} {bytes} {rest} w make same f = subst (λ (x : T). Found (taken_by w) (make x) bytes rest) same f
-
--- the query that is read is the one that is written
-pub same_query : (written bytes rest : List ℕ) (kinds : ℕ) (found : FindsPattern written bytes rest) (query : Query)
-    → written ≡ escaped query.text → query.kinds ≡ kinds → query_of found.0 kinds ≡ query
-same_query written bytes rest kinds found query text is = sym (query_is query found.0 kinds (escaped_one query.text found.0 (sym text
-    ∙ found.1)) is)
-
--- a scope that is written by something has a pattern
-pub takes_memory : (text : List ℕ) (kinds : Option ℕ) (scope : Scope) → Writes text kinds scope → kinds ≢ None → ScopeTakesMemory scope
-takes_memory text None AllKeys writes some = absurd (some refl)
-takes_memory text None (Under q) writes some = absurd writes
-takes_memory text (Some k) AllKeys writes some = absurd writes
-takes_memory text (Some k) (Under q) writes some = tt
+pub takes_row : (w : CommandWord) (bytes : List ℕ) (result : Result ScriptCommand PartFault) → TakesRow w bytes result → TakesCommand w bytes result
+unfolding TakesRow
+takes_row w bytes result reads = takes_slots w bytes result U32 (slots_of w) bytes (λ x. x) (start w bytes) (slots_are w) (big_takes w) reads
