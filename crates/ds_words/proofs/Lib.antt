@@ -12,6 +12,7 @@ pub mod ScopeLemmas
 pub mod RangeLemmas
 pub mod SlotLemmas
 pub mod TableLemmas
+pub mod RowLemmas
 pub mod OfferLemmas
 pub mod StandLemmas
 pub mod CommandLemmas

@@ -19,6 +19,11 @@ pub misses : {Wants : Type 0} (p : Piece) (bytes rest : List ℕ) {stop : PartFa
 unfolding ReadsOr
 misses p bytes rest room s = record { found = tt; stop = s; room = room }
 
+-- some part of it can't be read
+pub misses_at : (p : Piece) (bytes rest : List ℕ) {stop : PartFault} {left : ℕ} → stop ≡ BadPart left → StopsIn p stop bytes
+    → Reads p bytes (Err stop) rest
+misses_at p bytes rest {stop} {left} at s = misses p bytes rest (no_want stop left at) s
+
 -- a `?` ends the reader there
 pub exits : {Wants : Type 0} (p : Piece) (bytes rest : List ℕ) (result : Result p.Of PartFault) {stop : PartFault}
     → IsErrAnd result (λ (it : PartFault). it ≡ stop) → (stop ≡ NoRoom → Wants) → StopsIn p stop bytes → ReadsOr Wants p bytes result rest

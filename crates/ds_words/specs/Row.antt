@@ -52,7 +52,7 @@ command_in words.Follow x = Follow x.0
 command_in words.Submit x = Submit x.0 x.1.0 x.1.1.0 x.1.1.1.0
 command_in words.Reply x = Reply x.0 x.1.0 x.1.1.0
 
--- ---- row by row
+-- ---- slot by slot
 
 -- an item that takes memory stands there
 abbrev pub ItemWantsRoom : List ℕ → Type 0
@@ -64,8 +64,8 @@ slot_wants k slots.Item bytes = ItemWantsRoom bytes
 slot_wants k slots.Value bytes = ValueWantsRoom k bytes
 slot_wants k s bytes = ⊥
 
--- The slots are read in their order, up to the first that can't be read. What is done then holds of all that they have, what
--- failed of why the first one can't be read.
+-- The slots are read in their order, up to the first that can't be read. Where there is none, `done` holds of what they have;
+-- else `failed` does, of why that one can't be read.
 abbrev pub ReadsRow : (k : Kind) (ss : List Slot) → List ℕ → ((row_of k ss).Of → Type 0) → (PartFault → Type 0) → Type 0
 ReadsRow k [] bytes done failed = done tt
 ReadsRow k (s ∷ []) bytes done failed =

@@ -4,7 +4,7 @@ use Rattle.ds_names.specs.Run.{Begins}
 use Rattle.ds_line.specs.declared.part_fault.PartFault.{PartFault}
 use Rattle.ds_words.specs.Pieces.{TakesCommand}
 use Rattle.ds_words.proofs.CommandLemmas.{unknown_word, stops_place, left_fits, whole_line}
-use Rattle.ds_words.proofs.TableLemmas.{takes_row}
+use Rattle.ds_words.proofs.RowLemmas.{takes_row}
 use Rattle.ds_words.proofs.reading.read_line.Goals as goal
 
 pub returns-in_default : goal.returns-in_default

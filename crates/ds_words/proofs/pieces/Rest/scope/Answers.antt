@@ -1,16 +1,16 @@
 use Rattle.ds_machine.specs.declared.command.Scope.TheVariants.{All}
 use Rattle.std.proofs.lemmas.Result.{err_from_is_err_and}
 use Rattle.ds_words.specs.Reads.{ReadsOr}
-use Rattle.ds_words.proofs.PieceLemmas.{no_byte, no_want}
+use Rattle.ds_words.proofs.PieceLemmas.{no_byte}
 use Rattle.ds_words.proofs.QueryLemmas.{pattern_found}
 use Rattle.ds_words.proofs.ScopeLemmas.{scope_rest, query_found, scope_kinds_stops}
-use Rattle.ds_words.proofs.ReadsLemmas.{finds, misses}
+use Rattle.ds_words.proofs.ReadsLemmas.{finds, misses, misses_at}
 use Rattle.ds_words.proofs.pieces.Rest.scope.Goals as goal
 
 pub returns-in_err-byte-clause-stop : goal.returns-in_err-byte-clause-stop
 returns-in_err-byte-clause-stop c =
     let exit = err_from_is_err_and c.from_residual.result c.from_residual.ensures.1 in
-    rw (exit.1, exit.2) (misses _ _ _ (no_want _ _ c.in_err-byte.ensures.stop) (no_byte 32 scope_rest All c.in_err-byte.field-0.0 c.args.self.now.bytes.now tt c.in_err-byte.ensures.stop c.in_err-byte.ensures.none))
+    rw (exit.1, exit.2) (misses_at _ _ _ c.in_err-byte.ensures.stop (no_byte 32 scope_rest All c.in_err-byte.field-0.0 c.args.self.now.bytes.now tt c.in_err-byte.ensures.stop c.in_err-byte.ensures.none))
 
 pub returns-in_err-kinds-clause-stop : goal.returns-in_err-kinds-clause-stop
 unfolding ReadsOr
