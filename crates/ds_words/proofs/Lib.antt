@@ -1,6 +1,7 @@
 pub mod WordLemmas
 pub mod ItemLemmas
 pub mod PieceLemmas
+pub mod ReadsLemmas
 pub mod QueryLemmas
 pub mod OneLemmas
 pub mod WorldPieceLemmas
@@ -11,7 +12,7 @@ pub mod ScopeLemmas
 pub mod RangeLemmas
 pub mod SlotLemmas
 pub mod TableLemmas
-pub mod LastLemmas
+pub mod RowLemmas
 pub mod OfferLemmas
 pub mod StandLemmas
 pub mod CommandLemmas

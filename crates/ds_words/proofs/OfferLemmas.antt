@@ -1,5 +1,5 @@
 -- The lines that have an item behind their word.
-use Rattle.std.proofs.Common.{◌≡◌, ◌≢◌, ℕ, ◌-◌, ◌≤◌, List, ◌∷◌, ◌++◌, length, take, drop, Err, sym, ap, subst, ◌∙◌, arith, take-append-drop}
+use Rattle.std.proofs.Common.{◌≡◌, ◌≢◌, ℕ, ◌-◌, ◌≤◌, List, ◌∷◌, ◌++◌, length, take, drop, Ok, Err, refl, sym, ap, subst, ◌∙◌, arith, take-append-drop}
 use Rattle.ds_entry.specs.Item.{IsItem}
 use Rattle.ds_entry.specs.declared.item.Item.{Item}
 use Rattle.ds_entry.specs.declared.item.Item.TheVariants.{Change as Changed, Floor as Floored}
@@ -14,16 +14,11 @@ use Rattle.ds_line.proofs.ItemLemmas.{floor_stands}
 use Rattle.ds_line.proofs.PieceLemmas.{byte_found, byte_stops, stand_texts}
 use Rattle.ds_words.specs.declared.command.ScriptCommand.TheVariants.{Offer}
 use Rattle.ds_words.specs.declared.word.Word.TheVariants as words
-use Rattle.ds_words.specs.Pieces.{taken_by, TakesCommand}
+use Rattle.ds_words.specs.Row.{ItemWantsRoom, TakesRow}
 use Rattle.ds_words.specs.Table.{an_item}
-use Rattle.ds_words.proofs.PieceLemmas.{no_byte}
+use Rattle.ds_words.proofs.PieceLemmas.{no_byte, no_want}
+use Rattle.ds_words.proofs.ReadsLemmas.{finds, misses}
 use Rattle.ds_words.proofs.SlotLemmas.{item_rest, some_item, some_item_is}
-use Rattle.ds_words.proofs.TableLemmas.{start, line_stops_at, found_last, no_room}
-
--- the space is missing
-pub no_item_space : (stop : PartFault) (bytes : List ℕ) → stop ≡ BadPart (length bytes) → ((rest : List ℕ) → bytes ≢ 32 ∷ rest)
-    → StopsIn an_item stop bytes
-no_item_space stop bytes at none = no_byte 32 item_rest some_item stop bytes some_item_is at none
 
 -- the item can't be read from the place on
 no_item : (bytes text : List ℕ) (place : ℕ) → bytes ≡ 32 ∷ text → IsItemFault text place
@@ -42,9 +37,22 @@ no_item bytes text place space fault =
       omega (arith, fault.first.begins),
     )
 
+-- the item can't be read, or there is no room for it
+offer_stops : (bytes : List ℕ) (stop : PartFault) → (stop ≡ NoRoom → ItemWantsRoom bytes) → StopsIn an_item stop bytes
+    → TakesRow words.Offer bytes (Err stop)
+unfolding TakesRow
+offer_stops bytes stop room s = (Err stop, bytes, misses an_item bytes bytes room s, refl)
+
+pub offer_no_space : (stop : PartFault) (bytes : List ℕ) → stop ≡ BadPart (length bytes) → ((rest : List ℕ) → bytes ≢ 32 ∷ rest)
+    → TakesRow words.Offer bytes (Err stop)
+offer_no_space stop bytes at none =
+    offer_stops bytes stop (λ room. absurd (no_want stop (length bytes) at room)) (no_byte 32 item_rest some_item stop bytes some_item_is at none)
+
 pub offer_no_item : (bytes text : List ℕ) (place : ℕ) → bytes ≡ 32 ∷ text → IsItemFault text place
-    → StopsIn (taken_by words.Offer) (BadPart (length text - place)) bytes
-offer_no_item bytes text place space fault = line_stops_at words.Offer (length text - place) bytes (no_item bytes text place space fault)
+    → TakesRow words.Offer bytes (Err (BadPart (length text - place)))
+offer_no_item bytes text place space fault =
+    offer_stops bytes (BadPart (length text - place)) (λ room. absurd (no_want (BadPart (length text - place)) (length text - place) refl room))
+    (no_item bytes text place space fault)
 
 pub place_fits : (text : List ℕ) (place : ℕ) → IsItemFault text place → place ≤ length text
 place_fits text place fault = omega (arith, fault.first.begins)
@@ -65,12 +73,14 @@ item_found bytes text rest i space line is = byte_found 32 item_rest i bytes tex
 
 -- the item is read
 pub offer_found : (bytes text : List ℕ) (i : Item) (n : ℕ) → bytes ≡ 32 ∷ text → IsItem i → take n text ≡ item_spelling i
-    → Found (taken_by words.Offer) (Offer i) bytes (drop n text)
+    → TakesRow words.Offer bytes (Ok (Offer i))
+unfolding TakesRow
 offer_found bytes text i n space line is =
-    found_last (start words.Offer bytes) (item_found bytes text (drop n text) i space line (sym (take-append-drop n text) ∙ ap (λ
-    (t : List ℕ). t ++ drop n text) is))
+    let found = item_found bytes text (drop n text) i space line (sym (take-append-drop n text) ∙ ap (λ (t : List ℕ). t ++ drop n text) is) in
+    (Ok i, drop n text, finds (ItemWantsRoom bytes) found, refl)
 
 -- there is no room for it
-pub offer_no_room : (bytes text : List ℕ) → bytes ≡ 32 ∷ text → LineTakesRoom text → TakesCommand words.Offer bytes (Err NoRoom)
-offer_no_room bytes text space room = no_room (start words.Offer bytes) (item_found bytes text room.rest
-    (Changed room.change) space room.line room.front) room.value
+pub offer_no_room : (bytes text : List ℕ) → bytes ≡ 32 ∷ text → LineTakesRoom text → TakesRow words.Offer bytes (Err NoRoom)
+offer_no_room bytes text space room =
+    let found = item_found bytes text room.rest (Changed room.change) space room.line room.front in
+    offer_stops bytes NoRoom (λ _. (Changed room.change, room.rest, found, room.value)) (Changed room.change, room.rest, found)

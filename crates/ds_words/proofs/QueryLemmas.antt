@@ -1,5 +1,7 @@
 -- Patterns in quotes, read byte by byte.
-use Rattle.std.proofs.Common.{◌≡◌, ◌≢◌, ℕ, ◌+◌, ◌-◌, ◌<◌, inl, inr, List, [], ◌∷◌, ◌++◌, length, take, drop, refl, sym, ap, subst, ◌∙◌, append_assoc, append-nil, length-append, arith}
+use Rattle.std.specs.Prelude.{◌==◌}
+use Rattle.std.proofs.Common.{Ok, ◌≡◌, ◌≢◌, ℕ, ◌+◌, ◌-◌, ◌<◌, inl, inr, List, [], ◌∷◌, ◌++◌, length, take, drop, refl, sym, ap, subst, ◌∙◌, append_assoc, append-nil, length-append, arith}
+use Rattle.std.proofs.lemmas.Bool.{cond-false, ne_eqb}
 use Rattle.std.proofs.lemmas.List.{take_at}
 use Rattle.std.proofs.lemmas.List.Elements.{All-head, All-tail}
 use Rattle.std.proofs.lemmas.List.Concat.{flat_map-append}
@@ -12,11 +14,13 @@ use Rattle.ds_line.specs.declared.part_fault.PartFault.TheVariants.{BadPart}
 use Rattle.ds_line.proofs.OpeningLemmas.{text_at}
 use Rattle.ds_line.proofs.PieceLemmas.{Fixed, One, one_by, byte_found}
 use Rattle.ds_line.proofs.QuoteLemmas.{shape, byte_one, goes_on, unquoted, quoted_one}
-use Rattle.ds_pattern.specs.declared.query.Query.{Query}
 use Rattle.ds_lines.specs.Lines.{IsUnbroken}
-use Rattle.ds_words.specs.Pieces.{a_pattern, IsWrittenText, FindsPattern}
+use Rattle.ds_words.specs.Pieces.{a_pattern}
+use Rattle.ds_words.specs.Query.{IsWrittenText, unescaped}
+use Rattle.ds_words.specs.Reads.{FindsPattern, Reads}
 use Rattle.ds_lines.proofs.NewlineLemmas.{unbroken_none, unbroken_more}
 use Rattle.ds_words.proofs.PieceLemmas.{one_part, no_part}
+use Rattle.ds_words.proofs.ReadsLemmas.{finds}
 
 -- ---- texts without newlines
 
@@ -108,13 +112,27 @@ left_ends (c ∷ more) written text rest is e w none = absurd (none c (escaped m
 pub left_last : (written text rest : List ℕ) → IsLeft written text rest → ((b : ℕ) (s : List ℕ) → b ≢ 10 → rest ≢ escaped_byte b ++ s) → written ≡ escaped text
 left_last written text rest left none = left_ends left.0 written text rest left.1 left.2 left.3 none
 
--- two texts that are written alike are one
-pub escaped_one : (a b : List ℕ) → escaped a ≡ escaped b → a ≡ b
-escaped_one a b same = (quoted_one a b [] [] (ap (λ (t : List ℕ). (34 ∷ (t ++ 34 ∷ [])) ++ []) same)).0
+plain_first : (b : ℕ) (written : List ℕ) → b ≢ 92 → unescaped (b ∷ written) ≡ b ∷ unescaped written
+unfolding unescaped
+plain_first b [] other = refl
+plain_first b (c ∷ written) other = cond-false (b == 92) (c ∷ unescaped written) (b ∷ unescaped (c ∷ written)) (ne_eqb b 92 other)
 
--- a query of this text and these kinds
-pub query_is : (query : Query) (text : List ℕ) (kinds : ℕ) → query.text ≡ text → query.kinds ≡ kinds → query ≡ record { text = text; kinds = kinds }
-query_is query text kinds is_text is_kinds = ap (λ (t : List ℕ). record { text = t; kinds = query.kinds }) is_text ∙ ap (λ (k : ℕ). record { text = text; kinds = k }) is_kinds
+first_unescaped : (b : ℕ) (written : List ℕ) → unescaped (escaped_byte b ++ written) ≡ b ∷ unescaped written
+unfolding unescaped
+first_unescaped b written =
+    elim (shape b) [
+      | inl x ↦ ap (λ (t : List ℕ). unescaped (t ++ written)) x.0
+      | inr x ↦ ap (λ (t : List ℕ). unescaped (t ++ written)) x.0 ∙ plain_first b written x.2
+    ]
+
+unescaped_all : (text : List ℕ) → unescaped (escaped text) ≡ text
+unfolding unescaped
+unescaped_all [] = refl
+unescaped_all (b ∷ text) = first_unescaped b (escaped text) ∙ ap (λ (t : List ℕ). b ∷ t) (unescaped_all text)
+
+-- a text is what is written so
+pub unescaped_is : (written text : List ℕ) → written ≡ escaped text → unescaped written ≡ text
+unescaped_is written text is = ap unescaped is ∙ unescaped_all text
 
 -- ---- patterns
 
@@ -130,9 +148,10 @@ no_pattern stop bytes r is at none = no_part 32 (List ℕ) IsUnbroken pattern_pa
 
 pub pattern_found : (written bytes r rest : List ℕ) → bytes ≡ 32 ∷ r → (text : List ℕ) × IsUnbroken text × (written ≡ escaped text) × (r ≡ quoted text ++ rest) → FindsPattern written bytes rest
 pattern_found written bytes r rest is found = (
-  found.0,
-  found.2,
-  byte_found 32 (one_part (List ℕ) IsUnbroken pattern_part) found.0 bytes r rest is (record { can = found.1; front = (rest, record { parts = found.3; ends = quote_ends rest }, refl) }),
+  (found.0, found.1, found.2),
+  subst (λ (t : List ℕ). Reads a_pattern bytes (Ok t) rest) (sym (unescaped_is written found.0 found.2)) (finds _
+      (byte_found 32 (one_part (List ℕ) IsUnbroken pattern_part) found.0 bytes r rest is (record
+      { can = found.1; front = (rest, record { parts = found.3; ends = quote_ends rest }, refl) }))),
 )
 
 pub pattern_fixed : Fixed a_pattern 2

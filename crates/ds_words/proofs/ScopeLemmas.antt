@@ -1,5 +1,5 @@
 -- Scopes: one is missing where it has to stand, or it is read.
-use Rattle.std.proofs.Common.{◌≡◌, ◌≢◌, ℕ, suc, ◌<◌, ◌≤◌, List, [], ◌∷◌, ◌++◌, length, get_or, drop, Option, None, Some, refl, sym, ap, ◌∙◌, arith}
+use Rattle.std.proofs.Common.{◌≡◌, ◌≢◌, ℕ, suc, ◌<◌, ◌≤◌, List, [], ◌∷◌, ◌++◌, length, get_or, drop, refl, sym, ap, ◌∙◌, arith}
 use Rattle.std.specs.Fmt.{decimal}
 use Rattle.ds_names.specs.Run.{Begins}
 use Rattle.ds_line.specs.Part.{Part, part, byte, run_of, Number, Quoted}
@@ -12,17 +12,17 @@ use Rattle.ds_line.proofs.PieceLemmas.{One, behind, byte_stops, part_missing, st
 use Rattle.ds_line.proofs.PartLemmas.{byte_begins}
 use Rattle.ds_pattern.specs.declared.query.Query.{Query}
 use Rattle.ds_lines.specs.Lines.{IsUnbroken}
-use Rattle.ds_words.specs.Pieces.{a_pattern, a_kinds, FindsPattern}
+use Rattle.ds_words.specs.Pieces.{a_pattern, a_kinds}
+use Rattle.ds_words.specs.Reads.{ReadsOr, FindsPattern}
 use Rattle.ds_machine.specs.declared.command.Scope.{Scope}
 use Rattle.ds_machine.specs.declared.command.Scope.TheVariants.{All, Under}
-use Rattle.ds_words.specs.Scope.{a_scope, scope_parts, IsScope, Writes}
+use Rattle.ds_pattern.specs.Under.{query_of}
+use Rattle.ds_words.specs.Query.{unescaped}
+use Rattle.ds_words.specs.Scope.{a_scope, scope_parts, IsScope}
 use Rattle.ds_words.proofs.PieceLemmas.{kinds_one}
-use Rattle.ds_words.proofs.QueryLemmas.{pattern_fixed, pattern_one, escaped_one, query_is}
+use Rattle.ds_words.proofs.QueryLemmas.{pattern_fixed, pattern_one}
 use Rattle.ds_words.proofs.OneLemmas.{one_behind}
 use Rattle.ds_words.proofs.OpenLemmas.{Apart, first_counts}
-
-abbrev pub query_of : List ℕ → ℕ → Query
-query_of text kinds = record { text = text; kinds = kinds }
 
 -- what stands behind the space
 abbrev pub scope_rest : Piece
@@ -82,15 +82,16 @@ query_none bytes after t quote none All can h = star_no_quote bytes after t (sta
 query_none bytes after t quote none (Under query) can h = none (query.text, query.kinds) after (can.text, (can.some, can.limit)) h
 
 query_breaks : (written bytes r rest : List ℕ) → FindsPattern written bytes r → Breaks a_kinds r rest → Breaks a_scope bytes rest
+unfolding ReadsOr
 query_breaks written bytes r rest found s =
-    let t = then_breaks a_pattern (λ _. a_kinds) 2 found.0 bytes r rest pattern_fixed pattern_one found.2 s in
-    let quote = quote_stands found.0 bytes found.2.front.0 found.2.front.2.0 found.2.front.1.parts found.2.front.2.1.parts in
+    let t = then_breaks a_pattern (λ _. a_kinds) 2 (unescaped written) bytes r rest pattern_fixed pattern_one found.1.found s in
+    let quote = quote_stands (unescaped written) bytes found.1.found.front.0 found.1.found.front.2.0 found.1.found.front.1.parts found.1.found.front.2.1.parts in
     record {
       count = t.count;
       thing = Under (query_of t.thing.0 t.thing.1);
       can = record { text = t.can.0; some = t.can.1.0; limit = t.can.1.1 };
       front = t.front;
-      most = λ scope after can h. query_most bytes after t.count (first_counts a_pattern (λ _. a_kinds) found.0 1 bytes r rest found.2 (omega arith, omega arith) t) t.most scope can h;
+      most = λ scope after can h. query_most bytes after t.count (first_counts a_pattern (λ _. a_kinds) (unescaped written) 1 bytes r rest found.1.found (omega arith, omega arith) t) t.most scope can h;
       none = λ scope after can h. query_none bytes after quote.0 quote.1 t.none scope can h;
     }
 
@@ -103,10 +104,11 @@ scope_kinds_stops written NoRoom bytes r found room s = absurd (room refl)
 pub star_found : (bytes r rest : List ℕ) → bytes ≡ 32 ∷ r → r ≡ 42 ∷ rest → Found a_scope All bytes rest
 star_found bytes r rest space_is star_is = record { can = tt; front = (r, byte_begins 32 bytes r space_is, (rest, byte_begins 42 r rest star_is, refl)) }
 
-pub query_found : (written bytes r rest : List ℕ) (kinds : ℕ) (found : FindsPattern written bytes r) → Found a_kinds kinds r rest → Found a_scope (Under (query_of found.0 kinds)) bytes rest
+pub query_found : (written bytes r rest : List ℕ) (kinds : ℕ) (found : FindsPattern written bytes r) → Found a_kinds kinds r rest → Found a_scope (Under (query_of (unescaped written) kinds)) bytes rest
+unfolding ReadsOr
 query_found written bytes r rest kinds found second =
-    let both = both_found a_pattern (λ _. a_kinds) found.0 kinds bytes r rest found.2 second in
-    record { can = record { text = found.2.can; some = second.can.0; limit = second.can.1 }; front = both.front }
+    let both = both_found a_pattern (λ _. a_kinds) (unescaped written) kinds bytes r rest found.1.found second in
+    record { can = record { text = found.1.found.can; some = second.can.0; limit = second.can.1 }; front = both.front }
 
 query_one : One a_query
 query_one = one_behind a_pattern (λ _. a_kinds) pattern_one (λ _. kinds_one)
@@ -139,14 +141,3 @@ scopes_apart (Under p) (Under q) bytes r after f can lt h = omega (arith, lt)
 -- where a scope stands, no longer one goes on
 pub scope_apart : Apart a_scope
 scope_apart = scopes_apart
-
--- ---- what is written for a scope
-
--- two scopes that are written so are one
-pub written_one : (text : List ℕ) (kinds : Option ℕ) (a b : Scope) → Writes text kinds a → Writes text kinds b → a ≡ b
-written_one text None All All x y = refl
-written_one text None All (Under q) x y = absurd y
-written_one text None (Under p) b x y = absurd x
-written_one text (Some k) All b x y = absurd x
-written_one text (Some k) (Under p) All x y = absurd y
-written_one text (Some k) (Under p) (Under q) x y = ap Under (query_is p q.text q.kinds (escaped_one p.text q.text (sym x.0 ∙ y.0)) (x.1 ∙ sym y.1))

@@ -22,7 +22,7 @@ use Rattle.ds_replica.specs.declared.event.Holder.TheVariants.{Store}
 use Rattle.ds_words.specs.declared.slot.Slot.{Slot}
 use Rattle.ds_words.specs.declared.slot.Slot.TheVariants as slots
 use Rattle.ds_words.specs.Command.{IsVersion}
-use Rattle.ds_words.specs.Pieces.{an_endpoint, a_mode, an_initial, a_name, a_key, a_generation, a_version, a_number, a_place, a_kinds, a_pattern, a_value, an_end}
+use Rattle.ds_words.specs.Pieces.{an_endpoint, a_mode, an_initial, a_name, a_key, a_generation, a_version, a_number, a_place, a_kinds, a_pattern, an_end}
 use Rattle.ds_words.specs.ServicePieces.{a_request, a_server, a_unit}
 use Rattle.ds_words.specs.Table.{piece_of}
 use Rattle.ds_words.specs.declared.service.Device.TheVariants.{Net}
@@ -141,17 +141,15 @@ slot_one k slots.Id = place_one
 slot_one k slots.Unit = unit_one
 slot_one k slots.End = end_one
 
--- something can stand behind the slot: an item, and the rest of a line, are the last of their line
+-- something can stand behind the slot: an item, a value, and the rest of a line, are the last of their line
 abbrev pub IsInner : Slot → Type 0
 IsInner slots.Item = ⊥
+IsInner slots.Value = ⊥
 IsInner slots.Text = ⊥
 IsInner s = Unit {0}
 
 fixed_apart : (p : Piece) (n : ℕ) → Fixed p n → Apart p
 fixed_apart p n fixed a b bytes r after f can lt h = omega (arith, lt, fixed a, fixed b)
-
-value_fixed : (k : Kind) → Fixed (a_value k) 5
-value_fixed k value = refl
 
 -- where one stands no longer one goes on
 pub slot_apart : (k : Kind) (s : Slot) → IsInner s → Apart (piece_of k s)
@@ -160,7 +158,7 @@ slot_apart k slots.Caller inner = fixed_apart an_endpoint 2 endpoint_fixed
 slot_apart k slots.Mode inner = fixed_apart a_mode 2 mode_fixed
 slot_apart k slots.Key inner = fixed_apart a_key 4 key_fixed
 slot_apart k slots.Version inner = fixed_apart a_version 4 version_fixed
-slot_apart k slots.Value inner = fixed_apart (a_value k) 5 (value_fixed k)
+slot_apart k slots.Value inner = absurd inner
 slot_apart k slots.Owner inner = fixed_apart a_name 2 name_fixed
 slot_apart k slots.Generation inner = fixed_apart a_generation 2 generation_fixed
 slot_apart k slots.Endpoint inner = fixed_apart an_endpoint 2 endpoint_fixed

@@ -15,4 +15,5 @@ pub mod Later
 pub mod Event
 pub mod Proper
 pub mod Table
-pub mod Last
+pub mod Reads
+pub mod Row

@@ -10,7 +10,7 @@ use Rattle.ds_entry.specs.declared.body.Value.{Value}
 use Rattle.ds_entry.specs.declared.body.Body.TheVariants.{Put}
 use Rattle.ds_entry.specs.Change.{IsInPlace}
 use Rattle.ds_line.specs.Part.{part, byte, Word as AWord, Name, Number, Endpoint, Quoted}
-use Rattle.ds_line.specs.Spelling.{space, newline, kind_word, escaped, quoted, body_parts}
+use Rattle.ds_line.specs.Spelling.{space, newline, kind_word, quoted, body_parts}
 use Rattle.ds_line.specs.Piece.{Piece, Found, StopsIn, IsValueOf}
 use Rattle.ds_line.specs.declared.part_fault.PartFault.{PartFault}
 use Rattle.ds_line.specs.declared.part_fault.PartFault.TheVariants.{BadPart, NoRoom}
@@ -71,14 +71,6 @@ a_kinds = record { Of = ℕ; Can = λ (n : ℕ). (0 < n) × (n ≤ 15); parts = 
 -- the text of a pattern, in quotes
 abbrev pub a_pattern : Piece
 a_pattern = record { Of = List ℕ; Can = IsUnbroken; parts = λ (text : List ℕ). space ∷ part Quoted (quoted text) ∷ [] }
-
--- a text without a newline is written so between its quotes
-abbrev pub IsWrittenText : List ℕ → Type 0
-IsWrittenText written = (text : List ℕ) × IsUnbroken text × (written ≡ escaped text)
-
--- a pattern is found whose text is written so
-abbrev pub FindsPattern : List ℕ → List ℕ → List ℕ → Type 0
-FindsPattern written bytes rest = (text : List ℕ) × (written ≡ escaped text) × Found a_pattern text bytes rest
 
 -- `=`, a value of the kind, and the newline
 abbrev pub a_value : Kind → Piece

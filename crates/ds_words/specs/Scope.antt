@@ -1,11 +1,11 @@
 -- How a line writes of which keys it asks: of all, or of those under a query.
-use Rattle.std.specs.Prelude.{◌≡◌, ℕ, Bool, true, false, List, [], ◌∷◌, Option, None, Some}
+use Rattle.std.specs.Prelude.{ℕ, Bool, true, false, List, [], ◌∷◌, Option, None, Some}
 use Rattle.ds_line.specs.Part.{Part, byte}
-use Rattle.ds_line.specs.Spelling.{space, escaped}
-use Rattle.ds_line.specs.Piece.{Piece, Found}
+use Rattle.ds_line.specs.Spelling.{space}
+use Rattle.ds_line.specs.Piece.{Piece}
 use Rattle.ds_machine.specs.declared.command.Scope.{Scope}
 use Rattle.ds_machine.specs.declared.command.Scope.TheVariants.{All, Under}
-use Rattle.ds_words.specs.Query.{IsQuery, query_parts}
+use Rattle.ds_words.specs.Query.{IsQuery, IsWrittenText, query_parts, written_query}
 
 -- `*` for all keys, else the query
 abbrev pub scope_parts : Scope → List Part
@@ -31,17 +31,12 @@ ScopeTakesMemory (Under query) = Unit {0}
 abbrev pub a_scope : Piece
 a_scope = record { Of = Scope; Can = IsScope; parts = λ (scope : Scope). space ∷ scope_parts scope }
 
--- what is written for a scope: no kinds for all keys, else the text between the quotes, and the kinds
-abbrev pub Writes : List ℕ → Option ℕ → Scope → Type 0
-Writes text None All = Unit {0}
-Writes text None (Under query) = ⊥
-Writes text (Some kinds) All = ⊥
-Writes text (Some kinds) (Under query) = (text ≡ escaped query.text) × (query.kinds ≡ kinds)
+-- the scope that is written so: no kinds for all keys, else the text between the quotes, and the kinds
+abbrev pub written_scope : List ℕ → Option ℕ → Scope
+written_scope text None = All
+written_scope text (Some kinds) = Under (written_query text kinds)
 
--- it is written for a scope
+-- a text can be written so
 abbrev pub IsWrittenScope : List ℕ → Option ℕ → Type 0
-IsWrittenScope text kinds = (scope : Scope) × IsScope scope × Writes text kinds scope
-
--- a scope is found that is written so
-abbrev pub FindsScope : List ℕ → Option ℕ → List ℕ → List ℕ → Type 0
-FindsScope text kinds bytes rest = (scope : Scope) × Writes text kinds scope × Found a_scope scope bytes rest
+IsWrittenScope text None = Unit {0}
+IsWrittenScope text (Some kinds) = IsWrittenText text

@@ -1,11 +1,13 @@
 //! Where a page begins, and how many changes it has, as lines write it.
 
-ghost use Rattle.std.specs.Prelude.{◌≡◌, ◌≢◌, ◌↔◌, List, ℕ, IfOk, IfErr, IsTrue};
-ghost use Rattle.ds_line.specs.Piece.{Found, StopsIn};
-ghost use Rattle.ds_line.specs.declared.part_fault.PartFault.TheVariants.{NoRoom};
+#![tactic(auto, unfolding(crate::specs::Reads::ReadsOr))]
+
+ghost use Rattle.std.specs.Prelude.{◌≡◌, ◌↔◌, List, ℕ, IsTrue};
+ghost use Rattle.ds_line.specs.Piece.{Found};
 ghost use Rattle.ds_names.specs.declared.kind.Kind.{Kind};
 ghost use Rattle.ds_words.specs.Pieces.{a_kind};
 ghost use Rattle.ds_words.specs.Page.{a_range, no_key};
+ghost use Rattle.ds_words.specs.Reads.{Reads};
 
 use crate::pieces::Rest;
 use ds_line::{Expected, PartFault, kind_at};
@@ -15,9 +17,7 @@ impl Rest<'_> {
     /// Reads behind which key a page begins, or `-` for none, and how many changes it has at most. A `-` before a kind is the
     /// name of a key, and so is one before another byte of a name.
     pub fn range(&mut self) -> Result<(Option<Key>, u32), PartFault>
-        ensures found { IfOk result (λ range. Found a_range range self.old.bytes.now self.new.bytes.now) }
-        ensures stop { IfErr result (λ stop. StopsIn a_range stop self.old.bytes.now) }
-        ensures room { IfErr result (λ stop. stop ≢ NoRoom) }
+        ensures { Reads a_range self.old.bytes.now result self.new.bytes.now }
     {
         let name = self.name(Expected::After)?;
         if is_dash(&name) && !self.is_before_kind() {

@@ -1,6 +1,8 @@
 //! What the lines of each command have behind their word.
 
-ghost use Rattle.ds_words.specs.Pieces.{TakesCommand};
+#![tactic(auto, unfolding(crate::specs::Row::TakesRow))]
+
+ghost use Rattle.ds_words.specs.Row.{TakesRow};
 ghost use Rattle.ds_words.specs.declared.word.Word.TheVariants as words;
 
 use crate::command::ScriptCommand;
@@ -12,7 +14,7 @@ use std::alloc::Global;
 
 /// Reads what follows `show`.
 pub(crate) fn show_at(rest: &mut Rest) -> Result<ScriptCommand, PartFault>
-    ensures { TakesCommand words.Show rest.old.bytes.now result }
+    ensures { TakesRow words.Show rest.old.bytes.now result }
 {
     rest.end()?;
     Ok(ScriptCommand::Show)
@@ -20,7 +22,7 @@ pub(crate) fn show_at(rest: &mut Rest) -> Result<ScriptCommand, PartFault>
 
 /// Reads what follows `all`.
 pub(crate) fn all_at(rest: &mut Rest) -> Result<ScriptCommand, PartFault>
-    ensures { TakesCommand words.All rest.old.bytes.now result }
+    ensures { TakesRow words.All rest.old.bytes.now result }
 {
     rest.end()?;
     Ok(ScriptCommand::All)
@@ -28,7 +30,7 @@ pub(crate) fn all_at(rest: &mut Rest) -> Result<ScriptCommand, PartFault>
 
 /// Reads what follows `offer`.
 pub(crate) fn offer_at(alloc: Global, rest: &mut Rest) -> Result<ScriptCommand, PartFault>
-    ensures { TakesCommand words.Offer rest.old.bytes.now result }
+    ensures { TakesRow words.Offer rest.old.bytes.now result }
 {
     rest.expected = Expected::Space;
     let Some(text) = read_byte(rest.bytes, b' ') else {
@@ -47,7 +49,7 @@ pub(crate) fn offer_at(alloc: Global, rest: &mut Rest) -> Result<ScriptCommand, 
 
 /// Reads what follows `publish`.
 pub(crate) fn publish_at(alloc: Global, rest: &mut Rest) -> Result<ScriptCommand, PartFault>
-    ensures { TakesCommand words.Publish rest.old.bytes.now result }
+    ensures { TakesRow words.Publish rest.old.bytes.now result }
 {
     let caller = rest.endpoint(Expected::Caller)?;
     let overwrite = rest.mode()?;
@@ -65,7 +67,7 @@ pub(crate) fn publish_at(alloc: Global, rest: &mut Rest) -> Result<ScriptCommand
 
 /// Reads what follows `delete`.
 pub(crate) fn delete_at(rest: &mut Rest) -> Result<ScriptCommand, PartFault>
-    ensures { TakesCommand words.Delete rest.old.bytes.now result }
+    ensures { TakesRow words.Delete rest.old.bytes.now result }
 {
     let caller = rest.endpoint(Expected::Caller)?;
     let key = rest.key()?;
@@ -80,7 +82,7 @@ pub(crate) fn delete_at(rest: &mut Rest) -> Result<ScriptCommand, PartFault>
 
 /// Reads what follows `sweep`.
 pub(crate) fn sweep_at(rest: &mut Rest) -> Result<ScriptCommand, PartFault>
-    ensures { TakesCommand words.Sweep rest.old.bytes.now result }
+    ensures { TakesRow words.Sweep rest.old.bytes.now result }
 {
     let caller = rest.endpoint(Expected::Caller)?;
     let owner = rest.name(Expected::Owner)?;
@@ -95,7 +97,7 @@ pub(crate) fn sweep_at(rest: &mut Rest) -> Result<ScriptCommand, PartFault>
 
 /// Reads what follows `retrieve`.
 pub(crate) fn retrieve_at(rest: &mut Rest) -> Result<ScriptCommand, PartFault>
-    ensures { TakesCommand words.Retrieve rest.old.bytes.now result }
+    ensures { TakesRow words.Retrieve rest.old.bytes.now result }
 {
     let key = rest.key()?;
     rest.end()?;
@@ -104,7 +106,7 @@ pub(crate) fn retrieve_at(rest: &mut Rest) -> Result<ScriptCommand, PartFault>
 
 /// Reads what follows `nameof`.
 pub(crate) fn nameof_at(rest: &mut Rest) -> Result<ScriptCommand, PartFault>
-    ensures { TakesCommand words.NameOf rest.old.bytes.now result }
+    ensures { TakesRow words.NameOf rest.old.bytes.now result }
 {
     let endpoint = rest.endpoint(Expected::Endpoint)?;
     rest.end()?;
@@ -113,7 +115,7 @@ pub(crate) fn nameof_at(rest: &mut Rest) -> Result<ScriptCommand, PartFault>
 
 /// Reads what follows `subscribe`.
 pub(crate) fn subscribe_at(alloc: Global, rest: &mut Rest) -> Result<ScriptCommand, PartFault>
-    ensures { TakesCommand words.Subscribe rest.old.bytes.now result }
+    ensures { TakesRow words.Subscribe rest.old.bytes.now result }
 {
     let sub = rest.number(Expected::Sub)?;
     let text = rest.pattern()?;
@@ -134,7 +136,7 @@ pub(crate) fn subscribe_at(alloc: Global, rest: &mut Rest) -> Result<ScriptComma
 
 /// Reads what follows `check`.
 pub(crate) fn check_at(rest: &mut Rest) -> Result<ScriptCommand, PartFault>
-    ensures { TakesCommand words.Check rest.old.bytes.now result }
+    ensures { TakesRow words.Check rest.old.bytes.now result }
 {
     let sub = rest.number(Expected::Sub)?;
     let max = rest.number(Expected::Max)?;
@@ -144,7 +146,7 @@ pub(crate) fn check_at(rest: &mut Rest) -> Result<ScriptCommand, PartFault>
 
 /// Reads what follows `map`.
 pub(crate) fn map_at(alloc: Global, rest: &mut Rest) -> Result<ScriptCommand, PartFault>
-    ensures { TakesCommand words.Map rest.old.bytes.now result }
+    ensures { TakesRow words.Map rest.old.bytes.now result }
 {
     let text = rest.pattern()?;
     let kinds = rest.kinds()?;
@@ -157,8 +159,9 @@ pub(crate) fn map_at(alloc: Global, rest: &mut Rest) -> Result<ScriptCommand, Pa
 
 /// Reads what follows `entries`.
 pub(crate) fn entries_at(rest: &mut Rest) -> Result<ScriptCommand, PartFault>
-    ensures { TakesCommand words.Entries rest.old.bytes.now result }
+    ensures { TakesRow words.Entries rest.old.bytes.now result }
 {
-    let map = rest.last_place(Expected::Map)?;
+    let map = rest.place(Expected::Map)?;
+    rest.end()?;
     Ok(ScriptCommand::Entries { map })
 }

@@ -1,11 +1,12 @@
 //! Readers of the pieces of a line.
 
-ghost use Rattle.std.specs.Prelude.{◌≡◌, ◌≢◌, ◌∷◌, List, ℕ, Bool, length, IfOk, IfErr, OnOk, IfSome, IfNone};
+#![tactic(auto, unfolding(crate::specs::Reads::ReadsOr))]
+
+ghost use Rattle.std.specs.Prelude.{◌≡◌, ◌≢◌, ◌∷◌, List, ℕ, Bool, length, IfErr, OnOk, IfSome, IfNone};
 ghost use Rattle.ds_words.specs.Command.{initial_word, mode_word};
-ghost use Rattle.ds_line.specs.Piece.{Found, StopsIn};
-ghost use Rattle.ds_line.specs.declared.part_fault.PartFault.TheVariants.{BadPart, NoRoom};
-ghost use Rattle.ds_words.specs.Last.{a_last_place, FindsLast};
+ghost use Rattle.ds_line.specs.declared.part_fault.PartFault.TheVariants.{BadPart};
 ghost use Rattle.ds_words.specs.Pieces.{an_endpoint, an_initial, a_mode, a_name, a_kind, a_key, a_generation, a_seq, a_version, a_number, a_place, a_kinds, a_value, ValueWantsRoom, an_end};
+ghost use Rattle.ds_words.specs.Reads.{Reads, ReadsOr};
 
 use ds_entry::Value;
 use ds_line::{
@@ -44,9 +45,7 @@ impl Rest<'_> {
 
     /// Reads an endpoint.
     pub fn endpoint(&mut self, expected: Expected) -> Result<Endpoint, PartFault>
-        ensures found { IfOk result (λ endpoint. Found an_endpoint endpoint self.old.bytes.now self.new.bytes.now) }
-        ensures stop { IfErr result (λ stop. StopsIn an_endpoint stop self.old.bytes.now) }
-        ensures room { IfErr result (λ stop. stop ≢ NoRoom) }
+        ensures { Reads an_endpoint self.old.bytes.now result self.new.bytes.now }
     {
         self.byte(b' ', Expected::Space)?;
         self.expected = expected;
@@ -60,9 +59,7 @@ impl Rest<'_> {
 
     /// Reads `new` or `over`, and gives whether it is `over`.
     pub fn mode(&mut self) -> Result<bool, PartFault>
-        ensures found { IfOk result (λ overwrite. Found a_mode overwrite self.old.bytes.now self.new.bytes.now) }
-        ensures stop { IfErr result (λ stop. StopsIn a_mode stop self.old.bytes.now) }
-        ensures room { IfErr result (λ stop. stop ≢ NoRoom) }
+        ensures { Reads a_mode self.old.bytes.now result self.new.bytes.now }
     {
         self.byte(b' ', Expected::Space)?;
         self.expected = Expected::Mode;
@@ -76,9 +73,7 @@ impl Rest<'_> {
 
     /// Reads `first` or `later`, and gives whether it is `first`.
     pub fn initial(&mut self) -> Result<bool, PartFault>
-        ensures found { IfOk result (λ initial. Found an_initial initial self.old.bytes.now self.new.bytes.now) }
-        ensures stop { IfErr result (λ stop. StopsIn an_initial stop self.old.bytes.now) }
-        ensures room { IfErr result (λ stop. stop ≢ NoRoom) }
+        ensures { Reads an_initial self.old.bytes.now result self.new.bytes.now }
     {
         self.byte(b' ', Expected::Space)?;
         self.expected = Expected::Initial;
@@ -92,9 +87,7 @@ impl Rest<'_> {
 
     /// Reads a name.
     pub fn name(&mut self, expected: Expected) -> Result<Name, PartFault>
-        ensures found { IfOk result (λ name. Found a_name name self.old.bytes.now self.new.bytes.now) }
-        ensures stop { IfErr result (λ stop. StopsIn a_name stop self.old.bytes.now) }
-        ensures room { IfErr result (λ stop. stop ≢ NoRoom) }
+        ensures { Reads a_name self.old.bytes.now result self.new.bytes.now }
     {
         self.byte(b' ', Expected::Space)?;
         self.expected = expected;
@@ -107,9 +100,7 @@ impl Rest<'_> {
 
     /// Reads the word of a kind.
     pub fn kind(&mut self) -> Result<Kind, PartFault>
-        ensures found { IfOk result (λ kind. Found a_kind kind self.old.bytes.now self.new.bytes.now) }
-        ensures stop { IfErr result (λ stop. StopsIn a_kind stop self.old.bytes.now) }
-        ensures room { IfErr result (λ stop. stop ≢ NoRoom) }
+        ensures { Reads a_kind self.old.bytes.now result self.new.bytes.now }
     {
         self.byte(b' ', Expected::Space)?;
         self.expected = Expected::Kind;
@@ -122,9 +113,7 @@ impl Rest<'_> {
 
     /// Reads a key: a name and a kind.
     pub fn key(&mut self) -> Result<Key, PartFault>
-        ensures found { IfOk result (λ key. Found a_key key self.old.bytes.now self.new.bytes.now) }
-        ensures stop { IfErr result (λ stop. StopsIn a_key stop self.old.bytes.now) }
-        ensures room { IfErr result (λ stop. stop ≢ NoRoom) }
+        ensures { Reads a_key self.old.bytes.now result self.new.bytes.now }
     {
         let name = self.name(Expected::Name)?;
         let kind = self.kind()?;
@@ -133,9 +122,7 @@ impl Rest<'_> {
 
     /// Reads a generation.
     pub fn generation(&mut self, expected: Expected) -> Result<Generation, PartFault>
-        ensures found { IfOk result (λ n. Found a_generation n self.old.bytes.now self.new.bytes.now) }
-        ensures stop { IfErr result (λ stop. StopsIn a_generation stop self.old.bytes.now) }
-        ensures room { IfErr result (λ stop. stop ≢ NoRoom) }
+        ensures { Reads a_generation self.old.bytes.now result self.new.bytes.now }
     {
         self.byte(b' ', Expected::Space)?;
         self.expected = expected;
@@ -151,9 +138,7 @@ impl Rest<'_> {
 
     // Reads a dot and a sequence number.
     fn seq(&mut self) -> Result<u32, PartFault>
-        ensures found { IfOk result (λ n. Found a_seq n self.old.bytes.now self.new.bytes.now) }
-        ensures stop { IfErr result (λ stop. StopsIn a_seq stop self.old.bytes.now) }
-        ensures room { IfErr result (λ stop. stop ≢ NoRoom) }
+        ensures { Reads a_seq self.old.bytes.now result self.new.bytes.now }
     {
         self.byte(b'.', Expected::Dot)?;
         self.expected = Expected::Seq;
@@ -166,9 +151,7 @@ impl Rest<'_> {
 
     /// Reads a version: an epoch, a dot and a sequence number.
     pub fn version(&mut self) -> Result<Version, PartFault>
-        ensures found { IfOk result (λ version. Found a_version version self.old.bytes.now self.new.bytes.now) }
-        ensures stop { IfErr result (λ stop. StopsIn a_version stop self.old.bytes.now) }
-        ensures room { IfErr result (λ stop. stop ≢ NoRoom) }
+        ensures { Reads a_version self.old.bytes.now result self.new.bytes.now }
     {
         let epoch = self.generation(Expected::Epoch)?;
         let seq = self.seq()?;
@@ -177,9 +160,7 @@ impl Rest<'_> {
 
     /// Reads a number below 2^32.
     pub fn number(&mut self, expected: Expected) -> Result<u32, PartFault>
-        ensures found { IfOk result (λ n. Found a_number n self.old.bytes.now self.new.bytes.now) }
-        ensures stop { IfErr result (λ stop. StopsIn a_number stop self.old.bytes.now) }
-        ensures room { IfErr result (λ stop. stop ≢ NoRoom) }
+        ensures { Reads a_number self.old.bytes.now result self.new.bytes.now }
     {
         self.byte(b' ', Expected::Space)?;
         self.expected = expected;
@@ -192,9 +173,7 @@ impl Rest<'_> {
 
     /// Reads a number below 2^64.
     pub fn place(&mut self, expected: Expected) -> Result<u64, PartFault>
-        ensures found { IfOk result (λ n. Found a_place n self.old.bytes.now self.new.bytes.now) }
-        ensures stop { IfErr result (λ stop. StopsIn a_place stop self.old.bytes.now) }
-        ensures room { IfErr result (λ stop. stop ≢ NoRoom) }
+        ensures { Reads a_place self.old.bytes.now result self.new.bytes.now }
     {
         self.byte(b' ', Expected::Space)?;
         self.expected = expected;
@@ -205,22 +184,9 @@ impl Rest<'_> {
         Ok(number)
     }
 
-    /// Reads a number below 2^64 and the newline behind it.
-    pub fn last_place(&mut self, expected: Expected) -> Result<u64, PartFault>
-        ensures found { IfOk result (λ n. FindsLast n self.old.bytes.now self.new.bytes.now) }
-        ensures stop { IfErr result (λ stop. StopsIn a_last_place stop self.old.bytes.now) }
-        ensures room { IfErr result (λ stop. stop ≢ NoRoom) }
-    {
-        let number = self.place(expected)?;
-        self.end()?;
-        Ok(number)
-    }
-
     /// Reads the mask of some kinds.
     pub fn kinds(&mut self) -> Result<Kinds, PartFault>
-        ensures found { IfOk result (λ kinds. Found a_kinds kinds self.old.bytes.now self.new.bytes.now) }
-        ensures stop { IfErr result (λ stop. StopsIn a_kinds stop self.old.bytes.now) }
-        ensures room { IfErr result (λ stop. stop ≢ NoRoom) }
+        ensures { Reads a_kinds self.old.bytes.now result self.new.bytes.now }
     {
         self.byte(b' ', Expected::Space)?;
         self.expected = Expected::Kinds;
@@ -236,9 +202,7 @@ impl Rest<'_> {
 
     /// Reads `=`, a value of the kind, and the newline.
     pub fn value(&mut self, alloc: Global, kind: Kind) -> Result<Value, PartFault>
-        ensures found { IfOk result (λ value. Found (a_value kind) value self.old.bytes.now self.new.bytes.now) }
-        ensures stop { IfErr result (λ stop. StopsIn (a_value kind) stop self.old.bytes.now) }
-        ensures room { IfErr result (λ stop. stop ≡ NoRoom → ValueWantsRoom kind self.old.bytes.now) }
+        ensures { ReadsOr (ValueWantsRoom kind self.old.bytes.now) (a_value kind) self.old.bytes.now result self.new.bytes.now }
     {
         self.byte(b' ', Expected::Space)?;
         self.byte(b'=', Expected::Equals)?;
@@ -254,9 +218,7 @@ impl Rest<'_> {
 
     /// Reads the newline.
     pub fn end(&mut self) -> Result<(), PartFault>
-        ensures found { IfOk result (λ end. Found an_end end self.old.bytes.now self.new.bytes.now) }
-        ensures stop { IfErr result (λ stop. StopsIn an_end stop self.old.bytes.now) }
-        ensures room { IfErr result (λ stop. stop ≢ NoRoom) }
+        ensures { Reads an_end self.old.bytes.now result self.new.bytes.now }
     {
         self.byte(b'\n', Expected::End)
     }

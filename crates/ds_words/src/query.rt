@@ -1,11 +1,13 @@
 //! Queries as lines write them: a pattern in quotes, and the mask of the kinds.
 
-ghost use Rattle.std.specs.Prelude.{◌≡◌, ◌≢◌, ◌++◌, ℕ, List, IfOk, IfErr, IfSome, IfNone};
+#![tactic(auto, unfolding(crate::specs::Reads::ReadsOr))]
+
+ghost use Rattle.std.specs.Prelude.{◌≡◌, ◌≢◌, ◌++◌, ℕ, List, Err, IfOk, IfErr, IfSome, IfNone};
 ghost use Rattle.ds_line.specs.Spelling.{escaped, escaped_byte, quoted};
-ghost use Rattle.ds_line.specs.Piece.{StopsIn};
-ghost use Rattle.ds_line.specs.declared.part_fault.PartFault.TheVariants.{NoRoom as TheStopForRoom};
 ghost use Rattle.ds_lines.specs.Lines.{IsUnbroken};
-ghost use Rattle.ds_words.specs.Pieces.{a_pattern, IsWrittenText, FindsPattern};
+ghost use Rattle.ds_words.specs.Pieces.{a_pattern};
+ghost use Rattle.ds_words.specs.Query.{IsWrittenText, unescaped, written_query};
+ghost use Rattle.ds_words.specs.Reads.{Reads, FindsPattern};
 
 use crate::pieces::Rest;
 use ds_line::{Expected, PartFault, stop_at};
@@ -18,8 +20,7 @@ impl<'a> Rest<'a> {
     /// pattern take memory.
     pub fn pattern(&mut self) -> Result<&'a [u8], PartFault>
         ensures found { IfOk result (λ text. FindsPattern text.now self.old.bytes.now self.new.bytes.now) }
-        ensures stop { IfErr result (λ stop. StopsIn a_pattern stop self.old.bytes.now) }
-        ensures room { IfErr result (λ stop. stop ≢ TheStopForRoom) }
+        ensures stop { IfErr result (λ stop. Reads a_pattern self.old.bytes.now (Err stop) self.new.bytes.now) }
     {
         self.byte(b' ', Expected::Space)?;
         self.expected = Expected::Pattern;
@@ -35,8 +36,7 @@ impl<'a> Rest<'a> {
 /// pattern.
 pub(crate) fn query_of(alloc: Global, written: &[u8], kinds: Kinds) -> Result<Query, NoRoom>
     requires { IsWrittenText written.now }
-    ensures text { IfOk result (λ query. written.now ≡ escaped query.text) }
-    ensures kinds { IfOk result (λ query. query.kinds ≡ kinds) }
+    ensures { IfOk result (λ query. written_query written.now kinds ≡ query) }
 {
     let text = unescape(alloc, written)?;
     Ok(Query { text, kinds })
@@ -85,7 +85,7 @@ pub(crate) fn quoted_at(bytes: &[u8]) -> Option<(&[u8], &[u8])>
 // The text that is written so.
 fn unescape(alloc: Global, written: &[u8]) -> Result<PatternText, NoRoom>
     requires { IsWrittenText written.now }
-    ensures { IfOk result (λ text. written.now ≡ escaped text) }
+    ensures { IfOk result (λ text. unescaped written.now ≡ text) }
 {
     let mut text = Vec::new(alloc);
     let mut rest = written;

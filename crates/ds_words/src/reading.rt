@@ -3,7 +3,7 @@
 ghost use Rattle.std.specs.Prelude.{◌≡◌, ◌≤◌, ◌+◌, length, take, IfOk, IfErr};
 ghost use Rattle.ds_lines.specs.Lines.{EndsLine, IsUnbroken, with_newline};
 ghost use Rattle.ds_words.specs.Command.{ReadsCommand, IsLineOf, IsCommandLineFault};
-ghost use Rattle.ds_words.specs.Pieces.{TakesCommand};
+ghost use Rattle.ds_words.specs.Row.{TakesRow};
 
 use crate::command::ScriptCommand;
 use crate::fault::CommandFault;
@@ -83,7 +83,7 @@ pub fn read_line(alloc: Global, line: &[u8]) -> Result<ScriptCommand, CommandFau
 
 // Reads what follows a command's word.
 fn behind_word(alloc: Global, word: Word, rest: &mut Rest) -> Result<ScriptCommand, PartFault>
-    ensures { TakesCommand word rest.old.bytes.now result }
+    ensures { TakesRow word rest.old.bytes.now result }
 {
     match word {
         Word::Offer => offer_at(alloc, rest),

@@ -1,9 +1,10 @@
 //! Scopes as lines write them: `*`, or a query.
 
-ghost use Rattle.std.specs.Prelude.{◌≢◌, None, IfOk, IfErr, OnErr};
-ghost use Rattle.ds_line.specs.Piece.{StopsIn};
-ghost use Rattle.ds_line.specs.declared.part_fault.PartFault.TheVariants.{NoRoom as TheStopForRoom};
-ghost use Rattle.ds_words.specs.Scope.{a_scope, FindsScope, IsWrittenScope, Writes};
+#![tactic(auto, unfolding(crate::specs::Reads::ReadsOr))]
+
+ghost use Rattle.std.specs.Prelude.{◌≡◌, Err, IfOk, IfErr, OnErr};
+ghost use Rattle.ds_words.specs.Reads.{Reads, FindsScope};
+ghost use Rattle.ds_words.specs.Scope.{a_scope, IsWrittenScope, ScopeTakesMemory, written_scope};
 
 use crate::pieces::Rest;
 use crate::query::{query_of, quoted_at};
@@ -17,8 +18,7 @@ impl<'a> Rest<'a> {
     /// the kinds, which are `None` for `*`: only where the whole line is read does the pattern take memory.
     pub fn scope(&mut self) -> Result<(&'a [u8], Option<Kinds>), PartFault>
         ensures found { IfOk result (λ written. FindsScope written.0.now written.1 self.old.bytes.now self.new.bytes.now) }
-        ensures stop { IfErr result (λ stop. StopsIn a_scope stop self.old.bytes.now) }
-        ensures room { IfErr result (λ stop. stop ≢ TheStopForRoom) }
+        ensures stop { IfErr result (λ stop. Reads a_scope self.old.bytes.now (Err stop) self.new.bytes.now) }
     {
         self.byte(b' ', Expected::Space)?;
         self.expected = Expected::Scope;
@@ -38,8 +38,8 @@ impl<'a> Rest<'a> {
 /// The scope that is written so: of all keys where there are no kinds. NoRoom: out of memory for a pattern.
 pub(crate) fn scope_of(alloc: Global, text: &[u8], kinds: Option<Kinds>) -> Result<Scope, NoRoom>
     requires { IsWrittenScope text.now kinds }
-    ensures scope { IfOk result (λ scope. Writes text.now kinds scope) }
-    ensures room { OnErr result (kinds ≢ None) }
+    ensures scope { IfOk result (λ scope. written_scope text.now kinds ≡ scope) }
+    ensures room { OnErr result (ScopeTakesMemory (written_scope text.now kinds)) }
 {
     match kinds {
         None => Ok(Scope::All),

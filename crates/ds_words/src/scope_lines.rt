@@ -1,6 +1,8 @@
 //! What the lines that have a scope have behind their word.
 
-ghost use Rattle.ds_words.specs.Pieces.{TakesCommand};
+#![tactic(auto, unfolding(crate::specs::Row::TakesRow))]
+
+ghost use Rattle.ds_words.specs.Row.{TakesRow};
 ghost use Rattle.ds_words.specs.declared.word.Word.TheVariants as words;
 
 use crate::command::ScriptCommand;
@@ -12,7 +14,7 @@ use std::alloc::Global;
 
 /// Reads what follows `since`.
 pub(crate) fn since_at(alloc: Global, rest: &mut Rest) -> Result<ScriptCommand, PartFault>
-    ensures { TakesCommand words.Since rest.old.bytes.now result }
+    ensures { TakesRow words.Since rest.old.bytes.now result }
 {
     let (text, kinds) = match rest.scope() {
         Ok(written) => written,
@@ -34,7 +36,7 @@ pub(crate) fn since_at(alloc: Global, rest: &mut Rest) -> Result<ScriptCommand, 
 
 /// Reads what follows `snapshot`.
 pub(crate) fn snapshot_at(alloc: Global, rest: &mut Rest) -> Result<ScriptCommand, PartFault>
-    ensures { TakesCommand words.Snapshot rest.old.bytes.now result }
+    ensures { TakesRow words.Snapshot rest.old.bytes.now result }
 {
     let (text, kinds) = match rest.scope() {
         Ok(written) => written,
@@ -49,7 +51,7 @@ pub(crate) fn snapshot_at(alloc: Global, rest: &mut Rest) -> Result<ScriptComman
 
 /// Reads what follows `page`.
 pub(crate) fn page_at(alloc: Global, rest: &mut Rest) -> Result<ScriptCommand, PartFault>
-    ensures { TakesCommand words.Page rest.old.bytes.now result }
+    ensures { TakesRow words.Page rest.old.bytes.now result }
 {
     let (text, kinds) = match rest.scope() {
         Ok(written) => written,

@@ -1,6 +1,8 @@
 //! What the lines to RS have behind their word.
 
-ghost use Rattle.ds_words.specs.Pieces.{TakesCommand};
+#![tactic(auto, unfolding(crate::specs::Row::TakesRow))]
+
+ghost use Rattle.ds_words.specs.Row.{TakesRow};
 ghost use Rattle.ds_words.specs.declared.word.Word.TheVariants as words;
 
 use crate::command::ScriptCommand;
@@ -11,7 +13,7 @@ use std::alloc::Global;
 
 /// Reads what follows `settings`.
 pub(crate) fn settings_at(alloc: Global, rest: &mut Rest) -> Result<ScriptCommand, PartFault>
-    ensures { TakesCommand words.Settings rest.old.bytes.now result }
+    ensures { TakesRow words.Settings rest.old.bytes.now result }
 {
     let text = rest.text()?;
     let Ok(text) = SettingsText::of(alloc, text) else {
@@ -22,11 +24,12 @@ pub(crate) fn settings_at(alloc: Global, rest: &mut Rest) -> Result<ScriptComman
 
 /// Reads what follows `service`.
 pub(crate) fn service_at(rest: &mut Rest) -> Result<ScriptCommand, PartFault>
-    ensures { TakesCommand words.Service rest.old.bytes.now result }
+    ensures { TakesRow words.Service rest.old.bytes.now result }
 {
     let request = rest.request()?;
     let label = rest.name(Expected::Label)?;
-    let tick = rest.last_place(Expected::Tick)?;
+    let tick = rest.place(Expected::Tick)?;
+    rest.end()?;
     Ok(ScriptCommand::Service {
         request,
         label,
@@ -36,11 +39,12 @@ pub(crate) fn service_at(rest: &mut Rest) -> Result<ScriptCommand, PartFault>
 
 /// Reads what follows `death`.
 pub(crate) fn death_at(rest: &mut Rest) -> Result<ScriptCommand, PartFault>
-    ensures { TakesCommand words.Death rest.old.bytes.now result }
+    ensures { TakesRow words.Death rest.old.bytes.now result }
 {
     let endpoint = rest.endpoint(Expected::Endpoint)?;
     let cause = rest.place(Expected::Cause)?;
-    let tick = rest.last_place(Expected::Tick)?;
+    let tick = rest.place(Expected::Tick)?;
+    rest.end()?;
     Ok(ScriptCommand::Death {
         endpoint,
         cause,
@@ -50,17 +54,19 @@ pub(crate) fn death_at(rest: &mut Rest) -> Result<ScriptCommand, PartFault>
 
 /// Reads what follows `beat`.
 pub(crate) fn beat_at(rest: &mut Rest) -> Result<ScriptCommand, PartFault>
-    ensures { TakesCommand words.Beat rest.old.bytes.now result }
+    ensures { TakesRow words.Beat rest.old.bytes.now result }
 {
     let endpoint = rest.endpoint(Expected::Endpoint)?;
-    let tick = rest.last_place(Expected::Tick)?;
+    let tick = rest.place(Expected::Tick)?;
+    rest.end()?;
     Ok(ScriptCommand::Beat { endpoint, tick })
 }
 
 /// Reads what follows `tick`.
 pub(crate) fn tick_at(rest: &mut Rest) -> Result<ScriptCommand, PartFault>
-    ensures { TakesCommand words.Tick rest.old.bytes.now result }
+    ensures { TakesRow words.Tick rest.old.bytes.now result }
 {
-    let tick = rest.last_place(Expected::Tick)?;
+    let tick = rest.place(Expected::Tick)?;
+    rest.end()?;
     Ok(ScriptCommand::Tick { tick })
 }

@@ -1,9 +1,10 @@
 //! Readers of the pieces of lines to services and driver tables.
 
-ghost use Rattle.std.specs.Prelude.{◌≡◌, ◌≢◌, IfOk, IfErr, IfSome, IfNone};
-ghost use Rattle.ds_line.specs.Piece.{Found, StopsIn};
-ghost use Rattle.ds_line.specs.declared.part_fault.PartFault.TheVariants.{NoRoom};
+#![tactic(auto, unfolding(crate::specs::Reads::ReadsOr))]
+
+ghost use Rattle.std.specs.Prelude.{◌≡◌, ◌≢◌, Ok, Err, IfOk, IfErr, IfSome, IfNone};
 ghost use Rattle.driver_tables.specs.declared.file_table.FileClass.{FileClass};
+ghost use Rattle.ds_words.specs.Reads.{Reads};
 ghost use Rattle.ds_words.specs.Service.{class_word, request_word, server_word};
 ghost use Rattle.ds_words.specs.ServicePieces.{a_class, a_device, a_request, a_server, a_text, a_unit};
 ghost use Rattle.ds_words.specs.declared.service.Request.{Request};
@@ -19,9 +20,8 @@ use ds_names::read_decimal;
 impl<'a> Rest<'a> {
     /// Reads the rest of the line, its newline too, and gives what stands before that.
     pub fn text(&mut self) -> Result<&'a [u8], PartFault>
-        ensures found { IfOk result (λ text. Found a_text text.now self.old.bytes.now self.new.bytes.now) }
-        ensures stop { IfErr result (λ stop. StopsIn a_text stop self.old.bytes.now) }
-        ensures room { IfErr result (λ stop. stop ≢ NoRoom) }
+        ensures found { IfOk result (λ text. Reads a_text self.old.bytes.now (Ok text.now) self.new.bytes.now) }
+        ensures stop { IfErr result (λ stop. Reads a_text self.old.bytes.now (Err stop) self.new.bytes.now) }
     {
         self.byte(b' ', Expected::Space)?;
         self.expected = Expected::End;
@@ -35,9 +35,7 @@ impl<'a> Rest<'a> {
 
     /// Reads what RS is asked for a service.
     pub fn request(&mut self) -> Result<Request, PartFault>
-        ensures found { IfOk result (λ request. Found a_request request self.old.bytes.now self.new.bytes.now) }
-        ensures stop { IfErr result (λ stop. StopsIn a_request stop self.old.bytes.now) }
-        ensures room { IfErr result (λ stop. stop ≢ NoRoom) }
+        ensures { Reads a_request self.old.bytes.now result self.new.bytes.now }
     {
         self.byte(b' ', Expected::Space)?;
         self.expected = Expected::Request;
@@ -51,9 +49,7 @@ impl<'a> Rest<'a> {
 
     /// Reads `file` or `net`.
     pub fn server(&mut self) -> Result<Server, PartFault>
-        ensures found { IfOk result (λ server. Found a_server server self.old.bytes.now self.new.bytes.now) }
-        ensures stop { IfErr result (λ stop. StopsIn a_server stop self.old.bytes.now) }
-        ensures room { IfErr result (λ stop. stop ≢ NoRoom) }
+        ensures { Reads a_server self.old.bytes.now result self.new.bytes.now }
     {
         self.byte(b' ', Expected::Space)?;
         self.expected = Expected::Server;
@@ -67,9 +63,7 @@ impl<'a> Rest<'a> {
 
     // Reads `block` or `character`.
     fn class(&mut self) -> Result<FileClass, PartFault>
-        ensures found { IfOk result (λ class. Found a_class class self.old.bytes.now self.new.bytes.now) }
-        ensures stop { IfErr result (λ stop. StopsIn a_class stop self.old.bytes.now) }
-        ensures room { IfErr result (λ stop. stop ≢ NoRoom) }
+        ensures { Reads a_class self.old.bytes.now result self.new.bytes.now }
     {
         self.byte(b' ', Expected::Space)?;
         self.expected = Expected::Class;
@@ -83,9 +77,7 @@ impl<'a> Rest<'a> {
 
     /// Reads the number of a major device or a port, 0 to 255.
     pub fn unit(&mut self, expected: Expected) -> Result<u8, PartFault>
-        ensures found { IfOk result (λ n. Found a_unit n self.old.bytes.now self.new.bytes.now) }
-        ensures stop { IfErr result (λ stop. StopsIn a_unit stop self.old.bytes.now) }
-        ensures room { IfErr result (λ stop. stop ≢ NoRoom) }
+        ensures { Reads a_unit self.old.bytes.now result self.new.bytes.now }
     {
         self.byte(b' ', Expected::Space)?;
         self.expected = expected;
@@ -98,9 +90,7 @@ impl<'a> Rest<'a> {
 
     /// Reads what a driver drives: a major device with its class, or a port.
     pub fn device(&mut self) -> Result<Device, PartFault>
-        ensures found { IfOk result (λ device. Found a_device device self.old.bytes.now self.new.bytes.now) }
-        ensures stop { IfErr result (λ stop. StopsIn a_device stop self.old.bytes.now) }
-        ensures room { IfErr result (λ stop. stop ≢ NoRoom) }
+        ensures { Reads a_device self.old.bytes.now result self.new.bytes.now }
     {
         match self.server()? {
             Server::File => {

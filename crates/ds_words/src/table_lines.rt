@@ -1,6 +1,8 @@
 //! What the lines to driver tables have behind their word.
 
-ghost use Rattle.ds_words.specs.Pieces.{TakesCommand};
+#![tactic(auto, unfolding(crate::specs::Row::TakesRow))]
+
+ghost use Rattle.ds_words.specs.Row.{TakesRow};
 ghost use Rattle.ds_words.specs.declared.word.Word.TheVariants as words;
 
 use crate::command::ScriptCommand;
@@ -9,7 +11,7 @@ use ds_line::{Expected, PartFault};
 
 /// Reads what follows `assign`.
 pub(crate) fn assign_at(rest: &mut Rest) -> Result<ScriptCommand, PartFault>
-    ensures { TakesCommand words.Assign rest.old.bytes.now result }
+    ensures { TakesRow words.Assign rest.old.bytes.now result }
 {
     let device = rest.device()?;
     let label = rest.name(Expected::Label)?;
@@ -19,20 +21,22 @@ pub(crate) fn assign_at(rest: &mut Rest) -> Result<ScriptCommand, PartFault>
 
 /// Reads what follows `follow`.
 pub(crate) fn follow_at(rest: &mut Rest) -> Result<ScriptCommand, PartFault>
-    ensures { TakesCommand words.Follow rest.old.bytes.now result }
+    ensures { TakesRow words.Follow rest.old.bytes.now result }
 {
-    let map = rest.last_place(Expected::Map)?;
+    let map = rest.place(Expected::Map)?;
+    rest.end()?;
     Ok(ScriptCommand::Follow { map })
 }
 
 /// Reads what follows `submit`.
 pub(crate) fn submit_at(rest: &mut Rest) -> Result<ScriptCommand, PartFault>
-    ensures { TakesCommand words.Submit rest.old.bytes.now result }
+    ensures { TakesRow words.Submit rest.old.bytes.now result }
 {
     let server = rest.server()?;
     let id = rest.place(Expected::Id)?;
     let unit = rest.unit(Expected::Unit)?;
-    let map = rest.last_place(Expected::Map)?;
+    let map = rest.place(Expected::Map)?;
+    rest.end()?;
     Ok(ScriptCommand::Submit {
         server,
         id,
@@ -43,11 +47,12 @@ pub(crate) fn submit_at(rest: &mut Rest) -> Result<ScriptCommand, PartFault>
 
 /// Reads what follows `reply`.
 pub(crate) fn reply_at(rest: &mut Rest) -> Result<ScriptCommand, PartFault>
-    ensures { TakesCommand words.Reply rest.old.bytes.now result }
+    ensures { TakesRow words.Reply rest.old.bytes.now result }
 {
     let server = rest.server()?;
     let endpoint = rest.endpoint(Expected::Endpoint)?;
-    let id = rest.last_place(Expected::Id)?;
+    let id = rest.place(Expected::Id)?;
+    rest.end()?;
     Ok(ScriptCommand::Reply {
         server,
         endpoint,

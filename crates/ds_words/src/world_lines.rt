@@ -1,6 +1,8 @@
 //! What the lines of a world have behind their word.
 
-ghost use Rattle.ds_words.specs.Pieces.{TakesCommand};
+#![tactic(auto, unfolding(crate::specs::Row::TakesRow))]
+
+ghost use Rattle.ds_words.specs.Row.{TakesRow};
 ghost use Rattle.ds_words.specs.declared.word.Word.TheVariants as words;
 
 use crate::command::ScriptCommand;
@@ -9,7 +11,7 @@ use ds_line::{Expected, PartFault};
 
 /// Reads what follows `ring`.
 pub(crate) fn ring_at(rest: &mut Rest) -> Result<ScriptCommand, PartFault>
-    ensures { TakesCommand words.Ring rest.old.bytes.now result }
+    ensures { TakesRow words.Ring rest.old.bytes.now result }
 {
     let ring = rest.ring()?;
     rest.end()?;
@@ -18,7 +20,7 @@ pub(crate) fn ring_at(rest: &mut Rest) -> Result<ScriptCommand, PartFault>
 
 /// Reads what follows `side`.
 pub(crate) fn side_at(rest: &mut Rest) -> Result<ScriptCommand, PartFault>
-    ensures { TakesCommand words.Side rest.old.bytes.now result }
+    ensures { TakesRow words.Side rest.old.bytes.now result }
 {
     let side = rest.side()?;
     rest.end()?;
@@ -27,24 +29,26 @@ pub(crate) fn side_at(rest: &mut Rest) -> Result<ScriptCommand, PartFault>
 
 /// Reads what follows `clear`.
 pub(crate) fn clear_at(rest: &mut Rest) -> Result<ScriptCommand, PartFault>
-    ensures { TakesCommand words.Clear rest.old.bytes.now result }
+    ensures { TakesRow words.Clear rest.old.bytes.now result }
 {
-    let map = rest.last_place(Expected::Map)?;
+    let map = rest.place(Expected::Map)?;
+    rest.end()?;
     Ok(ScriptCommand::Clear { map })
 }
 
 /// Reads what follows `restart`.
 pub(crate) fn restart_at(rest: &mut Rest) -> Result<ScriptCommand, PartFault>
-    ensures { TakesCommand words.Restart rest.old.bytes.now result }
+    ensures { TakesRow words.Restart rest.old.bytes.now result }
 {
     let side = rest.side()?;
-    let incarnation = rest.last_place(Expected::Incarnation)?;
+    let incarnation = rest.place(Expected::Incarnation)?;
+    rest.end()?;
     Ok(ScriptCommand::Restart { side, incarnation })
 }
 
 /// Reads what follows `deliver`.
 pub(crate) fn deliver_at(rest: &mut Rest) -> Result<ScriptCommand, PartFault>
-    ensures { TakesCommand words.Deliver rest.old.bytes.now result }
+    ensures { TakesRow words.Deliver rest.old.bytes.now result }
 {
     let message = rest.place(Expected::Message)?;
     let holder = rest.holder()?;

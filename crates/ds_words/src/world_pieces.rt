@@ -1,12 +1,13 @@
 //! Readers of the pieces of a world's lines.
 
-ghost use Rattle.std.specs.Prelude.{◌≡◌, ◌≢◌, ◌∷◌, ◌<◌, ◌^◌, ℕ, IfSome, IfNone, IfOk, IfErr};
+#![tactic(auto, unfolding(crate::specs::Reads::ReadsOr))]
+
+ghost use Rattle.std.specs.Prelude.{◌≡◌, ◌≢◌, ◌∷◌, ◌<◌, ◌^◌, ℕ, IfSome, IfNone};
 ghost use Rattle.std.specs.Fmt.{decimal};
-ghost use Rattle.ds_line.specs.Piece.{Found, StopsIn};
-ghost use Rattle.ds_line.specs.declared.part_fault.PartFault.TheVariants.{NoRoom};
 ghost use Rattle.ds_replica.specs.declared.event.Holder.{Holder};
 ghost use Rattle.ds_replica.specs.declared.event.Side.{Side};
 ghost use Rattle.store_words.specs.Outcome.{side_word};
+ghost use Rattle.ds_words.specs.Reads.{Reads};
 ghost use Rattle.ds_words.specs.World.{holder_word, IsHolder};
 ghost use Rattle.ds_words.specs.WorldPieces.{a_ring, a_side, a_holder, a_count};
 
@@ -18,9 +19,7 @@ use ds_replica::{Holder, Side};
 impl Rest<'_> {
     /// Reads how many changes a journal has room for.
     pub fn ring(&mut self) -> Result<u32, PartFault>
-        ensures found { IfOk result (λ n. Found a_ring n self.old.bytes.now self.new.bytes.now) }
-        ensures stop { IfErr result (λ stop. StopsIn a_ring stop self.old.bytes.now) }
-        ensures room { IfErr result (λ stop. stop ≢ NoRoom) }
+        ensures { Reads a_ring self.old.bytes.now result self.new.bytes.now }
     {
         self.byte(b' ', Expected::Space)?;
         self.expected = Expected::Ring;
@@ -36,9 +35,7 @@ impl Rest<'_> {
 
     /// Reads `a` or `b`.
     pub fn side(&mut self) -> Result<Side, PartFault>
-        ensures found { IfOk result (λ side. Found a_side side self.old.bytes.now self.new.bytes.now) }
-        ensures stop { IfErr result (λ stop. StopsIn a_side stop self.old.bytes.now) }
-        ensures room { IfErr result (λ stop. stop ≢ NoRoom) }
+        ensures { Reads a_side self.old.bytes.now result self.new.bytes.now }
     {
         self.byte(b' ', Expected::Space)?;
         self.expected = Expected::Side;
@@ -52,9 +49,7 @@ impl Rest<'_> {
 
     /// Reads a side, or a map's number behind an `m`.
     pub fn holder(&mut self) -> Result<Holder, PartFault>
-        ensures found { IfOk result (λ holder. Found a_holder holder self.old.bytes.now self.new.bytes.now) }
-        ensures stop { IfErr result (λ stop. StopsIn a_holder stop self.old.bytes.now) }
-        ensures room { IfErr result (λ stop. stop ≢ NoRoom) }
+        ensures { Reads a_holder self.old.bytes.now result self.new.bytes.now }
     {
         self.byte(b' ', Expected::Space)?;
         self.expected = Expected::Holder;
@@ -68,9 +63,7 @@ impl Rest<'_> {
 
     /// Reads how many items are given, or `*`.
     pub fn count(&mut self) -> Result<Option<u32>, PartFault>
-        ensures found { IfOk result (λ count. Found a_count count self.old.bytes.now self.new.bytes.now) }
-        ensures stop { IfErr result (λ stop. StopsIn a_count stop self.old.bytes.now) }
-        ensures room { IfErr result (λ stop. stop ≢ NoRoom) }
+        ensures { Reads a_count self.old.bytes.now result self.new.bytes.now }
     {
         self.byte(b' ', Expected::Space)?;
         self.expected = Expected::Count;

@@ -1,23 +1,16 @@
 use Rattle.std.proofs.Common.{subst}
 use Rattle.ds_line.specs.ItemFault.{IsItemFaultIn}
 use Rattle.ds_line.specs.declared.fault.LineFault.{LineFault}
-use Rattle.ds_words.specs.declared.word.Word.TheVariants as words
-use Rattle.ds_words.proofs.OfferLemmas.{no_item_space, place_fits, offer_no_item, offer_found, offer_no_room}
-use Rattle.ds_words.proofs.PieceLemmas.{no_want}
-use Rattle.ds_words.proofs.TableLemmas.{start, stops_last}
+use Rattle.ds_words.proofs.OfferLemmas.{place_fits, offer_no_space, offer_no_item, offer_found, offer_no_room}
 use Rattle.ds_words.proofs.lines.offer_at.Goals as goal
 
 pub returns-in_default : goal.returns-in_default
-returns-in_default c =
-    stops_last (start words.Offer c.args.rest.now.bytes.now) (no_want c.stop_at.result _ c.stop_at.ensures)
-    (no_item_space c.stop_at.result c.args.rest.now.bytes.now c.stop_at.ensures c.in_default.ensures.none)
+returns-in_default c = offer_no_space c.stop_at.result c.args.rest.now.bytes.now c.stop_at.ensures c.in_default.ensures.none
 
 pub returns : goal.returns
-returns c = (
-  _,
-  offer_found c.args.rest.now.bytes.now c.in-Some.text.now c.in-Ok.read.0 c.in-Ok.read.1 c.in-Some.ensures.found
-      c.in-Ok.ensures.line c.in-Ok.ensures.found,
-)
+returns c =
+    offer_found c.args.rest.now.bytes.now c.in-Some.text.now c.in-Ok.read.0 c.in-Ok.read.1 c.in-Some.ensures.found c.in-Ok.ensures.line
+    c.in-Ok.ensures.found
 
 pub overflow_sub-left : goal.overflow_sub-left
 overflow_sub-left c =

@@ -1,7 +1,8 @@
 use Rattle.std.proofs.Common.{◌≡◌, ℕ, List, sym, ap, ◌∙◌}
 use Rattle.std.proofs.lemmas.Result.{IfOk-weaker}
 use Rattle.ds_line.specs.Spelling.{escaped}
-use Rattle.ds_words.proofs.QueryLemmas.{left_more, left_last}
+use Rattle.ds_words.specs.Query.{unescaped}
+use Rattle.ds_words.proofs.QueryLemmas.{left_more, left_last, unescaped_is}
 use Rattle.ds_words.proofs.query.unescape.Goals as goal
 
 pub loop-byte-preserved : goal.loop-byte-preserved
@@ -10,4 +11,4 @@ loop-byte-preserved c = rw c.in_ok-push.ensures.items (left_more c.args.written.
 pub returns : goal.returns
 returns c =
     let all = left_last c.args.written.now c.loop-byte.text.items c.loop-byte.rest.now c.loop-byte.invariant c.in_default.ensures.none in
-    IfOk-weaker c.of.result (λ (t : List ℕ). t ≡ c.deref.result.now) (λ (t : List ℕ). c.args.written.now ≡ escaped t) (λ t same. all ∙ ap escaped (sym (same ∙ c.deref.ensures.value))) c.of.ensures
+    IfOk-weaker c.of.result (λ (t : List ℕ). t ≡ c.deref.result.now) (λ (t : List ℕ). unescaped c.args.written.now ≡ t) (λ t same. unescaped_is c.args.written.now t (all ∙ ap escaped (sym (same ∙ c.deref.ensures.value)))) c.of.ensures

@@ -1,12 +1,10 @@
 use Rattle.std.proofs.Common.{Bool, true}
-use Rattle.std.proofs.lemmas.Result.{err_from_is_err_and}
-use Rattle.ds_words.proofs.PieceLemmas.{one_part, initial_part, no_byte, no_initial}
+use Rattle.ds_words.proofs.PieceLemmas.{one_part, initial_part, no_initial}
+use Rattle.ds_words.proofs.ReadsLemmas.{exits_byte, misses_at}
 use Rattle.ds_words.proofs.pieces.Rest.initial.Goals as goal
 
-pub returns-in_err-byte-clause-stop : goal.returns-in_err-byte-clause-stop
-returns-in_err-byte-clause-stop c =
-    let exit = err_from_is_err_and c.from_residual.result c.from_residual.ensures.1 in
-    rw (exit.1, exit.2) (no_byte 32 (one_part Bool (λ _. Unit {0}) initial_part) true c.in_err-byte.field-0.0 c.args.self.now.bytes.now tt c.in_err-byte.ensures.stop c.in_err-byte.ensures.none)
+pub returns-in_err-byte : goal.returns-in_err-byte
+returns-in_err-byte c = exits_byte 32 (one_part Bool (λ _. Unit {0}) initial_part) true tt _ _ c.from_residual.ensures.1 c.in_err-byte.ensures.stop c.in_err-byte.ensures.none
 
-pub returns-in_default-clause-stop : goal.returns-in_default-clause-stop
-returns-in_default-clause-stop c = no_initial c.stop_at.result c.args.self.now.bytes.now _ c.word_at.result.0.now c.word_at.result.1.now c.in_ok-byte.ensures.found c.stop_at.ensures c.word_at.ensures.valid c.word_at.ensures.found c.in_default.ensures.none
+pub returns-in_default : goal.returns-in_default
+returns-in_default c = misses_at _ _ _ c.stop_at.ensures (no_initial c.stop_at.result c.args.self.now.bytes.now _ c.word_at.result.0.now c.word_at.result.1.now c.in_ok-byte.ensures.found c.stop_at.ensures c.word_at.ensures.valid c.word_at.ensures.found c.in_default.ensures.none)
