@@ -1,11 +1,13 @@
 -- Reading a change one part further: the next part is missing, or it is read.
-use Rattle.std.proofs.Common.{◌≡◌, ℕ, ◌<◌, List, [], ◌∷◌, ◌++◌, length, Result, Ok, Err, refl, sym, subst, arith}
+use Rattle.std.proofs.Common.{◌≡◌, ℕ, ◌<◌, List, [], ◌∷◌, ◌++◌, length, Result, Ok, Err, Option, Some, None, refl, sym, subst, arith}
 use Rattle.ds_names.specs.Run.{Begins}
 use Rattle.ds_entry.specs.Change.{ChangeRecord, IsChange}
+use Rattle.ds_entry.specs.declared.item.Item.{Item}
+use Rattle.ds_entry.specs.declared.item.Item.TheVariants.{Change as Changed, Floor as Floored}
 use Rattle.ds_line.specs.Part.{Class, run_of, Part}
 use Rattle.ds_line.specs.Spelling.{change_parts}
 use Rattle.ds_line.specs.FaultPlace.{Stand}
-use Rattle.ds_line.specs.Reading.{ReadsChange}
+use Rattle.ds_line.specs.Reading.{ReadsChange, ReadsInto}
 use Rattle.ds_line.specs.declared.part_fault.PartFault.{PartFault}
 use Rattle.ds_line.specs.declared.part_fault.PartFault.TheVariants.{BadPart, NoRoom}
 use Rattle.ds_line.proofs.PartLemmas.{IsText}
@@ -48,6 +50,10 @@ read_on known p bytes r (Err (BadPart left)) text comes begins k =
 read_on known p bytes r (Err NoRoom) text comes begins k =
     record { put = k.put; rest = k.rest; completes = completes_behind_part known p k.put bytes r k.rest begins.parts k.completes; value = k.value }
 
--- what a reader gives, where it is known to be this
-pub reads_same : (known : List Part) (bytes : List ℕ) (result given : Result (ChangeRecord × ℕ) PartFault) → result ≡ given → ReadsChange known bytes given → ReadsChange known bytes result
-reads_same known bytes result given is k = subst (ReadsChange known bytes) (sym is) k
+-- the same of a reader that puts the change into a place
+pub into_on : (known more : List Part) (bytes r : List ℕ) (result : Result ℕ PartFault) (placed : Option Item) → ((given : Result (ChangeRecord × ℕ) PartFault) → ReadsChange more r given → ReadsChange known bytes given)
+    → ReadsInto more r result placed → ReadsInto known bytes result placed
+into_on known more bytes r (Ok left) (Some (Changed c)) on k = on (Ok (c, left)) k
+into_on known more bytes r (Ok left) (Some (Floored f)) on k = k
+into_on known more bytes r (Ok left) None on k = k
+into_on known more bytes r (Err stop) placed on k = on (Err stop) k

@@ -1,15 +1,18 @@
 -- What the readers of a change's parts say, one after the other.
-use Rattle.std.specs.Prelude.{◌≡◌, ℕ, suc, List, [], ◌∷◌, ◌++◌, length, Result, Ok, Err}
+use Rattle.std.specs.Prelude.{◌≡◌, ℕ, suc, List, [], ◌∷◌, ◌++◌, length, take, Result, Ok, Err, Option, Some, None}
 use Rattle.std.specs.Fmt.{decimal}
 use Rattle.ds_names.specs.declared.key.Key.{Key}
 use Rattle.ds_names.specs.declared.version.Version.{Version}
 use Rattle.ds_entry.specs.declared.body.Value.{Value}
 use Rattle.ds_entry.specs.declared.body.Body.{Body}
 use Rattle.ds_entry.specs.declared.body.Body.TheVariants.{Put}
+use Rattle.ds_entry.specs.declared.item.Item.{Item}
+use Rattle.ds_entry.specs.declared.item.Item.TheVariants.{Change as Changed, Floor as Floored}
 use Rattle.ds_entry.specs.Change.{ChangeRecord, change_of, IsChange, IsBodyInPlace}
 use Rattle.ds_line.specs.Part.{Part, part, byte, Name, Word, Number, texts}
-use Rattle.ds_line.specs.Spelling.{space, kind_word, change_parts}
-use Rattle.ds_line.specs.FaultPlace.{Stand}
+use Rattle.ds_line.specs.Spelling.{space, kind_word, change_parts, spelling}
+use Rattle.ds_line.specs.FaultPlace.{Stand, IsFaultIn}
+use Rattle.ds_line.specs.declared.fault.LineFault.{LineFault}
 use Rattle.ds_line.specs.declared.part_fault.PartFault.{PartFault}
 use Rattle.ds_line.specs.declared.part_fault.PartFault.TheVariants.{BadPart, NoRoom}
 
@@ -86,3 +89,22 @@ abbrev pub ReadsChange : List Part → List ℕ → Result (ChangeRecord × ℕ)
 ReadsChange known bytes (Ok r) = (rest : List ℕ) × Completes known r.0 bytes rest × (length rest ≡ r.1)
 ReadsChange known bytes (Err (BadPart left)) = (rest : List ℕ) × ChangeStops known bytes rest × (length rest ≡ left)
 ReadsChange known bytes (Err NoRoom) = CompletesInRoom known bytes
+
+-- what a reader of the body gives of the change with these other parts
+abbrev pub with_body : Key → List ℕ → Version → Result (Body × ℕ) PartFault → Result (ChangeRecord × ℕ) PartFault
+with_body key owner version (Ok r) = Ok (change_of key owner version r.0, r.1)
+with_body key owner version (Err stop) = Err stop
+
+-- `ReadsChange` where the change is put into a place as an item, and the reader gives how many bytes are left
+abbrev pub ReadsInto : List Part → List ℕ → Result ℕ PartFault → Option Item → Type 0
+ReadsInto known bytes (Ok left) (Some (Changed c)) = ReadsChange known bytes (Ok (c, left))
+ReadsInto known bytes (Ok left) (Some (Floored f)) = ⊥
+ReadsInto known bytes (Ok left) None = ⊥
+ReadsInto known bytes (Err stop) placed = ReadsChange known bytes (Err stop)
+
+-- a change's line stands at the front, so long, and the change is in the place; or why no line stands there
+abbrev pub ReadsChangeLine : List ℕ → Result ℕ LineFault → Option Item → Type 0
+ReadsChangeLine bytes (Ok len) (Some (Changed c)) = IsChange c × (take len bytes ≡ spelling c) × (len ≡ length (spelling c))
+ReadsChangeLine bytes (Ok len) (Some (Floored f)) = ⊥
+ReadsChangeLine bytes (Ok len) None = ⊥
+ReadsChangeLine bytes (Err fault) placed = IsFaultIn fault bytes

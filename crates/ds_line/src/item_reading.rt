@@ -10,7 +10,7 @@ use crate::expected::Expected;
 use crate::fault::LineFault;
 use crate::part_fault::{PartFault, stop_at};
 use crate::parts::{behind_name, name_at};
-use crate::reading::read_change_noting;
+use crate::reading::change_into;
 use ds_entry::{Floor, Item};
 use ds_names::{Generation, read_byte, read_decimal};
 use std::alloc::Global;
@@ -44,8 +44,12 @@ pub fn read_item_noting(
     ensures fault { IfErr result (λ fault. IsItemFaultIn fault bytes.now) }
 {
     let Some(_behind) = read_byte(bytes, b'!') else {
-        let (change, length) = read_change_noting(alloc, bytes, expected)?;
-        return Ok((Item::Change(change), length));
+        let mut slot = None;
+        let length = change_into(alloc, bytes, expected, &mut slot)?;
+        return match slot {
+            Some(item) => Ok((item, length)),
+            None => unreachable!(),
+        };
     };
     let (floor, left) = match floor_at(bytes, expected) {
         Ok(read) => read,

@@ -47,6 +47,7 @@ impl Line {
     }
 
     /// Writes a number behind what it has, in decimal.
+    #[inline(always)]
     pub fn put_number(&mut self, number: u32)
         requires { length self.old + 10 ≤ 256 }
         ensures written { self.new ≡ self.old ++ decimal number }

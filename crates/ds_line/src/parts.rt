@@ -97,6 +97,7 @@ fn kind_of(word: &[u8]) -> Option<Kind>
 
 /// Reads the word of a kind at the front, and gives the kind with what comes behind the word. `None` where the
 /// longest run of letters and digits is another.
+#[inline(always)]
 pub fn kind_at(bytes: &[u8]) -> Option<(Kind, &[u8])>
     ensures found { IfSome result (λ r. Begins is_ascii_alphanumeric bytes.now (kind_word r.0) r.1.now) }
     ensures none { IfNone result ((kind : Kind) (rest : List ℕ) → ¬ Begins is_ascii_alphanumeric bytes.now (kind_word kind) rest) }

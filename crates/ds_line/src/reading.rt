@@ -1,6 +1,6 @@
 //! Reading the line of a change.
 
-ghost use Rattle.std.specs.Prelude.{◌≡◌, ◌≢◌, ℕ, List, [], ◌∷◌, ◌++◌, length, take, Ok, IfOk, IfErr};
+ghost use Rattle.std.specs.Prelude.{◌≡◌, ◌≢◌, ℕ, List, [], ◌∷◌, ◌++◌, length, take, IfOk, IfErr};
 ghost use Rattle.std.specs.Fmt.{decimal};
 ghost use Rattle.ds_names.specs.declared.kind.Kind.TheVariants.{Label};
 ghost use Rattle.ds_entry.specs.Change.{change_of, IsChange};
@@ -9,7 +9,7 @@ ghost use Rattle.ds_line.specs.Part.{byte};
 ghost use Rattle.ds_line.specs.Spelling.{spelling};
 ghost use Rattle.ds_line.specs.FaultPlace.{IsFaultIn};
 ghost use Rattle.ds_line.specs.Reading.{HasOwner, HasVersion, HasBody, HasValue, up_to_kind};
-ghost use Rattle.ds_line.specs.Reading.{up_to_epoch, up_to_mark, up_to_value, ReadsChange};
+ghost use Rattle.ds_line.specs.Reading.{up_to_epoch, up_to_mark, up_to_value, with_body, ReadsChange, ReadsChangeLine, ReadsInto};
 
 use crate::expected::Expected;
 use crate::fault::LineFault;
@@ -17,7 +17,7 @@ use crate::last_value::last_value_at;
 use crate::part_fault::{PartFault, stop_at};
 use crate::parts::{behind_name, kind_at, name_at};
 use crate::rules::{has_body, has_owner, has_seq, has_tombstone, has_value, has_version};
-use ds_entry::{Body, Change, Value};
+use ds_entry::{Body, Change, Item, Value};
 use ds_names::{Endpoint, Generation, Key, Name, Version, read_byte, read_decimal, read_endpoint};
 use std::alloc::Global;
 
@@ -49,8 +49,26 @@ pub fn read_change_noting(
     ensures length { IfOk result (λ r. r.1 ≡ length (spelling r.0)) }
     ensures fault { IfErr result (λ fault. IsFaultIn fault bytes.now) }
 {
-    let (change, left) = match change_at(alloc, bytes, expected) {
-        Ok(read) => read,
+    let mut slot = None;
+    let length = change_into(alloc, bytes, expected, &mut slot)?;
+    match slot {
+        Some(Item::Change(change)) => Ok((change, length)),
+        _ => unreachable!(),
+    }
+}
+
+/// Reads a change as `read_change_noting` does, into its caller's place: a result would be copied from each reader to the
+/// one above it. It gives the line's length.
+pub(crate) fn change_into(
+    alloc: Global,
+    bytes: &[u8],
+    expected: &mut Expected,
+    slot: &mut Option<Item>,
+) -> Result<usize, LineFault>
+    ensures { ReadsChangeLine bytes.now result slot.new }
+{
+    let left = match change_at(alloc, bytes, expected, slot) {
+        Ok(left) => left,
         Err(PartFault::BadPart { left }) => {
             let place = bytes.len() - left;
             return Err(LineFault::BadLine { place });
@@ -58,19 +76,20 @@ pub fn read_change_noting(
         Err(PartFault::NoRoom) => return Err(LineFault::NoRoom),
     };
     let length = bytes.len() - left;
-    Ok((change, length))
+    Ok(length)
 }
 
-// Each reader below gives the change and how many bytes are left behind its line, or how many are left from the
-// first part on that can't be read.
+// Each reader below gives how many bytes are left behind the change's line, or how many are left from the first part on that
+// can't be read. What it read of the change is in its caller's place, or the body that it gives.
 
 // Reads a change from its name on.
 fn change_at(
     alloc: Global,
     bytes: &[u8],
     expected: &mut Expected,
-) -> Result<(Change, usize), PartFault>
-    ensures { ReadsChange [] bytes.now result }
+    slot: &mut Option<Item>,
+) -> Result<usize, PartFault>
+    ensures { ReadsInto [] bytes.now result slot.new }
 {
     *expected = Expected::Name;
     let Some(name) = name_at(bytes) else {
@@ -89,7 +108,7 @@ fn change_at(
     if !has_owner(&key) {
         return Err(stop_at(at));
     }
-    owner_at(alloc, &key, rest, expected)
+    owner_at(alloc, &key, rest, expected, slot)
 }
 
 // Reads a change from the space behind its kind on.
@@ -98,9 +117,10 @@ fn owner_at(
     key: &Key,
     bytes: &[u8],
     expected: &mut Expected,
-) -> Result<(Change, usize), PartFault>
+    slot: &mut Option<Item>,
+) -> Result<usize, PartFault>
     requires { HasOwner key.now }
-    ensures { ReadsChange (up_to_kind key.now) bytes.now result }
+    ensures { ReadsInto (up_to_kind key.now) bytes.now result slot.new }
 {
     *expected = Expected::Space;
     let Some(at) = read_byte(bytes, b' ') else {
@@ -118,7 +138,7 @@ fn owner_at(
     let Some(rest) = read_byte(rest, b' ') else {
         return Err(stop_at(rest));
     };
-    version_at(alloc, key, &owner, rest, expected)
+    version_at(alloc, key, &owner, rest, expected, slot)
 }
 
 // Reads a change from its epoch on.
@@ -128,9 +148,10 @@ fn version_at(
     owner: &Name,
     bytes: &[u8],
     expected: &mut Expected,
-) -> Result<(Change, usize), PartFault>
+    slot: &mut Option<Item>,
+) -> Result<usize, PartFault>
     requires { HasVersion key.now owner.now }
-    ensures { ReadsChange (up_to_epoch key.now owner.now) bytes.now result }
+    ensures { ReadsInto (up_to_epoch key.now owner.now) bytes.now result slot.new }
 {
     *expected = Expected::Epoch;
     let Some((number, rest)) = read_decimal(bytes, 2097151) else {
@@ -161,7 +182,14 @@ fn version_at(
     let Some(rest) = read_byte(rest, b' ') else {
         return Err(stop_at(rest));
     };
-    body_at(alloc, key, owner, version, rest, expected)
+    match body_at(alloc, key, owner, version, rest, expected) {
+        Ok((body, left)) => {
+            let change = Change::from_parts(*key, *owner, version, body);
+            *slot = Some(Item::Change(change));
+            Ok(left)
+        }
+        Err(stop) => Err(stop),
+    }
 }
 
 // Reads a change from its mark on.
@@ -172,9 +200,9 @@ fn body_at(
     version: Version,
     bytes: &[u8],
     expected: &mut Expected,
-) -> Result<(Change, usize), PartFault>
+) -> Result<(Body, usize), PartFault>
     requires { HasBody key.now owner.now version }
-    ensures { ReadsChange (up_to_mark key.now owner.now version) bytes.now result }
+    ensures { ReadsChange (up_to_mark key.now owner.now version) bytes.now (with_body key.now owner.now version result) }
 {
     *expected = Expected::Mark;
     if has_value(key, owner, &version) {
@@ -197,15 +225,15 @@ fn gone_at(
     version: Version,
     bytes: &[u8],
     expected: &mut Expected,
-) -> Result<(Change, usize), PartFault>
+) -> Result<(Body, usize), PartFault>
     requires { IsChange (change_of key.now owner.now version Gone) }
-    ensures { ReadsChange (up_to_mark key.now owner.now version ++ byte 45 ∷ []) bytes.now result }
+    ensures { ReadsChange (up_to_mark key.now owner.now version ++ byte 45 ∷ []) bytes.now (with_body key.now owner.now version result) }
 {
     *expected = Expected::End;
     let Some(rest) = read_byte(bytes, b'\n') else {
         return Err(stop_at(bytes));
     };
-    whole(key, owner, version, Body::Gone, rest)
+    Ok((Body::Gone, rest.len()))
 }
 
 // Reads a put from the space before its value on.
@@ -216,9 +244,9 @@ fn put_at(
     version: Version,
     bytes: &[u8],
     expected: &mut Expected,
-) -> Result<(Change, usize), PartFault>
+) -> Result<(Body, usize), PartFault>
     requires { HasValue key.now owner.now version }
-    ensures { ReadsChange (up_to_mark key.now owner.now version ++ byte 61 ∷ []) bytes.now result }
+    ensures { ReadsChange (up_to_mark key.now owner.now version ++ byte 61 ∷ []) bytes.now (with_body key.now owner.now version result) }
 {
     *expected = Expected::Space;
     let Some(rest) = read_byte(bytes, b' ') else {
@@ -238,10 +266,10 @@ fn label_at(
     version: Version,
     bytes: &[u8],
     expected: &mut Expected,
-) -> Result<(Change, usize), PartFault>
+) -> Result<(Body, usize), PartFault>
     requires kind { key.now.kind ≡ Label }
     requires value { HasValue key.now owner.now version }
-    ensures { ReadsChange (up_to_value key.now owner.now version) bytes.now result }
+    ensures { ReadsChange (up_to_value key.now owner.now version) bytes.now (with_body key.now owner.now version result) }
 {
     *expected = Expected::Value(key.kind);
     let Some((generation, slot, rest)) = read_endpoint(bytes) else {
@@ -257,7 +285,7 @@ fn label_at(
     let Some(rest) = read_byte(rest, b'\n') else {
         return Err(stop_at(rest));
     };
-    whole(key, owner, version, Body::Put(Value::Label(endpoint)), rest)
+    Ok((Body::Put(Value::Label(endpoint)), rest.len()))
 }
 
 // Reads a put of another kind from its value on.
@@ -268,28 +296,13 @@ fn other_at(
     version: Version,
     bytes: &[u8],
     expected: &mut Expected,
-) -> Result<(Change, usize), PartFault>
+) -> Result<(Body, usize), PartFault>
     requires kind { key.now.kind ≢ Label }
     requires value { HasValue key.now owner.now version }
-    ensures { ReadsChange (up_to_value key.now owner.now version) bytes.now result }
+    ensures { ReadsChange (up_to_value key.now owner.now version) bytes.now (with_body key.now owner.now version result) }
 {
     match last_value_at(alloc, key.kind, bytes, expected) {
-        Ok((value, rest)) => whole(key, owner, version, Body::Put(value), rest),
+        Ok((value, rest)) => Ok((Body::Put(value), rest.len())),
         Err(stop) => Err(stop),
     }
-}
-
-// Gives the change that was read, and how many bytes are left behind its line.
-fn whole(
-    key: &Key,
-    owner: &Name,
-    version: Version,
-    body: Body,
-    rest: &[u8],
-) -> Result<(Change, usize), PartFault>
-    requires { IsChange (change_of key.now owner.now version body) }
-    ensures { result ≡ Ok (change_of key.now owner.now version body, length rest.now) }
-{
-    let change = Change::from_parts(*key, *owner, version, body);
-    Ok((change, rest.len()))
 }

@@ -1,7 +1,10 @@
-use Rattle.std.proofs.Common.{Err, sym, subst}
+use Rattle.std.proofs.Common.{[], Err, sym, subst}
 use Rattle.std.proofs.lemmas.List.Prefix.{front_fits}
 use Rattle.ds_names.specs.Name.{is_name_byte}
+use Rattle.ds_names.specs.declared.key.Key.{Key}
 use Rattle.ds_names.specs.Run.{Begins}
+use Rattle.ds_line.specs.Reading.{up_to_kind}
+use Rattle.ds_line.proofs.ReadLemmas.{into_on}
 use Rattle.ds_line.proofs.AnswerLemmas.{is_false}
 use Rattle.ds_line.proofs.OpeningLemmas.{name_missing, name_then, name_space_missing, name_space_then, kind_missing, kind_refused, key_read}
 use Rattle.ds_line.proofs.reading.change_at.Goals as goal
@@ -33,4 +36,7 @@ returns-then-not-has_owner c =
 pub returns : goal.returns
 returns c =
     let there : Begins is_name_byte c.args.bytes.now c.in-Some.name c.behind_name-rest.result.now = subst (λ r. Begins is_name_byte c.args.bytes.now c.in-Some.name r) (sym c.behind_name-rest.ensures) c.in-Some.ensures.found in
-    key_read (record { name = c.in-Some.name; kind = c.in-Some-kind_at.kind }) c.args.bytes.now c.behind_name-rest.result.now c.in-Some-read_byte.at.now c.in-Some-kind_at.rest.now c.owner_at.result c.in-Some.ensures.name there c.in-Some-read_byte.ensures.found c.in-Some-kind_at.ensures.found c.owner_at.ensures
+    let key : Key = record { name = c.in-Some.name; kind = c.in-Some-kind_at.kind } in
+    into_on [] (up_to_kind key) c.args.bytes.now c.in-Some-kind_at.rest.now c.owner_at.result c.owner_at.new.slot
+    (λ given k. key_read key c.args.bytes.now c.behind_name-rest.result.now c.in-Some-read_byte.at.now c.in-Some-kind_at.rest.now given c.in-Some.ensures.name there c.in-Some-read_byte.ensures.found c.in-Some-kind_at.ensures.found k)
+    c.owner_at.ensures

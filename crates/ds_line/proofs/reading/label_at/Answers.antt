@@ -4,7 +4,6 @@ use Rattle.ds_names.specs.Endpoint.{EndpointRecord, IsEndpoint, endpoint_of, end
 use Rattle.ds_names.specs.Run.{Begins}
 use Rattle.ds_names.proofs.DecimalLemmas.{endpoint_one}
 use Rattle.ds_entry.specs.declared.body.Value.TheVariants as values
-use Rattle.ds_line.proofs.ReadLemmas.{reads_same}
 use Rattle.ds_line.proofs.BodyLemmas.{endpoint_missing, endpoint_put, put_end_missing, put_whole}
 use Rattle.ds_line.proofs.reading.label_at.Goals as goal
 
@@ -25,17 +24,11 @@ returns-in_default-read_byte c =
     (endpoint_put c.args.key.now c.args.owner.now c.args.version (endpoint_of c.in-Some.generation c.in-Some.slot) c.requires.kind c.requires.value c.in-Some.ensures.valid same)
     c.in-Some.ensures.found c.stop_at-in_default-read_byte.ensures c.in_default-read_byte.ensures.none
 
-pub whole-requires : goal.whole-requires
-whole-requires c =
-    let is : IsEndpoint c.in-Some-of.endpoint = subst IsEndpoint (sym c.in-Some-of.ensures.1) (record { generation = c.requires.value.1.epoch; slot = c.in-Some-of.ensures.0 }) in
-    endpoint_put c.args.key.now c.args.owner.now c.args.version c.in-Some-of.endpoint c.requires.kind c.requires.value is (ap (λ (x : EndpointRecord). x.generation) c.in-Some-of.ensures.1)
-
 pub returns : goal.returns
 returns c =
     let same : c.in-Some.generation ≡ c.args.version.epoch = omega (arith, c.if-generation-number.false, c.number.ensures.value) in
     let of_numbers : endpoint_of c.in-Some.generation c.in-Some.slot ≡ c.in-Some-of.endpoint = ap (λ n. endpoint_of n c.in-Some.slot) same ∙ sym c.in-Some-of.ensures.1 in
     let is : IsEndpoint c.in-Some-of.endpoint = subst IsEndpoint of_numbers c.in-Some.ensures.valid in
     let begins = subst (λ (e : EndpointRecord). Begins is_ascii_digit c.args.bytes.now (endpoint_text e) c.in-Some.rest.now) of_numbers c.in-Some.ensures.found in
-    reads_same _ c.args.bytes.now c.whole.result _ c.whole.ensures
-    (put_whole c.args.key.now c.args.owner.now c.args.version (values.Label c.in-Some-of.endpoint) c.args.bytes.now c.in-Some.rest.now c.in-Some-read_byte.rest.now
-    (endpoint_put c.args.key.now c.args.owner.now c.args.version c.in-Some-of.endpoint c.requires.kind c.requires.value is (ap (λ (x : EndpointRecord). x.generation) c.in-Some-of.ensures.1)) begins c.in-Some-read_byte.ensures.found)
+    put_whole c.args.key.now c.args.owner.now c.args.version (values.Label c.in-Some-of.endpoint) c.args.bytes.now c.in-Some.rest.now c.in-Some-read_byte.rest.now
+    (endpoint_put c.args.key.now c.args.owner.now c.args.version c.in-Some-of.endpoint c.requires.kind c.requires.value is (ap (λ (x : EndpointRecord). x.generation) c.in-Some-of.ensures.1)) begins c.in-Some-read_byte.ensures.found

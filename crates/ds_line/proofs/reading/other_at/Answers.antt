@@ -1,14 +1,9 @@
-use Rattle.ds_line.proofs.ReadLemmas.{reads_same}
-use Rattle.ds_line.proofs.OtherLemmas.{other_is, other_stops, other_whole}
+use Rattle.ds_line.proofs.OtherLemmas.{other_stops, other_whole}
 use Rattle.ds_line.proofs.reading.other_at.Goals as goal
-
-pub whole-requires : goal.whole-requires
-whole-requires c = other_is c.args.key.now c.args.owner.now c.args.version c.in-Ok.value c.requires.kind c.requires.value c.in-Ok.ensures.found.can
 
 pub returns-in-Ok : goal.returns-in-Ok
 returns-in-Ok c =
-    reads_same _ c.args.bytes.now c.whole.result _ c.whole.ensures
-    (other_whole c.args.key.now c.args.owner.now c.args.version c.in-Ok.value c.args.bytes.now c.in-Ok.rest.now c.requires.kind c.requires.value c.in-Ok.ensures.found)
+    other_whole c.args.key.now c.args.owner.now c.args.version c.in-Ok.value c.args.bytes.now c.in-Ok.rest.now c.requires.kind c.requires.value c.in-Ok.ensures.found
 
 pub returns-in-Err : goal.returns-in-Err
 returns-in-Err c = other_stops c.args.key.now c.args.owner.now c.args.version c.args.bytes.now c.in-Err.stop c.requires.kind c.requires.value c.in-Err.ensures.stop

@@ -2,6 +2,8 @@ use Rattle.std.proofs.Common.{Err, sym, subst}
 use Rattle.std.proofs.lemmas.List.Prefix.{front_fits}
 use Rattle.ds_names.specs.Name.{is_name_byte}
 use Rattle.ds_names.specs.Run.{Begins}
+use Rattle.ds_line.specs.Reading.{up_to_kind, up_to_epoch}
+use Rattle.ds_line.proofs.ReadLemmas.{into_on}
 use Rattle.ds_line.proofs.AnswerLemmas.{is_false}
 use Rattle.ds_line.proofs.OpeningLemmas.{owner_space_missing, owner_space_then, owner_missing, owner_refused, owner_then, epoch_space_missing, epoch_space_then}
 use Rattle.ds_line.proofs.reading.owner_at.Goals as goal
@@ -32,6 +34,8 @@ returns-in_default-read_byte c =
 pub returns : goal.returns
 returns c =
     let there : Begins is_name_byte c.in-Some.at.now c.in-Some-name_at.owner c.behind_name-rest.result.now = subst (λ r. Begins is_name_byte c.in-Some.at.now c.in-Some-name_at.owner r) (sym c.behind_name-rest.ensures) c.in-Some-name_at.ensures.found in
-    owner_space_then c.args.key.now c.args.bytes.now c.in-Some.at.now c.version_at.result c.in-Some.ensures.found
-    (owner_then c.args.key.now c.in-Some-name_at.owner c.in-Some.at.now c.behind_name-rest.result.now c.version_at.result c.in-Some-name_at.ensures.name there
-    (epoch_space_then c.args.key.now c.in-Some-name_at.owner c.behind_name-rest.result.now c.in-Some-read_byte.rest.now c.version_at.result c.in-Some-read_byte.ensures.found c.version_at.ensures))
+    into_on (up_to_kind c.args.key.now) (up_to_epoch c.args.key.now c.in-Some-name_at.owner) c.args.bytes.now c.in-Some-read_byte.rest.now c.version_at.result c.version_at.new.slot
+    (λ given k. owner_space_then c.args.key.now c.args.bytes.now c.in-Some.at.now given c.in-Some.ensures.found
+    (owner_then c.args.key.now c.in-Some-name_at.owner c.in-Some.at.now c.behind_name-rest.result.now given c.in-Some-name_at.ensures.name there
+    (epoch_space_then c.args.key.now c.in-Some-name_at.owner c.behind_name-rest.result.now c.in-Some-read_byte.rest.now given c.in-Some-read_byte.ensures.found k)))
+    c.version_at.ensures

@@ -1,7 +1,10 @@
-use Rattle.std.proofs.Common.{◌<◌, ◌≤◌, ◌^◌, Err, sym, subst, arith}
+use Rattle.std.proofs.Common.{ℕ, ◌<◌, ◌≤◌, ◌^◌, Result, Ok, Err, sym, subst, arith}
 use Rattle.std.specs.Char.{is_ascii_digit}
 use Rattle.std.specs.Fmt.{decimal}
 use Rattle.ds_names.specs.Run.{Begins}
+use Rattle.ds_entry.specs.Change.{ChangeRecord, change_of}
+use Rattle.ds_line.specs.Reading.{up_to_epoch, ReadsChange}
+use Rattle.ds_line.specs.declared.part_fault.PartFault.{PartFault}
 use Rattle.ds_line.proofs.AnswerLemmas.{is_false}
 use Rattle.ds_line.proofs.LabelLemmas.{version_of}
 use Rattle.ds_line.proofs.OpeningLemmas.{epoch_missing, epoch_refused, epoch_then, dot_missing, dot_then, seq_missing, seq_refused, seq_then, mark_space_missing, mark_space_then}
@@ -55,13 +58,27 @@ returns-in_default-read_byte-2 c =
     (seq_then c.args.key.now c.args.owner.now c.in-Some-read_byte.at.now c.in-Some-read_decimal.rest.now (version_of c.in-Some-of.epoch c.in-Some-read_decimal.seq) (Err c.stop_at-in_default-read_byte-2.result) fits c.in-Some-read_decimal.ensures.found
     (mark_space_missing c.args.key.now c.args.owner.now c.in-Some-read_decimal.rest.now (version_of c.in-Some-of.epoch c.in-Some-read_decimal.seq) c.stop_at-in_default-read_byte-2.result (c.has_body.ensures.0 c.if-not-has_body.false) c.stop_at-in_default-read_byte-2.ensures c.in_default-read_byte-2.ensures.none)))
 
-pub returns : goal.returns
-returns c =
+pub returns-in-Ok : goal.returns-in-Ok
+returns-in-Ok c =
     let is = c.in-Some-of.ensures.1 in
     let most : c.in-Some-of.epoch ≤ 2097151 = omega (arith, is, c.in-Some.ensures.limit) in
     let there = subst (λ x. Begins is_ascii_digit c.args.bytes.now (decimal x) c.in-Some.rest.now) (sym is) c.in-Some.ensures.found in
     let fits : c.in-Some-read_decimal.seq < 2 ^ 32 = omega (arith, c.in-Some-read_decimal.ensures.limit) in
-    epoch_then c.args.key.now c.args.owner.now c.args.bytes.now c.in-Some.rest.now c.in-Some-of.epoch c.body_at.result most there
-    (dot_then c.args.key.now c.args.owner.now c.in-Some.rest.now c.in-Some-read_byte.at.now c.in-Some-of.epoch c.body_at.result c.in-Some-read_byte.ensures.found
-    (seq_then c.args.key.now c.args.owner.now c.in-Some-read_byte.at.now c.in-Some-read_decimal.rest.now (version_of c.in-Some-of.epoch c.in-Some-read_decimal.seq) c.body_at.result fits c.in-Some-read_decimal.ensures.found
-    (mark_space_then c.args.key.now c.args.owner.now c.in-Some-read_decimal.rest.now c.in-Some-read_byte-2.rest.now (version_of c.in-Some-of.epoch c.in-Some-read_decimal.seq) c.body_at.result c.in-Some-read_byte-2.ensures.found c.body_at.ensures)))
+    let given : Result (ChangeRecord × ℕ) PartFault = Ok (change_of c.args.key.now c.args.owner.now (version_of c.in-Some-of.epoch c.in-Some-read_decimal.seq) c.in-Ok.body, c.in-Ok.left) in
+    let read : ReadsChange (up_to_epoch c.args.key.now c.args.owner.now) c.args.bytes.now given =
+    epoch_then c.args.key.now c.args.owner.now c.args.bytes.now c.in-Some.rest.now c.in-Some-of.epoch given most there
+    (dot_then c.args.key.now c.args.owner.now c.in-Some.rest.now c.in-Some-read_byte.at.now c.in-Some-of.epoch given c.in-Some-read_byte.ensures.found
+    (seq_then c.args.key.now c.args.owner.now c.in-Some-read_byte.at.now c.in-Some-read_decimal.rest.now (version_of c.in-Some-of.epoch c.in-Some-read_decimal.seq) given fits c.in-Some-read_decimal.ensures.found
+    (mark_space_then c.args.key.now c.args.owner.now c.in-Some-read_decimal.rest.now c.in-Some-read_byte-2.rest.now (version_of c.in-Some-of.epoch c.in-Some-read_decimal.seq) given c.in-Some-read_byte-2.ensures.found c.in-Ok.ensures))) in
+    subst (λ (x : ChangeRecord). ReadsChange (up_to_epoch c.args.key.now c.args.owner.now) c.args.bytes.now (Ok (x, c.in-Ok.left))) (sym c.from_parts-change.ensures.made) read
+
+pub returns-in-Err : goal.returns-in-Err
+returns-in-Err c =
+    let is = c.in-Some-of.ensures.1 in
+    let most : c.in-Some-of.epoch ≤ 2097151 = omega (arith, is, c.in-Some.ensures.limit) in
+    let there = subst (λ x. Begins is_ascii_digit c.args.bytes.now (decimal x) c.in-Some.rest.now) (sym is) c.in-Some.ensures.found in
+    let fits : c.in-Some-read_decimal.seq < 2 ^ 32 = omega (arith, c.in-Some-read_decimal.ensures.limit) in
+    epoch_then c.args.key.now c.args.owner.now c.args.bytes.now c.in-Some.rest.now c.in-Some-of.epoch (Err c.in-Err.stop) most there
+    (dot_then c.args.key.now c.args.owner.now c.in-Some.rest.now c.in-Some-read_byte.at.now c.in-Some-of.epoch (Err c.in-Err.stop) c.in-Some-read_byte.ensures.found
+    (seq_then c.args.key.now c.args.owner.now c.in-Some-read_byte.at.now c.in-Some-read_decimal.rest.now (version_of c.in-Some-of.epoch c.in-Some-read_decimal.seq) (Err c.in-Err.stop) fits c.in-Some-read_decimal.ensures.found
+    (mark_space_then c.args.key.now c.args.owner.now c.in-Some-read_decimal.rest.now c.in-Some-read_byte-2.rest.now (version_of c.in-Some-of.epoch c.in-Some-read_decimal.seq) (Err c.in-Err.stop) c.in-Some-read_byte-2.ensures.found c.in-Err.ensures)))
