@@ -1,4 +1,4 @@
-"""What the time and the memory of one run are."""
+"""What the time, the memory and the instructions of one run are."""
 import os
 import re
 import subprocess
@@ -28,3 +28,11 @@ def held(words, path):
             most = max(most, int(told[1])) if told else most
             time.sleep(0.002)
     return most
+
+
+def instructions(program, path):
+    """The instructions of one run, which no other load on the machine disturbs."""
+    tool = ["valgrind", "--tool=cachegrind", "--cache-sim=no", "--cachegrind-out-file=/dev/null", program]
+    with open(path) as given:
+        ran = subprocess.run(tool, stdin=given, stdout=subprocess.DEVNULL, stderr=subprocess.PIPE, text=True, check=True)
+    return int(re.search(r"I\s+refs:\s+([0-9,]+)", ran.stderr)[1].replace(",", ""))
