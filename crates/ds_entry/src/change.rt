@@ -64,6 +64,7 @@ impl Change {
     }
 
     /// Makes the change of four parts, or gives the first fault that they have. It takes no memory.
+    #[inline(always)]
     pub fn make(key: Key, owner: Name, version: Version, body: Body) -> Result<Change, EntryFault>
         ensures made { IfOk result (λ change. change ≡ change_of key owner version body) }
         ensures change { IfOk result IsChange }
