@@ -20,7 +20,7 @@ use Rattle.ds_line.proofs.PartLemmas.{part_one}
 use Rattle.ds_line.proofs.OpeningLemmas.{text_at, word_is_word, word_one, key_is, version_is}
 use Rattle.ds_line.proofs.PieceLemmas.{behind, Fixed, One, one_by, Views, view_stops, first_stops, then_stops, after_byte, part_missing, byte_missing, byte_found, byte_stops, stops_from}
 use Rattle.ds_words.specs.Command.{initial_word, mode_word}
-use Rattle.ds_words.specs.Pieces.{an_endpoint, an_initial, a_mode, a_name, a_kind, a_key, a_generation, a_seq, a_version, a_number, a_place, a_kinds, a_value, ValueWantsRoom, an_end}
+use Rattle.ds_words.specs.Pieces.{an_endpoint, an_initial, a_mode, a_name, a_kind, a_key, a_generation, a_seq, a_version, a_number, a_place, a_kinds, a_value, ValueWantsRoom}
 use Rattle.ds_line.proofs.LastValueLemmas.{some_value_of}
 
 -- ---- a byte, and behind it one part
@@ -280,7 +280,3 @@ no_mark kind stop bytes r1 is1 at none = byte_stops 32 (after_byte 61 (after_byt
 pub no_second_space : (kind : Kind) (stop : PartFault) (bytes r1 r2 : List ℕ) → bytes ≡ 32 ∷ r1 → r1 ≡ 61 ∷ r2 → stop ≡ BadPart (length r2) → ((rest : List ℕ) → r2 ≢ 32 ∷ rest) → StopsIn (a_value kind) stop bytes
 no_second_space kind stop bytes r1 r2 is1 is2 at none =
     byte_stops 32 (after_byte 61 (after_byte 32 (last_value kind))) stop bytes r1 is1 (byte_stops 61 (after_byte 32 (last_value kind)) stop r1 r2 is2 (no_byte 32 (last_value kind) (some_value kind) stop r2 (some_value_of kind) at none))
-
--- the newline is missing
-pub no_end : (stop : PartFault) (bytes : List ℕ) → stop ≡ BadPart (length bytes) → ((rest : List ℕ) → bytes ≢ 10 ∷ rest) → StopsIn an_end stop bytes
-no_end stop bytes at none = no_byte 10 (record { Of = Unit {0}; Can = λ x. Unit {0}; parts = λ x. [] }) tt stop bytes tt at none

@@ -1,8 +1,7 @@
 -- Patterns in quotes, read byte by byte.
 use Rattle.std.specs.Prelude.{◌==◌}
-use Rattle.std.proofs.Common.{Ok, ◌≡◌, ◌≢◌, ℕ, ◌+◌, ◌-◌, ◌<◌, inl, inr, List, [], ◌∷◌, ◌++◌, length, take, drop, refl, sym, ap, subst, ◌∙◌, append_assoc, append-nil, length-append, arith}
+use Rattle.std.proofs.Common.{Ok, ◌≡◌, ◌≢◌, ℕ, ◌+◌, ◌<◌, inl, inr, List, [], ◌∷◌, ◌++◌, length, drop, refl, sym, ap, subst, ◌∙◌, append_assoc, append-nil, length-append, arith}
 use Rattle.std.proofs.lemmas.Bool.{cond-false, ne_eqb}
-use Rattle.std.proofs.lemmas.List.{take_at}
 use Rattle.std.proofs.lemmas.List.Elements.{All-head, All-tail}
 use Rattle.std.proofs.lemmas.List.Concat.{flat_map-append}
 use Rattle.ds_names.specs.Run.{Ends}
@@ -16,7 +15,7 @@ use Rattle.ds_line.proofs.PieceLemmas.{Fixed, One, one_by, byte_found}
 use Rattle.ds_line.proofs.QuoteLemmas.{shape, byte_one, goes_on, unquoted, quoted_one}
 use Rattle.ds_lines.specs.Lines.{IsUnbroken}
 use Rattle.ds_words.specs.Pieces.{a_pattern}
-use Rattle.ds_words.specs.Query.{IsWrittenText, unescaped}
+use Rattle.ds_words.specs.Query.{unescaped}
 use Rattle.ds_words.specs.Reads.{FindsPattern, Reads}
 use Rattle.ds_lines.proofs.NewlineLemmas.{unbroken_none, unbroken_more}
 use Rattle.ds_words.proofs.PieceLemmas.{one_part, no_part}
@@ -46,9 +45,6 @@ byte_shorter b r s is =
 abbrev pub IsBegun : List ℕ → List ℕ → Type 0
 IsBegun written rest = (done : List ℕ) × IsUnbroken done × (written ≡ escaped done ++ rest)
 
-pub begun_first : (written : List ℕ) → IsBegun written written
-begun_first written = ([], unbroken_none, refl)
-
 escaped_end : (text : List ℕ) (b : ℕ) → escaped (text ++ b ∷ []) ≡ escaped text ++ escaped_byte b
 escaped_end text b = flat_map-append escaped_byte text (b ∷ []) ∙ ap (λ (t : List ℕ). escaped text ++ t) (append-nil (escaped_byte b))
 
@@ -58,17 +54,6 @@ begun_more written rest behind b begun is other = (
   unbroken_end begun.0 b begun.1 other,
   begun.2 ∙ ap (λ (t : List ℕ). escaped begun.0 ++ t) is ∙ sym (append_assoc (escaped begun.0) (escaped_byte b) behind) ∙ ap (λ (t : List ℕ). t ++ behind) (sym (escaped_end begun.0 b)),
 )
-
--- the closing quote stands behind it
-pub begun_closes : (bytes written rest behind front : List ℕ) → bytes ≡ 34 ∷ written → IsBegun written rest → rest ≡ 34 ∷ behind → front ≡ take (length written - length rest) written
-    → (text : List ℕ) × IsUnbroken text × (front ≡ escaped text) × (bytes ≡ quoted text ++ behind)
-begun_closes bytes written rest behind front opens begun close is =
-    let len : length (escaped begun.0) ≡ length written - length rest = omega (arith, ap length begun.2, length-append (escaped begun.0) rest) in (
-      begun.0,
-      begun.1,
-      is ∙ ap (take (length written - length rest)) begun.2 ∙ take_at (escaped begun.0) rest (length written - length rest) len,
-      opens ∙ ap (λ (t : List ℕ). 34 ∷ t) (begun.2 ∙ ap (λ (t : List ℕ). escaped begun.0 ++ t) close) ∙ sym (unquoted begun.0 behind),
-    )
 
 pub rest_fits : (written rest : List ℕ) → IsBegun written rest → length rest < length written + 1
 rest_fits written rest begun = omega (arith, ap length begun.2, length-append (escaped begun.0) rest)
@@ -92,9 +77,6 @@ no_closing bytes written rest opens begun no_byte no_quote text after is same =
 -- the front of a text, and what is left of it is written in the rest
 abbrev pub IsLeft : List ℕ → List ℕ → List ℕ → Type 0
 IsLeft written text rest = (left : List ℕ) × IsUnbroken left × (rest ≡ escaped left) × (written ≡ escaped (text ++ left))
-
-pub left_first : (written : List ℕ) → IsWrittenText written → IsLeft written [] written
-left_first written is = (is.0, is.1, is.2, is.2)
 
 left_step : (left written text rest behind : List ℕ) (b : ℕ) → IsUnbroken left → rest ≡ escaped left → written ≡ escaped (text ++ left) → rest ≡ escaped_byte b ++ behind → IsLeft written (text ++ b ∷ []) behind
 left_step [] written text rest behind b is e w h = absurd (omega (arith, byte_shorter b rest behind h, ap length e))

@@ -1,17 +1,14 @@
 -- Scopes: one is missing where it has to stand, or it is read.
 use Rattle.std.proofs.Common.{◌≡◌, ◌≢◌, ℕ, suc, ◌<◌, ◌≤◌, List, [], ◌∷◌, ◌++◌, length, get_or, drop, refl, sym, ap, ◌∙◌, arith}
 use Rattle.std.specs.Fmt.{decimal}
-use Rattle.ds_names.specs.Run.{Begins}
-use Rattle.ds_line.specs.Part.{Part, part, byte, run_of, Number, Quoted}
+use Rattle.ds_line.specs.Part.{Part, part, byte, Number, Quoted}
 use Rattle.ds_line.specs.Spelling.{space, escaped, quoted}
 use Rattle.ds_line.specs.FaultPlace.{Stand}
 use Rattle.ds_line.specs.Piece.{Piece, Found, Breaks, StopsIn}
 use Rattle.ds_line.specs.declared.part_fault.PartFault.{PartFault}
 use Rattle.ds_line.specs.declared.part_fault.PartFault.TheVariants.{BadPart, NoRoom}
-use Rattle.ds_line.proofs.PieceLemmas.{One, behind, byte_stops, part_missing, stops_from, then_breaks, both_found, count_fits}
-use Rattle.ds_line.proofs.PartLemmas.{byte_begins}
+use Rattle.ds_line.proofs.PieceLemmas.{One, behind, then_breaks, both_found, count_fits}
 use Rattle.ds_pattern.specs.declared.query.Query.{Query}
-use Rattle.ds_lines.specs.Lines.{IsUnbroken}
 use Rattle.ds_words.specs.Pieces.{a_pattern, a_kinds}
 use Rattle.ds_words.specs.Reads.{ReadsOr, FindsPattern}
 use Rattle.ds_machine.specs.declared.command.Scope.{Scope}
@@ -45,14 +42,6 @@ more_parts (Under query) = space ∷ part Number (decimal query.kinds) ∷ []
 starts : (scope : Scope) → scope_parts scope ≡ first_part scope ∷ more_parts scope
 starts All = refl
 starts (Under query) = refl
-
-none_begins : (r : List ℕ) → ((rest : List ℕ) → r ≢ 42 ∷ rest) → ((text rest : List ℕ) → IsUnbroken text → r ≢ quoted text ++ rest) → (scope : Scope) (rest : List ℕ) → IsScope scope → Begins (run_of (first_part scope).class) r (first_part scope).text rest → ⊥
-none_begins r star none All rest can begins = star rest begins.parts
-none_begins r star none (Under query) rest can begins = none query.text rest can.text begins.parts
-
-pub no_scope : (stop : PartFault) (bytes r : List ℕ) → bytes ≡ 32 ∷ r → stop ≡ BadPart (length r) → ((rest : List ℕ) → r ≢ 42 ∷ rest) → ((text rest : List ℕ) → IsUnbroken text → r ≢ quoted text ++ rest) → StopsIn a_scope stop bytes
-no_scope stop bytes r is at star none =
-    byte_stops 32 scope_rest stop bytes r is (stops_from scope_rest stop r r at (part_missing scope_rest first_part more_parts All r starts tt (λ scope rest can begins. none_begins r star none scope rest can begins)))
 
 -- ---- `*` and a pattern never stand at one place
 
@@ -100,9 +89,6 @@ scope_kinds_stops written (BadPart left) bytes r found room s = (s.0, query_brea
 scope_kinds_stops written NoRoom bytes r found room s = absurd (room refl)
 
 -- ---- a scope is read
-
-pub star_found : (bytes r rest : List ℕ) → bytes ≡ 32 ∷ r → r ≡ 42 ∷ rest → Found a_scope All bytes rest
-star_found bytes r rest space_is star_is = record { can = tt; front = (r, byte_begins 32 bytes r space_is, (rest, byte_begins 42 r rest star_is, refl)) }
 
 pub query_found : (written bytes r rest : List ℕ) (kinds : ℕ) (found : FindsPattern written bytes r) → Found a_kinds kinds r rest → Found a_scope (Under (query_of (unescaped written) kinds)) bytes rest
 unfolding ReadsOr

@@ -132,9 +132,6 @@ pub map_not_all : (word digits rest : List ℕ) (number : ℕ) → word ≡ 109 
 map_not_all word digits rest number is begins limit more map most same =
     more (part_one Number digits (decimal number) (decimal map) rest [] (number, omega (arith, limit), refl) (map, most, refl) begins (record { parts = ap (drop 1) (sym is ∙ same) ∙ sym (append-nil (decimal map)); ends = tt })).1
 
-pub map_all : (word digits rest : List ℕ) (number : ℕ) → word ≡ 109 ∷ digits → Begins is_ascii_digit digits (decimal number) rest → rest ≡ [] → word ≡ 109 ∷ decimal number
-map_all word digits rest number is begins none = is ∙ ap (λ (t : List ℕ). 109 ∷ t) (begins.parts ∙ ap (λ (t : List ℕ). decimal number ++ t) none ∙ append-nil (decimal number))
-
 -- the word names no side and no map
 pub names_none : (word : List ℕ) → ((side : Side) → word ≢ side_word side) → ((map : ℕ) → map < 2 ^ 64 → word ≢ 109 ∷ decimal map) → (holder : Holder) → IsHolder holder → word ≢ holder_word holder
 names_none word no_side no_map (Store side) is same = no_side side same

@@ -11,4 +11,5 @@ returns-in_err-name c =
 pub returns-in_err-kind : goal.returns-in_err-kind
 unfolding ReadsOr
 returns-in_err-kind c =
-    exits _ _ _ _ c.from_residual-in_err-kind.ensures.1 c.in_err-kind.ensures.room (key_kind_stops c.in_ok-name.name c.in_err-kind.field-0.0 c.args.self.now.bytes.now _ c.in_ok-name.ensures.found c.in_err-kind.ensures.stop)
+    exits _ _ _ _ c.from_residual-in_err-kind.ensures.1 c.in_err-kind.ensures.room
+    (key_kind_stops c.in_ok-name.name c.in_err-kind.field-0.0 c.args.self.now.bytes.now _ c.in_ok-name.ensures.found c.in_err-kind.ensures.stop)

@@ -11,4 +11,6 @@ pub returns-in_default : goal.returns-in_default
 returns-in_default c = misses_at _ _ _ c.stop_at.ensures (no_ring c.stop_at.result c.args.self.now.bytes.now _ c.in_ok-byte.ensures.found c.stop_at.ensures c.in_default.ensures.none)
 
 pub returns-then-number-eq0 : goal.returns-then-number-eq0
-returns-then-number-eq0 c = misses_at _ _ _ c.stop_at-then-number-eq0.ensures (ring_zero c.stop_at-then-number-eq0.result c.args.self.now.bytes.now _ c.in-Some.rest.now c.in-Some.number c.in_ok-byte.ensures.found c.stop_at-then-number-eq0.ensures c.in-Some.ensures.found c.if-number-eq0.true)
+returns-then-number-eq0 c =
+    misses_at _ _ _ c.stop_at-then-number-eq0.ensures
+    (ring_zero c.stop_at-then-number-eq0.result c.args.self.now.bytes.now _ c.in-Some.rest.now c.in-Some.number c.in_ok-byte.ensures.found c.stop_at-then-number-eq0.ensures c.in-Some.ensures.found c.if-number-eq0.true)

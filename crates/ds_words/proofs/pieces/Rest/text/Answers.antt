@@ -10,7 +10,8 @@ use Rattle.ds_words.proofs.pieces.Rest.text.Goals as goal
 pub returns-in_err-byte-clause-stop : goal.returns-in_err-byte-clause-stop
 returns-in_err-byte-clause-stop c =
     let exit = err_from_is_err_and c.from_residual.result c.from_residual.ensures.1 in
-    rw (exit.1, exit.2) (misses_at _ _ _ c.in_err-byte.ensures.stop (no_byte 32 text_rest [] c.in_err-byte.field-0.0 c.args.self.now.bytes.now unbroken_none c.in_err-byte.ensures.stop c.in_err-byte.ensures.none))
+    rw (exit.1, exit.2) (misses_at _ _ _ c.in_err-byte.ensures.stop
+    (no_byte 32 text_rest [] c.in_err-byte.field-0.0 c.args.self.now.bytes.now unbroken_none c.in_err-byte.ensures.stop c.in_err-byte.ensures.none))
 
 pub returns-in_default-clause-stop : goal.returns-in_default-clause-stop
 returns-in_default-clause-stop c =

@@ -11,4 +11,5 @@ returns-in_err-epoch c =
 pub returns-in_err-seq : goal.returns-in_err-seq
 unfolding ReadsOr
 returns-in_err-seq c =
-    exits _ _ _ _ c.from_residual-in_err-seq.ensures.1 c.in_err-seq.ensures.room (version_seq_stops c.in_ok-epoch.epoch c.in_err-seq.field-0.0 c.args.self.now.bytes.now _ c.in_ok-epoch.ensures.found c.in_err-seq.ensures.stop)
+    exits _ _ _ _ c.from_residual-in_err-seq.ensures.1 c.in_err-seq.ensures.room
+    (version_seq_stops c.in_ok-epoch.epoch c.in_err-seq.field-0.0 c.args.self.now.bytes.now _ c.in_ok-epoch.ensures.found c.in_err-seq.ensures.stop)
