@@ -55,6 +55,7 @@ impl Value {
     }
 
     /// The same value again. The copy of a label or a number takes no memory.
+    #[inline(always)]
     pub fn copy(&self, alloc: Global) -> Result<Value, NoRoom>
         ensures same { IfOk result (λ value. value ≡ self.now) }
         ensures in_place { IsInPlace self.now → IsOk result }
@@ -110,6 +111,7 @@ impl Body {
 
     /// The same body again. The copy of a tombstone, or of a put of a label or a number, takes no
     /// memory.
+    #[inline(always)]
     pub fn copy(&self, alloc: Global) -> Result<Body, NoRoom>
         ensures same { IfOk result (λ body. body ≡ self.now) }
         ensures in_place { IsBodyInPlace self.now → IsOk result }

@@ -77,6 +77,7 @@ impl Change {
     }
 
     /// The same change again. The copy takes memory only for the value of a put.
+    #[inline(always)]
     pub fn copy(&self, alloc: Global) -> Result<Change, NoRoom>
         ensures same { IfOk result (λ change. change ≡ self.now) }
         ensures in_place { IsBodyInPlace self.now.body → IsOk result }

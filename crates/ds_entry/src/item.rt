@@ -71,6 +71,7 @@ impl Item {
     }
 
     /// The same item again. The copy takes memory only for the value of a put, and only for a text or a blob.
+    #[inline(always)]
     pub fn copy(&self, alloc: Global) -> Result<Item, NoRoom>
         ensures same { IfOk result (λ item. item ≡ self.now) }
         ensures in_place { IsItemInPlace self.now → IsOk result }
