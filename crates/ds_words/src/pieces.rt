@@ -58,6 +58,7 @@ impl Rest<'_> {
     }
 
     /// Reads `new` or `over`, and gives whether it is `over`.
+    #[inline(always)]
     pub fn mode(&mut self) -> Result<bool, PartFault>
         ensures { Reads a_mode self.old.bytes.now result self.new.bytes.now }
     {
@@ -86,6 +87,7 @@ impl Rest<'_> {
     }
 
     /// Reads a name.
+    #[inline(always)]
     pub fn name(&mut self, expected: Expected) -> Result<Name, PartFault>
         ensures { Reads a_name self.old.bytes.now result self.new.bytes.now }
     {
@@ -99,6 +101,7 @@ impl Rest<'_> {
     }
 
     /// Reads the word of a kind.
+    #[inline(always)]
     pub fn kind(&mut self) -> Result<Kind, PartFault>
         ensures { Reads a_kind self.old.bytes.now result self.new.bytes.now }
     {
@@ -112,6 +115,7 @@ impl Rest<'_> {
     }
 
     /// Reads a key: a name and a kind.
+    #[inline(always)]
     pub fn key(&mut self) -> Result<Key, PartFault>
         ensures { Reads a_key self.old.bytes.now result self.new.bytes.now }
     {
@@ -150,6 +154,7 @@ impl Rest<'_> {
     }
 
     /// Reads a version: an epoch, a dot and a sequence number.
+    #[inline(always)]
     pub fn version(&mut self) -> Result<Version, PartFault>
         ensures { Reads a_version self.old.bytes.now result self.new.bytes.now }
     {
@@ -201,6 +206,7 @@ impl Rest<'_> {
     }
 
     /// Reads `=`, a value of the kind, and the newline.
+    #[inline(always)]
     pub fn value(&mut self, alloc: Global, kind: Kind) -> Result<Value, PartFault>
         ensures { ReadsOr (ValueWantsRoom kind self.old.bytes.now) (a_value kind) self.old.bytes.now result self.new.bytes.now }
     {

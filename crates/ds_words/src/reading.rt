@@ -53,6 +53,7 @@ fn end_line(line: &[u8], block: &mut [u8; LONGEST_LINE + 1])
 }
 
 /// Reads the command of a line, which comes with its newline and has no other. How long it is, its caller judges.
+#[inline(always)]
 pub fn read_line(alloc: Global, line: &[u8]) -> Result<ScriptCommand, CommandFault>
     requires { EndsLine line.now }
     ensures { ReadsCommand line.now result }
@@ -82,6 +83,7 @@ pub fn read_line(alloc: Global, line: &[u8]) -> Result<ScriptCommand, CommandFau
 }
 
 // Reads what follows a command's word.
+#[inline(always)]
 fn behind_word(alloc: Global, word: Word, rest: &mut Rest) -> Result<ScriptCommand, PartFault>
     ensures { TakesRow word rest.old.bytes.now result }
 {
