@@ -22,11 +22,7 @@ use ds_names::{Endpoint, NoRoom};
 
 impl Store {
     // What is there before a floor, where the place of its owner is told.
-    pub(super) fn floor_standing(
-        &self,
-        place: Result<usize, usize>,
-        floor: &Floor,
-    ) -> FloorStanding
+    pub(super) fn floor_standing(&self, place: Result<usize, usize>, floor: &Floor) -> FloorStanding
         requires { IsFloorPlace (floors_in self.now.held) floor.now.owner place }
         ensures { machine_floor_standing floor.now.owner result ≡ floor_standing_in self.now floor.now }
     {
