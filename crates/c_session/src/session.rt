@@ -65,6 +65,7 @@ impl Session {
     }
 
     // Tells a reply, and keeps it. The store stays as it is.
+    #[inline(always)]
     fn tell(&mut self, wording: Wording, reply: Reply) -> Answer
         ensures { Rests self.old (answer_of reply) (Replied reply wording) result self.new }
     {
@@ -130,6 +131,7 @@ impl Session {
     }
 
     // Answers a Retrieve by what the store holds, and makes no command for it.
+    #[inline(always)]
     fn look_up(&mut self, alloc: Global, key: &Key) -> Answer
         ensures { Tells self.old Wording.AsMerge (Command.Retrieve key.now) result self.new }
     {
@@ -137,6 +139,7 @@ impl Session {
         self.tell(Wording::AsMerge, reply)
     }
 
+    #[inline(always)]
     fn retrieve(&mut self, alloc: Global, request: &Request) -> Answer
         requires { request.now.command ≡ 3 }
         ensures { (text : List ℕ) → CalledWith self.old request.now text result self.new }
@@ -147,6 +150,7 @@ impl Session {
         }
     }
 
+    #[inline(always)]
     fn name(&mut self, request: &Request) -> Answer
         requires { request.now.command ≡ 4 }
         ensures { (text : List ℕ) → CalledWith self.old request.now text result self.new }
@@ -158,6 +162,7 @@ impl Session {
     }
 
     // Callers ask a Retrieve and a NameOf most: they aren't passed on as what a request of any command may stand for.
+    #[inline(always)]
     fn call_with(&mut self, alloc: Global, request: &Request, text: &[u8]) -> Answer
         ensures { CalledWith self.old request.now text.now result self.new }
     {
