@@ -38,12 +38,12 @@ class Session:
 
 
 class Script(demos.Script):
-    """Commands for a store, each with whether it may be refused memory."""
+    """Commands for a store, each with whether it may be refused memory. Every third has the fewer places, where a store may have them."""
 
-    def __init__(self, seed, count, subscribes):
+    def __init__(self, seed, count, subscribes, fewer=True):
         super().__init__(seed, Session)
         self.left_out = NOT_COMMANDS if subscribes else (b"subscribe", *NOT_COMMANDS)
-        self.ask(causes.store(ring=RING if seed % 2 else 256, fewer=seed % 3 == 0).strip().encode(), None)
+        self.ask(causes.store(ring=RING if seed % 2 else 256, fewer=fewer and seed % 3 == 0).strip().encode(), None)
         for line in OPENING:
             self.draw(line)
         while len(self.lines) < count:
