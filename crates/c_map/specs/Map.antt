@@ -13,7 +13,7 @@ use Rattle.ds_machine.specs.declared.reply.Reply.{Reply}
 use Rattle.ds_machine.specs.declared.reply.Reply.TheVariants.{Found, Merged, MergeStopped, Refused}
 use Rattle.ds_pattern.specs.Patterns.{IsPattern, is_pattern}
 use Rattle.ds_pattern.specs.Under.{query_of}
-use Rattle.ds_submap.specs.declared.count.Count.{Count}
+use Rattle.ds_join.specs.declared.count.Count.{Count}
 use Rattle.ds_submap.specs.Map.{SubMapRecord, empty_map, endpoint_of_label}
 use Rattle.ds_submap.specs.Take.{AreCounted, IsTakeStopped, JoinsUnder, done_items}
 use Rattle.ds_submap.specs.Floors.{EachFloorStands}

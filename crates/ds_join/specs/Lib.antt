@@ -4,3 +4,4 @@ pub mod ItemTop
 pub mod ItemTopLaws
 pub mod ItemJoin
 pub mod FloorStands
+pub mod Count

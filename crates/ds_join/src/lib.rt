@@ -6,8 +6,10 @@
 //! project.
 #![tactic(auto)]
 
+mod count;
 mod laws;
 mod merge;
 
+pub use count::Count;
 pub use laws::{item_join_laws, item_top_laws};
 pub use merge::{JoinFault, Merge, Stop};

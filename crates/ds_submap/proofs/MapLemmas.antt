@@ -21,7 +21,7 @@ use Rattle.ds_held.proofs.HeldLemmas.{IsHeld, held_is_top, is_held}
 use Rattle.ds_held.proofs.JoinLemmas.{all_join}
 use Rattle.ds_held.proofs.KeptLemmas.{kept_nothing}
 use Rattle.ds_pattern.specs.declared.query.Query.{Query}
-use Rattle.ds_submap.specs.declared.count.Count.{Count}
+use Rattle.ds_join.specs.declared.count.Count.{Count}
 use Rattle.ds_submap.specs.Floors.{AreSwept, EachFloorStands}
 use Rattle.ds_submap.specs.Map.{IsMap, empty_map, map_of}
 use Rattle.ds_submap.specs.Take.{AreAnswered, AreCounted, IsTakeStopped, done_items}

@@ -13,8 +13,8 @@ use Rattle.ds_join.specs.declared.merge.JoinFault.TheVariants.{NoRoom}
 use Rattle.ds_held.specs.Held.{Holding, IsSound}
 use Rattle.ds_held.specs.Join.{ItemAnswer, after_item}
 use Rattle.ds_pattern.specs.declared.query.Query.{Query}
-use Rattle.ds_submap.specs.declared.count.Count.{Count}
-use Rattle.ds_submap.specs.Count.{counted, none_counted}
+use Rattle.ds_join.specs.declared.count.Count.{Count}
+use Rattle.ds_join.specs.Count.{counted, none_counted}
 use Rattle.ds_submap.specs.Take.{AreAnswered, AreCounted, IsFloorOrOther, IsFrontTaken, IsItemTaken, IsRefusedUnder, IsTakeStopped, IsUnasked, needs_query, is_stale, is_taken}
 use Rattle.ds_pattern.specs.Under.{is_under}
 use Rattle.ds_entry.specs.Item.{passes}

@@ -1,4 +1,3 @@
 pub mod Map
-pub mod Count
 pub mod Take
 pub mod Floors

@@ -13,7 +13,7 @@ use Rattle.ds_held.specs.Held.{Holding, held_items, IsSound}
 use Rattle.ds_held.specs.Join.{ItemAnswer, after_item, IsItemRefused}
 use Rattle.ds_pattern.specs.declared.query.Query.{Query}
 use Rattle.ds_pattern.specs.Under.{is_under}
-use Rattle.ds_submap.specs.declared.count.Count.{Count}
+use Rattle.ds_join.specs.declared.count.Count.{Count}
 use Rattle.ds_entry.specs.Item.{passes}
 use Rattle.ds_entry.specs.Under.{under}
 

@@ -5,9 +5,7 @@
 //! which the changes of any replica may reach in any order, is of this project.
 #![tactic(auto)]
 
-mod count;
 mod map;
 mod take;
 
-pub use count::Count;
 pub use map::SubMap;

@@ -14,11 +14,10 @@ ghost use Rattle.ds_submap.specs.Floors.{AreSwept, EachFloorStands};
 ghost use Rattle.ds_entry.specs.Under.{entries_of, under};
 ghost use Rattle.ds_pattern.specs.Under.{is_under};
 
-use crate::count::Count;
 use crate::take::take_items;
 use ds_entry::{Body, Change, Item, Items, Value};
 use ds_held::Held;
-use ds_join::Stop;
+use ds_join::{Count, Stop};
 use ds_names::{Endpoint, Key, Kind, Name, NoRoom};
 use ds_pattern::{Filter, PatternFault, Query};
 use std::alloc::Global;

@@ -5,10 +5,9 @@ ghost use Rattle.ds_held.specs.Held.{IsSound};
 ghost use Rattle.ds_pattern.specs.declared.query.Query.{Query};
 ghost use Rattle.ds_submap.specs.Take.{AreCounted, IsFloorOrOther, IsFrontTaken, IsItemTaken, IsRefusedUnder, IsTakeStopped, needs_query};
 
-use crate::count::Count;
 use ds_entry::Item;
 use ds_held::Held;
-use ds_join::{JoinFault, Merge, Stop};
+use ds_join::{Count, JoinFault, Merge, Stop};
 use ds_pattern::{Asker, Filter};
 use std::alloc::Global;
 

@@ -18,7 +18,7 @@ use Rattle.ds_held.specs.Join.{after_item, IsItemRefused}
 use Rattle.ds_held.proofs.HeldLemmas.{change_in}
 use Rattle.ds_pattern.specs.declared.query.Query.{Query}
 use Rattle.ds_machine.specs.declared.refusal.Refusal.TheVariants as refusals
-use Rattle.ds_submap.specs.declared.count.Count.{Count}
+use Rattle.ds_join.specs.declared.count.Count.{Count}
 use Rattle.ds_submap.specs.Map.{SubMapRecord}
 use Rattle.ds_submap.specs.Take.{AreAnswered, is_taken, is_stale, AreCounted, IsTakeStopped, IsUnasked, IsRefusedUnder}
 use Rattle.ds_replica.specs.Delivery.{ended, StandsAgainst, MapTakes}

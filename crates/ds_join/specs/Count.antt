@@ -4,7 +4,7 @@ use Rattle.ds_join.specs.declared.merge.Merge.{Merge}
 use Rattle.ds_join.specs.declared.merge.Merge.TheVariants.{Taken, Known, Stale}
 use Rattle.ds_join.specs.declared.merge.JoinFault.{JoinFault}
 use Rattle.ds_join.specs.declared.merge.Stop.{Stop}
-use Rattle.ds_submap.specs.declared.count.Count.{Count}
+use Rattle.ds_join.specs.declared.count.Count.{Count}
 
 -- no item came
 abbrev pub none_counted : Count
