@@ -1,0 +1,20 @@
+-- What a reply with items says beside them.
+use Rattle.std.specs.Prelude.{◌≡◌, List}
+use Rattle.ds_entry.specs.declared.item.Item.{Item}
+use Rattle.ds_feed.specs.declared.cursor.Cursor.{Cursor}
+use Rattle.ds_machine.specs.Given.{shown_by}
+use Rattle.ds_machine.specs.declared.reply.Reply.{Reply}
+use Rattle.ds_machine.specs.declared.reply.Reply.TheVariants as replies
+use Rattle.ds_message.specs.declared.head.Head.{Head}
+use Rattle.ds_message.specs.declared.head.Head.TheVariants.{Checked, Journaled, Snapped, Paged}
+
+-- the reply with these items
+abbrev pub told : Head → List Item → Reply
+told (Checked before after) items = replies.Checked items before after
+told (Journaled cursor) items = replies.Journaled (record { items = items; cursor = cursor })
+told (Snapped cursor) items = replies.Snapped (record { items = items; cursor = cursor })
+told (Paged last cursor) items = replies.Paged (record { items = items; last = last; cursor = cursor })
+
+-- with its items the reply is this one
+abbrev pub IsHead : Head → Reply → Type 0
+IsHead head reply = told head (shown_by reply) ≡ reply

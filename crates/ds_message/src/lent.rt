@@ -1,0 +1,34 @@
+//! Items that are lent.
+
+ghost use Rattle.std.specs.Prelude.{◌≡◌, ◌<◌, ◌≤◌, length, take, IfNone, IfSome};
+ghost use Rattle.ds_replica.specs.Happens.{count_of};
+ghost use Rattle.ds_message.specs.Lent.{items_lent};
+
+use ds_entry::Item;
+use ds_packed::Unpacking;
+
+/// The items of a message, or the first of them: a slice, or as they are packed.
+#[derive(Drop)]
+pub enum Lent<'a> {
+    Whole(&'a [Item]),
+    Packed(Unpacking<'a>),
+}
+
+impl<'a> Lent<'a> {
+    /// So many of the first, or all. `None` where there are fewer.
+    pub fn first(self, count: Option<usize>) -> Option<Lent<'a>>
+        ensures some { IfSome result (λ first. (items_lent first ≡ take (count_of count (items_lent self.entry)) (items_lent self.entry)) × (count_of count (items_lent self.entry) ≤ length (items_lent self.entry))) }
+        ensures few { IfNone result (length (items_lent self.entry) < count_of count (items_lent self.entry)) }
+    {
+        match self {
+            Lent::Whole(items) => {
+                let first = items.get(..count.unwrap_or(items.len()))?;
+                Some(Lent::Whole(first))
+            }
+            Lent::Packed(items) => {
+                let first = items.first(count.unwrap_or(items.len()))?;
+                Some(Lent::Packed(first))
+            }
+        }
+    }
+}

@@ -1,0 +1,76 @@
+-- What holds of the items of rows.
+use Rattle.std.proofs.Common.{◌≡◌, length, ℕ, ◌+◌, ◌≤◌, List, [], ◌∷◌, ◌++◌, take, drop, refl, sym, ap, ◌∙◌, subst, arith, zero, suc}
+use Rattle.std.proofs.lemmas.List.{take-append-le, drop-append-le, length-drop, length-append, drop_all}
+use Rattle.ds_names.specs.declared.kind.Kind.{Kind}
+use Rattle.ds_names.specs.declared.kind.Kind.TheVariants as kinds
+use Rattle.ds_names.specs.declared.version.Version.{Version}
+use Rattle.ds_entry.specs.Change.{change_of}
+use Rattle.ds_entry.specs.Floor.{floor_of}
+use Rattle.ds_entry.specs.Item.{IsItem}
+use Rattle.ds_entry.specs.declared.body.Body.{Body}
+use Rattle.ds_entry.specs.declared.item.Item.{Item}
+use Rattle.ds_entry.specs.declared.item.Item.TheVariants.{Change as Changed, Floor as Floored}
+use Rattle.ds_packed.specs.declared.row.Row.{Row}
+use Rattle.ds_packed.specs.declared.row.Row.TheVariants as rows
+use Rattle.ds_packed.specs.Row.{named, row_item, row_length, AddsRow}
+use Rattle.ds_packed.specs.Rows.{unpacked, AreRows, HasRows}
+
+-- there are as many items as rows
+pub unpacked_length : (names : List ℕ) (rs : List Row) → length (unpacked names rs) ≡ length rs
+unpacked_length names [] = refl
+unpacked_length names (r ∷ rs) = omega (arith, unpacked_length (drop (row_length r) names) rs)
+
+-- ---- the first rows
+pub unpacked_first : (n : ℕ) (names : List ℕ) (rs : List Row) → unpacked names (take n rs) ≡ take n (unpacked names rs)
+unpacked_first zero names rs = refl
+unpacked_first (suc n) names [] = refl
+unpacked_first (suc n) names (r ∷ rs) = ap (λ is. row_item names r ∷ is) (unpacked_first n (drop (row_length r) names) rs)
+
+pub first_rows : (n : ℕ) (names : List ℕ) (rs : List Row) → HasRows names rs → HasRows names (take n rs)
+first_rows zero names rs h = tt
+first_rows (suc n) names [] h = tt
+first_rows (suc n) names (r ∷ rs) h = (h.0, h.1, first_rows n (drop (row_length r) names) rs h.2)
+
+pub rows_there : (names : List ℕ) (rs : List Row) → AreRows names rs → HasRows names rs
+rows_there names [] h = tt
+rows_there names (r ∷ rs) h = (h.0, h.1, rows_there (drop (row_length r) names) rs h.2)
+
+-- ---- one row more
+-- what stands behind a change's names isn't looked at
+named_front : (names more : List ℕ) (name : ℕ) (kind : Kind) (owner : ℕ) (version : Version) (body : Body) → name + owner ≤ length names → named (names ++ more) name kind owner version body ≡ named names name kind owner version body
+named_front names more name kind owner version body l =
+    ap (λ n. change_of (record { name = n; kind = kind }) (take owner (drop name (names ++ more))) version body) (take-append-le name names more (omega (arith, l)))
+    ∙ ap (λ o. change_of (record { name = take name names; kind = kind }) o version body)
+    (ap (take owner) (drop-append-le name names more (omega (arith, l))) ∙ take-append-le owner (drop name names) more (omega (arith, l, length-drop name names)))
+
+-- nor behind a row's
+row_item_front : (names more : List ℕ) (r : Row) → row_length r ≤ length names → row_item (names ++ more) r ≡ row_item names r
+row_item_front names more (rows.Label name owner version endpoint) l = ap Changed (named_front names more name kinds.Label owner version _ l)
+row_item_front names more (rows.U32 name owner version number) l = ap Changed (named_front names more name kinds.U32 owner version _ l)
+row_item_front names more (rows.Gone name owner version kind) l = ap Changed (named_front names more name kind owner version _ l)
+row_item_front names more (rows.Floor owner generation) l = ap (λ o. Floored (floor_of o generation)) (take-append-le owner names more l)
+
+-- the items of rows, and one row more
+pub record Pushed (names : List ℕ) (rs : List Row) (r : Row) (i : Item) (new : List ℕ) : Type 0 where
+  pub items : unpacked new (rs ++ r ∷ []) ≡ unpacked names rs ++ i ∷ []
+  pub fit : AreRows new (rs ++ r ∷ [])
+
+pub rows_push : (names : List ℕ) (rs : List Row) (r : Row) (i : Item) (new : List ℕ) → AreRows names rs → AddsRow i r names new → IsItem i → Pushed names rs r i new
+rows_push names [] r i new fit a is =
+    let e = a.added ∙ ap (λ ns. ns ++ a.names) fit in
+    let f = ap (λ ns. row_item ns r) e ∙ a.item_is in
+    record {
+      items = ap (λ j. j ∷ []) f;
+      fit = (omega (arith, ap length e, a.length_is), subst IsItem (sym f) is, drop_all (row_length r) new (omega (arith, ap length e, a.length_is)));
+    }
+rows_push names (r0 ∷ rs) r i new fit a is =
+    let e = ap (λ ns. row_item ns r0) a.added ∙ row_item_front names a.names r0 fit.0 in
+    let f = ap (drop (row_length r0)) a.added ∙ drop-append-le (row_length r0) names a.names fit.0 in
+    let p = rows_push (drop (row_length r0) names) rs r i (drop (row_length r0) new) fit.2 (record { names = a.names; added = f; length_is = a.length_is; item_is = a.item_is }) is in
+    record {
+      items = ap (λ j. j ∷ unpacked (drop (row_length r0) new) (rs ++ r ∷ [])) e ∙ ap (λ js. row_item names r0 ∷ js) p.items;
+      fit = (omega (arith, fit.0, ap length a.added ∙ length-append names a.names), subst IsItem (sym e) fit.1, p.fit);
+    }
+
+pub rows_fit : (names : List ℕ) (rs all : List Row) (r : Row) (i : Item) (new : List ℕ) → AreRows names rs → AddsRow i r names new → IsItem i → all ≡ rs ++ r ∷ [] → AreRows new all
+rows_fit names rs all r i new fit a is e = subst (AreRows new) (sym e) (rows_push names rs r i new fit a is).fit

@@ -1,0 +1,39 @@
+-- What a row stands for, with the bytes of its names.
+use Rattle.std.specs.Prelude.{◌≡◌, ℕ, ◌+◌, List, ◌++◌, length, take, drop}
+use Rattle.ds_names.specs.declared.kind.Kind.{Kind}
+use Rattle.ds_names.specs.declared.kind.Kind.TheVariants as kinds
+use Rattle.ds_names.specs.declared.version.Version.{Version}
+use Rattle.ds_entry.specs.Change.{ChangeRecord, change_of}
+use Rattle.ds_entry.specs.Floor.{floor_of}
+use Rattle.ds_entry.specs.declared.body.Value.TheVariants as values
+use Rattle.ds_entry.specs.declared.body.Body.{Body}
+use Rattle.ds_entry.specs.declared.body.Body.TheVariants as bodies
+use Rattle.ds_entry.specs.declared.item.Item.{Item}
+use Rattle.ds_entry.specs.declared.item.Item.TheVariants.{Change as Changed, Floor as Floored}
+use Rattle.ds_packed.specs.declared.row.Row.{Row}
+use Rattle.ds_packed.specs.declared.row.Row.TheVariants as rows
+
+-- the change whose key's name, of so many bytes, stands at the front, and behind it its owner's
+abbrev pub named : List ℕ → ℕ → Kind → ℕ → Version → Body → ChangeRecord
+named names name kind owner version body = change_of (record { name = take name names; kind = kind }) (take owner (drop name names)) version body
+
+-- how many bytes its names have together
+abbrev pub row_length : Row → ℕ
+row_length (rows.Label name owner version endpoint) = name + owner
+row_length (rows.U32 name owner version number) = name + owner
+row_length (rows.Gone name owner version kind) = name + owner
+row_length (rows.Floor owner generation) = owner
+
+-- the item whose names stand at the front of the bytes
+abbrev pub row_item : List ℕ → Row → Item
+row_item names (rows.Label name owner version endpoint) = Changed (named names name kinds.Label owner version (bodies.Put (values.Label endpoint)))
+row_item names (rows.U32 name owner version number) = Changed (named names name kinds.U32 owner version (bodies.Put (values.U32 number)))
+row_item names (rows.Gone name owner version kind) = Changed (named names name kind owner version bodies.Gone)
+row_item names (rows.Floor owner generation) = Floored (floor_of (take owner names) generation)
+
+-- the row is the item's, and its names were put behind the bytes
+pub record AddsRow (item : Item) (row : Row) (old new : List ℕ) : Type 0 where
+  pub names : List ℕ
+  pub added : new ≡ old ++ names
+  pub length_is : length names ≡ row_length row
+  pub item_is : row_item names row ≡ item

@@ -1,0 +1,21 @@
+-- The items that rows stand for.
+use Rattle.std.specs.Prelude.{◌≡◌, ℕ, ◌≤◌, List, [], ◌∷◌, length, drop}
+use Rattle.ds_entry.specs.Item.{IsItem}
+use Rattle.ds_entry.specs.declared.item.Item.{Item}
+use Rattle.ds_packed.specs.declared.row.Row.{Row}
+use Rattle.ds_packed.specs.Row.{row_item, row_length}
+
+-- the items of rows, whose names stand one behind the other
+abbrev pub unpacked : List ℕ → List Row → List Item
+unpacked names [] = []
+unpacked names (row ∷ rows) = row_item names row ∷ unpacked (drop (row_length row) names) rows
+
+-- each row has its names among the bytes, and is an item's
+abbrev pub HasRows : List ℕ → List Row → Type 0
+HasRows names [] = Unit {0}
+HasRows names (row ∷ rows) = (row_length row ≤ length names) × IsItem (row_item names row) × HasRows (drop (row_length row) names) rows
+
+-- and there are no other bytes
+abbrev pub AreRows : List ℕ → List Row → Type 0
+AreRows names [] = names ≡ []
+AreRows names (row ∷ rows) = (row_length row ≤ length names) × IsItem (row_item names row) × AreRows (drop (row_length row) names) rows

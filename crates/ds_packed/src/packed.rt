@@ -1,0 +1,88 @@
+//! Lists.
+
+ghost use Rattle.std.specs.Prelude.{◌≡◌, ◌++◌, ◌∷◌, [], IfSome};
+
+use crate::row::Row;
+use crate::unpacking::Unpacking;
+use ds_entry::Item;
+use std::alloc::Global;
+use std::marker::Model;
+
+/// Items in order, none of which is a text or memory.
+#[derive(Drop)]
+pub struct Packed {
+    rows: Vec<Row>,
+    names: Vec<u8>,
+}
+
+impl Model for Packed {
+    ghost use Rattle.std.specs.Prelude.{List};
+    ghost use Rattle.ds_entry.specs.declared.item.Item.{Item};
+    ghost use Rattle.ds_packed.specs.Rows.{unpacked, AreRows};
+
+    ghost Value = { List Item };
+
+    ghost view = { λ p. unpacked p.names.items p.rows.items };
+
+    ghost invariant = { λ p. AreRows p.names.items p.rows.items };
+}
+
+// How many bytes the names of the items have.
+fn names_length(items: &[Item]) -> usize {
+    let mut length: usize = 0;
+    for item in items {
+        let names = match item {
+            Item::Change(change) => {
+                change.key().name.bytes().len() + change.owner().bytes().len()
+            }
+            Item::Floor(floor) => floor.owner.bytes().len(),
+        };
+        length = length.saturating_add(names);
+    }
+    length
+}
+
+impl Packed {
+    // No items, with room for so many, and for so many bytes of their names.
+    fn with_room(alloc: Global, items: usize, names: usize) -> Option<Packed>
+        ensures { IfSome result (λ packed. packed ≡ []) }
+    {
+        Some(Packed {
+            rows: Vec::with_capacity(alloc, items).ok()?,
+            names: Vec::with_capacity(alloc, names).ok()?,
+        })
+    }
+
+    /// The items. `None` where one of them is a text or memory, and where there is no room for them.
+    pub fn of(alloc: Global, items: &[Item]) -> Option<Packed>
+        ensures { IfSome result (λ packed. packed ≡ items.now) }
+    {
+        let mut packed = Packed::with_room(alloc, items.len(), names_length(items))?;
+        for item in items {
+            packed = packed.with(item)?;
+        }
+        Some(packed)
+    }
+
+    // The items, and one more behind them. `None` where it is a text or memory, and where there is no room for it.
+    #[tactic(auto, using(crate::proofs::RowsLemmas::rows_push, crate::proofs::RowsLemmas::rows_fit))]
+    fn with(self, item: &Item) -> Option<Packed>
+        ensures { IfSome result (λ packed. packed ≡ self ++ item.now ∷ []) }
+    {
+        let Packed {
+            mut rows,
+            mut names,
+        } = self;
+        let row = Row::of(item, &mut names)?;
+        rows.push(row).ok()?;
+        Some(Packed { rows, names })
+    }
+
+    /// The items from the first one on.
+    #[tactic(auto, using(crate::proofs::RowsLemmas::rows_there))]
+    pub fn items(&self) -> Unpacking<'_>
+        ensures { result ≡ self.now }
+    {
+        Unpacking::new(&self.rows, &self.names)
+    }
+}

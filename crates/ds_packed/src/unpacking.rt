@@ -1,0 +1,73 @@
+//! Lists, item by item.
+
+ghost use Rattle.std.specs.Prelude.{◌≡◌, ◌<◌, ◌≤◌, ◌∷◌, [], length, take, IfNone, IfSome};
+ghost use Rattle.ds_entry.specs.Item.{IsItem};
+ghost use Rattle.ds_packed.specs.Rows.{unpacked, HasRows};
+
+use crate::row::Row;
+use ds_entry::Item;
+use std::marker::Model;
+
+/// Items of a list that are left to be given. That takes no memory.
+#[derive(Drop)]
+pub struct Unpacking<'a> {
+    rows: &'a [Row],
+    names: &'a [u8],
+}
+
+impl<'a> Model for Unpacking<'a> {
+    ghost use Rattle.std.specs.Prelude.{List};
+    ghost use Rattle.ds_entry.specs.declared.item.Item.{Item};
+    ghost use Rattle.ds_packed.specs.Rows.{unpacked, HasRows};
+
+    ghost Value = { List Item };
+
+    ghost view = { λ u. unpacked u.names.now u.rows.now };
+
+    ghost invariant = { λ u. HasRows u.names.now u.rows.now };
+}
+
+impl<'a> Unpacking<'a> {
+    // The items of rows.
+    pub(crate) fn new(rows: &'a [Row], names: &'a [u8]) -> Unpacking<'a>
+        requires { HasRows names.now rows.now }
+        ensures { result ≡ unpacked names.now rows.now }
+    {
+        Unpacking { rows, names }
+    }
+
+    /// How many they are.
+    #[tactic(auto, using(crate::proofs::RowsLemmas::unpacked_length))]
+    pub fn len(&self) -> usize
+        ensures { result ≡ length self.now }
+    {
+        self.rows.len()
+    }
+
+    /// So many of the first. `None` where there are fewer.
+    #[tactic(auto, using(crate::proofs::RowsLemmas::unpacked_first, crate::proofs::RowsLemmas::first_rows, crate::proofs::RowsLemmas::unpacked_length))]
+    pub fn first(&self, count: usize) -> Option<Unpacking<'a>>
+        ensures some { IfSome result (λ first. first ≡ take count self.now) }
+        ensures few { IfNone result (length self.now < count) }
+        ensures all { IfSome result (λ first. count ≤ length self.now) }
+    {
+        let rows = self.rows.get(..count)?;
+        Some(Unpacking {
+            rows,
+            names: self.names,
+        })
+    }
+
+    /// The next item, `None` where none is left.
+    pub fn next(&mut self) -> Option<Item>
+        ensures some { IfSome result (λ item. self.old ≡ item ∷ self.new) }
+        ensures item { IfSome result IsItem }
+        ensures none { IfNone result (self.old ≡ []) }
+    {
+        let (row, rows) = self.rows.split_first()?;
+        let item = row.item(self.names);
+        self.rows = rows;
+        self.names = &self.names[row.length()..];
+        Some(item)
+    }
+}
