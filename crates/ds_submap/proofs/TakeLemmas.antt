@@ -1,7 +1,7 @@
 -- Taking items in turn.
-use Rattle.std.proofs.Common.{◌≡◌, ◌⊎◌, ℕ, ◌+◌, ◌<◌, ◌≤◌, Bool, true, false, cond, List, [], ◌∷◌, ◌++◌, All, length, filter, take, Option, Some, None, Ok, IsFalse, IsTrue, refl, sym, ap, ◌∙◌, subst, inr, append-nil, length-append, arith}
+use Rattle.std.proofs.Common.{◌≡◌, ◌⊎◌, ℕ, ◌+◌, ◌<◌, ◌≤◌, ◌^◌, Bool, true, false, cond, List, [], ◌∷◌, ◌++◌, All, length, filter, take, drop, zero, suc, Option, Some, None, Ok, IsFalse, refl, sym, ap, ◌∙◌, subst, inl, inr, append-nil, length-append, length-drop, arith}
 use Rattle.std.proofs.lemmas.List.{take_more, take_all}
-use Rattle.std.proofs.lemmas.List.Elements.{All-push, filter-append}
+use Rattle.std.proofs.lemmas.List.Elements.{All-nil, All-push, filter-append}
 use Rattle.std.proofs.lemmas.Option.{get_or_from_slice_get, slice_get_within}
 use Rattle.std.specs.List.{slice_get}
 use Rattle.ds_entry.specs.declared.item.Item.{Item}
@@ -9,13 +9,13 @@ use Rattle.ds_entry.specs.declared.item.Item.TheVariants.{Change as Changed, Flo
 use Rattle.ds_join.specs.declared.merge.Merge.{Merge}
 use Rattle.ds_join.specs.declared.merge.Merge.TheVariants.{Taken, Known, Stale}
 use Rattle.ds_join.specs.declared.merge.JoinFault.{JoinFault}
-use Rattle.ds_join.specs.declared.merge.JoinFault.TheVariants.{NoRoom}
 use Rattle.ds_held.specs.Held.{Holding, IsSound}
 use Rattle.ds_held.specs.Join.{ItemAnswer, after_item}
 use Rattle.ds_pattern.specs.declared.query.Query.{Query}
 use Rattle.ds_join.specs.declared.count.Count.{Count}
-use Rattle.ds_join.specs.Count.{counted, none_counted}
-use Rattle.ds_submap.specs.Take.{AreAnswered, AreCounted, IsFloorOrOther, IsFrontTaken, IsItemTaken, IsRefusedUnder, IsTakeStopped, IsUnasked, needs_query, is_stale, is_taken}
+use Rattle.ds_join.specs.Count.{counted, none_counted, stop_behind, CanCountOne}
+use Rattle.ds_join.specs.declared.merge.Stop.{Stop}
+use Rattle.ds_submap.specs.Take.{AreAnswered, AreCounted, IsFloorOrOther, IsItemTaken, IsRefusedUnder, IsTakeStopped, CannotAsk, needs_query, is_stale, is_taken}
 use Rattle.ds_pattern.specs.Under.{is_under}
 use Rattle.ds_entry.specs.Item.{passes}
 use Rattle.ds_entry.specs.Under.{under}
@@ -118,34 +118,77 @@ module _ (q : Query) (old : Holding) (items : List Item) where
           stale = few.2;
         })
 
-    pub taking_stops : (fault : JoinFault) → new ≡ mid → (IsRefusedUnder q mid x fault ⊎ IsUnasked q (take i items) x fault) → IsTakeStopped q old items new (record { done = n.done; fault = fault })
-    taking_stops fault e refused = rw (e, t.done) (record { front = t.counted_so.all; refused = (x, at, refused) })
-
-    -- one more that the query isn't asked about
-    pub unasked_more : All (λ j. IsFalse (needs_query q j)) (take i items) → IsFalse (needs_query q x) → All (λ j. IsFalse (needs_query q j)) (take (i + 1) items)
-    unasked_more before this = rw (front (slice_get_within items i x at)) (All-push (λ j. IsFalse (needs_query q j)) (take i items) x before this)
-
   pub taking_ends : (i : ℕ) (mid : Holding) (n : Count) → Taking q old items i mid n → length items ≤ i → AreCounted q old items mid n
   taking_ends i mid n t l = subst (λ xs. AreCounted q old xs mid n) (take_all i items l) t.counted_so
 
-  -- ---- the items in front
-  pub front_taken : (i : ℕ) (mid : Holding) (n : Count) → Taking q old items i mid n → i ≤ length items → All (λ j. IsFalse (needs_query q j)) (take i items) → (i < length items → (x : Item) × (slice_get items i ≡ Some x) × IsTrue (needs_query q x)) → IsFrontTaken q old items mid n
-  front_taken i mid n t few unasked next =
-      record {
-        counted = subst (λ k. AreCounted q old (take k items) mid n) (sym t.done) t.counted_so;
-        sound = t.sound;
-        within = omega (arith, t.done, few);
-        taken = t.taken;
-        stale = t.stale;
-        unasked = subst (λ k. All (λ j. IsFalse (needs_query q j)) (take k items)) (sym t.done) unasked;
-        next = subst (λ k. k < length items → (x : Item) × (slice_get items k ≡ Some x) × IsTrue (needs_query q x)) (sym t.done) next;
-      }
+-- and while the query wasn't asked, none of them was one that it has to be asked about
+pub record Asking (q : Query) (old : Holding) (items : List Item) (i : ℕ) (mid : Holding) (n : Count) (was_asked : Bool) : Type 0 where
+  pub taking : Taking q old items i mid n
+  pub unasked : was_asked ≡ false → All (λ j. IsFalse (needs_query q j)) (take i items)
 
-  pub taking_front : (mid : Holding) (n : Count) → IsFrontTaken q old items mid n → Taking q old items n.done mid n
-  taking_front mid n f = record { counted_so = f.counted; sound = f.sound; done = refl; taken = f.taken; stale = f.stale }
+module _ (q : Query) (old : Holding) (items : List Item) where
+  pub asking_begins : (n : Count) → IsSound old → n ≡ none_counted → Asking q old items 0 old n false
+  asking_begins n sound e = record { taking = taking_begins q old items n sound e; unasked = λ _. All-nil (λ j. IsFalse (needs_query q j)) }
 
-  -- there is no memory to ask about the next one
-  pub front_unasked : (mid : Holding) (n : Count) → IsFrontTaken q old items mid n → n.done < length items → IsTakeStopped q old items mid (record { done = n.done; fault = NoRoom })
-  front_unasked mid n f l =
-      let next = f.next l in
-      record { front = f.counted.all; refused = (next.0, next.1, inr (record { noroom = refl; none_before = f.unasked; asked = next.2 })) }
+  module _ (i : ℕ) (mid : Holding) (n : Count) (was_asked : Bool) (x : Item) (new : Holding) (a : Asking q old items i mid n was_asked) (at : slice_get items i ≡ Some x) where
+    pub asking_goes_on : (is_asked : Bool) (answer : Option Merge) (m : Count) → IsItemTaken q mid x answer new → IsSound new → m ≡ counted n answer → (is_asked ≡ false → (was_asked ≡ false) × IsFalse (needs_query q x)) → Asking q old items (i + 1) new m is_asked
+    asking_goes_on is_asked answer m h sound e unasked =
+        record {
+          taking = taking_goes_on q old items i mid n x new a.taking at answer m h sound e;
+          unasked = λ none. rw (front q old items i mid n x new a.taking at (slice_get_within items i x at)) (All-push (λ j. IsFalse (needs_query q j)) (take i items) x (a.unasked (unasked none).0) (unasked none).1);
+        }
+
+    pub asking_stops : (fault : JoinFault) → new ≡ mid → (IsRefusedUnder q mid x fault ⊎ CannotAsk q was_asked x fault) → IsTakeStopped q old items new (record { done = n.done; fault = fault })
+    asking_stops fault e refused = rw (e, a.taking.done) (record {
+      front = a.taking.counted_so.all;
+      refused = (
+        x,
+        at,
+        elim refused [
+          | inl r ↦ inl r
+          | inr c ↦ inr (record { noroom = c.noroom; none_before = a.unasked c.first; asked = c.asked })
+        ],
+      );
+    })
+
+-- ---- items that are left
+first_left : (n : ℕ) (items : List Item) → slice_get items n ≡ slice_get (drop n items) 0
+first_left zero items = refl
+first_left (suc n) [] = refl
+first_left (suc n) (x ∷ items) = first_left n items
+
+others_left : (n : ℕ) (items : List Item) → drop (suc n) items ≡ drop 1 (drop n items)
+others_left zero items = refl
+others_left (suc n) [] = refl
+others_left (suc n) (x ∷ items) = others_left n items
+
+-- and these are left
+pub record AskingLeft (q : Query) (old : Holding) (items left : List Item) (mid : Holding) (n : Count) (was_asked : Bool) : Type 0 where
+  pub asking : Asking q old items n.done mid n was_asked
+  pub left_is : left ≡ drop n.done items
+
+module _ (q : Query) (old : Holding) (items : List Item) where
+  pub left_begins : (n : Count) → IsSound old → n ≡ none_counted → AskingLeft q old items items old n false
+  left_begins n sound e = rw e (record { asking = asking_begins q old items none_counted sound refl; left_is = refl })
+
+  pub left_ends : (left : List Item) (mid : Holding) (n : Count) (was_asked : Bool) → AskingLeft q old items left mid n was_asked → left ≡ [] → AreCounted q old items mid n
+  left_ends left mid n was_asked a e = taking_ends q old items n.done mid n a.asking.taking (omega (arith, length-drop n.done items, ap length (sym a.left_is ∙ e)))
+
+  module _ (left : List Item) (mid : Holding) (n : Count) (was_asked : Bool) (a : AskingLeft q old items left mid n was_asked) (x : Item) (others : List Item) (e : left ≡ x ∷ others) where
+    there : slice_get items n.done ≡ Some x
+    there = first_left n.done items ∙ ap (λ is. slice_get is 0) (sym a.left_is ∙ e)
+
+    pub left_goes_on : (new : Holding) (is_asked : Bool) (answer : Option Merge) (m : Count) → IsItemTaken q mid x answer new → IsSound new → m ≡ counted n answer → (is_asked ≡ false → (was_asked ≡ false) × IsFalse (needs_query q x)) → AskingLeft q old items others new m is_asked
+    left_goes_on new is_asked answer m h sound f unasked =
+        let done : m.done ≡ n.done + 1 = ap (λ (k : Count). k.done) f ∙ (few_after n answer n.done refl a.asking.taking.taken a.asking.taking.stale).0 in
+        let one_more_done : suc n.done ≡ m.done = omega (arith, done) in
+        record {
+          asking = subst (λ i. Asking q old items i new m is_asked) (sym done) (asking_goes_on q old items n.done mid n was_asked x new a.asking there is_asked answer m h sound f unasked);
+          left_is = ap (drop 1) (sym (sym a.left_is ∙ e)) ∙ sym (others_left n.done items) ∙ ap (λ i. drop i items) one_more_done;
+        }
+
+    pub left_stops : (new : Holding) (fault : JoinFault) (stop : Stop) → new ≡ mid → (IsRefusedUnder q mid x fault ⊎ CannotAsk q was_asked x fault) → stop ≡ stop_behind n fault → IsTakeStopped q old items new stop
+    left_stops new fault stop f refused g = rw g (asking_stops q old items n.done mid n was_asked x new a.asking there fault f refused)
+
+    pub left_counts : length items < 2 ^ 64 → CanCountOne n
+    left_counts most = record { taken = a.asking.taking.taken; stale = a.asking.taking.stale; done = omega (arith, most, slice_get_within items n.done x there) }

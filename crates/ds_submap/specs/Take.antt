@@ -1,5 +1,5 @@
 -- What a map takes of items that come in order, and where it stops.
-use Rattle.std.specs.Prelude.{◌≡◌, ◌⊎◌, ◌≤◌, ◌<◌, Bool, true, false, List, [], ◌∷◌, ◌++◌, All, length, filter, take, slice_get, Option, Some, None, Result, Ok, Err, IsTrue, IsFalse}
+use Rattle.std.specs.Prelude.{◌≡◌, ◌⊎◌, Bool, true, false, List, [], ◌∷◌, ◌++◌, All, length, filter, take, slice_get, Option, Some, None, Result, Ok, Err, IsTrue, IsFalse}
 use Rattle.ds_names.specs.Kind.{names_kind}
 use Rattle.ds_entry.specs.declared.item.Item.{Item}
 use Rattle.ds_entry.specs.declared.item.Item.TheVariants.{Change as Changed, Floor as Floored}
@@ -9,7 +9,7 @@ use Rattle.ds_join.specs.declared.merge.Merge.TheVariants.{Taken, Known, Stale}
 use Rattle.ds_join.specs.declared.merge.JoinFault.{JoinFault}
 use Rattle.ds_join.specs.declared.merge.JoinFault.TheVariants.{NoRoom}
 use Rattle.ds_join.specs.declared.merge.Stop.{Stop}
-use Rattle.ds_held.specs.Held.{Holding, held_items, IsSound}
+use Rattle.ds_held.specs.Held.{Holding, held_items}
 use Rattle.ds_held.specs.Join.{ItemAnswer, after_item, IsItemRefused}
 use Rattle.ds_pattern.specs.declared.query.Query.{Query}
 use Rattle.ds_pattern.specs.Under.{is_under}
@@ -67,6 +67,12 @@ IsFloorOrOther q (Floored f) = Unit {0}
 abbrev pub IsRefusedUnder : Query → Holding → Item → JoinFault → Type 0
 IsRefusedUnder q held i fault = IsTrue (passes (is_under q) i) × IsItemRefused held i fault
 
+-- there is no memory to ask the query about an item that it has to be asked about, and it wasn't asked before
+pub record CannotAsk (q : Query) (was_asked : Bool) (i : Item) (fault : JoinFault) : Type 0 where
+  pub noroom : fault ≡ NoRoom
+  pub first : was_asked ≡ false
+  pub asked : IsTrue (needs_query q i)
+
 -- there is no memory to ask the query: it is taken at the first item that it has to be asked about
 pub record IsUnasked (q : Query) (front : List Item) (i : Item) (fault : JoinFault) : Type 0 where
   pub noroom : fault ≡ NoRoom
@@ -86,13 +92,3 @@ JoinsUnder q old items new = IsTop (held_items new) (held_items old ++ under (is
 abbrev pub done_items : Result Count Stop → List Item → List Item
 done_items (Ok count) items = items
 done_items (Err stop) items = take stop.done items
-
--- the items in front of the first that the query has to be asked about were taken
-pub record IsFrontTaken (q : Query) (old : Holding) (items : List Item) (new : Holding) (count : Count) : Type 0 where
-  pub counted : AreCounted q old (take count.done items) new count
-  pub sound : IsSound new
-  pub within : count.done ≤ length items
-  pub taken : count.taken ≤ count.done
-  pub stale : count.stale ≤ count.done
-  pub unasked : All (λ j. IsFalse (needs_query q j)) (take count.done items)
-  pub next : count.done < length items → (i : Item) × (slice_get items count.done ≡ Some i) × IsTrue (needs_query q i)

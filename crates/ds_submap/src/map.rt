@@ -14,11 +14,12 @@ ghost use Rattle.ds_submap.specs.Floors.{AreSwept, EachFloorStands};
 ghost use Rattle.ds_entry.specs.Under.{entries_of, under};
 ghost use Rattle.ds_pattern.specs.Under.{is_under};
 
-use crate::take::take_items;
+use crate::take::{take_items, take_packed};
 use ds_entry::{Body, Change, Item, Items, Value};
 use ds_held::Held;
 use ds_join::{Count, Stop};
 use ds_names::{Endpoint, Key, Kind, Name, NoRoom};
+use ds_packed::Unpacking;
 use ds_pattern::{Filter, PatternFault, Query};
 use std::alloc::Global;
 use std::marker::Model;
@@ -90,6 +91,17 @@ impl SubMap {
         ensures query { self.new.query ≡ self.old.query }
     {
         take_items(alloc, &self.filter, &mut self.held, items)
+    }
+
+    /// Takes items that are packed, likewise. Unpacking them takes no memory.
+    pub fn take_packed(&mut self, alloc: Global, items: Unpacking<'_>) -> Result<Count, Stop>
+        ensures joined { JoinsUnder self.old.query self.old.held (done_items result items.entry) self.new.held }
+        ensures counted { IfOk result (AreCounted self.old.query self.old.held items.entry self.new.held) }
+        ensures stopped { IfErr result (IsTakeStopped self.old.query self.old.held items.entry self.new.held) }
+        ensures floors { EachFloorStands (held_items self.old.held ++ done_items result items.entry) (held_items self.new.held) }
+        ensures query { self.new.query ≡ self.old.query }
+    {
+        take_packed(alloc, &self.filter, &mut self.held, items)
     }
 
     /// The change that is held for a key. It takes no memory.

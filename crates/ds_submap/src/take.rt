@@ -1,13 +1,14 @@
 //! Items in turn: a floor is raised, and a change is merged if it is under the query, and passed over if not.
 
-ghost use Rattle.std.specs.Prelude.{◌≡◌, IfErr, IfOk, IsFalse, OnErr};
+ghost use Rattle.std.specs.Prelude.{◌≡◌, ◌⊎◌, false, is_some, IfErr, IfOk, IfSome, IsFalse, OnErr, OnOk};
 ghost use Rattle.ds_held.specs.Held.{IsSound};
 ghost use Rattle.ds_pattern.specs.declared.query.Query.{Query};
-ghost use Rattle.ds_submap.specs.Take.{AreCounted, IsFloorOrOther, IsFrontTaken, IsItemTaken, IsRefusedUnder, IsTakeStopped, needs_query};
+ghost use Rattle.ds_submap.specs.Take.{AreCounted, CannotAsk, IsFloorOrOther, IsItemTaken, IsRefusedUnder, IsTakeStopped, needs_query};
 
 use ds_entry::Item;
 use ds_held::Held;
 use ds_join::{Count, JoinFault, Merge, Stop};
+use ds_packed::Unpacking;
 use ds_pattern::{Asker, Filter};
 use std::alloc::Global;
 
@@ -23,16 +24,10 @@ pub(crate) fn take_items(
     ensures counted { IfOk result (AreCounted filter.now held.old items.now held.new) }
     ensures stopped { IfErr result (IsTakeStopped filter.now held.old items.now held.new) }
 {
-    let mut count = take_front(filter, held, items)?;
-    if count.done >= items.len() {
-        return Ok(count);
-    }
-    let Ok(mut asker) = filter.asker(alloc) else {
-        return Err(count.stop(JoinFault::NoRoom));
-    };
-    let (_, asked) = items.split_at(count.done);
-    for item in asked {
-        match take_one(alloc, &mut asker, held, item) {
+    let mut asker = None;
+    let mut count = Count::none();
+    for item in items {
+        match take_next(alloc, filter, &mut asker, held, item) {
             Ok(answer) => count.add(answer),
             Err(fault) => return Err(count.stop(fault)),
         }
@@ -40,24 +35,70 @@ pub(crate) fn take_items(
     Ok(count)
 }
 
-// Takes the items in front of the first that the query has to be asked about.
-fn take_front(filter: &Filter, held: &mut Held, items: &[Item]) -> Result<Count, Stop>
+// Takes items that are packed, likewise.
+pub(crate) fn take_packed(
+    alloc: Global,
+    filter: &Filter,
+    held: &mut Held,
+    mut items: Unpacking<'_>,
+) -> Result<Count, Stop>
     requires { IsSound held.old }
     ensures sound { IsSound held.new }
-    ensures front { IfOk result (IsFrontTaken filter.now held.old items.now held.new) }
-    ensures stopped { IfErr result (IsTakeStopped filter.now held.old items.now held.new) }
+    ensures counted { IfOk result (AreCounted filter.now held.old items.entry held.new) }
+    ensures stopped { IfErr result (IsTakeStopped filter.now held.old items.entry held.new) }
 {
+    let mut asker = None;
     let mut count = Count::none();
-    for item in items {
-        if is_asked(filter, item) {
-            return Ok(count);
-        }
-        match raise_or_pass(held, item) {
+    let _most = items.len();
+    while let Some(item) = items.next() {
+        let answer = take_next(alloc, filter, &mut asker, held, &item);
+        drop(item);
+        match answer {
             Ok(answer) => count.add(answer),
             Err(fault) => return Err(count.stop(fault)),
         }
     }
     Ok(count)
+}
+
+// What asks the query.
+fn asker_of(alloc: Global, filter: &Filter) -> Result<Asker<'_>, JoinFault>
+    ensures asker { IfOk result (λ asker. asker ≡ filter.now) }
+    ensures refused { IfErr result (λ fault. fault ≡ JoinFault.NoRoom) }
+{
+    match filter.asker(alloc) {
+        Ok(asker) => Ok(asker),
+        Err(_) => Err(JoinFault::NoRoom),
+    }
+}
+
+// Takes the next item. What asks the query is made where it is first asked.
+fn take_next<'f>(
+    alloc: Global,
+    filter: &'f Filter,
+    asker: &mut Option<Asker<'f>>,
+    held: &mut Held,
+    item: &Item,
+) -> Result<Option<Merge>, JoinFault>
+    requires sound { IsSound held.old }
+    requires query { IfSome asker.old (λ a. a ≡ filter.now) }
+    ensures query { IfSome asker.new (λ a. a ≡ filter.now) }
+    ensures sound { IsSound held.new }
+    ensures taken { IfOk result (λ answer. IsItemTaken filter.now held.old item.now answer held.new) }
+    ensures unasked { OnOk result (is_some asker.new ≡ false → (is_some asker.old ≡ false) × IsFalse (needs_query filter.now item.now)) }
+    ensures refused { IfErr result (λ fault. IsRefusedUnder filter.now held.old item.now fault ⊎ CannotAsk filter.now (is_some asker.old) item.now fault) }
+    ensures unchanged { OnErr result (held.new ≡ held.old) }
+{
+    if !is_asked(filter, item) {
+        return raise_or_pass(held, item);
+    }
+    if asker.is_none() {
+        *asker = Some(asker_of(alloc, filter)?);
+    }
+    match asker {
+        Some(asker) => take_one(alloc, asker, held, item),
+        None => unreachable!(),
+    }
 }
 
 // Whether the query has to be asked about an item: about a change of a kind that it names. A floor is under every query.
