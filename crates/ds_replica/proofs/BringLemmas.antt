@@ -269,7 +269,7 @@ module _ (account : Account) (w new : World) (f : Fits account w) (all : AreItem
   event_items (Ask side command) out p h = ask_items side command out p h.1
   event_items (NewMap query) (MapMade j) p h = all
   event_items (NewMap query) _ p h = all
-  event_items (Deliver k holder count) (AllMerged done taken stale owed) p h = delivered_items holder (sent_first account k done)
+  event_items (Deliver k holder count) (AllMerged counted owed) p h = delivered_items holder (sent_first account k counted.done)
   event_items (Deliver k holder count) (Stopped done fault owed) p h = delivered_items holder (sent_first account k done)
   event_items (Deliver k holder count) _ p h = all
   event_items (ClearMap j) Cleared p h = all

@@ -192,7 +192,7 @@ module _ (account : Account) (w new : World) (f : Fits account w) (n : AreSingle
   taken_not (Store side) items tally fault b h e t =
       let s = store_fits account w side f in
       merges_not account.brought n h.takes.groups (store_at w side) h.after tally fault s.reached (λ i k. s.within i (s.accepted i k)) (subst (λ l. IsPartOf l account.brought) (sym h.takes.all) b) h.takes.merged e t
-  taken_not (Map j) items tally fault b h e t = ends_not (subst (DeliveryEnds h.after items tally.done) e h.takes.ends)
+  taken_not (Map j) items tally fault b h e t = ends_not (subst (DeliveryEnds h.after items tally.count.done) e h.takes.ends)
     where
       old_within : IsPartOf h.old.held account.brought
       old_within i k = held_within account w f (Map j) i (subst (λ (o : Option MapState). Contains (map_held o) i) (sym h.there) k)
@@ -200,11 +200,11 @@ module _ (account : Account) (w new : World) (f : Fits account w) (n : AreSingle
       new_within : IsPartOf h.after.held account.brought
       new_within i k = elim (Contains-append_cases h.old.held _ i (h.takes.top.among i k)) [
         | inl a ↦ old_within i a
-        | inr a ↦ b i (Contains-from_take tally.done items i (Contains-from_under (is_under h.old.query) (take tally.done items) i a).0)
+        | inr a ↦ b i (Contains-from_take tally.count.done items i (Contains-from_under (is_under h.old.query) (take tally.count.done items) i a).0)
       ]
 
-      ends_not : DeliveryEnds h.after items tally.done (Some fault) → ⊥
-      ends_not x = stands_not account.brought n h.after.held new_within x.0 (b x.0 (contains_at items tally.done x.0 x.1)) fault x.3 t
+      ends_not : DeliveryEnds h.after items tally.count.done (Some fault) → ⊥
+      ends_not x = stands_not account.brought n h.after.held new_within x.0 (b x.0 (contains_at items tally.count.done x.0 x.1)) fault x.3 t
 
   stop_is : (tally : Tally) (o : Option Refusal) (done : ℕ) (fault : Refusal) (owes : ℕ) → Stopped done fault owes ≡ tally_outcome tally o → o ≡ Some fault
   stop_is tally None done fault owes e = absurd (cc)

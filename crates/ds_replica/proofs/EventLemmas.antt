@@ -89,41 +89,41 @@ module _ (account : Account) (w new : World) (f : Fits account w) where
     first_within : (n : ℕ) → AreWithin account.brought (take n sent)
     first_within n s h = m.within s (Contains-from_take n sent s h)
 
-    to_store : (side : Side) (tally : Tally) → TakenByStore w side (take c items) tally new → Fits (delivered account (Store side) (take tally.done sent)) new
+    to_store : (side : Side) (tally : Tally) → TakenByStore w side (take c items) tally new → Fits (delivered account (Store side) (take tally.count.done sent)) new
     to_store side tally h =
         let went = store_went (store_at w side) h.after (take c items) tally (store_fits account w side f).reached h.takes in
-        let same = first_sent account.brought sent items tally.done c m went.within in
+        let same = first_sent account.brought sent items tally.count.done c m went.within in
         let gone = subst (λ (l : List Item). Gone (store_at w side) l h.after) same went.gone in
-        let own = subst (λ (s : State). Gone s (items_of (take tally.done sent)) h.after) (sym (store_fits account w side f).state_is) gone in
-        subst (Fits (delivered account (Store side) (take tally.done sent))) (sym h.world_is)
-        (put_fits account w side (took (store_of account side) (take tally.done sent)) h.after f
-        (took_store account.brought (take tally.done sent) (first_are tally.done) (first_within tally.done) (store_of account side) h.after (own_fits account w side f) own))
+        let own = subst (λ (s : State). Gone s (items_of (take tally.count.done sent)) h.after) (sym (store_fits account w side f).state_is) gone in
+        subst (Fits (delivered account (Store side) (take tally.count.done sent))) (sym h.world_is)
+        (put_fits account w side (took (store_of account side) (take tally.count.done sent)) h.after f
+        (took_store account.brought (take tally.count.done sent) (first_are tally.count.done) (first_within tally.count.done) (store_of account side) h.after (own_fits account w side f) own))
 
     done_within : (after : MapState) (some : List Item) (done : ℕ) (o : Option Refusal) → DeliveryEnds after some done o → done ≤ length some
     done_within after some done None e = omega (arith, e)
     done_within after some done (Some fault) e = let l = slice_get_within some done e.0 e.1 in omega (arith, l)
 
-    to_map : (j : ℕ) (tally : Tally) → TakenByMap w j (take c items) tally new → Fits (delivered account (Map j) (take tally.done sent)) new
+    to_map : (j : ℕ) (tally : Tally) → TakenByMap w j (take c items) tally new → Fits (delivered account (Map j) (take tally.count.done sent)) new
     to_map j tally h =
         let at = AllZip-at (FitsMap account.brought) account.maps w.maps j h.old f.maps h.there in
-        let few = done_within h.after (take c items) tally.done tally.stop h.takes.ends in
-        let same = first_sent account.brought sent items tally.done c m few in
+        let few = done_within h.after (take c items) tally.count.done tally.stop h.takes.ends in
+        let same = first_sent account.brought sent items tally.count.done c m few in
         let top = subst (λ (l : List Item). IsTop h.after.held (h.old.held ++ under (is_under h.old.query) l)) same h.takes.top in
-        let fits = took_map account.brought (take tally.done sent) (first_are tally.done) (first_within tally.done) at.0 h.old h.after at.2 h.takes.query top in
-        subst (Fits (delivered account (Map j) (take tally.done sent))) (sym h.world_is)
+        let fits = took_map account.brought (take tally.count.done sent) (first_are tally.count.done) (first_within tally.count.done) at.0 h.old h.after at.2 h.takes.query top in
+        subst (Fits (delivered account (Map j) (take tally.count.done sent))) (sym h.world_is)
         (record {
           a = f.a;
           b = f.b;
-          maps = subst (λ (o : Option MapAccount). AllZip (FitsMap account.brought) (map_took account.maps j (take tally.done sent) o) (slice_set w.maps j h.after)) (sym at.1)
-              (AllZip-both_set (FitsMap account.brought) account.maps w.maps j (record at.0 { taken = at.0.taken ++ take tally.done sent }) h.after f.maps fits);
+          maps = subst (λ (o : Option MapAccount). AllZip (FitsMap account.brought) (map_took account.maps j (take tally.count.done sent) o) (slice_set w.maps j h.after)) (sym at.1)
+              (AllZip-both_set (FitsMap account.brought) account.maps w.maps j (record at.0 { taken = at.0.taken ++ take tally.count.done sent }) h.after f.maps fits);
           messages = f.messages;
         })
 
-    to_holder : (holder : Holder) (tally : Tally) → IsDelivered w holder (take c items) tally new → Fits (delivered account holder (take tally.done sent)) new
+    to_holder : (holder : Holder) (tally : Tally) → IsDelivered w holder (take c items) tally new → Fits (delivered account holder (take tally.count.done sent)) new
     to_holder (Store side) tally h = to_store side tally h
     to_holder (Map j) tally h = to_map j tally h
 
-  delivery_is : (k : ℕ) (holder : Holder) (count : Option ℕ) (tally : Tally) (o : Option Refusal) → extended account (Deliver k holder count) (tally_outcome tally o) ≡ delivered account holder (sent_first account k tally.done)
+  delivery_is : (k : ℕ) (holder : Holder) (count : Option ℕ) (tally : Tally) (o : Option Refusal) → extended account (Deliver k holder count) (tally_outcome tally o) ≡ delivered account holder (sent_first account k tally.count.done)
   delivery_is k holder count tally None = refl
   delivery_is k holder count tally (Some fault) = refl
 
@@ -131,7 +131,7 @@ module _ (account : Account) (w new : World) (f : Fits account w) where
   delivery_fits k holder count out h =
       let at = AllZip-at (FitsMessage account.brought) account.messages w.messages k h.items f.messages h.there in
       subst (λ (z : Account). Fits z new) (sym (ap (extended account (Deliver k holder count)) h.outcome_is ∙ delivery_is k holder count h.tally h.tally.stop))
-      (subst (λ (o : Option (List Sent)). Fits (delivered account holder (take h.tally.done (message_items o))) new) (sym at.1)
+      (subst (λ (o : Option (List Sent)). Fits (delivered account holder (take h.tally.count.done (message_items o))) new) (sym at.1)
       (to_holder at.0 h.items (count_of count h.items) at.2 holder h.tally h.taken))
 
   -- ---- a map was cleared, a store restarted

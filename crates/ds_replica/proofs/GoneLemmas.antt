@@ -78,8 +78,8 @@ module _ (s t : State) (group : List Item) (r : IsReached s) where
 
 -- so many of the items went, and there are as many
 pub record Went (s : State) (items : List Item) (tally : Tally) (new : State) : Type 0 where
-  pub gone : Gone s (take tally.done items) new
-  pub within : tally.done ≤ length items
+  pub gone : Gone s (take tally.count.done items) new
+  pub within : tally.count.done ≤ length items
 
 module _ (s mid new : State) (group rest : List Item) (r : IsReached s) (Others : Tally → State → Type 0) where
   went_on : (reply : Reply) (tally : Tally) → ((later : Tally) → IsReached mid → Others later new → Went mid rest later new) → Step s (Merge group) reply mid → OthersFollow reply mid Others tally new → Went s (group ++ rest) tally new
@@ -87,23 +87,23 @@ module _ (s mid new : State) (group rest : List Item) (r : IsReached s) (Others 
       let g = gone_merged s mid group r done taken stale owed step in
       let w = others f.0 g.reached f.1 in
       let all : done ≡ length group = (merged_says s mid group done taken stale owed r step).all in
-      let count : tally.done ≡ length group + f.0.done = ap (λ (t : Tally). t.done) f.2 ∙ ap (λ n. n + f.0.done) all in
+      let count : tally.count.done ≡ length group + f.0.count.done = ap (λ (t : Tally). t.count.done) f.2 ∙ ap (λ n. n + f.0.count.done) all in
       record {
-        gone = subst (λ l. Gone s l new) (sym (ap (λ n. take n (group ++ rest)) count ∙ take-append-add group rest f.0.done)) (gone_on s mid new group (take f.0.done rest) g w.gone);
+        gone = subst (λ l. Gone s l new) (sym (ap (λ n. take n (group ++ rest)) count ∙ take-append-add group rest f.0.count.done)) (gone_on s mid new group (take f.0.count.done rest) g w.gone);
         within = (let l : length (group ++ rest) ≡ length group + length rest = length-append group rest in omega (arith, count, l, w.within));
       }
   went_on (MergeStopped done fault owed) tally others step f =
       let g = gone_stopped s mid group r done fault owed step in
       let few : done < length group = (merge_stopped_says s mid group done fault owed r step).some_left in
-      let count : tally.done ≡ done = ap (λ (t : Tally). t.done) f.0 in
+      let count : tally.count.done ≡ done = ap (λ (t : Tally). t.count.done) f.0 in
       let le : done ≤ length group = omega (arith, few) in
-      let same : take tally.done (group ++ rest) ≡ take done group = ap (λ n. take n (group ++ rest)) count ∙ take-append-le done group rest le in
+      let same : take tally.count.done (group ++ rest) ≡ take done group = ap (λ n. take n (group ++ rest)) count ∙ take-append-le done group rest le in
       record {
-        gone = subst (Gone s (take tally.done (group ++ rest))) (sym f.1) (subst (λ l. Gone s l mid) (sym same) g);
+        gone = subst (Gone s (take tally.count.done (group ++ rest))) (sym f.1) (subst (λ l. Gone s l mid) (sym same) g);
         within = (let l : length (group ++ rest) ≡ length group + length rest = length-append group rest in omega (arith, count, few, l));
       }
   went_on (Refused fault) tally others step f =
-      let count : tally.done ≡ 0 = ap (λ (t : Tally). t.done) f.0 in
+      let count : tally.count.done ≡ 0 = ap (λ (t : Tally). t.count.done) f.0 in
       let g = gone_nothing s new r (f.1 ∙ refused_says s mid (Merge group) fault step) in
       record {
         gone = subst (λ n. Gone s (take n (group ++ rest)) new) (sym count) g;
@@ -113,7 +113,7 @@ module _ (s mid new : State) (group rest : List Item) (r : IsReached s) (Others 
 
 pub merges_went : (groups : List (List Item)) (s new : State) (tally : Tally) → IsReached s → GroupsAreMerged s groups tally new → Went s (flat_map (λ group. group) groups) tally new
 merges_went [] s new tally r m =
-    let count : tally.done ≡ 0 = ap (λ (t : Tally). t.done) m.0 in
+    let count : tally.count.done ≡ 0 = ap (λ (t : Tally). t.count.done) m.0 in
     record { gone = subst (λ n. Gone s (take n []) new) (sym count) (gone_nothing s new r m.1); within = omega (arith, count) }
 merges_went (group ∷ groups) s new tally r m =
     went_on s m.1 new group (flat_map (λ group. group) groups) r (λ t n. GroupsAreMerged m.1 groups t n) m.0 tally (λ later q a. merges_went groups m.1 new later q a) m.2 m.3

@@ -80,7 +80,7 @@ module _ (account : Account) (k : ℕ) (sent : List Sent) (e : IsMessage account
   message_stays (Ask side command) _ = e
   message_stays (NewMap query) (MapMade j) = e
   message_stays (NewMap query) _ = e
-  message_stays (Deliver n holder count) (Merged done taken stale owed) = delivered_stays holder (sent_first account n done)
+  message_stays (Deliver n holder count) (Merged counted owed) = delivered_stays holder (sent_first account n counted.done)
   message_stays (Deliver n holder count) (Stopped done fault owed) = delivered_stays holder (sent_first account n done)
   message_stays (Deliver n holder count) _ = e
   message_stays (ClearMap j) Cleared = e

@@ -34,7 +34,7 @@ use Rattle.ds_replica.specs.declared.event.Holder.TheVariants.{Map}
 use Rattle.ds_replica.specs.declared.outcome.Outcome.TheVariants.{MapMade, Merged}
 use Rattle.ds_replica.specs.World.{World, MapState, store_at, with_state, with_items}
 use Rattle.ds_replica.specs.Happens.{Asks, ask_outcome, items_given, HappenAll}
-use Rattle.ds_replica.specs.Delivery.{Tally, StoreTakes, MapTakes}
+use Rattle.ds_replica.specs.Delivery.{Tally, counting, StoreTakes, MapTakes}
 use Rattle.ds_replica.specs.Known.{known_by}
 use Rattle.ds_replica.specs.CaughtUp.{AreItems}
 use Rattle.ds_replica.specs.Rows.{fresh_world, driver_label, floor, irq, one, other, later, ended, renewed, OwnersChange, contradicted, with_both, with_other, AsksFor, ReplicasConverge, ReplicasDiffer, MapCatchesUp, MapLags, MapLeads, MapsCatchUp, MapsLag, MapsLead, ReplicasClash, MapClashes, MapsClash}
@@ -58,7 +58,7 @@ beside f c = record { one_change = λ d e h k q v. is d h ∙ sym (is e k); one_
 
 -- of so many items that were done, and of those that were taken
 abbrev done : ℕ → ℕ → Tally
-done count taken = record { done = count; taken = taken; stale = 0; owed = 0; stop = None }
+done count taken = record { count = counting count taken 0; owed = 0; stop = None }
 
 few_there : (i : Item) (group : List Item) → Contains ((i ∷ []) ∷ []) group → length group ≤ most_items
 few_there i group h = subst (λ (l : List Item). length l ≤ most_items) (sym (Contains-single (i ∷ []) group h)) (omega arith)
@@ -307,7 +307,7 @@ clash = Clash (record { epoch = 3; seq = 0 })
 
 -- or it stops there
 abbrev clashed : Tally
-clashed = record { done = 0; taken = 0; stale = 0; owed = 0; stop = Some clash }
+clashed = record { count = counting 0 0 0; owed = 0; stop = Some clash }
 
 stopped : (s : State) (i : Item) → Step s (Merge (i ∷ [])) (MergeStopped 0 clash 0) s → StoreTakes s (i ∷ []) clashed s
 stopped s i step = record {
@@ -381,7 +381,7 @@ module _ (query : Query) (asks : AsksFor query irq) where
   clashes : MapClashes query
   clashes = record {
     world = record clashing { maps = map_of (other ∷ []) ∷ [] };
-    happen = happen_then contradicted ((NewMap query, MapMade 0) ∷ (Deliver 1 (Map 0) None, Merged 1 1 0 0) ∷ []) fresh_world clashing (record clashing { maps = map_of (other ∷ []) ∷ [] }) contradicted_happen (
+    happen = happen_then contradicted ((NewMap query, MapMade 0) ∷ (Deliver 1 (Map 0) None, Merged (counting 1 1 0) 0) ∷ []) fresh_world clashing (record clashing { maps = map_of (other ∷ []) ∷ [] }) contradicted_happen (
       record clashing { maps = map_of [] ∷ [] },
       (asks.read, record { outcome_is = refl; world_is = refl }),
       (

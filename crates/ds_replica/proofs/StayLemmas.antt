@@ -116,7 +116,7 @@ module _ (account : Account) where
   event_known h (Ask side command) _ e = same_part (known_at account h)
   event_known h (NewMap query) (MapMade j) e = maps_known (account.maps ++ record { query = query; taken = [] } ∷ []) h (λ l. pushed account.maps (record { query = query; taken = [] }) l)
   event_known h (NewMap query) _ e = same_part (known_at account h)
-  event_known h (Deliver k holder count) (Merged done taken stale owed) e = delivered_known holder (sent_first account k done) h
+  event_known h (Deliver k holder count) (Merged counted owed) e = delivered_known holder (sent_first account k counted.done) h
   event_known h (Deliver k holder count) (Stopped done fault owed) e = delivered_known holder (sent_first account k done) h
   event_known h (Deliver k holder count) _ e = same_part (known_at account h)
   event_known h (ClearMap j) Cleared e = clear_known j h e

@@ -7,6 +7,7 @@ use Rattle.ds_entry.specs.Item.{passes}
 use Rattle.ds_entry.specs.declared.item.Item.{Item}
 use Rattle.ds_entry.specs.declared.item.Item.TheVariants.{Change as Changed}
 use Rattle.ds_join.specs.ItemTop.{IsTop}
+use Rattle.ds_join.specs.declared.count.Count.{Count}
 use Rattle.ds_pattern.specs.Under.{is_under}
 use Rattle.ds_machine.specs.State.{State}
 use Rattle.ds_machine.specs.Machine.{Step}
@@ -19,21 +20,26 @@ use Rattle.ds_replica.specs.World.{MapState}
 use Rattle.ds_names.specs.Limits.{most_items}
 use Rattle.ds_entry.specs.Under.{under}
 
--- how many items of a delivery were done, taken and stale, to which subscriptions something is owed, and what stopped it
+-- what became of the items of a delivery, to which subscriptions something is owed, and what stopped it
 pub record Tally : Type 0 where
-  pub done : ℕ
-  pub taken : ℕ
-  pub stale : ℕ
+  pub count : Count
   pub owed : ℕ
   pub stop : Option Refusal
 
+abbrev pub counting : ℕ → ℕ → ℕ → Count
+counting done taken stale = record { done = done; taken = taken; stale = stale }
+
 -- of nothing, and of items that stop at the first one left
 abbrev pub ended : ℕ → ℕ → Option Refusal → Tally
-ended done owed stop = record { done = done; taken = 0; stale = 0; owed = owed; stop = stop }
+ended done owed stop = record { count = counting done 0 0; owed = owed; stop = stop }
 
 -- of so many items that were done before the others; a mask of both has the bits of either
 abbrev pub added : ℕ → ℕ → ℕ → ℕ → Tally → Tally
-added done taken stale owed later = record { done = done + later.done; taken = taken + later.taken; stale = stale + later.stale; owed = bit_or owed later.owed; stop = later.stop }
+added done taken stale owed later = record {
+  count = counting (done + later.count.done) (taken + later.count.taken) (stale + later.count.stale);
+  owed = bit_or owed later.owed;
+  stop = later.stop;
+}
 
 -- after a Merge that wasn't stopped the others follow, and after one that was stopped or refused nothing more is asked
 abbrev pub OthersFollow : Reply → State → (Tally → State → Type 0) → Tally → State → Type 0
@@ -72,7 +78,7 @@ DeliveryEnds m items done (Some fault) = (next : Item) × (slice_get items done 
 -- the items go to a map: it holds the top of what it held and of those that were done and are under its query
 pub record MapTakes (m : MapState) (items : List Item) (tally : Tally) (new : MapState) : Type 0 where
   pub query : new.query ≡ m.query
-  pub top : IsTop new.held (m.held ++ under (is_under m.query) (take tally.done items))
-  pub counted : tally.taken + tally.stale ≤ tally.done
+  pub top : IsTop new.held (m.held ++ under (is_under m.query) (take tally.count.done items))
+  pub counted : tally.count.taken + tally.count.stale ≤ tally.count.done
   pub owed : tally.owed ≡ 0
-  pub ends : DeliveryEnds new items tally.done tally.stop
+  pub ends : DeliveryEnds new items tally.count.done tally.stop

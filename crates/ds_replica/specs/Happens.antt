@@ -114,8 +114,8 @@ pub record MakesMap (w : World) (query : Query) (outcome : Outcome) (new : World
   pub world_is : new ≡ record w { maps = w.maps ++ new_map query ∷ [] }
 
 abbrev pub tally_outcome : Tally → Option Refusal → Outcome
-tally_outcome t None = Merged t.done t.taken t.stale t.owed
-tally_outcome t (Some fault) = Stopped t.done fault t.owed
+tally_outcome t None = Merged t.count t.owed
+tally_outcome t (Some fault) = Stopped t.count.done fault t.owed
 
 -- a store took items
 pub record TakenByStore (w : World) (side : Side) (items : List Item) (tally : Tally) (new : World) : Type 0 where

@@ -134,7 +134,7 @@ abbrev pub extended : Account → Event → Outcome → Account
 extended account (Ask side command) (Replied reply) = with_reply account side command reply
 extended account (Ask side command) (Made k) = with_reply account side command (outcome (store_of account side).state command).0
 extended account (NewMap query) (MapMade j) = record account { maps = account.maps ++ record { query = query; taken = [] } ∷ [] }
-extended account (Deliver k holder count) (Merged done taken stale owed) = delivered account holder (sent_first account k done)
+extended account (Deliver k holder count) (Merged counted owed) = delivered account holder (sent_first account k counted.done)
 extended account (Deliver k holder count) (Stopped done fault owed) = delivered account holder (sent_first account k done)
 extended account (ClearMap j) Cleared = record account { maps = map_cleared account.maps j (slice_get account.maps j) }
 extended account (RestartStore side incarnation) Restarted = with_account account side (opened (reopened (store_of account side).state incarnation))

@@ -31,6 +31,7 @@ use Rattle.ds_replica.specs.declared.event.Event.TheVariants.{Ask, NewMap, Deliv
 use Rattle.ds_replica.specs.declared.outcome.Outcome.{Outcome}
 use Rattle.ds_replica.specs.declared.outcome.Outcome.TheVariants.{Replied, Made, MapMade, Merged, Stopped, Restarted}
 use Rattle.ds_replica.specs.World.{World, held_by, new_world}
+use Rattle.ds_replica.specs.Delivery.{counting}
 use Rattle.ds_replica.specs.Happens.{pattern_fault, Happens, HappenAll}
 use Rattle.ds_replica.specs.Known.{Account, MapAccount, store_of, known_at, new_account, extended_all}
 use Rattle.ds_replica.specs.CaughtUp.{HasAll, HasNothingElse, AreItems}
@@ -74,7 +75,7 @@ abbrev pub only_published : List (Event × Outcome)
 only_published = (Ask A first_publish, Replied (Accepted 0)) ∷ []
 
 abbrev pub exchanged : List (Event × Outcome)
-exchanged = only_published ++ snapshot A ∷ (Deliver 0 (Store B) None, Merged 1 1 0 0) ∷ []
+exchanged = only_published ++ snapshot A ∷ (Deliver 0 (Store B) None, Merged (counting 1 1 0) 0) ∷ []
 
 -- then both know the same, without contradictions, and hold it
 pub record ReplicasConverge : Type 0 where
@@ -97,7 +98,7 @@ only_told query side = (NewMap query, MapMade 0) ∷ (Ask side swept, Replied (S
 
 -- and a snapshot of it goes to the map
 abbrev pub sent : Query → Side → List (Event × Outcome)
-sent query side = only_told query side ++ snapshot side ∷ (Deliver 0 (Map 0) None, Merged 2 2 0 0) ∷ []
+sent query side = only_told query side ++ snapshot side ∷ (Deliver 0 (Map 0) None, Merged (counting 2 2 0) 0) ∷ []
 
 -- what the map was given then
 abbrev pub with_both : Query → MapAccount
@@ -179,7 +180,7 @@ told_both side incarnation k first second =
 abbrev pub contradicted : List (Event × Outcome)
 contradicted =
     told_both A 1 0 one other ++ told_both B 2 1 other one ++
-    (Deliver 0 (Store A) None, Merged 1 1 0 0) ∷ (Deliver 1 (Store B) None, Merged 1 1 0 0) ∷ []
+    (Deliver 0 (Store A) None, Merged (counting 1 1 0) 0) ∷ (Deliver 1 (Store B) None, Merged (counting 1 1 0) 0) ∷ []
 
 -- then both know the same, but don't hold the same, and the message of the one stops at the other by a clash
 pub record ReplicasClash : Type 0 where
@@ -191,7 +192,7 @@ pub record ReplicasClash : Type 0 where
 
 -- and a map is made, and given the message of the other store
 abbrev pub and_a_map : Query → List (Event × Outcome)
-and_a_map query = contradicted ++ (NewMap query, MapMade 0) ∷ (Deliver 1 (Map 0) None, Merged 1 1 0 0) ∷ []
+and_a_map query = contradicted ++ (NewMap query, MapMade 0) ∷ (Deliver 1 (Map 0) None, Merged (counting 1 1 0) 0) ∷ []
 
 -- what it was given then
 abbrev pub with_other : Query → MapAccount
@@ -221,7 +222,7 @@ renewed = Changed (change_of irq (codes "eth1") first_version (Put (Number 11)))
 -- a store is told the driver's entry, the floor, and the other owner's entry, and a snapshot of it goes to the other store
 abbrev pub renewal : List (Event × Outcome)
 renewal =
-    (Ask A (Merge (one ∷ ended ∷ renewed ∷ [])), Replied (AllMerged 3 3 0 0)) ∷ snapshot A ∷ (Deliver 0 (Store B) None, Merged 2 2 0 0) ∷ []
+    (Ask A (Merge (one ∷ ended ∷ renewed ∷ [])), Replied (AllMerged 3 3 0 0)) ∷ snapshot A ∷ (Deliver 0 (Store B) None, Merged (counting 2 2 0) 0) ∷ []
 
 -- then what was brought in is exact, but not single-numbered, and both know the same, and hold it
 pub record OwnersChange : Type 0 where

@@ -2,6 +2,7 @@
 
 ghost use Rattle.std.specs.Prelude.{◌≡◌, IfOk};
 
+use ds_join::Count;
 use ds_machine::{Refusal, Reply};
 use ds_names::NoRoom;
 use std::alloc::Global;
@@ -20,12 +21,10 @@ pub enum Outcome {
     MapMade {
         map: usize,
     },
-    /// All items that were delivered were done: some were taken, some were stale, and the others were known or not under
-    /// the map's query. `owed` is the mask of the store's subscriptions to which something is owed, 0 for a map.
+    /// All items that were delivered were done, and so counted. `owed` is the mask of the store's subscriptions to which
+    /// something is owed, 0 for a map.
     Merged {
-        done: usize,
-        taken: usize,
-        stale: usize,
+        count: Count,
         owed: u128,
     },
     /// The first items were done, and the next one was refused.
@@ -83,15 +82,8 @@ impl Outcome {
             Outcome::Replied(reply) => Ok(Outcome::Replied(reply.copy(alloc)?)),
             Outcome::Made { message } => Ok(Outcome::Made { message: *message }),
             Outcome::MapMade { map } => Ok(Outcome::MapMade { map: *map }),
-            Outcome::Merged {
-                done,
-                taken,
-                stale,
-                owed,
-            } => Ok(Outcome::Merged {
-                done: *done,
-                taken: *taken,
-                stale: *stale,
+            Outcome::Merged { count, owed } => Ok(Outcome::Merged {
+                count: *count,
                 owed: *owed,
             }),
             Outcome::Stopped { done, fault, owed } => Ok(Outcome::Stopped {

@@ -31,7 +31,7 @@ abbrev pub outcome_lines : Wording → Outcome → LimitsRecord → List ℕ
 outcome_lines wording (Replied reply) limits = reply_lines wording reply limits
 outcome_lines wording (Made message) limits = []
 outcome_lines wording (MapMade map) limits = with_newline (codes "map " ++ decimal map)
-outcome_lines wording (Merged done taken stale owed) limits = with_newline (merged AsMerge done taken stale) ++ owed_line limits owed
+outcome_lines wording (Merged count owed) limits = with_newline (merged AsMerge count.done count.taken count.stale) ++ owed_line limits owed
 outcome_lines wording (Stopped done fault owed) limits = with_newline (stopped AsMerge done fault) ++ owed_line limits owed
 outcome_lines wording Cleared limits = with_newline (codes "cleared")
 outcome_lines wording Restarted limits = with_newline (codes "restarted")

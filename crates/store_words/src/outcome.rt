@@ -35,16 +35,11 @@ pub fn append_outcome(
             let mut digits = Buffer::new();
             append_all(buffer, &[b"map ", digits.format(*map).as_bytes(), b"\n"])
         }
-        Outcome::Merged {
-            done,
-            taken,
-            stale,
-            owed,
-        } => {
+        Outcome::Merged { count, owed } => {
             let merged = Reply::Merged {
-                done: *done,
-                taken: *taken,
-                stale: *stale,
+                done: count.done,
+                taken: count.taken,
+                stale: count.stale,
                 owed: *owed,
             };
             append_reply(buffer, Wording::AsMerge, &merged, limits)
