@@ -10,7 +10,7 @@ use ds_names::NoRoom;
 use ds_replica::Outcome;
 use ds_words::ScriptCommand;
 use std::alloc::Global;
-use store_words::{Wording, append_noroom, append_outcome, append_reply};
+use store_words::{Wording, append_message, append_noroom, append_outcome};
 
 /// Lets the event of a command happen, and puts what came of it behind the answers that wait. What has an item or a value the store
 /// is asked directly.
@@ -32,11 +32,12 @@ pub(crate) fn answer_event(
         Err(NoRoom) => return append_noroom(output),
     };
     let outcome = session.happen(event);
-    append_told(output, wording, &outcome, session)
+    append_told(alloc, output, wording, &outcome, session)
 }
 
 // Appends the lines of what came of an event, of a message those of the reply that it is, or nothing.
 fn append_told(
+    alloc: Global,
     output: &mut Vec<u8>,
     wording: Wording,
     outcome: &Outcome,
@@ -45,11 +46,11 @@ fn append_told(
     ensures written { OnOk result (output.new.items ≡ output.old.items ++ told_lines wording outcome.now session.now.world.messages) }
     ensures unchanged { OnErr result (output.new.items ≡ output.old.items) }
 {
-    let Outcome::Made { message } = outcome else {
+    let Outcome::Made { message: number } = outcome else {
         return append_outcome(output, wording, outcome, Limits::larger());
     };
-    match session.message(*message) {
-        Some(reply) => append_reply(output, wording, reply, Limits::larger()),
+    match session.message(*number) {
+        Some(message) => append_message(alloc, output, wording, message, Limits::larger()),
         // A session that stands for a world has each message that was made.
         None => Ok(()),
     }

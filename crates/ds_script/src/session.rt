@@ -13,6 +13,7 @@ use ds_answers::Servers;
 use ds_entry::Item;
 use ds_held::Held;
 use ds_machine::{Command, Reply};
+use ds_message::Message;
 use ds_names::NoRoom;
 use ds_replica::{Event, Outcome, Seed, Side};
 use ds_submap::SubMap;
@@ -120,7 +121,7 @@ impl Session {
     }
 
     /// The message of a number: the reply that a store gave.
-    pub(crate) fn message(&self, number: usize) -> Option<&Reply>
+    pub(crate) fn message(&self, number: usize) -> Option<&Message>
         ensures { option_copied result ≡ slice_get self.now.world.messages number }
     {
         self.world.message(number)

@@ -87,7 +87,7 @@ module _ (value : WorldRecord) (k : ℕ) (count : Option ℕ) where
       -- it led to such a world, in whose store want of memory came last
       abbrev pub Led : Side → WorldRecord → Type 0
       Led side new =
-          (w : World) → WorldStands value w → (after : World) × Happens w (Deliver k (Store side) count) (tally_outcome tally tally.stop) after × IsWantLast (take (count_of count items) items) tally.done tally.stop (store_at after side) × WorldStands new after
+          (w : World) → WorldStands value w → (after : World) × Happens w (Deliver k (Store side) count) (tally_outcome tally tally.stop) after × IsWantLast (take (count_of count items) items) tally.count.done tally.stop (store_at after side) × WorldStands new after
 
       pub to_a : (new : ContentRecord) → ItemsAreTaken value.a (take (count_of count items) items) tally new
           → Led A (record value { a = new })
@@ -123,7 +123,7 @@ module _ (value : WorldRecord) (k : ℕ) (count : Option ℕ) where
           one o x y e f = cc
 
           by_stop : (o : Option Refusal)
-              → ((w : World) → WorldStands value w → (after : World) × Happens w (Deliver k (Store side) count) (tally_outcome tally o) after × IsWantLast (take (count_of count items) items) tally.done o (store_at after side) × WorldStands new after)
+              → ((w : World) → WorldStands value w → (after : World) × Happens w (Deliver k (Store side) count) (tally_outcome tally o) after × IsWantLast (take (count_of count items) items) tally.count.done o (store_at after side) × WorldStands new after)
               → IsStoreTold (Deliver k (Store side) count) side (take (count_of count items) items) (tally_outcome tally o) value new
           by_stop None to = tt
           by_stop (Some fault) to = λ w s. (let at = to w s in (at.0, (at.1, at.2), at.3))

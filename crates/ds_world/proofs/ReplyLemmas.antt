@@ -28,7 +28,7 @@ pub over_one : (event : Event) (outcome : Outcome) (old new : WorldRecord) → I
 over_one (Ask side command) (Replied reply) old new told = same old new told.1.1
 over_one (Ask side command) (Made k) old new told = (told.1.reply ∷ [], told.1.kept)
 over_one (Ask side command) (MapMade j) old new told = same old new told.1
-over_one (Ask side command) (Merged done taken stale owed) old new told = same old new told.1
+over_one (Ask side command) (Merged counted owed) old new told = same old new told.1
 over_one (Ask side command) (Stopped done fault owed) old new told = same old new told.1
 over_one (Ask side command) Cleared old new told = same old new told.1
 over_one (Ask side command) Restarted old new told = same old new told.1

@@ -95,7 +95,7 @@ under_few q (i ∷ items) = by_test (passes (is_under q) i) refl (under_few q it
 module _ (old new : SubMapRecord) (items : List Item) (query : new.query ≡ old.query) where
   -- all items were done
   pub took : (count : Count) → IsTop (held_items new.held) (held_items old.held ++ under (is_under old.query) items) → AreCounted old.query old.held items new.held count
-      → MapTakes (map_state old) items (record { done = count.done; taken = count.taken; stale = count.stale; owed = 0; stop = None }) (map_state new)
+      → MapTakes (map_state old) items (record { count = count; owed = 0; stop = None }) (map_state new)
   took count top n =
       record {
         query = query;

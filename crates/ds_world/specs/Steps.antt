@@ -29,7 +29,7 @@ LastOf a b side command reply = (w : World) → ContentStands a w.a → ContentS
 abbrev pub ItemsAreTaken : ContentRecord → List Item → Tally → ContentRecord → Type 0
 ItemsAreTaken old items tally new =
     (s : State) → ContentStands old s →
-    (t : State) × StoreTakes s items tally t × ContentStands new t × IsWantLast items tally.done tally.stop t
+    (t : State) × StoreTakes s items tally t × ContentStands new t × IsWantLast items tally.count.done tally.stop t
 
 -- these are so many of the first items, or all, and there are as many
 abbrev pub AreFirstItems : Option ℕ → List Item → List Item → Type 0

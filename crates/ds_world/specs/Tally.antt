@@ -15,7 +15,7 @@ use Rattle.ds_world.specs.declared.tally.Tally.{Tally}
 
 -- the tally as the definitions of deliveries have it
 abbrev pub tally_of : Tally → deliveries.Tally
-tally_of t = record { done = t.done; taken = t.taken; stale = t.stale; owed = t.owed; stop = t.stop }
+tally_of t = record { count = t.count; owed = t.owed; stop = t.stop }
 
 -- an item is refused by a map as a store would refuse it
 abbrev pub refusal_of : JoinFault → Refusal

@@ -46,7 +46,7 @@ IsStoreTold event side items outcome old new = Unit {0}
 -- the map took all items, and so many of them took effect and so many were stale; or it took the first ones, and the next one
 -- is refused by this fault, as the map's own contract says
 abbrev pub IsMapTold : Query → Holding → List Item → Outcome → Holding → Type 0
-IsMapTold query old items (Merged done taken stale owed) new = AreCounted query old items new (record { done = done; taken = taken; stale = stale })
+IsMapTold query old items (Merged counted owed) new = AreCounted query old items new counted
 IsMapTold query old items (Stopped done fault owed) new =
     (stop : JoinFault) × (fault ≡ refusal_of stop) × IsTakeStopped query old items new (record { done = done; fault = stop })
 IsMapTold query old items _ new = Unit {0}

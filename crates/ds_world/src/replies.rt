@@ -1,12 +1,13 @@
-//! What a reply gives, and which commands get such replies.
+//! Which commands get replies with items, and how these are kept as messages.
 
-ghost use Rattle.std.specs.Prelude.{◌≡◌, None, Some, is_some, IfSome, IfNone};
-ghost use Rattle.std.specs.Option.{option_copied};
+ghost use Rattle.std.specs.Prelude.{◌≡◌, ◌<◌, ◌++◌, ◌∷◌, [], None, Some, is_some, length, vec_capacity, IfSome, IfNone};
+ghost use Rattle.ds_message.specs.Lent.{items_lent};
 ghost use Rattle.ds_replica.specs.Happens.{gives_items, items_given};
 ghost use Rattle.ds_world.specs.World.{kept_items};
 
-use ds_entry::{Item, Items};
 use ds_machine::{Command, Reply};
+use ds_message::{Lent, Message};
+use std::alloc::Global;
 
 // Whether what a store gives to the command is kept as a message.
 pub(crate) fn gives_items(command: &Command) -> bool
@@ -37,31 +38,22 @@ pub(crate) fn has_items(reply: &Reply) -> bool
     )
 }
 
-// The items of a reply, `None` where it has none.
-fn items_of(reply: &Reply) -> Option<&Items>
-    ensures { option_copied result ≡ items_given reply.now }
-{
-    match reply {
-        Reply::Checked { items, .. } => Some(items),
-        Reply::Journaled(since) => Some(&since.items),
-        Reply::Snapped(snapshot) => Some(&snapshot.items),
-        Reply::Paged(page) => Some(&page.items),
-        Reply::Changed { .. }
-        | Reply::Known
-        | Reply::Swept { .. }
-        | Reply::Found(_)
-        | Reply::Named(_)
-        | Reply::Subscribed { .. }
-        | Reply::Merged { .. }
-        | Reply::MergeStopped { .. }
-        | Reply::Refused(_) => None,
-    }
-}
-
 // The items of the message of a number, `None` where there is no such message.
-pub(crate) fn items_at(messages: &[Reply], number: usize) -> Option<&[Item]>
-    ensures some { IfSome result (λ items. kept_items messages.now number ≡ Some items.now) }
+pub(crate) fn items_at(messages: &[Message], number: usize) -> Option<Lent<'_>>
+    ensures some { IfSome result (λ items. kept_items messages.now number ≡ Some (items_lent items)) }
     ensures none { IfNone result (kept_items messages.now number ≡ None) }
 {
-    Some(items_of(messages.get(number)?)?.as_slice())
+    messages.get(number)?.items()
+}
+
+// Keeps a reply as one more message, for which there is room. The one before it, which was told, is packed.
+pub(crate) fn keep(alloc: Global, messages: &mut Vec<Message>, reply: Reply)
+    requires { length messages.old.items < vec_capacity messages.old }
+    ensures { messages.new.items ≡ messages.old.items ++ reply ∷ [] }
+{
+    let count = messages.len();
+    if count > 0 {
+        messages[count - 1].pack(alloc);
+    }
+    messages.push_reserved(Message::of(reply));
 }

@@ -5,18 +5,15 @@ ghost use Rattle.ds_replica.specs.Delivery.{ended};
 ghost use Rattle.ds_replica.specs.Happens.{tally_outcome};
 ghost use Rattle.ds_world.specs.Tally.{tally_of, refusal_of, fault_of};
 
-use ds_join::JoinFault;
+use ds_join::{Count, JoinFault};
 use ds_machine::Refusal;
 use ds_pattern::PatternFault;
 use ds_replica::{EventFault, Outcome};
 
-// How many items of a delivery were done, taken and stale, the mask of the subscriptions to which something is owed, and
-// what stopped it.
+// How the items of a delivery are counted, the mask of the subscriptions to which something is owed, and what stopped it.
 #[derive(Clone, Copy, Drop)]
 pub(crate) struct Tally {
-    pub(crate) done: usize,
-    pub(crate) taken: usize,
-    pub(crate) stale: usize,
+    pub(crate) count: Count,
     pub(crate) owed: u128,
     pub(crate) stop: Option<Refusal>,
 }
@@ -27,9 +24,11 @@ impl Tally {
         ensures { tally_of result ≡ ended done owed stop }
     {
         Tally {
-            done,
-            taken: 0,
-            stale: 0,
+            count: Count {
+                done,
+                taken: 0,
+                stale: 0,
+            },
             owed,
             stop,
         }
@@ -41,13 +40,11 @@ impl Tally {
     {
         match self.stop {
             None => Outcome::Merged {
-                done: self.done,
-                taken: self.taken,
-                stale: self.stale,
+                count: self.count,
                 owed: self.owed,
             },
             Some(fault) => Outcome::Stopped {
-                done: self.done,
+                done: self.count.done,
                 fault,
                 owed: self.owed,
             },

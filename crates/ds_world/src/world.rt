@@ -16,7 +16,8 @@ ghost use Rattle.ds_world.specs.Laws.{LawsHold};
 use crate::events::Events;
 use crate::fault::{SeedFault, WorldFault};
 use crate::outcomes::Outcomes;
-use ds_machine::{Reply, answers_say};
+use ds_machine::answers_say;
+use ds_message::Message;
 use ds_replica::{Event, Outcome, Seed, Side};
 use ds_store::Store;
 use ds_submap::SubMap;
@@ -40,7 +41,7 @@ pub struct World {
     a: Store,
     b: Store,
     maps: Vec<SubMap>,
-    messages: Vec<Reply>,
+    messages: Vec<Message>,
 }
 
 impl Model for World {
@@ -189,10 +190,10 @@ impl World {
     }
 
     /// The message of a number, which is the reply that a store gave, with its items: `Checked`, `Journaled`, `Snapped` or
-    /// `Paged`, and no other. `None` where there is no such message.
-    pub fn message(&self, number: usize) -> Option<&Reply>
+    /// `Paged`, and no other. `None` where there is no such message. The last one isn't packed.
+    pub fn message(&self, number: usize) -> Option<&Message>
         ensures is { option_copied result ≡ slice_get self.now.messages number }
-        ensures items { IfSome result (λ reply. HasItems reply.now) }
+        ensures items { IfSome result (λ message. HasItems message.now) }
     {
         self.messages.get(number)
     }

@@ -4,11 +4,13 @@
 //! this project.
 #![tactic(auto)]
 
+mod message;
 mod outcome;
 mod reply;
 mod shown;
 mod wording;
 
+pub use message::append_message;
 pub use outcome::{append_outcome, append_ring, append_side};
 pub use reply::{append_noroom, append_reply, write_reply};
 pub use wording::Wording;

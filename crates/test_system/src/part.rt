@@ -104,7 +104,7 @@ fn tell_all(
 ) -> Result<(), NoRoom> {
     for index in 0..outcomes.len() {
         if let Some(outcome) = outcomes.get(index) {
-            tell_outcome(text, world, outcome)?;
+            tell_outcome(text, alloc, world, outcome)?;
         }
     }
     tell_entries(text, alloc, world, 0)?;

@@ -15,7 +15,7 @@ use service_words::{
     append_table_fault,
 };
 use std::alloc::Global;
-use store_words::{Wording, append_outcome, append_reply};
+use store_words::{Wording, append_message, append_outcome, append_reply};
 
 /// Puts a line behind a text.
 pub(crate) fn tell(text: &mut Vec<u8>, words: &[&[u8]]) -> Result<(), NoRoom> {
@@ -26,6 +26,7 @@ pub(crate) fn tell(text: &mut Vec<u8>, words: &[&[u8]]) -> Result<(), NoRoom> {
 /// What came of an event. A message is told by what the store gave.
 pub(crate) fn tell_outcome(
     text: &mut Vec<u8>,
+    alloc: Global,
     world: &World,
     outcome: &SystemOutcome,
 ) -> Result<(), NoRoom> {
@@ -35,7 +36,7 @@ pub(crate) fn tell_outcome(
             append_reply(text, Wording::AsOffer, reply, Limits::larger())
         }
         SystemOutcome::Moved { rounds, own, fault } => tell_moved(text, rounds, own, fault),
-        SystemOutcome::Happened(outcome) => tell_happened(text, world, outcome),
+        SystemOutcome::Happened(outcome) => tell_happened(text, alloc, world, outcome),
         SystemOutcome::Refused(SystemFault::Service(fault)) => append_rs_fault(text, *fault),
         SystemOutcome::Refused(fault) => tell(text, &[b"refused ", word_of(*fault)]),
     }
@@ -90,10 +91,10 @@ fn tell_round(text: &mut Vec<u8>, round: &Moves) -> Result<(), NoRoom> {
     append_move_count(text, round.len())
 }
 
-fn tell_happened(text: &mut Vec<u8>, world: &World, outcome: &Outcome) -> Result<(), NoRoom> {
-    if let Outcome::Made { message } = outcome {
-        if let Some(reply) = world.message(*message) {
-            return append_reply(text, Wording::AsMerge, reply, Limits::larger());
+fn tell_happened(text: &mut Vec<u8>, alloc: Global, world: &World, outcome: &Outcome) -> Result<(), NoRoom> {
+    if let Outcome::Made { message: number } = outcome {
+        if let Some(message) = world.message(*number) {
+            return append_message(alloc, text, Wording::AsMerge, message, Limits::larger());
         }
     }
     append_outcome(text, Wording::AsMerge, outcome, Limits::larger())

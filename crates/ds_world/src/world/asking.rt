@@ -16,7 +16,7 @@ ghost use Rattle.ds_world.specs.Steps.{StoreSteps, LastOf};
 ghost use Rattle.ds_world.specs.Told.{IsAskTold, IsTold};
 
 use crate::parts::{read_item, read_parts};
-use crate::replies::{gives_items, has_items};
+use crate::replies::{gives_items, has_items, keep};
 use crate::world::World;
 use ds_entry::Item;
 use ds_machine::{Command, Reply};
@@ -110,7 +110,7 @@ impl World {
         };
         let reply = apply(&mut self.a, &mut self.b, side, command);
         if has_items(&reply) {
-            self.messages.push_reserved(reply);
+            keep(self.alloc, &mut self.messages, reply);
             return Outcome::Made { message };
         }
         Outcome::Replied(reply)

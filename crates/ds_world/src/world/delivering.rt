@@ -21,6 +21,7 @@ use crate::replies::items_at;
 use crate::tally::{Tally, refusal_of};
 use crate::world::World;
 use ds_entry::Item;
+use ds_join::Count;
 use ds_machine::Reply;
 use ds_names::limits::MOST_ITEMS;
 use ds_replica::{EventFault, Holder, Outcome, Side};
@@ -28,73 +29,97 @@ use ds_store::Store;
 use ds_submap::SubMap;
 use std::alloc::Global;
 
-// Asks a store to merge items.
-fn merge_group(store: &mut Store, group: &[Item]) -> Reply
-    ensures step { (s : State) → ContentStands store.old s → (t : State) × Step s (Merge group.now) result t × ContentStands store.new t }
-    ensures last { (s : State) → ContentStands store.old s → IsLast s (Merge group.now) result }
-    ensures counted { IsCounted (length group.now) result }
+// Asks a store to merge a group of items.
+fn merge_group(store: &mut Store, group: &[Item]) -> Tally
+    requires { length group.now ≤ most_items }
+    ensures takes { ItemsAreTaken store.old group.now (tally_of result) store.new }
+    ensures counted { AreCounted (tally_of result) (length group.now) }
 {
     let _stood = store.cursor();
-    store.merge(group)
-}
-
-// The items go to a store, as Merges of at most 256. Nothing is asked after one that was stopped.
-fn merge_all(store: &mut Store, items: &[Item]) -> Tally
-    ensures takes { ItemsAreTaken store.old items.now (tally_of result) store.new }
-    ensures within { (result.done ≤ length items.now) × (result.taken + result.stale ≤ result.done) }
-{
-    if items.is_empty() {
-        return Tally::ended(0, 0, None);
-    }
-    let (group, others) = items.split_at(MOST_ITEMS.min(items.len()));
-    match merge_group(store, group) {
+    match store.merge(group) {
         Reply::Merged {
+            done,
             taken,
             stale,
             owed,
-            ..
-        } => {
-            let later = merge_all(store, others);
-            Tally {
-                done: group.len() + later.done,
-                taken: taken + later.taken,
-                stale: stale + later.stale,
-                owed: owed | later.owed,
-                stop: later.stop,
-            }
-        }
+        } => Tally {
+            count: Count { done, taken, stale },
+            owed,
+            stop: None,
+        },
         Reply::MergeStopped { done, fault, owed } => Tally::ended(done, owed, Some(fault)),
         Reply::Refused(fault) => Tally::ended(0, 0, Some(fault)),
         _ => unreachable!(),
     }
 }
 
-// A map takes items.
-fn take_all(alloc: Global, map: &mut SubMap, items: &[Item]) -> Tally
-    ensures takes { MapTakes (map_state map.old) items.now (tally_of result) (map_state map.new) }
-    ensures told { IsMapTold map.old.query map.old.held items.now (tally_outcome (tally_of result) result.stop) map.new.held }
+// The items go to a store, as Merges of at most 256. Nothing is asked after one that was stopped.
+fn merge_slice(store: &mut Store, items: &[Item]) -> Tally
+    ensures { ItemsAreTaken store.old items.now (tally_of result) store.new }
+{
+    let mut tally = Tally::ended(0, 0, None);
+    let mut left = items;
+    while tally.stop.is_none() && !left.is_empty() {
+        let (group, others) = left.split_at(MOST_ITEMS.min(left.len()));
+        tally.add(merge_group(store, group));
+        left = others;
+    }
+    tally
+}
+
+// Items that are packed go to a store, as a Merge of each. Nothing is asked after one that was stopped.
+fn merge_packed(store: &mut Store, mut items: Unpacking<'_>) -> Tally
+    ensures { ItemsAreTaken store.old items.entry (tally_of result) store.new }
+{
+    let mut tally = Tally::ended(0, 0, None);
+    while let Some(item) = items.next() {
+        tally.add(merge_group(store, slice::from_ref(&item)));
+        drop(item);
+        if tally.stop.is_some() {
+            break;
+        }
+    }
+    tally
+}
+
+// The items of a message go to a store.
+fn merge_all(store: &mut Store, items: Lent<'_>) -> Tally
+    ensures { ItemsAreTaken store.old (items_lent items.entry) (tally_of result) store.new }
+{
+    match items {
+        Lent::Whole(items) => merge_slice(store, items),
+        Lent::Packed(items) => merge_packed(store, items),
+    }
+}
+
+// They go to a map.
+fn take(alloc: Global, map: &mut SubMap, items: Lent<'_>) -> Result<Count, Stop>
+    ensures joined { JoinsUnder map.old.query map.old.held (done_items result (items_lent items.entry)) map.new.held }
+    ensures counted { IfOk result (AreCounted map.old.query map.old.held (items_lent items.entry) map.new.held) }
+    ensures stopped { IfErr result (IsTakeStopped map.old.query map.old.held (items_lent items.entry) map.new.held) }
+    ensures query { map.new.query ≡ map.old.query }
+{
+    match items {
+        Lent::Whole(items) => map.take_slice(alloc, items),
+        Lent::Packed(items) => map.take_packed(alloc, items),
+    }
+}
+
+fn take_all(alloc: Global, map: &mut SubMap, items: Lent<'_>) -> Tally
+    ensures takes { MapTakes (map_state map.old) (items_lent items.entry) (tally_of result) (map_state map.new) }
+    ensures told { IsMapTold map.old.query map.old.held (items_lent items.entry) (tally_outcome (tally_of result) result.stop) map.new.held }
     ensures map { IsMap map.new }
 {
-    let taken = map.take_slice(alloc, items);
+    let taken = take(alloc, map, items);
     let _held = map.held();
     match taken {
         Ok(count) => Tally {
-            done: count.done,
-            taken: count.taken,
-            stale: count.stale,
+            count,
             owed: 0,
             stop: None,
         },
         Err(stop) => Tally::ended(stop.done, 0, Some(refusal_of(stop.fault))),
     }
-}
-
-// The items of a message that go to a holder: so many of the first, or all. `None` where there are fewer.
-fn first_of(items: &[Item], count: Option<usize>) -> Option<&[Item]>
-    ensures some { IfSome result (λ first. AreFirstItems count items.now first.now) }
-    ensures none { IfNone result (length items.now < count_of count items.now) }
-{
-    items.get(..count.unwrap_or(items.len()))
 }
 
 impl World {
@@ -122,7 +147,7 @@ impl World {
         let Some(items) = items_at(&self.messages, message) else {
             return Outcome::Refused(EventFault::NoMessage);
         };
-        let Some(first) = first_of(items, count) else {
+        let Some(first) = items.first(count) else {
             return Outcome::Refused(EventFault::TooMany);
         };
         let tally = match side {
@@ -143,7 +168,7 @@ impl World {
         if map >= self.maps.len() {
             return Outcome::Refused(EventFault::NoMap);
         }
-        let Some(first) = first_of(items, count) else {
+        let Some(first) = items.first(count) else {
             return Outcome::Refused(EventFault::TooMany);
         };
         take_all(self.alloc, &mut self.maps[map], first).outcome()

@@ -16,7 +16,7 @@ returns-in-Merged-clause-takes t c =
     let at = m.ensures.step s stands in
     let later = c.merge_all-later.ensures.takes at.0 at.2 in
     let all = takes_more s at.0 c.args.items.now group others is (omega (arith, c.split_at.ensures.front_len)) m.done m.taken m.stale m.owed (tally_of c.merge_all-later.result) later.0 m.ensures.counted.0 at.1 later.1 in
-    let want = subst (λ (l : List Item). IsWantLast l (length group + c.merge_all-later.result.done) c.merge_all-later.result.stop later.0) is (later_want group others c.merge_all-later.result.done c.merge_all-later.result.stop later.0 later.3) in
+    let want = subst (λ (l : List Item). IsWantLast l (length group + c.merge_all-later.result.count.done) c.merge_all-later.result.stop later.0) is (later_want group others c.merge_all-later.result.count.done c.merge_all-later.result.stop later.0 later.3) in
     (later.0, all, later.2, want))
 
 pub returns-in-MergeStopped-clause-takes : goal.returns-in-MergeStopped-clause-takes
@@ -31,4 +31,4 @@ returns-in-MergeStopped-clause-takes t c =
     let all = takes_stopped s at.0 c.args.items.now group others is (omega (arith, c.split_at.ensures.front_len)) m.done m.owed m.fault (tally_of ends.result) ends.ensures at.1 in
     let stopped = stopped_want s at.0 group others m.done m.owed m.fault at.1 (m.ensures.last s stands) in
     let want = subst (λ (l : List Item). IsWantLast l m.done (Some m.fault) at.0) is stopped in
-    (at.0, all, at.2, subst (λ (t : Tally). IsWantLast c.args.items.now t.done t.stop at.0) (sym ends.ensures) want))
+    (at.0, all, at.2, subst (λ (t : Tally). IsWantLast c.args.items.now t.count.done t.stop at.0) (sym ends.ensures) want))
