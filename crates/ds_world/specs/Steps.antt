@@ -1,5 +1,5 @@
 -- What is asked of a world's stores, and what they make of it.
-use Rattle.std.specs.Prelude.{◌≡◌, ℕ, ◌≤◌, List, length, take, Option}
+use Rattle.std.specs.Prelude.{List}
 use Rattle.ds_entry.specs.declared.item.Item.{Item}
 use Rattle.ds_machine.specs.State.{State}
 use Rattle.ds_machine.specs.Machine.{Step}
@@ -10,7 +10,6 @@ use Rattle.ds_content.specs.Content.{ContentRecord}
 use Rattle.ds_content.specs.Stands.{ContentStands}
 use Rattle.ds_replica.specs.declared.event.Side.{Side}
 use Rattle.ds_replica.specs.Delivery.{Tally, StoreTakes}
-use Rattle.ds_replica.specs.Happens.{count_of}
 use Rattle.ds_replica.specs.World.{World, store_at, with_state}
 use Rattle.ds_world.specs.Told.{IsWantLast}
 
@@ -30,7 +29,3 @@ abbrev pub ItemsAreTaken : ContentRecord → List Item → Tally → ContentReco
 ItemsAreTaken old items tally new =
     (s : State) → ContentStands old s →
     (t : State) × StoreTakes s items tally t × ContentStands new t × IsWantLast items tally.count.done tally.stop t
-
--- these are so many of the first items, or all, and there are as many
-abbrev pub AreFirstItems : Option ℕ → List Item → List Item → Type 0
-AreFirstItems count items first = (first ≡ take (count_of count items) items) × (count_of count items ≤ length items)

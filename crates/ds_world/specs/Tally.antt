@@ -1,5 +1,6 @@
 -- How a delivery is counted, and what a fault of a map is to a world.
-use Rattle.std.specs.Prelude.{◌≡◌, ℕ, ◌+◌, ◌<◌, ◌≤◌}
+use Rattle.std.specs.Prelude.{◌≡◌, ℕ, ◌+◌, ◌<◌, ◌≤◌, ◌^◌, None}
+use Rattle.std.specs.Int.Bits.{bit_or}
 use Rattle.ds_join.specs.declared.merge.JoinFault.{JoinFault}
 use Rattle.ds_join.specs.declared.merge.JoinFault.TheVariants as joins
 use Rattle.ds_machine.specs.declared.refusal.Refusal.{Refusal}
@@ -16,6 +17,26 @@ use Rattle.ds_world.specs.declared.tally.Tally.{Tally}
 -- the tally as the definitions of deliveries have it
 abbrev pub tally_of : Tally → deliveries.Tally
 tally_of t = record { count = t.count; owed = t.owed; stop = t.stop }
+
+-- what was done before the others, which weren't reached where it was stopped, and those; a mask of both has the bits of either
+abbrev pub joined : deliveries.Tally → deliveries.Tally → deliveries.Tally
+joined t u = record {
+  count = deliveries.counting (t.count.done + u.count.done) (t.count.taken + u.count.taken) (t.count.stale + u.count.stale);
+  owed = bit_or t.owed u.owed;
+  stop = u.stop;
+}
+
+-- both can be counted together
+pub record CanJoin (t u : deliveries.Tally) : Type 0 where
+  pub done : t.count.done + u.count.done < 2 ^ 64
+  pub taken : t.count.taken + u.count.taken < 2 ^ 64
+  pub stale : t.count.stale + u.count.stale < 2 ^ 64
+
+-- of so many items as many are done, or fewer where they were stopped, and no more are taken and stale than are done
+pub record CountsOf (n : ℕ) (t : deliveries.Tally) : Type 0 where
+  pub all : t.stop ≡ None → t.count.done ≡ n
+  pub few : t.count.done ≤ n
+  pub within : t.count.taken + t.count.stale ≤ t.count.done
 
 -- an item is refused by a map as a store would refuse it
 abbrev pub refusal_of : JoinFault → Refusal

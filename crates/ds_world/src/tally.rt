@@ -3,7 +3,7 @@
 ghost use Rattle.std.specs.Prelude.{◌≡◌, None};
 ghost use Rattle.ds_replica.specs.Delivery.{ended};
 ghost use Rattle.ds_replica.specs.Happens.{tally_outcome};
-ghost use Rattle.ds_world.specs.Tally.{tally_of, refusal_of, fault_of};
+ghost use Rattle.ds_world.specs.Tally.{tally_of, joined, refusal_of, fault_of, CanJoin};
 
 use ds_join::{Count, JoinFault};
 use ds_machine::Refusal;
@@ -32,6 +32,18 @@ impl Tally {
             owed,
             stop,
         }
+    }
+
+    // Counts what followed as well.
+    pub(crate) fn add(&mut self, later: &Tally)
+        requires { CanJoin (tally_of self.old) (tally_of later.now) }
+        ensures { tally_of self.new ≡ joined (tally_of self.old) (tally_of later.now) }
+    {
+        self.count.done += later.count.done;
+        self.count.taken += later.count.taken;
+        self.count.stale += later.count.stale;
+        self.owed |= later.owed;
+        self.stop = later.stop;
     }
 
     // The outcome of the delivery.

@@ -1,39 +1,40 @@
 //! How items of a message go to a holder.
 
-ghost use Rattle.std.specs.Prelude.{◌<◌, ◌≤◌, ◌+◌, length, IfSome, IfNone};
-ghost use Rattle.ds_machine.specs.State.{State};
-ghost use Rattle.ds_machine.specs.Machine.{Step};
-ghost use Rattle.ds_machine.specs.declared.command.Command.TheVariants.{Merge};
-ghost use Rattle.ds_judge.specs.Last.{IsLast};
+ghost use Rattle.std.specs.Prelude.{◌≡◌, ◌≤◌, length, IfErr, IfOk};
+ghost use Rattle.ds_names.specs.Limits.{most_items};
 ghost use Rattle.ds_submap.specs.Map.{IsMap};
-ghost use Rattle.ds_content.specs.Stands.{ContentStands};
+ghost use Rattle.ds_submap.specs.Take.{done_items, AreCounted, IsTakeStopped, JoinsUnder};
+ghost use Rattle.ds_message.specs.Lent.{items_lent};
 ghost use Rattle.ds_replica.specs.declared.event.Event.TheVariants.{Deliver};
 ghost use Rattle.ds_replica.specs.declared.event.Holder.TheVariants.{Store as OfStore, Map as OfMap};
 ghost use Rattle.ds_replica.specs.Delivery.{MapTakes};
-ghost use Rattle.ds_replica.specs.Happens.{count_of, tally_outcome};
+ghost use Rattle.ds_replica.specs.Happens.{tally_outcome};
 ghost use Rattle.ds_world.specs.World.{map_state};
-ghost use Rattle.ds_world.specs.Tally.{tally_of, IsCounted};
+ghost use Rattle.ds_world.specs.Tally.{tally_of, CountsOf};
 ghost use Rattle.ds_world.specs.Told.{IsMapTold, IsTold};
-ghost use Rattle.ds_world.specs.Steps.{ItemsAreTaken, AreFirstItems};
+ghost use Rattle.ds_world.specs.Steps.{ItemsAreTaken};
 ghost use Rattle.ds_world.specs.Run.{EventLeads};
 
 use crate::replies::items_at;
 use crate::tally::{Tally, refusal_of};
 use crate::world::World;
 use ds_entry::Item;
-use ds_join::Count;
+use ds_join::{Count, Stop};
 use ds_machine::Reply;
+use ds_message::Lent;
 use ds_names::limits::MOST_ITEMS;
+use ds_packed::Unpacking;
 use ds_replica::{EventFault, Holder, Outcome, Side};
 use ds_store::Store;
 use ds_submap::SubMap;
 use std::alloc::Global;
+use std::slice;
 
 // Asks a store to merge a group of items.
 fn merge_group(store: &mut Store, group: &[Item]) -> Tally
     requires { length group.now ≤ most_items }
     ensures takes { ItemsAreTaken store.old group.now (tally_of result) store.new }
-    ensures counted { AreCounted (tally_of result) (length group.now) }
+    ensures counted { CountsOf (length group.now) (tally_of result) }
 {
     let _stood = store.cursor();
     match store.merge(group) {
@@ -61,7 +62,7 @@ fn merge_slice(store: &mut Store, items: &[Item]) -> Tally
     let mut left = items;
     while tally.stop.is_none() && !left.is_empty() {
         let (group, others) = left.split_at(MOST_ITEMS.min(left.len()));
-        tally.add(merge_group(store, group));
+        tally.add(&merge_group(store, group));
         left = others;
     }
     tally
@@ -72,8 +73,9 @@ fn merge_packed(store: &mut Store, mut items: Unpacking<'_>) -> Tally
     ensures { ItemsAreTaken store.old items.entry (tally_of result) store.new }
 {
     let mut tally = Tally::ended(0, 0, None);
+    let _most = items.len();
     while let Some(item) = items.next() {
-        tally.add(merge_group(store, slice::from_ref(&item)));
+        tally.add(&merge_group(store, slice::from_ref(&item)));
         drop(item);
         if tally.stop.is_some() {
             break;

@@ -23,8 +23,8 @@ returns-then-has_items-clause-leads c =
     let many : length messages ≡ c.len-message.result = omega (arith, c.len-message.ensures, c.self.inside.messages.ok.0) in
     let few : length messages < 65536 = omega (arith, many, c.if-message-ge-MOST_MESSAGES.false) in
     let went = made c.self.inside.a c.self.inside.b a b maps messages c.args.side c.args.command reply c.apply-reply.ensures.step items.0 items.1 c.requires few in
-    let more = c.push_reserved.ensures.items ∙ ap (λ (l : List Reply). l ++ reply ∷ []) c.reserve.ensures.items in
-    subst (λ n. EventLeads ask (Made n) c.args.self.now (world_of a b maps c.push_reserved.new.self.items)) many
+    let more = c.keep.ensures ∙ ap (λ (l : List Reply). l ++ reply ∷ []) c.reserve.ensures.items in
+    subst (λ n. EventLeads ask (Made n) c.args.self.now (world_of a b maps c.keep.new.messages.items)) many
     (subst (λ (l : List Reply). EventLeads ask (Made (length messages)) c.args.self.now (world_of a b maps l)) (sym more)
     (subst (λ (v : WorldRecord). EventLeads ask (Made (length messages)) v (world_of a b maps (messages ++ reply ∷ []))) c.self.view_is went))
 
@@ -39,8 +39,8 @@ returns-then-has_items-clause-told c =
     let many : length messages ≡ c.len-message.result = omega (arith, c.len-message.ensures, c.self.inside.messages.ok.0) in
     let few : length messages < 65536 = omega (arith, many, c.if-message-ge-MOST_MESSAGES.false) in
     let told = made_so c.self.inside.a c.self.inside.b a b maps messages c.args.side c.args.command reply c.apply-reply.ensures.step items.0 items.1 c.requires few c.apply-reply.ensures.last in
-    let more = c.push_reserved.ensures.items ∙ ap (λ (l : List Reply). l ++ reply ∷ []) c.reserve.ensures.items in
-    subst (λ n. IsAskTold c.args.side c.args.command (Made n) c.args.self.now (world_of a b maps c.push_reserved.new.self.items)) many
+    let more = c.keep.ensures ∙ ap (λ (l : List Reply). l ++ reply ∷ []) c.reserve.ensures.items in
+    subst (λ n. IsAskTold c.args.side c.args.command (Made n) c.args.self.now (world_of a b maps c.keep.new.messages.items)) many
     (subst (λ (l : List Reply). IsAskTold c.args.side c.args.command (Made (length messages)) c.args.self.now (world_of a b maps l)) (sym more)
     (subst (λ (v : WorldRecord). IsAskTold c.args.side c.args.command (Made (length messages)) v (world_of a b maps (messages ++ reply ∷ []))) c.self.view_is told))
 
@@ -101,7 +101,7 @@ pub invariant_of-self-then-has_items : goal.invariant_of-self-then-has_items
 invariant_of-self-then-has_items c =
     let messages = c.self.inside.messages.items in
     let reply = c.apply-reply.result in
-    let more = c.push_reserved.ensures.items ∙ ap (λ (l : List Reply). l ++ reply ∷ []) c.reserve.ensures.items in
+    let more = c.keep.ensures ∙ ap (λ (l : List Reply). l ++ reply ∷ []) c.reserve.ensures.items in
     (c.self.invariant.0, subst (All HasItems) (sym more) (All-push HasItems messages reply c.self.invariant.1 (sym c.if-has_items.ensures)))
 
 pub invariant_of-self-else-has_items : goal.invariant_of-self-else-has_items

@@ -10,6 +10,7 @@ use Rattle.ds_replica.specs.declared.event.Event.TheVariants.{Deliver}
 use Rattle.ds_replica.specs.declared.event.Holder.TheVariants.{Map}
 use Rattle.ds_replica.specs.declared.outcome.Outcome.{Outcome}
 use Rattle.ds_machine.specs.declared.reply.Reply.{Reply}
+use Rattle.ds_message.specs.Lent.{items_lent}
 use Rattle.ds_world.specs.World.{WorldRecord, world_of, map_state, kept_items}
 use Rattle.ds_replica.specs.declared.outcome.Outcome.TheVariants.{Refused}
 use Rattle.ds_replica.specs.declared.outcome.EventFault.TheVariants.{NoMessage, NoMap, TooMany}
@@ -26,12 +27,12 @@ returns-clause-leads c =
     let count = c.args.count in
     let inside = c.self.inside in
     let value : WorldRecord = world_of inside.a inside.b inside.maps.items inside.messages.items in
-    let items = c.in-Some.items.now in
+    let items = items_lent c.in-Some.items in
     let there : kept_items value.messages k ≡ Some items = subst (λ (l : List Reply). kept_items l k ≡ Some items) c.deref.ensures.value c.in-Some.ensures.some in
     let old = c.index_mut.result.now in
     let within : j < length inside.maps.items = omega (arith, c.if-map-len.false, c.len.ensures, inside.maps.ok.0) in
     let map_there : slice_get value.maps j ≡ Some old = slice_get_read value.maps (length value.maps) j old refl within c.index_mut.ensures.value in
-    let first = c.in-Some-first_of.ensures.some in
+    let first = c.in-Some-first.ensures.some in
     let taken = subst (λ (l : List Item). MapTakes (map_state old) l (tally_of c.take_all.result) (map_state c.take_all.new.map)) first.0 c.take_all.ensures.takes in
     let by_event = Deliver k (Map j) count in
     let new : WorldRecord = record value { maps = slice_set value.maps j c.take_all.new.map } in
@@ -45,14 +46,14 @@ returns-clause-told c =
     let count = c.args.count in
     let inside = c.self.inside in
     let value : WorldRecord = world_of inside.a inside.b inside.maps.items inside.messages.items in
-    let items = c.in-Some.items.now in
+    let items = items_lent c.in-Some.items in
     let there : kept_items value.messages k ≡ Some items = subst (λ (l : List Reply). kept_items l k ≡ Some items) c.deref.ensures.value c.in-Some.ensures.some in
     let old = c.index_mut.result.now in
     let within : j < length inside.maps.items = omega (arith, c.if-map-len.false, c.len.ensures, inside.maps.ok.0) in
     let map_there : slice_get value.maps j ≡ Some old = slice_get_read value.maps (length value.maps) j old refl within c.index_mut.ensures.value in
     let taken = c.take_all.new.map in
     let tally = c.take_all.result in
-    let told = subst (λ (l : List Item). IsMapTold old.query old.held l (tally_outcome (tally_of tally) tally.stop) taken.held) c.in-Some-first_of.ensures.some.0 c.take_all.ensures.told in
+    let told = subst (λ (l : List Item). IsMapTold old.query old.held l (tally_outcome (tally_of tally) tally.stop) taken.held) c.in-Some-first.ensures.some.0 c.take_all.ensures.told in
     let new : WorldRecord = record value { maps = slice_set value.maps j taken } in
     subst (λ (v : WorldRecord). IsTold (Deliver k (Map j) count) c.outcome.result v new) c.self.view_is
     (subst (λ (o : Outcome). IsTold (Deliver k (Map j) count) o value new) (sym c.outcome.ensures) (map_told value k j count items old taken (tally_outcome (tally_of tally) tally.stop) there map_there told))
@@ -71,23 +72,23 @@ returns-then-map-len-clause-leads c =
     let j = c.args.map in
     let inside = c.self.inside in
     let value : WorldRecord = world_of inside.a inside.b inside.maps.items inside.messages.items in
-    let items = c.in-Some.items.now in
+    let items = items_lent c.in-Some.items in
     let there : kept_items value.messages k ≡ Some items = subst (λ (l : List Reply). kept_items l k ≡ Some items) c.deref.ensures.value c.in-Some.ensures.some in
     let past : length inside.maps.items ≤ j = omega (arith, c.if-map-len.true, c.len.ensures, inside.maps.ok.0) in
     subst (λ (v : WorldRecord). EventLeads (Deliver k (Map j) c.args.count) (Refused NoMap) v v) c.self.view_is (no_map value k c.args.count items there j past)
 
-pub returns-in_default-first_of-clause-leads : goal.returns-in_default-first_of-clause-leads
-returns-in_default-first_of-clause-leads c =
+pub returns-in_default-first-clause-leads : goal.returns-in_default-first-clause-leads
+returns-in_default-first-clause-leads c =
     let k = c.args.message in
     let j = c.args.map in
     let inside = c.self.inside in
     let value : WorldRecord = world_of inside.a inside.b inside.maps.items inside.messages.items in
-    let items = c.in-Some.items.now in
+    let items = items_lent c.in-Some.items in
     let there : kept_items value.messages k ≡ Some items = subst (λ (l : List Reply). kept_items l k ≡ Some items) c.deref.ensures.value c.in-Some.ensures.some in
     let within : j < length inside.maps.items = omega (arith, c.if-map-len.false, c.len.ensures, inside.maps.ok.0) in
     let at = map_at value.maps j within in
     subst (λ (v : WorldRecord). EventLeads (Deliver k (Map j) c.args.count) (Refused TooMany) v v) c.self.view_is
-    (too_many_for_map value k c.args.count items there j at.0 at.1 c.in_default-first_of.ensures.none)
+    (too_many_for_map value k c.args.count items there j at.0 at.1 c.in_default-first.ensures.few)
 
 pub returns-in_default-clause-told : goal.returns-in_default-clause-told
 returns-in_default-clause-told c = map_refused c.args.self.now c.args.message c.args.map c.args.count NoMessage
@@ -95,8 +96,8 @@ returns-in_default-clause-told c = map_refused c.args.self.now c.args.message c.
 pub returns-then-map-len-clause-told : goal.returns-then-map-len-clause-told
 returns-then-map-len-clause-told c = map_refused c.args.self.now c.args.message c.args.map c.args.count NoMap
 
-pub returns-in_default-first_of-clause-told : goal.returns-in_default-first_of-clause-told
-returns-in_default-first_of-clause-told c = map_refused c.args.self.now c.args.message c.args.map c.args.count TooMany
+pub returns-in_default-first-clause-told : goal.returns-in_default-first-clause-told
+returns-in_default-first-clause-told c = map_refused c.args.self.now c.args.message c.args.map c.args.count TooMany
 
 pub invariant_of-self : goal.invariant_of-self
 invariant_of-self c = (All-set IsMap c.self.inside.maps.items c.args.map c.take_all.new.map c.take_all.ensures.map c.self.invariant.0, c.self.invariant.1)
