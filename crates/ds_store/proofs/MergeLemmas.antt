@@ -1,5 +1,5 @@
 -- How a merge goes on.
-use Rattle.std.proofs.Common.{◌≡◌, ℕ, zero, suc, ◌+◌, ◌-◌, ◌<◌, ◌≤◌, Bool, true, false, List, [], ◌∷◌, ◌++◌, map, length, take, drop, get_or, fold, replicate, Option, Some, None, Ok, Err, refl, ap, ap₂, sym, ◌∙◌, subst, inl, inr, arith, length-append, ◌⊎◌, ◌||◌}
+use Rattle.std.proofs.Common.{◌≡◌, ℕ, zero, suc, ◌+◌, ◌-◌, ◌<◌, ◌≤◌, Bool, false, List, [], ◌∷◌, ◌++◌, map, length, take, drop, get_or, fold, replicate, Option, Some, None, Ok, Err, refl, ap, ap₂, sym, ◌∙◌, subst, inl, inr, arith, length-append, ◌⊎◌, ◌||◌}
 use Rattle.std.proofs.lemmas.List.Sums.{fold_more, fold-append}
 use Rattle.std.proofs.lemmas.List.{take-append-drop, take_all, length-map}
 use Rattle.std.proofs.lemmas.List.Folds.{list_any-append}
@@ -7,6 +7,8 @@ use Rattle.std.proofs.lemmas.Option.{slice_get_within, slice_get_read, get_or_fr
 use Rattle.std.specs.Prelude.{slice_get}
 use Rattle.std.specs.Option.{option_map_or}
 use Rattle.ds_entry.specs.declared.item.Item.{Item}
+use Rattle.ds_join.specs.Count.{counted, none_counted, CanCountOne}
+use Rattle.ds_join.specs.declared.count.Count.{Count}
 use Rattle.ds_join.specs.declared.merge.Merge.{Merge}
 use Rattle.ds_join.specs.declared.merge.Merge.TheVariants.{Taken, Known, Stale}
 use Rattle.ds_watch.specs.Mask.{mask, either, padded}
@@ -30,40 +32,36 @@ use Rattle.ds_judge.specs.Last.{IsLast, MayLackItem}
 use Rattle.ds_content.specs.Content.{ContentRecord}
 use Rattle.ds_content.specs.Stands.{ContentStands}
 use Rattle.ds_content.proofs.EnterLemmas.{few_places}
-use Rattle.ds_store.specs.Merging.{MergesItem, StopsMerge, owed_after, count_taken, count_stale}
+use Rattle.ds_store.specs.Merging.{MergesItem, StopsMerge, owed_after}
 use Rattle.ds_names.specs.Limits.{most_items}
 use Rattle.ds_pattern.specs.Under.{is_under}
 use Rattle.ds_entry.specs.Item.{passes}
 
--- the counts of a merge that wasn't stopped
-pub record Reached (k : Course) (d n m : ℕ) : Type 0 where
-  pub stop : k.stop ≡ None
-  pub done : k.done ≡ d
-  pub taken : length k.taken ≡ n
-  pub stale : k.stale ≡ m
+-- how the items of a merge are counted, and of one that wasn't stopped
+abbrev counted_in : Course → Count
+counted_in k = record { done = k.done; taken = length k.taken; stale = k.stale }
 
-pub not_begun : (s : State) → Reached (begun s) 0 0 0
-not_begun s = record { stop = refl; done = refl; taken = refl; stale = refl }
+pub record Reached (k : Course) (n : Count) : Type 0 where
+  pub stop : k.stop ≡ None
+  pub count : counted_in k ≡ n
+
+pub not_begun : (s : State) → Reached (begun s) none_counted
+not_begun s = record { stop = refl; count = refl }
 
 pub judged : (k : Course) (c : Item) (o : Option Cause) → k.stop ≡ None → cause_of k.state c ≡ o → item_merged k c ≡ item_judged k c o
 judged k c o e f = ap₂ (λ stop x. option_map_or (λ (r : Refusal). k) stop (item_judged k c x)) e f
 
-pub item_done : (k : Course) (c : Item) (join : Merge) (t : State) (d n m : ℕ) → Reached k d n m → MergesItem k.state c (Ok join) t → Reached (item_merged k c) (d + 1) (n + count_taken join) (m + count_stale join) × ((item_merged k c).state ≡ t)
-item_done k c Taken t d n m r is =
-    subst (λ (x : Course). Reached x (d + 1) (n + 1) (m + 0) × (x.state ≡ t)) (sym (judged k c None r.stop is.0)) (
-      record { stop = r.stop; done = ap (λ x. x + 1) r.done; taken = omega (arith, r.taken, length-append k.taken (c ∷ [])); stale = omega (arith, r.stale) },
-      sym is.1,
-    )
-item_done k c Known t d n m r is =
-    subst (λ (x : Course). Reached x (d + 1) (n + 0) (m + 0) × (x.state ≡ t)) (sym (judged k c (Some causes.Known) r.stop is.0)) (
-      record { stop = r.stop; done = ap (λ x. x + 1) r.done; taken = omega (arith, r.taken); stale = omega (arith, r.stale) },
-      sym is.1,
-    )
-item_done k c Stale t d n m r is =
-    subst (λ (x : Course). Reached x (d + 1) (n + 0) (m + 1) × (x.state ≡ t)) (sym (judged k c (Some (causes.Refused refusals.Stale)) r.stop is.0)) (
-      record { stop = r.stop; done = ap (λ x. x + 1) r.done; taken = omega (arith, r.taken); stale = omega (arith, r.stale) },
-      sym is.1,
-    )
+pub item_done : (k : Course) (c : Item) (join : Merge) (t : State) (n : Count) → Reached k n → MergesItem k.state c (Ok join) t → Reached (item_merged k c) (counted n (Some join)) × ((item_merged k c).state ≡ t)
+item_done k c Taken t n r is =
+    let more : counted_in (item_judged k c None) ≡ counted n (Some Taken) =
+    ap (λ l. record { done = k.done + 1; taken = l; stale = k.stale }) (length-append k.taken (c ∷ [])) ∙ ap (λ m. counted m (Some Taken)) r.count in
+    subst (λ (x : Course). Reached x (counted n (Some Taken)) × (x.state ≡ t)) (sym (judged k c None r.stop is.0)) (record { stop = r.stop; count = more }, sym is.1)
+item_done k c Known t n r is =
+    subst (λ (x : Course). Reached x (counted n (Some Known)) × (x.state ≡ t)) (sym (judged k c (Some causes.Known) r.stop is.0))
+    (record { stop = r.stop; count = ap (λ m. counted m (Some Known)) r.count }, sym is.1)
+item_done k c Stale t n r is =
+    subst (λ (x : Course). Reached x (counted n (Some Stale)) × (x.state ≡ t)) (sym (judged k c (Some (causes.Refused refusals.Stale)) r.stop is.0))
+    (record { stop = r.stop; count = ap (λ m. counted m (Some Stale)) r.count }, sym is.1)
 
 pub course_more : (s : State) (items : List Item) (i : ℕ) (d : Item) → i < length items → course s (take (i + 1) items) ≡ item_merged (course s (take i items)) (get_or items i d)
 course_more s items i d l = fold_more item_merged (begun s) items i d l
@@ -97,20 +95,35 @@ pub next_course : (s : State) (items : List Item) (i : ℕ) (c : Item) → slice
 next_course s items i c at =
     course_more s items i c (slice_get_within items i c at) ∙ ap (item_merged (course s (take i items))) (get_or_from_slice_get items i c c at)
 
-pub next_reached : (s : State) (items : List Item) (i : ℕ) (c : Item) (join : Merge) (t : State) (n m x y : ℕ) → slice_get items i ≡ Some c → Reached (course s (take i items)) i n m → MergesItem (course s (take i items)).state c (Ok join) t → x ≡ count_taken join → y ≡ count_stale join
-    → Reached (course s (take (i + 1) items)) (i + 1) (n + x) (m + y) × (t ≡ (course s (take (i + 1) items)).state)
-next_reached s items i c join t n m x y at r is e f =
-    let same = next_course s items i c at in
-    let done = item_done (course s (take i items)) c join t i n m r is in (
-      rw (same, e, f) done.0,
+-- one more is done, and still one more can be counted
+pub one_more : (n m : Count) (join : Merge) → m ≡ counted n (Some join) → m.done ≡ n.done + 1
+one_more n m Taken e = ap (λ (x : Count). x.done) e
+one_more n m Known e = ap (λ (x : Count). x.done) e
+one_more n m Stale e = ap (λ (x : Count). x.done) e
+
+pub can_go_on : (n m : Count) (join : Merge) → m ≡ counted n (Some join) → n.done < most_items → CanCountOne n → CanCountOne m
+can_go_on n m Taken e few can = rw e (record { taken = omega (arith, can.taken); stale = omega (arith, can.stale); done = omega (arith, few) })
+can_go_on n m Known e few can = rw e (record { taken = omega (arith, can.taken); stale = omega (arith, can.stale); done = omega (arith, few) })
+can_go_on n m Stale e few can = rw e (record { taken = omega (arith, can.taken); stale = omega (arith, can.stale); done = omega (arith, few) })
+
+pub next_reached : (s : State) (items : List Item) (c : Item) (join : Merge) (t : State) (n m : Count) → slice_get items n.done ≡ Some c → Reached (course s (take n.done items)) n
+    → MergesItem (course s (take n.done items)).state c (Ok join) t → m ≡ counted n (Some join) → Reached (course s (take m.done items)) m × (t ≡ (course s (take m.done items)).state)
+next_reached s items c join t n m at r is e =
+    let same : course s (take m.done items) ≡ item_merged (course s (take n.done items)) c =
+    ap (λ k. course s (take k items)) (one_more n m join e) ∙ next_course s items n.done c at in
+    let done = item_done (course s (take n.done items)) c join t n r is in (
+      subst (λ (x : Count). Reached (course s (take m.done items)) x) (sym e) (subst (λ (k : Course). Reached k (counted n (Some join))) (sym same) done.0),
       sym done.1 ∙ ap (λ (k : Course). k.state) (sym same),
     )
 
 -- ---- the answers
-pub merge_stopped : (s : State) (items : List Item) (i : ℕ) (c : Item) (fault : Refusal) (t : State) (n m o : ℕ) → o ≡ owed s (course s (take i items)).taken → length items ≤ most_items → slice_get items i ≡ Some c
-    → Reached (course s (take i items)) i n m → MergesItem (course s (take i items)).state c (Err fault) t → Step s (Merges items) (MergeStopped i fault o) t
-merge_stopped s items i c fault t n m o owes few at r is = by_fault is.1
+pub merge_stopped : (s : State) (items : List Item) (c : Item) (fault : Refusal) (t : State) (n : Count) (o : ℕ) → o ≡ owed s (course s (take n.done items)).taken → length items ≤ most_items → slice_get items n.done ≡ Some c
+    → Reached (course s (take n.done items)) n → MergesItem (course s (take n.done items)).state c (Err fault) t → Step s (Merges items) (MergeStopped n.done fault o) t
+merge_stopped s items c fault t n o owes few at r is = by_fault is.1
   where
+    i : ℕ
+    i = n.done
+
     k : Course
     k = course s (take i items)
 
@@ -133,22 +146,22 @@ merge_stopped s items i c fault t n m o owes few at r is = by_fault is.1
         let there : course s items ≡ record k { stop = Some fault } =
         course_stopped s items i c fault (slice_get_within items i c at) r.stop (subst (λ (x : Item). StopsMerge k.state x fault) (sym this) stop) in
         let reply : (merging s items (first_refusal (against_merge (length items)))).0 ≡ MergeStopped i fault o =
-        ap (λ x. (merging s items x).0) (none_stands (length items) few) ∙ ap (merge_reply s) there ∙ ap₂ (λ d b. MergeStopped d fault b) r.done (sym nothing) in
+        ap (λ x. (merging s items x).0) (none_stands (length items) few) ∙ ap (merge_reply s) there ∙ ap₂ (λ (m : Count) b. MergeStopped m.done fault b) r.count (sym nothing) in
         let state : (merging s items (first_refusal (against_merge (length items)))).1 ≡ k.state =
         ap (λ x. (merging s items x).1) (none_stands (length items) few) ∙ ap (λ (x : Course). x.state) there in
         inl (inl (record { reply_is = sym reply; state_is = is.0 ∙ sym state }))
 
-pub merge_done : (s : State) (items : List Item) (i n m o : ℕ) → o ≡ owed s (course s (take i items)).taken → length items ≤ most_items → slice_get items i ≡ None → i ≤ length items
-    → Reached (course s (take i items)) i n m → Step s (Merges items) (Merged i n m o) (course s (take i items)).state
-merge_done s items i n m o owes few gone within r =
-    let k = course s (take i items) in
-    let end : length items ≤ i = past items i gone in
-    let whole : course s items ≡ k = ap (course s) (sym (take_all i items end)) in
+pub merge_done : (s : State) (items : List Item) (n : Count) (o : ℕ) → o ≡ owed s (course s (take n.done items)).taken → length items ≤ most_items → slice_get items n.done ≡ None
+    → Reached (course s (take n.done items)) n → Step s (Merges items) (Merged n.done n.taken n.stale o) (course s (take n.done items)).state
+merge_done s items n o owes few gone r =
+    let k = course s (take n.done items) in
+    let end : length items ≤ n.done = past items n.done gone in
+    let whole : course s items ≡ k = ap (course s) (sym (take_all n.done items end)) in
     let nothing : owed s k.taken ≡ o = sym owes in
-    let counts : merge_reply s k ≡ Merged i n m o =
+    let counts : merge_reply s k ≡ Merged n.done n.taken n.stale o =
     ap (λ stop. option_map_or (λ (fault : Refusal). MergeStopped k.done fault (owed s k.taken)) stop (Merged k.done (length k.taken) k.stale (owed s k.taken))) r.stop
-    ∙ ap₂ (λ d l. Merged d l k.stale (owed s k.taken)) r.done r.taken ∙ ap₂ (λ l b. Merged i n l b) r.stale nothing in
-    let reply : (merging s items (first_refusal (against_merge (length items)))).0 ≡ Merged i n m o =
+    ∙ ap₂ (λ (m : Count) b. Merged m.done m.taken m.stale b) r.count nothing in
+    let reply : (merging s items (first_refusal (against_merge (length items)))).0 ≡ Merged n.done n.taken n.stale o =
     ap (λ x. (merging s items x).0) (none_stands (length items) few) ∙ ap (merge_reply s) whole ∙ counts in
     let state : (merging s items (first_refusal (against_merge (length items)))).1 ≡ k.state =
     ap (λ x. (merging s items x).1) (none_stands (length items) few) ∙ ap (λ (x : Course). x.state) whole in
@@ -156,16 +169,6 @@ merge_done s items i n m o owes few gone within r =
   where
     past : (xs : List Item) (j : ℕ) → slice_get xs j ≡ None → length xs ≤ j
     past xs j e = elim ((slice_get_cases xs j).1) [ inl h ↦ absurd (let no : None ≡ Some h.0 = sym e ∙ h.2 in cc) | inr h ↦ h.0 ]
-
-pub taken_within : (join : Merge) (n d x : ℕ) → x ≡ count_taken join → n ≤ d → n + x ≤ d + 1
-taken_within Taken n d x e h = omega (arith, e, h)
-taken_within Known n d x e h = omega (arith, e, h)
-taken_within Stale n d x e h = omega (arith, e, h)
-
-pub stale_within : (join : Merge) (n d x : ℕ) → x ≡ count_stale join → n ≤ d → n + x ≤ d + 1
-stale_within Taken n d x e h = omega (arith, e, h)
-stale_within Known n d x e h = omega (arith, e, h)
-stale_within Stale n d x e h = omega (arith, e, h)
 
 -- ---- to whom the items are owed that were taken
 either_owed : (xs ys : List Item) (subs : List (Option Subscription)) → map (is_owed (xs ++ ys)) subs ≡ either (map (is_owed xs) subs) (map (is_owed ys) subs)

@@ -1,5 +1,5 @@
 -- What becomes of one item of a Merge.
-use Rattle.std.specs.Prelude.{◌≡◌, ◌⊎◌, ℕ, Bool, List, [], ◌∷◌, Some, None, Result, Ok, Err}
+use Rattle.std.specs.Prelude.{◌≡◌, ◌⊎◌, Bool, List, [], ◌∷◌, Some, None, Result, Ok, Err}
 use Rattle.ds_entry.specs.declared.item.Item.{Item}
 use Rattle.ds_join.specs.declared.merge.Merge.{Merge}
 use Rattle.ds_join.specs.declared.merge.Merge.TheVariants as merges
@@ -29,14 +29,3 @@ owed_after (Ok merges.Taken) total more = either total more
 owed_after (Ok merges.Known) total more = total
 owed_after (Ok merges.Stale) total more = total
 owed_after (Err fault) total more = total
-
--- how many items are taken by this, and how many are stale
-abbrev pub count_taken : Merge → ℕ
-count_taken merges.Taken = 1
-count_taken merges.Known = 0
-count_taken merges.Stale = 0
-
-abbrev pub count_stale : Merge → ℕ
-count_stale merges.Taken = 0
-count_stale merges.Known = 0
-count_stale merges.Stale = 1

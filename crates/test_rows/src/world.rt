@@ -87,7 +87,7 @@ fn is_wanted(event: usize, outcome: &Outcome) -> bool {
         Outcome::Replied(Reply::Merged { taken, .. }) => event == 0 && *taken == 1,
         Outcome::Made { message } => event == 1 && *message == 0,
         Outcome::Refused(EventFault::NoMessage) => event == 2,
-        Outcome::Merged { taken, .. } => event == 3 && *taken == 1,
+        Outcome::Merged { count, .. } => event == 3 && count.taken == 1,
         _ => false,
     }
 }

@@ -12,13 +12,13 @@ ghost use Rattle.ds_judge.specs.Last.{IsLast, MayLackItem};
 ghost use Rattle.ds_judge.specs.Standing.{machine_standing};
 ghost use Rattle.ds_content.specs.Stands.{ContentStands, InEachState};
 ghost use Rattle.ds_content.specs.Standing.{standing_in, floor_standing_in};
-ghost use Rattle.ds_store.specs.Merging.{MergesItem, owed_after, count_stale, count_taken};
+ghost use Rattle.ds_store.specs.Merging.{MergesItem, owed_after};
 ghost use Rattle.ds_content.specs.Owed.{owed_flags};
 ghost use Rattle.ds_store.specs.Steps.{ContentSteps};
 
 use crate::store::Store;
 use ds_entry::{Change, Floor, Item};
-use ds_join::Merge;
+use ds_join::{Count, Merge};
 use ds_judge::{Standing, cause_of_change, cause_of_floor, passed_as, refusal_of_merge};
 use ds_machine::{Cause, Command, Refusal, Reply};
 use ds_names::NoRoom;
@@ -128,49 +128,25 @@ impl Store {
             return Reply::Refused(refusal);
         }
         let mut owed = Mask::none();
-        let mut done = 0;
-        let mut taken = 0;
-        let mut stale = 0;
+        let mut count = Count::none();
         for item in items {
             let join = match self.merge_item(item, &mut owed) {
                 Ok(join) => join,
                 Err(fault) => {
                     return Reply::MergeStopped {
-                        done,
+                        done: count.done,
                         fault,
                         owed: owed.number(),
                     };
                 }
             };
-            done += 1;
-            taken += count_taken(join);
-            stale += count_stale(join);
+            count.add(Some(join));
         }
         Reply::Merged {
-            done,
-            taken,
-            stale,
+            done: count.done,
+            taken: count.taken,
+            stale: count.stale,
             owed: owed.number(),
         }
-    }
-}
-
-// How many items are taken by this.
-fn count_taken(join: Merge) -> usize
-    ensures { result ≡ count_taken join }
-{
-    match join {
-        Merge::Taken => 1,
-        Merge::Known | Merge::Stale => 0,
-    }
-}
-
-// How many items are stale by this.
-fn count_stale(join: Merge) -> usize
-    ensures { result ≡ count_stale join }
-{
-    match join {
-        Merge::Stale => 1,
-        Merge::Taken | Merge::Known => 0,
     }
 }

@@ -1,4 +1,5 @@
 use Rattle.std.proofs.Common.{◌≡◌, ◌≤◌, map, length, take}
+use Rattle.ds_join.specs.Count.{CanCountOne}
 use Rattle.ds_watch.specs.Mask.{padded}
 use Rattle.ds_machine.specs.State.{State}
 use Rattle.ds_machine.specs.Subscription.{is_owed}
@@ -10,11 +11,9 @@ use Rattle.ds_store.proofs.store.Store.merge.Given as goal
 -- the items so far are merged, and those to which they are owed are told
 abbrev pub invariant-loop-item : goal.invariant-loop-item
 invariant-loop-item l = record {
-  counted : l.item-index ≡ l.done;
+  counted : l.item-index ≡ l.count.done;
   few : length l.items ≤ 256;
-  within : l.done ≤ length l.items;
-  taken : l.taken ≤ l.done;
-  stale : l.stale ≤ l.done;
-  owed : (s : State) → ContentStands l.fn.self s → l.owed ≡ padded (map (is_owed (course s (take l.done l.items)).taken) s.subscriptions);
-  reached : (s : State) → ContentStands l.fn.self s → Reached (course s (take l.done l.items)) l.done l.taken l.stale × ContentStands l.self (course s (take l.done l.items)).state;
+  can : CanCountOne l.count;
+  owed : (s : State) → ContentStands l.fn.self s → l.owed ≡ padded (map (is_owed (course s (take l.count.done l.items)).taken) s.subscriptions);
+  reached : (s : State) → ContentStands l.fn.self s → Reached (course s (take l.count.done l.items)) l.count × ContentStands l.self (course s (take l.count.done l.items)).state;
 }
