@@ -9,12 +9,12 @@ use Rattle.ds_message.specs.declared.head.Head.{Head}
 use Rattle.ds_message.specs.declared.head.Head.TheVariants.{Checked, Journaled, Snapped, Paged}
 
 -- the reply with these items
-abbrev pub told : Head → List Item → Reply
-told (Checked before after) items = replies.Checked items before after
-told (Journaled cursor) items = replies.Journaled (record { items = items; cursor = cursor })
-told (Snapped cursor) items = replies.Snapped (record { items = items; cursor = cursor })
-told (Paged last cursor) items = replies.Paged (record { items = items; last = last; cursor = cursor })
+abbrev pub reply_with : Head → List Item → Reply
+reply_with (Checked before after) items = replies.Checked items before after
+reply_with (Journaled cursor) items = replies.Journaled (record { items = items; cursor = cursor })
+reply_with (Snapped cursor) items = replies.Snapped (record { items = items; cursor = cursor })
+reply_with (Paged last cursor) items = replies.Paged (record { items = items; last = last; cursor = cursor })
 
 -- with its items the reply is this one
 abbrev pub IsHead : Head → Reply → Type 0
-IsHead head reply = told head (shown_by reply) ≡ reply
+IsHead head reply = reply_with head (shown_by reply) ≡ reply

@@ -3,7 +3,7 @@
 ghost use Rattle.std.specs.Prelude.{◌≡◌, IfSome};
 ghost use Rattle.std.specs.Option.{option_copied};
 ghost use Rattle.ds_replica.specs.Happens.{items_given};
-ghost use Rattle.ds_message.specs.Head.{told, IsHead};
+ghost use Rattle.ds_message.specs.Head.{reply_with, IsHead};
 
 use ds_entry::Items;
 use ds_feed::{Cursor, Page, Since, Snapshot};
@@ -44,7 +44,7 @@ impl Head {
 
     // The reply with these items.
     pub(crate) fn reply(self, items: Items) -> Reply
-        ensures { result ≡ told self items }
+        ensures { result ≡ reply_with self items }
     {
         match self {
             Head::Checked { before, after } => Reply::Checked {
