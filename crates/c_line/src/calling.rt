@@ -15,22 +15,22 @@ use std::alloc::Global;
 /// A command that asks the store is answered by one step of its machine, and the answer is that of the reply; `show` and `all` are
 /// answered by how many items are shown. A line that is no command's is answered by the place from which it can't be read, one whose
 /// command asks nothing of one store as no request, and want of memory as a refusal: then the store stays as it is.
-pub fn call_line(alloc: Global, session: &mut Session, bytes: &[u8]) -> Answer
-    ensures { CallsLine session.old bytes.now result session.new }
+pub fn call_line(alloc: Global, session: &mut Session, bytes: &[u8], answer: &mut Answer)
+    ensures { CallsLine session.old bytes.now answer.new session.new }
 {
     match read_bytes(alloc, bytes) {
-        Ok(command) => carry_out(alloc, session, command),
-        Err(CommandFault::BadLine { place, .. }) => session.rest(Answer::bad_line(place)),
-        Err(CommandFault::NoRoom) => session.refuse(),
+        Ok(command) => carry_out(alloc, session, command, answer),
+        Err(CommandFault::BadLine { place, .. }) => session.rest(Answer::bad_line(place), answer),
+        Err(CommandFault::NoRoom) => session.refuse(answer),
     }
 }
 
-fn carry_out(alloc: Global, session: &mut Session, command: ScriptCommand) -> Answer
-    ensures { CarriesOut command session.old result session.new }
+fn carry_out(alloc: Global, session: &mut Session, command: ScriptCommand, answer: &mut Answer)
+    ensures { CarriesOut command session.old answer.new session.new }
 {
     match what_shows(&command) {
-        Some(all) => session.show(alloc, all),
-        None => ask_store(alloc, session, command),
+        Some(all) => session.show(alloc, all, answer),
+        None => ask_store(alloc, session, command, answer),
     }
 }
 
@@ -46,13 +46,13 @@ fn what_shows(command: &ScriptCommand) -> Option<bool>
 }
 
 // Lets the store answer what a command asks of it.
-fn ask_store(alloc: Global, session: &mut Session, command: ScriptCommand) -> Answer
-    ensures { LineAsks command session.old result session.new }
+fn ask_store(alloc: Global, session: &mut Session, command: ScriptCommand, answer: &mut Answer)
+    ensures { LineAsks command session.old answer.new session.new }
 {
     let wording = command.wording();
     match command.into_store_command(alloc) {
-        Ok(Some(command)) => session.answer(wording, command),
-        Ok(None) => session.rest(Answer::no_request()),
-        Err(NoRoom) => session.refuse(),
+        Ok(Some(command)) => session.answer(wording, command, answer),
+        Ok(None) => session.rest(Answer::no_request(), answer),
+        Err(NoRoom) => session.refuse(answer),
     }
 }

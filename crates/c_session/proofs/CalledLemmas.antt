@@ -1,14 +1,15 @@
 -- How a request is answered, and what some requests stand for.
 use Rattle.std.proofs.Common.{◌≡◌, ◌≢◌, ℕ, List, inl, inr, refl, sym, ap, ◌∙◌, subst, arith}
-use Rattle.std.specs.Prelude.{Option, Some, None}
+use Rattle.std.specs.Prelude.{Option, Some, None, IsTrue}
 use Rattle.std.specs.Option.{option_map}
 use Rattle.ds_names.specs.Endpoint.{EndpointRecord}
 use Rattle.ds_names.specs.declared.key.Key.{Key}
 use Rattle.ds_machine.specs.declared.command.Command.TheVariants.{Retrieve, NameOf}
 use Rattle.c_words.specs.declared.request.Request.{Request}
 use Rattle.c_words.specs.declared.answer.Answer.{Answer}
-use Rattle.c_words.specs.Asked.{StandsFor, StandsForNone}
-use Rattle.c_words.specs.Request.{command_of, key_of, caller_of}
+use Rattle.c_words.specs.declared.texts.Publication.{Publication}
+use Rattle.c_words.specs.Asked.{StandsFor, StandsForNone, has_text}
+use Rattle.c_words.specs.Request.{command_of, publish_of, publish_command, key_of, caller_of}
 use Rattle.c_words.proofs.AskedLemmas.{none_of_parts}
 use Rattle.c_session.specs.declared.session.Session.{Session}
 use Rattle.c_session.specs.Called.{CalledWith, Called}
@@ -16,7 +17,11 @@ use Rattle.c_session.specs.Called.{CalledWith, Called}
 pub called : (old new : Session) (r : Request) (o : Option (List ℕ)) (text : List ℕ) (answer : Answer) → o ≡ Some text → CalledWith old r text answer new → Called old r o answer new
 called old new r o text answer is given = subst (λ (p : Option (List ℕ)). Called old r p answer new) (sym is) given
 
--- ---- what a Retrieve and a NameOf stand for
+-- ---- what a Publish, a Retrieve and a NameOf stand for
+
+publishes : (r : Request) (text : List ℕ) → r.command ≡ 0 → command_of r text ≡ publish_of r text
+unfolding command_of
+publishes r text zero = rw zero refl
 
 retrieves : (r : Request) (text : List ℕ) → r.command ≡ 3 → command_of r text ≡ option_map Retrieve (key_of r)
 unfolding command_of
@@ -25,6 +30,15 @@ retrieves r text three = rw three refl
 names : (r : Request) (text : List ℕ) → r.command ≡ 4 → command_of r text ≡ option_map NameOf (caller_of r)
 unfolding command_of
 names r text four = rw four refl
+
+pub stands_for_publish : (r : Request) (text : List ℕ) (asked : Publication) → r.command ≡ 0 → option_map publish_command (Some asked) ≡ publish_of r text → StandsFor r text (publish_command asked)
+stands_for_publish r text asked zero e = inl (publishes r text zero ∙ sym e)
+
+pub stands_for_no_publish : (r : Request) (text : List ℕ) → r.command ≡ 0 → option_map publish_command None ≡ publish_of r text → StandsForNone r text
+stands_for_no_publish r text zero e = none_of_parts r text (λ ten. omega (arith, zero, ten)) (publishes r text zero ∙ sym e)
+
+pub publish_has_text : (r : Request) → r.command ≡ 0 → IsTrue (has_text r)
+publish_has_text r zero = rw zero refl
 
 pub stands_for_retrieve : (r : Request) (text : List ℕ) (key : Key) → r.command ≡ 3 → Some key ≡ key_of r → StandsFor r text (Retrieve key)
 stands_for_retrieve r text key three e = inl (retrieves r text three ∙ ap (option_map Retrieve) (sym e))

@@ -1,15 +1,17 @@
--- A Retrieve that is answered by what a store holds is a turn of the store.
+-- A Retrieve that is answered by what a store holds is a turn of the store, and so is a NameOf that is answered by the name that it has.
 use Rattle.std.proofs.Common.{◌≡◌, List, Option, refl, sym, ap, ◌∙◌, subst, inl, inr}
 use Rattle.std.specs.Prelude.{is_some}
 use Rattle.std.specs.Option.{option_map}
 use Rattle.ds_names.specs.declared.key.Key.{Key}
+use Rattle.ds_names.specs.Endpoint.{EndpointRecord}
 use Rattle.ds_entry.specs.declared.item.Item.{Item}
 use Rattle.ds_judge.specs.Last.{IsLast}
 use Rattle.ds_machine.specs.State.{State, held}
-use Rattle.ds_machine.specs.Machine.{Answers, IsOutcome, retrieving, found_or}
-use Rattle.ds_machine.specs.declared.command.Command.TheVariants.{Retrieve}
+use Rattle.ds_machine.specs.Machine.{Answers, IsOutcome, retrieving, naming, found_or}
+use Rattle.ds_machine.specs.Asking.{name_of}
+use Rattle.ds_machine.specs.declared.command.Command.TheVariants.{Retrieve, NameOf}
 use Rattle.ds_machine.specs.declared.reply.Reply.{Reply}
-use Rattle.ds_machine.specs.declared.reply.Reply.TheVariants.{Found}
+use Rattle.ds_machine.specs.declared.reply.Reply.TheVariants.{Found, Named}
 use Rattle.ds_content.specs.Content.{ContentRecord}
 use Rattle.ds_content.specs.Stands.{ContentStands}
 use Rattle.ds_store.specs.Turns.{Turn}
@@ -33,4 +35,15 @@ retrieve_turn v key reply stood is = record {
   stood = stood;
   steps = λ s stands. (s, inl (answers s v.held key reply stands.held is), stands);
   last = λ s stands. is_last s v.held key reply stands.held is;
+}
+
+-- ---- the name of an endpoint
+named_is : (s : State) (hs : List Item) (endpoint : EndpointRecord) (reply : Reply) → hs ≡ held s → reply ≡ found_or (option_map Named (name_of hs endpoint)) → IsOutcome (naming s endpoint) reply s
+named_is s hs endpoint reply e is = record { reply_is = is ∙ ap (λ (l : List Item). found_or (option_map Named (name_of l endpoint))) e; state_is = refl }
+
+pub name_turn : (v : ContentRecord) (endpoint : EndpointRecord) (reply : Reply) → ((s : State) × ContentStands v s) → reply ≡ found_or (option_map Named (name_of v.held endpoint)) → Turn v (NameOf endpoint) reply v
+name_turn v endpoint reply stood is = record {
+  stood = stood;
+  steps = λ s stands. (s, inl (inl (named_is s v.held endpoint reply stands.held is)), stands);
+  last = λ s stands. last_of s (NameOf endpoint) reply s (named_is s v.held endpoint reply stands.held is);
 }

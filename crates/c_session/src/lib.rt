@@ -1,6 +1,7 @@
 //! A store that a caller asks, one thing after the other, and what it gave last, whose text is fetched in pieces.
 #![tactic(auto)]
 
+mod calling;
 mod last;
 mod retrieving;
 mod running;

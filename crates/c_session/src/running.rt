@@ -25,7 +25,8 @@ impl Session {
             answers.len()
         };
         for index in 0..count {
-            let answer = self.call(alloc, &requests[index], texts);
+            let mut answer = Answer::no_request();
+            self.call(alloc, &requests[index], texts, &mut answer);
             answers[index] = answer;
             if answer.pieces > 0 {
                 return index + 1;

@@ -18,6 +18,7 @@ use Rattle.ds_machine.specs.declared.command.Scope.TheVariants.{All, Under}
 use Rattle.ds_machine.specs.declared.command.Command.{Command}
 use Rattle.ds_machine.specs.declared.command.Command.TheVariants.{Publish, Delete, Sweep, Retrieve, NameOf, Subscribe, Check, Since, Snapshot, Page}
 use Rattle.c_words.specs.declared.request.Request.{Request}
+use Rattle.c_words.specs.declared.texts.Publication.{Publication}
 
 -- ---- the parts, each of which may be none
 
@@ -98,6 +99,10 @@ behind_of r = cond (r.behind == 0) (Some None) (option_map Some (key_of_parts (n
 unfoldable pub publish_of : Request → List ℕ → Option Command
 publish_of r text =
     option_and_then (λ (key : Key). option_and_then (λ caller. option_and_then (λ version. option_map (λ value. Publish caller key version value (not (r.overwrite == 0))) (valued r text key.kind)) (versioned r)) (caller_of r)) (key_of r)
+
+-- the command of what is published
+abbrev pub publish_command : Publication → Command
+publish_command p = Publish p.caller p.key p.version p.value p.overwrite
 
 unfoldable pub delete_of : Request → Option Command
 delete_of r = option_and_then (λ caller. option_and_then (λ key. option_map (Delete caller key) (versioned r)) (key_of r)) (caller_of r)

@@ -19,4 +19,4 @@ pub use parts::{caller_of, key_of};
 pub use reading::read_request;
 pub use request::Request;
 pub use telling::{answer_of, no_room, refusal_number};
-pub use texts::text_of;
+pub use texts::{Publication, read_publication, text_of};

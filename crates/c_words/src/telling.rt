@@ -1,6 +1,7 @@
 //! From the store's reply to what C is told.
 
 ghost use Rattle.std.specs.Prelude.{◌≡◌};
+ghost use Rattle.std.specs.Int.{to_le_bytes, w128};
 ghost use Rattle.c_words.specs.Answer.{refusal_number, told_of_items, told_refusal, told_no_room, told_value, told_reply, answer_of};
 
 use crate::answer::{Answer, Word};
@@ -73,6 +74,7 @@ pub fn no_room() -> Answer
     refused(Word::Refused, Refusal::NoRoom)
 }
 
+#[inline(always)]
 fn found(value: &Value) -> Answer
     ensures { result ≡ told_value value.now }
 {
@@ -110,6 +112,7 @@ fn at_cursor(word: Word, cursor: Cursor) -> Answer
     of_items(word, cursor.incarnation, cursor.position)
 }
 
+#[inline(always)]
 fn told(reply: &Reply) -> Answer
     ensures { result ≡ told_reply reply.now }
 {
@@ -152,14 +155,26 @@ fn told(reply: &Reply) -> Answer
     }
 }
 
+// The bits of those to whom a notice is owed, which mostly is nobody, as bytes.
+fn owed_bytes(owed: u128) -> [u8; 16]
+    ensures { result ≡ to_le_bytes w128 owed }
+{
+    if owed == 0 {
+        [0; 16]
+    } else {
+        owed.to_le_bytes()
+    }
+}
+
 /// What a reply says, in numbers, and how many pieces of text it has.
 #[tactic(auto, unfolding(crate::specs::Answer::answer_of))]
+#[inline(always)]
 pub fn answer_of(reply: &Reply) -> Answer
     ensures { result ≡ answer_of reply.now }
 {
     Answer {
         pieces: pieces(reply) as u64,
-        owed: reply.owed().to_le_bytes(),
+        owed: owed_bytes(reply.owed()),
         ..told(reply)
     }
 }

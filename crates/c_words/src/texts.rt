@@ -5,14 +5,14 @@ ghost use Rattle.std.specs.Option.{option_map};
 ghost use Rattle.ds_machine.specs.declared.command.Command.TheVariants.{Snapshot};
 ghost use Rattle.c_words.specs.Asked.{request_text};
 ghost use Rattle.c_words.specs.Request.{string_at, memory_at, valued, query_at, scope_of};
-ghost use Rattle.c_words.specs.Request.{publish_of, subscribe_of, since_of_request, page_of_request};
+ghost use Rattle.c_words.specs.Request.{publish_of, publish_command, subscribe_of, since_of_request, page_of_request};
 
 use crate::parts::{behind, caller_of, endpoint, key_of, version};
 use crate::request::Request;
 use ds_entry::{Blob, BlobFault, Text, TextFault, Value};
 use ds_feed::Cursor;
 use ds_machine::{Command, Scope};
-use ds_names::{Kind, Kinds, NoRoom};
+use ds_names::{Endpoint, Key, Kind, Kinds, NoRoom, Version};
 use ds_pattern::{PatternText, Query};
 use std::alloc::Global;
 
@@ -65,13 +65,25 @@ fn label(request: &Request) -> Option<Value>
     Some(Value::Label(endpoint))
 }
 
+/// What a Publish asks for, in parts.
+#[derive(Drop)]
+pub struct Publication {
+    pub caller: Endpoint,
+    pub key: Key,
+    pub version: Version,
+    pub value: Value,
+    pub overwrite: bool,
+}
+
+/// What a request with this text asks to publish.
+#[inline(always)]
 #[tactic(auto, unfolding(crate::specs::Request::publish_of))]
-pub(crate) fn publish(
+pub fn read_publication(
     alloc: Global,
     request: &Request,
     text: &[u8],
-) -> Result<Option<Command>, NoRoom>
-    ensures { IfOk result (λ command. command ≡ publish_of request.now text.now) }
+) -> Result<Option<Publication>, NoRoom>
+    ensures { IfOk result (λ asked. option_map publish_command asked ≡ publish_of request.now text.now) }
 {
     let Some(key) = key_of(request) else {
         return Ok(None);
@@ -85,13 +97,32 @@ pub(crate) fn publish(
     let Some(value) = value(alloc, request, text, key.kind)? else {
         return Ok(None);
     };
-    Ok(Some(Command::Publish {
+    Ok(Some(Publication {
         caller,
         key,
         version,
         value,
         overwrite: request.overwrite != 0,
     }))
+}
+
+pub(crate) fn publish(
+    alloc: Global,
+    request: &Request,
+    text: &[u8],
+) -> Result<Option<Command>, NoRoom>
+    ensures { IfOk result (λ command. command ≡ publish_of request.now text.now) }
+{
+    match read_publication(alloc, request, text)? {
+        Some(asked) => Ok(Some(Command::Publish {
+            caller: asked.caller,
+            key: asked.key,
+            version: asked.version,
+            value: asked.value,
+            overwrite: asked.overwrite,
+        })),
+        None => Ok(None),
+    }
 }
 
 #[tactic(auto, unfolding(crate::specs::Request::query_at))]

@@ -78,7 +78,7 @@ pub extern "C" fn ds_call(
     match handle.take(alloc) {
         None => IS_CLOSED,
         Some(mut session) => {
-            *answer = session.call(alloc, request, texts);
+            session.call(alloc, request, texts, answer);
             handle.put(alloc, session);
             DONE
         }

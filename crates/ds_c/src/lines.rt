@@ -22,7 +22,7 @@ pub extern "C" fn ds_call_line(
     match handle.take(alloc) {
         None => IS_CLOSED,
         Some(mut session) => {
-            *answer = call_line(alloc, &mut session, line);
+            call_line(alloc, &mut session, line, answer);
             handle.put(alloc, session);
             DONE
         }

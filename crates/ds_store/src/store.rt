@@ -5,6 +5,7 @@ ghost use Rattle.ds_feed.specs.Kept.{cursor_of, IsRing};
 ghost use Rattle.ds_held.specs.Held.{held_items, IsSound};
 ghost use Rattle.ds_held.specs.Limits.{larger};
 ghost use Rattle.ds_machine.specs.State.{State, opening};
+ghost use Rattle.ds_machine.specs.Asking.{name_of};
 ghost use Rattle.ds_machine.specs.Machine.{Step};
 ghost use Rattle.ds_machine.specs.declared.refusal.Refusal.TheVariants.{NoRoom};
 ghost use Rattle.ds_machine.specs.Says.{IsReplyTo};
@@ -12,14 +13,16 @@ ghost use Rattle.ds_judge.specs.Last.{IsLast};
 ghost use Rattle.ds_content.specs.Stands.{ContentStands};
 ghost use Rattle.ds_store.specs.Opening.{IsOpenRefusal, refusal_of_opening};
 ghost use Rattle.ds_store.specs.InPlace.{TakesNoMemory};
+ghost use Rattle.ds_store.specs.Steps.{ContentSteps};
 ghost use Rattle.ds_names.specs.Limits.{last_place};
 
 use ds_content::Content;
-use ds_entry::{Body, Floor};
+use ds_entry::{Body, Floor, Value};
 use ds_feed::{Cursor, OpenFault};
 use ds_held::{Held, Limits};
 use ds_judge::{deleted, published};
 use ds_machine::{Command, Refusal, Reply};
+use ds_names::{Endpoint, Key, Name, Version};
 use std::alloc::Global;
 use std::marker::Model;
 
@@ -126,10 +129,7 @@ impl Store {
                 version,
                 value,
                 overwrite,
-            } => self.ask(
-                &published(caller, key, version, overwrite),
-                Body::Put(value),
-            ),
+            } => self.publish(caller, &key, version, value, overwrite),
             Command::Delete {
                 caller,
                 key,
@@ -156,6 +156,27 @@ impl Store {
         }
     }
 
+    /// Answers as to `Command::Publish` of these parts, of which the key is only lent.
+    #[inline(always)]
+    pub fn publish(
+        &mut self,
+        caller: Endpoint,
+        key: &Key,
+        version: Version,
+        value: Value,
+        overwrite: bool,
+    ) -> Reply
+        ensures step { ContentSteps self.old (λ s t. Step s (Command.Publish caller key.now version value overwrite) result t) self.new }
+        ensures last { (s : State) → ContentStands self.old s → IsLast s (Command.Publish caller key.now version value overwrite) result }
+        ensures fits { IsReplyTo (Command.Publish caller key.now version value overwrite) result }
+    {
+        let _stood = self.cursor();
+        self.ask(
+            &published(caller, *key, version, overwrite),
+            Body::Put(value),
+        )
+    }
+
     /// What it holds: the greatest floor of each owner, and for each key the greatest version that no floor makes void.
     pub fn held(&self) -> &Held
         ensures value { held_items result.now ≡ self.now.held }
@@ -164,6 +185,16 @@ impl Store {
         ensures stood { (s : State) × ContentStands self.now s }
     {
         self.content.held()
+    }
+
+    /// The name of an endpoint: the least one whose live label holds it, and `rs` for that of RS.
+    #[inline(always)]
+    pub fn name_of(&self, endpoint: Endpoint) -> Option<Name>
+        ensures value { result ≡ name_of self.now.held endpoint }
+        ensures stood { (s : State) × ContentStands self.now s }
+    {
+        let _stood = self.cursor();
+        self.content.name_of(endpoint)
     }
 
     /// The cursor behind all that took effect: its incarnation, and the position of the next item.

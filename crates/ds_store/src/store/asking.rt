@@ -68,6 +68,7 @@ impl Store {
     }
 
     // What a caller asks for takes effect, unless a cause stands against it.
+    #[inline(always)]
     pub(super) fn ask(&mut self, asked: &Asked, body: Body) -> Reply
         ensures step { ContentSteps self.old (λ s t. Answers s (asking s (request_of asked.now) body) result t) self.new }
         ensures last { result ≡ Reply.Refused Refusal.NoRoom → InEachState self.old (λ s. MayLackAsked s (request_of asked.now) body) }

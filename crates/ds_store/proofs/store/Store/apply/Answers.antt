@@ -1,5 +1,5 @@
 use Rattle.std.proofs.Common.{sym, ap, inl, subst, ◌∙◌}
-use Rattle.ds_entry.specs.declared.body.Body.TheVariants.{Put, Gone}
+use Rattle.ds_entry.specs.declared.body.Body.TheVariants.{Gone}
 use Rattle.ds_machine.specs.declared.command.Command.{Command}
 use Rattle.ds_machine.specs.declared.command.Command.TheVariants.{Publish, Delete, Sweep, Retrieve, NameOf, Subscribe, Check, Since, Snapshot, Page, Merge}
 use Rattle.ds_machine.specs.Asking.{AskedChange}
@@ -12,17 +12,14 @@ use Rattle.ds_store.proofs.store.Store.apply.Goals as goal
 
 pub returns-in-Publish-clause-step : goal.returns-in-Publish-clause-step
 returns-in-Publish-clause-step c = λ s stands.
-    let r = c.ask.ensures.step s stands in (
-      r.0,
-      inl (subst (λ (x : Command). Answers s (outcome s x) c.ask.result r.0) (sym c.in-Publish.is) (subst (λ (a : AskedChange). Answers s (asking s a (Put c.in-Publish.value)) c.ask.result r.0) c.published.ensures r.1)),
-      r.2,
-    )
+    let r = c.publish.ensures.step s stands in
+    (r.0, subst (λ (x : Command). Step s x c.publish.result r.0) (sym c.in-Publish.is) r.1, r.2)
 
 pub returns-in-Delete-clause-step : goal.returns-in-Delete-clause-step
 returns-in-Delete-clause-step c = λ s stands.
-    let r = c.ask-in-Delete.ensures.step s stands in (
+    let r = c.ask.ensures.step s stands in (
       r.0,
-      inl (subst (λ (x : Command). Answers s (outcome s x) c.ask-in-Delete.result r.0) (sym c.in-Delete.is) (subst (λ (a : AskedChange). Answers s (asking s a Gone) c.ask-in-Delete.result r.0) c.deleted.ensures r.1)),
+      inl (subst (λ (x : Command). Answers s (outcome s x) c.ask.result r.0) (sym c.in-Delete.is) (subst (λ (a : AskedChange). Answers s (asking s a Gone) c.ask.result r.0) c.deleted.ensures r.1)),
       r.2,
     )
 
@@ -63,20 +60,15 @@ returns-in-Merge-clause-step c = λ s stands.
 
 -- where want of memory is told
 pub returns-in-Publish-clause-last : goal.returns-in-Publish-clause-last
-returns-in-Publish-clause-last c = λ s stands.
-    let command : Command = Publish c.in-Publish.caller c.in-Publish.key c.in-Publish.version c.in-Publish.value c.in-Publish.overwrite in
-    let r = c.ask.ensures.step s stands in
-    let of : Answers s (outcome s command) c.ask.result r.0 = subst (λ (a : AskedChange). Answers s (asking s a (Put c.in-Publish.value)) c.ask.result r.0) c.published.ensures r.1 in
-    subst (λ (x : Command). IsLast s x c.ask.result) (sym c.in-Publish.is)
-    (asked_last s command c.ask.result (replies_fit s r.0 command c.ask.result (inl of)) (λ e. subst (λ (a : AskedChange). MayLackAsked s a (Put c.in-Publish.value)) c.published.ensures (c.ask.ensures.last e s stands)))
+returns-in-Publish-clause-last c = λ s stands. subst (λ (x : Command). IsLast s x c.publish.result) (sym c.in-Publish.is) (c.publish.ensures.last s stands)
 
 pub returns-in-Delete-clause-last : goal.returns-in-Delete-clause-last
 returns-in-Delete-clause-last c = λ s stands.
     let command : Command = Delete c.in-Delete.caller c.in-Delete.key c.in-Delete.version in
-    let r = c.ask-in-Delete.ensures.step s stands in
-    let of : Answers s (outcome s command) c.ask-in-Delete.result r.0 = subst (λ (a : AskedChange). Answers s (asking s a Gone) c.ask-in-Delete.result r.0) c.deleted.ensures r.1 in
-    subst (λ (x : Command). IsLast s x c.ask-in-Delete.result) (sym c.in-Delete.is)
-    (asked_last s command c.ask-in-Delete.result (replies_fit s r.0 command c.ask-in-Delete.result (inl of)) (λ e. subst (λ (a : AskedChange). MayLackAsked s a Gone) c.deleted.ensures (c.ask-in-Delete.ensures.last e s stands)))
+    let r = c.ask.ensures.step s stands in
+    let of : Answers s (outcome s command) c.ask.result r.0 = subst (λ (a : AskedChange). Answers s (asking s a Gone) c.ask.result r.0) c.deleted.ensures r.1 in
+    subst (λ (x : Command). IsLast s x c.ask.result) (sym c.in-Delete.is)
+    (asked_last s command c.ask.result (replies_fit s r.0 command c.ask.result (inl of)) (λ e. subst (λ (a : AskedChange). MayLackAsked s a Gone) c.deleted.ensures (c.ask.ensures.last e s stands)))
 
 pub returns-in-Sweep-clause-last : goal.returns-in-Sweep-clause-last
 returns-in-Sweep-clause-last c = λ s stands. subst (λ (x : Command). IsLast s x c.sweep.result) (sym c.in-Sweep.is) (c.sweep.ensures.last s stands)
@@ -107,20 +99,15 @@ returns-in-NameOf-clause-last c = λ s stands. subst (λ (x : Command). IsLast s
 
 -- the reply is one of a step from the state that the store stands for
 pub returns-in-Publish-clause-fits : goal.returns-in-Publish-clause-fits
-returns-in-Publish-clause-fits c =
-    let at = c.cursor-stood.ensures.stood in
-    let r = c.ask.ensures.step at.0 at.1 in
-    let command : Command = Publish c.in-Publish.caller c.in-Publish.key c.in-Publish.version c.in-Publish.value c.in-Publish.overwrite in
-    let of : Answers at.0 (outcome at.0 command) c.ask.result r.0 = subst (λ (a : AskedChange). Answers at.0 (asking at.0 a (Put c.in-Publish.value)) c.ask.result r.0) c.published.ensures r.1 in
-    subst (λ (x : Command). IsReplyTo x c.ask.result) (sym c.in-Publish.is) (replies_fit at.0 r.0 command c.ask.result (inl of))
+returns-in-Publish-clause-fits c = subst (λ (x : Command). IsReplyTo x c.publish.result) (sym c.in-Publish.is) c.publish.ensures.fits
 
 pub returns-in-Delete-clause-fits : goal.returns-in-Delete-clause-fits
 returns-in-Delete-clause-fits c =
     let at = c.cursor-stood.ensures.stood in
-    let r = c.ask-in-Delete.ensures.step at.0 at.1 in
+    let r = c.ask.ensures.step at.0 at.1 in
     let command : Command = Delete c.in-Delete.caller c.in-Delete.key c.in-Delete.version in
-    let of : Answers at.0 (outcome at.0 command) c.ask-in-Delete.result r.0 = subst (λ (a : AskedChange). Answers at.0 (asking at.0 a Gone) c.ask-in-Delete.result r.0) c.deleted.ensures r.1 in
-    subst (λ (x : Command). IsReplyTo x c.ask-in-Delete.result) (sym c.in-Delete.is) (replies_fit at.0 r.0 command c.ask-in-Delete.result (inl of))
+    let of : Answers at.0 (outcome at.0 command) c.ask.result r.0 = subst (λ (a : AskedChange). Answers at.0 (asking at.0 a Gone) c.ask.result r.0) c.deleted.ensures r.1 in
+    subst (λ (x : Command). IsReplyTo x c.ask.result) (sym c.in-Delete.is) (replies_fit at.0 r.0 command c.ask.result (inl of))
 
 pub returns-in-Sweep-clause-fits : goal.returns-in-Sweep-clause-fits
 returns-in-Sweep-clause-fits c =

@@ -1,0 +1,19 @@
+use Rattle.std.proofs.Common.{inl, inr}
+use Rattle.c_words.specs.Request.{publish_command}
+use Rattle.c_session.proofs.CalledLemmas.{stands_for_publish, stands_for_no_publish, publish_has_text}
+use Rattle.c_session.proofs.session.Session.publish.Goals as goal
+
+pub returns-in-Ok-Some : goal.returns-in-Ok-Some
+returns-in-Ok-Some c =
+    let asked = c.in-Ok-Some.asked in
+    inl (record {
+      command = publish_command asked;
+      stands = stands_for_publish c.args.request.now c.args.text.now asked c.requires (rw c.in-Ok-Some.field-0-is at c.in-Ok-Some.ensures);
+      answered = c.put.ensures;
+    })
+
+pub returns-in-Ok-None : goal.returns-in-Ok-None
+returns-in-Ok-None c = inr (inl (stands_for_no_publish c.args.request.now c.args.text.now c.requires (rw c.in-Ok-None.field-0-is at c.in-Ok-None.ensures), c.decline.ensures))
+
+pub returns-in-Err : goal.returns-in-Err
+returns-in-Err c = inr (inr (publish_has_text c.args.request.now c.requires, c.refuse.ensures))
