@@ -91,7 +91,12 @@ fn tell_round(text: &mut Vec<u8>, round: &Moves) -> Result<(), NoRoom> {
     append_move_count(text, round.len())
 }
 
-fn tell_happened(text: &mut Vec<u8>, alloc: Global, world: &World, outcome: &Outcome) -> Result<(), NoRoom> {
+fn tell_happened(
+    text: &mut Vec<u8>,
+    alloc: Global,
+    world: &World,
+    outcome: &Outcome,
+) -> Result<(), NoRoom> {
     if let Outcome::Made { message: number } = outcome {
         if let Some(message) = world.message(*number) {
             return append_message(alloc, text, Wording::AsMerge, message, Limits::larger());
