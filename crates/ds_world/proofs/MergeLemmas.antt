@@ -32,7 +32,7 @@ use Rattle.ds_content.specs.Content.{ContentRecord}
 use Rattle.ds_content.specs.Stands.{ContentStands}
 use Rattle.ds_replica.specs.Delivery.{Tally, counting, ended, added, OthersFollow, GroupsAreMerged, StoreTakes}
 use Rattle.ds_world.specs.Steps.{ItemsAreTaken}
-use Rattle.ds_world.specs.Tally.{joined, CanJoin, CountsOf, IsCounted}
+use Rattle.ds_world.specs.Tally.{both_tallied, CanJoin, CountsOf, IsCounted}
 use Rattle.ds_world.specs.Told.{IsWantLast}
 use Rattle.ds_names.specs.Limits.{most_items}
 
@@ -65,29 +65,29 @@ counts_same {stop = stop} d t s o =
     ap₂ (λ (c : Count) m. let k : Tally = record { count = c; owed = m; stop = stop } in k) (ap₂ (λ (f : ℕ × ℕ) c. counting f.0 f.1 c) (ap₂ (λ a b. (a, b)) d t) s) o
 
 -- none before
-joined_behind : (u : Tally) → joined (ended 0 0 None) u ≡ u
-joined_behind u = counts_same (omega arith) (omega arith) (omega arith) (or_zero_l u.owed)
+none_before : (u : Tally) → both_tallied (ended 0 0 None) u ≡ u
+none_before u = counts_same (omega arith) (omega arith) (omega arith) (or_zero_l u.owed)
 
 -- none behind
-joined_before : (done taken stale owed : ℕ) → added done taken stale owed (ended 0 0 None) ≡ tallied done taken stale owed None
-joined_before done taken stale owed = counts_same (omega arith) (omega arith) (omega arith) (or_zero_r owed)
+none_behind : (done taken stale owed : ℕ) → added done taken stale owed (ended 0 0 None) ≡ tallied done taken stale owed None
+none_behind done taken stale owed = counts_same (omega arith) (omega arith) (omega arith) (or_zero_r owed)
 
-joined_between : (done taken stale owed : ℕ) (later u : Tally) → joined (added done taken stale owed later) u ≡ added done taken stale owed (joined later u)
-joined_between done taken stale owed later u = counts_same (omega arith) (omega arith) (omega arith) (masks_joined owed later.owed u.owed)
+tallied_between : (done taken stale owed : ℕ) (later u : Tally) → both_tallied (added done taken stale owed later) u ≡ added done taken stale owed (both_tallied later u)
+tallied_between done taken stale owed later u = counts_same (omega arith) (omega arith) (omega arith) (masks_joined owed later.owed u.owed)
 
 stopped_not : {fault : Refusal} {t : Tally} {done owed : ℕ} → t ≡ ended done owed (Some fault) → t.stop ≡ None → ⊥
 stopped_not e none = let f = ap (λ (t : Tally). t.stop) e in cc
 
-groups_append : (s mid new : State) (gs hs : List (List Item)) (t u : Tally) → GroupsAreMerged s gs t mid → t.stop ≡ None → GroupsAreMerged mid hs u new → GroupsAreMerged s (gs ++ hs) (joined t u) new
+groups_append : (s mid new : State) (gs hs : List (List Item)) (t u : Tally) → GroupsAreMerged s gs t mid → t.stop ≡ None → GroupsAreMerged mid hs u new → GroupsAreMerged s (gs ++ hs) (both_tallied t u) new
 groups_append s mid new [] hs t u m none rest =
-    subst (λ (k : Tally). GroupsAreMerged s hs k new) (sym (ap (λ (k : Tally). joined k u) m.0 ∙ joined_behind u))
+    subst (λ (k : Tally). GroupsAreMerged s hs k new) (sym (ap (λ (k : Tally). both_tallied k u) m.0 ∙ none_before u))
     (subst (λ (x : State). GroupsAreMerged x hs u new) m.1 rest)
 groups_append s mid new (g ∷ gs) hs t u (reply, at, step, follow) none rest = (reply, at, step, by_reply reply (λ later more f. groups_append at mid new gs hs later u more f rest) follow)
   where
-    by_reply : (r : Reply) → ((later : Tally) → GroupsAreMerged at gs later mid → later.stop ≡ None → GroupsAreMerged at (gs ++ hs) (joined later u) new) → OthersFollow r at (λ k n. GroupsAreMerged at gs k n) t mid
-        → OthersFollow r at (λ k n. GroupsAreMerged at (gs ++ hs) k n) (joined t u) new
+    by_reply : (r : Reply) → ((later : Tally) → GroupsAreMerged at gs later mid → later.stop ≡ None → GroupsAreMerged at (gs ++ hs) (both_tallied later u) new) → OthersFollow r at (λ k n. GroupsAreMerged at gs k n) t mid
+        → OthersFollow r at (λ k n. GroupsAreMerged at (gs ++ hs) k n) (both_tallied t u) new
     by_reply (Merged done taken stale owes) again (later, more, e) =
-        (joined later u, again later more (sym (ap (λ (k : Tally). k.stop) e) ∙ none), ap (λ (k : Tally). joined k u) e ∙ joined_between done taken stale owes later u)
+        (both_tallied later u, again later more (sym (ap (λ (k : Tally). k.stop) e) ∙ none), ap (λ (k : Tally). both_tallied k u) e ∙ tallied_between done taken stale owes later u)
     by_reply (MergeStopped done fault owes) again (e, f) = absurd (stopped_not e none)
     by_reply (Refused fault) again (e, f) = absurd (stopped_not e none)
     by_reply _ again f = absurd f
@@ -110,7 +110,7 @@ few_append gs hs f h group k = elim (Contains-append_cases gs hs group k) [ inl 
 all_append : (gs hs : List (List Item)) (xs ys : List Item) → flat_map (λ (g : List Item). g) gs ≡ xs → flat_map (λ (g : List Item). g) hs ≡ ys → flat_map (λ (g : List Item). g) (gs ++ hs) ≡ xs ++ ys
 all_append gs hs xs ys e f = flat_map-append (λ (g : List Item). g) gs hs ∙ ap₂ ◌++◌ e f
 
-takes_append : (s mid new : State) (xs ys : List Item) (t u : Tally) → StoreTakes s xs t mid → t.stop ≡ None → StoreTakes mid ys u new → StoreTakes s (xs ++ ys) (joined t u) new
+takes_append : (s mid new : State) (xs ys : List Item) (t u : Tally) → StoreTakes s xs t mid → t.stop ≡ None → StoreTakes mid ys u new → StoreTakes s (xs ++ ys) (both_tallied t u) new
 takes_append s mid new xs ys t u a none b =
     record {
       groups = a.groups ++ b.groups;
@@ -149,7 +149,7 @@ takes_one s mid group reply few counted step =
     }
   where
     by_reply : (r : Reply) → IsCounted (length group) r → OthersFollow r mid (λ k n. GroupsAreMerged mid [] k n) (merge_tally r) mid
-    by_reply (Merged done taken stale owed) c = (ended 0 0 None, (refl, refl), sym (joined_before done taken stale owed))
+    by_reply (Merged done taken stale owed) c = (ended 0 0 None, (refl, refl), sym (none_behind done taken stale owed))
     by_reply (MergeStopped done fault owed) c = (refl, refl)
     by_reply (Refused fault) c = (refl, refl)
     by_reply _ c = absurd c
@@ -246,7 +246,7 @@ delivering_begins old items t e =
     })
 
 module _ (old mid new : ContentRecord) (items left group others : List Item) (t u k : Tally) (d : Delivering old items left t mid) (is : left ≡ group ++ others) (none : t.stop ≡ None) (taken : ItemsAreTaken mid group u new) (counts : CountsOf (length group) u) where
-  pub delivering_goes_on : k ≡ joined t u → Delivering old items others k new
+  pub delivering_goes_on : k ≡ both_tallied t u → Delivering old items others k new
   delivering_goes_on e =
       subst (λ (x : Tally). Delivering old items others x new) (sym e)
       (record {

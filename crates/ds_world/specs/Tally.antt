@@ -19,8 +19,8 @@ abbrev pub tally_of : Tally → deliveries.Tally
 tally_of t = record { count = t.count; owed = t.owed; stop = t.stop }
 
 -- what was done before the others, which weren't reached where it was stopped, and those; a mask of both has the bits of either
-abbrev pub joined : deliveries.Tally → deliveries.Tally → deliveries.Tally
-joined t u = record {
+abbrev pub both_tallied : deliveries.Tally → deliveries.Tally → deliveries.Tally
+both_tallied t u = record {
   count = deliveries.counting (t.count.done + u.count.done) (t.count.taken + u.count.taken) (t.count.stale + u.count.stale);
   owed = bit_or t.owed u.owed;
   stop = u.stop;

@@ -3,7 +3,7 @@
 ghost use Rattle.std.specs.Prelude.{◌≡◌, None};
 ghost use Rattle.ds_replica.specs.Delivery.{ended};
 ghost use Rattle.ds_replica.specs.Happens.{tally_outcome};
-ghost use Rattle.ds_world.specs.Tally.{tally_of, joined, refusal_of, fault_of, CanJoin};
+ghost use Rattle.ds_world.specs.Tally.{tally_of, both_tallied, refusal_of, fault_of, CanJoin};
 
 use ds_join::{Count, JoinFault};
 use ds_machine::Refusal;
@@ -37,7 +37,7 @@ impl Tally {
     // Counts what followed as well.
     pub(crate) fn add(&mut self, later: &Tally)
         requires { CanJoin (tally_of self.old) (tally_of later.now) }
-        ensures { tally_of self.new ≡ joined (tally_of self.old) (tally_of later.now) }
+        ensures { tally_of self.new ≡ both_tallied (tally_of self.old) (tally_of later.now) }
     {
         self.count.done += later.count.done;
         self.count.taken += later.count.taken;
