@@ -24,6 +24,7 @@ ALL = [
     limits.a_full_store_under_all_subscriptions,
     limits.a_reader_behind_the_longest_ring,
     limits.as_many_messages_as_there_may_be,
+    limits.a_million_items_in_messages,
     limits.holders_that_begin_again,
     limits.hostile_patterns,
     limits.a_driver_that_dies_twenty_thousand_times,

@@ -167,6 +167,26 @@ def as_many_messages_as_there_may_be(program):
     expect(end(begin(program, limit=4 * MEMORY), script), told, 0)
 
 
+def a_million_items_in_messages(program):
+    """A thousand snapshots of a thousand numbers, each kept as a message in little memory; early and late ones are delivered."""
+    items = b"".join(b"k%03d u32 o 1.0 = %d\n" % (at, at) for at in range(1000))
+    steps = [
+        (b"deliver 0 b *", b"merged 1000 1000 0"),
+        (b'map "k.*" 2', b"map 0"),
+        (b"deliver 500 m0 300", b"merged 300 300 0"),
+        (b"deliver 998 m0 *", b"merged 1000 700 0"),
+        (b"deliver 999 m0 *", b"merged 1000 0 0"),
+        (b"deliver 3 a 1001", b"refused toomany"),
+        (b"deliver 3 a 257", b"merged 257 0 0"),
+    ]
+    offers = b"".join(b"offer " + item + b"\n" for item in items.splitlines())
+    with tempfile.TemporaryFile() as script:
+        script.write(offers + b"snapshot *\n" * 1000 + b"".join(line + b"\n" for line, _ in steps))
+        script.seek(0)
+        told = b"taken\n" * 1000 + (items + b"snapshot 1000 1 1000\n") * 1000 + b"".join(answer + b"\n" for _, answer in steps)
+        expect(end(begin(program, limit=MEMORY, stdin=script)), told, 0)
+
+
 def holders_that_begin_again(program):
     """A map that is cleared and a store that is restarted, each a thousand times behind 256 items, in little memory."""
     items = b"".join(b"k%03d mem o 1.0 = %s\n" % (at, b"7f" * 256) for at in range(256))
