@@ -45,7 +45,7 @@ named_front names more name kind owner version body l =
 
 -- nor behind a row's
 row_item_front : (names more : List ℕ) (r : Row) → row_length r ≤ length names → row_item (names ++ more) r ≡ row_item names r
-row_item_front names more (rows.Label name owner version endpoint) l = ap Changed (named_front names more name kinds.Label owner version _ l)
+row_item_front names more (rows.Label name owner slot generation) l = ap Changed (named_front names more name kinds.Label owner _ _ l)
 row_item_front names more (rows.U32 name owner version number) l = ap Changed (named_front names more name kinds.U32 owner version _ l)
 row_item_front names more (rows.Gone name owner version kind) l = ap Changed (named_front names more name kind owner version _ l)
 row_item_front names more (rows.Floor owner generation) l = ap (λ o. Floored (floor_of o generation)) (take-append-le owner names more l)

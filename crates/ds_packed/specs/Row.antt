@@ -1,5 +1,6 @@
 -- What a row stands for, with the bytes of its names.
 use Rattle.std.specs.Prelude.{◌≡◌, ℕ, ◌+◌, List, ◌++◌, length, take, drop}
+use Rattle.ds_names.specs.Endpoint.{endpoint_of}
 use Rattle.ds_names.specs.declared.kind.Kind.{Kind}
 use Rattle.ds_names.specs.declared.kind.Kind.TheVariants as kinds
 use Rattle.ds_names.specs.declared.version.Version.{Version}
@@ -19,14 +20,14 @@ named names name kind owner version body = change_of (record { name = take name 
 
 -- how many bytes its names have together
 abbrev pub row_length : Row → ℕ
-row_length (rows.Label name owner version endpoint) = name + owner
+row_length (rows.Label name owner slot generation) = name + owner
 row_length (rows.U32 name owner version number) = name + owner
 row_length (rows.Gone name owner version kind) = name + owner
 row_length (rows.Floor owner generation) = owner
 
 -- the item whose names stand at the front of the bytes
 abbrev pub row_item : List ℕ → Row → Item
-row_item names (rows.Label name owner version endpoint) = Changed (named names name kinds.Label owner version (bodies.Put (values.Label endpoint)))
+row_item names (rows.Label name owner slot generation) = Changed (named names name kinds.Label owner (record { epoch = generation; seq = 0 }) (bodies.Put (values.Label (endpoint_of generation slot))))
 row_item names (rows.U32 name owner version number) = Changed (named names name kinds.U32 owner version (bodies.Put (values.U32 number)))
 row_item names (rows.Gone name owner version kind) = Changed (named names name kind owner version bodies.Gone)
 row_item names (rows.Floor owner generation) = Floored (floor_of (take owner names) generation)

@@ -3,6 +3,7 @@
 ghost use Rattle.std.specs.Prelude.{◌≡◌, ◌+◌, ◌≤◌, length, IfSome};
 ghost use Rattle.ds_entry.specs.Change.{IsChange};
 ghost use Rattle.ds_entry.specs.declared.item.Item.TheVariants.{Change as Changed};
+ghost use Rattle.ds_names.specs.Endpoint.{endpoint_of};
 ghost use Rattle.ds_names.specs.Name.{IsName};
 ghost use Rattle.ds_entry.specs.Item.{IsItem};
 ghost use Rattle.ds_packed.specs.Row.{named, row_item, row_length, AddsRow};
@@ -14,11 +15,12 @@ use ds_names::{Endpoint, Generation, Key, Kind, Name, Version};
 /// label, a number, or the tombstone of any kind.
 #[derive(Clone, Copy)]
 pub(crate) enum Row {
+    /// A label's version is numbered 0, in the generation of its endpoint.
     Label {
         name: u8,
         owner: u8,
-        version: Version,
-        endpoint: Endpoint,
+        slot: u16,
+        generation: Generation,
     },
     U32 {
         name: u8,
@@ -77,8 +79,8 @@ impl Row {
             Body::Put(Value::Label(endpoint)) => Some(Row::Label {
                 name,
                 owner,
-                version,
-                endpoint: *endpoint,
+                slot: endpoint.slot(),
+                generation: endpoint.generation(),
             }),
             Body::Put(Value::U32(number)) => Some(Row::U32 {
                 name,
@@ -106,10 +108,14 @@ impl Row {
             Row::Label {
                 name,
                 owner,
-                version,
-                endpoint,
+                slot,
+                generation,
             } => {
-                let body = Body::Put(Value::Label(endpoint));
+                let version = Version {
+                    epoch: generation,
+                    seq: 0,
+                };
+                let body = Body::Put(Value::Label(endpoint_of(generation, slot)));
                 change_of(names, name, Kind::Label, owner, version, body)
             }
             Row::U32 {
@@ -160,6 +166,17 @@ fn change_of(names: &[u8], name: u8, kind: Kind, owner: u8, version: Version, bo
     };
     let owner = name_of(&rest[..usize::from(owner)]);
     Item::Change(Change::from_parts(key, owner, version, body))
+}
+
+// The endpoint of a generation and a slot.
+fn endpoint_of(generation: Generation, slot: u16) -> Endpoint
+    requires { slot ≤ 1023 }
+    ensures { result ≡ endpoint_of generation slot }
+{
+    match Endpoint::of(generation, slot) {
+        Some(endpoint) => endpoint,
+        None => unreachable!(),
+    }
 }
 
 // The name that the bytes are.
