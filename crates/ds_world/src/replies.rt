@@ -46,7 +46,9 @@ pub(crate) fn items_at(messages: &[Message], number: usize) -> Option<Lent<'_>>
     messages.get(number)?.items()
 }
 
-// Keeps a reply as one more message, for which there is room. The one before it, which was told, is packed.
+// Keeps a reply as one more message, for which there is room. The one before it, which was told, is packed, which may be refused
+// memory and do without: a function of its own, so that a test sees who asked for it.
+#[inline(never)]
 pub(crate) fn keep(alloc: Global, messages: &mut Vec<Message>, reply: Reply)
     requires { length messages.old.items < vec_capacity messages.old }
     ensures { messages.new.items ≡ messages.old.items ++ reply ∷ [] }
