@@ -1,5 +1,5 @@
 -- What is held where a change or a floor comes to the place that was found for it, and was judged to be taken.
-use Rattle.std.proofs.Common.{◌≡◌, ℕ, List, length, map, None, Result, Ok, Err, refl, sym, ap, ◌∙◌, subst}
+use Rattle.std.proofs.Common.{◌≡◌, ℕ, List, length, None, Result, Ok, Err, sym, ap, ◌∙◌, subst}
 use Rattle.std.proofs.lemmas.Cmp.{nat_list_cmp_total}
 use Rattle.std.proofs.lemmas.Map.Lookups.{exact_bytes}
 use Rattle.std.specs.declared.cmp.Ordering.{Ordering}

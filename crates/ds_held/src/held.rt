@@ -18,10 +18,11 @@ ghost use Rattle.ds_held.specs.Raise.{after_raise, RaiseAnswer};
 ghost use Rattle.ds_entry.specs.Left.{value_of};
 
 use crate::floors::{floor_at, is_void, nth_floor};
+use crate::guesses::Guesses;
 use crate::join::join_into;
 use crate::limits::Limits;
-use crate::list::{merge_copy, merge_into};
-use crate::order::{behind, change_at, first_of, nth};
+use crate::list::{merge_at, merge_copy_at};
+use crate::order::{behind, change_at, first_of, nth, place_of};
 use crate::reading::{copy_all, item_at};
 use crate::void::raise_into;
 use ds_entry::{Body, Change, Floor, ItemRef, Items, Value};
@@ -41,6 +42,7 @@ mod beside;
 pub struct Held {
     floors: Vec<Floor>,
     changes: Vec<Change>,
+    guesses: Guesses,
     limits: Limits,
 }
 
@@ -74,6 +76,7 @@ impl Held {
         Held {
             floors: Vec::new(alloc),
             changes: Vec::new(alloc),
+            guesses: Guesses::new(alloc),
             limits,
         }
     }
@@ -141,7 +144,7 @@ impl Held {
         ensures sound { IsSound self.now }
         ensures change { IfSome (option_copied result) IsChange }
     {
-        change_at(&self.changes, key)
+        change_at(&self.changes, self.guesses.of(key), key)
     }
 
     /// The value that stands under a key. A tombstone leaves none.
@@ -209,7 +212,10 @@ impl Held {
         ensures sound { IsSound self.new }
         ensures change { IsChange change }
     {
-        merge_into(&self.floors, &mut self.changes, self.limits, change)
+        let place = place_of(&self.changes, self.guesses.of(change.key()), change.key());
+        let answer = merge_at(&self.floors, &mut self.changes, self.limits, place, change);
+        self.guesses.note_merged(&self.changes, place, &answer);
+        answer
     }
 
     /// Merges a change that someone else keeps, as `merge` does. It is copied only where it will be taken, so that a
@@ -221,7 +227,17 @@ impl Held {
         ensures joined { OnOk result (IsTop (held_items self.new) (held_items self.old ++ Changed change.now ∷ [])) }
         ensures sound { IsSound self.new }
     {
-        merge_copy(alloc, &self.floors, &mut self.changes, self.limits, change)
+        let place = place_of(&self.changes, self.guesses.of(change.key()), change.key());
+        let answer = merge_copy_at(
+            alloc,
+            &self.floors,
+            &mut self.changes,
+            self.limits,
+            place,
+            change,
+        );
+        self.guesses.note_merged(&self.changes, place, &answer);
+        answer
     }
 
     /// Raises the floor of an owner, and drops what it makes void, tombstones too. What isn't refused leaves the join of
@@ -235,7 +251,10 @@ impl Held {
         ensures joined { OnOk result (IsTop (held_items self.new) (held_items self.old ++ Floored floor ∷ [])) }
         ensures sound { IsSound self.new }
     {
-        raise_into(&mut self.floors, &mut self.changes, self.limits, floor)
+        let count = self.changes.len();
+        let answer = raise_into(&mut self.floors, &mut self.changes, self.limits, floor);
+        self.guesses.note_dropped(&self.changes, count);
+        answer
     }
 
     /// Joins with all that another one holds: raises its floors, by the names of their owners, and then merges its changes,

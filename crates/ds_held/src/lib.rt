@@ -7,6 +7,7 @@
 #![tactic(auto)]
 
 mod floors;
+mod guesses;
 mod held;
 mod join;
 mod laws;

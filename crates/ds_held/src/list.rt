@@ -7,7 +7,6 @@ ghost use Rattle.ds_held.specs.Merge.{after_merge, AnswersHeld, AnswersNew, Answ
 
 use crate::floors::is_void;
 use crate::limits::Limits;
-use crate::order::place_of;
 use ds_entry::{Change, Floor};
 use ds_join::{JoinFault, Merge};
 use ds_names::NoRoom;
@@ -113,43 +112,45 @@ fn take(
     }
 }
 
-// Merges a change.
-pub(crate) fn merge_into(
+// Merges a change, whose place is told.
+pub(crate) fn merge_at(
     floors: &[Floor],
     changes: &mut Vec<Change>,
     limits: Limits,
+    place: Result<usize, usize>,
     change: Change,
 ) -> Result<Merge, JoinFault>
-    requires { AreKept floors.now changes.old.items limits }
+    requires kept { AreKept floors.now changes.old.items limits }
+    requires place { IsPlace changes.old.items change.key place }
     ensures answer { MergeAnswer (holding_of floors.now changes.old.items limits) change result }
     ensures after { holding_of floors.now changes.new.items limits
         ≡ after_merge (holding_of floors.now changes.old.items limits) change result }
     ensures kept { AreKept floors.now changes.new.items limits }
     ensures change { IsChange change }
 {
-    let place = place_of(changes, change.key());
     match outlook(floors, changes, limits, place, &change)? {
         Merge::Taken => take(changes, place, change),
         other => Ok(other),
     }
 }
 
-// Merges a change that someone else keeps: it is copied only where it will be taken.
-pub(crate) fn merge_copy(
+// Merges a change that someone else keeps, and whose place is told: it is copied only where it will be taken.
+pub(crate) fn merge_copy_at(
     alloc: Global,
     floors: &[Floor],
     changes: &mut Vec<Change>,
     limits: Limits,
+    place: Result<usize, usize>,
     change: &Change,
 ) -> Result<Merge, JoinFault>
-    requires { AreKept floors.now changes.old.items limits }
+    requires kept { AreKept floors.now changes.old.items limits }
+    requires place { IsPlace changes.old.items change.now.key place }
     ensures answer { OnOk result (MergeAnswer (holding_of floors.now changes.old.items limits) change.now result) }
     ensures refused { IfErr result (IsMergeRefused (holding_of floors.now changes.old.items limits) change.now) }
     ensures after { holding_of floors.now changes.new.items limits
         ≡ after_merge (holding_of floors.now changes.old.items limits) change.now result }
     ensures kept { AreKept floors.now changes.new.items limits }
 {
-    let place = place_of(changes, change.key());
     match outlook(floors, changes, limits, place, change)? {
         Merge::Taken => match change.copy(alloc) {
             Ok(copy) => take(changes, place, copy),

@@ -1,6 +1,6 @@
 //! A list of changes in the order of their keys.
 
-ghost use Rattle.std.specs.Prelude.{◌≡◌, filter, IfSome, slice_get};
+ghost use Rattle.std.specs.Prelude.{◌≡◌, Ok, true, filter, IfSome, slice_get};
 ghost use Rattle.std.specs.FinMap.{get};
 ghost use Rattle.std.specs.Option.{option_copied};
 ghost use Rattle.std.specs.List.{find};
@@ -12,11 +12,25 @@ use ds_entry::Change;
 use ds_names::Key;
 use std::cmp::Ordering;
 
-// Where the change of a key stands, or else where it would.
-pub(crate) fn place_of(changes: &[Change], key: &Key) -> Result<usize, usize>
+// Whether the change of a key stands at an index.
+#[inline(always)]
+fn is_at(changes: &[Change], index: usize, key: &Key) -> bool
+    ensures { result ≡ true → IsPlace changes.now key.now (Ok index) }
+{
+    match changes.get(index) {
+        Some(change) => change.key().compare(key) == Ordering::Equal,
+        None => false,
+    }
+}
+
+// Where the change of a key stands, or else where it would. Where it is guessed to stand is looked at before it is searched for.
+pub(crate) fn place_of(changes: &[Change], guess: usize, key: &Key) -> Result<usize, usize>
     requires { AreKeysRising changes.now }
     ensures { IsPlace changes.now key.now result }
 {
+    if is_at(changes, guess, key) {
+        return Ok(guess);
+    }
     changes.binary_search_by(|change| change.key().compare(key))
 }
 
@@ -31,12 +45,12 @@ pub(crate) fn nth(changes: &[Change], index: usize) -> Option<&Change>
 }
 
 // The change of a key.
-pub(crate) fn change_at<'a>(changes: &'a [Change], key: &Key) -> Option<&'a Change>
+pub(crate) fn change_at<'a>(changes: &'a [Change], guess: usize, key: &Key) -> Option<&'a Change>
     requires { AreKeysRising changes.now }
     ensures value { option_copied result ≡ get (changes_map changes.now) key.now }
     ensures change { IfSome (option_copied result) IsChange }
 {
-    match place_of(changes, key) {
+    match place_of(changes, guess, key) {
         Ok(i) => nth(changes, i),
         Err(_) => None,
     }

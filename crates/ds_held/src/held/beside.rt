@@ -18,12 +18,12 @@ use ds_entry::{Change, Floor};
 use ds_names::{Key, Name, NoRoom};
 
 impl Held {
-    /// Where the change of a key stands, by an index from 0 in the order of the keys, or else where it would. One search finds
-    /// it.
+    /// Where the change of a key stands, by an index from 0 in the order of the keys, or else where it would.
+    /// Where it was last seen is looked at, and else one search finds it.
     pub fn place(&self, key: &Key) -> Result<usize, usize>
         ensures { IsPlace (held_changes self.now) key.now result }
     {
-        place_of(&self.changes, key)
+        place_of(&self.changes, self.guesses.of(key), key)
     }
 
     /// Puts a change that is to be taken at its place: what [`Held::merge`] would answer was judged before. All else stays.
@@ -41,7 +41,9 @@ impl Held {
         ensures change { IsChange change }
     {
         let _key = change.key();
-        put(&mut self.changes, place, change)
+        let answer = put(&mut self.changes, place, change);
+        self.guesses.note_put(&self.changes, place, answer.is_ok());
+        answer
     }
 
     /// Where the floor of an owner stands, by an index from 0 in the order of the owners' names, or else where it would. One
@@ -76,6 +78,9 @@ impl Held {
         ensures new { OnErr result (floor_for self.old floor.owner ≡ None) }
         ensures sound { IsSound self.new }
     {
-        raise_at(&mut self.floors, &mut self.changes, marks, place, floor)
+        let before = self.changes.len();
+        let answer = raise_at(&mut self.floors, &mut self.changes, marks, place, floor);
+        self.guesses.note_dropped(&self.changes, before);
+        answer
     }
 }

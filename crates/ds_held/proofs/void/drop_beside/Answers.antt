@@ -1,4 +1,4 @@
-use Rattle.std.proofs.Common.{◌∙◌, ◌+◌, ℕ, length, sym, ap, arith, rules, ◌≡◌, true, false}
+use Rattle.std.proofs.Common.{◌∙◌, ◌+◌, sym, ap, arith}
 use Rattle.std.specs.List.{swap}
 use Rattle.ds_held.proofs.DropLemmas.{dropped_so, dropped_void, dropped_kept, dropped_changes}
 use Rattle.ds_held.proofs.void.drop_beside.Goals as goal
