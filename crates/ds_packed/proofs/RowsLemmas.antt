@@ -1,6 +1,7 @@
 -- What holds of the items of rows.
 use Rattle.std.proofs.Common.{◌≡◌, length, ℕ, ◌+◌, ◌≤◌, List, [], ◌∷◌, ◌++◌, take, drop, refl, sym, ap, ◌∙◌, subst, arith, zero, suc}
-use Rattle.std.proofs.lemmas.List.{take-append-le, drop-append-le, length-drop, length-append, drop_all}
+use Rattle.std.proofs.lemmas.List.{take-append-le, drop-append-le, length-drop, length-append, nil_from_length}
+use Rattle.std.proofs.lemmas.List.Sums.{sum_by-cons, sum_by_push}
 use Rattle.ds_names.specs.declared.kind.Kind.{Kind}
 use Rattle.ds_names.specs.declared.kind.Kind.TheVariants as kinds
 use Rattle.ds_names.specs.declared.version.Version.{Version}
@@ -31,9 +32,12 @@ first_rows zero names rs h = tt
 first_rows (suc n) names [] h = tt
 first_rows (suc n) names (r ∷ rs) h = (h.0, h.1, first_rows n (drop (row_length r) names) rs h.2)
 
-pub rows_there : (names : List ℕ) (rs : List Row) → AreRows names rs → HasRows names rs
-rows_there names [] h = tt
-rows_there names (r ∷ rs) h = (h.0, h.1, rows_there (drop (row_length r) names) rs h.2)
+-- those behind the first
+rows_behind : (names : List ℕ) (r : Row) (rs : List Row) → AreRows names (r ∷ rs) → AreRows (drop (row_length r) names) rs
+rows_behind names r rs h = record {
+  there = h.there.2;
+  whole = omega (arith, h.whole, h.there.0, length-drop (row_length r) names, sum_by-cons row_length r rs);
+}
 
 -- ---- one row more
 -- what stands behind a change's names isn't looked at
@@ -57,19 +61,25 @@ pub record Pushed (names : List ℕ) (rs : List Row) (r : Row) (i : Item) (new :
 
 pub rows_push : (names : List ℕ) (rs : List Row) (r : Row) (i : Item) (new : List ℕ) → AreRows names rs → AddsRow i r names new → IsItem i → Pushed names rs r i new
 rows_push names [] r i new fit a is =
-    let e = a.added ∙ ap (λ ns. ns ++ a.names) fit in
+    let e = a.added ∙ ap (λ ns. ns ++ a.names) (nil_from_length names fit.whole) in
     let f = ap (λ ns. row_item ns r) e ∙ a.item_is in
+    let l : length new ≡ row_length r = ap length e ∙ a.length_is in
     record {
       items = ap (λ j. j ∷ []) f;
-      fit = (omega (arith, ap length e, a.length_is), subst IsItem (sym f) is, drop_all (row_length r) new (omega (arith, ap length e, a.length_is)));
+      fit = record { there = (omega (arith, l), subst IsItem (sym f) is, tt); whole = omega (arith, l) };
     }
 rows_push names (r0 ∷ rs) r i new fit a is =
-    let e = ap (λ ns. row_item ns r0) a.added ∙ row_item_front names a.names r0 fit.0 in
-    let f = ap (drop (row_length r0)) a.added ∙ drop-append-le (row_length r0) names a.names fit.0 in
-    let p = rows_push (drop (row_length r0) names) rs r i (drop (row_length r0) new) fit.2 (record { names = a.names; added = f; length_is = a.length_is; item_is = a.item_is }) is in
+    let e = ap (λ ns. row_item ns r0) a.added ∙ row_item_front names a.names r0 fit.there.0 in
+    let f = ap (drop (row_length r0)) a.added ∙ drop-append-le (row_length r0) names a.names fit.there.0 in
+    let b : AddsRow i r (drop (row_length r0) names) (drop (row_length r0) new) = record { names = a.names; added = f; length_is = a.length_is; item_is = a.item_is } in
+    let p = rows_push (drop (row_length r0) names) rs r i (drop (row_length r0) new) (rows_behind names r0 rs fit) b is in
+    let l : length new ≡ length names + length a.names = ap length a.added ∙ length-append names a.names in
     record {
       items = ap (λ j. j ∷ unpacked (drop (row_length r0) new) (rs ++ r ∷ [])) e ∙ ap (λ js. row_item names r0 ∷ js) p.items;
-      fit = (omega (arith, fit.0, ap length a.added ∙ length-append names a.names), subst IsItem (sym e) fit.1, p.fit);
+      fit = record {
+        there = (omega (arith, fit.there.0, l), subst IsItem (sym e) fit.there.1, p.fit.there);
+        whole = omega (arith, fit.whole, l, a.length_is, sum_by_push row_length (r0 ∷ rs) r);
+      };
     }
 
 pub rows_fit : (names : List ℕ) (rs all : List Row) (r : Row) (i : Item) (new : List ℕ) → AreRows names rs → AddsRow i r names new → IsItem i → all ≡ rs ++ r ∷ [] → AreRows new all

@@ -1,5 +1,6 @@
 -- The items that rows stand for.
 use Rattle.std.specs.Prelude.{◌≡◌, ℕ, ◌≤◌, List, [], ◌∷◌, length, drop}
+use Rattle.std.specs.List.{sum_by}
 use Rattle.ds_entry.specs.Item.{IsItem}
 use Rattle.ds_entry.specs.declared.item.Item.{Item}
 use Rattle.ds_packed.specs.declared.row.Row.{Row}
@@ -13,9 +14,10 @@ unpacked names (row ∷ rows) = row_item names row ∷ unpacked (drop (row_lengt
 -- each row has its names among the bytes, and is an item's
 abbrev pub HasRows : List ℕ → List Row → Type 0
 HasRows names [] = Unit {0}
-HasRows names (row ∷ rows) = (row_length row ≤ length names) × IsItem (row_item names row) × HasRows (drop (row_length row) names) rows
+HasRows names (row ∷ rows) =
+    (row_length row ≤ length names) × IsItem (row_item names row) × HasRows (drop (row_length row) names) rows
 
 -- and there are no other bytes
-abbrev pub AreRows : List ℕ → List Row → Type 0
-AreRows names [] = names ≡ []
-AreRows names (row ∷ rows) = (row_length row ≤ length names) × IsItem (row_item names row) × AreRows (drop (row_length row) names) rows
+pub record AreRows (names : List ℕ) (rows : List Row) : Type 0 where
+  pub there : HasRows names rows
+  pub whole : length names ≡ sum_by row_length rows

@@ -65,7 +65,7 @@ impl Packed {
     }
 
     // The items, and one more behind them. `None` where it is a text or memory, and where there is no room for it.
-    #[tactic(auto, using(crate::proofs::RowsLemmas::rows_push, crate::proofs::RowsLemmas::rows_fit))]
+    #[tactic(auto, using(crate::proofs::RowsLemmas::rows_push))]
     fn with(self, item: &Item) -> Option<Packed>
         ensures { IfSome result (λ packed. packed ≡ self ++ item.now ∷ []) }
     {
@@ -79,7 +79,6 @@ impl Packed {
     }
 
     /// The items from the first one on.
-    #[tactic(auto, using(crate::proofs::RowsLemmas::rows_there))]
     pub fn items(&self) -> Unpacking<'_>
         ensures { result ≡ self.now }
     {

@@ -1,7 +1,8 @@
 //! Lists, item by item.
 
-ghost use Rattle.std.specs.Prelude.{◌≡◌, ◌<◌, ◌≤◌, ◌∷◌, [], length, take, IfNone, IfSome};
+ghost use Rattle.std.specs.Prelude.{◌≡◌, ◌<◌, ◌∷◌, [], length, IfNone, IfSome};
 ghost use Rattle.ds_entry.specs.Item.{IsItem};
+ghost use Rattle.ds_packed.specs.First.{AreFirstItems};
 ghost use Rattle.ds_packed.specs.Rows.{unpacked, HasRows};
 
 use crate::row::Row;
@@ -47,9 +48,8 @@ impl<'a> Unpacking<'a> {
     /// So many of the first. `None` where there are fewer.
     #[tactic(auto, using(crate::proofs::RowsLemmas::unpacked_first, crate::proofs::RowsLemmas::first_rows, crate::proofs::RowsLemmas::unpacked_length))]
     pub fn first(&self, count: usize) -> Option<Unpacking<'a>>
-        ensures some { IfSome result (λ first. first ≡ take count self.now) }
+        ensures some { IfSome result (AreFirstItems count self.now) }
         ensures few { IfNone result (length self.now < count) }
-        ensures all { IfSome result (λ first. count ≤ length self.now) }
     {
         let rows = self.rows.get(..count)?;
         Some(Unpacking {
