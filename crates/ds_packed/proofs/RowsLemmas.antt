@@ -2,6 +2,7 @@
 use Rattle.std.proofs.Common.{◌≡◌, length, ℕ, ◌+◌, ◌≤◌, List, [], ◌∷◌, ◌++◌, take, drop, refl, sym, ap, ◌∙◌, subst, arith, zero, suc}
 use Rattle.std.proofs.lemmas.List.{take-append-le, drop-append-le, length-drop, length-append, nil_from_length}
 use Rattle.std.proofs.lemmas.List.Sums.{sum_by-cons, sum_by_push}
+use Rattle.ds_names.specs.Endpoint.{endpoint_of}
 use Rattle.ds_names.specs.declared.kind.Kind.{Kind}
 use Rattle.ds_names.specs.declared.kind.Kind.TheVariants as kinds
 use Rattle.ds_names.specs.declared.version.Version.{Version}
@@ -13,7 +14,7 @@ use Rattle.ds_entry.specs.declared.item.Item.{Item}
 use Rattle.ds_entry.specs.declared.item.Item.TheVariants.{Change as Changed, Floor as Floored}
 use Rattle.ds_packed.specs.declared.row.Row.{Row}
 use Rattle.ds_packed.specs.declared.row.Row.TheVariants as rows
-use Rattle.ds_packed.specs.Row.{named, row_item, row_length, AddsRow}
+use Rattle.ds_packed.specs.Row.{labelled, named, row_item, row_length, AddsRow}
 use Rattle.ds_packed.specs.Rows.{unpacked, AreRows, HasRows}
 
 -- there are as many items as rows
@@ -49,7 +50,7 @@ named_front names more name kind owner version body l =
 
 -- nor behind a row's
 row_item_front : (names more : List ℕ) (r : Row) → row_length r ≤ length names → row_item (names ++ more) r ≡ row_item names r
-row_item_front names more (rows.Label name owner slot generation) l = ap Changed (named_front names more name kinds.Label owner _ _ l)
+row_item_front names more (rows.Label name slot generation) l = ap (λ n. Changed (labelled n (endpoint_of generation slot))) (take-append-le name names more l)
 row_item_front names more (rows.U32 name owner version number) l = ap Changed (named_front names more name kinds.U32 owner version _ l)
 row_item_front names more (rows.Gone name owner version kind) l = ap Changed (named_front names more name kind owner version _ l)
 row_item_front names more (rows.Floor owner generation) l = ap (λ o. Floored (floor_of o generation)) (take-append-le owner names more l)

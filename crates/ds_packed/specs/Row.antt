@@ -1,6 +1,8 @@
 -- What a row stands for, with the bytes of its names.
-use Rattle.std.specs.Prelude.{◌≡◌, ℕ, ◌+◌, List, ◌++◌, length, take, drop}
-use Rattle.ds_names.specs.Endpoint.{endpoint_of}
+use Rattle.std.specs.Prelude.{◌≡◌, ℕ, ◌+◌, List, [], ◌++◌, length, take, drop}
+use Rattle.ds_names.specs.Endpoint.{EndpointRecord, endpoint_of}
+use Rattle.ds_names.specs.Key.{label_key}
+use Rattle.ds_names.specs.Name.{rs_name}
 use Rattle.ds_names.specs.declared.kind.Kind.{Kind}
 use Rattle.ds_names.specs.declared.kind.Kind.TheVariants as kinds
 use Rattle.ds_names.specs.declared.version.Version.{Version}
@@ -18,16 +20,25 @@ use Rattle.ds_packed.specs.declared.row.Row.TheVariants as rows
 abbrev pub named : List ℕ → ℕ → Kind → ℕ → Version → Body → ChangeRecord
 named names name kind owner version body = change_of (record { name = take name names; kind = kind }) (take owner (drop name names)) version body
 
+-- the label of the name that stands for the endpoint: `rs` owns it, and put it in the endpoint's generation
+abbrev pub labelled : List ℕ → EndpointRecord → ChangeRecord
+labelled name e = change_of (label_key name) rs_name (record { epoch = e.generation; seq = 0 }) (bodies.Put (values.Label e))
+
+-- what is kept of its owner's name beside such a body: nothing beside a label
+abbrev pub owner_kept : Body → List ℕ → List ℕ
+owner_kept (bodies.Put (values.Label e)) owner = []
+owner_kept _ owner = owner
+
 -- how many bytes its names have together
 abbrev pub row_length : Row → ℕ
-row_length (rows.Label name owner slot generation) = name + owner
+row_length (rows.Label name slot generation) = name
 row_length (rows.U32 name owner version number) = name + owner
 row_length (rows.Gone name owner version kind) = name + owner
 row_length (rows.Floor owner generation) = owner
 
 -- the item whose names stand at the front of the bytes
 abbrev pub row_item : List ℕ → Row → Item
-row_item names (rows.Label name owner slot generation) = Changed (named names name kinds.Label owner (record { epoch = generation; seq = 0 }) (bodies.Put (values.Label (endpoint_of generation slot))))
+row_item names (rows.Label name slot generation) = Changed (labelled (take name names) (endpoint_of generation slot))
 row_item names (rows.U32 name owner version number) = Changed (named names name kinds.U32 owner version (bodies.Put (values.U32 number)))
 row_item names (rows.Gone name owner version kind) = Changed (named names name kind owner version bodies.Gone)
 row_item names (rows.Floor owner generation) = Floored (floor_of (take owner names) generation)

@@ -2,7 +2,7 @@
 
 ghost use Rattle.std.specs.Prelude.{◌≡◌, ◌++◌, ◌∷◌, [], IfSome};
 
-use crate::row::Row;
+use crate::row::{Row, owner_kept};
 use crate::unpacking::Unpacking;
 use ds_entry::Item;
 use std::alloc::Global;
@@ -32,9 +32,7 @@ fn names_length(items: &[Item]) -> usize {
     let mut length: usize = 0;
     for item in items {
         let names = match item {
-            Item::Change(change) => {
-                change.key().name.bytes().len() + change.owner().bytes().len()
-            }
+            Item::Change(change) => change.key().name.bytes().len() + owner_kept(change).len(),
             Item::Floor(floor) => floor.owner.bytes().len(),
         };
         length = length.saturating_add(names);

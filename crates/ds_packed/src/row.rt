@@ -6,19 +6,18 @@ ghost use Rattle.ds_entry.specs.declared.item.Item.TheVariants.{Change as Change
 ghost use Rattle.ds_names.specs.Endpoint.{endpoint_of};
 ghost use Rattle.ds_names.specs.Name.{IsName};
 ghost use Rattle.ds_entry.specs.Item.{IsItem};
-ghost use Rattle.ds_packed.specs.Row.{named, row_item, row_length, AddsRow};
+ghost use Rattle.ds_packed.specs.Row.{labelled, named, owner_kept, row_item, row_length, AddsRow};
 
 use ds_entry::{Body, Change, Floor, Item, Value};
 use ds_names::{Endpoint, Generation, Key, Kind, Name, Version};
 
-/// What an item says beside its names, of which it has the lengths: that of the key's name first, where it is a change. A change is a
-/// label, a number, or the tombstone of any kind.
+/// What an item says beside its names, of which it has the lengths: that of the key's name first, where it is a change, and that of its
+/// owner's. A change is a label, a number, or the tombstone of any kind.
 #[derive(Clone, Copy)]
 pub(crate) enum Row {
-    /// A label's version is numbered 0, in the generation of its endpoint.
+    /// A label is owned by `rs`, whose name isn't kept, and its version is numbered 0, in the generation of its endpoint.
     Label {
         name: u8,
-        owner: u8,
         slot: u16,
         generation: Generation,
     },
@@ -69,7 +68,7 @@ impl Row {
         ensures item { IsChange change.now }
     {
         let bytes = change.key().name.bytes();
-        let owned = change.owner().bytes();
+        let owned = owner_kept(change);
         let version = change.version();
         let name = bytes.len() as u8;
         let owner = owned.len() as u8;
@@ -78,7 +77,6 @@ impl Row {
         match change.body() {
             Body::Put(Value::Label(endpoint)) => Some(Row::Label {
                 name,
-                owner,
                 slot: endpoint.slot(),
                 generation: endpoint.generation(),
             }),
@@ -107,16 +105,11 @@ impl Row {
         match self {
             Row::Label {
                 name,
-                owner,
                 slot,
                 generation,
             } => {
-                let version = Version {
-                    epoch: generation,
-                    seq: 0,
-                };
-                let body = Body::Put(Value::Label(endpoint_of(generation, slot)));
-                change_of(names, name, Kind::Label, owner, version, body)
+                let name = name_of(&names[..usize::from(name)]);
+                label_of(name, endpoint_of(generation, slot))
             }
             Row::U32 {
                 name,
@@ -145,12 +138,40 @@ impl Row {
         ensures { result ≡ row_length self }
     {
         match self {
-            Row::Label { name, owner, .. }
-            | Row::U32 { name, owner, .. }
-            | Row::Gone { name, owner, .. } => usize::from(name) + usize::from(owner),
+            Row::Label { name, .. } => usize::from(name),
+            Row::U32 { name, owner, .. } | Row::Gone { name, owner, .. } => usize::from(name)
+                + usize::from(owner),
             Row::Floor { owner, .. } => usize::from(owner),
         }
     }
+}
+
+// What is kept of the owner's name: nothing beside a label, whose owner always is `rs`.
+pub(crate) fn owner_kept(change: &Change) -> &[u8]
+    ensures kept { result.now ≡ owner_kept change.now.body change.now.owner }
+    ensures few { length result.now ≤ 64 }
+{
+    match change.body() {
+        Body::Put(Value::Label(_)) => &[],
+        Body::Put(_) | Body::Gone => change.owner().bytes(),
+    }
+}
+
+// The label of the name that stands for the endpoint.
+fn label_of(name: Name, endpoint: Endpoint) -> Item
+    requires { IsChange (labelled name endpoint) }
+    ensures { result ≡ Changed (labelled name endpoint) }
+{
+    let key = Key {
+        name,
+        kind: Kind::Label,
+    };
+    let version = Version {
+        epoch: endpoint.generation(),
+        seq: 0,
+    };
+    let body = Body::Put(Value::Label(endpoint));
+    Item::Change(Change::from_parts(key, Name::rs(), version, body))
 }
 
 // The change whose names stand at the front of the bytes.
