@@ -57,7 +57,8 @@ pub empty_is_map : (q : Query) → IsMap (empty_map q)
 empty_is_map q = record {
   limits = refl;
   sound = sound;
-  under = All-weaker (Contains (held_items (nothing_held larger))) (λ i. IsTrue (passes (is_under q) i)) (λ i k. none i (is_held (nothing_held larger) sound i k)) (held_items (nothing_held larger)) (All-contains_itself (held_items (nothing_held larger)));
+  under = All-weaker (Contains (held_items (nothing_held larger))) (λ i. IsTrue (passes (is_under q) i)) (λ i k. none i (is_held (nothing_held larger) sound i k)) (held_items (nothing_held larger))
+      (All-contains_itself (held_items (nothing_held larger)));
 }
   where
     sound : IsSound (nothing_held larger)

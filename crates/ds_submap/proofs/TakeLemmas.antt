@@ -1,5 +1,6 @@
 -- Taking items in turn.
-use Rattle.std.proofs.Common.{◌≡◌, ◌⊎◌, ℕ, ◌+◌, ◌<◌, ◌≤◌, ◌^◌, Bool, true, false, cond, List, [], ◌∷◌, ◌++◌, All, length, filter, take, drop, zero, suc, Option, Some, None, Ok, IsFalse, refl, sym, ap, ◌∙◌, subst, inl, inr, append-nil, length-append, length-drop, arith}
+use Rattle.std.proofs.Common.{◌≡◌, ℕ, ◌+◌, ◌<◌, ◌≤◌, ◌^◌, Bool, true, false, cond, List, [], ◌∷◌, ◌++◌, All, length, filter, take, drop, zero, suc, Option, Some, None, Ok, IsFalse}
+use Rattle.std.proofs.Common.{refl, sym, ap, ◌∙◌, subst, inl, inr, append-nil, length-append, length-drop, arith}
 use Rattle.std.proofs.lemmas.List.{take_more, take_all}
 use Rattle.std.proofs.lemmas.List.Elements.{All-nil, All-push, filter-append}
 use Rattle.std.proofs.lemmas.Option.{get_or_from_slice_get, slice_get_within}
@@ -15,13 +16,14 @@ use Rattle.ds_pattern.specs.declared.query.Query.{Query}
 use Rattle.ds_join.specs.declared.count.Count.{Count}
 use Rattle.ds_join.specs.Count.{counted, none_counted, stop_behind, CanCountOne}
 use Rattle.ds_join.specs.declared.merge.Stop.{Stop}
-use Rattle.ds_submap.specs.Take.{AreAnswered, AreCounted, IsFloorOrOther, IsItemTaken, IsRefusedUnder, IsTakeStopped, CannotAsk, needs_query, is_stale, is_taken}
+use Rattle.ds_submap.specs.Take.{AreAnswered, AreCounted, IsFloorOrOther, IsItemTaken, IsRefusedOrUnasked, IsTakeStopped, needs_query, is_stale, is_taken}
 use Rattle.ds_pattern.specs.Under.{is_under}
 use Rattle.ds_entry.specs.Item.{passes}
 use Rattle.ds_entry.specs.Under.{under}
 
 -- one more item
-answered_push : (old mid : Holding) (items : List Item) (rs : List Merge) (i : Item) (r : Merge) (new : Holding) → AreAnswered old items rs mid → ItemAnswer mid i (Ok r) → new ≡ after_item mid i (Ok r) → AreAnswered old (items ++ i ∷ []) (rs ++ r ∷ []) new
+answered_push : (old mid : Holding) (items : List Item) (rs : List Merge) (i : Item) (r : Merge) (new : Holding) → AreAnswered old items rs mid → ItemAnswer mid i (Ok r) → new ≡ after_item mid i (Ok r)
+    → AreAnswered old (items ++ i ∷ []) (rs ++ r ∷ []) new
 answered_push old mid [] [] i r new e a n = (subst (λ (h : Holding). ItemAnswer h i (Ok r)) e a, n ∙ ap (λ (h : Holding). after_item h i (Ok r)) e)
 answered_push old mid [] (q ∷ rs) i r new m a n = absurd m
 answered_push old mid (j ∷ items) [] i r new m a n = absurd m
@@ -47,7 +49,10 @@ one_more p rs r = ap length (filter-append p rs (r ∷ [])) ∙ length-append (f
 taken_push : (q : Query) (old mid new : Holding) (items : List Item) (i : Item) (n : Count) (answer : Option Merge) → AreCounted q old items mid n → IsItemTaken q mid i answer new → AreCounted q old (items ++ i ∷ []) new (counted n answer)
 taken_push q old mid new items i n None t h =
     record {
-      all = record { answers = t.all.answers; answered = rw (under_push q items i false h.0 ∙ append-nil (under (is_under q) items)) (subst (λ (m : Holding). AreAnswered old (under (is_under q) items) t.all.answers m) (sym h.1) t.all.answered) };
+      all = record {
+        answers = t.all.answers;
+        answered = rw (under_push q items i false h.0 ∙ append-nil (under (is_under q) items)) (subst (λ (m : Holding). AreAnswered old (under (is_under q) items) t.all.answers m) (sym h.1) t.all.answered);
+      };
       done = omega (arith, length-append items (i ∷ []), t.done);
       taken = t.taken;
       stale = t.stale;
@@ -84,7 +89,8 @@ pub record Taking (q : Query) (old : Holding) (items : List Item) (i : ℕ) (mid
   pub taken : n.taken ≤ n.done
   pub stale : n.stale ≤ n.done
 
-few_after : (n : Count) (answer : Option Merge) (i : ℕ) → n.done ≡ i → n.taken ≤ n.done → n.stale ≤ n.done → ((counted n answer).done ≡ i + 1) × ((counted n answer).taken ≤ (counted n answer).done) × ((counted n answer).stale ≤ (counted n answer).done)
+few_after : (n : Count) (answer : Option Merge) (i : ℕ) → n.done ≡ i → n.taken ≤ n.done → n.stale ≤ n.done
+    → ((counted n answer).done ≡ i + 1) × ((counted n answer).taken ≤ (counted n answer).done) × ((counted n answer).stale ≤ (counted n answer).done)
 few_after n (Some Taken) i d t s = (omega (arith, d), omega (arith, t), omega (arith, s))
 few_after n (Some Known) i d t s = (omega (arith, d), omega (arith, t), omega (arith, s))
 few_after n (Some Stale) i d t s = (omega (arith, d), omega (arith, t), omega (arith, s))
@@ -131,14 +137,15 @@ module _ (q : Query) (old : Holding) (items : List Item) where
   asking_begins n sound e = record { taking = taking_begins q old items n sound e; unasked = λ _. All-nil (λ j. IsFalse (needs_query q j)) }
 
   module _ (i : ℕ) (mid : Holding) (n : Count) (was_asked : Bool) (x : Item) (new : Holding) (a : Asking q old items i mid n was_asked) (at : slice_get items i ≡ Some x) where
-    pub asking_goes_on : (is_asked : Bool) (answer : Option Merge) (m : Count) → IsItemTaken q mid x answer new → IsSound new → m ≡ counted n answer → (is_asked ≡ false → (was_asked ≡ false) × IsFalse (needs_query q x)) → Asking q old items (i + 1) new m is_asked
+    pub asking_goes_on : (is_asked : Bool) (answer : Option Merge) (m : Count) → IsItemTaken q mid x answer new → IsSound new → m ≡ counted n answer
+        → (is_asked ≡ false → (was_asked ≡ false) × IsFalse (needs_query q x)) → Asking q old items (i + 1) new m is_asked
     asking_goes_on is_asked answer m h sound e unasked =
         record {
           taking = taking_goes_on q old items i mid n x new a.taking at answer m h sound e;
           unasked = λ none. rw (front q old items i mid n x new a.taking at (slice_get_within items i x at)) (All-push (λ j. IsFalse (needs_query q j)) (take i items) x (a.unasked (unasked none).0) (unasked none).1);
         }
 
-    pub asking_stops : (fault : JoinFault) → new ≡ mid → (IsRefusedUnder q mid x fault ⊎ CannotAsk q was_asked x fault) → IsTakeStopped q old items new (record { done = n.done; fault = fault })
+    pub asking_stops : (fault : JoinFault) → new ≡ mid → IsRefusedOrUnasked q was_asked mid x fault → IsTakeStopped q old items new (record { done = n.done; fault = fault })
     asking_stops fault e refused = rw (e, a.taking.done) (record {
       front = a.taking.counted_so.all;
       refused = (
@@ -178,7 +185,8 @@ module _ (q : Query) (old : Holding) (items : List Item) where
     there : slice_get items n.done ≡ Some x
     there = first_left n.done items ∙ ap (λ is. slice_get is 0) (sym a.left_is ∙ e)
 
-    pub left_goes_on : (new : Holding) (is_asked : Bool) (answer : Option Merge) (m : Count) → IsItemTaken q mid x answer new → IsSound new → m ≡ counted n answer → (is_asked ≡ false → (was_asked ≡ false) × IsFalse (needs_query q x)) → AskingLeft q old items others new m is_asked
+    pub left_goes_on : (new : Holding) (is_asked : Bool) (answer : Option Merge) (m : Count) → IsItemTaken q mid x answer new → IsSound new → m ≡ counted n answer
+        → (is_asked ≡ false → (was_asked ≡ false) × IsFalse (needs_query q x)) → AskingLeft q old items others new m is_asked
     left_goes_on new is_asked answer m h sound f unasked =
         let done : m.done ≡ n.done + 1 = ap (λ (k : Count). k.done) f ∙ (few_after n answer n.done refl a.asking.taking.taken a.asking.taking.stale).0 in
         let one_more_done : suc n.done ≡ m.done = omega (arith, done) in
@@ -187,7 +195,7 @@ module _ (q : Query) (old : Holding) (items : List Item) where
           left_is = ap (drop 1) (sym (sym a.left_is ∙ e)) ∙ sym (others_left n.done items) ∙ ap (λ i. drop i items) one_more_done;
         }
 
-    pub left_stops : (new : Holding) (fault : JoinFault) (stop : Stop) → new ≡ mid → (IsRefusedUnder q mid x fault ⊎ CannotAsk q was_asked x fault) → stop ≡ stop_behind n fault → IsTakeStopped q old items new stop
+    pub left_stops : (new : Holding) (fault : JoinFault) (stop : Stop) → new ≡ mid → IsRefusedOrUnasked q was_asked mid x fault → stop ≡ stop_behind n fault → IsTakeStopped q old items new stop
     left_stops new fault stop f refused g = rw g (asking_stops q old items n.done mid n was_asked x new a.asking there fault f refused)
 
     pub left_counts : length items < 2 ^ 64 → CanCountOne n

@@ -73,6 +73,10 @@ pub record CannotAsk (q : Query) (was_asked : Bool) (i : Item) (fault : JoinFaul
   pub first : was_asked ≡ false
   pub asked : IsTrue (needs_query q i)
 
+-- the item is refused, or the query can't be asked about it
+abbrev pub IsRefusedOrUnasked : Query → Bool → Holding → Item → JoinFault → Type 0
+IsRefusedOrUnasked q was_asked held i fault = IsRefusedUnder q held i fault ⊎ CannotAsk q was_asked i fault
+
 -- there is no memory to ask the query: it is taken at the first item that it has to be asked about
 pub record IsUnasked (q : Query) (front : List Item) (i : Item) (fault : JoinFault) : Type 0 where
   pub noroom : fault ≡ NoRoom

@@ -1,9 +1,9 @@
 //! Items in turn: a floor is raised, and a change is merged if it is under the query, and passed over if not.
 
-ghost use Rattle.std.specs.Prelude.{◌≡◌, ◌⊎◌, false, is_some, IfErr, IfOk, IfSome, IsFalse, OnErr, OnOk};
+ghost use Rattle.std.specs.Prelude.{◌≡◌, false, is_some, IfErr, IfOk, IfSome, IsFalse, OnErr, OnOk};
 ghost use Rattle.ds_held.specs.Held.{IsSound};
 ghost use Rattle.ds_pattern.specs.declared.query.Query.{Query};
-ghost use Rattle.ds_submap.specs.Take.{AreCounted, CannotAsk, IsFloorOrOther, IsItemTaken, IsRefusedUnder, IsTakeStopped, needs_query};
+ghost use Rattle.ds_submap.specs.Take.{AreCounted, IsFloorOrOther, IsItemTaken, IsRefusedOrUnasked, IsRefusedUnder, IsTakeStopped, needs_query};
 
 use ds_entry::Item;
 use ds_held::Held;
@@ -86,7 +86,7 @@ fn take_next<'f>(
     ensures sound { IsSound held.new }
     ensures taken { IfOk result (λ answer. IsItemTaken filter.now held.old item.now answer held.new) }
     ensures unasked { OnOk result (is_some asker.new ≡ false → (is_some asker.old ≡ false) × IsFalse (needs_query filter.now item.now)) }
-    ensures refused { IfErr result (λ fault. IsRefusedUnder filter.now held.old item.now fault ⊎ CannotAsk filter.now (is_some asker.old) item.now fault) }
+    ensures refused { IfErr result (IsRefusedOrUnasked filter.now (is_some asker.old) held.old item.now) }
     ensures unchanged { OnErr result (held.new ≡ held.old) }
 {
     if !is_asked(filter, item) {

@@ -19,7 +19,8 @@ returns-in-Err-clause-stopped c = rw c.stop.ensures
 pub loop-item-preserved : goal.loop-item-preserved
 loop-item-preserved c = record {
   asking = asking_goes_on c.args.filter.now c.args.held.now c.args.items.now c.loop-item.item-index c.loop-item.held c.loop-item.count (is_some c.loop-item.asker) c.item-item.result c.take_next.new.held
-      c.loop-item.invariant.asking (there c.args.items.now c.loop-item.item-index c.item-item.result c.loop-item-test.true c.item-item.is) (is_some c.take_next.new.asker) c.in-Ok.answer c.add.new.self c.in-Ok.ensures.taken c.in-Ok.ensures.sound c.add.ensures c.in-Ok.ensures.unasked;
+      c.loop-item.invariant.asking (there c.args.items.now c.loop-item.item-index c.item-item.result c.loop-item-test.true c.item-item.is)
+      (is_some c.take_next.new.asker) c.in-Ok.answer c.add.new.self c.in-Ok.ensures.taken c.in-Ok.ensures.sound c.add.ensures c.in-Ok.ensures.unasked;
   query = c.in-Ok.ensures.query;
 }
 

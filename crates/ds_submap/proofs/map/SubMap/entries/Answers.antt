@@ -60,7 +60,8 @@ loop-index-preserved c =
 all_puts : (c : After-loop-index) → c.loop-index.puts ≡ entries_of (held_items c.args.self.now.held)
 all_puts c =
     let held = held_changes c.args.self.now.held in
-    let many : length held ≤ c.loop-index.index = subst (λ (m : SubMapRecord). length (held_changes m.held) ≤ c.loop-index.index) c.self.view_is (omega (arith, c.loop-index-test.false, c.len-index-end.ensures.count, count_is c.self.inside.held)) in
+    let many : length held ≤ c.loop-index.index = subst (λ (m : SubMapRecord). length (held_changes m.held) ≤ c.loop-index.index) c.self.view_is
+    (omega (arith, c.loop-index-test.false, c.len-index-end.ensures.count, count_is c.self.inside.held)) in
     c.loop-index.invariant.kept ∙ ap puts_of (take_all c.loop-index.index held many) ∙ sym (held_puts c.args.self.now.held)
 
 pub returns-clause-value : goal.returns-clause-value
