@@ -1,7 +1,6 @@
 -- What a reply with items says beside them.
 use Rattle.std.specs.Prelude.{◌≡◌, List}
 use Rattle.ds_entry.specs.declared.item.Item.{Item}
-use Rattle.ds_feed.specs.declared.cursor.Cursor.{Cursor}
 use Rattle.ds_machine.specs.Given.{shown_by}
 use Rattle.ds_machine.specs.declared.reply.Reply.{Reply}
 use Rattle.ds_machine.specs.declared.reply.Reply.TheVariants as replies

@@ -1,6 +1,7 @@
 //! Items that are lent.
 
-ghost use Rattle.std.specs.Prelude.{◌≡◌, ◌<◌, ◌≤◌, length, take, IfNone, IfSome};
+ghost use Rattle.std.specs.Prelude.{◌<◌, length, IfNone, IfSome};
+ghost use Rattle.ds_packed.specs.First.{AreFirstItems};
 ghost use Rattle.ds_replica.specs.Happens.{count_of};
 ghost use Rattle.ds_message.specs.Lent.{items_lent};
 
@@ -17,7 +18,7 @@ pub enum Lent<'a> {
 impl<'a> Lent<'a> {
     /// So many of the first, or all. `None` where there are fewer.
     pub fn first(self, count: Option<usize>) -> Option<Lent<'a>>
-        ensures some { IfSome result (λ first. (items_lent first ≡ take (count_of count (items_lent self.entry)) (items_lent self.entry)) × (count_of count (items_lent self.entry) ≤ length (items_lent self.entry))) }
+        ensures some { IfSome result (λ first. AreFirstItems (count_of count (items_lent self.entry)) (items_lent self.entry) (items_lent first)) }
         ensures few { IfNone result (length (items_lent self.entry) < count_of count (items_lent self.entry)) }
     {
         match self {
