@@ -1,5 +1,6 @@
 -- What holds of the items of rows.
 use Rattle.std.proofs.Common.{◌≡◌, length, ℕ, ◌+◌, ◌≤◌, List, [], ◌∷◌, ◌++◌, take, drop, refl, sym, ap, ◌∙◌, subst, arith, zero, suc}
+use Rattle.std.proofs.Math.Nat.{le-max_left, le-max_right}
 use Rattle.std.proofs.lemmas.List.{take-append-le, drop-append-le, length-drop, length-append, nil_from_length}
 use Rattle.std.proofs.lemmas.List.Sums.{sum_by-cons, sum_by_push}
 use Rattle.ds_names.specs.Endpoint.{endpoint_of}
@@ -12,6 +13,8 @@ use Rattle.ds_entry.specs.Item.{IsItem}
 use Rattle.ds_entry.specs.declared.body.Body.{Body}
 use Rattle.ds_entry.specs.declared.item.Item.{Item}
 use Rattle.ds_entry.specs.declared.item.Item.TheVariants.{Change as Changed, Floor as Floored}
+use Rattle.ds_packed.specs.Names.{name_in, names_length, owner_in}
+use Rattle.ds_packed.specs.declared.names.Names.{Names}
 use Rattle.ds_packed.specs.declared.row.Row.{Row}
 use Rattle.ds_packed.specs.declared.row.Row.TheVariants as rows
 use Rattle.ds_packed.specs.Row.{labelled, named, row_item, row_length, AddsRow}
@@ -42,17 +45,19 @@ rows_behind names r rs h = record {
 
 -- ---- one row more
 -- what stands behind a change's names isn't looked at
-named_front : (names more : List ℕ) (name : ℕ) (kind : Kind) (owner : ℕ) (version : Version) (body : Body) → name + owner ≤ length names → named (names ++ more) name kind owner version body ≡ named names name kind owner version body
-named_front names more name kind owner version body l =
-    ap (λ n. change_of (record { name = n; kind = kind }) (take owner (drop name (names ++ more))) version body) (take-append-le name names more (omega (arith, l)))
-    ∙ ap (λ o. change_of (record { name = take name names; kind = kind }) o version body)
-    (ap (take owner) (drop-append-le name names more (omega (arith, l))) ∙ take-append-le owner (drop name names) more (omega (arith, l, length-drop name names)))
+named_front : (names more : List ℕ) (place : Names) (kind : Kind) (version : Version) (body : Body) → names_length place ≤ length names → named (names ++ more) place kind version body ≡ named names place kind version body
+named_front names more place kind version body l =
+    let at : place.owner_from + place.owner ≤ length names = omega (arith, l, le-max_right place.name (place.owner_from + place.owner)) in
+    ap (λ n. change_of (record { name = n; kind = kind }) (owner_in (names ++ more) place) version body)
+    (take-append-le place.name names more (omega (arith, l, le-max_left place.name (place.owner_from + place.owner))))
+    ∙ ap (λ o. change_of (record { name = name_in names place; kind = kind }) o version body)
+    (ap (take place.owner) (drop-append-le place.owner_from names more (omega (arith, at))) ∙ take-append-le place.owner (drop place.owner_from names) more (omega (arith, at, length-drop place.owner_from names)))
 
 -- nor behind a row's
 row_item_front : (names more : List ℕ) (r : Row) → row_length r ≤ length names → row_item (names ++ more) r ≡ row_item names r
 row_item_front names more (rows.Label name slot generation) l = ap (λ n. Changed (labelled n (endpoint_of generation slot))) (take-append-le name names more l)
-row_item_front names more (rows.U32 name owner version number) l = ap Changed (named_front names more name kinds.U32 owner version _ l)
-row_item_front names more (rows.Gone name owner version kind) l = ap Changed (named_front names more name kind owner version _ l)
+row_item_front names more (rows.U32 place version number) l = ap Changed (named_front names more place kinds.U32 version _ l)
+row_item_front names more (rows.Gone place version kind) l = ap Changed (named_front names more place kind version _ l)
 row_item_front names more (rows.Floor owner generation) l = ap (λ o. Floored (floor_of o generation)) (take-append-le owner names more l)
 
 -- the items of rows, and one row more

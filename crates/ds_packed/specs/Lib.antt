@@ -1,3 +1,4 @@
+pub mod Names
 pub mod Row
 pub mod Rows
 pub mod First

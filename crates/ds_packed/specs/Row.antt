@@ -1,5 +1,5 @@
 -- What a row stands for, with the bytes of its names.
-use Rattle.std.specs.Prelude.{◌≡◌, ℕ, ◌+◌, List, [], ◌++◌, length, take, drop}
+use Rattle.std.specs.Prelude.{◌≡◌, ℕ, List, ◌++◌, length, take}
 use Rattle.ds_names.specs.Endpoint.{EndpointRecord, endpoint_of}
 use Rattle.ds_names.specs.Key.{label_key}
 use Rattle.ds_names.specs.Name.{rs_name}
@@ -13,34 +13,31 @@ use Rattle.ds_entry.specs.declared.body.Body.{Body}
 use Rattle.ds_entry.specs.declared.body.Body.TheVariants as bodies
 use Rattle.ds_entry.specs.declared.item.Item.{Item}
 use Rattle.ds_entry.specs.declared.item.Item.TheVariants.{Change as Changed, Floor as Floored}
+use Rattle.ds_packed.specs.Names.{name_in, names_length, owner_in}
+use Rattle.ds_packed.specs.declared.names.Names.{Names}
 use Rattle.ds_packed.specs.declared.row.Row.{Row}
 use Rattle.ds_packed.specs.declared.row.Row.TheVariants as rows
 
--- the change whose key's name, of so many bytes, stands at the front, and behind it its owner's
-abbrev pub named : List ℕ → ℕ → Kind → ℕ → Version → Body → ChangeRecord
-named names name kind owner version body = change_of (record { name = take name names; kind = kind }) (take owner (drop name names)) version body
+-- the change whose names stand at the front of the bytes
+abbrev pub named : List ℕ → Names → Kind → Version → Body → ChangeRecord
+named bytes place kind version body = change_of (record { name = name_in bytes place; kind = kind }) (owner_in bytes place) version body
 
 -- the label of the name that stands for the endpoint: `rs` owns it, and put it in the endpoint's generation
 abbrev pub labelled : List ℕ → EndpointRecord → ChangeRecord
 labelled name e = change_of (label_key name) rs_name (record { epoch = e.generation; seq = 0 }) (bodies.Put (values.Label e))
 
--- what is kept of its owner's name beside such a body: nothing beside a label
-abbrev pub owner_kept : Body → List ℕ → List ℕ
-owner_kept (bodies.Put (values.Label e)) owner = []
-owner_kept _ owner = owner
-
--- how many bytes its names have together
+-- how many bytes are kept of its names
 abbrev pub row_length : Row → ℕ
 row_length (rows.Label name slot generation) = name
-row_length (rows.U32 name owner version number) = name + owner
-row_length (rows.Gone name owner version kind) = name + owner
+row_length (rows.U32 place version number) = names_length place
+row_length (rows.Gone place version kind) = names_length place
 row_length (rows.Floor owner generation) = owner
 
 -- the item whose names stand at the front of the bytes
 abbrev pub row_item : List ℕ → Row → Item
 row_item names (rows.Label name slot generation) = Changed (labelled (take name names) (endpoint_of generation slot))
-row_item names (rows.U32 name owner version number) = Changed (named names name kinds.U32 owner version (bodies.Put (values.U32 number)))
-row_item names (rows.Gone name owner version kind) = Changed (named names name kind owner version bodies.Gone)
+row_item names (rows.U32 place version number) = Changed (named names place kinds.U32 version (bodies.Put (values.U32 number)))
+row_item names (rows.Gone place version kind) = Changed (named names place kind version bodies.Gone)
 row_item names (rows.Floor owner generation) = Floored (floor_of (take owner names) generation)
 
 -- the row is the item's, and its names were put behind the bytes

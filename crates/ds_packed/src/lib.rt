@@ -2,6 +2,7 @@
 //! a row of numbers, where one of its own has room for the longest names.
 #![tactic(auto)]
 
+mod names;
 mod packed;
 mod row;
 mod unpacking;

@@ -1,18 +1,19 @@
 //! Rows, of what an item says beside its names.
 
-ghost use Rattle.std.specs.Prelude.{◌≡◌, ◌+◌, ◌≤◌, length, IfSome};
+ghost use Rattle.std.specs.Prelude.{◌≡◌, ◌≤◌, length, IfSome};
 ghost use Rattle.ds_entry.specs.Change.{IsChange};
 ghost use Rattle.ds_entry.specs.declared.item.Item.TheVariants.{Change as Changed};
 ghost use Rattle.ds_names.specs.Endpoint.{endpoint_of};
 ghost use Rattle.ds_names.specs.Name.{IsName};
 ghost use Rattle.ds_entry.specs.Item.{IsItem};
-ghost use Rattle.ds_packed.specs.Row.{labelled, named, owner_kept, row_item, row_length, AddsRow};
+ghost use Rattle.ds_packed.specs.Names.{names_length};
+ghost use Rattle.ds_packed.specs.Row.{labelled, named, row_item, row_length, AddsRow};
 
+use crate::names::{Names, add_names, name_of};
 use ds_entry::{Body, Change, Floor, Item, Value};
 use ds_names::{Endpoint, Generation, Key, Kind, Name, Version};
 
-/// What an item says beside its names, of which it has the lengths: that of the key's name first, where it is a change, and that of its
-/// owner's. A change is a label, a number, or the tombstone of any kind.
+/// What an item says beside its names, and where they stand. A change is a label, a number, or the tombstone of any kind.
 #[derive(Clone, Copy)]
 pub(crate) enum Row {
     /// A label is owned by `rs`, whose name isn't kept, and its version is numbered 0, in the generation of its endpoint.
@@ -22,14 +23,12 @@ pub(crate) enum Row {
         generation: Generation,
     },
     U32 {
-        name: u8,
-        owner: u8,
+        names: Names,
         version: Version,
         number: u32,
     },
     Gone {
-        name: u8,
-        owner: u8,
+        names: Names,
         version: Version,
         kind: Kind,
     },
@@ -67,28 +66,24 @@ impl Row {
         ensures row { IfSome result (λ row. AddsRow (Changed change.now) row names.old.items names.new.items) }
         ensures item { IsChange change.now }
     {
-        let bytes = change.key().name.bytes();
-        let owned = owner_kept(change);
         let version = change.version();
-        let name = bytes.len() as u8;
-        let owner = owned.len() as u8;
-        names.extend_from_slice(bytes).ok()?;
-        names.extend_from_slice(owned).ok()?;
         match change.body() {
-            Body::Put(Value::Label(endpoint)) => Some(Row::Label {
-                name,
-                slot: endpoint.slot(),
-                generation: endpoint.generation(),
-            }),
+            Body::Put(Value::Label(endpoint)) => {
+                let name = change.key().name.bytes();
+                names.extend_from_slice(name).ok()?;
+                Some(Row::Label {
+                    name: name.len() as u8,
+                    slot: endpoint.slot(),
+                    generation: endpoint.generation(),
+                })
+            }
             Body::Put(Value::U32(number)) => Some(Row::U32 {
-                name,
-                owner,
+                names: add_names(change, names)?,
                 version,
                 number: *number,
             }),
             Body::Gone => Some(Row::Gone {
-                name,
-                owner,
+                names: add_names(change, names)?,
                 version,
                 kind: change.key().kind,
             }),
@@ -112,20 +107,18 @@ impl Row {
                 label_of(name, endpoint_of(generation, slot))
             }
             Row::U32 {
-                name,
-                owner,
+                names: place,
                 version,
                 number,
             } => {
                 let body = Body::Put(Value::U32(number));
-                change_of(names, name, Kind::U32, owner, version, body)
+                change_of(names, place, Kind::U32, version, body)
             }
             Row::Gone {
-                name,
-                owner,
+                names: place,
                 version,
                 kind,
-            } => change_of(names, name, kind, owner, version, Body::Gone),
+            } => change_of(names, place, kind, version, Body::Gone),
             Row::Floor { owner, generation } => Item::Floor(Floor {
                 owner: name_of(&names[..usize::from(owner)]),
                 generation,
@@ -133,27 +126,15 @@ impl Row {
         }
     }
 
-    // How many bytes its names have together.
+    // How many bytes are kept of its names.
     pub(crate) fn length(self) -> usize
         ensures { result ≡ row_length self }
     {
         match self {
             Row::Label { name, .. } => usize::from(name),
-            Row::U32 { name, owner, .. } | Row::Gone { name, owner, .. } => usize::from(name)
-                + usize::from(owner),
+            Row::U32 { names, .. } | Row::Gone { names, .. } => names.length(),
             Row::Floor { owner, .. } => usize::from(owner),
         }
-    }
-}
-
-// What is kept of the owner's name: nothing beside a label, whose owner always is `rs`.
-pub(crate) fn owner_kept(change: &Change) -> &[u8]
-    ensures kept { result.now ≡ owner_kept change.now.body change.now.owner }
-    ensures few { length result.now ≤ 64 }
-{
-    match change.body() {
-        Body::Put(Value::Label(_)) => &[],
-        Body::Put(_) | Body::Gone => change.owner().bytes(),
     }
 }
 
@@ -175,17 +156,16 @@ fn label_of(name: Name, endpoint: Endpoint) -> Item
 }
 
 // The change whose names stand at the front of the bytes.
-fn change_of(names: &[u8], name: u8, kind: Kind, owner: u8, version: Version, body: Body) -> Item
-    requires within { name + owner ≤ length names.now }
-    requires change { IsChange (named names.now name kind owner version body) }
-    ensures { result ≡ Changed (named names.now name kind owner version body) }
+fn change_of(names: &[u8], place: Names, kind: Kind, version: Version, body: Body) -> Item
+    requires within { names_length place ≤ length names.now }
+    requires change { IsChange (named names.now place kind version body) }
+    ensures { result ≡ Changed (named names.now place kind version body) }
 {
-    let (name, rest) = names.split_at(usize::from(name));
     let key = Key {
-        name: name_of(name),
+        name: name_of(place.name_in(names)),
         kind,
     };
-    let owner = name_of(&rest[..usize::from(owner)]);
+    let owner = name_of(place.owner_in(names));
     Item::Change(Change::from_parts(key, owner, version, body))
 }
 
@@ -197,16 +177,5 @@ fn endpoint_of(generation: Generation, slot: u16) -> Endpoint
     match Endpoint::of(generation, slot) {
         Some(endpoint) => endpoint,
         None => unreachable!(),
-    }
-}
-
-// The name that the bytes are.
-fn name_of(bytes: &[u8]) -> Name
-    requires { IsName bytes.now }
-    ensures { result ≡ bytes.now }
-{
-    match Name::read(bytes) {
-        Ok(name) => name,
-        Err(_) => unreachable!(),
     }
 }
