@@ -14,9 +14,11 @@ MOVES = re.compile(
 )
 HARMLESS = re.compile(r"^pthread_|^v?sn?printf$|^readlink$")
 # Who may be refused a growth with no answer changed: `clap`, where it looks for a similar word; `regex`, where it reads a
-# pattern, also where its reader is compiled into `tree_of`, which asks for nothing itself; `toml`, where it reads a number; and a
-# world, where it packs a message, which stays as it is.
-DOES_WITHOUT = re.compile(r"^((strsim|regex_(class|syntax)|toml(_[a-z]+)?|ds_packed)::|ds_pattern::pattern::tree_of$|ds_world::replies::keep$)")
+# pattern, also where its reader is compiled into `tree_of`, which asks for nothing itself; `toml`, where it reads a number; a
+# world, where it packs a message, which stays as it is; and a holder's table of guesses, which stays as large as it is.
+DOES_WITHOUT = re.compile(
+    r"^((strsim|regex_(class|syntax)|toml(_[a-z]+)?|ds_packed)::|ds_pattern::pattern::tree_of$|ds_world::replies::keep$|ds_held::guesses::)"
+)
 # What asks a Since's pattern about keys may want room, and then the cursor is judged all the same: its refusals come before
 # want of memory.
 SEARCH = "regex_vm::pikevm::PikeVm::new"
