@@ -1,7 +1,5 @@
 -- Where the names of a change stand, among the bytes of names.
-use Rattle.std.specs.Prelude.{◌≡◌, if◌then◌else◌, ℕ, ◌+◌, max, List, [], ◌++◌, length, take, drop}
-use Rattle.std.specs.Bool.{◌==◌}
-use Rattle.std.specs.List.{starts_with}
+use Rattle.std.specs.Prelude.{◌≡◌, ℕ, ◌+◌, max, List, ◌++◌, length, take, drop}
 use Rattle.ds_entry.specs.Change.{ChangeRecord}
 use Rattle.ds_packed.specs.declared.names.Names.{Names}
 
@@ -15,10 +13,6 @@ owner_in bytes n = take n.owner (drop n.owner_from bytes)
 -- how many bytes are kept
 abbrev pub names_length : Names → ℕ
 names_length n = max n.name (n.owner_from + n.owner)
-
--- what is kept of an owner's name behind a key's: nothing where the key's begins with it
-abbrev pub owner_kept : List ℕ → List ℕ → List ℕ
-owner_kept name owner = if starts_with ◌==◌ name owner then [] else owner
 
 -- the names of the change are put behind the bytes, and stand there as is told
 pub record AddsNames (change : ChangeRecord) (place : Names) (old new : List ℕ) : Type 0 where

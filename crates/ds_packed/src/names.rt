@@ -3,9 +3,9 @@
 ghost use Rattle.std.specs.Prelude.{◌≡◌, ◌≤◌, length, IfSome};
 ghost use Rattle.ds_entry.specs.Change.{IsChange};
 ghost use Rattle.ds_names.specs.Name.{IsName};
-ghost use Rattle.ds_packed.specs.Names.{names_length, name_in, owner_in, owner_kept, AddsNames};
+ghost use Rattle.ds_packed.specs.Names.{names_length, name_in, owner_in, AddsNames};
 
-use ds_entry::{Body, Change, Item, Value};
+use ds_entry::Change;
 use ds_names::Name;
 
 /// How many of the bytes at the front are the name of a change's key, and from where on how many are its owner's. Mostly a key's name
@@ -42,52 +42,28 @@ impl Names {
     }
 }
 
-// What is kept of an owner's name behind a key's: nothing where the key's begins with it.
-fn owner_kept<'a>(name: &[u8], owner: &'a [u8]) -> &'a [u8]
-    ensures { result.now ≡ owner_kept name.now owner.now }
-{
-    if name.starts_with(owner) { &[] } else { owner }
-}
-
 // Puts the names of a change behind the bytes. `None` where there is no room.
+#[inline(always)]
 pub(crate) fn add_names(change: &Change, names: &mut Vec<u8>) -> Option<Names>
     ensures added { IfSome result (λ place. AddsNames change.now place names.old.items names.new.items) }
     ensures change { IsChange change.now }
 {
     let name = change.key().name.bytes();
     let owner = change.owner().bytes();
-    let kept = owner_kept(name, owner);
-    names.extend_from_slice(name).ok()?;
-    names.extend_from_slice(kept).ok()?;
-    Some(Names {
+    let place = Names {
         name: name.len() as u8,
-        owner_from: if kept.is_empty() { 0 } else { name.len() as u8 },
+        owner_from: 0,
         owner: owner.len() as u8,
+    };
+    names.extend_from_slice(name).ok()?;
+    if name.starts_with(owner) {
+        return Some(place);
+    }
+    names.extend_from_slice(owner).ok()?;
+    Some(Names {
+        owner_from: place.name,
+        ..place
     })
-}
-
-// How many bytes are kept of the names of the items.
-pub(crate) fn kept_length(items: &[Item]) -> usize {
-    let mut length: usize = 0;
-    for item in items {
-        let names = match item {
-            Item::Change(change) => kept_of(change),
-            Item::Floor(floor) => floor.owner.bytes().len(),
-        };
-        length = length.saturating_add(names);
-    }
-    length
-}
-
-// How many bytes are kept of the names of a change: of a label its own, since `rs` owns it.
-fn kept_of(change: &Change) -> usize
-    ensures { result ≤ 128 }
-{
-    let name = change.key().name.bytes();
-    match change.body() {
-        Body::Put(Value::Label(_)) => name.len(),
-        Body::Put(_) | Body::Gone => name.len() + owner_kept(name, change.owner().bytes()).len(),
-    }
 }
 
 // The name that the bytes are.

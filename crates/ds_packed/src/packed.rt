@@ -2,7 +2,6 @@
 
 ghost use Rattle.std.specs.Prelude.{◌≡◌, ◌++◌, ◌∷◌, [], IfSome};
 
-use crate::names::kept_length;
 use crate::row::Row;
 use crate::unpacking::Unpacking;
 use ds_entry::Item;
@@ -28,6 +27,21 @@ impl Model for Packed {
     ghost invariant = { λ p. AreRows p.names.items p.rows.items };
 }
 
+// How many bytes the names of the items have: as many as are kept of them, or more.
+fn names_length(items: &[Item]) -> usize {
+    let mut length: usize = 0;
+    for item in items {
+        let names = match item {
+            Item::Change(change) => {
+                change.key().name.bytes().len() + change.owner().bytes().len()
+            }
+            Item::Floor(floor) => floor.owner.bytes().len(),
+        };
+        length = length.saturating_add(names);
+    }
+    length
+}
+
 impl Packed {
     // No items, with room for so many, and for so many bytes of their names.
     fn with_room(alloc: Global, items: usize, names: usize) -> Option<Packed>
@@ -43,10 +57,11 @@ impl Packed {
     pub fn of(alloc: Global, items: &[Item]) -> Option<Packed>
         ensures { IfSome result (λ packed. packed ≡ items.now) }
     {
-        let mut packed = Packed::with_room(alloc, items.len(), kept_length(items))?;
+        let mut packed = Packed::with_room(alloc, items.len(), names_length(items))?;
         for item in items {
             packed = packed.with(item)?;
         }
+        packed.names.shrink_to_fit();
         Some(packed)
     }
 
