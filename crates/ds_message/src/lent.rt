@@ -1,9 +1,8 @@
 //! Items that are lent.
 
 ghost use Rattle.std.specs.Prelude.{◌<◌, length, IfNone, IfSome};
-ghost use Rattle.ds_packed.specs.First.{AreFirstItems};
 ghost use Rattle.ds_replica.specs.Happens.{count_of};
-ghost use Rattle.ds_message.specs.Lent.{items_lent};
+ghost use Rattle.ds_message.specs.Lent.{items_lent, AreFirstLent};
 
 use ds_entry::Item;
 use ds_packed::Unpacking;
@@ -18,7 +17,7 @@ pub enum Lent<'a> {
 impl<'a> Lent<'a> {
     /// So many of the first, or all. `None` where there are fewer.
     pub fn first(self, count: Option<usize>) -> Option<Lent<'a>>
-        ensures some { IfSome result (λ first. AreFirstItems (count_of count (items_lent self.entry)) (items_lent self.entry) (items_lent first)) }
+        ensures some { IfSome result (AreFirstLent count self.entry) }
         ensures few { IfNone result (length (items_lent self.entry) < count_of count (items_lent self.entry)) }
     {
         match self {

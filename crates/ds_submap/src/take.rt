@@ -3,7 +3,8 @@
 ghost use Rattle.std.specs.Prelude.{◌≡◌, false, is_some, IfErr, IfOk, IfSome, IsFalse, OnErr, OnOk};
 ghost use Rattle.ds_held.specs.Held.{IsSound};
 ghost use Rattle.ds_pattern.specs.declared.query.Query.{Query};
-ghost use Rattle.ds_submap.specs.Take.{AreCounted, IsFloorOrOther, IsItemTaken, IsRefusedOrUnasked, IsRefusedUnder, IsTakeStopped, needs_query};
+ghost use Rattle.ds_submap.specs.Take.{AreCounted, IsFloorOrOther, IsItemTaken, IsTakeStopped, needs_query};
+ghost use Rattle.ds_submap.specs.Take.{IsRefusedOrUnasked, IsRefusedUnder};
 
 use ds_entry::Item;
 use ds_held::Held;

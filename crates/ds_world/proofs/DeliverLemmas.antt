@@ -71,7 +71,8 @@ module _ (value : WorldRecord) (k : ℕ) (count : Option ℕ) where
     -- ---- so many items are there
     module _ (few : count_of count items ≤ length items) (tally : Tally) where
       -- whatever the tally, its outcome isn't a refusal
-      happens : (w new : World) (holder : Holder) → delivery_fault w holder count items ≡ None → WorldStands value w → Delivers w k holder count (tally_outcome tally tally.stop) new → Happens w (Deliver k holder count) (tally_outcome tally tally.stop) new
+      happens : (w new : World) (holder : Holder) → delivery_fault w holder count items ≡ None → WorldStands value w → Delivers w k holder count (tally_outcome tally tally.stop) new
+          → Happens w (Deliver k holder count) (tally_outcome tally tally.stop) new
       happens w new holder free s d = by_stop tally.stop d
         where
           by_stop : (o : Option Refusal) → Delivers w k holder count (tally_outcome tally o) new → Happens w (Deliver k holder count) (tally_outcome tally o) new
@@ -87,7 +88,8 @@ module _ (value : WorldRecord) (k : ℕ) (count : Option ℕ) where
       -- it led to such a world, in whose store want of memory came last
       abbrev pub Led : Side → WorldRecord → Type 0
       Led side new =
-          (w : World) → WorldStands value w → (after : World) × Happens w (Deliver k (Store side) count) (tally_outcome tally tally.stop) after × IsWantLast (take (count_of count items) items) tally.count.done tally.stop (store_at after side) × WorldStands new after
+          (w : World) → WorldStands value w → (after : World) × Happens w (Deliver k (Store side) count) (tally_outcome tally tally.stop) after
+          × IsWantLast (take (count_of count items) items) tally.count.done tally.stop (store_at after side) × WorldStands new after
 
       pub to_a : (new : ContentRecord) → ItemsAreTaken value.a (take (count_of count items) items) tally new
           → Led A (record value { a = new })
@@ -117,13 +119,18 @@ module _ (value : WorldRecord) (k : ℕ) (count : Option ℕ) where
 
       -- and want of memory came last
       pub store_told : (side : Side) (new : WorldRecord) → Led side new → new.messages ≡ value.messages → IsTold (Deliver k (Store side) count) (tally_outcome tally tally.stop) value new
-      store_told side new to same = (λ others e. subst (λ (l : List Item). IsStoreTold (Deliver k (Store side) count) side (take (count_of count l) l) (tally_outcome tally tally.stop) value new) (one (kept_items value.messages k) items others there e) (by_stop tally.stop to), same)
+      store_told side new to same = (
+        λ others e. subst (λ (l : List Item). IsStoreTold (Deliver k (Store side) count) side (take (count_of count l) l) (tally_outcome tally tally.stop) value new)
+            (one (kept_items value.messages k) items others there e) (by_stop tally.stop to),
+        same,
+      )
         where
           one : (o : Option (List Item)) (x y : List Item) → o ≡ Some x → o ≡ Some y → x ≡ y
           one o x y e f = cc
 
           by_stop : (o : Option Refusal)
-              → ((w : World) → WorldStands value w → (after : World) × Happens w (Deliver k (Store side) count) (tally_outcome tally o) after × IsWantLast (take (count_of count items) items) tally.count.done o (store_at after side) × WorldStands new after)
+              → ((w : World) → WorldStands value w → (after : World) × Happens w (Deliver k (Store side) count) (tally_outcome tally o) after
+              × IsWantLast (take (count_of count items) items) tally.count.done o (store_at after side) × WorldStands new after)
               → IsStoreTold (Deliver k (Store side) count) side (take (count_of count items) items) (tally_outcome tally o) value new
           by_stop None to = tt
           by_stop (Some fault) to = λ w s. (let at = to w s in (at.0, (at.1, at.2), at.3))

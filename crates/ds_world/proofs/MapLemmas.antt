@@ -100,7 +100,13 @@ map_cleared value j m e w s =
     let there = map_is value w j s ∙ ap (option_map map_state) e in (
       record w { maps = slice_set w.maps j (new_map m.query) },
       (ap (λ (o : Option MapState). cond (is_some o) None (Some NoMap)) there, record { old = map_state m; there = there; outcome_is = refl; world_is = refl }),
-      record { a = s.a; b = s.b; maps = ap (λ (l : List MapState). slice_set l j (new_map m.query)) s.maps ∙ sym (map-set map_state value.maps j (empty_map m.query) ∙ ap (λ (x : MapState). slice_set (map map_state value.maps) j x) (empty_state m.query)); messages = s.messages },
+      record {
+        a = s.a;
+        b = s.b;
+        maps = ap (λ (l : List MapState). slice_set l j (new_map m.query)) s.maps
+            ∙ sym (map-set map_state value.maps j (empty_map m.query) ∙ ap (λ (x : MapState). slice_set (map map_state value.maps) j x) (empty_state m.query));
+        messages = s.messages;
+      },
     )
 
 -- ---- a store is opened again
@@ -111,8 +117,15 @@ module _ (value : WorldRecord) (incarnation : ℕ) where
   pub old_incarnation : (side : Side) → ((incarnation ≤ value.a.journal.incarnation) ⊎ (incarnation ≤ value.b.journal.incarnation)) → EventLeads (RestartStore side incarnation) (Refused OldIncarnation) value value
   old_incarnation side (inl l) w s =
       (w, (ap (λ b. cond (b && nat_lt w.b.feed.incarnation incarnation) None (Some OldIncarnation)) (lt_false w.a.feed.incarnation incarnation (omega (arith, l, same_incarnation value.a w.a s.a))), refl), s)
-  old_incarnation side (inr l) w s =
-      (w, (ap (λ b. cond (nat_lt w.a.feed.incarnation incarnation && b) None (Some OldIncarnation)) (lt_false w.b.feed.incarnation incarnation (omega (arith, l, same_incarnation value.b w.b s.b))) ∙ ap (λ b. cond b None (Some OldIncarnation)) (and_false (nat_lt w.a.feed.incarnation incarnation)), refl), s)
+  old_incarnation side (inr l) w s = (
+    w,
+    (
+      ap (λ b. cond (nat_lt w.a.feed.incarnation incarnation && b) None (Some OldIncarnation)) (lt_false w.b.feed.incarnation incarnation (omega (arith, l, same_incarnation value.b w.b s.b)))
+          ∙ ap (λ b. cond b None (Some OldIncarnation)) (and_false (nat_lt w.a.feed.incarnation incarnation)),
+      refl,
+    ),
+    s,
+  )
     where
       and_false : (x : Bool) → x && false ≡ false
       and_false true = refl

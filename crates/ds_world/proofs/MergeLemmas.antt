@@ -1,5 +1,6 @@
 -- That Merges one after the other are what the definitions of deliveries say.
-use Rattle.std.proofs.Common.{◌≡◌, ◌≢◌, Bool, true, false, not, is_some, ℕ, zero, suc, max, ◌+◌, ◌<◌, ◌≤◌, ◌^◌, List, [], ◌∷◌, ◌++◌, length, map, take, Option, Some, None, refl, ap, ap₂, sym, ◌∙◌, subst, inl, inr, arith, append-nil, length-append, Contains}
+use Rattle.std.proofs.Common.{◌≡◌, ◌≢◌, Bool, true, false, not, is_some, ℕ, zero, suc, max, ◌+◌, ◌<◌, ◌≤◌, ◌^◌, List, [], ◌∷◌, ◌++◌, length, map, take, Option, Some, None}
+use Rattle.std.proofs.Common.{refl, ap, ap₂, sym, ◌∙◌, subst, inl, inr, arith, append-nil, length-append, Contains}
 use Rattle.std.specs.List.{flat_map}
 use Rattle.std.specs.List.{slice_get}
 use Rattle.std.specs.Option.{option_map_or}
@@ -173,11 +174,16 @@ behind (x ∷ xs) ys k = ap (slice_get (x ∷ xs ++ ys)) (let e : length (x ∷ 
 
 -- a Merge that wants memory leaves what its first items made
 module _ (s t : State) (items : List Item) (done owes : ℕ) where
+  -- what a Merge answers that a fault stopped, or none
+  abbrev answered : Option Refusal → Reply
+  answered stop = option_map_or {U = Reply} (λ fault. MergeStopped (course s items).done fault (owed s (course s items).taken)) stop
+      (Merged (course s items).done (length (course s items).taken) (course s items).stale (owed s (course s items).taken))
+
   by_refusal : (o : Option Refusal) → MergeStopped done NoRoom owes ≡ (merging s items o).0 → ⊥
   by_refusal (Some r) e = cc
   by_refusal None e = by_stop (course s items).stop (no_course s items) e
     where
-      by_stop : (o : Option Refusal) → o ≢ Some NoRoom → MergeStopped done NoRoom owes ≡ option_map_or {U = Reply} (λ fault. MergeStopped (course s items).done fault (owed s (course s items).taken)) o (Merged (course s items).done (length (course s items).taken) (course s items).stale (owed s (course s items).taken)) → ⊥
+      by_stop : (o : Option Refusal) → o ≢ Some NoRoom → MergeStopped done NoRoom owes ≡ answered o → ⊥
       by_stop (Some fault) n h = let same : fault ≡ NoRoom = cc in n (ap (λ r. Some r) same)
       by_stop None n h = cc
 
@@ -218,7 +224,8 @@ counted s t items n (MergeStopped done fault owed) e r step f = let m = merge_st
 counted s t items n (Refused fault) e r step f = tt
 counted s t items n _ e r step f = absurd f
 
-pub group_counted : (old new : ContentRecord) (group : List Item) (reply : Reply) → (s : State) × ContentStands old s → ((s : State) → ContentStands old s → (t : State) × Step s (Merge group) reply t × ContentStands new t) → IsMergeReply reply → IsCounted (length group) reply
+pub group_counted : (old new : ContentRecord) (group : List Item) (reply : Reply) → (s : State) × ContentStands old s
+    → ((s : State) → ContentStands old s → (t : State) × Step s (Merge group) reply t × ContentStands new t) → IsMergeReply reply → IsCounted (length group) reply
 group_counted old new group reply stood step fits = let went = step stood.0 stood.1 in counted stood.0 went.0 group (length group) reply refl stood.1.reached went.1 fits
 
 -- ---- a delivery on its way
@@ -245,7 +252,8 @@ delivering_begins old items t e =
       counts = record { all = λ _. refl; few = omega arith; within = omega arith };
     })
 
-module _ (old mid new : ContentRecord) (items left group others : List Item) (t u k : Tally) (d : Delivering old items left t mid) (is : left ≡ group ++ others) (none : t.stop ≡ None) (taken : ItemsAreTaken mid group u new) (counts : CountsOf (length group) u) where
+module _ (old mid new : ContentRecord) (items left group others : List Item) (t u k : Tally) (d : Delivering old items left t mid) (is : left ≡ group ++ others) (none : t.stop ≡ None)
+    (taken : ItemsAreTaken mid group u new) (counts : CountsOf (length group) u) where
   pub delivering_goes_on : k ≡ both_tallied t u → Delivering old items others k new
   delivering_goes_on e =
       subst (λ (x : Tally). Delivering old items others x new) (sym e)

@@ -25,7 +25,8 @@ none_named (Changed c ∷ items) name none = by_test (none_named items name (λ 
     by_test rest false e = rest
 
 -- one with a single change names what that one leaves
-one_named : (items : List Item) (name : List ℕ) (c : ChangeRecord) → Contains items (Changed c) → c.key ≡ label_key name → ((d : ChangeRecord) → Contains items (Changed d) → d.key ≡ label_key name → d ≡ c) → label_in items name ≡ endpoint_in c.body
+one_named : (items : List Item) (name : List ℕ) (c : ChangeRecord) → Contains items (Changed c) → c.key ≡ label_key name → ((d : ChangeRecord) → Contains items (Changed d) → d.key ≡ label_key name → d ≡ c)
+    → label_in items name ≡ endpoint_in c.body
 one_named [] name c h e one = absurd (Contains-nil (Changed c) h)
 one_named (Floored f ∷ items) name c h e one =
     elim (Contains-cons (Floored f) items (Changed c) h) [
@@ -38,7 +39,11 @@ one_named (Changed x ∷ items) name c h e one = by_test (λ m. one_named items 
     by_test rest true k = ap (λ (d : ChangeRecord). endpoint_in d.body) (one x (Contains-head (Changed x) items) (same_key x.key (label_key name) k))
     by_test rest false k =
         elim (Contains-cons (Changed x) items (Changed c) h) [
-          | inl m ↦ absurd (let same : c ≡ x = cc in let yes : eq_by_cmp key_cmp x.key (label_key name) ≡ true = same_key-refl x.key (label_key name) (subst (λ (z : ChangeRecord). z.key ≡ label_key name) same e) in let n : true ≡ false = sym yes ∙ k in cc)
+          | inl m ↦ absurd
+              (let same : c ≡ x = cc in
+              let yes : eq_by_cmp key_cmp x.key (label_key name) ≡ true = same_key-refl x.key (label_key name) (subst (λ (z : ChangeRecord). z.key ≡ label_key name) same e) in
+              let n : true ≡ false = sym yes ∙ k in
+              cc)
           | inr m ↦ rest m
         ]
 

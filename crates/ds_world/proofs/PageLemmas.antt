@@ -59,7 +59,8 @@ one_behind : (b : Bool) (y : GivenPage) (ys : List GivenPage) (W : Type 0) → M
 one_behind true y ys W e = cc
 one_behind false y ys W w = (refl, w)
 
-module _ (says_snapshot : SnappedSays) (says_page : PagedSays) (says_since : JournaledSays) (account : Account) (old new : WorldRecord) (events : List (Event × Outcome)) (told : AreTold old events new) (f : IsFor account old) (side : Side) where
+module _ (says_snapshot : SnappedSays) (says_page : PagedSays) (says_since : JournaledSays) (account : Account) (old new : WorldRecord) (events : List (Event × Outcome)) (told : AreTold old events new)
+    (f : IsFor account old) (side : Side) where
   abbrev now : Account
   now = extended_all account events
 
@@ -123,7 +124,12 @@ module _ (says_snapshot : SnappedSays) (says_page : PagedSays) (says_since : Jou
     is_page =
         let own = own ask_page x.message g in
         subst (λ (a : Account). IsPageTurn (feed_of a side) (keeps scope) behind (page_turn g.before x)) (now_is ask_page x.message g)
-        (record { front = front (extended_all account g.before) (was ask_page x.message g).mid (was ask_page x.message g).late side ask_page x.message g.since (asked ask_page x.message g); knows = own.accepted; top = held_is_top (known_then g.before).state own.reached; given = page_is })
+        (record {
+          front = front (extended_all account g.before) (was ask_page x.message g).mid (was ask_page x.message g).late side ask_page x.message g.since (asked ask_page x.message g);
+          knows = own.accepted;
+          top = held_is_top (known_then g.before).state own.reached;
+          given = page_is;
+        })
 
     page_sent : sent_in now x.message ≡ given (known_then g.before).known x.page.items
     page_sent =
@@ -132,7 +138,8 @@ module _ (says_snapshot : SnappedSays) (says_page : PagedSays) (says_since : Jou
         let w = was ask_page x.message g in
         let gift = gave (extended_all account g.before) w.mid w.late side ask_page x.message g.since (asked ask_page x.message g) in
         let left = still_to_come (is_kept scope) behind (held a.state) in
-        let same = given_unless a.state own.reached (first_refusal (against_page scope x.max)) (Paged (page_of (is_kept scope) behind x.max (held a.state) (cursor a.state))) (floors_of left ++ take x.max (changes_of left)) gift.items refl gift.given_is in
+        let same = given_unless a.state own.reached (first_refusal (against_page scope x.max)) (Paged (page_of (is_kept scope) behind x.max (held a.state) (cursor a.state)))
+        (floors_of left ++ take x.max (changes_of left)) gift.items refl gift.given_is in
         let here : IsMessage now x.message (given a.known gift.items) = subst (λ (b : Account). IsMessage b x.message (given a.known gift.items)) (now_is ask_page x.message g) gift.message in
         ap message_items here ∙ ap (λ (l : List Item). given a.known l) (sym (ap (λ (p : readings.Page). p.items) page_is ∙ same))
 
@@ -155,15 +162,18 @@ module _ (says_snapshot : SnappedSays) (says_page : PagedSays) (says_since : Jou
         let own = own ask_since x.message g in
         let w = was ask_since x.message g in
         let gift = gave (extended_all account g.before) w.mid w.late side ask_since x.message g.since (asked ask_since x.message g) in
-        let same = given_unless a.state own.reached (first_refusal (against_since a.state.feed scope at x.max)) (Journaled (since_of a.state.feed (is_kept scope) at x.max)) (filter (is_kept scope) (piece a.state.feed (is_kept scope) at x.max)) gift.items refl gift.given_is in
+        let same = given_unless a.state own.reached (first_refusal (against_since a.state.feed scope at x.max)) (Journaled (since_of a.state.feed (is_kept scope) at x.max))
+        (filter (is_kept scope) (piece a.state.feed (is_kept scope) at x.max)) gift.items refl gift.given_is in
         let here : IsMessage now x.message (given a.known gift.items) = subst (λ (b : Account). IsMessage b x.message (given a.known gift.items)) (now_is ask_since x.message g) gift.message in
         ap message_items here ∙ ap (λ (l : List Item). given a.known l) (sym (ap (λ (p : journals.Since). p.items) since_is.given ∙ same))
 
   -- ---- each of them
-  snapshots_whole : (scope : Scope) (query : Key → Bool) (k : ℕ) (snapshot : snaps.Snapshot) → WasGiven events side (Snapshot scope) k → slice_get new.messages k ≡ Some (Snapped snapshot) → KeepsQuery (keeps scope) query → IsWhole (feed_of now side) query (sent_in now k) snapshot.cursor.position
+  snapshots_whole : (scope : Scope) (query : Key → Bool) (k : ℕ) (snapshot : snaps.Snapshot) → WasGiven events side (Snapshot scope) k → slice_get new.messages k ≡ Some (Snapped snapshot)
+      → KeepsQuery (keeps scope) query → IsWhole (feed_of now side) query (sent_in now k) snapshot.cursor.position
   snapshots_whole scope query k snapshot g there keep = whole_snapshot scope k snapshot g there query keep
 
-  since_extends : (scope : Scope) (query : Key → Bool) (at : Cursor) (x : GivenSince) (items : List Sent) → WasGiven events side (Since scope at x.max) x.message → slice_get new.messages x.message ≡ Some (Journaled x.since) → KeepsQuery (keeps scope) query →
+  since_extends : (scope : Scope) (query : Key → Bool) (at : Cursor) (x : GivenSince) (items : List Sent) →
+      WasGiven events side (Since scope at x.max) x.message → slice_get new.messages x.message ≡ Some (Journaled x.since) → KeepsQuery (keeps scope) query →
       IsWhole (feed_of now side) query items at.position → IsWhole (feed_of now side) query (items ++ sent_in now x.message) x.since.cursor.position
   since_extends scope query at x items g there keep whole =
       let t = since_turn g.before x in

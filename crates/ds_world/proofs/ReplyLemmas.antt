@@ -100,7 +100,8 @@ pub record WasAsked (before since : List (Event × Outcome)) (side : Side) (comm
   pub since_happens : HappenAll after since late
   pub stands : WorldStands new late
 
-pub asked_for : (old new : WorldRecord) (events : List (Event × Outcome)) → AreTold old events new → (before since : List (Event × Outcome)) (side : Side) (command : Command) (k : ℕ) (w : World) → before ++ (Ask side command, Made k) ∷ since ≡ events → WorldStands old w
+pub asked_for : (old new : WorldRecord) (events : List (Event × Outcome)) → AreTold old events new → (before since : List (Event × Outcome)) (side : Side) (command : Command) (k : ℕ) (w : World)
+    → before ++ (Ask side command, Made k) ∷ since ≡ events → WorldStands old w
     → WasAsked before since side command k w new
 asked_for old new events told before since side command k w all s =
     let parts = in_two before ((Ask side command, Made k) ∷ since) old new (subst (λ (l : List (Event × Outcome)). AreTold old l new) (sym all) told) in
@@ -116,7 +117,8 @@ asked_for old new events told before since side command k w all s =
       after = asked.1;
       stands_not = asked.0;
       asks = asked.2;
-      there = ap (λ (l : List Reply). slice_get l k) (stay.1 ∙ ap (λ (l : List Reply). l ++ stay.0) kept.kept) ∙ ap (λ (n : ℕ). slice_get ((parts.0.messages ++ kept.reply ∷ []) ++ stay.0) n) kept.next ∙ behind parts.0.messages kept.reply stay.0 ∙ ap Some (sym asked.3);
+      there = ap (λ (l : List Reply). slice_get l k) (stay.1 ∙ ap (λ (l : List Reply). l ++ stay.0) kept.kept) ∙ ap (λ (n : ℕ). slice_get ((parts.0.messages ++ kept.reply ∷ []) ++ stay.0) n) kept.next
+          ∙ behind parts.0.messages kept.reply stay.0 ∙ ap Some (sym asked.3);
       late = rest.0;
       since_happens = rest.1;
       stands = rest.2;

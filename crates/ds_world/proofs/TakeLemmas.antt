@@ -121,7 +121,8 @@ module _ (old new : SubMapRecord) (items : List Item) (query : new.query ≡ old
         ends = (n.refused.0, n.refused.1, under_or_noroom n.refused.2, against n.refused.2);
       }
     where
-      under_or_noroom : (IsRefusedUnder old.query new.held n.refused.0 stop.fault ⊎ IsUnasked old.query (take stop.done items) n.refused.0 stop.fault) → (passes (is_under new.query) n.refused.0 ≡ true) ⊎ (refusal_of stop.fault ≡ refusals.NoRoom)
+      under_or_noroom : (IsRefusedUnder old.query new.held n.refused.0 stop.fault ⊎ IsUnasked old.query (take stop.done items) n.refused.0 stop.fault)
+          → (passes (is_under new.query) n.refused.0 ≡ true) ⊎ (refusal_of stop.fault ≡ refusals.NoRoom)
       under_or_noroom (inl r) = inl (subst (λ (q : Query). passes (is_under q) n.refused.0 ≡ true) (sym query) r.0)
       under_or_noroom (inr u) = inr (ap refusal_of u.noroom)
 

@@ -72,7 +72,8 @@ SincesAreTurns account events messages =
 -- query, are whole up to the cursor that came with the message
 abbrev pub SinceMessagesExtend : Account → List (Event × Outcome) → List Reply → Type 0
 SinceMessagesExtend account events messages =
-    (side : Side) (scope : Scope) (query : Key → Bool) (at : Cursor) (x : GivenSince) (items : List Sent) → WasGiven events side (Since scope at x.max) x.message → slice_get messages x.message ≡ Some (Journaled x.since) → KeepsQuery (keeps scope) query →
+    (side : Side) (scope : Scope) (query : Key → Bool) (at : Cursor) (x : GivenSince) (items : List Sent) →
+    WasGiven events side (Since scope at x.max) x.message → slice_get messages x.message ≡ Some (Journaled x.since) → KeepsQuery (keeps scope) query →
     let now = extended_all account events in
     IsWhole (feed_of now side) query items at.position → IsWhole (feed_of now side) query (items ++ sent_in now x.message) x.since.cursor.position
 

@@ -11,12 +11,18 @@ use Rattle.ds_pattern.specs.declared.pattern.PatternFault.{PatternFault}
 use Rattle.ds_pattern.specs.declared.pattern.PatternFault.TheVariants as patterns
 use Rattle.ds_replica.specs.declared.outcome.EventFault.{EventFault}
 use Rattle.ds_replica.specs.declared.outcome.EventFault.TheVariants as faults
+use Rattle.ds_replica.specs.declared.outcome.Outcome.{Outcome}
 use Rattle.ds_replica.specs.Delivery as deliveries
+use Rattle.ds_replica.specs.Happens.{tally_outcome}
 use Rattle.ds_world.specs.declared.tally.Tally.{Tally}
 
 -- the tally as the definitions of deliveries have it
 abbrev pub tally_of : Tally → deliveries.Tally
 tally_of t = record { count = t.count; owed = t.owed; stop = t.stop }
+
+-- what comes of a delivery that is counted so
+abbrev pub outcome_of : Tally → Outcome
+outcome_of t = tally_outcome (tally_of t) t.stop
 
 -- what was done before the others, which weren't reached where it was stopped, and those; a mask of both has the bits of either
 abbrev pub both_tallied : deliveries.Tally → deliveries.Tally → deliveries.Tally

@@ -2,8 +2,7 @@
 
 ghost use Rattle.std.specs.Prelude.{◌≡◌, None};
 ghost use Rattle.ds_replica.specs.Delivery.{ended};
-ghost use Rattle.ds_replica.specs.Happens.{tally_outcome};
-ghost use Rattle.ds_world.specs.Tally.{tally_of, both_tallied, refusal_of, fault_of, CanJoin};
+ghost use Rattle.ds_world.specs.Tally.{outcome_of, tally_of, both_tallied, refusal_of, fault_of, CanJoin};
 
 use ds_join::{Count, JoinFault};
 use ds_machine::Refusal;
@@ -48,7 +47,7 @@ impl Tally {
 
     // The outcome of the delivery.
     pub(crate) fn outcome(&self) -> Outcome
-        ensures { result ≡ tally_outcome (tally_of self.now) self.now.stop }
+        ensures { result ≡ outcome_of self.now }
     {
         match self.stop {
             None => Outcome::Merged {

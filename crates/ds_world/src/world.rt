@@ -190,7 +190,7 @@ impl World {
     }
 
     /// The message of a number, which is the reply that a store gave, with its items: `Checked`, `Journaled`, `Snapped` or
-    /// `Paged`, and no other. `None` where there is no such message. The last one isn't packed.
+    /// `Paged`, and no other. `None` where there is no such message.
     pub fn message(&self, number: usize) -> Option<&Message>
         ensures is { option_copied result ≡ slice_get self.now.messages number }
         ensures items { IfSome result (λ message. HasItems message.now) }

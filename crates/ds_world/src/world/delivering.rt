@@ -8,9 +8,8 @@ ghost use Rattle.ds_message.specs.Lent.{items_lent};
 ghost use Rattle.ds_replica.specs.declared.event.Event.TheVariants.{Deliver};
 ghost use Rattle.ds_replica.specs.declared.event.Holder.TheVariants.{Store as OfStore, Map as OfMap};
 ghost use Rattle.ds_replica.specs.Delivery.{MapTakes};
-ghost use Rattle.ds_replica.specs.Happens.{tally_outcome};
 ghost use Rattle.ds_world.specs.World.{map_state};
-ghost use Rattle.ds_world.specs.Tally.{tally_of, CountsOf};
+ghost use Rattle.ds_world.specs.Tally.{outcome_of, tally_of, CountsOf};
 ghost use Rattle.ds_world.specs.Told.{IsMapTold, IsTold};
 ghost use Rattle.ds_world.specs.Steps.{ItemsAreTaken};
 ghost use Rattle.ds_world.specs.Run.{EventLeads};
@@ -109,7 +108,7 @@ fn take(alloc: Global, map: &mut SubMap, items: Lent<'_>) -> Result<Count, Stop>
 
 fn take_all(alloc: Global, map: &mut SubMap, items: Lent<'_>) -> Tally
     ensures takes { MapTakes (map_state map.old) (items_lent items.entry) (tally_of result) (map_state map.new) }
-    ensures told { IsMapTold map.old.query map.old.held (items_lent items.entry) (tally_outcome (tally_of result) result.stop) map.new.held }
+    ensures told { IsMapTold map.old.query map.old.held (items_lent items.entry) (outcome_of result) map.new.held }
     ensures map { IsMap map.new }
 {
     let taken = take(alloc, map, items);

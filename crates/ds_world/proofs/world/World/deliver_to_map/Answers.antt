@@ -5,7 +5,6 @@ use Rattle.std.proofs.lemmas.Option.{slice_get_read}
 use Rattle.ds_submap.specs.Map.{IsMap}
 use Rattle.ds_entry.specs.declared.item.Item.{Item}
 use Rattle.ds_replica.specs.Delivery.{MapTakes}
-use Rattle.ds_replica.specs.Happens.{tally_outcome}
 use Rattle.ds_replica.specs.declared.event.Event.TheVariants.{Deliver}
 use Rattle.ds_replica.specs.declared.event.Holder.TheVariants.{Map}
 use Rattle.ds_replica.specs.declared.outcome.Outcome.{Outcome}
@@ -14,7 +13,7 @@ use Rattle.ds_message.specs.Lent.{items_lent}
 use Rattle.ds_world.specs.World.{WorldRecord, world_of, map_state, kept_items}
 use Rattle.ds_replica.specs.declared.outcome.Outcome.TheVariants.{Refused}
 use Rattle.ds_replica.specs.declared.outcome.EventFault.TheVariants.{NoMessage, NoMap, TooMany}
-use Rattle.ds_world.specs.Tally.{tally_of}
+use Rattle.ds_world.specs.Tally.{outcome_of, tally_of}
 use Rattle.ds_world.specs.Run.{EventLeads}
 use Rattle.ds_world.specs.Told.{IsMapTold, IsTold}
 use Rattle.ds_world.proofs.DeliverLemmas.{map_refused, no_message, no_map, too_many_for_map, to_map, map_told, map_at}
@@ -53,10 +52,10 @@ returns-clause-told c =
     let map_there : slice_get value.maps j ≡ Some old = slice_get_read value.maps (length value.maps) j old refl within c.index_mut.ensures.value in
     let taken = c.take_all.new.map in
     let tally = c.take_all.result in
-    let told = subst (λ (l : List Item). IsMapTold old.query old.held l (tally_outcome (tally_of tally) tally.stop) taken.held) c.in-Some-first.ensures.some.0 c.take_all.ensures.told in
+    let told = subst (λ (l : List Item). IsMapTold old.query old.held l (outcome_of tally) taken.held) c.in-Some-first.ensures.some.0 c.take_all.ensures.told in
     let new : WorldRecord = record value { maps = slice_set value.maps j taken } in
     subst (λ (v : WorldRecord). IsTold (Deliver k (Map j) count) c.outcome.result v new) c.self.view_is
-    (subst (λ (o : Outcome). IsTold (Deliver k (Map j) count) o value new) (sym c.outcome.ensures) (map_told value k j count items old taken (tally_outcome (tally_of tally) tally.stop) there map_there told))
+    (subst (λ (o : Outcome). IsTold (Deliver k (Map j) count) o value new) (sym c.outcome.ensures) (map_told value k j count items old taken (outcome_of tally) there map_there told))
 
 pub returns-in_default-clause-leads : goal.returns-in_default-clause-leads
 returns-in_default-clause-leads c =

@@ -1,6 +1,6 @@
 use Rattle.std.proofs.Common.{◌≡◌, List, ◌≤◌, length, None, Some, refl, ap, sym, ◌∙◌, subst}
 use Rattle.ds_entry.specs.declared.item.Item.{Item}
-use Rattle.ds_replica.specs.Happens.{count_of, tally_outcome}
+use Rattle.ds_replica.specs.Happens.{count_of}
 use Rattle.ds_replica.specs.declared.event.Side.{Side}
 use Rattle.ds_replica.specs.declared.event.Side.TheVariants.{A, B}
 use Rattle.ds_replica.specs.declared.event.Event.TheVariants.{Deliver}
@@ -10,9 +10,8 @@ use Rattle.ds_message.specs.Lent.{items_lent}
 use Rattle.ds_world.specs.World.{WorldRecord, world_of, kept_items}
 use Rattle.ds_replica.specs.declared.outcome.Outcome.TheVariants.{Refused}
 use Rattle.ds_replica.specs.declared.outcome.EventFault.TheVariants.{NoMessage, TooMany}
-use Rattle.ds_world.specs.declared.tally.Tally.{Tally}
 use Rattle.ds_world.specs.Run.{EventLeads}
-use Rattle.ds_world.specs.Tally.{tally_of}
+use Rattle.ds_world.specs.Tally.{outcome_of, tally_of}
 use Rattle.ds_world.specs.Steps.{ItemsAreTaken}
 use Rattle.ds_world.proofs.DeliverLemmas.{store_refused, carried, told_so, led, store_told, no_message, too_many_for_store, to_a, to_b}
 use Rattle.ds_world.proofs.world.World.deliver_to_store.Goals.{in-A, in-B}
@@ -29,20 +28,19 @@ returns-clause-leads c =
     let first = c.in-Some-first.ensures.some.0 in
     let few : count_of count items ≤ length items = c.in-Some-first.ensures.some.1 in
     let by_event = λ (side : Side). Deliver k (Store side) count in
-    let ends = λ (t : Tally). tally_outcome (tally_of t) t.stop in
     elim c.match-side.branch [
       | in-A w ↦
           (let tally = w.merge_all-tally.result in
           let new = w.merge_all-tally.new.store in
           let taken = subst (λ (l : List Item). ItemsAreTaken value.a l (tally_of tally) new) first w.merge_all-tally.ensures in
           let to = to_a value k count items there few (tally_of tally) new taken in
-          carried (ap by_event (sym w.in-A.is)) (sym (c.outcome.ensures ∙ ap ends w.tally-is)) c.self.view_is (sym w.self-is) (led value k count items there few (tally_of tally) A (record value { a = new }) to))
+          carried (ap by_event (sym w.in-A.is)) (sym (c.outcome.ensures ∙ ap outcome_of w.tally-is)) c.self.view_is (sym w.self-is) (led value k count items there few (tally_of tally) A (record value { a = new }) to))
       | in-B w ↦
           (let tally = w.merge_all-tally-in-B.result in
           let new = w.merge_all-tally-in-B.new.store in
           let taken = subst (λ (l : List Item). ItemsAreTaken value.b l (tally_of tally) new) first w.merge_all-tally-in-B.ensures in
           let to = to_b value k count items there few (tally_of tally) new taken in
-          carried (ap by_event (sym w.in-B.is)) (sym (c.outcome.ensures ∙ ap ends w.tally-is)) c.self.view_is (sym w.self-is) (led value k count items there few (tally_of tally) B (record value { b = new }) to))
+          carried (ap by_event (sym w.in-B.is)) (sym (c.outcome.ensures ∙ ap outcome_of w.tally-is)) c.self.view_is (sym w.self-is) (led value k count items there few (tally_of tally) B (record value { b = new }) to))
     ]
 
 pub returns-clause-told : goal.returns-clause-told
@@ -56,20 +54,19 @@ returns-clause-told c =
     let first = c.in-Some-first.ensures.some.0 in
     let few : count_of count items ≤ length items = c.in-Some-first.ensures.some.1 in
     let by_event = λ (side : Side). Deliver k (Store side) count in
-    let ends = λ (t : Tally). tally_outcome (tally_of t) t.stop in
     elim c.match-side.branch [
       | in-A w ↦
           (let tally = w.merge_all-tally.result in
           let new = w.merge_all-tally.new.store in
           let taken = subst (λ (l : List Item). ItemsAreTaken value.a l (tally_of tally) new) first w.merge_all-tally.ensures in
           let to = to_a value k count items there few (tally_of tally) new taken in
-          told_so (ap by_event (sym w.in-A.is)) (sym (c.outcome.ensures ∙ ap ends w.tally-is)) c.self.view_is (sym w.self-is) (store_told value k count items there few (tally_of tally) A (record value { a = new }) to refl))
+          told_so (ap by_event (sym w.in-A.is)) (sym (c.outcome.ensures ∙ ap outcome_of w.tally-is)) c.self.view_is (sym w.self-is) (store_told value k count items there few (tally_of tally) A (record value { a = new }) to refl))
       | in-B w ↦
           (let tally = w.merge_all-tally-in-B.result in
           let new = w.merge_all-tally-in-B.new.store in
           let taken = subst (λ (l : List Item). ItemsAreTaken value.b l (tally_of tally) new) first w.merge_all-tally-in-B.ensures in
           let to = to_b value k count items there few (tally_of tally) new taken in
-          told_so (ap by_event (sym w.in-B.is)) (sym (c.outcome.ensures ∙ ap ends w.tally-is)) c.self.view_is (sym w.self-is) (store_told value k count items there few (tally_of tally) B (record value { b = new }) to refl))
+          told_so (ap by_event (sym w.in-B.is)) (sym (c.outcome.ensures ∙ ap outcome_of w.tally-is)) c.self.view_is (sym w.self-is) (store_told value k count items there few (tally_of tally) B (record value { b = new }) to refl))
     ]
 
 pub returns-in_default-clause-leads : goal.returns-in_default-clause-leads

@@ -19,7 +19,8 @@ pub returns-in-B-clause-step : goal.returns-in-B-clause-step
 returns-in-B-clause-step c =
     λ w first second.
     let t = c.merge_item-in-B.ensures.step w.b second in
-    subst (λ (side : Side). (s : State) × Step (store_at w side) (Merge (c.args.item.now ∷ [])) c.merge_item-in-B.result s × ContentStands c.args.a.now (with_state w side s).a × ContentStands c.merge_item-in-B.new.store (with_state w side s).b)
+    subst (λ (side : Side). (s : State) × Step (store_at w side) (Merge (c.args.item.now ∷ [])) c.merge_item-in-B.result s × ContentStands c.args.a.now (with_state w side s).a
+    × ContentStands c.merge_item-in-B.new.store (with_state w side s).b)
     (sym c.in-B.is) (t.0, t.1, first, t.2)
 
 pub returns-in-A-clause-last : goal.returns-in-A-clause-last

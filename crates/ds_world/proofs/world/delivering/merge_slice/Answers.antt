@@ -11,4 +11,5 @@ loop-left-preserved c =
     c.loop-left.invariant is (let n : c.loop-left.tally.stop ≡ None = none_stopped c.loop-left.tally.stop c.is_none.result c.is_none.ensures c.loop-left-test.true in n) c.merge_group.ensures.takes c.merge_group.ensures.counted c.add.ensures
 
 pub returns-after-loop-left : goal.returns-after-loop-left
-returns-after-loop-left c = delivering_ends c.args.store.now c.loop-left.store c.args.items.now c.loop-left.left.now (tally_of c.loop-left.tally) c.loop-left.invariant (λ none. absurd (still_stopped c.loop-left.tally.stop c.is_none.result c.is_none.ensures c.loop-left-test.false none))
+returns-after-loop-left c = delivering_ends c.args.store.now c.loop-left.store c.args.items.now c.loop-left.left.now (tally_of c.loop-left.tally) c.loop-left.invariant
+    (λ none. absurd (still_stopped c.loop-left.tally.stop c.is_none.result c.is_none.ensures c.loop-left-test.false none))
