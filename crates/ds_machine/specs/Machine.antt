@@ -1,5 +1,5 @@
 -- The steps of the store's machine.
-use Rattle.std.specs.Prelude.{◌≡◌, ℕ, ◌<◌, ◌≤◌, ◌⊎◌, ◌&&◌, List, [], ◌∷◌, length, take, filter, Option, Some, None, is_some}
+use Rattle.std.specs.Prelude.{◌≡◌, ℕ, ◌<◌, ◌≤◌, ◌⊎◌, List, [], ◌∷◌, length, take, Option, Some, None}
 use Rattle.std.specs.Option.{option_map, option_map_or, option_and_then}
 use Rattle.ds_names.specs.declared.key.Key.{Key}
 use Rattle.ds_names.specs.Endpoint.{EndpointRecord}
@@ -11,7 +11,7 @@ use Rattle.ds_entry.specs.declared.item.Item.{Item}
 use Rattle.ds_entry.specs.declared.item.Item.TheVariants.{Change as Changed, Floor as Floored}
 use Rattle.ds_entry.specs.Change.{ChangeRecord}
 use Rattle.ds_entry.specs.Floor.{floor_of}
-use Rattle.ds_entry.specs.Void.{voids}
+use Rattle.ds_held.specs.Kept.{puts_void_by}
 use Rattle.ds_feed.specs.declared.cursor.Cursor.{Cursor}
 use Rattle.ds_feed.specs.Since.{since_of}
 use Rattle.ds_feed.specs.Page.{snapshot_of, page_of}
@@ -57,7 +57,7 @@ sweep_answer (causes.Refused refusal) = Refused refusal
 
 -- the held puts that the floor drops
 abbrev pub dropped : List Item → Floor → List ChangeRecord
-dropped held f = filter (λ (c : ChangeRecord). voids f c && is_some (value_of c)) (changes_in held)
+dropped held f = puts_void_by f (changes_in held)
 
 -- the floor is raised unless a cause stands against it; it is owed to every subscription that was made
 abbrev pub sweeping : State → EndpointRecord → Floor → Reply × State
