@@ -1,6 +1,6 @@
 //! Parts at the front of bytes.
 
-ghost use Rattle.std.specs.Prelude.{◌≡◌, ◌≢◌, ◌≤◌, List, ℕ, IfSome, IfNone, IsTrue, length, drop};
+ghost use Rattle.std.specs.Prelude.{◌≡◌, ◌≢◌, ◌≤◌, ◌++◌, List, ℕ, IfSome, IfNone, IsTrue, length, drop};
 ghost use Rattle.std.specs.List.{prefix_len, list_all};
 ghost use Rattle.std.specs.Char.{is_ascii_alphanumeric, is_ascii_digit};
 ghost use Rattle.ds_names.specs.Endpoint.{IsEndpoint, NoEndpointBegins, endpoint_text};
@@ -77,19 +77,20 @@ pub fn word_of(kind: &Kind) -> &[u8]
     }
 }
 
-// The kind of a word.
-fn kind_of(word: &[u8]) -> Option<Kind>
-    ensures found { IfSome result (λ kind. word.now ≡ kind_word kind) }
-    ensures none { IfNone result ((kind : Kind) → word.now ≢ kind_word kind) }
+// The kind whose word begins the bytes, and what comes behind the word. No kind's word begins another's.
+#[inline(always)]
+fn kind_front(bytes: &[u8]) -> Option<(Kind, &[u8])>
+    ensures found { IfSome result (λ r. bytes.now ≡ kind_word r.0 ++ r.1.now) }
+    ensures none { IfNone result ((kind : Kind) (rest : List ℕ) → bytes.now ≢ kind_word kind ++ rest) }
 {
-    if word == word_of(&Kind::Label) {
-        Some(Kind::Label)
-    } else if word == word_of(&Kind::U32) {
-        Some(Kind::U32)
-    } else if word == word_of(&Kind::Str) {
-        Some(Kind::Str)
-    } else if word == word_of(&Kind::Mem) {
-        Some(Kind::Mem)
+    if let Some(rest) = bytes.strip_prefix(b"label") {
+        Some((Kind::Label, rest))
+    } else if let Some(rest) = bytes.strip_prefix(b"u32") {
+        Some((Kind::U32, rest))
+    } else if let Some(rest) = bytes.strip_prefix(b"str") {
+        Some((Kind::Str, rest))
+    } else if let Some(rest) = bytes.strip_prefix(b"mem") {
+        Some((Kind::Mem, rest))
     } else {
         None
     }
@@ -102,11 +103,13 @@ pub fn kind_at(bytes: &[u8]) -> Option<(Kind, &[u8])>
     ensures found { IfSome result (λ r. Begins is_ascii_alphanumeric bytes.now (kind_word r.0) r.1.now) }
     ensures none { IfNone result ((kind : Kind) (rest : List ℕ) → ¬ Begins is_ascii_alphanumeric bytes.now (kind_word kind) rest) }
 {
-    let (word, rest) = word_at(bytes);
-    let Some(kind) = kind_of(word) else {
+    let Some((kind, rest)) = kind_front(bytes) else {
         return None;
     };
-    Some((kind, rest))
+    match rest.first() {
+        Some(next) if is_word_byte(*next) => None,
+        _ => Some((kind, rest)),
+    }
 }
 
 /// Reads the text of an endpoint at the front, and gives the endpoint with what comes behind its text. `None` where

@@ -15,8 +15,13 @@ use ds_names::{Generation, Key, Name, Version};
 pub fn has_owner(key: &Key) -> bool
     ensures { IsTrue result ↔ HasOwner key.now }
 {
-    let is_rs = key.name.is_rs();
-    if key.kind.is_label() { !is_rs } else { true }
+    // Any name will do for another kind, and its bytes are known to be one.
+    let _name = key.name.bytes();
+    if key.kind.is_label() {
+        !key.name.is_rs()
+    } else {
+        true
+    }
 }
 
 /// Whether some change with the key has the owner.
@@ -24,8 +29,13 @@ pub fn has_version(key: &Key, owner: &Name) -> bool
     requires { HasOwner key.now }
     ensures { IsTrue result ↔ HasVersion key.now owner.now }
 {
-    let is_rs = owner.is_rs();
-    if key.kind.is_label() { is_rs } else { true }
+    // As above, any owner.
+    let _owner = owner.bytes();
+    if key.kind.is_label() {
+        owner.is_rs()
+    } else {
+        true
+    }
 }
 
 /// Whether some change with the key and the owner has the epoch.

@@ -50,6 +50,11 @@ text_is word = refl
 word_is : (command : ScriptCommand) → list_all is_ascii_alphanumeric (word_of command) ≡ true
 word_is command = text_is (command_word command)
 
+-- a word that is no command's stands where no command's does
+pub other_word_only : (line text rest : List ℕ) → list_all is_ascii_alphanumeric text ≡ true → Begins is_ascii_alphanumeric line text rest
+    → ((w : CommandWord) → text ≢ text_of w) → (w : CommandWord) (more : List ℕ) → ¬ Begins is_ascii_alphanumeric line (text_of w) more
+other_word_only line text rest is begins other w more h = other w (part_one Word line text (text_of w) rest more is (text_is w) begins h).0
+
 -- two words at one front are one
 pub one_word : (command : ScriptCommand) (line word r s : List ℕ) → list_all is_ascii_alphanumeric word ≡ true
     → Begins is_ascii_alphanumeric line (word_of command) r → Begins is_ascii_alphanumeric line word s → (word_of command ≡ word) × (r ≡ s)
@@ -63,22 +68,17 @@ word_begins command line can is = record { parts = is; ends = command_parted com
 
 -- ---- the line can't be read
 
--- no command has the word
-pub unknown_word : (line word rest : List ℕ) → list_all is_ascii_alphanumeric word ≡ true → Begins is_ascii_alphanumeric line word rest
-    → ((w : CommandWord) → word ≢ text_of w) → IsCommandFault line 0
-unknown_word line word rest is begins other =
+-- no command's word stands at the front
+pub unknown_word : (line : List ℕ) → ((w : CommandWord) (rest : List ℕ) → ¬ Begins is_ascii_alphanumeric line (text_of w) rest) → IsCommandFault line 0
+unknown_word line other =
     record {
-      none = λ command can text.
-          let one = one_word command line word (texts (behind_word command)) rest is (word_begins command line can text) begins in
-          other (command_word command) (sym one.0);
+      none = λ command can text. other (command_word command) (texts (behind_word command)) (word_begins command line can text);
       first = record {
         rest = line;
         stops = record {
           count = 0;
           read = record { member = Show; is = tt; front = refl };
-          most = λ after r.
-              let one = one_word r.member line word r.front.0 rest is r.front.1 begins in
-              other (command_word r.member) (sym one.0);
+          most = λ after r. other (command_word r.member) r.front.0 r.front.1;
         };
         begins = omega arith;
       };

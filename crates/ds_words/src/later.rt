@@ -18,6 +18,7 @@ use std::alloc::Global;
 /// Reads the command of a line that has so many before it in its script, and comes with its newline and has no other: the
 /// first one as `read_line`, and each behind it so too, but that `ring` is an unknown word there, so that such a line is bad
 /// at place 0, whatever else it holds.
+#[inline(always)]
 pub fn read_line_behind(
     alloc: Global,
     line: &[u8],

@@ -15,9 +15,9 @@ use crate::pieces::Rest;
 use crate::scope_lines::{page_at, since_at, snapshot_at};
 use crate::service_lines::{beat_at, death_at, service_at, settings_at, tick_at};
 use crate::table_lines::{assign_at, follow_at, reply_at, submit_at};
-use crate::word::{Word, word_of};
+use crate::word::{Word, word_front};
 use crate::world_lines::{clear_at, deliver_at, restart_at, ring_at, side_at};
-use ds_line::{Expected, PartFault, word_at};
+use ds_line::{Expected, PartFault};
 use ds_lines::LONGEST_LINE;
 use std::alloc::Global;
 
@@ -58,8 +58,7 @@ pub fn read_line(alloc: Global, line: &[u8]) -> Result<ScriptCommand, CommandFau
     requires { EndsLine line.now }
     ensures { ReadsCommand line.now result }
 {
-    let (text, bytes) = word_at(line);
-    let Some(word) = word_of(text) else {
+    let Some((word, bytes)) = word_front(line) else {
         return Err(CommandFault::BadLine {
             place: 0,
             expected: Expected::Command,

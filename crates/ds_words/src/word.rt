@@ -1,8 +1,12 @@
 //! The words that commands begin with.
 
-ghost use Rattle.std.specs.Prelude.{◌≡◌, ◌≢◌, IfSome, IfNone};
+ghost use Rattle.std.specs.Prelude.{◌≡◌, ◌≢◌, ◌++◌, ℕ, List, IfSome, IfNone};
+ghost use Rattle.std.specs.Char.{is_ascii_alphanumeric};
+ghost use Rattle.ds_names.specs.Run.{Begins};
 ghost use Rattle.ds_words.specs.Words.{all_words, text_of};
 ghost use Rattle.ds_words.specs.declared.word.Word.{Word};
+
+use ds_line::word_at;
 
 /// The word of a command.
 #[derive(Clone, Copy)]
@@ -38,8 +42,56 @@ pub enum Word {
     Reply,
 }
 
-/// The command's word that a text is.
-pub(crate) fn word_of(text: &[u8]) -> Option<Word>
+/// The command's word at the front, which is the longest run of letters and digits there, and what comes behind it. `None`
+/// where that run is no command's word.
+#[inline(always)]
+pub(crate) fn word_front(line: &[u8]) -> Option<(Word, &[u8])>
+    ensures found { IfSome result (λ r. Begins is_ascii_alphanumeric line.now (text_of r.0) r.1.now) }
+    ensures none { IfNone result ((word : Word) (rest : List ℕ) → ¬ Begins is_ascii_alphanumeric line.now (text_of word) rest) }
+{
+    if let Some((word, rest)) = common_front(line) {
+        return Some((word, rest));
+    }
+    let (text, rest) = word_at(line);
+    let Some(word) = word_of(text) else {
+        return None;
+    };
+    Some((word, rest))
+}
+
+// The word at the front, where it is one of those that scripts have most of and a space comes behind it: then no other
+// word need be looked at. `None` says nothing.
+#[inline(always)]
+fn common_front(line: &[u8]) -> Option<(Word, &[u8])>
+    ensures { IfSome result (λ r. Begins is_ascii_alphanumeric line.now (text_of r.0) r.1.now) }
+{
+    let Some((word, rest)) = common_text(line) else {
+        return None;
+    };
+    match rest.first() {
+        Some(b' ') => Some((word, rest)),
+        _ => None,
+    }
+}
+
+// The word of those that scripts have most of whose text begins the line, and what comes behind it.
+#[inline(always)]
+fn common_text(line: &[u8]) -> Option<(Word, &[u8])>
+    ensures { IfSome result (λ r. line.now ≡ text_of r.0 ++ r.1.now) }
+{
+    if let Some(rest) = line.strip_prefix(b"offer") {
+        Some((Word::Offer, rest))
+    } else if let Some(rest) = line.strip_prefix(b"publish") {
+        Some((Word::Publish, rest))
+    } else if let Some(rest) = line.strip_prefix(b"retrieve") {
+        Some((Word::Retrieve, rest))
+    } else {
+        None
+    }
+}
+
+// The command's word that a text is.
+fn word_of(text: &[u8]) -> Option<Word>
     ensures found { IfSome result (λ word. text.now ≡ text_of word) }
     ensures none { IfNone result ((word : Word) → text.now ≢ text_of word) }
 {
