@@ -15,6 +15,7 @@ use ds_names::{Name, Version};
 use std::cmp::Ordering;
 
 // The first cause against a change of these parts by what is held for its key and by floors.
+#[inline(always)]
 pub(crate) fn cause_by_version(
     standing: &Standing<'_>,
     owner: &Name,

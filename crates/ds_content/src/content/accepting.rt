@@ -14,13 +14,14 @@ ghost use Rattle.ds_content.specs.Standing.{standing_in};
 ghost use Rattle.ds_machine.specs.Standing.{IsFree};
 
 use crate::content::Content;
-use ds_entry::{Change, Item};
+use ds_entry::{Body, Change, Item};
 use ds_names::{Key, NoRoom};
 use ds_watch::{Mask, Masks};
 
 impl Content {
     /// The subscriptions to which a change of the key is owed, whose place is told. For a held key it asks no pattern, and takes
     /// no memory.
+    #[inline(always)]
     pub fn owed_at(&self, place: Result<usize, usize>, key: &Key) -> Result<Mask, NoRoom>
         requires { IsPlace (changes_in self.now.held) key.now place }
         ensures value { IfOk result (λ owed. owed ≡ padded (owed_for key.now self.now.subscriptions)) }
@@ -36,25 +37,36 @@ impl Content {
     }
 
     /// A change against which nothing stands takes effect at the place of its key, and is to be shown to all to which it is owed.
-    /// Want of memory changes nothing, and is only met where the key isn't held, or where the journal's copy of the change takes
-    /// memory.
+    /// It is only lent: what is held and the journal keep a copy each. Want of memory changes nothing, and is only met where the
+    /// key isn't held, or where a copy of the change takes memory.
     pub fn accept_at(
         &mut self,
         place: Result<usize, usize>,
-        change: Change,
+        change: &Change,
         owed: Mask,
     ) -> Result<(), NoRoom>
-        requires place { IsPlace (changes_in self.old.held) change.key place }
-        requires owed { owed ≡ padded (owed_for change.key self.old.subscriptions) }
-        requires free { IsFree (standing_in self.old change) change }
-        ensures ok { OnOk result (StandsAfter self.old (λ s. takes_effect s (Changed change ∷ [])) self.new) }
+        requires place { IsPlace (changes_in self.old.held) change.now.key place }
+        requires owed { owed ≡ padded (owed_for change.now.key self.old.subscriptions) }
+        requires free { IsFree (standing_in self.old change.now) change.now }
+        ensures ok { OnOk result (StandsAfter self.old (λ s. takes_effect s (Changed change.now ∷ [])) self.new) }
         ensures err { OnErr result (self.new ≡ self.old) }
-        ensures wants { OnErr result ((held_at self.old.held change.key ≡ None) ⊎ (¬ IsBodyInPlace change.body)) }
+        ensures wants { OnErr result ((held_at self.old.held change.now.key ≡ None) ⊎ (¬ IsBodyInPlace change.now.body)) }
     {
-        let item = Item::Change(change.copy(self.alloc)?);
+        let held = change.body().copy(self.alloc)?;
+        let listed = change.body().copy(self.alloc)?;
         let _held = self.held.held();
-        self.held.put_at(place, change, Masks::fresh(owed))?;
-        self.journal.push(item);
+        self.held
+            .put_at(place, again(change, held), Masks::fresh(owed))?;
+        self.journal.push(Item::Change(again(change, listed)));
         Ok(())
     }
+}
+
+// The change again, with a copy of its body.
+#[inline(always)]
+fn again(change: &Change, body: Body) -> Change
+    requires { body ≡ change.now.body }
+    ensures { result ≡ change.now }
+{
+    Change::from_parts(*change.key(), *change.owner(), change.version(), body)
 }

@@ -82,7 +82,7 @@ impl Store {
             return Reply::Refused(Refusal::NoRoom);
         };
         let change = change_asked(asked, body, caller);
-        match self.content.accept_at(place, change, owed) {
+        match self.content.accept_at(place, &change, owed) {
             Ok(()) => Reply::Changed {
                 owed: owed.number(),
             },

@@ -72,9 +72,6 @@ impl Store {
         let Ok(owed) = self.content.owed_at(place, change.key()) else {
             return Err(Refusal::NoRoom);
         };
-        let Ok(change) = change.copy(self.alloc) else {
-            return Err(Refusal::NoRoom);
-        };
         match self.content.accept_at(place, change, owed) {
             Ok(()) => {
                 total.add(owed);
