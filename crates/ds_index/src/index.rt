@@ -61,13 +61,11 @@ fn first_at<'a>(names: &'a [Named], index: usize, endpoint: Endpoint) -> Option<
     ensures { IfSome (option_copied result) (λ (p : Named). find (holds_endpoint endpoint) names.now ≡ Some p) }
 {
     let named = nth(names, index)?;
-    if !is_of(endpoint, named) {
-        return None;
+    if is_of(endpoint, named) && (index == 0 || !is_of_nth(names, index - 1, endpoint)) {
+        Some(named)
+    } else {
+        None
     }
-    if index > 0 && is_of_nth(names, index - 1, endpoint) {
-        return None;
-    }
-    Some(named)
 }
 
 // Where the labels of the endpoint begin, or would.

@@ -87,9 +87,7 @@ pub(crate) fn is_of(endpoint: Endpoint, named: &Named) -> bool
     ensures { result ≡ holds_endpoint endpoint named.now }
 {
     match &named.endpoint {
-        Some(other) => {
-            other.slot() == endpoint.slot() && other.generation() == endpoint.generation()
-        }
+        Some(other) => *other == endpoint,
         None => false,
     }
 }
