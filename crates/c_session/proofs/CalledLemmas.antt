@@ -1,5 +1,5 @@
 -- How a request is answered, and what some requests stand for.
-use Rattle.std.proofs.Common.{◌≡◌, ◌≢◌, ℕ, List, inl, inr, refl, sym, ap, ◌∙◌, subst, arith}
+use Rattle.std.proofs.Common.{◌≡◌, ℕ, List, inl, refl, sym, ap, ◌∙◌, subst, arith}
 use Rattle.std.specs.Prelude.{Option, Some, None, IsTrue}
 use Rattle.std.specs.Option.{option_map}
 use Rattle.ds_names.specs.Endpoint.{EndpointRecord}

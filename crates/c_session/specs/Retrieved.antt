@@ -1,5 +1,5 @@
 -- What is replied to a Retrieve, by what is held.
-use Rattle.std.specs.Prelude.{◌≡◌, ◌⊎◌, Bool, true, List, Option, is_some}
+use Rattle.std.specs.Prelude.{◌≡◌, ◌⊎◌, true, List, Option, is_some}
 use Rattle.std.specs.Option.{option_map, option_and_then}
 use Rattle.ds_names.specs.declared.key.Key.{Key}
 use Rattle.ds_entry.specs.declared.body.Value.{Value}

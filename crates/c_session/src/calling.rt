@@ -6,13 +6,14 @@ ghost use Rattle.c_words.specs.Asked.{request_text};
 ghost use Rattle.c_words.specs.Request.{publish_command};
 ghost use Rattle.c_session.specs.Called.{Tells, RestsForNone, CalledWith, Called};
 
-use crate::retrieving::retrieved;
+use crate::retrieving::{change_at, number_in, retrieved};
 use crate::session::Session;
 use c_words::{
     Answer, Publication, Request, caller_of, key_of, read_publication, read_request, text_of,
 };
+use ds_entry::Value;
 use ds_machine::{Refusal, Reply};
-use ds_names::{Endpoint, Key, NoRoom};
+use ds_names::{Endpoint, Key, Name, NoRoom};
 use std::alloc::Global;
 use store_words::Wording;
 
@@ -41,6 +42,7 @@ impl Session {
     }
 
     // Lets the store answer the command that a request with this text stands for.
+    #[inline(never)]
     fn ask(&mut self, alloc: Global, request: &Request, text: &[u8], answer: &mut Answer)
         ensures { CalledWith self.old request.now text.now answer.new self.new }
     {
@@ -58,6 +60,7 @@ impl Session {
         self.rest(Answer::no_request(), answer);
     }
 
+    #[inline(never)]
     fn publish(&mut self, alloc: Global, request: &Request, text: &[u8], answer: &mut Answer)
         requires { request.now.command ≡ 0 }
         ensures { CalledWith self.old request.now text.now answer.new self.new }
@@ -85,6 +88,7 @@ impl Session {
         self.tell(Wording::AsMerge, reply, answer);
     }
 
+    #[inline(never)]
     fn retrieve(&mut self, alloc: Global, request: &Request, answer: &mut Answer)
         requires { request.now.command ≡ 3 }
         ensures { (text : List ℕ) → CalledWith self.old request.now text answer.new self.new }
@@ -95,14 +99,20 @@ impl Session {
         }
     }
 
-    // Answers a Retrieve by what the store holds.
+    // Answers a Retrieve by what the store holds. A number is told as it is read.
     fn look_up(&mut self, alloc: Global, key: &Key, answer: &mut Answer)
         ensures { Tells self.old Wording.AsMerge (Retrieve key.now) answer.new self.new }
     {
-        let reply = retrieved(alloc, self.store.held(), key);
+        let change = change_at(self.store.held(), key);
+        if let Some(number) = number_in(change) {
+            self.tell(Wording::AsMerge, Reply::Found(Value::U32(number)), answer);
+            return;
+        }
+        let reply = retrieved(alloc, change);
         self.tell(Wording::AsMerge, reply, answer);
     }
 
+    #[inline(never)]
     fn name(&mut self, request: &Request, answer: &mut Answer)
         requires { request.now.command ≡ 4 }
         ensures { (text : List ℕ) → CalledWith self.old request.now text answer.new self.new }
@@ -113,12 +123,20 @@ impl Session {
         }
     }
 
-    // Answers a NameOf by the name that the store has.
+    // Answers a NameOf: RS is `rs`, and another one is called by its label, which the store lends.
     fn look_up_name(&mut self, endpoint: Endpoint, answer: &mut Answer)
         ensures { Tells self.old Wording.AsMerge (NameOf endpoint) answer.new self.new }
     {
-        match self.store.name_of(endpoint) {
-            Some(name) => self.tell(Wording::AsMerge, Reply::Named(name), answer),
+        if endpoint.is_rs() {
+            let _stood = self.store.cursor();
+            self.tell(Wording::AsMerge, Reply::Named(Name::rs()), answer);
+            return;
+        }
+        match self.store.label_of(endpoint) {
+            Some(name) => {
+                let name = *name;
+                self.tell(Wording::AsMerge, Reply::Named(name), answer);
+            }
             None => self.tell(Wording::AsMerge, Reply::Refused(Refusal::NotFound), answer),
         }
     }

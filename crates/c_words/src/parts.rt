@@ -69,8 +69,8 @@ pub(crate) fn name(request: &Request) -> Option<Name>
 pub fn key_of(request: &Request) -> Option<Key>
     ensures { result ≡ key_of request.now }
 {
-    let name = name(request)?;
     let kind = kind(request.kinds)?;
+    let name = name(request)?;
     Some(Key { name, kind })
 }
 

@@ -9,12 +9,13 @@ use Rattle.std.specs.Option.{option_map_or}
 use Rattle.std.specs.List.Sorted.{IsStrictlySortedBy, IsPartitionedBy, IsPartitionPoint}
 use Rattle.std.proofs.lemmas.Cmp.{on_total, then_total, nat_cmp_total, nat_list_cmp_total}
 use Rattle.std.proofs.lemmas.Map.Lookups.{exact_pairs, exact_unsigned, exact_bytes}
-use Rattle.std.proofs.lemmas.Option.{same_Some, slice_get_within, slice_get-get_or}
+use Rattle.std.proofs.lemmas.Option.{same_Some, slice_get_within, slice_get-get_or, get_or_from_slice_get}
+use Rattle.std.proofs.lemmas.Map.Keys.{Less-from_sorted}
 use Rattle.ds_entry.proofs.Members.{In, In-from_Contains, Contains-from_In}
 use Rattle.ds_names.specs.Endpoint.{EndpointRecord}
 use Rattle.ds_names.specs.Key.{name_cmp}
 use Rattle.ds_index.specs.declared.named.Named.{Named}
-use Rattle.ds_index.specs.Named.{slot_of, generation_of, holder_cmp, named_cmp, is_label_behind, is_behind_in_slot, begins_behind, holds_endpoint, inserted_label, IsLabelPlace, IsNearLabel}
+use Rattle.ds_index.specs.Named.{slot_of, generation_of, holder_cmp, named_cmp, is_label_behind, is_behind_in_slot, begins_behind, holds_endpoint, inserted_label, IsBegin, IsLabelPlace, IsNearLabel}
 use Rattle.ds_index.specs.Index.{IsAdded, IsReplaced}
 use Rattle.std.proofs.lemmas.Bool.{eqb-true}
 use Rattle.ds_names.proofs.Tests.{opposed, less_is, turned}
@@ -363,6 +364,46 @@ first_found e (x ∷ xs) s = by_order (holder_cmp x.endpoint (Some e)) refl (fir
     by_order Greater q rest =
         ap (λ o. if_of e (cond (not (is_lt o)) (Some x) (find (λ (p : Named). not (begins_behind e p)) xs))) q ∙ ap (λ o. cond (is_eq o) (Some x) None) q
         ∙ sym (ap (λ o. cond (is_eq o) (Some x) (find (holds_endpoint e) xs)) q ∙ none_of e x xs s.0 q)
+
+-- what holds an endpoint doesn't stand before its labels, and what stands before such a label and doesn't hold it does
+of_is_not_before : (o : Ordering) → is_eq o ≡ true → is_lt o ≡ false
+of_is_not_before Less q = absurd (cc)
+of_is_not_before Equal q = refl
+of_is_not_before Greater q = absurd (cc)
+
+before_of : (e : EndpointRecord) (x y : Named) → named_cmp x y ≡ Less → holds_endpoint e y ≡ true → holds_endpoint e x ≡ false → begins_behind e x ≡ true
+before_of e x y l of other = by_order (holder_cmp x.endpoint (Some e)) refl
+  where
+    by_order : (o : Ordering) → holder_cmp x.endpoint (Some e) ≡ o → begins_behind e x ≡ true
+    by_order Less q = ap is_lt q
+    by_order Equal q = opposed (holds_endpoint e x) (ap is_eq q) other
+    by_order Greater q = opposed (holds_endpoint e y) of (of_up e x y l q)
+
+-- what stands where an endpoint's labels begin is the first of them, if it is one of them
+pub first_by_begin : (e : EndpointRecord) (xs : List Named) (i : ℕ) (o : Option Named) → IsStrictlySortedBy named_cmp xs → IsBegin e xs i → o ≡ slice_get xs i → if_of e o ≡ find (holds_endpoint e) xs
+first_by_begin e xs i o s begin is = ap (if_of e) (is ∙ first_behind (begins_behind e) xs i begin) ∙ first_found e xs s
+
+-- a label that holds the endpoint, with none before it, or one that doesn't hold it
+module _ (e : EndpointRecord) (xs : List Named) (s : IsStrictlySortedBy named_cmp xs) (p : Named) (of : holds_endpoint e p ≡ true) where
+  not_before : (i : ℕ) → slice_get xs i ≡ Some p → passes_nth (begins_behind e) xs i ≡ false
+  not_before i here = ap (λ o. option_map_or (begins_behind e) o false) here ∙ of_is_not_before (holder_cmp p.endpoint (Some e)) of
+
+  is_first : (i : ℕ) → slice_get xs i ≡ Some p → IsBegin e xs i → find (holds_endpoint e) xs ≡ Some p
+  is_first i here begin = sym (first_by_begin e xs i (Some p) s begin (sym here)) ∙ ap (λ b. cond b (Some p) None) of
+
+  pub first_at_front : (i : ℕ) → i ≡ 0 → slice_get xs i ≡ Some p → find (holds_endpoint e) xs ≡ Some p
+  first_at_front i none here =
+      let front : slice_get xs 0 ≡ Some p = ap (slice_get xs) (sym none) ∙ here in
+      is_first 0 front (point_first (begins_behind e) xs (begins_partitioned e xs s) (not_before 0 front))
+
+  pub first_behind_other : (i j : ℕ) → j + 1 ≡ i → slice_get xs i ≡ Some p → passes_nth (holds_endpoint e) xs j ≡ false → find (holds_endpoint e) xs ≡ Some p
+  first_behind_other i j next here other =
+      let within : i < length xs = slice_get_within xs i p here in
+      let there : slice_get xs j ≡ Some (get_or xs j p) = slice_get-get_or xs j p (omega (arith, within, next)) in
+      let not_of : holds_endpoint e (get_or xs j p) ≡ false = sym (ap (λ o. option_map_or (holds_endpoint e) o false) there) ∙ other in
+      let less : named_cmp (get_or xs j p) p ≡ Less = subst (λ (y : Named). named_cmp (get_or xs j p) y ≡ Less) (get_or_from_slice_get xs i p p here) (Less-from_sorted named_cmp xs j i p s (omega (arith, next)) within) in
+      let low : passes_nth (begins_behind e) xs j ≡ true = ap (λ o. option_map_or (begins_behind e) o false) there ∙ before_of e (get_or xs j p) p less of not_of in
+      is_first i here (point_next (begins_behind e) xs (begins_partitioned e xs s) i j next low (not_before i here))
 
 pub sorted_nil : IsStrictlySortedBy named_cmp []
 unfolding IsStrictlySortedBy

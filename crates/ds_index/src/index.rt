@@ -1,12 +1,12 @@
 //! Labels by endpoint.
 
-ghost use Rattle.std.specs.Prelude.{◌≡◌, ◌<◌, ◌≤◌, ◌+◌, [], ℕ, Some, true, false, not, Contains};
-ghost use Rattle.std.specs.Prelude.{OnOk, length, slice_get, vec_len, vec_capacity};
+ghost use Rattle.std.specs.Prelude.{◌≡◌, ◌<◌, ◌≤◌, ◌+◌, [], ℕ, Some, true, false, Contains};
+ghost use Rattle.std.specs.Prelude.{IfSome, OnOk, length, slice_get, vec_len, vec_capacity};
 ghost use Rattle.std.specs.Option.{option_copied, option_map, option_map_or};
 ghost use Rattle.std.specs.List.{find};
 ghost use Rattle.std.specs.List.Sorted.{IsStrictlySortedBy};
 ghost use Rattle.ds_index.specs.declared.named.Named.{Named};
-ghost use Rattle.ds_index.specs.Named.{named_cmp, holds_endpoint, begins_behind, is_label_behind, inserted_label};
+ghost use Rattle.ds_index.specs.Named.{named_cmp, holds_endpoint, is_label_behind, inserted_label};
 ghost use Rattle.ds_index.specs.Named.{IsBegin, IsLabelPlace, IsNearLabel};
 ghost use Rattle.ds_index.specs.Index.{IsAdded, IsMovedLabel, IsReplaced};
 
@@ -45,53 +45,44 @@ fn nth(names: &[Named], index: usize) -> Option<&Named>
     names.get(index)
 }
 
-// Whether the labels of the endpoint begin behind the label at the index.
-fn begins_behind_nth(names: &[Named], index: usize, endpoint: Endpoint) -> bool
-    ensures { result ≡ option_map_or (begins_behind endpoint) (slice_get names.now index) false }
+// Whether the label at the index holds the endpoint.
+fn is_of_nth(names: &[Named], index: usize, endpoint: Endpoint) -> bool
+    ensures { result ≡ option_map_or (holds_endpoint endpoint) (slice_get names.now index) false }
 {
     match nth(names, index) {
-        Some(named) => begins_behind(endpoint, named),
+        Some(named) => is_of(endpoint, named),
         None => false,
     }
 }
 
-// Whether the labels of the endpoint begin at the index: behind the label before it, and not behind the one there.
-fn is_begin(names: &[Named], index: usize, endpoint: Endpoint) -> bool
+// The label at the index, if it is the first of the endpoint: it holds the endpoint, and the one before it doesn't.
+fn first_at<'a>(names: &'a [Named], index: usize, endpoint: Endpoint) -> Option<&'a Named>
     requires { IsStrictlySortedBy named_cmp names.now }
-    ensures { result ≡ true → IsBegin endpoint names.now index }
+    ensures { IfSome (option_copied result) (λ (p : Named). find (holds_endpoint endpoint) names.now ≡ Some p) }
 {
-    if index > 0 && !begins_behind_nth(names, index - 1, endpoint) {
-        return false;
+    let named = nth(names, index)?;
+    if is_of(endpoint, named) && (index == 0 || !is_of_nth(names, index - 1, endpoint)) {
+        Some(named)
+    } else {
+        None
     }
-    !begins_behind_nth(names, index, endpoint)
 }
 
 // Where the labels of the endpoint begin, or would.
-fn begin_of(names: &[Named], guess: usize, endpoint: Endpoint) -> usize
+fn begin_of(names: &[Named], endpoint: Endpoint) -> usize
     requires { IsStrictlySortedBy named_cmp names.now }
     ensures { IsBegin endpoint names.now result }
 {
-    if is_begin(names, guess, endpoint) {
-        return guess;
-    }
     names.partition_point(|named| begins_behind(endpoint, named))
 }
 
-// The first label of the endpoint or behind it: the endpoint's labels don't begin behind it.
-fn first_at<'a>(names: &'a [Named], guess: usize, endpoint: Endpoint) -> Option<&'a Named>
-    requires { IsStrictlySortedBy named_cmp names.now }
-    ensures { option_copied result ≡ find (λ (p : Named). not (begins_behind endpoint p)) names.now }
-{
-    let place = begin_of(names, guess, endpoint);
-    nth(names, place)
-}
-
-// The first of the endpoint.
-fn first_of<'a>(names: &'a [Named], guess: usize, endpoint: Endpoint) -> Option<&'a Named>
+// The first of the endpoint, which is searched for.
+#[inline(never)]
+fn search<'a>(names: &'a [Named], endpoint: Endpoint) -> Option<&'a Named>
     requires { IsStrictlySortedBy named_cmp names.now }
     ensures { option_copied result ≡ find (holds_endpoint endpoint) names.now }
 {
-    match first_at(names, guess, endpoint) {
+    match nth(names, begin_of(names, endpoint)) {
         Some(named) => {
             if is_of(endpoint, named) {
                 Some(named)
@@ -100,6 +91,17 @@ fn first_of<'a>(names: &'a [Named], guess: usize, endpoint: Endpoint) -> Option<
             }
         }
         None => None,
+    }
+}
+
+// The first of the endpoint.
+fn first_of<'a>(names: &'a [Named], guess: usize, endpoint: Endpoint) -> Option<&'a Named>
+    requires { IsStrictlySortedBy named_cmp names.now }
+    ensures { option_copied result ≡ find (holds_endpoint endpoint) names.now }
+{
+    match first_at(names, guess, endpoint) {
+        Some(named) => Some(named),
+        None => search(names, endpoint),
     }
 }
 
@@ -220,6 +222,7 @@ impl Index {
     }
 
     /// The least name of an endpoint.
+    #[inline(always)]
     pub(crate) fn name_of(&self, endpoint: Endpoint) -> Option<&Name>
         ensures first { option_copied result ≡ option_map (λ (p : Named). p.name) (find (holds_endpoint endpoint) self.now.names) }
         ensures in_order { IsStrictlySortedBy named_cmp self.now.names }

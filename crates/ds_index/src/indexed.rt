@@ -74,6 +74,7 @@ impl<M: Drop> Indexed<M> {
     /// The least name whose live label holds an endpoint. It takes no memory, and asks no other key.
     ///
     /// MINIX 3's DS names an endpoint by whichever label it finds first; that it is the least one is of this project.
+    #[inline(always)]
     pub fn name_of(&self, endpoint: Endpoint) -> Option<&Name>
         ensures { option_copied result ≡ first_name_of endpoint (held_changes self.now.held) }
     {

@@ -86,10 +86,10 @@ pub(crate) fn begins_behind(endpoint: Endpoint, named: &Named) -> bool
 pub(crate) fn is_of(endpoint: Endpoint, named: &Named) -> bool
     ensures { result ≡ holds_endpoint endpoint named.now }
 {
-    matches!(
-        compare_endpoints(&named.endpoint, &Some(endpoint)),
-        Ordering::Equal
-    )
+    match &named.endpoint {
+        Some(other) => *other == endpoint,
+        None => false,
+    }
 }
 
 /// The endpoint that a change leaves.

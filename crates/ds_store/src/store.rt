@@ -5,7 +5,7 @@ ghost use Rattle.ds_feed.specs.Kept.{cursor_of, IsRing};
 ghost use Rattle.ds_held.specs.Held.{held_items, IsSound};
 ghost use Rattle.ds_held.specs.Limits.{larger};
 ghost use Rattle.ds_machine.specs.State.{State, opening};
-ghost use Rattle.ds_machine.specs.Asking.{name_of};
+ghost use Rattle.ds_machine.specs.Parts.{changes_in};
 ghost use Rattle.ds_machine.specs.Machine.{Step};
 ghost use Rattle.ds_machine.specs.declared.refusal.Refusal.TheVariants.{NoRoom};
 ghost use Rattle.ds_machine.specs.Says.{IsReplyTo};
@@ -15,6 +15,8 @@ ghost use Rattle.ds_store.specs.Opening.{IsOpenRefusal, refusal_of_opening};
 ghost use Rattle.ds_store.specs.InPlace.{TakesNoMemory};
 ghost use Rattle.ds_store.specs.Steps.{ContentSteps};
 ghost use Rattle.ds_names.specs.Limits.{last_place};
+ghost use Rattle.ds_join.specs.Label.{first_name_of};
+ghost use Rattle.std.specs.Option.{option_copied};
 
 use ds_content::Content;
 use ds_entry::{Body, Floor, Value};
@@ -187,14 +189,14 @@ impl Store {
         self.content.held()
     }
 
-    /// The name of an endpoint: the least one whose live label holds it, and `rs` for that of RS.
+    /// The least name whose live label holds an endpoint. RS's own name is no label's.
     #[inline(always)]
-    pub fn name_of(&self, endpoint: Endpoint) -> Option<Name>
-        ensures value { result ≡ name_of self.now.held endpoint }
+    pub fn label_of(&self, endpoint: Endpoint) -> Option<&Name>
+        ensures value { option_copied result ≡ first_name_of endpoint (changes_in self.now.held) }
         ensures stood { (s : State) × ContentStands self.now s }
     {
         let _stood = self.cursor();
-        self.content.name_of(endpoint)
+        self.content.label_of(endpoint)
     }
 
     /// The cursor behind all that took effect: its incarnation, and the position of the next item.
