@@ -13,7 +13,7 @@ use Rattle.ds_entry.specs.Item.{IsItem}
 use Rattle.ds_entry.specs.declared.body.Body.{Body}
 use Rattle.ds_entry.specs.declared.item.Item.{Item}
 use Rattle.ds_entry.specs.declared.item.Item.TheVariants.{Change as Changed, Floor as Floored}
-use Rattle.ds_packed.specs.Names.{name_in, names_length, owner_in}
+use Rattle.ds_packed.specs.Names.{key_name_in, names_length, owner_in}
 use Rattle.ds_packed.specs.declared.names.Names.{Names}
 use Rattle.ds_packed.specs.declared.row.Row.{Row}
 use Rattle.ds_packed.specs.declared.row.Row.TheVariants as rows
@@ -50,7 +50,7 @@ named_front names more place kind version body l =
     let at : place.owner_from + place.owner ≤ length names = omega (arith, l, le-max_right place.name (place.owner_from + place.owner)) in
     ap (λ n. change_of (record { name = n; kind = kind }) (owner_in (names ++ more) place) version body)
     (take-append-le place.name names more (omega (arith, l, le-max_left place.name (place.owner_from + place.owner))))
-    ∙ ap (λ o. change_of (record { name = name_in names place; kind = kind }) o version body)
+    ∙ ap (λ o. change_of (record { name = key_name_in names place; kind = kind }) o version body)
     (ap (take place.owner) (drop-append-le place.owner_from names more (omega (arith, at))) ∙ take-append-le place.owner (drop place.owner_from names) more (omega (arith, at, length-drop place.owner_from names)))
 
 -- nor behind a row's

@@ -4,8 +4,8 @@ use Rattle.ds_entry.specs.Change.{ChangeRecord}
 use Rattle.ds_packed.specs.declared.names.Names.{Names}
 
 -- the name of the key, and that of its owner
-abbrev pub name_in : List ℕ → Names → List ℕ
-name_in bytes n = take n.name bytes
+abbrev pub key_name_in : List ℕ → Names → List ℕ
+key_name_in bytes n = take n.name bytes
 
 abbrev pub owner_in : List ℕ → Names → List ℕ
 owner_in bytes n = take n.owner (drop n.owner_from bytes)
@@ -19,5 +19,5 @@ pub record AddsNames (change : ChangeRecord) (place : Names) (old new : List ℕ
   pub names : List ℕ
   pub added : new ≡ old ++ names
   pub length_is : length names ≡ names_length place
-  pub name_is : name_in names place ≡ change.key.name
+  pub name_is : key_name_in names place ≡ change.key.name
   pub owner_is : owner_in names place ≡ change.owner

@@ -13,14 +13,14 @@ use Rattle.ds_entry.specs.declared.body.Body.{Body}
 use Rattle.ds_entry.specs.declared.body.Body.TheVariants as bodies
 use Rattle.ds_entry.specs.declared.item.Item.{Item}
 use Rattle.ds_entry.specs.declared.item.Item.TheVariants.{Change as Changed, Floor as Floored}
-use Rattle.ds_packed.specs.Names.{name_in, names_length, owner_in}
+use Rattle.ds_packed.specs.Names.{key_name_in, names_length, owner_in}
 use Rattle.ds_packed.specs.declared.names.Names.{Names}
 use Rattle.ds_packed.specs.declared.row.Row.{Row}
 use Rattle.ds_packed.specs.declared.row.Row.TheVariants as rows
 
 -- the change whose names stand at the front of the bytes
 abbrev pub named : List ℕ → Names → Kind → Version → Body → ChangeRecord
-named bytes place kind version body = change_of (record { name = name_in bytes place; kind = kind }) (owner_in bytes place) version body
+named bytes place kind version body = change_of (record { name = key_name_in bytes place; kind = kind }) (owner_in bytes place) version body
 
 -- the label of the name that stands for the endpoint: `rs` owns it, and put it in the endpoint's generation
 abbrev pub labelled : List ℕ → EndpointRecord → ChangeRecord

@@ -3,7 +3,7 @@
 ghost use Rattle.std.specs.Prelude.{◌≡◌, ◌≤◌, length, IfSome};
 ghost use Rattle.ds_entry.specs.Change.{IsChange};
 ghost use Rattle.ds_names.specs.Name.{IsName};
-ghost use Rattle.ds_packed.specs.Names.{names_length, name_in, owner_in, AddsNames};
+ghost use Rattle.ds_packed.specs.Names.{names_length, key_name_in, owner_in, AddsNames};
 
 use ds_entry::Change;
 use ds_names::Name;
@@ -26,9 +26,9 @@ impl Names {
     }
 
     // The name of the key.
-    pub(crate) fn name_in(self, names: &[u8]) -> &[u8]
+    pub(crate) fn key_name_in(self, names: &[u8]) -> &[u8]
         requires { names_length self ≤ length names.now }
-        ensures { result.now ≡ name_in names.now self }
+        ensures { result.now ≡ key_name_in names.now self }
     {
         &names[..usize::from(self.name)]
     }

@@ -162,7 +162,7 @@ fn change_of(names: &[u8], place: Names, kind: Kind, version: Version, body: Bod
     ensures { result ≡ Changed (named names.now place kind version body) }
 {
     let key = Key {
-        name: name_of(place.name_in(names)),
+        name: name_of(place.key_name_in(names)),
         kind,
     };
     let owner = name_of(place.owner_in(names));
