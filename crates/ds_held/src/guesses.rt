@@ -76,12 +76,13 @@ impl Guesses {
         self.places.resize(FEWEST.max(count.saturating_mul(2)), 0)
     }
 
-    // Those at the place and behind it moved along by one.
+    // Those at the place and behind it moved along by one. Without a branch, so that a compiler can take several at a time.
     fn move_along(&mut self, place: usize) {
+        let Ok(place) = u16::try_from(place) else {
+            return;
+        };
         for guess in self.places.iter_mut() {
-            if usize::from(*guess) >= place {
-                *guess = guess.wrapping_add(1);
-            }
+            *guess = guess.wrapping_add(u16::from(*guess >= place));
         }
     }
 
