@@ -2,7 +2,8 @@
 
 ghost use Rattle.std.specs.Prelude.{◌≡◌, ℕ, List, IfErr, OnOk, OnErr};
 ghost use Rattle.ds_lines.specs.Lines.{EndsLine, with_newline};
-ghost use Rattle.ds_script.specs.Answer.{AppendsLine};
+ghost use Rattle.ds_words.specs.Command.{ReadsAs};
+ghost use Rattle.ds_script.specs.Answer.{MayStand, AppendsLine};
 ghost use Rattle.ds_script.specs.Progress.{IsUnendedFault, KeepsSession};
 
 use crate::answer::answer_command;
@@ -10,7 +11,7 @@ use crate::session::Session;
 use ds_line::Expected;
 use ds_lines::LONGEST_LINE;
 use ds_names::NoRoom;
-use ds_words::{CommandFault, read_line_behind};
+use ds_words::{CommandFault, ScriptCommand, read_line_behind};
 use std::alloc::Global;
 use store_words::append_noroom;
 
@@ -35,7 +36,7 @@ pub(crate) fn answer_line(
             expected: Expected::Limit,
         });
     }
-    let command = match read_line_behind(alloc, line, before) {
+    let command = match read_behind(alloc, line, before) {
         Ok(command) => command,
         Err(CommandFault::NoRoom) => {
             return match append_noroom(output) {
@@ -49,4 +50,12 @@ pub(crate) fn answer_line(
         Ok(()) => Ok(()),
         Err(NoRoom) => Err(CommandFault::NoRoom),
     }
+}
+
+// Reads a line behind so many others: `ring` stands on the first line alone.
+fn read_behind(alloc: Global, line: &[u8], before: u64) -> Result<ScriptCommand, CommandFault>
+    requires { EndsLine line.now }
+    ensures { ReadsAs (MayStand before) line.now result }
+{
+    read_line_behind(alloc, line, before)
 }

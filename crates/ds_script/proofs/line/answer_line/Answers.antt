@@ -1,10 +1,9 @@
-use Rattle.std.proofs.Common.{Ok, arith, ap, length, length-append, ◌∷◌, [], ◌≤◌, sym, ◌∙◌}
-use Rattle.ds_script.proofs.LineLemmas.{line_behind}
+use Rattle.std.proofs.Common.{arith, ap, length, length-append, ◌∷◌, [], ◌≤◌, sym, ◌∙◌}
 use Rattle.ds_script.proofs.line.answer_line.Goals as goal
 
 pub returns-in-Ok-answer_command-clause-ok : goal.returns-in-Ok-answer_command-clause-ok
 returns-in-Ok-answer_command-clause-ok c =
-    let read = line_behind c.args.before c.args.line.now (Ok c.in-Ok.command) c.in-Ok.ensures.first c.in-Ok.ensures.later in
+    let read = c.in-Ok.ensures in
     let a = (c.in-Ok-answer_command.ensures).answered in (
       a.0,
       a.1,
