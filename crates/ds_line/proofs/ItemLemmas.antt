@@ -1,5 +1,5 @@
 -- Items read and written: a line is a change's or a floor's by its first byte.
-use Rattle.std.proofs.Common.{◌≡◌, ◌≢◌, ℕ, zero, suc, ◌+◌, true, false, List, [], ◌∷◌, ◌++◌, length, get_or, refl, sym, ap, subst, ◌∙◌, arith}
+use Rattle.std.proofs.Common.{◌≡◌, ◌≢◌, ℕ, zero, suc, ◌+◌, true, false, List, [], ◌∷◌, ◌++◌, length, get_or, Option, None, Some, Result, Ok, Err, refl, sym, ap, subst, ◌∙◌, arith}
 use Rattle.std.specs.List.{list_all}
 use Rattle.std.specs.Fmt.{decimal}
 use Rattle.std.proofs.lemmas.Bool.{false≢true, and_parts}
@@ -17,6 +17,8 @@ use Rattle.ds_line.specs.ItemSpelling.{floor_parts, item_parts, item_spelling}
 use Rattle.ds_line.specs.FaultPlace.{Stand, IsFaultPlace}
 use Rattle.ds_line.specs.Piece.{Breaks}
 use Rattle.ds_line.specs.FloorPiece.{a_floor}
+use Rattle.ds_line.specs.ItemReading.{ReadsItemLine}
+use Rattle.ds_line.specs.Reading.{ReadsChangeLine}
 use Rattle.ds_line.specs.ItemFault.{HasNoItem, IsItemFault, IsItemFaultIn}
 use Rattle.ds_line.specs.FaultPlace.{IsFaultIn}
 use Rattle.ds_lines.specs.Lines.{EndsLine}
@@ -95,6 +97,14 @@ change_faults (BadLine place) bytes other h =
     no_more : (after : List ℕ) (i : Item) → IsItem i → ¬ Stand (suc h.first.stops.count) (item_parts i) bytes after
     no_more after (Changed c) is st = h.first.stops.most after (record { member = c; is = is; front = st })
     no_more after (Floored f) is st = let t = floor_there f h.first.stops.count bytes after st in other t.0 t.1
+
+-- and so is what a change's reader put into a place
+pub change_line : (bytes : List ℕ) (result : Result ℕ LineFault) (placed : Option Item) → ((more : List ℕ) → bytes ≢ 33 ∷ more)
+    → ReadsChangeLine bytes result placed → ReadsItemLine bytes result placed
+change_line bytes (Ok len) (Some (Changed c)) other h = h
+change_line bytes (Ok len) (Some (Floored f)) other h = absurd h
+change_line bytes (Ok len) None other h = absurd h
+change_line bytes (Err fault) placed other h = change_faults fault bytes other h
 
 -- where `!` stands, that of a floor is
 pub floor_faults : (bytes more rest : List ℕ) (place : ℕ) → bytes ≡ 33 ∷ more → Breaks a_floor bytes rest → place + length rest ≡ length bytes → IsItemFault bytes place

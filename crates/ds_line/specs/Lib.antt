@@ -5,5 +5,6 @@ pub mod Reading
 pub mod Piece
 pub mod ItemSpelling
 pub mod ItemFault
+pub mod ItemReading
 pub mod FloorPiece
 pub mod Numbers

@@ -4,6 +4,7 @@ ghost use Rattle.std.specs.Prelude.{◌≡◌, length, take, IfOk, IfErr};
 ghost use Rattle.ds_entry.specs.Item.{IsItem};
 ghost use Rattle.ds_line.specs.FloorPiece.{ReadsFloor};
 ghost use Rattle.ds_line.specs.ItemFault.{IsItemFaultIn};
+ghost use Rattle.ds_line.specs.ItemReading.{ReadsItemLine};
 ghost use Rattle.ds_line.specs.ItemSpelling.{item_spelling};
 
 use crate::expected::Expected;
@@ -27,29 +28,28 @@ pub fn read_item(alloc: Global, bytes: &[u8]) -> Result<(Item, usize), LineFault
     ensures fault { IfErr result (λ fault. IsItemFaultIn fault bytes.now) }
 {
     let mut expected = Expected::Name;
-    read_item_noting(alloc, bytes, &mut expected)
+    let mut slot = None;
+    let length = read_item_into(alloc, bytes, &mut expected, &mut slot)?;
+    match slot {
+        Some(item) => Ok((item, length)),
+        None => unreachable!(),
+    }
 }
 
-/// Reads an item as `read_item` does, and notes the part that it reads next: at BadLine it is the part that begins at
-/// the place.
-#[tactic(auto, using(crate::proofs::ItemLemmas::change_faults))]
-pub fn read_item_noting(
+/// Reads an item as `read_item` does, into its caller's place, where a result would be copied from each reader to the one
+/// above it, and gives the line's length. It notes the part that it reads next: at BadLine it is the part that begins at the
+/// place.
+#[inline(always)]
+pub fn read_item_into(
     alloc: Global,
     bytes: &[u8],
     expected: &mut Expected,
-) -> Result<(Item, usize), LineFault>
-    ensures line { IfOk result (λ r. IsItem r.0) }
-    ensures found { IfOk result (λ r. take r.1 bytes.now ≡ item_spelling r.0) }
-    ensures length { IfOk result (λ r. r.1 ≡ length (item_spelling r.0)) }
-    ensures fault { IfErr result (λ fault. IsItemFaultIn fault bytes.now) }
+    slot: &mut Option<Item>,
+) -> Result<usize, LineFault>
+    ensures { ReadsItemLine bytes.now result slot.new }
 {
     let Some(_behind) = read_byte(bytes, b'!') else {
-        let mut slot = None;
-        let length = change_into(alloc, bytes, expected, &mut slot)?;
-        return match slot {
-            Some(item) => Ok((item, length)),
-            None => unreachable!(),
-        };
+        return change_into(alloc, bytes, expected, slot);
     };
     let (floor, left) = match floor_at(bytes, expected) {
         Ok(read) => read,
@@ -59,8 +59,9 @@ pub fn read_item_noting(
         }
         Err(PartFault::NoRoom) => return Err(LineFault::NoRoom),
     };
+    *slot = Some(Item::Floor(floor));
     let length = bytes.len() - left;
-    Ok((Item::Floor(floor), length))
+    Ok(length)
 }
 
 // Reads a floor from its mark on, and gives how many bytes are left behind its line.

@@ -27,7 +27,7 @@ pub use fault::LineFault;
 pub use item_laws::{
     item_faults_have_one_place, item_lines_are_apart, items_have_one_line, newlines_end_item_lines,
 };
-pub use item_reading::{read_item, read_item_noting};
+pub use item_reading::{read_item, read_item_into};
 pub use item_writing::{append_item, write_item};
 pub use last_value::last_value_at;
 pub use laws::{changes_have_one_line, faults_have_one_place, lines_are_apart, newlines_end_lines};

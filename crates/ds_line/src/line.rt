@@ -46,13 +46,17 @@ impl Line {
         self.len += text.len();
     }
 
-    /// Writes a number behind what it has, in decimal.
+    /// Writes a number behind what it has, in decimal. Most numbers of versions have one digit.
+    #[tactic(auto, using(std::proofs::lemmas::Fmt::decimal_digit))]
     #[inline(always)]
     pub fn put_number(&mut self, number: u32)
         requires { length self.old + 10 ≤ 256 }
         ensures written { self.new ≡ self.old ++ decimal number }
         ensures fits { length self.new ≤ length self.old + 10 }
     {
+        if number < 10 {
+            return self.put(&[b'0' + number as u8]);
+        }
         let mut digits = Buffer::new();
         self.put(digits.format(number).as_bytes());
     }

@@ -64,19 +64,6 @@ pub fn word_at(bytes: &[u8]) -> (&[u8], &[u8])
     bytes.split_at(word_len(bytes))
 }
 
-/// The word of a kind.
-pub fn word_of(kind: &Kind) -> &[u8]
-    ensures word { result.now ≡ kind_word kind.now }
-    ensures short { length result.now ≤ 5 }
-{
-    match kind {
-        Kind::Label => b"label",
-        Kind::U32 => b"u32",
-        Kind::Str => b"str",
-        Kind::Mem => b"mem",
-    }
-}
-
 // The kind whose word begins the bytes, and what comes behind the word. No kind's word begins another's.
 #[inline(always)]
 fn kind_front(bytes: &[u8]) -> Option<(Kind, &[u8])>

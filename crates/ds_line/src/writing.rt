@@ -5,14 +5,13 @@ ghost use Rattle.std.specs.List.{flat_map, prefix_len};
 ghost use Rattle.hex.specs.Hex.{encode_lower};
 ghost use Rattle.ds_line.specs.Part.{texts};
 ghost use Rattle.ds_line.specs.Reading.{up_to_mark};
-ghost use Rattle.ds_line.specs.Spelling.{escaped, escaped_byte, quoted, spelling, value_part};
+ghost use Rattle.ds_line.specs.Spelling.{escaped, escaped_byte, kind_word, quoted, spelling, value_part};
 
 use crate::block::put;
 use crate::hex_digits::digits_of;
 use crate::line::Line;
-use crate::parts::word_of;
 use ds_entry::{Body, Change, Value};
-use ds_names::NoRoom;
+use ds_names::{Kind, NoRoom};
 use itoa::Buffer;
 use std::alloc::Global;
 
@@ -55,15 +54,28 @@ fn put_front(line: &mut Line, change: &Change)
     ensures fits { length line.new ≤ 192 }
 {
     line.put(change.key().name.bytes());
-    line.put(b" ");
-    line.put(word_of(&change.key().kind));
-    line.put(b" ");
+    put_kind(line, change.key().kind);
     line.put(change.owner().bytes());
     line.put(b" ");
     line.put_number(change.version().epoch.number());
     line.put(b".");
     line.put_number(change.version().seq);
     line.put(b" ");
+}
+
+// Writes the word of a kind, between two spaces.
+#[inline(always)]
+fn put_kind(line: &mut Line, kind: Kind)
+    requires { length line.old ≤ 64 }
+    ensures written { line.new ≡ line.old ++ 32 ∷ (kind_word kind ++ 32 ∷ []) }
+    ensures fits { length line.new ≤ length line.old + 7 }
+{
+    match kind {
+        Kind::Label => line.put(b" label "),
+        Kind::U32 => line.put(b" u32 "),
+        Kind::Str => line.put(b" str "),
+        Kind::Mem => line.put(b" mem "),
+    }
 }
 
 /// Appends a value, as the lines of changes spell it, between two texts. Where there is no room for all of

@@ -1,17 +1,22 @@
 -- Lines, and the commands that may stand on them.
-use Rattle.std.proofs.Common.{◌≡◌, ◌≢◌, ℕ, zero, suc, Bool, false, true≢false, List, Result, refl, arith}
+use Rattle.std.proofs.Common.{◌≡◌, ◌≢◌, ℕ, zero, suc, ◌≤◌, ◌⊎◌, inl, inr, Bool, false, true≢false, List, [], ◌∷◌, length, Option, Some, Result, Ok, Err, refl, sym, ap, subst, ◌∙◌, length-append, arith}
 use Rattle.ds_names.specs.Endpoint.{EndpointRecord}
 use Rattle.ds_names.specs.declared.key.Key.{Key}
 use Rattle.ds_names.specs.declared.version.Version.{Version}
 use Rattle.ds_entry.specs.declared.item.Item.{Item}
 use Rattle.ds_entry.specs.declared.body.Value.{Value}
 use Rattle.ds_machine.specs.declared.command.Scope.TheVariants.{Under}
-use Rattle.ds_words.specs.Command.{IsCommand, CommandTakesMemory, ReadsAs, is_plain}
+use Rattle.ds_words.specs.Command.{IsCommand, CommandTakesMemory, IsFaultAmong, ReadsAs, is_plain}
+use Rattle.ds_lines.specs.Lines.{with_newline}
+use Rattle.store_words.specs.Reply.{refused_noroom}
 use Rattle.ds_words.specs.Later.{IsLater}
+use Rattle.ds_words.specs.Offer.{OfPlaced}
 use Rattle.ds_words.specs.declared.command.ScriptCommand.{ScriptCommand}
 use Rattle.ds_words.specs.declared.command.ScriptCommand.TheVariants.{Offer, Show, All, Publish, Subscribe, Map, Entries, Ring, Since, Snapshot, Page, Settings}
 use Rattle.ds_words.specs.declared.fault.CommandFault.{CommandFault}
-use Rattle.ds_script.specs.Answer.{MayStand, AnswerTakesRoom, has_value}
+use Rattle.ds_words.specs.declared.fault.CommandFault.TheVariants.{BadLine, NoRoom}
+use Rattle.ds_script.specs.Answer.{MayStand, AnswersAsEvent, AnswersLine, AnswersOrRefuses, AnswerTakesRoom, IsLineRefused, has_value}
+use Rattle.ds_script.specs.Progress.{IsUnendedFault}
 use Rattle.ds_script.specs.Session.{SessionContent}
 
 -- a command that may stand on some line is a command
@@ -59,3 +64,50 @@ no_value command no_offer no_publish = refl
 pub line_behind : (before : ℕ) (bytes : List ℕ) (result : Result ScriptCommand CommandFault) → (before ≡ 0 → ReadsAs IsCommand bytes result) → (before ≢ 0 → ReadsAs IsLater bytes result) → ReadsAs (MayStand before) bytes result
 line_behind zero bytes result first later = first refl
 line_behind (suc before) bytes result first later = later (λ none. omega (arith, none))
+
+-- and so of an offer whose item is put into a place
+pub offered_behind : (before : ℕ) (bytes : List ℕ) (result : Result (Unit {0}) CommandFault) (placed : Option Item)
+    → OfPlaced CommandFault (ReadsAs IsCommand bytes) result placed → OfPlaced CommandFault (ReadsAs IsLater bytes) result placed
+    → OfPlaced CommandFault (ReadsAs (MayStand before) bytes) result placed
+offered_behind zero bytes result placed first later = first
+offered_behind (suc before) bytes result placed first later = later
+
+-- the item that is in the place is the one that is offered
+pub offered_item : (before : ℕ) (bytes : List ℕ) (placed : Option Item) (i : Item) → placed ≡ Some i
+    → OfPlaced CommandFault (ReadsAs IsCommand bytes) (Ok tt) placed → OfPlaced CommandFault (ReadsAs IsLater bytes) (Ok tt) placed
+    → ReadsAs (MayStand before) bytes (Ok (Offer i))
+offered_item before bytes placed i is first later =
+    subst (λ (p : Option Item). OfPlaced CommandFault (ReadsAs (MayStand before) bytes) (Ok tt) p) is
+    (offered_behind before bytes (Ok tt) placed first later)
+
+-- ---- one line, and its answer
+
+short_text : (bytes text : List ℕ) → length bytes ≤ 4097 → bytes ≡ with_newline text → length text ≤ 4096
+short_text bytes text short is = omega (arith, short, ap length is, length-append text (10 ∷ []))
+
+-- a command's line is answered as the command is
+pub answered_behind : (before : ℕ) (bytes out : List ℕ) (command : ScriptCommand) (old new : SessionContent) → length bytes ≤ 4097
+    → ReadsAs (MayStand before) bytes (Ok command) → AnswersOrRefuses command old out new
+    → (text : List ℕ) → bytes ≡ with_newline text → AnswersLine before old text out new
+answered_behind before bytes out command old new short read answers text is =
+    (command, record { written = read.0; text = sym is ∙ read.1; short = short_text bytes text short is }, answers)
+
+-- where there is no room for what it has, it is refused
+pub refused_behind : (before : ℕ) (bytes : List ℕ) (session : SessionContent) → length bytes ≤ 4097
+    → ReadsAs (MayStand before) bytes (Err NoRoom)
+    → (text : List ℕ) → bytes ≡ with_newline text → AnswersLine before session text refused_noroom session
+refused_behind before bytes session short read text is =
+    (read.0, record { written = read.1; text = sym is ∙ read.2; short = short_text bytes text short is }, inl (memory_room read.0 session read.3, (refl, refl)))
+
+-- and no command's line is bad
+pub bad_behind : (before : ℕ) (bad : CommandFault) (bytes text : List ℕ) → length bytes ≤ 4097 → bytes ≡ with_newline text
+    → ReadsAs (MayStand before) bytes (Err bad) → IsUnendedFault before bad text
+bad_behind before (BadLine place expected) bytes text short is fault =
+    inr (short_text bytes text short is, subst (λ (b : List ℕ). IsFaultAmong (MayStand before) b place) is fault)
+bad_behind before NoRoom bytes text short is fault = tt
+
+-- an offer is answered as its event is, or refused
+pub offer_answered : (i : Item) (old : SessionContent) (out : List ℕ) (new : SessionContent)
+    → (AnswersAsEvent (Offer i) old out new ⊎ (AnswerTakesRoom (Offer i) old × IsLineRefused old out new)) → AnswersOrRefuses (Offer i) old out new
+offer_answered i old out new (inl answers) = inr answers
+offer_answered i old out new (inr refused) = inl refused

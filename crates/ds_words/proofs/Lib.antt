@@ -14,6 +14,7 @@ pub mod SlotLemmas
 pub mod TableLemmas
 pub mod RowLemmas
 pub mod OfferLemmas
+pub mod OfferLineLemmas
 pub mod StandLemmas
 pub mod CommandLemmas
 pub mod LaterLemmas

@@ -1,10 +1,11 @@
 -- The lines that have an item behind their word.
-use Rattle.std.proofs.Common.{◌≡◌, ◌≢◌, ℕ, ◌-◌, ◌≤◌, List, ◌∷◌, ◌++◌, length, take, drop, Ok, Err, refl, sym, ap, subst, ◌∙◌, arith, take-append-drop}
+use Rattle.std.proofs.Common.{◌≡◌, ◌≢◌, ℕ, ◌-◌, ◌≤◌, List, ◌∷◌, ◌++◌, length, take, drop, Option, None, Some, Ok, Err, refl, sym, ap, subst, ◌∙◌, arith, take-append-drop}
 use Rattle.ds_entry.specs.Item.{IsItem}
 use Rattle.ds_entry.specs.declared.item.Item.{Item}
 use Rattle.ds_entry.specs.declared.item.Item.TheVariants.{Change as Changed, Floor as Floored}
 use Rattle.ds_line.specs.ItemSpelling.{item_parts, item_spelling}
 use Rattle.ds_line.specs.ItemFault.{IsItemFault}
+use Rattle.ds_line.specs.ItemReading.{ReadsItemLine}
 use Rattle.ds_line.specs.FaultPlace.{Stand, LineTakesRoom}
 use Rattle.ds_line.specs.Piece.{Found, StopsIn}
 use Rattle.ds_line.specs.declared.part_fault.PartFault.{PartFault}
@@ -12,6 +13,7 @@ use Rattle.ds_line.specs.declared.part_fault.PartFault.TheVariants.{BadPart, NoR
 use Rattle.ds_line.proofs.LineLemmas.{AllStand, change_stands}
 use Rattle.ds_line.proofs.ItemLemmas.{floor_stands}
 use Rattle.ds_line.proofs.PieceLemmas.{byte_found, byte_stops, stand_texts}
+use Rattle.ds_words.specs.Offer.{OfPlaced}
 use Rattle.ds_words.specs.declared.command.ScriptCommand.TheVariants.{Offer}
 use Rattle.ds_words.specs.declared.word.Word.TheVariants as words
 use Rattle.ds_words.specs.Row.{ItemWantsRoom, TakesRow}
@@ -84,3 +86,10 @@ pub offer_no_room : (bytes text : List ℕ) → bytes ≡ 32 ∷ text → LineTa
 offer_no_room bytes text space room =
     let found = item_found bytes text room.rest (Changed room.change) space room.line room.front in
     offer_stops bytes NoRoom (λ _. (Changed room.change, room.rest, found, room.value)) (Changed room.change, room.rest, found)
+
+-- ---- into a place
+
+pub item_placed : (bytes text : List ℕ) (len : ℕ) (placed : Option Item) → bytes ≡ 32 ∷ text → ReadsItemLine text (Ok len) placed
+    → OfPlaced PartFault (TakesRow words.Offer bytes) (Ok tt) placed
+item_placed bytes text len (Some i) space h = offer_found bytes text i len space h.0 h.1
+item_placed bytes text len None space h = absurd h

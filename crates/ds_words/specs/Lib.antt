@@ -12,6 +12,7 @@ pub mod ServicePieces
 pub mod ServiceEvent
 pub mod Wording
 pub mod Later
+pub mod Offer
 pub mod Event
 pub mod Proper
 pub mod Table

@@ -2,13 +2,16 @@
 
 #![tactic(auto, unfolding(crate::specs::Row::TakesRow))]
 
+ghost use Rattle.ds_line.specs.declared.part_fault.PartFault.{PartFault as Fault};
+ghost use Rattle.ds_words.specs.Offer.{OfPlaced};
 ghost use Rattle.ds_words.specs.Row.{TakesRow};
 ghost use Rattle.ds_words.specs.declared.word.Word.TheVariants as words;
 
 use crate::command::ScriptCommand;
 use crate::pieces::Rest;
 use crate::query::query_of;
-use ds_line::{Expected, LineFault, PartFault, read_item_noting, stop_at};
+use ds_entry::Item;
+use ds_line::{Expected, LineFault, PartFault, read_item_into, stop_at};
 use ds_names::read_byte;
 use std::alloc::Global;
 
@@ -32,19 +35,35 @@ pub(crate) fn all_at(rest: &mut Rest) -> Result<ScriptCommand, PartFault>
 pub(crate) fn offer_at(alloc: Global, rest: &mut Rest) -> Result<ScriptCommand, PartFault>
     ensures { TakesRow words.Offer rest.old.bytes.now result }
 {
+    let mut slot = None;
+    item_at(alloc, rest, &mut slot)?;
+    match slot {
+        Some(item) => Ok(ScriptCommand::Offer(item)),
+        None => unreachable!(),
+    }
+}
+
+/// Reads what follows `offer` into its caller's place.
+#[inline(always)]
+pub(crate) fn item_at(
+    alloc: Global,
+    rest: &mut Rest,
+    slot: &mut Option<Item>,
+) -> Result<(), PartFault>
+    ensures { OfPlaced Fault (TakesRow words.Offer rest.old.bytes.now) result slot.new }
+{
     rest.expected = Expected::Space;
     let Some(text) = read_byte(rest.bytes, b' ') else {
         return Err(stop_at(rest.bytes));
     };
-    let (item, _) = match read_item_noting(alloc, text, &mut rest.expected) {
-        Ok(read) => read,
+    match read_item_into(alloc, text, &mut rest.expected, slot) {
+        Ok(_) => Ok(()),
         Err(LineFault::BadLine { place }) => {
             let left = text.len() - place;
-            return Err(PartFault::BadPart { left });
+            Err(PartFault::BadPart { left })
         }
-        Err(LineFault::NoRoom) => return Err(PartFault::NoRoom),
-    };
-    Ok(ScriptCommand::Offer(item))
+        Err(LineFault::NoRoom) => Err(PartFault::NoRoom),
+    }
 }
 
 /// Reads what follows `publish`.
