@@ -82,7 +82,7 @@ fn answer_offered(
                 Err(NoRoom) => Err(CommandFault::NoRoom),
             };
         }
-        Err(bad) => return Err(bad),
+        Err(fault) => return Err(fault),
     }
     let Some(item) = &slot else { unreachable!() };
     match answer_offer(session, output, item) {

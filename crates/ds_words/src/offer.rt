@@ -26,11 +26,7 @@ pub fn is_offer(line: &[u8]) -> bool
 /// Reads the line of an offer, which comes with its newline and has no other, as `read_line` and `read_line_behind` do, but that
 /// its item is put into the caller's place.
 #[inline(always)]
-pub fn read_offer(
-    alloc: Global,
-    line: &[u8],
-    slot: &mut Option<Item>,
-) -> Result<(), CommandFault>
+pub fn read_offer(alloc: Global, line: &[u8], slot: &mut Option<Item>) -> Result<(), CommandFault>
     requires line { EndsLine line.now }
     requires offer { IsOffer line.now }
     ensures first { OfPlaced Fault (ReadsCommand line.now) result slot.new }
