@@ -204,7 +204,8 @@ impl Journal {
     }
 }
 
-// Adds the item if it is under the scope, and tells whether it is.
+// Adds the item if it is under the scope, as every floor is, and tells whether it is. A change and a floor are each copied into their own
+// item: of an item that may be either, the copy would be moved on its way.
 fn add<S: KeyScope>(
     alloc: Global,
     scope: &mut S,
@@ -215,22 +216,16 @@ fn add<S: KeyScope>(
     ensures added { OnOk result (items.new ≡ items.old ++ filter (passes (S.keeps scope.old)) (item.now ∷ [])) }
     ensures scope { S.keeps scope.new ≡ S.keeps scope.old }
 {
-    if !is_under(scope, item) {
-        return Ok(false);
-    }
-    items.push(item.copy(alloc)?)?;
-    Ok(true)
-}
-
-// Whether the item is under the scope, as every floor is.
-fn is_under<S: KeyScope>(scope: &mut S, item: &Item) -> bool
-    ensures told { result ≡ passes (S.keeps scope.old) item.now }
-    ensures scope { S.keeps scope.new ≡ S.keeps scope.old }
-{
     match item {
-        Item::Change(change) => scope.admits(change.key()),
-        Item::Floor(_) => true,
+        Item::Change(change) => {
+            if !scope.admits(change.key()) {
+                return Ok(false);
+            }
+            items.push(Item::Change(change.copy(alloc)?))?;
+        }
+        Item::Floor(floor) => items.push(Item::Floor(*floor))?,
     }
+    Ok(true)
 }
 
 // The index of the item that the cursor stands before, among the last ones that are kept.

@@ -1,4 +1,5 @@
 pub mod QuoteLemmas
+pub mod DecimalLemmas
 pub mod DigitLemmas
 pub mod HexLemmas
 pub mod SixteenLemmas

@@ -46,8 +46,8 @@ impl Line {
         self.len += text.len();
     }
 
-    /// Writes a number behind what it has, in decimal. Most numbers of versions have one digit.
-    #[tactic(auto, using(std::proofs::lemmas::Fmt::decimal_digit))]
+    /// Writes a number behind what it has, in decimal. Most numbers of versions have one digit or two.
+    #[tactic(auto, using(std::proofs::lemmas::Fmt::decimal_digit, crate::proofs::DecimalLemmas::two_digits))]
     #[inline(always)]
     pub fn put_number(&mut self, number: u32)
         requires { length self.old + 10 ≤ 256 }
@@ -56,6 +56,9 @@ impl Line {
     {
         if number < 10 {
             return self.put(&[b'0' + number as u8]);
+        }
+        if number < 100 {
+            return self.put(&[b'0' + (number / 10) as u8, b'0' + (number % 10) as u8]);
         }
         let mut digits = Buffer::new();
         self.put(digits.format(number).as_bytes());
