@@ -6,10 +6,11 @@ ghost use Rattle.c_words.specs.Asked.{request_text};
 ghost use Rattle.c_words.specs.Request.{publish_command};
 ghost use Rattle.c_session.specs.Called.{Tells, RestsForNone, CalledWith, Called};
 
+use crate::last::Last;
 use crate::retrieving::{change_at, number_in, retrieved};
 use crate::session::Session;
 use c_words::{
-    Answer, Publication, Request, caller_of, key_of, read_publication, read_request, text_of,
+    Answer, Publication, Request, caller_of, key_of, named, read_publication, read_request, text_of,
 };
 use ds_entry::Value;
 use ds_machine::{Refusal, Reply};
@@ -134,8 +135,11 @@ impl Session {
         }
         match self.store.label_of(endpoint) {
             Some(name) => {
-                let name = *name;
-                self.tell(Wording::AsMerge, Reply::Named(name), answer);
+                *answer = named();
+                self.last = Last::Reply {
+                    reply: Reply::Named(*name),
+                    wording: Wording::AsMerge,
+                };
             }
             None => self.tell(Wording::AsMerge, Reply::Refused(Refusal::NotFound), answer),
         }

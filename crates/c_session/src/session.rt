@@ -25,7 +25,7 @@ use store_words::Wording;
 #[derive(Drop)]
 pub struct Session {
     pub(crate) store: Store,
-    last: Last,
+    pub(crate) last: Last,
 }
 
 impl Session {

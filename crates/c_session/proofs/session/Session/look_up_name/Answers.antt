@@ -1,4 +1,4 @@
-use Rattle.std.proofs.Common.{Some, None, sym, ◌∙◌, subst}
+use Rattle.std.proofs.Common.{Some, None, refl, sym, ◌∙◌, subst}
 use Rattle.ds_machine.specs.declared.command.Command.TheVariants.{NameOf}
 use Rattle.ds_machine.specs.declared.refusal.Refusal.TheVariants.{NotFound}
 use Rattle.ds_machine.specs.declared.reply.Reply.TheVariants.{Named, Refused}
@@ -22,15 +22,13 @@ returns-then-is_rs c =
 
 pub returns-in-Some : goal.returns-in-Some
 returns-in-Some c =
-    let v = c.args.self.now.store in
-    let e = c.args.endpoint in
-    let reply = Named c.in-Some.name.now in
+    let name = c.in-Some.name.now in
     record {
-      reply = reply;
-      turn = subst (λ (w : ContentRecord). Turn v (NameOf e) reply w) (sym c.tell-in-Some.ensures.store_is)
-          (name_turn v e reply c.in-Some.ensures.stood (named_by_label _ _ (Some c.in-Some.name.now) (sym c.is_rs.ensures ∙ c.if-is_rs.false) c.in-Some.ensures.value));
-      told = c.tell-in-Some.ensures.told_is;
-      kept = c.tell-in-Some.ensures.kept;
+      reply = Named name;
+      turn = name_turn c.args.self.now.store c.args.endpoint (Named name) c.in-Some.ensures.stood
+          (named_by_label _ _ (Some name) (sym c.is_rs.ensures ∙ c.if-is_rs.false) c.in-Some.ensures.value);
+      told = c.named.ensures name;
+      kept = refl;
     }
 
 pub returns-in-None : goal.returns-in-None
