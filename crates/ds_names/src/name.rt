@@ -101,6 +101,29 @@ impl Name {
         })
     }
 
+    /// Reads the name at the front into this place, which is written once, and gives what comes behind the name. `None` where
+    /// `front` finds none; this is some other name then.
+    #[inline(always)]
+    pub fn read_front<'a>(&mut self, bytes: &'a [u8]) -> Option<&'a [u8]>
+        ensures found { IfSome result (λ rest. Begins is_name_byte bytes.now self.new rest.now) }
+        ensures name { IsName self.new }
+        ensures none { IfNone result ((name rest : List ℕ) → IsName name → ¬ Begins is_name_byte bytes.now name rest) }
+    {
+        self.block = [0; 64];
+        match fill(&mut self.block, bytes) {
+            Some(len) if len != 0 => {
+                self.len = len as u8;
+                Some(&bytes[len..])
+            }
+            _ => {
+                self.block = [0; 64];
+                self.block[0] = b'-';
+                self.len = 1;
+                None
+            }
+        }
+    }
+
     /// `rs`, the label of RS, the reincarnation server.
     pub fn rs() -> Name
         ensures { result ≡ rs_name }
