@@ -1,12 +1,14 @@
 //! Changes.
 
-ghost use Rattle.std.specs.Prelude.{◌≡◌, ◌<◌, ◌≤◌, ◌^◌, ◌↔◌, IsTrue, IsOk, IfOk, IfErr, IfNone, IfSome};
+ghost use Rattle.std.specs.Prelude.{◌≡◌, ◌<◌, ◌≤◌, ◌^◌, ◌↔◌, IsTrue, IsOk, IfOk, IfErr, IfNone, IfSome, Some};
 ghost use Rattle.ds_names.specs.Name.{IsName, rs_name};
 ghost use Rattle.ds_entry.specs.Change.{ChangeRecord, change_of, IsChange, IsLabelChange, IsLabelBody};
 ghost use Rattle.ds_entry.specs.Change.{IsBelowSweeps, IsOfKind, IsBody, IsBodyInPlace};
 ghost use Rattle.ds_entry.specs.ChangeFault.{IsEntryFault};
+ghost use Rattle.ds_entry.specs.declared.item.Item.TheVariants.{Change as Changed};
 
 use crate::body::Body;
+use crate::item::Item;
 use ds_names::{Key, Kind, Name, NoRoom, Version};
 use std::alloc::Global;
 use std::marker::Model;
@@ -61,6 +63,27 @@ impl Change {
             version,
             body,
         }
+    }
+
+    /// Puts the change of four parts that fit together into a place, as an item. The key and the owner are lent, and each is copied
+    /// once, to where it is to stand.
+    #[inline(always)]
+    pub fn put_into(
+        slot: &mut Option<Item>,
+        key: &Key,
+        owner: &Name,
+        version: Version,
+        body: Body,
+    )
+        requires parts { IsChange (change_of key.now owner.now version body) }
+        ensures put { slot.new ≡ Some (Changed (change_of key.now owner.now version body)) }
+    {
+        *slot = Some(Item::Change(Change {
+            key: *key,
+            owner: *owner,
+            version,
+            body,
+        }));
     }
 
     /// Makes the change of four parts, or gives the first fault that they have. It takes no memory.
