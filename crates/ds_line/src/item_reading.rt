@@ -1,6 +1,6 @@
 //! Reading the line of an item.
 
-ghost use Rattle.std.specs.Prelude.{◌≡◌, length, take, IfOk, IfErr};
+ghost use Rattle.std.specs.Prelude.{◌≡◌, ◌∷◌, List, ℕ, length, take, IfOk, IfErr};
 ghost use Rattle.ds_entry.specs.Item.{IsItem};
 ghost use Rattle.ds_line.specs.FloorPiece.{ReadsFloor};
 ghost use Rattle.ds_line.specs.ItemFault.{IsItemFaultIn};
@@ -51,6 +51,19 @@ pub fn read_item_into(
     let Some(_behind) = read_byte(bytes, b'!') else {
         return change_into(alloc, bytes, expected, slot);
     };
+    floor_into(bytes, expected, slot)
+}
+
+// Reads a floor's line likewise. It stays a call: most items are changes, for each of which its room would be cleared.
+#[inline(never)]
+fn floor_into(
+    bytes: &[u8],
+    expected: &mut Expected,
+    slot: &mut Option<Item>,
+) -> Result<usize, LineFault>
+    requires { (behind : List ℕ) × (bytes.now ≡ 33 ∷ behind) }
+    ensures { ReadsItemLine bytes.now result slot.new }
+{
     let (floor, left) = match floor_at(bytes, expected) {
         Ok(read) => read,
         Err(PartFault::BadPart { left }) => {

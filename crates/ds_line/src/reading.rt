@@ -15,10 +15,10 @@ use crate::expected::Expected;
 use crate::fault::LineFault;
 use crate::last_value::last_value_at;
 use crate::part_fault::{PartFault, stop_at};
-use crate::parts::{behind_name, kind_at, name_at};
+use crate::parts::kind_at;
 use crate::rules::{has_body, has_owner, has_seq, has_tombstone, has_value, has_version};
 use ds_entry::{Body, Change, Item, Value};
-use ds_names::{Endpoint, Generation, Key, Name, Version, read_byte, read_decimal, read_endpoint};
+use ds_names::{Endpoint, Generation, Key, Kind, Name, Version, read_byte, read_decimal, read_endpoint};
 use std::alloc::Global;
 
 /// Reads the change whose line stands at the front of the bytes, and gives it with the line's length, its
@@ -80,7 +80,8 @@ pub(crate) fn change_into(
 }
 
 // Each reader below gives how many bytes are left behind the change's line, or how many are left from the first part on that
-// can't be read. What it read of the change is in its caller's place, or the body that it gives.
+// can't be read. What it read of the change is in its caller's place, or the body that it gives. A name is read where its key or the
+// owner stands, and from there the change is put together in the caller's place: so each name is copied once.
 
 // Reads a change from its name on.
 fn change_at(
@@ -92,10 +93,13 @@ fn change_at(
     ensures { ReadsInto [] bytes.now result slot.new }
 {
     *expected = Expected::Name;
-    let Some(name) = name_at(bytes) else {
+    let mut key = Key {
+        name: Name::rs(),
+        kind: Kind::Label,
+    };
+    let Some(rest) = key.name.read_front(bytes) else {
         return Err(stop_at(bytes));
     };
-    let rest = behind_name(bytes, &name);
     *expected = Expected::Space;
     let Some(at) = read_byte(rest, b' ') else {
         return Err(stop_at(rest));
@@ -104,7 +108,7 @@ fn change_at(
     let Some((kind, rest)) = kind_at(at) else {
         return Err(stop_at(at));
     };
-    let key = Key { name, kind };
+    key.kind = kind;
     if !has_owner(&key) {
         return Err(stop_at(at));
     }
@@ -127,13 +131,13 @@ fn owner_at(
         return Err(stop_at(bytes));
     };
     *expected = Expected::Owner;
-    let Some(owner) = name_at(at) else {
+    let mut owner = Name::rs();
+    let Some(rest) = owner.read_front(at) else {
         return Err(stop_at(at));
     };
     if !has_version(key, &owner) {
         return Err(stop_at(at));
     }
-    let rest = behind_name(at, &owner);
     *expected = Expected::Space;
     let Some(rest) = read_byte(rest, b' ') else {
         return Err(stop_at(rest));
@@ -184,8 +188,7 @@ fn version_at(
     };
     match body_at(alloc, key, owner, version, rest, expected) {
         Ok((body, left)) => {
-            let change = Change::from_parts(*key, *owner, version, body);
-            *slot = Some(Item::Change(change));
+            Change::put_into(slot, key, owner, version, body);
             Ok(left)
         }
         Err(stop) => Err(stop),

@@ -1,7 +1,4 @@
-use Rattle.std.proofs.Common.{Err, sym, subst}
-use Rattle.std.proofs.lemmas.List.Prefix.{front_fits}
-use Rattle.ds_names.specs.Name.{is_name_byte}
-use Rattle.ds_names.specs.Run.{Begins}
+use Rattle.std.proofs.Common.{Err}
 use Rattle.ds_line.specs.Reading.{up_to_kind, up_to_epoch}
 use Rattle.ds_line.proofs.ReadLemmas.{into_on}
 use Rattle.ds_line.proofs.AnswerLemmas.{is_false}
@@ -11,31 +8,26 @@ use Rattle.ds_line.proofs.reading.owner_at.Goals as goal
 pub returns-in_default : goal.returns-in_default
 returns-in_default c = owner_space_missing c.args.key.now c.args.bytes.now c.stop_at.result c.requires c.stop_at.ensures c.in_default.ensures.none
 
-pub returns-in_default-name_at : goal.returns-in_default-name_at
-returns-in_default-name_at c =
-    owner_space_then c.args.key.now c.args.bytes.now c.in-Some.at.now (Err c.stop_at-in_default-name_at.result) c.in-Some.ensures.found
-    (owner_missing c.args.key.now c.in-Some.at.now c.stop_at-in_default-name_at.result c.requires c.stop_at-in_default-name_at.ensures c.in_default-name_at.ensures.none)
+pub returns-in_default-read_front : goal.returns-in_default-read_front
+returns-in_default-read_front c =
+    owner_space_then c.args.key.now c.args.bytes.now c.in-Some.at.now (Err c.stop_at-in_default-read_front.result) c.in-Some.ensures.found
+    (owner_missing c.args.key.now c.in-Some.at.now c.stop_at-in_default-read_front.result c.requires c.stop_at-in_default-read_front.ensures c.in_default-read_front.ensures.none)
 
 pub returns-then-not-has_version : goal.returns-then-not-has_version
 returns-then-not-has_version c =
     owner_space_then c.args.key.now c.args.bytes.now c.in-Some.at.now (Err c.stop_at-then-not-has_version.result) c.in-Some.ensures.found
-    (owner_refused c.args.key.now c.in-Some-name_at.owner c.in-Some.at.now _ c.stop_at-then-not-has_version.result c.requires c.stop_at-then-not-has_version.ensures c.in-Some-name_at.ensures.name c.in-Some-name_at.ensures.found (λ has. is_false c.has_version.result c.if-not-has_version.true (c.has_version.ensures.1 has)))
-
-pub behind_name-rest-requires : goal.behind_name-rest-requires
-behind_name-rest-requires c = front_fits c.in-Some.at.now c.in-Some-name_at.owner _ c.in-Some-name_at.ensures.found.parts
+    (owner_refused c.args.key.now c.read_front.new.self c.in-Some.at.now _ c.stop_at-then-not-has_version.result c.requires c.stop_at-then-not-has_version.ensures c.in-Some-read_front.ensures.name c.in-Some-read_front.ensures.found (λ has. is_false c.has_version.result c.if-not-has_version.true (c.has_version.ensures.1 has)))
 
 pub returns-in_default-read_byte : goal.returns-in_default-read_byte
 returns-in_default-read_byte c =
-    let there : Begins is_name_byte c.in-Some.at.now c.in-Some-name_at.owner c.behind_name-rest.result.now = subst (λ r. Begins is_name_byte c.in-Some.at.now c.in-Some-name_at.owner r) (sym c.behind_name-rest.ensures) c.in-Some-name_at.ensures.found in
     owner_space_then c.args.key.now c.args.bytes.now c.in-Some.at.now (Err c.stop_at-in_default-read_byte.result) c.in-Some.ensures.found
-    (owner_then c.args.key.now c.in-Some-name_at.owner c.in-Some.at.now c.behind_name-rest.result.now (Err c.stop_at-in_default-read_byte.result) c.in-Some-name_at.ensures.name there
-    (epoch_space_missing c.args.key.now c.in-Some-name_at.owner c.behind_name-rest.result.now c.stop_at-in_default-read_byte.result (c.has_version.ensures.0 c.if-not-has_version.false) c.stop_at-in_default-read_byte.ensures c.in_default-read_byte.ensures.none))
+    (owner_then c.args.key.now c.read_front.new.self c.in-Some.at.now c.in-Some-read_front.rest.now (Err c.stop_at-in_default-read_byte.result) c.in-Some-read_front.ensures.name c.in-Some-read_front.ensures.found
+    (epoch_space_missing c.args.key.now c.read_front.new.self c.in-Some-read_front.rest.now c.stop_at-in_default-read_byte.result (c.has_version.ensures.0 c.if-not-has_version.false) c.stop_at-in_default-read_byte.ensures c.in_default-read_byte.ensures.none))
 
 pub returns : goal.returns
 returns c =
-    let there : Begins is_name_byte c.in-Some.at.now c.in-Some-name_at.owner c.behind_name-rest.result.now = subst (λ r. Begins is_name_byte c.in-Some.at.now c.in-Some-name_at.owner r) (sym c.behind_name-rest.ensures) c.in-Some-name_at.ensures.found in
-    into_on (up_to_kind c.args.key.now) (up_to_epoch c.args.key.now c.in-Some-name_at.owner) c.args.bytes.now c.in-Some-read_byte.rest.now c.version_at.result c.version_at.new.slot
+    into_on (up_to_kind c.args.key.now) (up_to_epoch c.args.key.now c.read_front.new.self) c.args.bytes.now c.in-Some-read_byte.rest.now c.version_at.result c.version_at.new.slot
     (λ given k. owner_space_then c.args.key.now c.args.bytes.now c.in-Some.at.now given c.in-Some.ensures.found
-    (owner_then c.args.key.now c.in-Some-name_at.owner c.in-Some.at.now c.behind_name-rest.result.now given c.in-Some-name_at.ensures.name there
-    (epoch_space_then c.args.key.now c.in-Some-name_at.owner c.behind_name-rest.result.now c.in-Some-read_byte.rest.now given c.in-Some-read_byte.ensures.found k)))
+    (owner_then c.args.key.now c.read_front.new.self c.in-Some.at.now c.in-Some-read_front.rest.now given c.in-Some-read_front.ensures.name c.in-Some-read_front.ensures.found
+    (epoch_space_then c.args.key.now c.read_front.new.self c.in-Some-read_front.rest.now c.in-Some-read_byte.rest.now given c.in-Some-read_byte.ensures.found k)))
     c.version_at.ensures

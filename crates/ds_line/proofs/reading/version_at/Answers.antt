@@ -1,9 +1,10 @@
-use Rattle.std.proofs.Common.{ℕ, ◌<◌, ◌≤◌, ◌^◌, Result, Ok, Err, sym, subst, arith}
+use Rattle.std.proofs.Common.{Option, ℕ, ◌<◌, ◌≤◌, ◌^◌, Result, Ok, Err, sym, subst, arith}
 use Rattle.std.specs.Char.{is_ascii_digit}
 use Rattle.std.specs.Fmt.{decimal}
 use Rattle.ds_names.specs.Run.{Begins}
 use Rattle.ds_entry.specs.Change.{ChangeRecord, change_of}
-use Rattle.ds_line.specs.Reading.{up_to_epoch, ReadsChange}
+use Rattle.ds_entry.specs.declared.item.Item.{Item}
+use Rattle.ds_line.specs.Reading.{up_to_epoch, ReadsChange, ReadsInto}
 use Rattle.ds_line.specs.declared.part_fault.PartFault.{PartFault}
 use Rattle.ds_line.proofs.AnswerLemmas.{is_false}
 use Rattle.ds_line.proofs.LabelLemmas.{version_of}
@@ -70,7 +71,7 @@ returns-in-Ok c =
     (dot_then c.args.key.now c.args.owner.now c.in-Some.rest.now c.in-Some-read_byte.at.now c.in-Some-of.epoch given c.in-Some-read_byte.ensures.found
     (seq_then c.args.key.now c.args.owner.now c.in-Some-read_byte.at.now c.in-Some-read_decimal.rest.now (version_of c.in-Some-of.epoch c.in-Some-read_decimal.seq) given fits c.in-Some-read_decimal.ensures.found
     (mark_space_then c.args.key.now c.args.owner.now c.in-Some-read_decimal.rest.now c.in-Some-read_byte-2.rest.now (version_of c.in-Some-of.epoch c.in-Some-read_decimal.seq) given c.in-Some-read_byte-2.ensures.found c.in-Ok.ensures))) in
-    subst (λ (x : ChangeRecord). ReadsChange (up_to_epoch c.args.key.now c.args.owner.now) c.args.bytes.now (Ok (x, c.in-Ok.left))) (sym c.from_parts-change.ensures.made) read
+    subst (λ (placed : Option Item). ReadsInto (up_to_epoch c.args.key.now c.args.owner.now) c.args.bytes.now (Ok c.in-Ok.left) placed) (sym c.put_into.ensures.put) read
 
 pub returns-in-Err : goal.returns-in-Err
 returns-in-Err c =
