@@ -5,8 +5,10 @@ use Rattle.std.specs.Char.{is_ascii_digit, digit_value}
 use Rattle.std.specs.Fmt.{decimal}
 use Rattle.std.specs.Str.Parse.{digits_value}
 use Rattle.std.proofs.lemmas.Bool.{cases_lt, and_parts}
+use Rattle.std.proofs.Math.Nat.{pow-le-pow_right}
+use Rattle.std.proofs.lemmas.Grind.{pow_more}
 use Rattle.std.proofs.lemmas.Bool.Decides.{nat_tests}
-use Rattle.std.proofs.lemmas.List.{take_at, take-append-drop, append_cancel_left, get_or-take}
+use Rattle.std.proofs.lemmas.List.{take_at, take-append-drop, append_cancel_left, get_or-take, length-take}
 use Rattle.std.proofs.lemmas.List.Folds.{length-prefix_len}
 use Rattle.std.proofs.lemmas.List.Sums.{AllPass-from_list_all, prefix_len-drop_yes}
 use Rattle.std.proofs.lemmas.Str.Parse.{IsNumeralModel, numerals_by_value, digits_value-take-le}
@@ -80,6 +82,22 @@ too_large ds i lt h big = λ small.
     let le : digits_value 10 (take (i + 1) ds) ≤ digits_value 10 ds = digits_value-take-le 10 ds (i + 1) (omega arith) in
     let more : digits_value 10 (take (i + 1) ds) ≡ digits_value 10 (take i ds) * 10 + (get_or ds i 0 - 48) = (value_more ds i lt h).2 in
     omega arith
+
+-- a place in the first bytes is one of them all
+pub front_at : (n : ℕ) (bytes : List ℕ) (i : ℕ) → i < length (take n bytes) → (i < n) × (i < length bytes) × (get_or (take n bytes) i 0 ≡ get_or bytes i 0)
+front_at n bytes i lt =
+    let len = length-take n bytes in
+    let first : i < n = omega arith in
+    (first, omega arith, get_or-take n bytes i 0 first)
+
+-- one more digit than fewer than 19 makes no number that is too large
+pub short_more : (number at digit : ℕ) → number < 10 ^ at → at < 19 → digit < 10 → (number * 10 + digit < 10 ^ (at + 1)) × (number * 10 + digit < 2 ^ 64)
+short_more number at digit lt short small =
+    let more = pow_more 10 at in
+    let some : 0 < 10 = omega arith in
+    let within : at ≤ 18 = omega arith in
+    let most : 10 ^ at ≤ 10 ^ 18 = pow-le-pow_right some within in
+    (omega arith, omega arith)
 
 -- what is at the front, if a decimal is
 pub decimal_front : (bytes : List ℕ) (n : ℕ) (rest : List ℕ) → n < 2 ^ 64 → Begins is_ascii_digit bytes (decimal n) rest → take (prefix_len is_ascii_digit bytes) bytes ≡ decimal n

@@ -12,6 +12,26 @@ ghost use Rattle.ds_names.specs.Run.{Begins};
 fn number_of(bytes: &[u8]) -> Option<(u64, usize)>
     ensures { SomeIff result (leading_number bytes.now < 2 ^ 64) (leading_number bytes.now, prefix_len is_ascii_digit bytes.now) }
 {
+    // 10^19 < 2^64, so no 19 digits write a number that is too large.
+    let front = &bytes[..bytes.len().min(19)];
+    let mut number: u64 = 0;
+    for (at, b) in front.iter().enumerate() {
+        if !b.is_ascii_digit() {
+            return Some((number, at));
+        }
+        number = number * 10 + u64::from(*b - b'0');
+    }
+    if bytes.len() > 19 {
+        long_number_of(bytes)
+    } else {
+        Some((number, bytes.len()))
+    }
+}
+
+// The same, where the digits may be more than 19: each is added with a test.
+fn long_number_of(bytes: &[u8]) -> Option<(u64, usize)>
+    ensures { SomeIff result (leading_number bytes.now < 2 ^ 64) (leading_number bytes.now, prefix_len is_ascii_digit bytes.now) }
+{
     let mut number: u64 = 0;
     for (at, b) in bytes.iter().enumerate() {
         if !b.is_ascii_digit() {
