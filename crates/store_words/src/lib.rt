@@ -12,5 +12,5 @@ mod wording;
 
 pub use message::append_message;
 pub use outcome::{append_outcome, append_ring, append_side};
-pub use reply::{append_noroom, append_reply, write_reply};
+pub use reply::{append_noroom, append_offered, append_reply, write_reply};
 pub use wording::Wording;

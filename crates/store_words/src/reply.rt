@@ -57,6 +57,26 @@ pub fn append_reply(
     written
 }
 
+/// Appends the lines of the reply to an offer, as `append_reply` does. Where nobody is owed a notice, as most often, they are one text.
+#[inline(always)]
+pub fn append_offered(buffer: &mut Vec<u8>, reply: &Reply, limits: Limits) -> Result<(), NoRoom>
+    ensures written { OnOk result (buffer.new.items ≡ buffer.old.items ++ reply_lines AsOffer reply.now limits) }
+    ensures unchanged { OnErr result (buffer.new.items ≡ buffer.old.items) }
+{
+    match reply {
+        Reply::Merged {
+            taken,
+            stale,
+            owed: 0,
+            ..
+        } => {
+            buffer.extend_from_slice(offered(*taken, *stale))?;
+            Ok(())
+        }
+        _ => append_reply(buffer, Wording::AsOffer, reply, limits),
+    }
+}
+
 /// Appends the refusal of a line for want of memory, or nothing.
 pub fn append_noroom(buffer: &mut Vec<u8>) -> Result<(), NoRoom>
     ensures written { OnOk result (buffer.new.items ≡ buffer.old.items ++ refused_noroom) }
