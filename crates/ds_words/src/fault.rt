@@ -20,7 +20,7 @@ pub enum CommandFault {
     NoRoom,
 }
 
-/// Why a line isn't read whose word stands at its front, and what comes behind it stops: `expected` is the part that was read last.
+/// Why a line isn't read that begins with a command's word: what comes behind the word stops so, at the part that was expected.
 #[inline(always)]
 pub(crate) fn fault_behind_word(line: &[u8], stop: PartFault, expected: Expected) -> CommandFault
     requires line { EndsLine line.now }

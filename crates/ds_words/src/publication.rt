@@ -1,5 +1,5 @@
-//! The lines of publications: what one says is given by itself, since a command, which may be any, is larger, and would be copied
-//! on its way from each reader to the one above it.
+//! The lines of publications: what one says is given by itself, since a command, which has room for any, is larger, and would be
+//! copied on its way from each reader to the one above it.
 
 ghost use Rattle.std.specs.Prelude.{◌↔◌, IsTrue};
 ghost use Rattle.ds_lines.specs.Lines.{EndsLine};
@@ -30,11 +30,12 @@ pub struct Publication {
 pub fn is_publish(line: &[u8]) -> bool
     ensures { IsTrue result ↔ IsPublish line.now }
 {
+    // Byte by byte: the first one tells most other words, and nothing is called.
     matches!(line, [b'p', b'u', b'b', b'l', b'i', b's', b'h', b' ', ..])
 }
 
-/// Reads the line of a publication, which comes with its newline and has no other, as `read_line` and `read_line_behind` do, but that
-/// its parts are given by themselves.
+/// Reads the line of a publication, which comes with its newline and has no other, as `read_line` and `read_line_behind` do, but
+/// that its parts are given by themselves.
 #[inline(always)]
 pub fn read_publish(alloc: Global, line: &[u8]) -> Result<Publication, CommandFault>
     requires line { EndsLine line.now }

@@ -1,5 +1,5 @@
-//! The lines of retrievals: the key is given by itself, since a command, which may be any, is larger, and would be copied on its
-//! way from each reader to the one above it.
+//! The lines of retrievals: the key is given by itself, since a command, which has room for any, is larger, and would be copied on
+//! its way from each reader to the one above it.
 
 ghost use Rattle.std.specs.Prelude.{◌↔◌, IsTrue};
 ghost use Rattle.ds_lines.specs.Lines.{EndsLine};
@@ -18,11 +18,15 @@ use ds_names::Key;
 pub fn is_retrieve(line: &[u8]) -> bool
     ensures { IsTrue result ↔ IsRetrieve line.now }
 {
-    matches!(line, [b'r', b'e', b't', b'r', b'i', b'e', b'v', b'e', b' ', ..])
+    // Byte by byte: the first one tells most other words, and nothing is called.
+    matches!(
+        line,
+        [b'r', b'e', b't', b'r', b'i', b'e', b'v', b'e', b' ', ..]
+    )
 }
 
-/// Reads the line of a retrieval, which comes with its newline and has no other, as `read_line` and `read_line_behind` do, but that
-/// its key is given by itself.
+/// Reads the line of a retrieval, which comes with its newline and has no other, as `read_line` and `read_line_behind` do, but
+/// that its key is given by itself.
 #[inline(always)]
 pub fn read_retrieve(line: &[u8]) -> Result<Key, CommandFault>
     requires line { EndsLine line.now }

@@ -1,6 +1,5 @@
 use Rattle.std.proofs.Common.{Err, Ok}
 use Rattle.ds_words.specs.Publication.{publishing}
-use Rattle.ds_words.specs.declared.command.ScriptCommand.TheVariants.{Publish}
 use Rattle.ds_words.specs.declared.word.Word.TheVariants as words
 use Rattle.ds_words.proofs.FrontLemmas.{begins, front_later, reads_front}
 use Rattle.ds_words.proofs.publication.read_publish.Goals as goal

@@ -1,6 +1,5 @@
 use Rattle.std.proofs.Common.{Err, Ok}
 use Rattle.ds_words.specs.Retrieval.{retrieving}
-use Rattle.ds_words.specs.declared.command.ScriptCommand.TheVariants.{Retrieve}
 use Rattle.ds_words.specs.declared.word.Word.TheVariants as words
 use Rattle.ds_words.proofs.FrontLemmas.{begins, front_later, reads_front}
 use Rattle.ds_words.proofs.retrieval.read_retrieve.Goals as goal
