@@ -6,3 +6,4 @@ pub mod Causes
 pub mod Passing
 pub mod Taking
 pub mod Laws
+pub mod Stub

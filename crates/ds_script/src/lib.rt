@@ -16,6 +16,7 @@ mod report;
 mod session;
 mod shown;
 mod stream;
+mod stub;
 mod taking;
 mod tally;
 mod turn;
