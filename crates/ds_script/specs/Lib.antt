@@ -6,4 +6,3 @@ pub mod Causes
 pub mod Passing
 pub mod Taking
 pub mod Laws
-pub mod Stub

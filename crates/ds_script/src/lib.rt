@@ -16,7 +16,6 @@ mod report;
 mod session;
 mod shown;
 mod stream;
-mod stub;
 mod taking;
 mod tally;
 mod turn;

@@ -3,7 +3,8 @@
 ghost use Rattle.std.specs.Prelude.{◌≡◌, ◌≤◌, ◌++◌, ℕ, List, length, IfErr, OnOk, OnErr};
 ghost use Rattle.ds_lines.specs.Lines.{EndsLine, with_newline};
 ghost use Rattle.ds_words.specs.Offer.{IsOffer};
-ghost use Rattle.ds_script.specs.Stub.{IsPublish, IsRetrieve};
+ghost use Rattle.ds_words.specs.Publication.{IsPublish};
+ghost use Rattle.ds_words.specs.Retrieval.{IsRetrieve};
 ghost use Rattle.ds_words.specs.declared.fault.CommandFault.TheVariants as faults;
 ghost use Rattle.store_words.specs.Reply.{refused_noroom};
 ghost use Rattle.ds_script.specs.Answer.{AppendsLine};
@@ -12,11 +13,13 @@ ghost use Rattle.ds_script.specs.Progress.{IsUnendedFault, KeepsSession};
 use crate::answer::answer_command;
 use crate::asking::{answer_offer, answer_publish, answer_retrieve};
 use crate::session::Session;
-use crate::stub::{Publication, is_publish, is_retrieve, read_publish, read_retrieve};
 use ds_line::Expected;
 use ds_lines::LONGEST_LINE;
 use ds_names::NoRoom;
-use ds_words::{CommandFault, is_offer, read_line_behind, read_offer};
+use ds_words::{
+    CommandFault, Publication, is_offer, is_publish, is_retrieve, read_line_behind, read_offer,
+    read_publish, read_retrieve,
+};
 use std::alloc::Global;
 use store_words::append_noroom;
 
