@@ -18,5 +18,6 @@ pub mod OfferLineLemmas
 pub mod StandLemmas
 pub mod CommandLemmas
 pub mod LaterLemmas
+pub mod FrontLemmas
 pub mod LawLemmas
 pub mod ProperLemmas

@@ -13,8 +13,11 @@ pub mod ServiceEvent
 pub mod Wording
 pub mod Later
 pub mod Offer
+pub mod Publication
+pub mod Retrieval
 pub mod Event
 pub mod Proper
 pub mod Table
 pub mod Reads
 pub mod Row
+pub mod Front

@@ -1,6 +1,11 @@
 //! Why a line is no command's.
 
-use ds_line::Expected;
+ghost use Rattle.std.specs.Prelude.{Err};
+ghost use Rattle.ds_lines.specs.Lines.{EndsLine};
+ghost use Rattle.ds_words.specs.Command.{ReadsCommand};
+ghost use Rattle.ds_words.specs.Front.{StopsBehindWord};
+
+use ds_line::{Expected, PartFault};
 use thiserror::Error;
 
 /// Why the command of a line isn't read.
@@ -13,4 +18,20 @@ pub enum CommandFault {
     /// Out of memory.
     #[error("out of memory")]
     NoRoom,
+}
+
+/// Why a line isn't read that begins with a command's word: what comes behind the word stops so, at the part that was expected.
+#[inline(always)]
+pub(crate) fn fault_behind_word(line: &[u8], stop: PartFault, expected: Expected) -> CommandFault
+    requires line { EndsLine line.now }
+    requires stop { StopsBehindWord line.now stop }
+    ensures { ReadsCommand line.now (Err result) }
+{
+    match stop {
+        PartFault::BadPart { left } => CommandFault::BadLine {
+            place: line.len() - left,
+            expected,
+        },
+        PartFault::NoRoom => CommandFault::NoRoom,
+    }
 }

@@ -4,15 +4,18 @@
 
 ghost use Rattle.ds_line.specs.declared.part_fault.PartFault.{PartFault as Fault};
 ghost use Rattle.ds_words.specs.Offer.{OfPlaced};
+ghost use Rattle.ds_words.specs.Publication.{publishing};
+ghost use Rattle.ds_words.specs.Retrieval.{retrieving};
 ghost use Rattle.ds_words.specs.Row.{TakesRow};
 ghost use Rattle.ds_words.specs.declared.word.Word.TheVariants as words;
 
 use crate::command::ScriptCommand;
 use crate::pieces::Rest;
+use crate::publication::Publication;
 use crate::query::query_of;
 use ds_entry::Item;
 use ds_line::{Expected, LineFault, PartFault, read_item_into, stop_at};
-use ds_names::read_byte;
+use ds_names::{Key, read_byte};
 use std::alloc::Global;
 
 /// Reads what follows `show`.
@@ -70,12 +73,33 @@ pub(crate) fn item_at(
 pub(crate) fn publish_at(alloc: Global, rest: &mut Rest) -> Result<ScriptCommand, PartFault>
     ensures { TakesRow words.Publish rest.old.bytes.now result }
 {
+    let Publication {
+        caller,
+        key,
+        version,
+        value,
+        overwrite,
+    } = publication_at(alloc, rest)?;
+    Ok(ScriptCommand::Publish {
+        caller,
+        key,
+        version,
+        value,
+        overwrite,
+    })
+}
+
+/// Reads what follows `publish`, and gives its parts by themselves.
+#[inline(always)]
+pub(crate) fn publication_at(alloc: Global, rest: &mut Rest) -> Result<Publication, PartFault>
+    ensures { TakesRow words.Publish rest.old.bytes.now (publishing result) }
+{
     let caller = rest.endpoint(Expected::Caller)?;
     let overwrite = rest.mode()?;
     let key = rest.key()?;
     let version = rest.version()?;
     let value = rest.value(alloc, key.kind)?;
-    Ok(ScriptCommand::Publish {
+    Ok(Publication {
         caller,
         key,
         version,
@@ -118,9 +142,18 @@ pub(crate) fn sweep_at(rest: &mut Rest) -> Result<ScriptCommand, PartFault>
 pub(crate) fn retrieve_at(rest: &mut Rest) -> Result<ScriptCommand, PartFault>
     ensures { TakesRow words.Retrieve rest.old.bytes.now result }
 {
+    let key = retrieved_at(rest)?;
+    Ok(ScriptCommand::Retrieve { key })
+}
+
+/// Reads what follows `retrieve`, and gives its key by itself.
+#[inline(always)]
+pub(crate) fn retrieved_at(rest: &mut Rest) -> Result<Key, PartFault>
+    ensures { TakesRow words.Retrieve rest.old.bytes.now (retrieving result) }
+{
     let key = rest.key()?;
     rest.end()?;
-    Ok(ScriptCommand::Retrieve { key })
+    Ok(key)
 }
 
 /// Reads what follows `nameof`.

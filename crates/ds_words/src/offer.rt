@@ -8,11 +8,11 @@ ghost use Rattle.ds_words.specs.Later.{ReadsLater};
 ghost use Rattle.ds_words.specs.Offer.{IsOffer, OfPlaced};
 ghost use Rattle.ds_words.specs.declared.fault.CommandFault.{CommandFault as Fault};
 
-use crate::fault::CommandFault;
+use crate::fault::{CommandFault, fault_behind_word};
 use crate::lines::item_at;
 use crate::pieces::Rest;
 use ds_entry::Item;
-use ds_line::{Expected, PartFault};
+use ds_line::Expected;
 use std::alloc::Global;
 
 /// Whether a line is an offer's: its word is `offer`, and a space comes behind it.
@@ -39,10 +39,6 @@ pub fn read_offer(alloc: Global, line: &[u8], slot: &mut Option<Item>) -> Result
     };
     match item_at(alloc, &mut rest, slot) {
         Ok(()) => Ok(()),
-        Err(PartFault::BadPart { left }) => Err(CommandFault::BadLine {
-            place: line.len() - left,
-            expected: rest.expected,
-        }),
-        Err(PartFault::NoRoom) => Err(CommandFault::NoRoom),
+        Err(stop) => Err(fault_behind_word(line, stop, rest.expected)),
     }
 }

@@ -6,7 +6,7 @@ ghost use Rattle.ds_words.specs.Command.{ReadsCommand, IsLineOf, IsCommandLineFa
 ghost use Rattle.ds_words.specs.Row.{TakesRow};
 
 use crate::command::ScriptCommand;
-use crate::fault::CommandFault;
+use crate::fault::{CommandFault, fault_behind_word};
 use crate::lines::{
     all_at, check_at, delete_at, entries_at, map_at, nameof_at, offer_at, publish_at, retrieve_at,
     show_at, subscribe_at, sweep_at,
@@ -70,13 +70,7 @@ pub fn read_line(alloc: Global, line: &[u8]) -> Result<ScriptCommand, CommandFau
     };
     let command = match behind_word(alloc, word, &mut rest) {
         Ok(command) => command,
-        Err(PartFault::BadPart { left }) => {
-            return Err(CommandFault::BadLine {
-                place: line.len() - left,
-                expected: rest.expected,
-            });
-        }
-        Err(PartFault::NoRoom) => return Err(CommandFault::NoRoom),
+        Err(stop) => return Err(fault_behind_word(line, stop, rest.expected)),
     };
     Ok(command)
 }

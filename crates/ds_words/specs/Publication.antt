@@ -1,0 +1,14 @@
+-- Lines of publications, whose parts are given by themselves.
+use Rattle.std.specs.Prelude.{◌≡◌, ℕ, List, ◌++◌, Result, Ok, Err, codes}
+use Rattle.ds_words.specs.declared.command.ScriptCommand.{ScriptCommand}
+use Rattle.ds_words.specs.declared.command.ScriptCommand.TheVariants.{Publish}
+use Rattle.ds_words.specs.declared.publication.Publication.{Publication}
+
+-- the line's word is `publish`, and a space comes behind it
+abbrev pub IsPublish : List ℕ → Type 0
+IsPublish line = (rest : List ℕ) × (line ≡ codes "publish " ++ rest)
+
+-- the command of what was read, or why nothing was
+abbrev pub publishing : {Fault : Type 0} → Result Publication Fault → Result ScriptCommand Fault
+publishing (Ok p) = Ok (Publish p.caller p.key p.version p.value p.overwrite)
+publishing (Err fault) = Err fault

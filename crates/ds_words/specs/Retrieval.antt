@@ -1,0 +1,14 @@
+-- Lines of retrievals, whose key is given by itself.
+use Rattle.std.specs.Prelude.{◌≡◌, ℕ, List, ◌++◌, Result, Ok, Err, codes}
+use Rattle.ds_names.specs.declared.key.Key.{Key}
+use Rattle.ds_words.specs.declared.command.ScriptCommand.{ScriptCommand}
+use Rattle.ds_words.specs.declared.command.ScriptCommand.TheVariants.{Retrieve}
+
+-- the line's word is `retrieve`, and a space comes behind it
+abbrev pub IsRetrieve : List ℕ → Type 0
+IsRetrieve line = (rest : List ℕ) × (line ≡ codes "retrieve " ++ rest)
+
+-- the command of the key that was read, or why none was
+abbrev pub retrieving : {Fault : Type 0} → Result Key Fault → Result ScriptCommand Fault
+retrieving (Ok key) = Ok (Retrieve key)
+retrieving (Err fault) = Err fault
