@@ -1,5 +1,5 @@
 -- Lines, and the commands that may stand on them.
-use Rattle.std.proofs.Common.{◌≡◌, ◌≢◌, ℕ, zero, suc, ◌≤◌, ◌⊎◌, inl, inr, Bool, false, true≢false, List, [], ◌∷◌, length, Option, Some, Result, Ok, Err, refl, sym, ap, subst, ◌∙◌, length-append, arith}
+use Rattle.std.proofs.Common.{◌≡◌, ◌≢◌, ℕ, zero, suc, ◌≤◌, ◌⊎◌, inl, inr, Bool, false, true≢false, List, [], ◌∷◌, ◌++◌, length, Option, Some, Result, Ok, Err, refl, sym, ap, subst, ◌∙◌, length-append, arith}
 use Rattle.ds_names.specs.Endpoint.{EndpointRecord}
 use Rattle.ds_names.specs.declared.key.Key.{Key}
 use Rattle.ds_names.specs.declared.version.Version.{Version}
@@ -15,9 +15,10 @@ use Rattle.ds_words.specs.declared.command.ScriptCommand.{ScriptCommand}
 use Rattle.ds_words.specs.declared.command.ScriptCommand.TheVariants.{Offer, Show, All, Publish, Subscribe, Map, Entries, Ring, Since, Snapshot, Page, Settings}
 use Rattle.ds_words.specs.declared.fault.CommandFault.{CommandFault}
 use Rattle.ds_words.specs.declared.fault.CommandFault.TheVariants.{BadLine, NoRoom}
-use Rattle.ds_script.specs.Answer.{MayStand, AnswersAsEvent, AnswersLine, AnswersOrRefuses, AnswerTakesRoom, IsLineRefused, has_value}
-use Rattle.ds_script.specs.Progress.{IsUnendedFault}
+use Rattle.ds_script.specs.Answer.{MayStand, AnswersAsEvent, AnswersLine, AnswersOrRefuses, AnswerTakesRoom, IsLineRefused, AppendsLine, has_value}
+use Rattle.ds_script.specs.Progress.{IsUnendedFault, KeepsSession}
 use Rattle.ds_script.specs.Session.{SessionContent}
+use Rattle.ds_script.proofs.EventLemmas.{event_answers}
 
 -- a command that may stand on some line is a command
 pub may_command : (before : ℕ) (command : ScriptCommand) → MayStand before command → IsCommand command
@@ -65,20 +66,14 @@ pub line_behind : (before : ℕ) (bytes : List ℕ) (result : Result ScriptComma
 line_behind zero bytes result first later = first refl
 line_behind (suc before) bytes result first later = later (λ none. omega (arith, none))
 
--- and so of an offer whose item is put into a place
-pub offered_behind : (before : ℕ) (bytes : List ℕ) (result : Result (Unit {0}) CommandFault) (placed : Option Item)
-    → OfPlaced CommandFault (ReadsAs IsCommand bytes) result placed → OfPlaced CommandFault (ReadsAs IsLater bytes) result placed
-    → OfPlaced CommandFault (ReadsAs (MayStand before) bytes) result placed
-offered_behind zero bytes result placed first later = first
-offered_behind (suc before) bytes result placed first later = later
+-- what is read so as a first line and as one behind it, is read so behind however many others
+pub read_behind : (before : ℕ) (bytes : List ℕ) (result : Result ScriptCommand CommandFault) → ReadsAs IsCommand bytes result → ReadsAs IsLater bytes result → ReadsAs (MayStand before) bytes result
+read_behind zero bytes result first later = first
+read_behind (suc before) bytes result first later = later
 
 -- the item that is in the place is the one that is offered
-pub offered_item : (before : ℕ) (bytes : List ℕ) (placed : Option Item) (i : Item) → placed ≡ Some i
-    → OfPlaced CommandFault (ReadsAs IsCommand bytes) (Ok tt) placed → OfPlaced CommandFault (ReadsAs IsLater bytes) (Ok tt) placed
-    → ReadsAs (MayStand before) bytes (Ok (Offer i))
-offered_item before bytes placed i is first later =
-    subst (λ (p : Option Item). OfPlaced CommandFault (ReadsAs (MayStand before) bytes) (Ok tt) p) is
-    (offered_behind before bytes (Ok tt) placed first later)
+pub offered_item : (Answers : Result ScriptCommand CommandFault → Type 0) (placed : Option Item) (i : Item) → placed ≡ Some i → OfPlaced CommandFault Answers (Ok tt) placed → Answers (Ok (Offer i))
+offered_item Answers placed i is read = subst (λ (p : Option Item). OfPlaced CommandFault Answers (Ok tt) p) is read
 
 -- ---- one line, and its answer
 
@@ -106,8 +101,29 @@ bad_behind before (BadLine place expected) bytes text short is fault =
     inr (short_text bytes text short is, subst (λ (b : List ℕ). IsFaultAmong (MayStand before) b place) is fault)
 bad_behind before NoRoom bytes text short is fault = tt
 
--- an offer is answered as its event is, or refused
-pub offer_answered : (i : Item) (old : SessionContent) (out : List ℕ) (new : SessionContent)
-    → (AnswersAsEvent (Offer i) old out new ⊎ (AnswerTakesRoom (Offer i) old × IsLineRefused old out new)) → AnswersOrRefuses (Offer i) old out new
-offer_answered i old out new (inl answers) = inr answers
-offer_answered i old out new (inr refused) = inl refused
+-- a line of which no command was read is refused where there is no room for what it has
+pub unread_behind : (before : ℕ) (bytes had has : List ℕ) (fault : CommandFault) (session : SessionContent) → length bytes ≤ 4097
+    → ReadsAs (MayStand before) bytes (Err fault) → (fault ≡ NoRoom) × (has ≡ had ++ refused_noroom) → AppendsLine before bytes had has session session
+unread_behind before bytes had has fault session short read answered = (
+  refused_noroom,
+  answered.1,
+  refused_behind before bytes session short (subst (λ (f : CommandFault). ReadsAs (MayStand before) bytes (Err f)) answered.0 read),
+)
+
+-- or its fault is told
+pub unread_fault : (before : ℕ) (fault told : CommandFault) (bytes : List ℕ) → length bytes ≤ 4097 → ReadsAs (MayStand before) bytes (Err fault) → told ≡ fault
+    → (text : List ℕ) → bytes ≡ with_newline text → IsUnendedFault before told text
+unread_fault before fault told bytes short read same text is = subst (λ (f : CommandFault). IsUnendedFault before f text) (sym same) (bad_behind before fault bytes text short is read)
+
+-- and what is as it was is kept
+pub keeps : (fault : CommandFault) (session : SessionContent) → KeepsSession fault session session
+keeps (BadLine place expected) session = refl
+keeps NoRoom session = tt
+
+-- the line of a command that is an event is answered as the event is, or refused
+pub event_behind : (before : ℕ) (bytes out : List ℕ) (command : ScriptCommand) (old new : SessionContent) → length bytes ≤ 4097
+    → ReadsAs IsCommand bytes (Ok command) → ReadsAs IsLater bytes (Ok command)
+    → AnswersAsEvent command old out new ⊎ (AnswerTakesRoom command old × IsLineRefused old out new)
+    → (text : List ℕ) → bytes ≡ with_newline text → AnswersLine before old text out new
+event_behind before bytes out command old new short first later answers =
+    answered_behind before bytes out command old new short (read_behind before bytes (Ok command) first later) (event_answers command old out new answers)

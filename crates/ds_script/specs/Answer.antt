@@ -10,10 +10,8 @@ use Rattle.ds_line.specs.ItemSpelling.{item_spelling}
 use Rattle.ds_held.specs.Limits.{larger}
 use Rattle.ds_held.specs.Held.{held_items}
 use Rattle.ds_submap.specs.Map.{SubMapRecord}
-use Rattle.ds_machine.specs.declared.command.Command.{Command}
 use Rattle.ds_machine.specs.declared.reply.Reply.{Reply}
 use Rattle.ds_replica.specs.declared.event.Event.{Event}
-use Rattle.ds_replica.specs.declared.event.Event.TheVariants.{Ask}
 use Rattle.ds_replica.specs.declared.event.Side.{Side}
 use Rattle.ds_replica.specs.declared.outcome.Outcome.{Outcome}
 use Rattle.ds_replica.specs.declared.outcome.Outcome.TheVariants.{Made}
@@ -175,11 +173,6 @@ abbrev pub AppendsEvent : ScriptCommand → (before after : List ℕ) → (old n
 AppendsEvent command before after old new =
     (out : List ℕ) × (after ≡ before ++ out)
     × (AnswersAsEvent command old out new ⊎ (AnswerTakesRoom command old × IsLineRefused old out new))
-
--- so is what the store that is asked replies to its command
-abbrev pub AppendsReply : Wording → Command → (before after : List ℕ) → (old new : SessionContent) → Type 0
-AppendsReply wording command before after old new =
-    (out : List ℕ) × (after ≡ before ++ out) × AnswersEvent wording (Ask old.side command) old out new
 
 -- so is what RS and the tables answer a command
 abbrev pub AppendsByServers : (Servers → List ℕ → Servers → Type 0) → (before after : List ℕ) → (old new : SessionContent) → Type 0

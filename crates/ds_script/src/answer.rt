@@ -41,7 +41,7 @@ pub(crate) fn answer_command(
             version,
             value,
             overwrite,
-        } => answer_publish(session, output, caller, key, version, value, overwrite),
+        } => answer_publish(session, output, caller, &key, version, value, overwrite),
         ScriptCommand::Retrieve { key } => answer_retrieve(session, output, key),
         other => answer_other(alloc, session, output, other),
     }

@@ -1,10 +1,9 @@
 //! The lines of which most scripts are made, each answered by a function of its own: so none clears the room that the parts of
 //! another's command take, and none makes an event and an outcome of what the store can be asked directly.
 
-ghost use Rattle.std.specs.Prelude.{◌≡◌, false, OnOk, OnErr};
-ghost use Rattle.ds_replica.specs.Happens.{gives_items};
+ghost use Rattle.std.specs.Prelude.{◌≡◌, OnOk, OnErr};
 ghost use Rattle.ds_words.specs.declared.command.ScriptCommand.TheVariants as lines;
-ghost use Rattle.ds_script.specs.Answer.{AppendsEvent, AppendsReply};
+ghost use Rattle.ds_script.specs.Answer.{AppendsEvent};
 
 use crate::session::Session;
 use ds_entry::{Item, Value};
@@ -27,27 +26,22 @@ pub(crate) fn answer_offer(
 }
 
 /// Answers a `publish`.
+#[inline(always)]
 pub(crate) fn answer_publish(
     session: &mut Session,
     output: &mut Vec<u8>,
     caller: Endpoint,
-    key: Key,
+    key: &Key,
     version: Version,
     value: Value,
     overwrite: bool,
 ) -> Result<(), NoRoom>
-    ensures answered { OnOk result (AppendsEvent (lines.Publish caller key version value overwrite)
+    ensures answered { OnOk result (AppendsEvent (lines.Publish caller key.now version value overwrite)
         output.old.items output.new.items session.old session.new) }
     ensures unanswered { OnErr result (output.new.items ≡ output.old.items) }
 {
-    let command = Command::Publish {
-        caller,
-        key,
-        version,
-        value,
-        overwrite,
-    };
-    answer_ask(session, output, Wording::AsMerge, command)
+    let reply = session.publish(caller, key, version, value, overwrite);
+    append_reply(output, Wording::AsMerge, &reply, Limits::larger())
 }
 
 /// Answers a `retrieve`.
@@ -59,20 +53,6 @@ pub(crate) fn answer_retrieve(
     ensures answered { OnOk result (AppendsEvent (lines.Retrieve key) output.old.items output.new.items session.old session.new) }
     ensures unanswered { OnErr result (output.new.items ≡ output.old.items) }
 {
-    answer_ask(session, output, Wording::AsMerge, Command::Retrieve { key })
-}
-
-// Asks the store a command to which no store gives items, and puts its reply behind the answers that wait.
-fn answer_ask(
-    session: &mut Session,
-    output: &mut Vec<u8>,
-    wording: Wording,
-    command: Command,
-) -> Result<(), NoRoom>
-    requires { gives_items command ≡ false }
-    ensures answered { OnOk result (AppendsReply wording command output.old.items output.new.items session.old session.new) }
-    ensures unanswered { OnErr result (output.new.items ≡ output.old.items) }
-{
-    let reply = session.ask(command);
-    append_reply(output, wording, &reply, Limits::larger())
+    let reply = session.ask(Command::Retrieve { key });
+    append_reply(output, Wording::AsMerge, &reply, Limits::larger())
 }

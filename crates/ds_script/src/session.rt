@@ -3,18 +3,18 @@
 ghost use Rattle.std.specs.Prelude.{◌≡◌, ◌≤◌, ◌∷◌, [], false, slice_get, IfOk};
 ghost use Rattle.std.specs.Option.{option_copied};
 ghost use Rattle.ds_held.specs.Held.{held_items};
-ghost use Rattle.ds_machine.specs.declared.command.Command.TheVariants.{Merge};
+ghost use Rattle.ds_machine.specs.declared.command.Command.TheVariants.{Merge, Publish};
 ghost use Rattle.ds_replica.specs.Happens.{gives_items};
 ghost use Rattle.ds_replica.specs.declared.event.Event.TheVariants.{Ask};
 ghost use Rattle.ds_replica.specs.declared.outcome.Outcome.TheVariants.{Replied};
 ghost use Rattle.ds_script.specs.Session.{IsOpened, seed as described_seed, held_of, turned, IsHappening};
 
 use ds_answers::Servers;
-use ds_entry::Item;
+use ds_entry::{Item, Value};
 use ds_held::Held;
 use ds_machine::{Command, Reply};
 use ds_message::Message;
-use ds_names::NoRoom;
+use ds_names::{Endpoint, Key, NoRoom, Version};
 use ds_replica::{Event, Outcome, Seed, Side};
 use ds_submap::SubMap;
 use ds_world::World;
@@ -104,6 +104,21 @@ impl Session {
         ensures { IsHappening (Ask self.old.side (Merge (item.now ∷ []))) (Replied result) self.old self.new }
     {
         self.world.offer(self.side, item)
+    }
+
+    /// Asks the store to publish a value, of which the key is only lent, and gives its reply, likewise.
+    pub(crate) fn publish(
+        &mut self,
+        caller: Endpoint,
+        key: &Key,
+        version: Version,
+        value: Value,
+        overwrite: bool,
+    ) -> Reply
+        ensures { IsHappening (Ask self.old.side (Publish caller key.now version value overwrite)) (Replied result) self.old self.new }
+    {
+        self.world
+            .publish(self.side, caller, key, version, value, overwrite)
     }
 
     /// What the store that is asked holds.

@@ -3,9 +3,10 @@
 ghost use Rattle.std.specs.Prelude.{◌<◌, ◌≤◌, ◌^◌, All};
 ghost use Rattle.ds_names.specs.Name.{IsName};
 ghost use Rattle.ds_entry.specs.Item.{IsItem};
-ghost use Rattle.ds_replica.specs.Bringing.{IsProper};
+ghost use Rattle.ds_entry.specs.declared.body.Body.TheVariants.{Put};
+ghost use Rattle.ds_replica.specs.Bringing.{AreParts, IsProper};
 
-use ds_entry::Item;
+use ds_entry::{Item, Value};
 use ds_machine::Command;
 use ds_names::{Key, Version};
 
@@ -19,10 +20,7 @@ pub(crate) fn read_parts(command: &Command)
             version,
             value,
             ..
-        } => {
-            let _kind = value.kind();
-            read_version(key, version);
-        }
+        } => read_published(key, version, value),
         Command::Delete { key, version, .. } => read_version(key, version),
         Command::Sweep {
             owner,
@@ -41,6 +39,14 @@ pub(crate) fn read_parts(command: &Command)
         | Command::Snapshot { .. }
         | Command::Page { .. } => {}
     }
+}
+
+// Reads what is published.
+pub(crate) fn read_published(key: &Key, version: &Version, value: &Value)
+    ensures { AreParts key.now version.now (Put value.now) }
+{
+    let _kind = value.kind();
+    read_version(key, version);
 }
 
 // Reads a key and a version.

@@ -4,7 +4,7 @@ ghost use Rattle.std.specs.Prelude.{◌≡◌, ◌∷◌, [], true, false};
 ghost use Rattle.ds_machine.specs.Says.{IsReplyTo};
 ghost use Rattle.ds_machine.specs.State.{State};
 ghost use Rattle.ds_machine.specs.Machine.{Step};
-ghost use Rattle.ds_machine.specs.declared.command.Command.TheVariants.{Merge};
+ghost use Rattle.ds_machine.specs.declared.command.Command.TheVariants.{Merge, Publish};
 ghost use Rattle.ds_judge.specs.Last.{IsLast};
 ghost use Rattle.ds_content.specs.Stands.{ContentStands};
 ghost use Rattle.ds_store.specs.Steps.{ContentSteps};
@@ -15,11 +15,12 @@ ghost use Rattle.ds_world.specs.Run.{EventLeads};
 ghost use Rattle.ds_world.specs.Steps.{StoreSteps, LastOf};
 ghost use Rattle.ds_world.specs.Told.{IsAskTold, IsTold};
 
-use crate::parts::{read_item, read_parts};
+use crate::parts::{read_item, read_parts, read_published};
 use crate::replies::{gives_items, has_items, keep};
 use crate::world::World;
-use ds_entry::Item;
+use ds_entry::{Item, Value};
 use ds_machine::{Command, Reply};
+use ds_names::{Endpoint, Key, Version};
 use ds_replica::{EventFault, Outcome, Side};
 use ds_store::Store;
 use std::slice;
@@ -61,6 +62,27 @@ fn merge_one(a: &mut Store, b: &mut Store, side: Side, item: &Item) -> Reply
     }
 }
 
+// Asks the store of the side to publish a value.
+fn publish_at(
+    a: &mut Store,
+    b: &mut Store,
+    side: Side,
+    caller: Endpoint,
+    key: &Key,
+    version: Version,
+    value: Value,
+    overwrite: bool,
+) -> Reply
+    ensures step { StoreSteps a.old b.old a.new b.new side (Publish caller key.now version value overwrite) result }
+    ensures last { LastOf a.old b.old side (Publish caller key.now version value overwrite) result }
+    ensures fits { IsReplyTo (Publish caller key.now version value overwrite) result }
+{
+    match side {
+        Side::A => a.publish(caller, key, version, value, overwrite),
+        Side::B => b.publish(caller, key, version, value, overwrite),
+    }
+}
+
 impl World {
     // Asks a store. A reply with items is kept as the next message; room for that is taken first.
     pub(super) fn ask(&mut self, side: Side, command: Command) -> Outcome
@@ -93,6 +115,33 @@ impl World {
     {
         read_item(item);
         merge_one(&mut self.a, &mut self.b, side, item)
+    }
+
+    /// Asks the store of a side to publish a value, of which the key is only lent, and gives its reply: the event of an Ask of that
+    /// Publish, with no command made for it. No world refuses it, and it takes memory only where the store does.
+    pub fn publish(
+        &mut self,
+        side: Side,
+        caller: Endpoint,
+        key: &Key,
+        version: Version,
+        value: Value,
+        overwrite: bool,
+    ) -> Reply
+        ensures leads { EventLeads (Ask side (Publish caller key.now version value overwrite)) (Replied result) self.old self.new }
+        ensures told { IsTold (Ask side (Publish caller key.now version value overwrite)) (Replied result) self.old self.new }
+    {
+        read_published(key, &version, &value);
+        publish_at(
+            &mut self.a,
+            &mut self.b,
+            side,
+            caller,
+            key,
+            version,
+            value,
+            overwrite,
+        )
     }
 
     // The same of a command to which a store gives items.

@@ -1,5 +1,7 @@
-use Rattle.std.proofs.Common.{Ok, Err, arith}
-use Rattle.ds_script.proofs.LineLemmas.{line_behind, answered_behind, bad_behind}
+use Rattle.std.proofs.Common.{◌≡◌, Ok, Err, arith}
+use Rattle.std.proofs.lemmas.Result.{IfErr-weaker}
+use Rattle.store_words.proofs.ResultLemmas.{on_ok}
+use Rattle.ds_script.proofs.LineLemmas.{line_behind, answered_behind, unread_behind, unread_fault, keeps}
 use Rattle.ds_script.proofs.line.answer_line.Goals as goal
 
 pub returns-in-Ok-answer_command-clause-ok : goal.returns-in-Ok-answer_command-clause-ok
@@ -11,7 +13,18 @@ returns-in-Ok-answer_command-clause-ok c =
       answered_behind c.args.before c.args.line.now a.0 c.in-Ok.command c.args.session.now c.answer_command.new.session (omega (arith, c.if-line.false)) read a.2,
     )
 
+pub returns-in-Err-clause-ok : goal.returns-in-Err-clause-ok
+returns-in-Err-clause-ok c =
+    let line = c.args.line.now in
+    let read = line_behind c.args.before line (Err c.in-Err.fault) c.in-Err.ensures.first c.in-Err.ensures.later in
+    on_ok c.answer_unread.result (unread_behind c.args.before line c.args.output.now.items c.answer_unread.new.output.items c.in-Err.fault c.args.session.now (omega (arith, c.if-line.false)) read)
+    c.answer_unread.ensures.answered
+
 pub returns-in-Err-clause-fault : goal.returns-in-Err-clause-fault
-returns-in-Err-clause-fault c = λ text is.
-    bad_behind c.args.before c.in-Err.bad c.args.line.now text (omega (arith, c.if-line.false)) is
-    (line_behind c.args.before c.args.line.now (Err c.in-Err.bad) c.in-Err.ensures.first c.in-Err.ensures.later)
+returns-in-Err-clause-fault c =
+    let line = c.args.line.now in
+    let read = line_behind c.args.before line (Err c.in-Err.fault) c.in-Err.ensures.first c.in-Err.ensures.later in
+    IfErr-weaker c.answer_unread.result (λ told. told ≡ c.in-Err.fault) _ (λ told same. unread_fault c.args.before c.in-Err.fault told line (omega (arith, c.if-line.false)) read same) c.answer_unread.ensures.told
+
+pub returns-in-Err-clause-kept : goal.returns-in-Err-clause-kept
+returns-in-Err-clause-kept c = IfErr-weaker c.answer_unread.result (λ told. told ≡ c.in-Err.fault) _ (λ told same. keeps told c.args.session.now) c.answer_unread.ensures.told
