@@ -65,8 +65,8 @@ impl Change {
         }
     }
 
-    /// Puts the change of four parts that fit together into a place, as an item. The key and the owner are lent, and each is copied
-    /// once, to where it is to stand.
+    /// Puts the change of four parts that fit together into a place, as an item. The key and the owner are lent, and each name is
+    /// copied once, to where it is to stand: a key that is copied as a whole goes there together with the owner by way of a third place.
     #[inline(always)]
     pub fn put_into(
         slot: &mut Option<Item>,
@@ -79,7 +79,10 @@ impl Change {
         ensures put { slot.new ≡ Some (Changed (change_of key.now owner.now version body)) }
     {
         *slot = Some(Item::Change(Change {
-            key: *key,
+            key: Key {
+                name: key.name,
+                kind: key.kind,
+            },
             owner: *owner,
             version,
             body,

@@ -44,7 +44,7 @@ pub fn append_change(buffer: &mut Vec<u8>, change: &Change) -> Result<(), NoRoom
         }
         Body::Gone => line.put(b"-\n"),
     }
-    append_all(buffer, &[line.bytes()])
+    append(buffer, line.bytes())
 }
 
 // Writes a change's line up to its mark.
@@ -106,6 +106,16 @@ pub fn append_value(
         Value::Str(text) => append_text(buffer, before, text.bytes(), after),
         Value::Mem(blob) => append_blob(buffer, before, blob.bytes(), after),
     }
+}
+
+/// Appends one text. Where there is no room for it, the buffer is as it was.
+#[inline(always)]
+pub fn append(buffer: &mut Vec<u8>, text: &[u8]) -> Result<(), NoRoom>
+    ensures written { OnOk result (buffer.new.items ≡ buffer.old.items ++ text.now) }
+    ensures unchanged { OnErr result (buffer.new.items ≡ buffer.old.items) }
+{
+    buffer.extend_from_slice(text)?;
+    Ok(())
 }
 
 /// Appends each of the texts. Where there is no room for all of them, the buffer is as it was.

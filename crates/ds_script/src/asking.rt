@@ -10,7 +10,7 @@ use ds_entry::{Item, Value};
 use ds_held::Limits;
 use ds_machine::Command;
 use ds_names::{Endpoint, Key, NoRoom, Version};
-use store_words::{Wording, append_reply};
+use store_words::{Wording, append_offered, append_reply};
 
 /// Answers an `offer`: the store merges the one item.
 pub(crate) fn answer_offer(
@@ -22,7 +22,7 @@ pub(crate) fn answer_offer(
     ensures unanswered { OnErr result (output.new.items ≡ output.old.items) }
 {
     let reply = session.offer(item);
-    append_reply(output, Wording::AsOffer, &reply, Limits::larger())
+    append_offered(output, &reply, Limits::larger())
 }
 
 /// Answers a `publish`.

@@ -12,7 +12,7 @@ ghost use Rattle.store_words.specs.Reply.{refusal_word, refusal_words, refused, 
 use crate::shown::{append_checked, append_journaled, append_paged, append_snapped};
 use crate::wording::Wording;
 use ds_held::Limits;
-use ds_line::{append_all, append_value};
+use ds_line::{append, append_all, append_value};
 use ds_machine::{Refusal, Reply};
 use ds_names::{NoRoom, Version};
 use itoa::Buffer;
@@ -69,10 +69,7 @@ pub fn append_offered(buffer: &mut Vec<u8>, reply: &Reply, limits: Limits) -> Re
             stale,
             owed: 0,
             ..
-        } => {
-            buffer.extend_from_slice(offered(*taken, *stale))?;
-            Ok(())
-        }
+        } => append(buffer, offered(*taken, *stale)),
         _ => append_reply(buffer, Wording::AsOffer, reply, limits),
     }
 }
@@ -82,7 +79,7 @@ pub fn append_noroom(buffer: &mut Vec<u8>) -> Result<(), NoRoom>
     ensures written { OnOk result (buffer.new.items ≡ buffer.old.items ++ refused_noroom) }
     ensures unchanged { OnErr result (buffer.new.items ≡ buffer.old.items) }
 {
-    append_all(buffer, &[b"refused noroom\n"])
+    append(buffer, b"refused noroom\n")
 }
 
 // Appends the lines of a reply but for what is owed, or nothing.
@@ -92,8 +89,8 @@ fn append_words(buffer: &mut Vec<u8>, wording: Wording, reply: &Reply) -> Result
     ensures unchanged { OnErr result (buffer.new.items ≡ buffer.old.items) }
 {
     match reply {
-        Reply::Changed { .. } => append_all(buffer, &[b"taken\n"]),
-        Reply::Known => append_all(buffer, &[b"known\n"]),
+        Reply::Changed { .. } => append(buffer, b"taken\n"),
+        Reply::Known => append(buffer, b"known\n"),
         Reply::Swept { count, .. } => {
             let mut digits = Buffer::new();
             let count = digits.format(*count).as_bytes();
@@ -120,7 +117,7 @@ fn append_words(buffer: &mut Vec<u8>, wording: Wording, reply: &Reply) -> Result
             stale,
             ..
         } => match wording {
-            Wording::AsOffer => append_all(buffer, &[offered(*taken, *stale)]),
+            Wording::AsOffer => append(buffer, offered(*taken, *stale)),
             Wording::AsMerge => append_merged(buffer, *done, *taken, *stale),
         },
         Reply::MergeStopped { done, fault, .. } => match wording {

@@ -9,10 +9,10 @@ use Rattle.ds_script.proofs.asking.answer_offer.Goals as goal
 pub returns-clause-answered : goal.returns-clause-answered
 returns-clause-answered c =
     let reply = c.offer-reply.result in
-    on_ok c.append_reply.result
+    on_ok c.append_offered.result
     (λ written. (
       reply_lines AsOffer reply larger,
       written ∙ ap (λ (l : LimitsRecord). c.args.output.now.items ++ reply_lines AsOffer reply l) c.larger.ensures,
       inl (record { outcome = Replied reply; happens = c.offer-reply.ensures; told = refl }),
     ))
-    c.append_reply.ensures.written
+    c.append_offered.ensures.written
