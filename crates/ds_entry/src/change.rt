@@ -68,13 +68,7 @@ impl Change {
     /// Puts the change of four parts that fit together into a place, as an item. The key and the owner are lent, and each name is
     /// copied once, to where it is to stand: a key that is copied as a whole goes there together with the owner by way of a third place.
     #[inline(always)]
-    pub fn put_into(
-        slot: &mut Option<Item>,
-        key: &Key,
-        owner: &Name,
-        version: Version,
-        body: Body,
-    )
+    pub fn put_into(slot: &mut Option<Item>, key: &Key, owner: &Name, version: Version, body: Body)
         requires parts { IsChange (change_of key.now owner.now version body) }
         ensures put { slot.new ≡ Some (Changed (change_of key.now owner.now version body)) }
     {

@@ -18,7 +18,9 @@ use crate::part_fault::{PartFault, stop_at};
 use crate::parts::kind_at;
 use crate::rules::{has_body, has_owner, has_seq, has_tombstone, has_value, has_version};
 use ds_entry::{Body, Change, Item, Value};
-use ds_names::{Endpoint, Generation, Key, Kind, Name, Version, read_byte, read_decimal, read_endpoint};
+use ds_names::{
+    Endpoint, Generation, Key, Kind, Name, Version, read_byte, read_decimal, read_endpoint,
+};
 use std::alloc::Global;
 
 /// Reads the change whose line stands at the front of the bytes, and gives it with the line's length, its
