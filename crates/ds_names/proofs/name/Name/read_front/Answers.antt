@@ -1,4 +1,4 @@
-use Rattle.std.proofs.Common.{◌≡◌, ◌<◌, ◌≤◌, List, [], ◌∷◌, ℕ, length, drop, take, refl, sym, ap, subst, ◌∙◌, lit<, lit≤, arith}
+use Rattle.std.proofs.Common.{◌≡◌, ◌<◌, List, [], ◌∷◌, ℕ, length, drop, take, refl, sym, ap, subst, ◌∙◌, lit<, lit≤, arith}
 use Rattle.std.proofs.lemmas.List.{length-take-le, take_rest}
 use Rattle.ds_names.specs.Name.{is_name_byte, IsName}
 use Rattle.ds_names.specs.Run.{Begins}
