@@ -9,6 +9,6 @@ abbrev pub IsPublish : List ℕ → Type 0
 IsPublish line = (rest : List ℕ) × (line ≡ codes "publish " ++ rest)
 
 -- the command of what was read, or why nothing was
-abbrev pub publishing : {Fault : Type 0} → Result Publication Fault → Result ScriptCommand Fault
-publishing (Ok p) = Ok (Publish p.caller p.key p.version p.value p.overwrite)
-publishing (Err fault) = Err fault
+abbrev pub publish_read : {Fault : Type 0} → Result Publication Fault → Result ScriptCommand Fault
+publish_read (Ok p) = Ok (Publish p.caller p.key p.version p.value p.overwrite)
+publish_read (Err fault) = Err fault

@@ -9,6 +9,6 @@ abbrev pub IsRetrieve : List ℕ → Type 0
 IsRetrieve line = (rest : List ℕ) × (line ≡ codes "retrieve " ++ rest)
 
 -- the command of the key that was read, or why none was
-abbrev pub retrieving : {Fault : Type 0} → Result Key Fault → Result ScriptCommand Fault
-retrieving (Ok key) = Ok (Retrieve key)
-retrieving (Err fault) = Err fault
+abbrev pub retrieve_read : {Fault : Type 0} → Result Key Fault → Result ScriptCommand Fault
+retrieve_read (Ok key) = Ok (Retrieve key)
+retrieve_read (Err fault) = Err fault

@@ -4,8 +4,8 @@
 
 ghost use Rattle.ds_line.specs.declared.part_fault.PartFault.{PartFault as Fault};
 ghost use Rattle.ds_words.specs.Offer.{OfPlaced};
-ghost use Rattle.ds_words.specs.Publication.{publishing};
-ghost use Rattle.ds_words.specs.Retrieval.{retrieving};
+ghost use Rattle.ds_words.specs.Publication.{publish_read};
+ghost use Rattle.ds_words.specs.Retrieval.{retrieve_read};
 ghost use Rattle.ds_words.specs.Row.{TakesRow};
 ghost use Rattle.ds_words.specs.declared.word.Word.TheVariants as words;
 
@@ -92,7 +92,7 @@ pub(crate) fn publish_at(alloc: Global, rest: &mut Rest) -> Result<ScriptCommand
 /// Reads what follows `publish`, and gives its parts by themselves.
 #[inline(always)]
 pub(crate) fn publication_at(alloc: Global, rest: &mut Rest) -> Result<Publication, PartFault>
-    ensures { TakesRow words.Publish rest.old.bytes.now (publishing result) }
+    ensures { TakesRow words.Publish rest.old.bytes.now (publish_read result) }
 {
     let caller = rest.endpoint(Expected::Caller)?;
     let overwrite = rest.mode()?;
@@ -149,7 +149,7 @@ pub(crate) fn retrieve_at(rest: &mut Rest) -> Result<ScriptCommand, PartFault>
 /// Reads what follows `retrieve`, and gives its key by itself.
 #[inline(always)]
 pub(crate) fn retrieved_at(rest: &mut Rest) -> Result<Key, PartFault>
-    ensures { TakesRow words.Retrieve rest.old.bytes.now (retrieving result) }
+    ensures { TakesRow words.Retrieve rest.old.bytes.now (retrieve_read result) }
 {
     let key = rest.key()?;
     rest.end()?;

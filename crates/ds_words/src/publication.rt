@@ -5,7 +5,7 @@ ghost use Rattle.std.specs.Prelude.{◌↔◌, IsTrue};
 ghost use Rattle.ds_lines.specs.Lines.{EndsLine};
 ghost use Rattle.ds_words.specs.Command.{ReadsCommand};
 ghost use Rattle.ds_words.specs.Later.{ReadsLater};
-ghost use Rattle.ds_words.specs.Publication.{IsPublish, publishing};
+ghost use Rattle.ds_words.specs.Publication.{IsPublish, publish_read};
 
 use crate::fault::{CommandFault, fault_behind_word};
 use crate::lines::publication_at;
@@ -40,8 +40,8 @@ pub fn is_publish(line: &[u8]) -> bool
 pub fn read_publish(alloc: Global, line: &[u8]) -> Result<Publication, CommandFault>
     requires line { EndsLine line.now }
     requires publish { IsPublish line.now }
-    ensures first { ReadsCommand line.now (publishing result) }
-    ensures later { ReadsLater line.now (publishing result) }
+    ensures first { ReadsCommand line.now (publish_read result) }
+    ensures later { ReadsLater line.now (publish_read result) }
 {
     let (_word, bytes) = line.split_at(7);
     let mut rest = Rest {

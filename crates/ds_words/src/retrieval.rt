@@ -5,7 +5,7 @@ ghost use Rattle.std.specs.Prelude.{◌↔◌, IsTrue};
 ghost use Rattle.ds_lines.specs.Lines.{EndsLine};
 ghost use Rattle.ds_words.specs.Command.{ReadsCommand};
 ghost use Rattle.ds_words.specs.Later.{ReadsLater};
-ghost use Rattle.ds_words.specs.Retrieval.{IsRetrieve, retrieving};
+ghost use Rattle.ds_words.specs.Retrieval.{IsRetrieve, retrieve_read};
 
 use crate::fault::{CommandFault, fault_behind_word};
 use crate::lines::retrieved_at;
@@ -31,8 +31,8 @@ pub fn is_retrieve(line: &[u8]) -> bool
 pub fn read_retrieve(line: &[u8]) -> Result<Key, CommandFault>
     requires line { EndsLine line.now }
     requires retrieve { IsRetrieve line.now }
-    ensures first { ReadsCommand line.now (retrieving result) }
-    ensures later { ReadsLater line.now (retrieving result) }
+    ensures first { ReadsCommand line.now (retrieve_read result) }
+    ensures later { ReadsLater line.now (retrieve_read result) }
 {
     let (_word, bytes) = line.split_at(8);
     let mut rest = Rest {

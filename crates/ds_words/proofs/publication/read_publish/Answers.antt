@@ -1,5 +1,5 @@
 use Rattle.std.proofs.Common.{Err, Ok}
-use Rattle.ds_words.specs.Publication.{publishing}
+use Rattle.ds_words.specs.Publication.{publish_read}
 use Rattle.ds_words.specs.declared.word.Word.TheVariants as words
 use Rattle.ds_words.proofs.FrontLemmas.{begins, front_later, reads_front}
 use Rattle.ds_words.proofs.publication.read_publish.Goals as goal
@@ -17,7 +17,7 @@ returns-in-Ok-clause-first c =
 pub returns-in-Ok-clause-later : goal.returns-in-Ok-clause-later
 returns-in-Ok-clause-later c =
     let front = begins words.Publish c.args.line.now c.split_at.result.1.now c.requires.publish c.split_at.ensures.back in
-    front_later words.Publish c.args.line.now c.split_at.result.1.now (publishing (Ok c.in-Ok.publication)) (λ same. absurd (cc)) front
+    front_later words.Publish c.args.line.now c.split_at.result.1.now (publish_read (Ok c.in-Ok.publication)) (λ same. absurd (cc)) front
     (reads_front words.Publish c.args.line.now c.split_at.result.1.now _ c.requires.line front c.in-Ok.ensures)
 
 pub returns-in-Err-clause-later : goal.returns-in-Err-clause-later

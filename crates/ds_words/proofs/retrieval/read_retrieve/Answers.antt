@@ -1,5 +1,5 @@
 use Rattle.std.proofs.Common.{Err, Ok}
-use Rattle.ds_words.specs.Retrieval.{retrieving}
+use Rattle.ds_words.specs.Retrieval.{retrieve_read}
 use Rattle.ds_words.specs.declared.word.Word.TheVariants as words
 use Rattle.ds_words.proofs.FrontLemmas.{begins, front_later, reads_front}
 use Rattle.ds_words.proofs.retrieval.read_retrieve.Goals as goal
@@ -17,7 +17,7 @@ returns-in-Ok-clause-first c =
 pub returns-in-Ok-clause-later : goal.returns-in-Ok-clause-later
 returns-in-Ok-clause-later c =
     let front = begins words.Retrieve c.args.line.now c.split_at.result.1.now c.requires.retrieve c.split_at.ensures.back in
-    front_later words.Retrieve c.args.line.now c.split_at.result.1.now (retrieving (Ok c.in-Ok.key)) (λ same. absurd (cc)) front
+    front_later words.Retrieve c.args.line.now c.split_at.result.1.now (retrieve_read (Ok c.in-Ok.key)) (λ same. absurd (cc)) front
     (reads_front words.Retrieve c.args.line.now c.split_at.result.1.now _ c.requires.line front c.in-Ok.ensures)
 
 pub returns-in-Err-clause-later : goal.returns-in-Err-clause-later
