@@ -102,8 +102,24 @@ def all_sessions():
     return sessions
 
 
+class Section(str):
+    """The path of the program for tests, with the line that begins the section which is to answer what it is given."""
+
+    first = b""
+
+
+def section_of(program, name):
+    """The program for tests, at this path, with one of its sections."""
+    section = Section(program)
+    section.first = f"=== {name}\n".encode()
+    return section
+
+
 def run(words, given, environment=None):
-    """Runs a command on the bytes, or the file, that it is given."""
+    """Runs a command on the bytes, or the file, that it is given; a section's first line stands before them."""
+    first = getattr(words[0], "first", b"")
+    if first:
+        given = first + (given if isinstance(given, bytes) else given.read())
     how = {"input": given} if isinstance(given, bytes) else {"stdin": given}
     try:
         ran = subprocess.run(words, capture_output=True, timeout=SECONDS, env=environment, **how)
@@ -207,11 +223,12 @@ def report(faults):
     return 1 if bad else 0
 
 
-def program_given():
-    """Gives the absolute path of the program that the command line names."""
+def program_given(section=None):
+    """Gives the absolute path of the program that the command line names, with a section where one is asked for."""
     if len(sys.argv) != 2:
         sys.exit(f"usage: {sys.argv[0]} PROGRAM")
-    return program_at(sys.argv[1])
+    program = program_at(sys.argv[1])
+    return section_of(program, section) if section else program
 
 
 def program_at(path):

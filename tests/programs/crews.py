@@ -20,7 +20,7 @@ UNREAD = ("2", "two 3", "2 3 ", "2 -1", "0 1", "65 1")  # and of no threads ther
 class Crews:
     """Crews that share one thing; `words` are those of an answer between its numbers, that with ample memory first."""
 
-    program = 0  # of those that tests/soak is given
+    program = 0  # of those that tests/soak runs
 
     def __init__(self, shared, sizes, *words):
         self.shared, self.sizes, self.words = shared, sizes, words

@@ -5,20 +5,13 @@ ghost use Rattle.std.specs.List.{AllByRecursion};
 ghost use Rattle.desk.specs.Desk.{identity};
 ghost use Rattle.desk.specs.Pass.{desk_of, desk_of_note};
 
-use crate::failure::Failure;
 use crate::followed::Followed;
 use crate::playing::look;
+use crate::table::Table;
 use crate::tell::{tell, tell_fault};
 use desk::{CloseStop, Closed, Desk, Note, Pass, Passes};
 use std::alloc::Global;
-
-/// A desk, and its two passes.
-#[derive(Drop)]
-pub(crate) struct Table<D, P> {
-    pub desk: D,
-    pub one: P,
-    pub two: P,
-}
+use test_words::Failure;
 
 /// Closes the desk with both passes, and prints what is left, with the row of a subscription; or why it stays open.
 pub(crate) fn close_both<M: Followed + Drop, R: Print>(

@@ -1,8 +1,8 @@
 //! Machines that publish labels, and tell those who follow them.
 
-use crate::failure::Failure;
 use history::Machine;
 use std::alloc::Global;
+use test_words::Failure;
 
 /// A machine that publishes the labels of drivers, and tells those who follow it.
 pub(crate) trait Followed: Machine {

@@ -1,17 +1,18 @@
 //! Two passes of one desk, which call in turn.
 
-ghost use Rattle.std.specs.Prelude.{◌≡◌, IfSome};
+ghost use Rattle.std.specs.Prelude.{◌≡◌};
 ghost use Rattle.desk.specs.Desk.{identity};
 ghost use Rattle.desk.specs.Pass.{desk_of};
 
-use crate::closing::{Table, close_both, close_when_learnt};
-use crate::failure::Failure;
+use crate::closing::{close_both, close_when_learnt};
 use crate::followed::Followed;
 use crate::rows::{Row, Step};
+use crate::table::open_table;
 use crate::tell::{tell, tell_fault};
 use desk::{Answer, Desk, Pass, Taken};
 use std::alloc::Global;
 use std::sync::Wait;
+use test_words::Failure;
 
 /// Opens a desk, has its two passes do what the row says, and closes it. What they are answered is printed.
 pub(crate) fn play<M: Followed + Drop, R: Print + Wait>(
@@ -23,7 +24,7 @@ where
     M::Command: Drop,
     M::Reply: Drop,
 {
-    let Some(mut table) = open_table::<M>(alloc, row) else {
+    let Some(mut table) = open_table::<M>(alloc, row.place, row.position) else {
         return Err(Failure::NoRoom);
     };
     take_steps(
@@ -39,24 +40,6 @@ where
     } else {
         close_both(rt, alloc, table, row.sub)
     }
-}
-
-// A row's desk, and its two passes. `None` where memory is wanting.
-fn open_table<M: Followed + Drop>(alloc: Global, row: &Row) -> Option<Table<Desk<M>, Pass<M>>>
-where
-    M::Command: Drop,
-    M::Reply: Drop,
-    ensures one { IfSome result (λ table. desk_of table.one ≡ identity table.desk) }
-    ensures two { IfSome result (λ table. desk_of table.two ≡ identity table.desk) }
-{
-    let machine = M::begin_at(alloc, row.position)?;
-    let Ok((desk, mut passes)) = Desk::<M>::open(alloc, machine, 2, row.place) else {
-        return None;
-    };
-    let (Some(two), Some(one)) = (passes.pop(), passes.pop()) else {
-        return None;
-    };
-    Some(Table { desk, one, two })
 }
 
 fn take_steps<M: Followed, R: Print + Wait>(

@@ -1,10 +1,10 @@
 //! What opens no desk.
 
-use crate::failure::Failure;
 use crate::followed::Followed;
 use crate::rows::NO_DESK;
 use desk::{Desk, DeskFault};
 use std::alloc::Global;
+use test_words::Failure;
 
 /// Asks to open desks that there aren't, and prints why not, and the position of each machine that comes back.
 pub(crate) fn refuse_desks<M: Followed + Drop, R: Print>(
@@ -15,32 +15,24 @@ where
     M::Command: Drop,
     M::Reply: Drop,
 {
-    for (passes, place) in &NO_DESK {
-        refuse_desk::<M, R>(rt, alloc, *passes, *place)?;
+    for (passes, place) in NO_DESK {
+        let (fault, position) = refusal_of::<M>(alloc, passes, place).ok_or(Failure::NoRoom)?;
+        println!(rt; "no desk: {fault}; the store is at {position}")?;
     }
     Ok(())
 }
 
-fn refuse_desk<M: Followed + Drop, R: Print>(
-    rt: &R,
+// Why there is no such desk, and where the machine is that comes back. `None` where memory is wanting, or a desk was opened.
+fn refusal_of<M: Followed + Drop>(
     alloc: Global,
     passes: u32,
     place: u64,
-) -> Result<(), Failure>
+) -> Option<(DeskFault, u64)>
 where
     M::Command: Drop,
     M::Reply: Drop,
 {
-    let Some(machine) = M::begin_at(alloc, 7) else {
-        return Err(Failure::NoRoom);
-    };
-    match Desk::<M>::open(alloc, machine, passes, place) {
-        Ok(_) => Ok(println!(rt; "opened")?),
-        Err(stop) => tell_no_desk(rt, stop.fault, stop.machine.position()),
-    }
-}
-
-fn tell_no_desk(rt: &impl Print, fault: DeskFault, position: u64) -> Result<(), Failure> {
-    println!(rt; "no desk: {fault}; the store is at {position}")?;
-    Ok(())
+    let machine = M::begin_at(alloc, 7)?;
+    let stop = Desk::<M>::open(alloc, machine, passes, place).err()?;
+    Some((stop.fault, stop.machine.position()))
 }

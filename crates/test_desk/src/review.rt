@@ -74,6 +74,16 @@ where
 }
 
 impl Review {
+    /// The end of the line that tells of it.
+    pub(crate) fn verdict(&self) -> &'static str {
+        match (self.legal, self.exact) {
+            (true, true) => " history legal account exact\n",
+            (true, false) => " history legal account wrong\n",
+            (false, true) => " history not legal account exact\n",
+            (false, false) => " history not legal account wrong\n",
+        }
+    }
+
     // Adds the call of the next place, which was answered as one machine answers it, or was not.
     fn add(&mut self, one: &Said, same: bool) {
         let place = self.entries;

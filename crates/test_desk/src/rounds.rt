@@ -1,38 +1,47 @@
 //! Long rounds of looks and takes, to be measured from outside.
 
-ghost use Rattle.std.specs.Prelude.{◌≡◌, IfSome};
+ghost use Rattle.std.specs.Prelude.{◌≡◌};
 ghost use Rattle.desk.specs.Desk.{identity};
 ghost use Rattle.desk.specs.Pass.{desk_of};
 
-use crate::compared::Compared;
+use crate::followed::Followed;
+use crate::new_store::FIRST;
+use crate::table::open_table;
 use desk::{Desk, Pass};
+use history::Machine;
 use std::alloc::Global;
 
 /// Looks so often how far the history of a desk goes. What it saw, added up; `None` where memory is wanting.
-pub(crate) fn look<M: Compared + Drop>(alloc: Global, count: u32) -> Option<u64>
+pub(crate) fn look<M: Followed + Drop>(alloc: Global, count: u32) -> Option<u64>
 where
     M::Command: Drop,
     M::Reply: Drop,
 {
-    let (desk, mut pass) = open_desk::<M>(alloc)?;
+    let mut table = open_table::<M>(alloc, 0, FIRST)?;
+    Some(look_often(&table.desk, &mut table.one, count))
+}
+
+fn look_often<M: Machine>(desk: &Desk<M>, pass: &mut Pass<M>, count: u32) -> u64
+    requires { desk_of pass.old ≡ identity desk.now }
+{
     let mut seen = 0u64;
     for _ in 0..count {
-        seen = seen.wrapping_add(desk.front(&mut pass));
+        seen = seen.wrapping_add(desk.front(pass));
     }
-    Some(seen)
+    seen
 }
 
 /// Takes the notices of a server so often. What it took, added up; `None` where memory is wanting.
-pub(crate) fn take<M: Compared + Drop>(alloc: Global, count: u32) -> Option<u64>
+pub(crate) fn take<M: Followed + Drop>(alloc: Global, count: u32) -> Option<u64>
 where
     M::Command: Drop,
     M::Reply: Drop,
 {
-    let (desk, mut pass) = open_desk::<M>(alloc)?;
-    take_notices(&desk, &mut pass, count)
+    let mut table = open_table::<M>(alloc, 0, FIRST)?;
+    take_often(&table.desk, &mut table.one, count)
 }
 
-fn take_notices<M: Compared>(desk: &Desk<M>, pass: &mut Pass<M>, count: u32) -> Option<u64>
+fn take_often<M: Machine>(desk: &Desk<M>, pass: &mut Pass<M>, count: u32) -> Option<u64>
     requires { desk_of pass.old ≡ identity desk.now }
 {
     let mut bits = 0u64;
@@ -41,19 +50,4 @@ fn take_notices<M: Compared>(desk: &Desk<M>, pass: &mut Pass<M>, count: u32) -> 
         bits = bits.wrapping_add(u64::from(taken.bits));
     }
     Some(bits)
-}
-
-// A desk over a new machine, and its one pass. `None` where memory is wanting.
-fn open_desk<M: Compared + Drop>(alloc: Global) -> Option<(Desk<M>, Pass<M>)>
-where
-    M::Command: Drop,
-    M::Reply: Drop,
-    ensures { IfSome result (λ d. desk_of d.1 ≡ identity d.0) }
-{
-    let machine = M::begin(alloc)?;
-    let Ok((desk, mut passes)) = Desk::<M>::open(alloc, machine, 1, 0) else {
-        return None;
-    };
-    let pass = passes.pop()?;
-    Some((desk, pass))
 }

@@ -1,13 +1,13 @@
 //! A store that is followed.
 
 use crate::commands::{Asked, driver_of, follow};
-use crate::failure::Failure;
 use crate::followed::Followed;
 use crate::new_store::store_at;
 use ds_entry::Value;
 use ds_machine::{Command, Reply};
 use ds_store::Store;
 use std::alloc::Global;
+use test_words::Failure;
 
 impl Followed for Box<Store> {
     fn begin_at(alloc: Global, position: u64) -> Option<Box<Store>> {

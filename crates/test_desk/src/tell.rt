@@ -1,7 +1,7 @@
 //! What is printed.
 
-use crate::failure::Failure;
 use desk::DeskFault;
+use test_words::Failure;
 
 /// Prints each text with the number behind it, and then the end.
 pub(crate) fn tell(rt: &impl Print, numbers: &[(&str, u128)], end: &str) -> Result<(), Failure> {

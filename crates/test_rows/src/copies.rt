@@ -1,10 +1,11 @@
 //! What is read is copied, and written again.
 
 use crate::lines::{CHANGES, FLOORS, read_items};
-use crate::telling::{tell, tell_items};
+use crate::telling::tell;
 use ds_entry::{Body, Change, Item, Items};
 use ds_line::{read_change, read_item, write_change, write_item};
 use std::alloc::Global;
+use test_words::append_items;
 
 /// Each change, made again of a copy of its value. `None` where a line isn't read whole, the two aren't equal, or memory is
 /// wanting.
@@ -71,5 +72,5 @@ fn tell_copy(text: &mut Vec<u8>, alloc: Global, items: &Items) -> Option<()> {
     if copy != *items {
         return None;
     }
-    tell_items(text, &copy)
+    append_items(text, &copy).ok()
 }

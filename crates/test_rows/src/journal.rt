@@ -1,10 +1,11 @@
 //! A journal of two. A store asks by `since_under`; who wants all keys asks by `since`.
 
-use crate::telling::{tell, tell_items, tell_number};
+use crate::telling::tell;
 use ds_feed::{Cursor, Journal, Since, SinceFault};
 use ds_line::read_item;
 use std::alloc::Global;
 use std::io::Write;
+use test_words::{append_items, append_number};
 
 // The incarnation of the journal.
 const INCARNATION: u64 = 1;
@@ -31,8 +32,8 @@ fn tell_all(text: &mut Vec<u8>, alloc: Global, journal: &mut Journal) -> Option<
         push(alloc, journal, line)?;
     }
     for (position, max) in ASKED {
-        tell_number(text, b"since ", position, b", at most ")?;
-        tell_number(text, b"", u64::from(max), b"\n")?;
+        append_number(text, b"since ", position, b", at most ").ok()?;
+        append_number(text, b"", u64::from(max), b"\n").ok()?;
         let cursor = Cursor {
             incarnation: INCARNATION,
             position,
@@ -55,8 +56,8 @@ fn push(alloc: Global, journal: &mut Journal, line: &[u8]) -> Option<()> {
 fn tell_since(text: &mut Vec<u8>, since: &Result<Since, SinceFault>) -> Option<()> {
     match since {
         Ok(since) => {
-            tell_items(text, &since.items)?;
-            tell_number(text, b"up to ", since.cursor.position, b"\n")
+            append_items(text, &since.items).ok()?;
+            append_number(text, b"up to ", since.cursor.position, b"\n").ok()
         }
         Err(fault) => write!(text, "{fault}\n").ok(),
     }

@@ -1,10 +1,11 @@
 //! Calls that take no memory. They are told in a text that has room for them by now.
 
-use crate::telling::{tell_number, tell_whether};
+use crate::telling::tell_whether;
 use ds_entry::{Body, Change, Value};
 use ds_held::Held;
 use ds_names::{Endpoint, Generation, Key, Kind, Name, Version};
 use std::alloc::Global;
+use test_words::append_number;
 
 // Texts, two of which are no names.
 const NAMES: [&[u8]; 3] = [b"eth0", b"", b"eth 0"];
@@ -21,12 +22,12 @@ pub(crate) fn tell_rows(text: &mut Vec<u8>, alloc: Global) -> Option<()> {
         tell_whether(text, b"name ", Name::read(name).is_ok())?;
     }
     for endpoint in ENDPOINTS {
-        tell_number(text, b"slot ", u64::from(slot_of(endpoint)), b"\n")?;
+        append_number(text, b"slot ", u64::from(slot_of(endpoint)), b"\n").ok()?;
     }
     for seq in NUMBERS {
         tell_whether(text, b"change ", is_made(seq))?;
     }
-    tell_number(text, b"held ", Held::new(alloc).len() as u64, b"\n")
+    append_number(text, b"held ", Held::new(alloc).len() as u64, b"\n").ok()
 }
 
 // The slot of an endpoint's text, 0 where it is none.

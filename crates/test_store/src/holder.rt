@@ -5,9 +5,8 @@
 //! nothing held. `get NAME KIND` asks for the change of a key, `live NAME KIND` whether it is a put, and `after NAME KIND`, or
 //! `after -`, for the first change behind a key, or of all.
 
-use crate::failure::Failure;
 use crate::lines::{key_of, limits_at, offered};
-use crate::subject::{Subject, add, add_items, add_number, ask_all, word_of};
+use crate::subject::{Subject, add, ask_all, word_of};
 use ds_entry::{Change, Item};
 use ds_held::Held;
 use ds_join::{JoinFault, Merge, Stop};
@@ -15,6 +14,7 @@ use ds_line::{append_all, append_change};
 use ds_names::{Key, NoRoom};
 use std::alloc::Global;
 use std::rt::Runtime;
+use test_words::{Failure, append_items, append_number};
 
 /// What a holder is asked.
 #[derive(Drop)]
@@ -174,7 +174,7 @@ fn add_join(text: &mut Vec<u8>, joined: Result<(), Stop>) -> Result<(), NoRoom> 
     match joined {
         Ok(()) => add(text, b"joined\n"),
         Err(Stop { done, fault }) => {
-            add_number(text, b"stopped ", done as u64, b" ")?;
+            append_number(text, b"stopped ", done as u64, b" ")?;
             add_fault(text, fault)
         }
     }
@@ -183,8 +183,8 @@ fn add_join(text: &mut Vec<u8>, joined: Result<(), Stop>) -> Result<(), NoRoom> 
 fn add_fault(text: &mut Vec<u8>, fault: JoinFault) -> Result<(), NoRoom> {
     match fault {
         JoinFault::Clash { version } => {
-            add_number(text, b"clash ", u64::from(version.epoch.number()), b".")?;
-            add_number(text, b"", u64::from(version.seq), b"\n")
+            append_number(text, b"clash ", u64::from(version.epoch.number()), b".")?;
+            append_number(text, b"", u64::from(version.seq), b"\n")
         }
         other => append_all(text, &[word_of(other), b"\n"]),
     }
@@ -193,8 +193,8 @@ fn add_fault(text: &mut Vec<u8>, fault: JoinFault) -> Result<(), NoRoom> {
 fn add_all(alloc: Global, text: &mut Vec<u8>, held: &Held) -> Result<(), NoRoom> {
     match held.all(alloc) {
         Ok(items) => {
-            add_items(text, &items)?;
-            add_number(text, b"shown ", items.len() as u64, b"\n")
+            append_items(text, &items)?;
+            append_number(text, b"shown ", items.len() as u64, b"\n")
         }
         Err(_) => add(text, b"refused noroom\n"),
     }

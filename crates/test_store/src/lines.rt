@@ -1,6 +1,5 @@
 //! What lines say.
 
-use crate::failure::Failure;
 use ds_entry::{Item, Items};
 use ds_held::Limits;
 use ds_line::kind_at;
@@ -8,7 +7,8 @@ use ds_lines::split_line;
 use ds_names::{Key, Kind, Name};
 use ds_words::{CommandFault, ScriptCommand, read_command};
 use std::alloc::Global;
-use std::str::{FromStr, Split};
+use std::str::Split;
+use test_words::{Failure, number_at};
 
 /// The command of a line of a script.
 pub(crate) fn read_line(alloc: Global, line: &str) -> Result<ScriptCommand, Failure> {
@@ -51,14 +51,6 @@ fn kind_of(word: &str) -> Option<Kind> {
         Some((kind, rest)) if rest.is_empty() => Some(kind),
         _ => None,
     }
-}
-
-/// The number that the next word is.
-pub(crate) fn number_at<T: FromStr>(words: &mut Split<'_, char>) -> Option<T>
-where
-    T::Err: Drop,
-{
-    words.next()?.parse().ok()
 }
 
 /// The limits that the next words are, `SUBS KEYS`.

@@ -4,9 +4,8 @@
 //! OWNER` for the generation of a floor, and `label NAME` for the endpoint of a label and the change that is held for it.
 //! `clear` empties it.
 
-use crate::failure::Failure;
 use crate::lines::{add_offer, read_line};
-use crate::subject::{Subject, add, add_items, add_number, ask_all, print, word_of};
+use crate::subject::{Subject, add, ask_all, print, word_of};
 use ds_entry::{Items, Value};
 use ds_join::{Count, Stop};
 use ds_line::{append_all, append_change, append_value};
@@ -16,6 +15,7 @@ use ds_submap::SubMap;
 use ds_words::ScriptCommand;
 use std::alloc::Global;
 use std::rt::Runtime;
+use test_words::{Failure, append_items, append_number};
 
 /// What a map is asked.
 #[derive(Drop)]
@@ -107,12 +107,12 @@ fn asked_of_name(line: &str) -> Option<Asked> {
 fn add_taken(text: &mut Vec<u8>, taken: Result<Count, Stop>) -> Result<(), NoRoom> {
     match taken {
         Ok(Count { done, taken, stale }) => {
-            add_number(text, b"taken ", done as u64, b" ")?;
-            add_number(text, b"", taken as u64, b" ")?;
-            add_number(text, b"", stale as u64, b"\n")
+            append_number(text, b"taken ", done as u64, b" ")?;
+            append_number(text, b"", taken as u64, b" ")?;
+            append_number(text, b"", stale as u64, b"\n")
         }
         Err(Stop { done, fault }) => {
-            add_number(text, b"stopped ", done as u64, b" ")?;
+            append_number(text, b"stopped ", done as u64, b" ")?;
             append_all(text, &[word_of(fault), b"\n"])
         }
     }
@@ -126,14 +126,14 @@ fn add_entries(text: &mut Vec<u8>, alloc: Global, map: &SubMap) -> Result<(), No
 }
 
 fn add_shown(text: &mut Vec<u8>, entries: &Items, held: usize) -> Result<(), NoRoom> {
-    add_items(text, entries)?;
-    add_number(text, b"entries ", entries.len() as u64, b" of ")?;
-    add_number(text, b"", held as u64, b"\n")
+    append_items(text, entries)?;
+    append_number(text, b"entries ", entries.len() as u64, b" of ")?;
+    append_number(text, b"", held as u64, b"\n")
 }
 
 fn add_floor(text: &mut Vec<u8>, map: &SubMap, owner: &Name) -> Result<(), NoRoom> {
     match map.held().floor(owner) {
-        Some(generation) => add_number(text, b"floor ", u64::from(generation.number()), b"\n"),
+        Some(generation) => append_number(text, b"floor ", u64::from(generation.number()), b"\n"),
         None => add(text, b"floor -\n"),
     }
 }

@@ -5,9 +5,8 @@
 //! replies is told as a Merge's. `mismatch` is a Publish of a number under a key of another kind. `held` asks how much the
 //! store holds, where it stands, and which one it is.
 
-use crate::failure::Failure;
-use crate::lines::{add_offer, limits_at, number_at, read_line};
-use crate::subject::{Subject, add, add_number, ask_all, print};
+use crate::lines::{add_offer, limits_at, read_line};
+use crate::subject::{Subject, add, ask_all, print};
 use ds_entry::{Items, Value};
 use ds_held::Limits;
 use ds_machine::{Command, Refusal, Reply};
@@ -17,6 +16,7 @@ use ds_words::ScriptCommand;
 use std::alloc::Global;
 use std::rt::Runtime;
 use store_words::{Wording, append_reply};
+use test_words::{Failure, append_number, number_at};
 
 /// What a store is asked.
 #[derive(Drop)]
@@ -193,8 +193,8 @@ fn add_replies(text: &mut Vec<u8>, replies: &[Reply], limits: Limits) -> Result<
 
 fn add_held(text: &mut Vec<u8>, store: &Store) -> Result<(), NoRoom> {
     let held = store.held();
-    add_number(text, b"held ", held.len() as u64, b" floors ")?;
-    add_number(text, b"", held.floor_count() as u64, b" position ")?;
-    add_number(text, b"", store.cursor().position, b" incarnation ")?;
-    add_number(text, b"", store.incarnation(), b"\n")
+    append_number(text, b"held ", held.len() as u64, b" floors ")?;
+    append_number(text, b"", held.floor_count() as u64, b" position ")?;
+    append_number(text, b"", store.cursor().position, b" incarnation ")?;
+    append_number(text, b"", store.incarnation(), b"\n")
 }

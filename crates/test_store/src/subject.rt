@@ -1,14 +1,12 @@
 //! What is asked by the lines of a part.
 
-use crate::failure::Failure;
-use ds_entry::Items;
 use ds_join::JoinFault;
-use ds_line::{append_all, append_item};
+use ds_line::append_all;
 use ds_names::NoRoom;
-use itoa::Buffer;
 use std::alloc::Global;
 use std::io::{self, Write};
 use std::rt::Runtime;
+use test_words::Failure;
 
 /// What is asked by the lines of a part.
 pub(crate) trait Subject {
@@ -113,25 +111,6 @@ pub(crate) fn print(rt: &impl Runtime, text: &[u8]) -> Result<(), Failure> {
 /// Puts words behind a text.
 pub(crate) fn add(text: &mut Vec<u8>, words: &[u8]) -> Result<(), NoRoom> {
     append_all(text, &[words])
-}
-
-/// Puts a number behind a text, between words.
-pub(crate) fn add_number(
-    text: &mut Vec<u8>,
-    before: &[u8],
-    number: u64,
-    after: &[u8],
-) -> Result<(), NoRoom> {
-    let mut digits = Buffer::new();
-    append_all(text, &[before, digits.format(number).as_bytes(), after])
-}
-
-/// Puts the line of each item behind a text.
-pub(crate) fn add_items(text: &mut Vec<u8>, items: &Items) -> Result<(), NoRoom> {
-    for item in items.as_slice() {
-        append_item(text, item)?;
-    }
-    Ok(())
 }
 
 /// The word for why a change or a floor isn't taken.

@@ -1,7 +1,6 @@
 //! What a line asks for, done and printed.
 
 use crate::counter::Counter;
-use crate::failure::Failure;
 use crate::labels::{Labels, publish_labels};
 use crate::line::Line;
 use crate::overwrite::overwrite_labels;
@@ -15,9 +14,10 @@ use ds_store::Store;
 use std::alloc::Global;
 use std::sync::Wait;
 use std::thread::Threads;
+use test_words::Failure;
 
 /// Does what a line asks for, and prints what came of it.
-pub(crate) fn answer<R: Print + Threads + Wait + Sync>(
+pub(crate) fn answer_line<R: Print + Threads + Wait + Sync>(
     rt: &R,
     alloc: Global,
     asked: Line,
@@ -82,19 +82,11 @@ fn tell_review(
     takes_memory: bool,
 ) -> Result<(), Failure> {
     let review = review.ok_or(Failure::NoRoom)?;
-    tell(
-        rt,
-        &[
-            ("threads ", u128::from(threads)),
-            (" entries ", u128::from(review.entries)),
-        ],
-        "",
-    )?;
-    if takes_memory {
-        tell(rt, &[(" noroom ", u128::from(review.noroom))], "")?;
-    }
-    let history = if review.legal { "legal" } else { "not legal" };
-    let account = if review.exact { "exact" } else { "wrong" };
-    println!(rt; " history {history} account {account}")?;
-    Ok(())
+    let numbers = [
+        ("threads ", u128::from(threads)),
+        (" entries ", u128::from(review.entries)),
+        (" noroom ", u128::from(review.noroom)),
+    ];
+    let told = if takes_memory { 3 } else { 2 };
+    tell(rt, &numbers[..told], review.verdict())
 }

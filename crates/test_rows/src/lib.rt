@@ -1,13 +1,12 @@
-//! `test_rows`: calls that no other program makes, or not so, with ample memory, for tests.
+//! A section of the program for tests: calls that no other section makes, or not so, with ample memory.
 //!
-//! A contract can't say that memory is there, so a body that always gives up would be proved; here there is enough of it. The
-//! program reads nothing. It prints a line where events of a world that happen at once had the outcomes that are wanted; for each
+//! A contract can't say that memory is there, so a body that always gives up would be proved; here there is enough of it. Nothing
+//! is read. A line is printed where events of a world that happen at once had the outcomes that are wanted; for each
 //! reading of a store, whose driver goes on meanwhile, the names of the items that the reader gives, or why it gave up; what a
 //! journal of two gives from a cursor on; endpoints; lines that were read, copied and written again; which items cover which; what
 //! replies are told as; a line once a trace and a forged one are judged, and one once each read of a trace has failed; a line once each
 //! read of some scripts has failed, and one once each write has; and at last what comes of calls that take no memory. The rows of
-//! one kind are told in a text, and printed by one write. Status 0: done. 1: a call didn't answer as it should, or memory or
-//! writing failed.
+//! one kind are told in a text, and printed by one write.
 #![tactic(auto)]
 
 mod copies;
@@ -27,17 +26,9 @@ mod world;
 
 use std::alloc::Global;
 use std::io::{self, Write};
-use std::process::ExitCode;
 use std::rt::Runtime;
 use telling::tell;
-
-fn main(rt: HostRuntime) -> ExitCode {
-    let mut text = Vec::new(rt.alloc());
-    match print_all(&rt, rt.alloc(), &mut text) {
-        Some(()) => ExitCode::SUCCESS,
-        None => ExitCode::FAILURE,
-    }
-}
+use test_words::Failure;
 
 // What rows are of.
 #[derive(Clone, Copy)]
@@ -77,6 +68,12 @@ const ALL: [Rows; 15] = [
     Rows::Title,
     Rows::Unaided,
 ];
+
+/// Prints all rows. It ends early where a call didn't answer as it should, or memory or writing failed.
+pub fn answer(rt: &(impl Runtime + AllocGlobal)) -> Result<(), Failure> {
+    let mut text = Vec::new(rt.alloc());
+    print_all(rt, rt.alloc(), &mut text).ok_or(Failure::NotAsWanted)
+}
 
 fn print_all(rt: &impl Runtime, alloc: Global, text: &mut Vec<u8>) -> Option<()> {
     for rows in ALL {

@@ -1,0 +1,53 @@
+//! A section of the program for tests: threads that share a counter or a data store at a desk, compared with one thread alone, and
+//! two passes in turn.
+//!
+//! Each line asks for one thing, and what is printed is the same however the threads took turns:
+//! - `counter THREADS CALLS`, `store THREADS CALLS`: 1 to 64 threads, each in a thread of its own where one can be made, make
+//!   that many calls of one desk. Then every reply is compared with that of a machine of one thread which is given the calls in
+//!   the order of their places, and the account of the notices with what the threads counted themselves.
+//! - `labels COUNT`: two threads change a label each so often, and what the closed desk's store says of it is printed.
+//! - `notice`, `last`, `bits`, `none`: two passes of one desk call a store in turn (`rows`).
+//! - `overwrite THREADS CALLS`, `front COUNT`, `take COUNT`, to be measured from outside: calls of a store that are only made,
+//!   looks and takes of one pass.
+#![tactic(auto)]
+
+mod answering;
+mod closing;
+mod commands;
+mod compared;
+mod counter;
+mod counter_compared;
+mod followed;
+mod kept;
+mod labels;
+mod line;
+mod new_store;
+mod overwrite;
+mod playing;
+mod refused;
+mod review;
+mod rounds;
+mod rows;
+mod share;
+mod store_compared;
+mod store_followed;
+mod table;
+mod tell;
+
+use answering::answer_line;
+use line::read_line;
+use std::sync::Wait;
+use std::thread::Threads;
+use test_words::Failure;
+
+/// Answers the lines in turn, up to the first that can't be read.
+pub fn answer<R: Print + AllocGlobal + Threads + Wait + Sync>(
+    rt: &R,
+    lines: &str,
+) -> Result<(), Failure> {
+    for line in lines.lines() {
+        let asked = read_line(line).ok_or(Failure::BadLine)?;
+        answer_line(rt, rt.alloc(), asked)?;
+    }
+    Ok(())
+}

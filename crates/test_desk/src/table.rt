@@ -1,0 +1,39 @@
+//! A desk with two passes.
+
+ghost use Rattle.std.specs.Prelude.{◌≡◌, IfSome};
+ghost use Rattle.desk.specs.Desk.{identity};
+ghost use Rattle.desk.specs.Pass.{desk_of};
+
+use crate::followed::Followed;
+use desk::{Desk, Pass};
+use std::alloc::Global;
+
+/// A desk, and its two passes.
+#[derive(Drop)]
+pub(crate) struct Table<D, P> {
+    pub desk: D,
+    pub one: P,
+    pub two: P,
+}
+
+/// A desk whose first place is this one, over a new machine that begins at this position. `None` where memory is wanting.
+pub(crate) fn open_table<M: Followed + Drop>(
+    alloc: Global,
+    place: u64,
+    position: u64,
+) -> Option<Table<Desk<M>, Pass<M>>>
+where
+    M::Command: Drop,
+    M::Reply: Drop,
+    ensures one { IfSome result (λ table. desk_of table.one ≡ identity table.desk) }
+    ensures two { IfSome result (λ table. desk_of table.two ≡ identity table.desk) }
+{
+    let machine = M::begin_at(alloc, position)?;
+    let Ok((desk, mut passes)) = Desk::<M>::open(alloc, machine, 2, place) else {
+        return None;
+    };
+    let (Some(two), Some(one)) = (passes.pop(), passes.pop()) else {
+        return None;
+    };
+    Some(Table { desk, one, two })
+}
