@@ -241,7 +241,7 @@ def written(settings):
 
 
 class Session:
-    """RS and a numberer, which answer commands as `test_services` does its lines."""
+    """RS and a numberer, which answer commands as `test_system` does the lines of its part `rs`."""
 
     def __init__(self):
         self.rs = self.numbers = None

@@ -3,7 +3,6 @@
 use ds_entry::TextFault;
 use ds_names::NoRoom;
 use ds_words::CommandFault;
-use std::alloc::AllocFailed;
 use std::io;
 
 /// What ends the program before all is answered.
@@ -22,14 +21,8 @@ impl From<NoRoom> for Failure {
     }
 }
 
-impl<T: Drop> From<AllocFailed<T>> for Failure {
-    fn from(_: AllocFailed<T>) -> Failure {
-        Failure::NoRoom
-    }
-}
-
 impl From<io::Error> for Failure {
-    // Of writing: a read that fails is told by `main`.
+    // Of writing: a read that fails is told by `read_input`.
     fn from(_: io::Error) -> Failure {
         Failure::WriteFault
     }

@@ -5,6 +5,7 @@
 //! that a world can be asked. `side a` and `side b` say at which store what follows is asked. `N times LINE` is so many such events.
 
 use crate::failure::Failure;
+use crate::words::{read_name, read_number};
 use ds_entry::{Text, Value};
 use ds_lines::split_line;
 use ds_names::{Key, Kind, Name};
@@ -13,7 +14,7 @@ use ds_services::{SystemEvent, Table};
 use ds_system::SystemEvents;
 use ds_words::{ScriptCommand, Server, read_command};
 use std::alloc::Global;
-use std::str::{FromStr, Split};
+use std::str::Split;
 
 /// The events of the lines.
 pub(crate) fn read_events(alloc: Global, lines: &str) -> Result<SystemEvents, Failure> {
@@ -37,7 +38,9 @@ fn add_events(
     line: &str,
 ) -> Result<(), Failure> {
     let (count, line) = line.split_once(" times ").unwrap_or(("1", line));
-    let count: u32 = count.parse().ok().ok_or(Failure::BadLine)?;
+    let Ok(count) = count.parse::<u32>() else {
+        return Err(Failure::BadLine);
+    };
     for _ in 0..count {
         add_event(events, read_event(alloc, side, line)?)?;
     }
@@ -53,11 +56,15 @@ fn add_event(events: &mut SystemEvents, event: SystemEvent) -> Result<(), Failur
 
 fn read_event(alloc: Global, side: Side, line: &str) -> Result<SystemEvent, Failure> {
     let mut words = line.split(' ');
-    match words.next() {
-        Some("put") => read_put(alloc, side, &mut words),
-        Some("remove") => read_remove(side, &mut words).ok_or(Failure::BadLine),
-        Some("again") => read_again(side, &mut words).ok_or(Failure::BadLine),
-        _ => read_scripts(alloc, side, line),
+    let event = match words.next() {
+        Some("put") => return read_put(alloc, side, &mut words),
+        Some("remove") => read_remove(side, &mut words),
+        Some("again") => read_again(side, &mut words),
+        _ => return read_scripts(alloc, side, line),
+    };
+    match event {
+        Some(event) => Ok(event),
+        None => Err(Failure::BadLine),
     }
 }
 
@@ -74,9 +81,9 @@ fn read_put(
     side: Side,
     words: &mut Split<'_, char>,
 ) -> Result<SystemEvent, Failure> {
-    let label = read_name(words).ok_or(Failure::BadLine)?;
-    let key = read_key(words).ok_or(Failure::BadLine)?;
-    let word = words.next().ok_or(Failure::BadLine)?;
+    let Some((label, key, word)) = read_write(words) else {
+        return Err(Failure::BadLine);
+    };
     let value = value_of(alloc, word)?;
     Ok(SystemEvent::Put {
         label,
@@ -84,6 +91,11 @@ fn read_put(
         value,
         side,
     })
+}
+
+// Who writes, where, and the word behind it.
+fn read_write<'a>(words: &mut Split<'a, char>) -> Option<(Name, Key, &'a str)> {
+    Some((read_name(words)?, read_key(words)?, words.next()?))
 }
 
 fn read_again(side: Side, words: &mut Split<'_, char>) -> Option<SystemEvent> {
@@ -170,16 +182,4 @@ fn read_key(words: &mut Split<'_, char>) -> Option<Key> {
         _ => return None,
     };
     Some(Key { name, kind })
-}
-
-fn read_name(words: &mut Split<'_, char>) -> Option<Name> {
-    Name::read(words.next()?.as_bytes()).ok()
-}
-
-/// The number that the next word is.
-pub(crate) fn read_number<T: FromStr>(words: &mut Split<'_, char>) -> Option<T>
-where
-    T::Err: Drop,
-{
-    words.next()?.parse().ok()
 }

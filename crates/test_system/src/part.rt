@@ -1,11 +1,13 @@
 //! A system that begins, and its events.
 
 use crate::failure::Failure;
-use crate::lines::{read_events, read_number};
-use crate::telling::{tell, tell_entries, tell_outcome, word_of_beginning};
+use crate::lines::read_events;
+use crate::telling::{tell_entries, tell_outcome, word_of_beginning};
+use crate::words::{read_number, tell};
+use ds_line::append_all;
 use ds_names::NoRoom;
 use ds_replica::Seed;
-use ds_system::{BeginFault, System, SystemOutcomes};
+use ds_system::{BeginFault, System, SystemEvents, SystemOutcomes};
 use ds_world::{World, WorldFault};
 use rs_settings::{Settings, SettingsCause, read};
 use std::alloc::Global;
@@ -13,11 +15,23 @@ use std::str::Split;
 
 /// Begins a system as the lines of a part up to `end` say, and tells what came of the events on the others; or why none begins.
 pub(crate) fn answer_part(text: &mut Vec<u8>, alloc: Global, part: &str) -> Result<(), Failure> {
-    let (first, rest) = part.split_once('\n').ok_or(Failure::BadLine)?;
-    let (settings, lines) = rest.split_once("\nend").ok_or(Failure::BadLine)?;
-    let beginning = read_beginning(first).ok_or(Failure::BadLine)?;
-    let settings = settings_of(alloc, settings)?;
-    answer_lines(text, alloc, beginning, settings, lines.trim_start())
+    let Some((beginning, settings, lines)) = read_part(part) else {
+        return Err(Failure::BadLine);
+    };
+    match read(alloc, settings.as_bytes()) {
+        Ok(settings) => answer_lines(text, alloc, beginning, settings, lines),
+        Err(fault) => match fault.cause {
+            SettingsCause::NoRoom => Err(Failure::NoRoom),
+            _ => Err(Failure::BadLine),
+        },
+    }
+}
+
+// How a part's system begins, its settings, and the lines of events.
+fn read_part(part: &str) -> Option<(Beginning, &str, &str)> {
+    let (first, rest) = part.split_once('\n')?;
+    let (settings, lines) = rest.split_once("\nend")?;
+    Some((read_beginning(first)?, settings, lines.trim_start()))
 }
 
 fn answer_lines(
@@ -38,7 +52,7 @@ fn answer_lines(
 fn tell_no_system(text: &mut Vec<u8>, fault: BeginFault) -> Result<(), Failure> {
     match fault {
         BeginFault::NoRoom => Err(Failure::NoRoom),
-        fault => Ok(tell(text, &[b"refused ", word_of_beginning(fault)])?),
+        fault => Ok(append_all(text, &[b"refused ", word_of_beginning(fault), b"\n"])?),
     }
 }
 
@@ -67,17 +81,7 @@ fn read_seed(words: &mut Split<'_, char>) -> Option<Seed> {
     })
 }
 
-fn settings_of(alloc: Global, text: &str) -> Result<Settings, Failure> {
-    match read(alloc, text.as_bytes()) {
-        Ok(settings) => Ok(settings),
-        Err(fault) => match fault.cause {
-            SettingsCause::NoRoom => Err(Failure::NoRoom),
-            _ => Err(Failure::BadLine),
-        },
-    }
-}
-
-// Lets the events of the lines happen. The list of them is copied, and that of what came of them, for that a copy has all.
+// Lets the events of the lines happen: a copy of the list, for that a copy has all.
 fn answer_events(
     text: &mut Vec<u8>,
     alloc: Global,
@@ -85,14 +89,34 @@ fn answer_events(
     lines: &str,
 ) -> Result<(), Failure> {
     let events = read_events(alloc, lines)?;
-    match system.run(events.copy(alloc)?) {
-        Ok(outcomes) => {
-            let copy = outcomes.copy(alloc)?;
-            Ok(tell_all(text, alloc, system.world(), &copy)?)
-        }
-        Err(WorldFault::TooMany) => Ok(tell(text, &[b"refused toomany"])?),
+    match events.copy(alloc) {
+        Ok(copy) => answer_copy(text, alloc, system, copy),
+        Err(NoRoom) => Err(Failure::NoRoom),
+    }
+}
+
+fn answer_copy(
+    text: &mut Vec<u8>,
+    alloc: Global,
+    system: &mut System,
+    events: SystemEvents,
+) -> Result<(), Failure> {
+    match system.run(events) {
+        Ok(outcomes) => Ok(tell_copy(text, alloc, system.world(), &outcomes)?),
+        Err(WorldFault::TooMany) => Ok(tell(text, b"refused toomany")?),
         Err(WorldFault::NoRoom) => Err(Failure::NoRoom),
     }
+}
+
+// Tells a copy of what came of the events, for the same.
+fn tell_copy(
+    text: &mut Vec<u8>,
+    alloc: Global,
+    world: &World,
+    outcomes: &SystemOutcomes,
+) -> Result<(), NoRoom> {
+    let copy = outcomes.copy(alloc)?;
+    tell_all(text, alloc, world, &copy)
 }
 
 // Tells what came of each event, and then what the servers' maps hold.

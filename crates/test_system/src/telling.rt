@@ -1,6 +1,8 @@
 //! What comes of events, by the words of scripts, and what scripts have no words for.
 
+use crate::words::{tell, tell_numbers};
 use driver_tables::{Move, Moves, TableFault};
+use ds_entry::Items;
 use ds_held::Limits;
 use ds_line::{append_all, append_item};
 use ds_names::NoRoom;
@@ -8,7 +10,6 @@ use ds_replica::Outcome;
 use ds_services::{Replies, Rounds, SystemFault, SystemOutcome};
 use ds_system::BeginFault;
 use ds_world::World;
-use itoa::Buffer;
 use rs_core::{Action, Actions};
 use service_words::{
     append_action, append_action_count, append_move, append_move_count, append_rs_fault,
@@ -16,12 +17,6 @@ use service_words::{
 };
 use std::alloc::Global;
 use store_words::{Wording, append_message, append_outcome, append_reply};
-
-/// Puts a line behind a text.
-pub(crate) fn tell(text: &mut Vec<u8>, words: &[&[u8]]) -> Result<(), NoRoom> {
-    append_all(text, words)?;
-    append_all(text, &[b"\n"])
-}
 
 /// What came of an event. A message is told by what the store gave.
 pub(crate) fn tell_outcome(
@@ -38,7 +33,7 @@ pub(crate) fn tell_outcome(
         SystemOutcome::Moved { rounds, own, fault } => tell_moved(text, rounds, own, fault),
         SystemOutcome::Happened(outcome) => tell_happened(text, alloc, world, outcome),
         SystemOutcome::Refused(SystemFault::Service(fault)) => append_rs_fault(text, *fault),
-        SystemOutcome::Refused(fault) => tell(text, &[b"refused ", word_of(*fault)]),
+        SystemOutcome::Refused(fault) => append_all(text, &[b"refused ", word_of(*fault), b"\n"]),
     }
 }
 
@@ -78,7 +73,7 @@ fn tell_moved(
     if let Some(fault) = fault {
         append_table_fault(text, *fault)?;
     }
-    tell_number(text, b"rounds ", rounds.len())
+    tell_numbers(text, &[("rounds ", rounds.len() as u64)])
 }
 
 // The moves of a round, and how many they are.
@@ -113,18 +108,17 @@ pub(crate) fn tell_entries(
     number: usize,
 ) -> Result<(), NoRoom> {
     let Some(map) = world.map(number) else {
-        return tell(text, &[b"nomap"]);
+        return tell(text, b"nomap");
     };
     let entries = map.entries(alloc)?;
-    for item in entries.as_slice() {
-        append_item(text, item)?;
-    }
-    tell_number(text, b"shown ", entries.len())
+    tell_items(text, &entries)
 }
 
-fn tell_number(text: &mut Vec<u8>, before: &[u8], number: usize) -> Result<(), NoRoom> {
-    let mut digits = Buffer::new();
-    tell(text, &[before, digits.format(number).as_bytes()])
+fn tell_items(text: &mut Vec<u8>, items: &Items) -> Result<(), NoRoom> {
+    for item in items.as_slice() {
+        append_item(text, item)?;
+    }
+    tell_numbers(text, &[("shown ", items.len() as u64)])
 }
 
 // Why an event is refused, but for RS's own faults, which have words elsewhere.

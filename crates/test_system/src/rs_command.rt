@@ -1,8 +1,9 @@
-//! What the reincarnation server is asked.
+//! What RS is asked.
 
+use crate::words::{read_name, read_number};
 use ds_names::{Endpoint, Generation, Name};
 use rs_core::Event;
-use std::str::{FromStr, Split};
+use std::str::Split;
 
 /// What a line asks for.
 #[derive(Clone, Copy)]
@@ -27,42 +28,34 @@ pub(crate) enum Command {
 pub(crate) fn read_command(line: &str) -> Option<Command> {
     let mut words = line.split(' ');
     match words.next()? {
-        "settings" => read_number(&mut words).map(Command::Settings),
+        "settings" => Some(Command::Settings(read_number(&mut words)?)),
         "key" => Some(Command::Key),
         "number" => Some(Command::Number),
         "rows" => Some(Command::Rows),
         "numbers" => read_numbers(&mut words),
-        "state" => read_name(&mut words).map(Command::State),
-        verb => read_event_at(verb, &mut words),
+        "state" => Some(Command::State(read_name(&mut words)?)),
+        verb => Some(Command::Event {
+            event: read_event(verb, &mut words)?,
+            tick: read_number(&mut words)?,
+        }),
     }
 }
 
 fn read_numbers(words: &mut Split<'_, char>) -> Option<Command> {
-    let generation = Generation::of(read_number(words)?)?;
-    let seq = read_number(words)?;
-    Some(Command::Numbers { generation, seq })
-}
-
-fn read_event_at(verb: &str, words: &mut Split<'_, char>) -> Option<Command> {
-    let event = read_event(verb, words)?;
-    let tick = read_number(words)?;
-    Some(Command::Event { event, tick })
+    Some(Command::Numbers {
+        generation: Generation::of(read_number(words)?)?,
+        seq: read_number(words)?,
+    })
 }
 
 // The event of a line, but for its tick.
 fn read_event(verb: &str, words: &mut Split<'_, char>) -> Option<Event> {
     match verb {
-        "death" => read_death(words),
-        "beat" => read_endpoint(words).map(Event::Beat),
+        "death" => Some(Event::Death(read_endpoint(words)?, read_number(words)?)),
+        "beat" => Some(Event::Beat(read_endpoint(words)?)),
         "tick" => Some(Event::Tick),
         _ => event_of(verb, read_name(words)?),
     }
-}
-
-fn read_death(words: &mut Split<'_, char>) -> Option<Event> {
-    let endpoint = read_endpoint(words)?;
-    let cause = read_number(words)?;
-    Some(Event::Death(endpoint, cause))
 }
 
 // The event of a service.
@@ -78,15 +71,4 @@ fn event_of(verb: &str, label: Name) -> Option<Event> {
 
 fn read_endpoint(words: &mut Split<'_, char>) -> Option<Endpoint> {
     Endpoint::read(words.next()?.as_bytes()).ok()
-}
-
-fn read_name(words: &mut Split<'_, char>) -> Option<Name> {
-    Name::read(words.next()?.as_bytes()).ok()
-}
-
-fn read_number<T: FromStr>(words: &mut Split<'_, char>) -> Option<T>
-where
-    T::Err: Drop,
-{
-    words.next()?.parse().ok()
 }

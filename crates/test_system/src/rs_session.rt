@@ -1,31 +1,26 @@
 //! Lines, given to RS.
 
-use crate::command::{Command, read_command};
 use crate::failure::Failure;
-use crate::rows::tell_rows;
-use crate::telling::{
-    add_number, tell, tell_new_fault, tell_number, tell_settings_fault, tell_state,
-};
+use crate::rs_command::{Command, read_command};
+use crate::rs_rows::tell_rows;
+use crate::rs_telling::{tell_new_fault, tell_settings_fault, tell_state, tell_version};
+use crate::words::{tell, tell_numbers};
 use ds_names::{Name, NoRoom};
 use rs_core::{Event, Numberer, Rs};
 use rs_settings::read;
 use service_words::{append_action, append_action_count, append_rs_fault, append_settings};
-use std::alloc::{AllocError, Global};
+use std::alloc::Global;
 
 const NO_SETTINGS: &[u8] = b"refused nosettings";
-
-/// Settings whose lines are still read.
-#[derive(Drop)]
-struct Draft {
-    next: u32,
-    text: String,
-}
 
 /// RS, once settings were accepted, and a numberer, once one began.
 #[derive(Drop)]
 pub(crate) struct Session {
     alloc: Global,
-    draft: Option<Draft>,
+    // The lines of settings.
+    settings: String,
+    // While they are read, the generation that is RS's next one then.
+    next: Option<u32>,
     rs: Option<Rs>,
     numbers: Option<Numberer>,
 }
@@ -35,7 +30,8 @@ impl Session {
     pub(crate) fn new(alloc: Global) -> Session {
         Session {
             alloc,
-            draft: None,
+            settings: String::new(alloc),
+            next: None,
             rs: None,
             numbers: None,
         }
@@ -43,52 +39,54 @@ impl Session {
 
     /// Takes a line of settings, or answers a command.
     pub(crate) fn take(&mut self, text: &mut Vec<u8>, line: &str) -> Result<(), Failure> {
-        match self.draft.take() {
-            Some(draft) => self.read_on(text, draft, line),
-            None => self.answer(text, line),
+        if let Some(next) = self.next {
+            return Ok(self.read_on(text, next, line)?);
+        }
+        match read_command(line) {
+            Some(command) => Ok(self.answer(text, command)?),
+            None => Err(Failure::BadLine),
         }
     }
 
     // A line of settings, or their end, at which RS begins.
-    fn read_on(&mut self, text: &mut Vec<u8>, mut draft: Draft, line: &str) -> Result<(), Failure> {
+    fn read_on(&mut self, text: &mut Vec<u8>, next: u32, line: &str) -> Result<(), NoRoom> {
         if line == "end" {
-            self.begin(text, &draft)?;
-        } else {
-            add_line(&mut draft, line)?;
-            self.draft = Some(draft);
+            self.next = None;
+            return self.begin(text, next);
         }
-        Ok(())
+        self.settings.push_str(line)?;
+        Ok(self.settings.push('\n')?)
     }
 
     // Answers a command; settings are answered behind their last line.
-    fn answer(&mut self, text: &mut Vec<u8>, line: &str) -> Result<(), Failure> {
-        match read_command(line).ok_or(Failure::BadLine)? {
+    fn answer(&mut self, text: &mut Vec<u8>, command: Command) -> Result<(), NoRoom> {
+        match command {
             Command::Settings(next) => {
-                let draft = String::new(self.alloc);
-                self.draft = Some(Draft { next, text: draft });
+                self.next = Some(next);
+                self.settings.clear();
+                Ok(())
             }
             Command::Numbers { generation, seq } => {
                 self.numbers = Some(Numberer::of(generation, seq));
-                tell(text, b"numbers")?;
+                tell(text, b"numbers")
             }
-            Command::Number => tell_next(text, &mut self.numbers)?,
-            Command::Rows => tell_rows(text, self.alloc)?,
-            Command::Event { event, tick } => tell_event(text, &mut self.rs, event, tick)?,
-            Command::State(label) => tell_service(text, &self.rs, &label)?,
-            Command::Key => tell_key(text, &self.rs)?,
+            Command::Number => tell_next(text, &mut self.numbers),
+            Command::Rows => tell_rows(text, self.alloc),
+            Command::Event { event, tick } => tell_event(text, &mut self.rs, event, tick),
+            Command::State(label) => tell_service(text, &self.rs, &label),
+            Command::Key => tell_key(text, &self.rs),
         }
-        Ok(())
     }
 
     // RS begins anew; where that is refused, the one that there was goes on.
-    fn begin(&mut self, text: &mut Vec<u8>, draft: &Draft) -> Result<(), NoRoom> {
-        let settings = match read(self.alloc, draft.text.as_bytes()) {
+    fn begin(&mut self, text: &mut Vec<u8>, next: u32) -> Result<(), NoRoom> {
+        let settings = match read(self.alloc, self.settings.as_bytes()) {
             Ok(settings) => settings,
             Err(fault) => return tell_settings_fault(text, &fault),
         };
         let count = settings.services().len();
         let slots = settings.slots();
-        match Rs::new(self.alloc, settings, draft.next) {
+        match Rs::new(self.alloc, settings, next) {
             Ok(rs) => {
                 self.rs = Some(rs);
                 append_settings(text, count, slots)
@@ -98,14 +96,9 @@ impl Session {
     }
 }
 
-fn add_line(draft: &mut Draft, line: &str) -> Result<(), AllocError> {
-    draft.text.push_str(line)?;
-    draft.text.push('\n')
-}
-
 fn tell_next(text: &mut Vec<u8>, numbers: &mut Option<Numberer>) -> Result<(), NoRoom> {
     match numbers {
-        Some(numbers) => tell_number(text, numbers.next()),
+        Some(numbers) => tell_version(text, numbers.next()),
         None => tell(text, b"refused nonumbers"),
     }
 }
@@ -119,10 +112,7 @@ fn tell_service(text: &mut Vec<u8>, rs: &Option<Rs>, label: &Name) -> Result<(),
 
 fn tell_key(text: &mut Vec<u8>, rs: &Option<Rs>) -> Result<(), NoRoom> {
     match rs {
-        Some(rs) => {
-            add_number(text, b"key ", rs.next_key() as u64)?;
-            tell(text, b"")
-        }
+        Some(rs) => tell_numbers(text, &[("key ", rs.next_key() as u64)]),
         None => tell(text, NO_SETTINGS),
     }
 }

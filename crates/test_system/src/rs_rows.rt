@@ -3,37 +3,39 @@
 //! A contract can't say that memory is there, so a copy that is always refused would be proved; here each that no other program
 //! makes is made.
 
-use crate::telling::{add_number, tell};
+use crate::words::tell_numbers;
 use driver_tables::{FileClass, FileTable, Move, Moves};
 use ds_names::{Endpoint, Generation, Name, NoRoom};
-use rs_core::{Action, Actions, Event, Rs};
+use rs_core::{Action, Event, Rs};
 use rs_settings::{Settings, read};
 use std::alloc::Global;
 
 const ETH0: &[u8] =
     b"slots = 32\nservice = [{label = \"eth0\", class = \"network\", unit = 7, limit = 3, publishes = [\"mtu\", \"mac\"]}]";
 
-/// Tells what is in each copy, and the generations of a label; a row that memory is wanting for says so.
+/// Tells what is in each copy, and the generations of a label; where memory is wanting for a row, none is told.
 pub(crate) fn tell_rows(text: &mut Vec<u8>, alloc: Global) -> Result<(), NoRoom> {
-    tell_row(text, b"settings: slots ", settings_row(alloc))?;
-    tell_row(text, b"actions: ", actions_row(alloc))?;
-    tell_row(text, b"moves: request ", moves_row(alloc))?;
-    tell_row(text, b"newest: ", newest_row(alloc))
-}
-
-fn tell_row(text: &mut Vec<u8>, before: &[u8], row: Option<u64>) -> Result<(), NoRoom> {
-    add_number(text, before, row.ok_or(NoRoom)?)?;
-    tell(text, b"")
-}
-
-fn settings_of(alloc: Global) -> Option<Settings> {
-    read(alloc, ETH0).ok()
+    let rows = [
+        ("settings: slots ", settings_row(alloc)),
+        ("actions: ", actions_row(alloc)),
+        ("moves: request ", moves_row(alloc)),
+        ("newest: ", newest_row(alloc)),
+    ];
+    for (word, row) in rows {
+        let Some(number) = row else {
+            return Err(NoRoom);
+        };
+        tell_numbers(text, &[(word, number)])?;
+    }
+    Ok(())
 }
 
 fn settings_row(alloc: Global) -> Option<u64> {
-    let settings = settings_of(alloc)?;
-    let copy = settings.copy(alloc).ok()?;
-    slots_of(&copy)
+    let settings = read(alloc, ETH0).ok()?;
+    match settings.copy(alloc) {
+        Ok(copy) => slots_of(&copy),
+        Err(_) => None,
+    }
 }
 
 // How many slots there are, where the first service publishes two names.
@@ -42,36 +44,37 @@ fn slots_of(settings: &Settings) -> Option<u64> {
     (service.publishes.len() == 2).then_some(u64::from(settings.slots()))
 }
 
-// How many actions start a service, where the second one gives its label to the data store.
 fn actions_row(alloc: Global) -> Option<u64> {
-    let mut rs = Rs::new(alloc, settings_of(alloc)?, 1).ok()?;
-    let copy = started(&mut rs)?.copy(alloc).ok()?;
-    matches!(copy.get(1), Some(Action::Offer(_))).then_some(copy.len() as u64)
+    let settings = read(alloc, ETH0).ok()?;
+    let mut rs = Rs::new(alloc, settings, 1).ok()?;
+    started(alloc, &mut rs)
 }
 
-fn started(rs: &mut Rs) -> Option<Actions> {
+// How many actions start a service, where the second one gives its label to the data store.
+fn started(alloc: Global, rs: &mut Rs) -> Option<u64> {
     let eth0 = Name::read(b"eth0").ok()?;
-    rs.event(Event::Up(eth0), 0).ok()
+    let actions = rs.event(Event::Up(eth0), 0).ok()?;
+    match actions.copy(alloc) {
+        Ok(copy) => matches!(copy.get(1), Some(Action::Offer(_))).then_some(copy.len() as u64),
+        Err(_) => None,
+    }
 }
 
 fn moves_row(alloc: Global) -> Option<u64> {
-    let moves = one_move(alloc)?;
-    let copy = moves.copy(alloc).ok()?;
-    sent_first(&copy)
-}
-
-fn one_move(alloc: Global) -> Option<Moves> {
-    let endpoint = endpoint_of(1)?;
     let mut moves = Moves::new(alloc);
-    moves.push(Move::Send { id: 4, endpoint }).ok()?;
-    Some(moves)
+    sent_first(alloc, &mut moves)
 }
 
 // The request that the first move sends.
-fn sent_first(moves: &Moves) -> Option<u64> {
-    match moves.get(0)? {
-        Move::Send { id, .. } => Some(*id),
-        _ => None,
+fn sent_first(alloc: Global, moves: &mut Moves) -> Option<u64> {
+    let endpoint = endpoint_of(1)?;
+    moves.push(Move::Send { id: 4, endpoint }).ok()?;
+    match moves.copy(alloc) {
+        Ok(copy) => match copy.get(0) {
+            Some(Move::Send { id, .. }) => Some(*id),
+            _ => None,
+        },
+        Err(_) => None,
     }
 }
 
