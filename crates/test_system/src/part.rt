@@ -2,9 +2,8 @@
 
 use crate::failure::Failure;
 use crate::lines::read_events;
-use crate::telling::{tell_entries, tell_outcome, word_of_beginning};
+use crate::telling::{tell_entries, tell_outcome};
 use crate::words::{read_number, tell};
-use ds_line::append_all;
 use ds_names::NoRoom;
 use ds_replica::Seed;
 use ds_system::{BeginFault, System, SystemEvents, SystemOutcomes};
@@ -50,10 +49,14 @@ fn answer_lines(
 
 // Says why no system begins, unless memory is wanting.
 fn tell_no_system(text: &mut Vec<u8>, fault: BeginFault) -> Result<(), Failure> {
-    match fault {
-        BeginFault::NoRoom => Err(Failure::NoRoom),
-        fault => Ok(append_all(text, &[b"refused ", word_of_beginning(fault), b"\n"])?),
-    }
+    let line: &[u8] = match fault {
+        BeginFault::OutOfRange => b"refused outofrange",
+        BeginFault::BadRing => b"refused badring",
+        BeginFault::BadFirst => b"refused badfirst",
+        BeginFault::OldIncarnation => b"refused oldincarnation",
+        BeginFault::NoRoom => return Err(Failure::NoRoom),
+    };
+    Ok(tell(text, line)?)
 }
 
 /// How a system begins, but for its settings.

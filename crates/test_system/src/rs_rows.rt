@@ -87,12 +87,13 @@ fn newest_row(alloc: Global) -> Option<u64> {
 fn newest_in(table: &mut FileTable) -> Option<u64> {
     let disk = Name::read(b"disk").ok()?;
     table.assign(3, FileClass::Block, &disk).ok()?;
-    table.changed(&disk, endpoint_of(2)).ok()?;
-    table.changed(&disk, None).ok()?;
-    if table.changed(&disk, endpoint_of(1)).is_ok() {
-        return None;
+    for state in [endpoint_of(2), None] {
+        table.changed(&disk, state).ok()?;
     }
-    Some(u64::from(table.newest(&disk)?.number()))
+    match table.changed(&disk, endpoint_of(1)) {
+        Ok(_) => None,
+        Err(_) => Some(u64::from(table.newest(&disk)?.number())),
+    }
 }
 
 fn endpoint_of(generation: u32) -> Option<Endpoint> {

@@ -6,7 +6,7 @@ use crate::rs_rows::tell_rows;
 use crate::rs_telling::{tell_new_fault, tell_settings_fault, tell_state, tell_version};
 use crate::words::{tell, tell_numbers};
 use ds_names::{Name, NoRoom};
-use rs_core::{Event, Numberer, Rs};
+use rs_core::{Actions, Event, Numberer, Rs};
 use rs_settings::read;
 use service_words::{append_action, append_action_count, append_rs_fault, append_settings};
 use std::alloc::Global;
@@ -117,25 +117,27 @@ fn tell_key(text: &mut Vec<u8>, rs: &Option<Rs>) -> Result<(), NoRoom> {
     }
 }
 
-// A line for each action of an event, and one for all.
 fn tell_event(
     text: &mut Vec<u8>,
     rs: &mut Option<Rs>,
     event: Event,
     tick: u64,
 ) -> Result<(), NoRoom> {
-    let Some(rs) = rs else {
-        return tell(text, NO_SETTINGS);
-    };
-    let actions = match rs.event(event, tick) {
-        Ok(actions) => actions,
-        Err(fault) => return append_rs_fault(text, fault),
-    };
-    let count = actions.len();
-    for i in 0..count {
+    match rs {
+        Some(rs) => match rs.event(event, tick) {
+            Ok(actions) => tell_actions(text, &actions),
+            Err(fault) => append_rs_fault(text, fault),
+        },
+        None => tell(text, NO_SETTINGS),
+    }
+}
+
+// A line for each action of an event, and one for all.
+fn tell_actions(text: &mut Vec<u8>, actions: &Actions) -> Result<(), NoRoom> {
+    for i in 0..actions.len() {
         if let Some(action) = actions.get(i) {
             append_action(text, action)?;
         }
     }
-    append_action_count(text, count)
+    append_action_count(text, actions.len())
 }

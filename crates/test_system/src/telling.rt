@@ -4,11 +4,10 @@ use crate::words::{tell, tell_numbers};
 use driver_tables::{Move, Moves, TableFault};
 use ds_entry::Items;
 use ds_held::Limits;
-use ds_line::{append_all, append_item};
+use ds_line::append_item;
 use ds_names::NoRoom;
 use ds_replica::Outcome;
 use ds_services::{Replies, Rounds, SystemFault, SystemOutcome};
-use ds_system::BeginFault;
 use ds_world::World;
 use rs_core::{Action, Actions};
 use service_words::{
@@ -32,8 +31,7 @@ pub(crate) fn tell_outcome(
         }
         SystemOutcome::Moved { rounds, own, fault } => tell_moved(text, rounds, own, fault),
         SystemOutcome::Happened(outcome) => tell_happened(text, alloc, world, outcome),
-        SystemOutcome::Refused(SystemFault::Service(fault)) => append_rs_fault(text, *fault),
-        SystemOutcome::Refused(fault) => append_all(text, &[b"refused ", word_of(*fault), b"\n"]),
+        SystemOutcome::Refused(fault) => tell_fault(text, *fault),
     }
 }
 
@@ -121,28 +119,18 @@ fn tell_items(text: &mut Vec<u8>, items: &Items) -> Result<(), NoRoom> {
     tell_numbers(text, &[("shown ", items.len() as u64)])
 }
 
-// Why an event is refused, but for RS's own faults, which have words elsewhere.
-fn word_of(fault: SystemFault) -> &'static [u8] {
-    match fault {
-        SystemFault::Service(_) => b"service",
-        SystemFault::UnknownLabel => b"unknownlabel",
-        SystemFault::NotDeclared => b"notdeclared",
-        SystemFault::NotUp => b"notup",
-        SystemFault::BadKind => b"badkind",
-        SystemFault::SeqSpent => b"seqspent",
-        SystemFault::NoMessage => b"nomessage",
-        SystemFault::NotAllowed => b"notallowed",
-        SystemFault::NoRoom => b"noroom",
-    }
-}
-
-/// Why no system begins.
-pub(crate) fn word_of_beginning(fault: BeginFault) -> &'static [u8] {
-    match fault {
-        BeginFault::OutOfRange => b"outofrange",
-        BeginFault::BadRing => b"badring",
-        BeginFault::BadFirst => b"badfirst",
-        BeginFault::OldIncarnation => b"oldincarnation",
-        BeginFault::NoRoom => b"noroom",
-    }
+// Why an event is refused.
+fn tell_fault(text: &mut Vec<u8>, fault: SystemFault) -> Result<(), NoRoom> {
+    let line: &[u8] = match fault {
+        SystemFault::Service(fault) => return append_rs_fault(text, fault),
+        SystemFault::UnknownLabel => b"refused unknownlabel",
+        SystemFault::NotDeclared => b"refused notdeclared",
+        SystemFault::NotUp => b"refused notup",
+        SystemFault::BadKind => b"refused badkind",
+        SystemFault::SeqSpent => b"refused seqspent",
+        SystemFault::NoMessage => b"refused nomessage",
+        SystemFault::NotAllowed => b"refused notallowed",
+        SystemFault::NoRoom => b"refused noroom",
+    };
+    tell(text, line)
 }
