@@ -8,7 +8,6 @@ program ends so, and after a refusal every answer is the model's for an RS to wh
 import demos
 from model.restarts import Session
 
-HEAD = b"rs\n"  # the first line, behind which all lines are RS's
 LONG = 60  # scripts of many events
 SHORT = 40  # scripts that are refused memory
 FAULTS = 400  # settings with something wrong
@@ -21,9 +20,6 @@ class Script(demos.Script):
         super().__init__(seed, Session)
         self.now = 0
         self.old = [(1, 16)]  # endpoints that were started
-
-    def text(self):
-        return HEAD + super().text()
 
     def ask(self, *command):
         answers = super().ask(*command)

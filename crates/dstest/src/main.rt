@@ -1,7 +1,7 @@
 //! `dstest`: the program for tests.
 //!
 //! Standard input has sections. Each begins with a line `=== NAME`, and the lines up to the next such line are its own: `store`,
-//! `rows`, `desk`, `threads` or `system`, each a crate, which tells what its lines ask. The sections are answered in turn.
+//! `rows`, `desk`, `threads`, `system` or `rs`. What their lines ask is told by the crates that answer them, each in turn.
 //!
 //! Status 0: done. 1: a line that can't be read, or a call that didn't answer as it should. 3: memory, reading or writing failed, or
 //! a pass of a desk was refused a note, and standard error says which.
@@ -64,7 +64,8 @@ fn answer_section<R: Runtime + AllocGlobal + Threads + Wait + Sync>(
         "rows" => test_rows::answer(rt),
         "desk" => test_desk::answer(rt, lines),
         "threads" => test_threads::answer(rt, lines),
-        "system" => test_system::answer(rt, lines),
+        "system" => test_system::answer_systems(rt, lines),
+        "rs" => test_system::answer_rs(rt, lines),
         _ => Err(Failure::BadLine),
     }
 }

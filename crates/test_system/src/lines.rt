@@ -4,17 +4,16 @@
 //! Other lines are those of scripts: to RS, to the driver tables, whose maps are their own, whatever number the line has; and all
 //! that a world can be asked. `side a` and `side b` say at which store what follows is asked. `N times LINE` is so many such events.
 
-use crate::failure::Failure;
-use crate::words::{read_name, read_number};
-use ds_entry::{Text, Value};
+use ds_entry::{Text, TextFault, Value};
 use ds_lines::split_line;
 use ds_names::{Key, Kind, Name};
 use ds_replica::Side;
 use ds_services::{SystemEvent, Table};
 use ds_system::SystemEvents;
-use ds_words::{ScriptCommand, Server, read_command};
+use ds_words::{CommandFault, ScriptCommand, Server, read_command};
 use std::alloc::Global;
 use std::str::Split;
+use test_words::{Failure, name_at, number_at};
 
 /// The events of the lines.
 pub(crate) fn read_events(alloc: Global, lines: &str) -> Result<SystemEvents, Failure> {
@@ -73,7 +72,11 @@ fn read_scripts(alloc: Global, side: Side, line: &str) -> Result<SystemEvent, Fa
     if split_line(line.as_bytes()).is_some() {
         return Err(Failure::BadLine);
     }
-    event_of(alloc, side, read_command(alloc, line.as_bytes())?)
+    match read_command(alloc, line.as_bytes()) {
+        Ok(command) => event_of(alloc, side, command),
+        Err(CommandFault::BadLine { .. }) => Err(Failure::BadLine),
+        Err(CommandFault::NoRoom) => Err(Failure::NoRoom),
+    }
 }
 
 fn read_put(
@@ -95,16 +98,16 @@ fn read_put(
 
 // Who writes, where, and the word behind it.
 fn read_write<'a>(words: &mut Split<'a, char>) -> Option<(Name, Key, &'a str)> {
-    Some((read_name(words)?, read_key(words)?, words.next()?))
+    Some((name_at(words)?, read_key(words)?, words.next()?))
 }
 
 fn read_again(side: Side, words: &mut Split<'_, char>) -> Option<SystemEvent> {
-    let change = read_number(words)?;
+    let change = number_at(words)?;
     Some(SystemEvent::Again { change, side })
 }
 
 fn read_remove(side: Side, words: &mut Split<'_, char>) -> Option<SystemEvent> {
-    let label = read_name(words)?;
+    let label = name_at(words)?;
     let key = read_key(words)?;
     Some(SystemEvent::Remove { label, key, side })
 }
@@ -168,12 +171,20 @@ fn table_of(server: Server) -> Table {
 fn value_of(alloc: Global, word: &str) -> Result<Value, Failure> {
     match word.parse() {
         Ok(number) => Ok(Value::U32(number)),
-        Err(_) => Ok(Value::Str(Text::read(alloc, word.as_bytes())?)),
+        Err(_) => text_of(alloc, word),
+    }
+}
+
+fn text_of(alloc: Global, word: &str) -> Result<Value, Failure> {
+    match Text::read(alloc, word.as_bytes()) {
+        Ok(text) => Ok(Value::Str(text)),
+        Err(TextFault::TooLong | TextFault::BadText) => Err(Failure::BadLine),
+        Err(TextFault::NoRoom) => Err(Failure::NoRoom),
     }
 }
 
 fn read_key(words: &mut Split<'_, char>) -> Option<Key> {
-    let name = read_name(words)?;
+    let name = name_at(words)?;
     let kind = match words.next()? {
         "label" => Kind::Label,
         "u32" => Kind::U32,

@@ -1,9 +1,8 @@
 //! A system that begins, and its events.
 
-use crate::failure::Failure;
 use crate::lines::read_events;
 use crate::telling::{tell_entries, tell_outcome};
-use crate::words::{read_number, tell};
+use crate::words::tell;
 use ds_names::NoRoom;
 use ds_replica::Seed;
 use ds_system::{BeginFault, System, SystemEvents, SystemOutcomes};
@@ -11,6 +10,7 @@ use ds_world::{World, WorldFault};
 use rs_settings::{Settings, SettingsCause, read};
 use std::alloc::Global;
 use std::str::Split;
+use test_words::{Failure, number_at};
 
 /// Begins a system as the lines of a part up to `end` say, and tells what came of the events on the others; or why none begins.
 pub(crate) fn answer_part(text: &mut Vec<u8>, alloc: Global, part: &str) -> Result<(), Failure> {
@@ -70,7 +70,7 @@ struct Beginning {
 fn read_beginning(line: &str) -> Option<Beginning> {
     let mut words = line.strip_prefix("system ")?.split(' ');
     Some(Beginning {
-        next: read_number(&mut words)?,
+        next: number_at(&mut words)?,
         a: read_seed(&mut words)?,
         b: read_seed(&mut words)?,
     })
@@ -78,9 +78,9 @@ fn read_beginning(line: &str) -> Option<Beginning> {
 
 fn read_seed(words: &mut Split<'_, char>) -> Option<Seed> {
     Some(Seed {
-        incarnation: read_number(words)?,
-        first: read_number(words)?,
-        ring: read_number(words)?,
+        incarnation: number_at(words)?,
+        first: number_at(words)?,
+        ring: number_at(words)?,
     })
 }
 

@@ -1,9 +1,9 @@
 //! What RS is asked.
 
-use crate::words::{read_name, read_number};
 use ds_names::{Endpoint, Generation, Name};
 use rs_core::Event;
 use std::str::Split;
+use test_words::{name_at, number_at};
 
 /// What a line asks for.
 #[derive(Clone, Copy)]
@@ -28,33 +28,33 @@ pub(crate) enum Command {
 pub(crate) fn read_command(line: &str) -> Option<Command> {
     let mut words = line.split(' ');
     match words.next()? {
-        "settings" => Some(Command::Settings(read_number(&mut words)?)),
+        "settings" => Some(Command::Settings(number_at(&mut words)?)),
         "key" => Some(Command::Key),
         "number" => Some(Command::Number),
         "rows" => Some(Command::Rows),
         "numbers" => read_numbers(&mut words),
-        "state" => Some(Command::State(read_name(&mut words)?)),
+        "state" => Some(Command::State(name_at(&mut words)?)),
         verb => Some(Command::Event {
             event: read_event(verb, &mut words)?,
-            tick: read_number(&mut words)?,
+            tick: number_at(&mut words)?,
         }),
     }
 }
 
 fn read_numbers(words: &mut Split<'_, char>) -> Option<Command> {
     Some(Command::Numbers {
-        generation: Generation::of(read_number(words)?)?,
-        seq: read_number(words)?,
+        generation: Generation::of(number_at(words)?)?,
+        seq: number_at(words)?,
     })
 }
 
 // The event of a line, but for its tick.
 fn read_event(verb: &str, words: &mut Split<'_, char>) -> Option<Event> {
     match verb {
-        "death" => Some(Event::Death(read_endpoint(words)?, read_number(words)?)),
+        "death" => Some(Event::Death(read_endpoint(words)?, number_at(words)?)),
         "beat" => Some(Event::Beat(read_endpoint(words)?)),
         "tick" => Some(Event::Tick),
-        _ => event_of(verb, read_name(words)?),
+        _ => event_of(verb, name_at(words)?),
     }
 }
 

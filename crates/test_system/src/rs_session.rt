@@ -1,6 +1,5 @@
 //! Lines, given to RS.
 
-use crate::failure::Failure;
 use crate::rs_command::{Command, read_command};
 use crate::rs_rows::tell_rows;
 use crate::rs_telling::{tell_new_fault, tell_settings_fault, tell_state, tell_version};
@@ -10,6 +9,7 @@ use rs_core::{Actions, Event, Numberer, Rs};
 use rs_settings::read;
 use service_words::{append_action, append_action_count, append_rs_fault, append_settings};
 use std::alloc::Global;
+use test_words::Failure;
 
 const NO_SETTINGS: &[u8] = b"refused nosettings";
 
