@@ -1,6 +1,6 @@
 """What tests/programs/exchanges asks of a follower of one desk's store, and of exchanges with the store at another desk.
 
-The rows are those of crates/test_live, each in new stores, and the model below answers them too. Memory may be wanting at one point of a
+The rows are those of crates/test_threads, each in new stores, and the model below answers them too. Memory may be wanting at one point of a
 row. A call that is refused for it is an entry of its desk's history and changes nothing; a follower that met it is lost, its map as far as
 it came, and begins again with its next refresh; an exchange that met it ends, what it merged stands, and the next one gives all once more.
 """

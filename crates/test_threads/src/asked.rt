@@ -1,4 +1,4 @@
-//! What the threads ask of the store.
+//! What a store is asked.
 
 use ds_entry::Value;
 use ds_machine::Command;
@@ -9,44 +9,89 @@ use std::alloc::Global;
 // The labels that all writers change.
 const LABELS: [&[u8]; 4] = [b"disk", b"eth0", b"inet", b"tty"];
 
-/// What a writer asks at a turn of its own, as RS: most often it publishes a label in a later generation than it did before, and now
-/// and then it deletes the label or sweeps what its driver left. Other writers may know a later generation. `None` never: all parts fit.
-pub(crate) fn command_of(writer: u64, turn: u32) -> Option<Command> {
-    let caller = Endpoint::rs();
-    let name = Name::read(LABELS[(turn / 8 % 4) as usize]).ok()?;
-    let key = Key {
-        name,
-        kind: Kind::Label,
-    };
-    let generation = Generation::of(1 + turn % 1_000_000)?;
-    let version = Version {
-        epoch: generation,
-        seq: (writer % 1000) as u32,
-    };
-    match turn % 8 {
-        3 => Some(Command::Delete {
-            caller,
-            key,
-            version,
-        }),
-        6 => Some(Command::Sweep {
-            caller,
-            owner: name,
-            generation,
-        }),
-        _ => Some(Command::Publish {
-            caller,
-            key,
-            version,
-            value: Value::Label(Endpoint::of(generation, (writer % 1000) as u16)?),
-            overwrite: true,
-        }),
+/// What a row asks of a store.
+#[derive(Clone, Copy)]
+pub(crate) enum Asked<'a> {
+    /// RS publishes that a label of this generation is in this slot, over an earlier one.
+    Start(&'a [u8], u32, u16),
+    /// RS ends what was published by a label's generations up to this one.
+    Sweep(&'a [u8], u32),
+    /// Another takes this subscription over.
+    TakeOver(u32),
+}
+
+impl Asked<'_> {
+    /// The command. `None` where a part of it is none, or memory is wanting.
+    pub(crate) fn command(self, alloc: Global) -> Option<Command> {
+        match self {
+            Asked::Start(name, generation, slot) => start(name, generation, 0, slot),
+            Asked::Sweep(name, generation) => sweep(name, generation),
+            Asked::TakeOver(sub) => Some(Command::Subscribe {
+                sub,
+                query: query(alloc, b".*")?,
+                initial: false,
+                overwrite: true,
+            }),
+        }
     }
 }
 
-/// A query of everything. `None` where memory is wanting.
-pub(crate) fn everything(alloc: Global) -> Option<Query> {
-    let kinds = Kinds::of(15)?;
-    let text = PatternText::of(alloc, b".*").ok()?;
-    Some(Query { text, kinds })
+/// What a writer asks at a turn of its own, as RS: most often it publishes a label in a later generation than it did before, and now
+/// and then it deletes the label or sweeps what its driver left. Other writers may know a later generation. `None` never: all parts fit.
+pub(crate) fn command_of(writer: u64, turn: u32) -> Option<Command> {
+    let name = LABELS[(turn / 8 % 4) as usize];
+    let generation = 1 + turn % 1_000_000;
+    let number = (writer % 1000) as u16;
+    match turn % 8 {
+        3 => delete(name, generation, u32::from(number)),
+        6 => sweep(name, generation),
+        _ => start(name, generation, u32::from(number), number),
+    }
+}
+
+// RS publishes that a label of this version is in this slot, over an earlier one. `None` where a part is none.
+fn start(name: &[u8], generation: u32, seq: u32, slot: u16) -> Option<Command> {
+    let epoch = Generation::of(generation)?;
+    Some(Command::Publish {
+        caller: Endpoint::rs(),
+        key: label(name)?,
+        version: Version { epoch, seq },
+        value: Value::Label(Endpoint::of(epoch, slot)?),
+        overwrite: true,
+    })
+}
+
+// RS deletes a label by this version. `None` where a part is none.
+fn delete(name: &[u8], generation: u32, seq: u32) -> Option<Command> {
+    let epoch = Generation::of(generation)?;
+    Some(Command::Delete {
+        caller: Endpoint::rs(),
+        key: label(name)?,
+        version: Version { epoch, seq },
+    })
+}
+
+// RS ends what was published by a label's generations up to this one. `None` where a part is none.
+fn sweep(name: &[u8], generation: u32) -> Option<Command> {
+    Some(Command::Sweep {
+        caller: Endpoint::rs(),
+        owner: Name::read(name).ok()?,
+        generation: Generation::of(generation)?,
+    })
+}
+
+// The key of a label. `None` where there is no such name.
+fn label(name: &[u8]) -> Option<Key> {
+    Some(Key {
+        name: Name::read(name).ok()?,
+        kind: Kind::Label,
+    })
+}
+
+/// A query of all kinds. `None` where memory is wanting.
+pub(crate) fn query(alloc: Global, pattern: &[u8]) -> Option<Query> {
+    Some(Query {
+        text: PatternText::of(alloc, pattern).ok()?,
+        kinds: Kinds::of(15)?,
+    })
 }

@@ -3,7 +3,7 @@
 use crate::failure::Failure;
 use crate::hold::Hold;
 use crate::shut::Shut;
-use ds_live::{LiveFault, LiveReport, OpenGate, Sizes, live_run};
+use ds_live::{Gate, OpenGate, Sizes, live_run};
 use std::alloc::Global;
 use std::rt::Runtime;
 use std::sync::Wait;
@@ -25,8 +25,8 @@ fn one_waits_for_another<R: Runtime + Threads + Wait + Sync>(
     alloc: Global,
 ) -> Result<(), Failure> {
     let sizes = sizes(2, 2, 3);
-    tell(rt, live_run(rt, alloc, &Hold::new(0, 1), sizes))?;
-    tell(rt, live_run(rt, alloc, &Hold::new(1, 0), sizes))
+    tell_run(rt, alloc, &Hold::new(0, 1), sizes)?;
+    tell_run(rt, alloc, &Hold::new(1, 0), sizes)
 }
 
 // Each worker is turned away before its first turn; the last alone is, behind its last.
@@ -35,9 +35,9 @@ fn some_are_turned_away<R: Runtime + Threads + Wait + Sync>(
     alloc: Global,
 ) -> Result<(), Failure> {
     let sizes = sizes(1, 1, 1);
-    tell(rt, live_run(rt, alloc, &Shut { from: 0, turn: 0 }, sizes))?;
-    tell(rt, live_run(rt, alloc, &Shut { from: 2, turn: 1 }, sizes))?;
-    tell(rt, live_run(rt, alloc, &Shut { from: 3, turn: 0 }, sizes))
+    tell_run(rt, alloc, &Shut { from: 0, turn: 0 }, sizes)?;
+    tell_run(rt, alloc, &Shut { from: 2, turn: 1 }, sizes)?;
+    tell_run(rt, alloc, &Shut { from: 3, turn: 0 }, sizes)
 }
 
 // Each size below its range, and above it.
@@ -54,7 +54,7 @@ fn some_sizes_are_none<R: Runtime + Threads + Wait + Sync>(
         sizes(1, 1, 1001),
     ];
     for index in 0..none.len() {
-        tell(rt, live_run(rt, alloc, &OpenGate, none[index]))?;
+        tell_run(rt, alloc, &OpenGate, none[index])?;
     }
     Ok(())
 }
@@ -67,9 +67,14 @@ fn sizes(publishers: u32, subscribers: u32, changes: u32) -> Sizes {
     }
 }
 
-// Prints what a run reports, or why it failed.
-fn tell<R: Runtime>(rt: &R, ran: Result<LiveReport, LiveFault>) -> Result<(), Failure> {
-    match ran {
+// Prints what a run at a gate reports, or why it failed.
+fn tell_run<R: Runtime + Threads + Wait + Sync, G: Gate + Sync>(
+    rt: &R,
+    alloc: Global,
+    gate: &G,
+    sizes: Sizes,
+) -> Result<(), Failure> {
+    match live_run(rt, alloc, gate, sizes) {
         Ok(report) => println!(rt; "{report:?}")?,
         Err(fault) => println!(rt; "{fault:?}")?,
     }

@@ -7,6 +7,8 @@ pub(crate) enum Line {
     Follow(Sizes),
     /// `gates`
     Gates,
+    /// `rows`
+    Rows,
 }
 
 /// How many threads change the store, how many follow it, 1 to 64 together, and how often each does.
@@ -19,10 +21,11 @@ pub(crate) struct Sizes {
 
 /// Reads a line. `None` where it is none.
 pub(crate) fn read_line(line: &str) -> Option<Line> {
-    if line == "gates" {
-        return Some(Line::Gates);
+    match line {
+        "gates" => Some(Line::Gates),
+        "rows" => Some(Line::Rows),
+        _ => read_sizes(line).map(Line::Follow),
     }
-    read_sizes(line).map(Line::Follow)
 }
 
 fn read_sizes(line: &str) -> Option<Sizes> {

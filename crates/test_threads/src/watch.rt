@@ -6,7 +6,7 @@ ghost use Rattle.desk.specs.Pass.{desk_of};
 ghost use Rattle.ds_pass.specs.Record.{pass_record};
 ghost use Rattle.ds_refresh.specs.KeepsUp.{KeepsUpWith};
 
-use crate::asked::{command_of, everything};
+use crate::asked::{command_of, query};
 use crate::line::Sizes;
 use crate::mark::mark_of_map;
 use desk::{Desk, Pass};
@@ -89,7 +89,7 @@ fn follow<R: Wait>(
     requires { desk_of worker.old.pass ≡ identity desk.now }
     ensures { desk_of worker.new.pass ≡ desk_of worker.old.pass }
 {
-    let mut follower = Follower::new(alloc, number, everything(alloc)?).ok()?;
+    let mut follower = Follower::new(alloc, number, query(alloc, b".*")?).ok()?;
     for turn in 0..calls {
         follow_once(rt, alloc, desk, worker, number, &mut follower)?;
         if turn % 16 == 15 {

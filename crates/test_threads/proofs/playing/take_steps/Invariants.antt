@@ -1,5 +1,5 @@
-use Rattle.test_live.specs.World.{IsWorld}
-use Rattle.test_live.proofs.playing.take_steps.Given as goal
+use Rattle.test_threads.specs.World.{IsWorld}
+use Rattle.test_threads.proofs.playing.take_steps.Given as goal
 
 -- the world is one
 abbrev pub invariant-loop-step : goal.invariant-loop-step

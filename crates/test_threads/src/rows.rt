@@ -6,9 +6,9 @@ use crate::asked::Asked;
 #[derive(Clone, Copy)]
 pub(crate) enum Step {
     /// The first store is asked.
-    Ask(Asked),
+    Ask(Asked<'static>),
     /// The second store is asked.
-    AskSecond(Asked),
+    AskSecond(Asked<'static>),
     /// RS starts the drivers of these numbers at the first store, from the one up to below the other.
     StartMany(u32, u32),
     /// How far the caller sees the first desk's history go is printed.

@@ -1,0 +1,184 @@
+//! What the passes of a desk do.
+
+ghost use Rattle.std.specs.Prelude.{◌≡◌};
+ghost use Rattle.desk.specs.Desk.{identity};
+ghost use Rattle.desk.specs.Pass.{desk_of};
+ghost use Rattle.ds_pass.specs.Record.{pass_record};
+ghost use Rattle.ds_refresh.specs.KeepsUp.{KeepsUpWith};
+
+use crate::asked::Asked;
+use crate::failure::Failure;
+use crate::tell::{tell, tell_fault};
+use desk::{Desk, Pass};
+use ds_exchange::{Exchanged, exchange_once};
+use ds_feed::Cursor;
+use ds_machine::Reply;
+use ds_names::Name;
+use ds_pass::LiveFault;
+use ds_refresh::{Follower, Fresh, refresh};
+use ds_store::Store;
+use std::alloc::Global;
+use std::sync::Wait;
+
+/// A pass calls, and what the store refuses is printed.
+pub(crate) fn call<R: Print + Wait>(
+    rt: &R,
+    alloc: Global,
+    desk: &Desk<Box<Store>>,
+    pass: &mut Pass<Box<Store>>,
+    asked: Asked,
+) -> Result<(), Failure>
+    requires { desk_of pass.old ≡ identity desk.now }
+    ensures { desk_of pass.new ≡ identity desk.now }
+{
+    let Some(command) = asked.command(alloc) else {
+        return Err(Failure::NoRoom);
+    };
+    match desk.call(rt, pass, command) {
+        Ok(answer) => tell_refusal(rt, &answer.reply),
+        Err(fault) => tell_fault(rt, LiveFault::Desk(fault)),
+    }
+}
+
+// Prints what a store refuses.
+fn tell_refusal(rt: &impl Print, reply: &Reply) -> Result<(), Failure> {
+    if let Reply::Refused(refusal) = reply {
+        println!(rt; "refused: {refusal}")?;
+    }
+    Ok(())
+}
+
+/// RS starts the drivers of these numbers, from the one up to below the other. Each name has a letter and three digits.
+pub(crate) fn start_many<R: Print + Wait>(
+    rt: &R,
+    alloc: Global,
+    desk: &Desk<Box<Store>>,
+    pass: &mut Pass<Box<Store>>,
+    low: u32,
+    high: u32,
+) -> Result<(), Failure>
+    requires { desk_of pass.old ≡ identity desk.now }
+    ensures { desk_of pass.new ≡ identity desk.now }
+{
+    for number in low..high {
+        let name = [
+            b'n',
+            b'0' + (number / 100 % 10) as u8,
+            b'0' + (number / 10 % 10) as u8,
+            b'0' + (number % 10) as u8,
+        ];
+        call(rt, alloc, desk, pass, Asked::Start(&name, 1, 17))?;
+    }
+    Ok(())
+}
+
+/// Takes the notices of server 0, and prints them with the first place behind what the pass has then seen.
+pub(crate) fn take<R: Print>(
+    rt: &R,
+    desk: &Desk<Box<Store>>,
+    pass: &mut Pass<Box<Store>>,
+    follower: &Follower,
+) -> Result<(), Failure>
+    requires of_desk { desk_of pass.old ≡ identity desk.now }
+    requires keeps { KeepsUpWith (pass_record pass.old) follower.now }
+    ensures of_desk { desk_of pass.new ≡ identity desk.now }
+    ensures keeps { KeepsUpWith (pass_record pass.new) follower.now }
+{
+    match desk.take(pass, 0) {
+        Ok(taken) => tell(
+            rt,
+            &[
+                ("taken", u128::from(taken.bits)),
+                ("floor", u128::from(taken.floor)),
+            ],
+        ),
+        Err(fault) => tell_fault(rt, LiveFault::Desk(fault)),
+    }
+}
+
+/// Refreshes the follower by so many calls, and prints what came of it, and how many keys its map has.
+pub(crate) fn bring_up<R: Print + Wait>(
+    rt: &R,
+    alloc: Global,
+    desk: &Desk<Box<Store>>,
+    pass: &mut Pass<Box<Store>>,
+    follower: &mut Follower,
+    limit: u32,
+) -> Result<(), Failure>
+    requires of_desk { desk_of pass.old ≡ identity desk.now }
+    requires keeps { KeepsUpWith (pass_record pass.old) follower.old }
+    ensures of_desk { desk_of pass.new ≡ identity desk.now }
+    ensures keeps { KeepsUpWith (pass_record pass.new) follower.new }
+{
+    let fresh = refresh(rt, alloc, desk, pass, follower, limit);
+    tell_fresh(rt, fresh, limit, follower)
+}
+
+// Prints what came of a refresh by so many calls, and how many keys the map has.
+fn tell_fresh(
+    rt: &impl Print,
+    fresh: Result<Fresh, LiveFault>,
+    limit: u32,
+    follower: &Follower,
+) -> Result<(), Failure> {
+    let keys = ("keys", follower.map().held().len() as u128);
+    match fresh {
+        Ok(Fresh::UpTo(place)) => tell(rt, &[("up to", u128::from(place)), keys]),
+        Ok(Fresh::More) => tell(rt, &[("more, limit", u128::from(limit)), keys]),
+        Err(fault) => {
+            tell_fault(rt, fault)?;
+            tell(rt, &[keys])
+        }
+    }
+}
+
+/// Prints the generation of the endpoint that the map has of a label, 0 where it has none.
+pub(crate) fn tell_label(rt: &impl Print, follower: &Follower, name: &[u8]) -> Result<(), Failure> {
+    let generation = match Name::read(name) {
+        Ok(name) => match follower.map().label(&name) {
+            Some(endpoint) => endpoint.generation().number(),
+            None => 0,
+        },
+        Err(_) => 0,
+    };
+    tell(rt, &[("generation", u128::from(generation))])
+}
+
+/// Gives what the one store has to the other, and prints what came of it. From where the next exchange asks: from none behind a fault.
+pub(crate) fn exchange<R: Print + Wait>(
+    rt: &R,
+    a: &Desk<Box<Store>>,
+    pass_a: &mut Pass<Box<Store>>,
+    b: &Desk<Box<Store>>,
+    pass_b: &mut Pass<Box<Store>>,
+    from: &mut Option<Cursor>,
+) -> Result<(), Failure>
+    requires of_a { desk_of pass_a.old ≡ identity a.now }
+    requires of_b { desk_of pass_b.old ≡ identity b.now }
+    ensures of_a { desk_of pass_a.new ≡ identity a.now }
+    ensures of_b { desk_of pass_b.new ≡ identity b.now }
+{
+    match exchange_once(rt, a, pass_a, b, pass_b, *from) {
+        Ok(exchanged) => {
+            *from = Some(exchanged.cursor);
+            tell_exchanged(rt, exchanged)
+        }
+        Err(fault) => {
+            *from = None;
+            tell_fault(rt, fault)
+        }
+    }
+}
+
+// Prints what an exchange did.
+fn tell_exchanged(rt: &impl Print, exchanged: Exchanged) -> Result<(), Failure> {
+    tell(
+        rt,
+        &[
+            ("done", exchanged.done),
+            ("taken", exchanged.taken),
+            ("more", u128::from(exchanged.more)),
+            ("position", u128::from(exchanged.cursor.position)),
+        ],
+    )
+}

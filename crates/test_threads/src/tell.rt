@@ -1,0 +1,18 @@
+//! What a row prints.
+
+use crate::failure::Failure;
+use ds_pass::LiveFault;
+
+/// Prints lines of a word and a number.
+pub(crate) fn tell(rt: &impl Print, lines: &[(&str, u128)]) -> Result<(), Failure> {
+    for (word, number) in lines {
+        println!(rt; "{word} {number}")?;
+    }
+    Ok(())
+}
+
+/// Prints why the work on a desk's store ended.
+pub(crate) fn tell_fault(rt: &impl Print, fault: LiveFault) -> Result<(), Failure> {
+    println!(rt; "{fault}")?;
+    Ok(())
+}

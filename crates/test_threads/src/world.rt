@@ -1,0 +1,64 @@
+//! Two desks, and who calls there.
+
+ghost use Rattle.std.specs.Prelude.{IfSome};
+ghost use Rattle.test_threads.specs.World.{IsSide, IsWorld};
+
+use crate::asked::query;
+use crate::rows::Row;
+use desk::{Desk, Pass};
+use ds_feed::Cursor;
+use ds_refresh::Follower;
+use ds_store::Store;
+use std::alloc::Global;
+
+/// A desk over a store, and its two passes.
+#[derive(Drop)]
+pub(crate) struct Side {
+    pub desk: Desk<Box<Store>>,
+    pub caller: Pass<Box<Store>>,
+    pub reader: Pass<Box<Store>>,
+}
+
+/// Two desks. At each a pass calls; at the first one the other pass refreshes a follower.
+#[derive(Drop)]
+pub(crate) struct World {
+    pub first: Side,
+    pub second: Side,
+    pub follower: Follower,
+    /// From where the next exchange asks the first store.
+    pub from: Option<Cursor>,
+}
+
+impl World {
+    /// A new one for a row: empty stores of incarnations 1 and 2. `None` where memory is wanting.
+    pub(crate) fn new(alloc: Global, row: &Row) -> Option<World>
+        ensures { IfSome result IsWorld }
+    {
+        let follower = Follower::new(alloc, row.sub, query(alloc, row.pattern)?).ok()?;
+        let first = open(alloc, 1, row.ring)?;
+        let second = open(alloc, 2, 256)?;
+        Some(World {
+            first,
+            second,
+            follower,
+            from: None,
+        })
+    }
+}
+
+// A new desk over an empty store of this incarnation, whose journal has so long a ring. `None` where memory is wanting.
+fn open(alloc: Global, incarnation: u64, ring: u32) -> Option<Side>
+    ensures { IfSome result IsSide }
+{
+    let store = Box::new(alloc, Store::open(alloc, incarnation, 0, ring).ok()?).ok()?;
+    let Ok((desk, mut passes)) = Desk::<Box<Store>>::open(alloc, store, 2, 0) else {
+        return None;
+    };
+    let reader = passes.pop().unwrap();
+    let caller = passes.pop().unwrap();
+    Some(Side {
+        desk,
+        caller,
+        reader,
+    })
+}
