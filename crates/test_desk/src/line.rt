@@ -1,4 +1,4 @@
-//! The lines of standard input.
+//! The lines of the section.
 
 use crate::rows::{BITS, LAST, NOTICE, Row};
 

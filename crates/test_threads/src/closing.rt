@@ -3,7 +3,6 @@
 ghost use Rattle.test_threads.specs.World.{IsSide, IsWorld};
 
 use crate::asked::query;
-use crate::failure::Failure;
 use crate::rows::End;
 use crate::tell::tell;
 use crate::world::{Side, World};
@@ -12,6 +11,7 @@ use ds_entry::Items;
 use ds_machine::{Command, Reply, Scope};
 use ds_store::Store;
 use std::alloc::Global;
+use test_words::Failure;
 
 /// What the first store held, what the follower's map has, and what the second store held. Each is `None` where memory was wanting.
 #[derive(Drop)]

@@ -1,6 +1,5 @@
 //! What comes of runs at gates, row by row.
 
-use crate::failure::Failure;
 use crate::hold::Hold;
 use crate::shut::Shut;
 use ds_live::{Gate, OpenGate, Sizes, live_run};
@@ -8,6 +7,7 @@ use std::alloc::Global;
 use std::rt::Runtime;
 use std::sync::Wait;
 use std::thread::Threads;
+use test_words::Failure;
 
 /// Each row.
 pub(crate) fn run_at_gates<R: Runtime + Threads + Wait + Sync>(

@@ -1,4 +1,4 @@
-//! The lines of standard input.
+//! The lines of the section.
 
 /// What a line asks for.
 #[derive(Clone, Copy)]

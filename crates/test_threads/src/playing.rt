@@ -3,13 +3,13 @@
 ghost use Rattle.test_threads.specs.World.{IsWorld};
 
 use crate::closing::{close_world, tell_end};
-use crate::failure::Failure;
 use crate::rows::{ROWS, Row, Step};
 use crate::steps::{bring_up, call, exchange, start_many, take, tell_label};
 use crate::tell::tell;
 use crate::world::{Side, World};
 use std::alloc::Global;
 use std::sync::Wait;
+use test_words::Failure;
 
 /// Plays all rows.
 pub(crate) fn play_rows<R: Print + Wait>(rt: &R, alloc: Global) -> Result<(), Failure> {

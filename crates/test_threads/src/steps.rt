@@ -7,7 +7,6 @@ ghost use Rattle.ds_pass.specs.Record.{pass_record};
 ghost use Rattle.ds_refresh.specs.KeepsUp.{KeepsUpWith};
 
 use crate::asked::Asked;
-use crate::failure::Failure;
 use crate::tell::{tell, tell_fault};
 use desk::{Desk, Pass};
 use ds_exchange::{Exchanged, exchange_once};
@@ -19,6 +18,7 @@ use ds_refresh::{Follower, Fresh, refresh};
 use ds_store::Store;
 use std::alloc::Global;
 use std::sync::Wait;
+use test_words::Failure;
 
 /// A pass calls, and what the store refuses is printed.
 pub(crate) fn call<R: Print + Wait>(
