@@ -241,7 +241,7 @@ def written(settings):
 
 
 class Session:
-    """RS and a numberer, which answer commands as `test_system` does the lines of its part `rs`."""
+    """RS and a numberer, which answer commands as the section `rs` of the program for tests does."""
 
     def __init__(self):
         self.rs = self.numbers = None

@@ -1,5 +1,5 @@
 """A system, driven by one list of events: RS, the numbers that its services draw, a world with a map of labels for each of two servers,
-and their tables. It is asked and tells by lines, as `test_system` is.
+and their tables. It is asked and tells by lines, as the section `system` of the program for tests is.
 """
 import copy
 
