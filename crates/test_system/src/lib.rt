@@ -19,15 +19,24 @@ mod words;
 
 use part::answer_part;
 use rs_session::Session;
+use std::alloc::Global;
 use std::io::{self, Write};
 use std::rt::Runtime;
 use test_words::Failure;
 
 /// Answers the parts of systems in turn, and writes what is told of all.
 pub fn answer_systems(rt: &(impl Runtime + AllocGlobal), parts: &str) -> Result<(), Failure> {
-    let mut text = Vec::new(rt.alloc());
+    answer_parts(rt, rt.alloc(), &mut Vec::new(rt.alloc()), parts)
+}
+
+fn answer_parts(
+    rt: &impl Runtime,
+    alloc: Global,
+    text: &mut Vec<u8>,
+    parts: &str,
+) -> Result<(), Failure> {
     for part in parts.split("\n\n") {
-        answer_part(&mut text, rt.alloc(), part)?;
+        answer_part(text, alloc, part)?;
     }
     Ok(io::writer(rt).write_all(text.as_slice())?)
 }
