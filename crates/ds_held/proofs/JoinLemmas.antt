@@ -94,7 +94,7 @@ take_front n [] ys w = absurd (omega (arith, w))
 take_front zero (x ∷ xs) ys w = refl
 take_front (suc n) (x ∷ xs) ys w = ap (λ l. x ∷ l) (take_front n xs ys (omega (arith, w)))
 
-get_front : {X : Type 0} (n : ℕ) (xs ys : List X) → n < length xs → slice_get (xs ++ ys) n ≡ slice_get xs n
+pub get_front : {X : Type 0} (n : ℕ) (xs ys : List X) → n < length xs → slice_get (xs ++ ys) n ≡ slice_get xs n
 get_front n [] ys w = absurd (omega (arith, w))
 get_front zero (x ∷ xs) ys w = refl
 get_front (suc n) (x ∷ xs) ys w = get_front n xs ys (omega (arith, w))
@@ -106,7 +106,7 @@ take_back : {X : Type 0} (n : ℕ) (xs ys : List X) → take (length xs + n) (xs
 take_back n [] ys = ap (λ k. take k ys) (none_and n)
 take_back n (x ∷ xs) ys = ap (λ k. take k (x ∷ (xs ++ ys))) (one_and (length xs) n) ∙ ap (λ l. x ∷ l) (take_back n xs ys)
 
-get_back : {X : Type 0} (n : ℕ) (xs ys : List X) → slice_get (xs ++ ys) (length xs + n) ≡ slice_get ys n
+pub get_back : {X : Type 0} (n : ℕ) (xs ys : List X) → slice_get (xs ++ ys) (length xs + n) ≡ slice_get ys n
 get_back n [] ys = ap (slice_get ys) (none_and n)
 get_back n (x ∷ xs) ys = ap (slice_get (x ∷ (xs ++ ys))) (one_and (length xs) n) ∙ get_back n xs ys
 

@@ -1,13 +1,14 @@
 -- What lists of floors and changes have as a holding, and what a merge and a raised floor leave of them.
-use Rattle.std.proofs.Common.{◌≡◌, ℕ, ◌<◌, ◌≤◌, List, [], ◌∷◌, ◌++◌, length, get_or, map, take, drop, Bool, true, false, None, Result, Ok, Err, refl, sym, ap, ◌∙◌, subst, arith, length-set, All, inl}
+use Rattle.std.proofs.Common.{◌≡◌, ℕ, zero, suc, ◌<◌, ◌≤◌, List, [], ◌∷◌, ◌++◌, length, get_or, map, take, drop, Bool, true, false, None, Result, Ok, Err, refl, sym, ap, ◌∙◌, subst, arith, length-set, All}
 use Rattle.std.proofs.lemmas.Option.{slice_get-get_or, none-some}
 use Rattle.std.proofs.lemmas.Cmp.{nat_list_cmp_total}
 use Rattle.std.proofs.lemmas.Map.Lookups.{exact_bytes}
 use Rattle.std.proofs.lemmas.List.Edits.{length-insert}
-use Rattle.std.proofs.lemmas.List.Elements.{All-set, All-append, All-take, All-drop, All-cons, All-nil, All-filter}
+use Rattle.std.proofs.lemmas.List.Elements.{All-set, All-append, All-take, All-drop, All-head, All-tail, All-cons, All-nil, All-filter}
 use Rattle.std.specs.List.{slice_get}
 use Rattle.std.specs.FinMap.{get, get-empty, len}
-use Rattle.std.specs.Result.{OnOk, IfErr}
+use Rattle.std.specs.Option.{IfSome}
+use Rattle.std.specs.Result.{OnOk}
 use Rattle.ds_names.specs.declared.key.Key.{Key}
 use Rattle.ds_names.specs.Key.{name_cmp, key_cmp}
 use Rattle.ds_names.proofs.OrderLemmas.{keys_total, exact_keys}
@@ -18,12 +19,12 @@ use Rattle.ds_join.specs.ItemTop.{IsTop}
 use Rattle.ds_join.specs.declared.merge.Merge.{Merge}
 use Rattle.ds_join.specs.declared.merge.Merge.TheVariants.{Taken, Known, Stale}
 use Rattle.ds_join.specs.declared.merge.JoinFault.{JoinFault}
-use Rattle.ds_join.specs.declared.merge.JoinFault.TheVariants.{NotOwner, Clash, Full, NoRoom}
+use Rattle.ds_join.specs.declared.merge.JoinFault.TheVariants.{NoRoom}
 use Rattle.ds_held.specs.Limits.{LimitsRecord}
 use Rattle.ds_held.specs.Held.{Holding, held_changes, held_items, held_for, held_count, floor_count, floor_item, change_item, is_void_at, IsSound}
-use Rattle.ds_held.specs.Merge.{AnswersNew, AnswersHeld, AnswersFor, UnlessVoid, MergeAnswer, after_merge, IsMergeRefused}
+use Rattle.ds_held.specs.Merge.{AnswersNew, AnswersHeld, AnswersFor, UnlessVoid, MergeAnswer, after_merge}
 use Rattle.ds_held.specs.Raise.{AnswersFloor, RaiseAnswer, after_raise}
-use Rattle.ds_held.specs.Kept.{floored, owned, keyed, by_owner, by_key, floors_map, changes_map, holding_of, AreOwnersRising, AreKeysRising, AreKept, IsPlace, IsFloorPlace, IsPut, put_at, list_after, left_by_floor}
+use Rattle.ds_held.specs.Kept.{floored, owned, keyed, by_owner, by_key, floors_map, changes_map, holding_of, AreOwnersRising, AreKeysRising, AreKept, IsPlace, IsFloorPlace, put_at, list_after, left_by_floor}
 use Rattle.ds_held.proofs.EntryLemmas.{map_twice}
 use Rattle.ds_held.proofs.PlaceLemmas.{entries_are, count, get_there, get_none, still_rising, map_with, rising_filter}
 use Rattle.ds_held.proofs.LeftLemmas.{changes_are_left, few_left}
@@ -71,6 +72,12 @@ kept_nothing lim = record {
   sound = record { own = λ q d h. absurd (none-some d (sym (get-empty key_cmp q) ∙ h)); none_void = λ q d h. absurd (none-some d (sym (get-empty key_cmp q) ∙ h)) };
 }
 
+-- what stands at an index of changes is one
+pub valid_at : (xs : List ChangeRecord) (i : ℕ) → All IsChange xs → IfSome (slice_get xs i) IsChange
+valid_at [] i valid = tt
+valid_at (x ∷ xs) zero valid = All-head IsChange x xs valid
+valid_at (x ∷ xs) (suc i) valid = valid_at xs i (All-tail IsChange x xs valid)
+
 valid_with : (xs : List ChangeRecord) (c : ChangeRecord) (place : Result ℕ ℕ) → IsChange c → All IsChange xs → All IsChange (put_at xs place c)
 valid_with xs c (Ok i) v a = All-set IsChange xs i c v a
 valid_with xs c (Err i) v a = All-append IsChange (take i xs) (c ∷ drop i xs) (All-take IsChange i xs a) (All-cons IsChange c (drop i xs) v (All-drop IsChange i xs a))
@@ -82,11 +89,6 @@ valid_changes fs xs lim kept = subst (All IsChange) (sym (changes_are fs xs lim 
 pub merged_joins : (old new : Holding) (c : ChangeRecord) (r : Result Merge JoinFault) → IsSound old → MergeAnswer old c r → new ≡ after_merge old c r → OnOk r (IsTop (held_items new) (held_items old ++ Changed c ∷ []))
 merged_joins old new c r sound a e = subst (λ (h : Holding). OnOk r (IsTop (held_items h) (held_items old ++ Changed c ∷ []))) (sym e) (merge_joins old sound c r a).joined
 
--- the same, where only the answer of what isn't refused is known
-pub merged_joins_if_ok : (old new : Holding) (c : ChangeRecord) (r : Result Merge JoinFault) → IsSound old → OnOk r (MergeAnswer old c r) → new ≡ after_merge old c r → OnOk r (IsTop (held_items new) (held_items old ++ Changed c ∷ []))
-merged_joins_if_ok old new c (Ok m) sound a e = merged_joins old new c (Ok m) sound a e
-merged_joins_if_ok old new c (Err fault) sound a e = tt
-
 pub raised_joins : (old new : Holding) (f : Floor) (r : Result Merge JoinFault) → IsSound old → RaiseAnswer old f r → new ≡ after_raise old f r → OnOk r (IsTop (held_items new) (held_items old ++ Floored f ∷ []))
 raised_joins old new f r sound a e = subst (λ (h : Holding). OnOk r (IsTop (held_items h) (held_items old ++ Floored f ∷ []))) (sym e) (raise_joins old sound f r a).joined
 
@@ -95,9 +97,15 @@ one_more : (void : Bool) (n m : ℕ) (c : ChangeRecord) → AnswersFor None void
 one_more true n m c a = absurd (cc)
 one_more false n m c a = a
 
-pub none_more : (void : Bool) (n m : ℕ) (c : ChangeRecord) → AnswersFor None void n m c (Ok Taken) → AnswersFor None void n m c (Err NoRoom)
+none_more : (void : Bool) (n m : ℕ) (c : ChangeRecord) → AnswersFor None void n m c (Ok Taken) → AnswersFor None void n m c (Err NoRoom)
 none_more true n m c a = absurd (cc)
 none_more false n m c a = a
+
+-- memory may be wanting for a change that is to be taken, and whose key isn't held
+pub wants_room : (old : Holding) (c : ChangeRecord) → held_for old c.key ≡ None → MergeAnswer old c (Ok Taken) → MergeAnswer old c (Err NoRoom)
+wants_room old c none a =
+    subst (λ o. AnswersFor o (is_void_at old c) (held_count old) old.limits.keys c (Err NoRoom)) (sym none)
+    (none_more (is_void_at old c) (held_count old) old.limits.keys c (subst (λ o. AnswersFor o (is_void_at old c) (held_count old) old.limits.keys c (Ok Taken)) none a))
 
 module _ (fs : List Floor) (xs : List ChangeRecord) (lim : LimitsRecord) (kept : AreKept fs xs lim) (c : ChangeRecord) where
   abbrev old : Holding
@@ -114,28 +122,6 @@ module _ (fs : List Floor) (xs : List ChangeRecord) (lim : LimitsRecord) (kept :
   new_answer i n void r p e v a =
       subst (λ o. AnswersFor o (is_void_at old c) (held_count old) lim.keys c r) (sym (change_none xs c.key i p))
       (subst (λ k. UnlessVoid (is_void_at old c) (AnswersNew k lim.keys r) r) (e ∙ sym (count_changes xs kept.keys)) (subst (λ b. UnlessVoid b (AnswersNew n lim.keys r) r) v a))
-
-  -- a change that is to be taken comes to its place, or memory for one more is wanting
-  pub put_answer : (place : Result ℕ ℕ) (r : Result Merge JoinFault) → IsPlace xs c.key place → MergeAnswer old c (Ok Taken) → IsPut place r → MergeAnswer old c r
-  put_answer place (Ok Taken) p a put = a
-  put_answer place (Ok Known) p a put = absurd put
-  put_answer place (Ok Stale) p a put = absurd put
-  put_answer (Ok i) (Err fault) p a put = absurd put
-  put_answer (Err i) (Err NotOwner) p a put = absurd put
-  put_answer (Err i) (Err (Clash v)) p a put = absurd put
-  put_answer (Err i) (Err Full) p a put = absurd put
-  put_answer (Err i) (Err NoRoom) p a put =
-      let none : held_for old c.key ≡ None = change_none xs c.key i p in
-      subst (λ o. AnswersFor o (is_void_at old c) (held_count old) lim.keys c (Err NoRoom)) (sym none)
-      (none_more (is_void_at old c) (held_count old) lim.keys c (subst (λ o. AnswersFor o (is_void_at old c) (held_count old) lim.keys c (Ok Taken)) none a))
-
-  pub put_refused : (place : Result ℕ ℕ) (r : Result Merge JoinFault) → IsPlace xs c.key place → MergeAnswer old c (Ok Taken) → IsPut place r → IfErr r (IsMergeRefused old c)
-  put_refused place (Ok m) p a put = tt
-  put_refused (Ok i) (Err fault) p a put = absurd put
-  put_refused (Err i) (Err NotOwner) p a put = absurd put
-  put_refused (Err i) (Err (Clash v)) p a put = absurd put
-  put_refused (Err i) (Err Full) p a put = absurd put
-  put_refused (Err i) (Err NoRoom) p a put = (a, inl (change_none xs c.key i p))
 
   module _ (valid : IsChange c) (place : Result ℕ ℕ) (p : IsPlace xs c.key place) where
     pub merged_after : (r : Result Merge JoinFault) → holding_of fs (list_after xs (put_at xs place c) r) lim ≡ after_merge old c r

@@ -2,6 +2,7 @@ pub mod EntryLemmas
 pub mod PlaceLemmas
 pub mod SearchLemmas
 pub mod AfterLemmas
+pub mod ReadingLemmas
 pub mod HeldLemmas
 pub mod MergeLemmas
 pub mod RaiseLemmas

@@ -17,7 +17,6 @@ use Rattle.ds_entry.specs.declared.item.Item.TheVariants.{Floor as Floored}
 use Rattle.ds_join.specs.declared.merge.Merge.{Merge}
 use Rattle.ds_join.specs.declared.merge.Merge.TheVariants.{Taken, Known, Stale}
 use Rattle.ds_join.specs.declared.merge.JoinFault.{JoinFault}
-use Rattle.ds_join.specs.declared.merge.JoinFault.TheVariants.{NotOwner, Clash, Full, NoRoom}
 use Rattle.ds_held.specs.Limits.{LimitsRecord}
 use Rattle.ds_held.specs.Held.{Holding, held_changes, held_for, IsSound}
 use Rattle.ds_held.specs.Raise.{AnswersFloor}
@@ -94,17 +93,6 @@ module _ {X : Type 0} where
   abbrev pub put_at : List X → Result ℕ ℕ → X → List X
   put_at xs (Ok i) x = slice_set xs i x
   put_at xs (Err i) x = insert xs i x
-
--- a change that is to be taken came to its place: it was, or memory for one more was wanting
-abbrev pub IsPut : Result ℕ ℕ → Result Merge JoinFault → Type 0
-IsPut place (Ok Taken) = Unit {0}
-IsPut place (Ok Known) = ⊥
-IsPut place (Ok Stale) = ⊥
-IsPut (Ok i) (Err fault) = ⊥
-IsPut (Err i) (Err NotOwner) = ⊥
-IsPut (Err i) (Err (Clash v)) = ⊥
-IsPut (Err i) (Err Full) = ⊥
-IsPut (Err i) (Err NoRoom) = Unit {0}
 
 -- the list after an answer: another one where something was taken
 module _ {X : Type 0} where

@@ -53,28 +53,20 @@ pub(crate) fn is_void(floors: &[Floor], change: &Change) -> bool
     }
 }
 
-// What a floor is answered where another one of its owner is held.
-fn judge(held: Generation, floor: &Floor) -> Merge
-    ensures { AnswersHigher held floor.now.generation (Ok result) }
-{
-    match held.cmp(&floor.generation) {
-        Ordering::Less => Merge::Taken,
-        Ordering::Equal => Merge::Known,
-        Ordering::Greater => Merge::Stale,
-    }
-}
-
 // Raises the floor at an index. It takes no memory.
 fn replace(floors: &mut Vec<Floor>, i: usize, floor: Floor) -> Merge
     requires { i < vec_len floors.old }
     ensures answer { AnswersHigher (slice_index_or floors.old.items i floor).generation floor.generation (Ok result) }
     ensures floors { floors.new.items ≡ list_after floors.old.items (slice_set floors.old.items i floor) (Ok result) }
 {
-    let answer = judge(floors[i].generation, &floor);
-    if answer == Merge::Taken {
-        floors[i] = floor;
+    match floors[i].generation.cmp(&floor.generation) {
+        Ordering::Less => {
+            floors[i] = floor;
+            Merge::Taken
+        }
+        Ordering::Equal => Merge::Known,
+        Ordering::Greater => Merge::Stale,
     }
-    answer
 }
 
 // Adds the floor of another owner, which belongs at an index.

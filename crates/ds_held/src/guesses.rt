@@ -1,7 +1,6 @@
 //! Guesses where the changes of keys stand.
 
 use ds_entry::Change;
-use ds_join::{JoinFault, Merge};
 use ds_names::{Key, Kind};
 use std::alloc::{AllocError, Global};
 use std::hash::{FoldHasher, Hasher};
@@ -55,17 +54,19 @@ impl Guesses {
     }
 
     // The change of the key stands at the place.
-    fn note(&mut self, key: &Key, place: usize) {
+    fn note(&mut self, key: &Key, place: u16) {
         let slot = self.slot(key);
-        if let (Some(guess), Ok(place)) = (self.places.get_mut(slot), u16::try_from(place)) {
+        if let Some(guess) = self.places.get_mut(slot) {
             *guess = place;
         }
     }
 
     // Looks where all changes stand.
     fn look(&mut self, changes: &[Change]) {
-        for (place, change) in changes.iter().enumerate() {
+        let mut place = 0u16;
+        for change in changes {
             self.note(change.key(), place);
+            place = place.wrapping_add(1);
         }
     }
 
@@ -77,10 +78,7 @@ impl Guesses {
     }
 
     // Those at the place and behind it moved along by one. Without a branch, so that a compiler can take several at a time.
-    fn move_along(&mut self, place: usize) {
-        let Ok(place) = u16::try_from(place) else {
-            return;
-        };
+    fn move_along(&mut self, place: u16) {
         for guess in self.places.iter_mut() {
             *guess = guess.wrapping_add(u16::from(*guess >= place));
         }
@@ -90,10 +88,8 @@ impl Guesses {
     fn insert(&mut self, changes: &[Change], place: usize) {
         if changes.len() > self.places.len() / 4 && self.grow().is_ok() {
             self.look(changes);
-            return;
-        }
-        self.move_along(place);
-        if let Some(change) = changes.get(place) {
+        } else if let (Some(change), Ok(place)) = (changes.get(place), u16::try_from(place)) {
+            self.move_along(place);
             self.note(change.key(), place);
         }
     }
@@ -109,16 +105,6 @@ impl Guesses {
         if let (Err(place), true) = (place, is_put) {
             self.insert(changes, place);
         }
-    }
-
-    /// A change with this place was merged.
-    pub(crate) fn note_merged(
-        &mut self,
-        changes: &[Change],
-        place: Result<usize, usize>,
-        answer: &Result<Merge, JoinFault>,
-    ) {
-        self.note_put(changes, place, matches!(answer, Ok(Merge::Taken)));
     }
 
     /// These are left of so many changes.

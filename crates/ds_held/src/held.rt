@@ -17,14 +17,13 @@ ghost use Rattle.ds_held.specs.Merge.{after_merge, IsMergeRefused, MergeAnswer};
 ghost use Rattle.ds_held.specs.Raise.{after_raise, RaiseAnswer};
 ghost use Rattle.ds_entry.specs.Left.{value_of};
 
-use crate::floors::{floor_at, is_void, nth_floor};
+use crate::floors::{floor_at, is_void, nth_floor, raise};
 use crate::guesses::Guesses;
 use crate::join::join_into;
 use crate::limits::Limits;
-use crate::list::{merge_at, merge_copy_at};
-use crate::order::{behind, change_at, first_of, nth, place_of};
+use crate::order::{behind, change_at, first_of};
 use crate::reading::{copy_all, item_at};
-use crate::void::raise_into;
+use crate::void::drop_void;
 use ds_entry::{Body, Change, Floor, ItemRef, Items, Value};
 use ds_join::{JoinFault, Merge, Stop};
 use ds_names::{Generation, Key, Name, NoRoom};
@@ -32,6 +31,7 @@ use std::alloc::Global;
 use std::marker::Model;
 
 mod beside;
+mod merging;
 
 /// For each owner the greatest floor that came, and for each key the change with the greatest version of those that no
 /// floor makes void, tombstones too; at most 64 floors, and as many keys as its limits say.
@@ -163,7 +163,7 @@ impl Held {
         ensures value { option_copied result ≡ slice_get (held_changes self.now) index }
         ensures change { IfSome (option_copied result) IsChange }
     {
-        nth(&self.changes, index)
+        self.changes.get(index)
     }
 
     /// The change of the least key, of those after another one where one is given.
@@ -212,10 +212,11 @@ impl Held {
         ensures sound { IsSound self.new }
         ensures change { IsChange change }
     {
-        let place = place_of(&self.changes, self.guesses.of(change.key()), change.key());
-        let answer = merge_at(&self.floors, &mut self.changes, self.limits, place, change);
-        self.guesses.note_merged(&self.changes, place, &answer);
-        answer
+        let place = self.place(change.key());
+        match self.outlook(place, &change) {
+            Ok(Merge::Taken) => self.take(place, change),
+            answer => answer,
+        }
     }
 
     /// Merges a change that someone else keeps, as `merge` does. It is copied only where it will be taken, so that a
@@ -227,17 +228,14 @@ impl Held {
         ensures joined { OnOk result (IsTop (held_items self.new) (held_items self.old ++ Changed change.now ∷ [])) }
         ensures sound { IsSound self.new }
     {
-        let place = place_of(&self.changes, self.guesses.of(change.key()), change.key());
-        let answer = merge_copy_at(
-            alloc,
-            &self.floors,
-            &mut self.changes,
-            self.limits,
-            place,
-            change,
-        );
-        self.guesses.note_merged(&self.changes, place, &answer);
-        answer
+        let place = self.place(change.key());
+        match self.outlook(place, change) {
+            Ok(Merge::Taken) => match change.copy(alloc) {
+                Ok(copy) => self.take(place, copy),
+                Err(NoRoom) => Err(JoinFault::NoRoom),
+            },
+            answer => answer,
+        }
     }
 
     /// Raises the floor of an owner, and drops what it makes void, tombstones too. What isn't refused leaves the join of
@@ -251,10 +249,15 @@ impl Held {
         ensures joined { OnOk result (IsTop (held_items self.new) (held_items self.old ++ Floored floor ∷ [])) }
         ensures sound { IsSound self.new }
     {
-        let count = self.changes.len();
-        let answer = raise_into(&mut self.floors, &mut self.changes, self.limits, floor);
-        self.guesses.note_dropped(&self.changes, count);
-        answer
+        match raise(&mut self.floors, floor) {
+            Ok(Merge::Taken) => {
+                let count = self.changes.len();
+                drop_void(&mut self.changes, &floor);
+                self.guesses.note_dropped(&self.changes, count);
+                Ok(Merge::Taken)
+            }
+            answer => answer,
+        }
     }
 
     /// Joins with all that another one holds: raises its floors, by the names of their owners, and then merges its changes,

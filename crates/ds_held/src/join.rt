@@ -1,6 +1,6 @@
 //! Joining with all that another holder has.
 
-ghost use Rattle.std.specs.Prelude.{◌≡◌, ◌≤◌, ◌<◌, ◌++◌, List, map, length, IfErr, OnOk};
+ghost use Rattle.std.specs.Prelude.{◌≡◌, ◌≤◌, ◌++◌, map, length, IfErr, OnOk};
 ghost use Rattle.ds_held.specs.Held.{change_item, IsSound};
 ghost use Rattle.ds_held.specs.Join.{AreMerged, IsJoinStopped, JoinStopsBehind};
 ghost use Rattle.ds_held.specs.Kept.{floored};
@@ -25,13 +25,14 @@ fn raise_all(held: &mut Held, other: &[Floor]) -> Result<(), Stop>
     Ok(())
 }
 
-// Merges the changes of another holder, in their order.
-fn merge_all(alloc: Global, held: &mut Held, other: &[Change]) -> Result<(), Stop>
+// Merges the changes of another holder, which stand behind so many of its floors, in their order.
+fn merge_all(alloc: Global, held: &mut Held, before: usize, other: &[Change]) -> Result<(), Stop>
+    requires few_before { before ≤ 64 }
+    requires few { length other.now ≤ 4096 }
     ensures merged { OnOk result (AreMerged held.old (map change_item other.now) held.new) }
-    ensures stopped { IfErr result (IsJoinStopped held.old (map change_item other.now) held.new) }
-    ensures within { IfErr result (λ stop. stop.done < length other.now) }
+    ensures stopped { IfErr result (JoinStopsBehind before held.old (map change_item other.now) held.new) }
 {
-    let mut done = 0;
+    let mut done = before;
     for change in other {
         match held.merge_copy(alloc, change) {
             Ok(_) => done += 1,
@@ -39,22 +40,6 @@ fn merge_all(alloc: Global, held: &mut Held, other: &[Change]) -> Result<(), Sto
         }
     }
     Ok(())
-}
-
-// Merges the changes of another holder, which stand behind so many of its floors.
-fn merge_behind(alloc: Global, held: &mut Held, before: usize, other: &[Change]) -> Result<(), Stop>
-    requires few_before { before ≤ 64 }
-    requires few { length other.now ≤ 4096 }
-    ensures merged { OnOk result (AreMerged held.old (map change_item other.now) held.new) }
-    ensures stopped { IfErr result (JoinStopsBehind before held.old (map change_item other.now) held.new) }
-{
-    match merge_all(alloc, held, other) {
-        Ok(()) => Ok(()),
-        Err(Stop { done, fault }) => Err(Stop {
-            done: before + done,
-            fault,
-        }),
-    }
 }
 
 // Raises the floors of another holder, and then merges its changes.
@@ -70,7 +55,7 @@ pub(crate) fn join_into(
     ensures stopped { IfErr result (IsJoinStopped held.old (map floored floors.now ++ map change_item changes.now) held.new) }
 {
     match raise_all(held, floors) {
-        Ok(()) => merge_behind(alloc, held, floors.len(), changes),
+        Ok(()) => merge_all(alloc, held, floors.len(), changes),
         Err(stop) => Err(stop),
     }
 }

@@ -1,6 +1,6 @@
 //! A list of changes in the order of their keys.
 
-ghost use Rattle.std.specs.Prelude.{◌≡◌, Ok, true, filter, IfSome, slice_get};
+ghost use Rattle.std.specs.Prelude.{◌≡◌, Ok, true, filter, All, IfSome};
 ghost use Rattle.std.specs.FinMap.{get};
 ghost use Rattle.std.specs.Option.{option_copied};
 ghost use Rattle.std.specs.List.{find};
@@ -34,24 +34,15 @@ pub(crate) fn place_of(changes: &[Change], guess: usize, key: &Key) -> Result<us
     changes.binary_search_by(|change| change.key().compare(key))
 }
 
-// The change at an index.
-pub(crate) fn nth(changes: &[Change], index: usize) -> Option<&Change>
-    ensures value { option_copied result ≡ slice_get changes.now index }
-    ensures change { IfSome (option_copied result) IsChange }
-{
-    let change = changes.get(index)?;
-    let _key = change.key();
-    Some(change)
-}
-
 // The change of a key.
 pub(crate) fn change_at<'a>(changes: &'a [Change], guess: usize, key: &Key) -> Option<&'a Change>
-    requires { AreKeysRising changes.now }
+    requires rising { AreKeysRising changes.now }
+    requires valid { All IsChange changes.now }
     ensures value { option_copied result ≡ get (changes_map changes.now) key.now }
     ensures change { IfSome (option_copied result) IsChange }
 {
     match place_of(changes, guess, key) {
-        Ok(i) => nth(changes, i),
+        Ok(i) => changes.get(i),
         Err(_) => None,
     }
 }
@@ -77,9 +68,10 @@ pub(crate) fn behind<'a>(changes: &'a [Change], after: Option<&Key>) -> &'a [Cha
 
 // The change of the least key, of those after another one where one is given.
 pub(crate) fn first_of<'a>(changes: &'a [Change], after: Option<&Key>) -> Option<&'a Change>
-    requires { AreKeysRising changes.now }
+    requires rising { AreKeysRising changes.now }
+    requires valid { All IsChange changes.now }
     ensures value { option_copied result ≡ find (comes_after (option_copied after.entry)) changes.now }
     ensures change { IfSome (option_copied result) IsChange }
 {
-    nth(behind(changes, after), 0)
+    behind(changes, after).first()
 }

@@ -40,7 +40,10 @@ fn add_changes(alloc: Global, items: &mut Items, changes: &[Change]) -> Result<(
     ensures { OnOk result (items.new ≡ items.old ++ map change_item changes.now) }
 {
     for change in changes {
-        items.push(Item::Change(change.copy(alloc)?))?;
+        let Ok(copy) = change.copy(alloc) else {
+            return Err(NoRoom);
+        };
+        items.push(Item::Change(copy))?;
     }
     Ok(())
 }

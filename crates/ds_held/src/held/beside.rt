@@ -13,7 +13,7 @@ use super::Held;
 use crate::floors;
 use crate::list::put;
 use crate::order::place_of;
-use crate::void::raise_at;
+use crate::void::drop_beside;
 use ds_entry::{Change, Floor};
 use ds_names::{Key, Name, NoRoom};
 
@@ -78,9 +78,14 @@ impl Held {
         ensures new { OnErr result (floor_for self.old floor.owner ≡ None) }
         ensures sound { IsSound self.new }
     {
-        let before = self.changes.len();
-        let answer = raise_at(&mut self.floors, &mut self.changes, marks, place, floor);
-        self.guesses.note_dropped(&self.changes, before);
-        answer
+        match put(&mut self.floors, place, floor) {
+            Ok(()) => {
+                let before = self.changes.len();
+                let count = drop_beside(&mut self.changes, marks, &floor);
+                self.guesses.note_dropped(&self.changes, before);
+                Ok(count)
+            }
+            Err(NoRoom) => Err(NoRoom),
+        }
     }
 }

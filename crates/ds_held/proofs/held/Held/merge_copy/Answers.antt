@@ -1,18 +1,20 @@
-use Rattle.std.proofs.Common.{◌++◌, ◌∷◌, [], sym, subst}
-use Rattle.std.specs.Result.{OnOk}
-use Rattle.ds_entry.specs.declared.item.Item.TheVariants.{Change as Changed}
-use Rattle.ds_join.specs.ItemTop.{IsTop}
-use Rattle.ds_held.specs.Held.{Holding, held_items, IsSound}
-use Rattle.ds_held.specs.Kept.{holding_of}
-use Rattle.ds_held.proofs.KeptLemmas.{merged_joins_if_ok}
+use Rattle.std.proofs.Common.{◌≡◌, Ok, rules, subst}
+use Rattle.ds_entry.specs.Change.{ChangeRecord}
+use Rattle.ds_held.specs.Merge.{MergeAnswer, after_merge}
+use Rattle.ds_held.proofs.KeptLemmas.{merged_joins}
 use Rattle.ds_held.proofs.held.Held.merge_copy.Goals as goal
 
-pub returns-clause-joined : goal.returns-clause-joined
-returns-clause-joined c =
-    let xs = c.self.inside.changes.items in
-    let ys = c.merge_copy_at-answer.new.changes.items in
-    let lim = c.self.inside.limits in
-    let sound = subst (λ fs. IsSound (holding_of fs c.self.inside.changes.items c.self.inside.limits)) (sym c.deref-2.ensures.value) c.self.invariant.sound in
-    subst (λ (h : Holding). OnOk c.merge_copy_at-answer.result (IsTop (held_items (holding_of c.self.inside.floors.items ys lim)) (held_items h ++ Changed c.args.change.now ∷ []))) c.self.view_is
-    (subst (λ fs. OnOk c.merge_copy_at-answer.result (IsTop (held_items (holding_of fs ys lim)) (held_items (holding_of fs xs lim) ++ Changed c.args.change.now ∷ []))) c.deref-2.ensures.value
-    (merged_joins_if_ok (holding_of c.deref-2.result.now xs lim) (holding_of c.deref-2.result.now ys lim) c.args.change.now c.merge_copy_at-answer.result sound c.merge_copy_at-answer.ensures.answer c.merge_copy_at-answer.ensures.after))
+pub returns-in-Ok-clause-joined : goal.returns-in-Ok-clause-joined
+returns-in-Ok-clause-joined c =
+    merged_joins c.args.self.now c.take.new.self c.args.change.now c.take.result c.in-Ok-Taken.ensures.sound
+    (subst (λ (x : ChangeRecord). MergeAnswer c.args.self.now x c.take.result) c.in-Ok.ensures.same c.take.ensures.answer)
+    (subst (λ (x : ChangeRecord). c.take.new.self ≡ after_merge c.args.self.now x c.take.result) c.in-Ok.ensures.same c.take.ensures.after)
+
+pub returns-in_default : goal.returns-in_default
+returns-in_default c = record {
+  answer = c.in_default.ensures.answer;
+  refused = tt;
+  after = search rules;
+  joined = merged_joins c.args.self.now c.args.self.now c.args.change.now (Ok _) c.in_default.ensures.sound c.in_default.ensures.answer (search rules);
+  sound = c.in_default.ensures.sound;
+}
