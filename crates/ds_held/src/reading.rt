@@ -21,8 +21,10 @@ pub(crate) fn item_at<'a>(
     if index < floors.len() {
         return Some(ItemRef::Floor(&floors[index]));
     }
-    let change = changes.get(index - floors.len())?;
-    Some(ItemRef::Change(change))
+    match changes.get(index - floors.len()) {
+        Some(change) => Some(ItemRef::Change(change)),
+        None => None,
+    }
 }
 
 // Adds the floors to a list of items.
