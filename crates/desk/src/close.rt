@@ -1,6 +1,6 @@
 //! How a desk is closed.
 
-ghost use Rattle.std.specs.Prelude.{◌≡◌, ◌≤◌, ◌+◌, ℕ, length, IfSome, IfNone, IfOk, IfErr, OnOk};
+ghost use Rattle.std.specs.Prelude.{◌≡◌, ◌≤◌, ◌+◌, ℕ, [], length, vec_capacity, IfOk, IfErr, OnOk};
 ghost use Rattle.std.specs.List.{AllByRecursion};
 ghost use mathlib.Core.List.{IsPrefix};
 ghost use Rattle.desk_rule.specs.History.{total_of};
@@ -11,7 +11,7 @@ ghost use Rattle.desk.specs.Closing.{AllAgree, AllLearnt, HasAllNoticed, HasAllS
 ghost use Rattle.desk.specs.Closing.{LeavesHistory, Wraps, gathered};
 ghost use Rattle.desk.specs.Pass.{desk_of, notes_learnt, notes_made};
 
-use crate::account::{Account, add_rows, fill_rows, sums_of};
+use crate::account::{Account, Row, add_rows, fill_rows, sums_of};
 use crate::desk::{Desk, DeskOf};
 use crate::fault::DeskFault;
 use crate::pass::{Pass, PassOf};
@@ -54,19 +54,27 @@ fn count_notes<M: Machine>(passes: &Vec<Pass<M>>) -> (u128, u128)
     (made, learnt)
 }
 
-// Why the desk of so many passes stays open, if these are the passes that are back.
-fn stays_open<M: Machine>(made: u32, passes: &Vec<Pass<M>>) -> Option<DeskFault>
-    ensures stays { IfSome result (λ fault. IsCloseFault fault made passes.now.items) }
-    ensures closes { IfNone result ((made ≤ length passes.now.items) × AllLearnt passes.now.items) }
+// Room for the rows of the account, where these passes close a desk of so many, or why it stays open.
+fn room_to_close<M: Machine>(
+    alloc: Global,
+    made: u32,
+    passes: &Vec<Pass<M>>,
+) -> Result<Vec<Row>, DeskFault>
+    ensures room { IfOk result (λ rows. (rows.items ≡ []) × (128 ≤ vec_capacity rows)) }
+    ensures closes { OnOk result ((made ≤ length passes.now.items) × AllLearnt passes.now.items) }
+    ensures stays { IfErr result (λ fault. IsCloseFault fault made passes.now.items) }
 {
     if passes.len() < made as usize {
-        return Some(DeskFault::PassesOut);
+        return Err(DeskFault::PassesOut);
     }
     let (made, learnt) = count_notes(passes);
     if made != learnt {
-        return Some(DeskFault::Noted);
+        return Err(DeskFault::Noted);
     }
-    None
+    match Vec::with_capacity(alloc, 128) {
+        Ok(rows) => Ok(rows),
+        Err(_) => Err(DeskFault::NoRoom),
+    }
 }
 
 // One seat takes the passes of all others in, sees all that these have seen, and their rows are added up.
@@ -119,19 +127,15 @@ impl<M: Machine> Desk<M> {
         ensures refused { IfErr result (λ stop. IsCloseFault stop.fault (pass_count self) passes) }
         ensures back { IfErr result (λ stop. (stop.desk ≡ self) × (stop.passes ≡ passes)) }
     {
-        if let Some(fault) = stays_open(self.made, &passes.passes) {
-            return Err(CloseStop {
-                fault,
-                desk: self,
-                passes,
-            });
-        }
-        let Ok(mut rows) = Vec::with_capacity(alloc, 128) else {
-            return Err(CloseStop {
-                fault: DeskFault::NoRoom,
-                desk: self,
-                passes,
-            });
+        let mut rows = match room_to_close(alloc, self.made, &passes.passes) {
+            Ok(rows) => rows,
+            Err(fault) => {
+                return Err(CloseStop {
+                    fault,
+                    desk: self,
+                    passes,
+                });
+            }
         };
         let PassesOf { passes: mut others } = passes;
         let last = others.pop().unwrap();

@@ -66,6 +66,28 @@ fn deal<M: Machine>(
     passes.push_reserved(new_pass(seat));
 }
 
+// Room for as many passes, where a desk is opened for them from that place on, or why it isn't.
+fn room_for<M: Machine>(
+    alloc: Global,
+    passes: u32,
+    first: u64,
+) -> Result<Vec<Pass<M>>, DeskFault>
+    ensures room { IfOk result (λ dealt. (dealt.items ≡ []) × (passes ≤ vec_capacity dealt)) }
+    ensures accepted { OnOk result ((0 < passes) × (passes ≤ 64) × (first ≤ 2 ^ 62)) }
+    ensures refused { IfErr result (λ fault. IsDeskFault fault passes first) }
+{
+    if passes == 0 || passes > 64 {
+        return Err(DeskFault::BadCount);
+    }
+    if first > 1 << 62 {
+        return Err(DeskFault::BadFirst);
+    }
+    match Vec::with_capacity(alloc, passes as usize) {
+        Ok(dealt) => Ok(dealt),
+        Err(_) => Err(DeskFault::NoRoom),
+    }
+}
+
 impl<M: Machine> Desk<M> {
     /// A desk over the machine, whose first call gets the place `first`, and 1 to 64 passes to call it with, whose numbers
     /// differ. Refused: BadCount, BadFirst above 2^62, NoRoom.
@@ -82,23 +104,9 @@ impl<M: Machine> Desk<M> {
         ensures refused { IfErr result (λ stop. IsDeskFault stop.fault passes first) }
         ensures back { IfErr result (λ stop. stop.machine ≡ machine) }
     {
-        if passes == 0 || passes > 64 {
-            return Err(OpenStop {
-                fault: DeskFault::BadCount,
-                machine,
-            });
-        }
-        if first > 1 << 62 {
-            return Err(OpenStop {
-                fault: DeskFault::BadFirst,
-                machine,
-            });
-        }
-        let Ok(mut dealt) = Vec::with_capacity(alloc, passes as usize) else {
-            return Err(OpenStop {
-                fault: DeskFault::NoRoom,
-                machine,
-            });
+        let mut dealt = match room_for(alloc, passes, first) {
+            Ok(dealt) => dealt,
+            Err(fault) => return Err(OpenStop { fault, machine }),
         };
         let opened = Snapshot::of(&machine);
         match new_table(alloc, machine, passes, first) {

@@ -1,8 +1,11 @@
 use Rattle.std.proofs.Common.{◌∙◌, ◌+◌, sym, ap, arith}
 use Rattle.std.specs.List.{swap}
-use Rattle.ds_held.proofs.DropLemmas.{dropped_so, dropped_void, dropped_kept, dropped_changes}
+use Rattle.ds_held.proofs.DropLemmas.{dropped_at_first, dropped_so, dropped_void, dropped_kept, dropped_changes, dropped_marks, dropped_count}
 use Rattle.ds_held.proofs.void.drop_beside.Goals as goal
 use Rattle.ds_held.proofs.void.drop_beside.Goals.{then-voids, else-voids}
+
+pub loop-i-init : goal.loop-i-init
+loop-i-init g c = dropped_at_first c.args.floor.now c.args.changes.now.items c.args.marks.now.items c.requires
 
 pub loop-i-preserved : goal.loop-i-preserved
 loop-i-preserved g c =
@@ -27,3 +30,11 @@ pub returns-clause-changes : goal.returns-clause-changes
 returns-clause-changes g c =
     c.truncate.ensures.items
     ∙ dropped_changes c.args.floor.now c.args.changes.now.items c.args.marks.now.items c.requires c.loop-i.changes.items c.loop-i.marks.items c.loop-i.left c.loop-i.i c.loop-i.count c.loop-i.invariant (omega (arith, c.loop-i-test.false, c.len-i-end.ensures))
+
+pub returns-clause-marks : goal.returns-clause-marks
+returns-clause-marks g c =
+    c.truncate-2.ensures.items
+    ∙ dropped_marks c.args.floor.now c.args.changes.now.items c.args.marks.now.items c.requires c.loop-i.changes.items c.loop-i.marks.items c.loop-i.left c.loop-i.i c.loop-i.count c.loop-i.invariant (omega (arith, c.loop-i-test.false, c.len-i-end.ensures))
+
+pub returns-clause-count : goal.returns-clause-count
+returns-clause-count g c = dropped_count c.args.floor.now c.args.changes.now.items c.args.marks.now.items c.requires c.loop-i.changes.items c.loop-i.marks.items c.loop-i.left c.loop-i.i c.loop-i.count c.loop-i.invariant (omega (arith, c.loop-i-test.false, c.len-i-end.ensures))

@@ -19,7 +19,7 @@ close_table-machine-requires-clause-all g c =
     let items = sym c.passes.view_is ∙ (c.pop.ensures.items ∙ ap (λ o. c.pop.new.self.items ++ option_to_list o) c.unwrap-last.ensures) in
     let is = all_gathered c.args.passes c.pop.new.self.items c.unwrap-last.result _ items c.gather.ensures.passes in
     let made : c.args.self.table.shared.key.passes ≡ c.args.self.made = c.args.self.counted in
-    let enough = c.in_default.ensures.closes.0 in
+    let enough = c.in-Ok.ensures.closes.0 in
     let same : length c.args.passes ≡ length c.passes.inside.passes.items = ap length (sym c.passes.view_is) in
     let size : length c.gather.new.seat.me.0.passes ≡ length c.args.passes = ap length is ∙ (length_gathered (λ v e. e) [] c.args.passes ∙ omega arith) in omega arith
 
