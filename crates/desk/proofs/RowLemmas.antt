@@ -1,5 +1,5 @@
 -- Rows that are added up, and the rows of the account.
-use Rattle.std.proofs.Common.{◌≡◌, ℕ, zero, suc, ◌+◌, ◌*◌, ◌/◌, ◌%◌, ◌^◌, ◌≤◌, ◌<◌, ◌==◌, Bool, List, [], ◌∷◌, ◌++◌, length, set, get_or, take, refl, ap, sym, ◌∙◌, subst, arith, get_or-set_same, get_or-set_other, length-set, length-append, replicate, bit_and}
+use Rattle.std.proofs.Common.{◌≡◌, ℕ, zero, suc, ◌+◌, ◌*◌, ◌/◌, ◌%◌, ◌^◌, ◌≤◌, ◌<◌, ◌==◌, Bool, List, [], ◌∷◌, ◌++◌, length, set, get_or, take, refl, ap, sym, ◌∙◌, subst, arith, get_or-set_same, get_or-set_other, length-set, length-append, bit_and}
 use Rattle.std.specs.Prelude.{if◌then◌else◌, slice_index}
 use Rattle.std.specs.Int.{bit_at}
 use Rattle.std.proofs.lemmas.Nat.Bits.{bit_at-lt, shr_and_one}
@@ -12,7 +12,6 @@ use Rattle.desk_rule.proofs.ListLemmas.{at_pushed}
 use Rattle.desk.specs.declared.account.Row.{Row}
 use Rattle.desk.specs.Closing.{IsRow, pending_bit, Sums, Wraps}
 use Rattle.desk.specs.Tally.{row_at, Tallies}
-use Rattle.desk.proofs.TallyLemmas.{no_rows}
 
 -- the first n rows were added
 pub record AddedBelow (old rows : List ℕ) (n : ℕ) (new : List ℕ) : Type 0 where
@@ -43,11 +42,11 @@ wraps_more rows more rows' f g h w t sums is s b hs hb =
     let r : row_at rows' s b ≡ (row_at rows s b + row_at more s b) % 2 ^ 64 = sums (8 * s + b) (omega arith) in
     r ∙ ((λ i. (p i + q i) % 2 ^ 64) ∙ (omega arith ∙ ap (λ n. n % 2 ^ 64) (sym e)))
 
-pub wraps_first : (more rows : List ℕ) (g : ℕ → ℕ → ℕ) → Tallies more g → (let z : ℕ = 0 in Sums (replicate 128 z) more rows) → Wraps rows g
-wraps_first more rows g t sums s b hs hb =
-    let q : row_at more s b ≡ g s b = t s b hs hb in let z = no_rows (8 * s + b) in
-    let y : ℕ = g s b in
-    sums (8 * s + b) (omega arith) ∙ ((λ i. (z i + q i) % 2 ^ 64) ∙ (let e : 0 + y ≡ y = omega arith in ap (λ n. n % 2 ^ 64) e))
+-- rows that count what f says count it modulo 2^64 too
+pub wraps_first : (rows : List ℕ) (f : ℕ → ℕ → ℕ) → Tallies rows f → ((k : ℕ) → slice_index rows k < 2 ^ 64) → Wraps rows f
+wraps_first rows f t low s b hs hb =
+    let x : ℕ = row_at rows s b in let y : ℕ = f s b in
+    let is : x ≡ y = t s b hs hb in let fits : x < 2 ^ 64 = low (8 * s + b) in omega arith
 
 flag : (n : ℕ) → n < 2 → (if n == 1 then 1 else 0) ≡ n
 flag zero h = refl

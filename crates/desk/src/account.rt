@@ -1,6 +1,6 @@
 //! The account of notices that a closed desk leaves.
 
-ghost use Rattle.std.specs.Prelude.{◌≡◌, ◌≤◌, ◌<◌, ℕ, [], length, replicate, slice_get, vec_capacity};
+ghost use Rattle.std.specs.Prelude.{◌≡◌, ◌≤◌, ◌<◌, ℕ, [], length, slice_get, vec_capacity};
 ghost use Rattle.std.specs.Option.{option_copied};
 ghost use Rattle.desk.specs.Closing.{IsRow, Sums};
 
@@ -55,15 +55,6 @@ pub(crate) fn add_rows(sums: &mut [u64; 128], rows: &[u64; 128])
     for i in 0..128usize {
         sums[i] = sums[i].wrapping_add(rows[i]);
     }
-}
-
-/// The sums of these rows alone.
-pub(crate) fn sums_of(rows: &[u64; 128]) -> [u64; 128]
-    ensures { Sums (replicate 128 0) rows.now result }
-{
-    let mut sums = [0u64; 128];
-    add_rows(&mut sums, rows);
-    sums
 }
 
 /// A row for each bit of each pending word.

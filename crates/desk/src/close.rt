@@ -10,8 +10,9 @@ ghost use Rattle.desk.specs.Desk.{first_call, identity, opened_with, pass_count}
 ghost use Rattle.desk.specs.Closing.{AllAgree, AllLearnt, HasAllNoticed, HasAllSeen, IsAccount, IsCloseFault};
 ghost use Rattle.desk.specs.Closing.{LeavesHistory, Wraps, gathered};
 ghost use Rattle.desk.specs.Pass.{desk_of, notes_learnt, notes_made};
+ghost use Rattle.desk.specs.Tally.{Tallies};
 
-use crate::account::{Account, Row, add_rows, fill_rows, sums_of};
+use crate::account::{Account, Row, add_rows, fill_rows};
 use crate::desk::{Desk, DeskOf};
 use crate::fault::DeskFault;
 use crate::pass::{Pass, PassOf};
@@ -77,7 +78,7 @@ fn room_to_close<M: Machine>(
     }
 }
 
-// One seat takes the passes of all others in, sees all that these have seen, and their rows are added up.
+// One seat takes the passes of all others in, sees all that these have seen, and their rows are added to its pass's own.
 fn gather<M: Machine>(
     shared: &DeskShared<M>,
     seat: &mut DeskSeat<M>,
@@ -87,7 +88,7 @@ fn gather<M: Machine>(
 )
     requires at { IsAtTable shared.now.table_id seat.old }
     requires others { AllByRecursion (λ p. desk_of p ≡ shared.now.table_id) others.items }
-    requires counted { Wraps raise_sums.old (raised_by seat.old.me.0.passes) × Wraps take_sums.old (taken_by seat.old.me.0.passes) }
+    requires counted { Tallies raise_sums.old (raised_by seat.old.me.0.passes) × Tallies take_sums.old (taken_by seat.old.me.0.passes) }
     ensures same { (seat.new.table_id ≡ seat.old.table_id) × (seat.new.me.0.holding ≡ seat.old.me.0.holding) }
     ensures passes { seat.new.me.0.passes ≡ gathered seat.old.me.0.passes others.items }
     ensures seen { IsPrefix seat.old.me.0.seen seat.new.me.0.seen × HasAllSeen seat.new.me.0.seen others.items }
@@ -143,21 +144,13 @@ impl<M: Machine> Desk<M> {
             mut seat,
             made: _,
             learnt: _,
-            raises,
-            takes,
+            mut raises,
+            mut takes,
         } = last;
-        let mut raise_sums = sums_of(&raises);
-        let mut take_sums = sums_of(&takes);
         let DeskOf { table, made: _ } = self;
-        gather(
-            &table.shared,
-            &mut seat,
-            &mut raise_sums,
-            &mut take_sums,
-            others,
-        );
+        gather(&table.shared, &mut seat, &mut raises, &mut takes, others);
         let (machine, pending) = close_table(table, seat);
-        fill_rows(&pending, &raise_sums, &take_sums, &mut rows);
+        fill_rows(&pending, &raises, &takes, &mut rows);
         Ok(Closed {
             machine,
             account: Account { rows },

@@ -67,11 +67,7 @@ fn deal<M: Machine>(
 }
 
 // Room for as many passes, where a desk is opened for them from that place on, or why it isn't.
-fn room_for<M: Machine>(
-    alloc: Global,
-    passes: u32,
-    first: u64,
-) -> Result<Vec<Pass<M>>, DeskFault>
+fn room_for<M: Machine>(alloc: Global, passes: u32, first: u64) -> Result<Vec<Pass<M>>, DeskFault>
     ensures room { IfOk result (λ dealt. (dealt.items ≡ []) × (passes ≤ vec_capacity dealt)) }
     ensures accepted { OnOk result ((0 < passes) × (passes ≤ 64) × (first ≤ 2 ^ 62)) }
     ensures refused { IfErr result (λ fault. IsDeskFault fault passes first) }

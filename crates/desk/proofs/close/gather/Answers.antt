@@ -4,9 +4,17 @@ use Rattle.desk_rule.specs.Kinds.{after_pass, Looks}
 use Rattle.desk_rule.proofs.ListLemmas.{nil_of, prefix_refl}
 use Rattle.desk.specs.Pass.{desk_of}
 use Rattle.desk.specs.Closing.{HasAllNoticed, HasAllSeen}
-use Rattle.desk.proofs.CloseLemmas.{all_last, gathers_more}
+use Rattle.desk.proofs.CloseLemmas.{all_last, gathers_more, gathers_none}
+use Rattle.desk.proofs.RowLemmas.{wraps_first}
 use Rattle.desk.proofs.SightLemmas.{rests_facts}
 use Rattle.desk.proofs.close.gather.Goals as goal
+
+pub loop-pass-init : goal.loop-pass-init
+loop-pass-init g c = (
+  gathers_none c.args.seat.now c.args.others.items c.args.raise_sums.now c.args.take_sums.now (wraps_first c.args.raise_sums.now _ c.requires.counted.0 c.fits-raise_sums)
+      (wraps_first c.args.take_sums.now _ c.requires.counted.1 c.fits-take_sums),
+  c.requires.others,
+)
 
 pub join_pass-requires-clause-at : goal.join_pass-requires-clause-at
 join_pass-requires-clause-at g c = (c.loop-pass.invariant.0.same_table ∙ c.requires.at.0, c.requires.at.1, c.requires.at.2)

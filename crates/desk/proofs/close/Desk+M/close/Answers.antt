@@ -2,11 +2,10 @@ use Rattle.std.proofs.Common.{◌≡◌, ◌++◌, [], length, arith, ◌∙◌,
 use Rattle.std.specs.Option.{option_to_list}
 use Rattle.desk.specs.Pass.{desk_of}
 use Rattle.desk.proofs.CloseLemmas.{account_of, all_agree, all_gathered, all_last, all_noticed, all_seen, left_of_passes, length_gathered}
-use Rattle.desk.proofs.RowLemmas.{wraps_first}
 use Rattle.desk.proofs.close.Desk+M.close.Goals as goal
 
 pub gather-requires-clause-counted : goal.gather-requires-clause-counted
-gather-requires-clause-counted g c = let p = c.unwrap-last.result in (wraps_first _ _ _ p.raises_counted c.sums_of-raise_sums.ensures, wraps_first _ _ _ p.takes_counted c.sums_of-take_sums.ensures)
+gather-requires-clause-counted g c = (c.unwrap-last.result.raises_counted, c.unwrap-last.result.takes_counted)
 
 pub close_table-machine-requires-clause-at : goal.close_table-machine-requires-clause-at
 close_table-machine-requires-clause-at g c =
