@@ -1,8 +1,11 @@
 use Rattle.std.proofs.Common.{◌/◌, ◌*◌, ◌^◌, arith, refl, ◌∙◌}
 use Rattle.std.proofs.lemmas.Nat.{and_le_r}
-use Rattle.desk.proofs.PostLemmas.{mask_fits, owes_still, posted_more, posted_skip, posting_moved}
+use Rattle.desk.proofs.PostLemmas.{mask_fits, owes_still, posted_more, posted_skip, posting_moved, posting_none}
 use Rattle.desk.proofs.notice.post_owed.Goals as goal
 use Rattle.desk.proofs.notice.post_owed.Goals.{then-bits-ne0, else-bits-ne0}
+
+pub loop-server-init : goal.loop-server-init
+loop-server-init g c = posting_none c.args.seat.now c.args.owed c.args.raises.now c.requires.room c.requires.counted
 
 pub post-found-requires-clause-owed : goal.post-found-requires-clause-owed
 post-found-requires-clause-owed g c = let l = owes_still _ _ _ _ _ c.requires.last c.loop-server.invariant.posted.posts in let m = and_le_r (c.args.owed / 2 ^ (8 * c.loop-server.server)) 255 in

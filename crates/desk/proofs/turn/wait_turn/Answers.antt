@@ -1,7 +1,10 @@
 use Rattle.std.proofs.Common.{arith, ◌/◌}
-use Rattle.desk.proofs.TurnLemmas.{turn_taken, waits_look, waits_moved, worn}
+use Rattle.desk.proofs.TurnLemmas.{turn_taken, waits_look, waits_moved, waits_refl, worn}
 use Rattle.desk.proofs.turn.wait_turn.Goals as goal
 use Rattle.desk.proofs.turn.wait_turn.Goals.{then-word-eq0+else-found-word, else-word-eq0}
+
+pub loop-init : goal.loop-init
+loop-init g c = (tt, tt, waits_refl c.args.seat.now)
 
 pub returns-then-word-clause-worn : goal.returns-then-word-clause-worn
 returns-then-word-clause-worn g c = let l = c.look-word.ensures in worn _ _ _ _ _ c.requires.rests c.loop.invariant.2 l.looks l.same.0 l.same.1 c.if-word.true
