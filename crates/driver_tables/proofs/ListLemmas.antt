@@ -1,7 +1,6 @@
 -- Lists that a loop goes through, and look-ups in longer ones.
 use Rattle.std.proofs.Common.{◌≡◌, ◌≢◌, ℕ, ◌+◌, ◌<◌, Bool, true, false, cond, List, [], ◌∷◌, ◌++◌, get_or, length, drop, take, map, Option, Some, None, zero, suc, refl, sym, ap, ◌∙◌, subst, arith}
 use Rattle.std.specs.List.{slice_get, filter_map, cons_option, find, retain_mut, last_or}
-use Rattle.std.proofs.lemmas.List.{take_more}
 use Rattle.std.specs.List.Retain.{RetainsInTurn}
 use Rattle.std.specs.Map.{lookup}
 use Rattle.std.specs.Option.{option_to_list}
@@ -124,8 +123,3 @@ either_part (x ∷ xs) ys n = λ q. cc
 pub second_part : {X : Type 0} (xs ys : List X) → ys ≢ [] → xs ++ ys ≢ []
 second_part [] ys n = n
 second_part (x ∷ xs) ys n = λ q. cc
-
--- one element more was copied
-pub copied_more : {X : Type 0} (xs before after : List X) (i : ℕ) (x : X) → i < length xs → before ≡ take i xs → after ≡ before ++ x ∷ [] → x ≡ get_or xs i x → after ≡ take (i + 1) xs
-copied_more {X} xs before after i x within was is at =
-    is ∙ (ap (λ (l : List X). l ++ x ∷ []) was ∙ (ap (λ (z : X). take i xs ++ z ∷ []) at ∙ sym (take_more xs i x within)))

@@ -1,5 +1,5 @@
 -- What private functions read and change of the pending requests.
-use Rattle.std.specs.Prelude.{if◌then◌else◌, ℕ, ◌==◌, Bool, true, false, not, List, Option, Some, None}
+use Rattle.std.specs.Prelude.{if◌then◌else◌, ℕ, ◌==◌, Bool, true, false, not, List, ◌++◌, Option, Some, None}
 use Rattle.std.specs.List.{filter_map, retain_mut}
 use Rattle.std.specs.Option.{option_map, option_map_or}
 use Rattle.std.specs.Map.{lookup}
@@ -9,6 +9,7 @@ use Rattle.driver_tables.specs.declared.moves.Move.TheVariants.{Send, Answer}
 use Rattle.driver_tables.specs.declared.device.Device.{Device}
 use Rattle.driver_tables.specs.declared.request.Pending.{Pending}
 use Rattle.driver_tables.specs.Changed.{settled}
+use Rattle.driver_tables.specs.Devices.{start_move}
 use Rattle.ds_names.specs.Name.{is_same_name}
 
 -- the move ends its request
@@ -34,6 +35,10 @@ settled_in devices label state p = option_map_or (settled_by label state p) (loo
 -- what it makes of all of them, in order
 abbrev pub all_settled_in : List (ℕ × Device) → List ℕ → Option EndpointRecord → List Pending → List Move
 all_settled_in devices label state pending = filter_map (settled_in devices label state) pending
+
+-- the moves of a new state of the label: first the starts, then what becomes of the pending requests
+abbrev pub moves_in : List (ℕ × Device) → List Pending → List ℕ → Option EndpointRecord → List Move
+moves_in devices pending label state = filter_map (start_move label state) devices ++ all_settled_in devices label state pending
 
 -- the request as its move leaves it
 abbrev pub kept_after : Option Move → Pending → Pending

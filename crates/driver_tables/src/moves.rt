@@ -83,9 +83,7 @@ impl Moves {
         ensures room { OnErr result (self.now ≢ []) }
     {
         let mut moves = Vec::new(alloc);
-        for step in &self.moves {
-            moves.push(*step)?;
-        }
+        moves.extend_from_slice(&self.moves)?;
         Ok(Moves { moves })
     }
 

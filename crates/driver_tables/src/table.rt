@@ -1,6 +1,6 @@
 //! What the tables of both servers are made of.
 
-ghost use Rattle.std.specs.Prelude.{◌≡◌, length, slice_get, OnErr};
+ghost use Rattle.std.specs.Prelude.{◌≡◌, ◌≢◌, [], length, slice_get, IfOk, OnErr};
 ghost use Rattle.std.specs.Option.{option_map};
 ghost use Rattle.driver_tables.specs.Label.{newest, is_old_for};
 ghost use Rattle.driver_tables.specs.DriverTable.{DriverTable, empty_table};
@@ -8,6 +8,7 @@ ghost use Rattle.driver_tables.specs.Outcome.{AnswersAs, LeavesAs};
 ghost use Rattle.driver_tables.specs.Room.{LacksOnlyWhere, StateTakesMemory, RequestTakesMemory};
 ghost use Rattle.driver_tables.specs.Assign.{assigning};
 ghost use Rattle.driver_tables.specs.Changed.{changing};
+ghost use Rattle.driver_tables.specs.Requests.{moves_in};
 ghost use Rattle.driver_tables.specs.Submit.{submitting};
 ghost use Rattle.driver_tables.specs.Reply.{replying};
 ghost use Rattle.driver_tables.specs.Stands.{TableStands, is_above_last};
@@ -17,7 +18,7 @@ use crate::fault::TableFault;
 use crate::moves::{Ending, Move, Moves};
 use crate::request::{Pending, add_settled, end, is_ending, sent_of, settle, submitted};
 use crate::state::{is_old, is_same_state};
-use ds_names::{Endpoint, Generation, Name};
+use ds_names::{Endpoint, Generation, Name, NoRoom};
 use indexmap::IndexMap;
 use std::alloc::Global;
 use std::marker::Model;
@@ -67,7 +68,9 @@ impl Table {
             endpoint,
             newest,
         };
-        self.devices.insert(unit, device)?;
+        let Ok(_) = self.devices.insert(unit, device) else {
+            return Err(TableFault::NoRoom);
+        };
         Ok(())
     }
 
@@ -83,13 +86,13 @@ impl Table {
         if is_old(device.newest, &device.endpoint, state) {
             return Err(TableFault::OldEndpoint);
         }
-        let mut moves = Moves::new(self.alloc);
         if is_same_state(&device.endpoint, state) {
             note(&mut self.devices, label, state);
-            return Ok(moves);
+            return Ok(Moves::new(self.alloc));
         }
-        add_starts(&mut moves, &self.devices, label, state)?;
-        add_settled(&mut moves, &self.devices, &self.pending, label, state)?;
+        let Ok(moves) = moves_of(self.alloc, &self.devices, &self.pending, label, state) else {
+            return Err(TableFault::NoRoom);
+        };
         settle(&mut self.pending, &self.devices, label, state);
         note(&mut self.devices, label, state);
         Ok(moves)
@@ -138,7 +141,9 @@ impl Table {
         let step = submitted(device.class, id, &device.endpoint);
         if !is_ending(&step) {
             let sent = device.endpoint;
-            self.pending.push(Pending { id, unit, sent })?;
+            let Ok(()) = self.pending.push(Pending { id, unit, sent }) else {
+                return Err(TableFault::NoRoom);
+            };
         }
         self.last = Some(id);
         Ok(step)
@@ -161,6 +166,23 @@ impl Table {
             ending: Ending::Done,
         })
     }
+}
+
+// The moves that follow from a new state of the label.
+fn moves_of(
+    alloc: Global,
+    devices: &IndexMap<u8, Device>,
+    pending: &Vec<Pending>,
+    label: &Name,
+    state: &Option<Endpoint>,
+) -> Result<Moves, NoRoom>
+    ensures all { IfOk result (λ moves. moves ≡ moves_in devices.now.entries pending.now.items label.now state.now) }
+    ensures room { OnErr result (moves_in devices.now.entries pending.now.items label.now state.now ≢ []) }
+{
+    let mut moves = Moves::new(alloc);
+    add_starts(&mut moves, devices, label, state)?;
+    add_settled(&mut moves, devices, pending, label, state)?;
+    Ok(moves)
 }
 
 // Whether an id is above the last one that was accepted.

@@ -1,13 +1,9 @@
-use Rattle.std.proofs.Common.{◌≡◌, ◌≢◌, ◌++◌, [], List, true, false, Ok, refl, ap, sym, ◌∙◌, subst, rules}
-use Rattle.std.specs.List.{filter_map}
+use Rattle.std.proofs.Common.{◌≡◌, ◌≢◌, [], List, true, false, Ok, refl, ap, sym, ◌∙◌, subst, rules}
 use Rattle.driver_tables.specs.declared.moves.Move.{Move}
 use Rattle.driver_tables.specs.Changed.{changing, all_moves}
 use Rattle.driver_tables.specs.Room.{HasMoves}
-use Rattle.driver_tables.proofs.ListLemmas.{either_part, second_part}
 use Rattle.driver_tables.specs.Stands.{TableRecord, TableStands}
 use Rattle.driver_tables.specs.Value.{table_of}
-use Rattle.driver_tables.specs.Devices.{start_move}
-use Rattle.driver_tables.specs.Requests.{settled_in}
 use Rattle.driver_tables.proofs.StandsLemmas.{first_device}
 use Rattle.driver_tables.proofs.ChangeLemmas.{change_nothing, change_judged, not_old, new_state, moves_are, stands_moved, stands_noted}
 use Rattle.driver_tables.proofs.table.Table.changed.Goals as goal
@@ -34,7 +30,7 @@ pub returns-then-is_same_state-clause-answer : goal.returns-then-is_same_state-c
 returns-then-is_same_state-clause-answer c = λ t s.
     let v = table_of c.self.inside in
     let here : TableStands v t = subst (λ (v : TableRecord). TableStands v t) (sym c.self.view_is) s in
-    ap (λ (l : List Move). Ok l) c.new-moves.ensures
+    ap (λ (l : List Move). Ok l) c.new-then-is_same_state.ensures
     ∙ sym (ap (λ p. p.0) (change_judged v t c.args.label.now c.args.state.now c.in-Some.device false true here (sym c.first_of.ensures ∙ c.in-Some.is) (sym c.is_old.ensures ∙ c.if-is_old.false) (sym c.is_same_state.ensures ∙ c.if-is_same_state.true)))
 
 pub returns-then-is_same_state-clause-after : goal.returns-then-is_same_state-clause-after
@@ -48,40 +44,19 @@ returns-then-is_same_state-clause-after c = λ t s.
     (stands_noted v t c.args.label.now c.args.state.now c.note.new.devices.entries here (first_device v t c.args.label.now c.in-Some.device here first).0 (not_old v t c.args.label.now c.args.state.now c.in-Some.device here first old)
     (new_state v t c.args.label.now c.args.state.now c.in-Some.device true here first same) c.note.ensures)
 
-pub returns-in_err-add_starts-clause-answer : goal.returns-in_err-add_starts-clause-answer
-returns-in_err-add_starts-clause-answer c = λ t s.
+pub returns-in_default-moves_of-clause-answer : goal.returns-in_default-moves_of-clause-answer
+returns-in_default-moves_of-clause-answer c = λ t s.
     let v = table_of c.self.inside in
     let here : TableStands v t = subst (λ (v : TableRecord). TableStands v t) (sym c.self.view_is) s in
     let k : (a : List Move) × ((changing t c.args.label.now c.args.state.now).0 ≡ Ok a) =
     (_, ap (λ p. p.0) (change_judged v t c.args.label.now c.args.state.now c.in-Some.device false false here (sym c.first_of.ensures ∙ c.in-Some.is) (sym c.is_old.ensures ∙ c.if-is_old.false) (sym c.is_same_state.ensures ∙ c.if-is_same_state.false))) in
     search rules
 
-pub returns-in_err-add_settled-clause-answer : goal.returns-in_err-add_settled-clause-answer
-returns-in_err-add_settled-clause-answer c = λ t s.
+pub returns-in_default-moves_of-clause-room : goal.returns-in_default-moves_of-clause-room
+returns-in_default-moves_of-clause-room c = λ t s.
     let v = table_of c.self.inside in
     let here : TableStands v t = subst (λ (v : TableRecord). TableStands v t) (sym c.self.view_is) s in
-    let k : (a : List Move) × ((changing t c.args.label.now c.args.state.now).0 ≡ Ok a) =
-    (_, ap (λ p. p.0) (change_judged v t c.args.label.now c.args.state.now c.in-Some.device false false here (sym c.first_of.ensures ∙ c.in-Some.is) (sym c.is_old.ensures ∙ c.if-is_old.false) (sym c.is_same_state.ensures ∙ c.if-is_same_state.false))) in
-    search rules
-
-pub returns-in_err-add_starts-clause-room : goal.returns-in_err-add_starts-clause-room
-returns-in_err-add_starts-clause-room c = λ t s.
-    let v = table_of c.self.inside in
-    let here : TableStands v t = subst (λ (v : TableRecord). TableStands v t) (sym c.self.view_is) s in
-    let starts = filter_map (start_move c.args.label.now c.args.state.now) v.devices in
-    let rest = filter_map (settled_in v.devices c.args.label.now c.args.state.now) v.pending in
-    let some : all_moves t c.args.label.now c.args.state.now ≢ [] = subst (λ (l : List Move). l ≢ []) (moves_are v t c.args.label.now c.args.state.now here) (either_part starts rest c.in_err-add_starts.ensures.room) in
-    let is_so = ap (λ p. p.0) (change_judged v t c.args.label.now c.args.state.now c.in-Some.device false false here (sym c.first_of.ensures ∙ c.in-Some.is) (sym c.is_old.ensures ∙ c.if-is_old.false) (sym c.is_same_state.ensures ∙ c.if-is_same_state.false)) in
-    let takes : HasMoves (changing t c.args.label.now c.args.state.now).0 = subst HasMoves (sym is_so) some in
-    search rules
-
-pub returns-in_err-add_settled-clause-room : goal.returns-in_err-add_settled-clause-room
-returns-in_err-add_settled-clause-room c = λ t s.
-    let v = table_of c.self.inside in
-    let here : TableStands v t = subst (λ (v : TableRecord). TableStands v t) (sym c.self.view_is) s in
-    let starts = filter_map (start_move c.args.label.now c.args.state.now) v.devices in
-    let rest = filter_map (settled_in v.devices c.args.label.now c.args.state.now) v.pending in
-    let some : all_moves t c.args.label.now c.args.state.now ≢ [] = subst (λ (l : List Move). l ≢ []) (moves_are v t c.args.label.now c.args.state.now here) (second_part starts rest c.in_err-add_settled.ensures.room) in
+    let some : all_moves t c.args.label.now c.args.state.now ≢ [] = subst (λ (l : List Move). l ≢ []) (moves_are v t c.args.label.now c.args.state.now here) c.in_default-moves_of.ensures.room in
     let is_so = ap (λ p. p.0) (change_judged v t c.args.label.now c.args.state.now c.in-Some.device false false here (sym c.first_of.ensures ∙ c.in-Some.is) (sym c.is_old.ensures ∙ c.if-is_old.false) (sym c.is_same_state.ensures ∙ c.if-is_same_state.false)) in
     let takes : HasMoves (changing t c.args.label.now c.args.state.now).0 = subst HasMoves (sym is_so) some in
     search rules
@@ -90,9 +65,7 @@ pub returns-clause-answer : goal.returns-clause-answer
 returns-clause-answer c = λ t s.
     let v = table_of c.self.inside in
     let here : TableStands v t = subst (λ (v : TableRecord). TableStands v t) (sym c.self.view_is) s in
-    let starts = filter_map (start_move c.args.label.now c.args.state.now) v.devices in
-    let rest = filter_map (settled_in v.devices c.args.label.now c.args.state.now) v.pending in
-    let moves = c.in_ok-add_settled.ensures.added ∙ (ap (λ (l : List Move). l ++ rest) (c.in_ok-add_starts.ensures.added ∙ ap (λ (l : List Move). l ++ starts) c.new-moves.ensures) ∙ moves_are v t c.args.label.now c.args.state.now here) in
+    let moves = c.in-Ok.ensures.all ∙ moves_are v t c.args.label.now c.args.state.now here in
     ap (λ (l : List Move). Ok l) moves
     ∙ sym (ap (λ p. p.0) (change_judged v t c.args.label.now c.args.state.now c.in-Some.device false false here (sym c.first_of.ensures ∙ c.in-Some.is) (sym c.is_old.ensures ∙ c.if-is_old.false) (sym c.is_same_state.ensures ∙ c.if-is_same_state.false)))
 

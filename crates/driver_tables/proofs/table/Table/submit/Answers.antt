@@ -10,7 +10,7 @@ use Rattle.driver_tables.specs.Requests.{is_ending}
 use Rattle.driver_tables.specs.Room.{LeavesPending}
 use Rattle.driver_tables.proofs.SubmitLemmas.{submit_twice, submit_nowhere, submit_is, stands_submitted}
 use Rattle.driver_tables.proofs.table.Table.submit.Goals as goal
-use Rattle.driver_tables.proofs.table.Table.submit.Goals.{then-not-is_ending+in_ok-push, else-not-is_ending}
+use Rattle.driver_tables.proofs.table.Table.submit.Goals.{then-not-is_ending+in-Ok, else-not-is_ending}
 
 pub returns-then-not-is_above-clause-answer : goal.returns-then-not-is_above-clause-answer
 returns-then-not-is_above-clause-answer c = λ t s.
@@ -24,16 +24,16 @@ returns-in_default-clause-answer c = λ t s.
     let here : TableStands v t = subst (λ (v : TableRecord). TableStands v t) (sym c.self.view_is) s in
     sym (ap (λ p. p.0) (submit_nowhere v t c.args.id c.args.unit here (sym c.is_above.ensures ∙ c.if-not-is_above.false) (sym c.device_at.ensures ∙ c.in_default.is)))
 
-pub returns-in_err-push-clause-answer : goal.returns-in_err-push-clause-answer
-returns-in_err-push-clause-answer c = λ t s.
+pub returns-in_default-push-clause-answer : goal.returns-in_default-push-clause-answer
+returns-in_default-push-clause-answer c = λ t s.
     let v = table_of c.self.inside in
     let here : TableStands v t = subst (λ (v : TableRecord). TableStands v t) (sym c.self.view_is) s in
     let k : (a : Move) × ((submitting t c.args.id c.args.unit).0 ≡ Ok a) =
     (_, ap (λ p. p.0) (submit_is v t c.args.id c.args.unit c.in-Some.device here (sym c.is_above.ensures ∙ c.if-not-is_above.false) (sym c.device_at.ensures ∙ c.in-Some.is))) in
     search rules
 
-pub returns-in_err-push-clause-room : goal.returns-in_err-push-clause-room
-returns-in_err-push-clause-room c = λ t s.
+pub returns-in_default-push-clause-room : goal.returns-in_default-push-clause-room
+returns-in_default-push-clause-room c = λ t s.
     let v = table_of c.self.inside in
     let here : TableStands v t = subst (λ (v : TableRecord). TableStands v t) (sym c.self.view_is) s in
     let d : Device = c.in-Some.device in
@@ -61,6 +61,6 @@ returns-clause-after c = λ t s.
     λ new e. stands_submitted v t c.args.id c.args.unit d new here above found (e ∙ ap (λ (b : Bool). v.pending ++ cond (not b) (p ∷ []) []) ends) in
     let at = λ (i : Inside). TableStands (record { devices = i.devices.entries; pending = i.pending.items; last = Some c.args.id }) (submitting t c.args.id c.args.unit).1 in
     elim c.if-not-is_ending.branch [
-      | then-not-is_ending+in_ok-push w ↦ subst at (sym w.self-inside-is) (after w.push.new.self.items (w.in_ok-push.ensures.items ∙ ap (λ (b : Bool). v.pending ++ cond (not b) (p ∷ []) []) (sym w.if-not-is_ending.true)))
+      | then-not-is_ending+in-Ok w ↦ subst at (sym w.self-inside-is) (after w.push.new.self.items (w.in-Ok.ensures.items ∙ ap (λ (b : Bool). v.pending ++ cond (not b) (p ∷ []) []) (sym w.if-not-is_ending.true)))
       | else-not-is_ending w ↦ subst at (sym w.self-inside-is) (after v.pending (sym (append-nil v.pending) ∙ ap (λ (b : Bool). v.pending ++ cond (not b) (p ∷ []) []) (sym w.if-not-is_ending.false)))
     ]
