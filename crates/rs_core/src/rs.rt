@@ -21,7 +21,7 @@ use crate::fault::{NewFault, RsFault};
 use crate::finding::{Sought, place_of};
 use crate::slots::Slots;
 use crate::state::State;
-use ds_names::Name;
+use ds_names::{Name, NoRoom};
 use rs_settings::{Service, Settings};
 use std::alloc::{AllocError, Global};
 use std::marker::Model;
@@ -89,7 +89,10 @@ impl Rs {
         ensures unchanged { OnErr result (self.new ≡ self.old) }
     {
         match self.judge(&event, tick) {
-            Ok(Some(plan)) => self.follow(plan, tick),
+            Ok(Some(plan)) => match self.follow(plan, tick) {
+                Ok(actions) => Ok(actions),
+                Err(NoRoom) => Err(RsFault::NoRoom),
+            },
             Ok(None) => Ok(self.idle(tick)),
             Err(fault) => Err(fault),
         }

@@ -1,9 +1,9 @@
 //! What is done, once nothing stands against it.
 
-ghost use Rattle.std.specs.Prelude.{◌≡◌, ◌<◌, ◌≤◌, ◌+◌, ◌^◌, ◌∷◌, [], true, false, length, None, IfOk, IfErr, OnOk, OnErr};
+ghost use Rattle.std.specs.Prelude.{◌≡◌, ◌<◌, ◌≤◌, ◌+◌, ◌^◌, ◌∷◌, [], true, false, length, None, IfOk, OnOk, OnErr};
 ghost use Rattle.rs_core.specs.Action.{start_actions, stop_actions};
 ghost use Rattle.rs_core.specs.State.{state_at, service_at, is_up, up_count};
-ghost use Rattle.rs_core.specs.Machine.{new_endpoint};
+ghost use Rattle.rs_core.specs.Machine.{new_endpoint, plan};
 ghost use Rattle.rs_core.specs.Doing.{after_start, after_stop, after_replacement, after_note, failing, replacing};
 ghost use Rattle.rs_core.specs.Judging.{lack_for, has_actions};
 ghost use Rattle.rs_core.specs.Step.{IsDone};
@@ -11,9 +11,9 @@ ghost use Rattle.rs_core.specs.Kept.{IsAtRest};
 
 use crate::action::{Action, Actions, add_start, add_stop};
 use crate::deed::{Deed, Plan};
-use crate::fault::RsFault;
 use crate::rs::Rs;
 use crate::state::{Pause, Running, State, endpoint_at, failed};
+use ds_names::NoRoom;
 
 impl Rs {
     // Leaves all as it is but the tick.
@@ -27,54 +27,58 @@ impl Rs {
     }
 
     // Does what is planned.
-    pub(crate) fn follow(&mut self, plan: Plan, tick: u64) -> Result<Actions, RsFault>
+    pub(crate) fn follow(&mut self, plan: Plan, tick: u64) -> Result<Actions, NoRoom>
         requires within { plan.place < length self.old.states }
         requires tick { tick ≤ 2 ^ 62 }
         requires room { lack_for self.old plan.deed ≡ None }
         ensures done { IfOk result (λ actions. IsDone self.old tick plan actions self.new) }
-        ensures err { IfErr result (λ fault. fault ≡ RsFault.NoRoom) }
         ensures room { OnErr result (has_actions plan.deed ≡ true) }
         ensures unchanged { OnErr result (self.new ≡ self.old) }
     {
         let place = plan.place;
-        match plan.deed {
-            Deed::Begin => match self.state_at(place) {
-                State::Down | State::GaveUp => self.begin(place, tick, 0),
+        match self.state_at(place) {
+            State::Up(running) => self.follow_up(place, tick, plan.deed, running),
+            State::Waiting(pause) => match plan.deed {
+                Deed::Resume => self.begin(place, tick, pause.failures),
+                Deed::Forget => Ok(self.forget(place, tick, pause)),
                 _ => Ok(self.leave(place, tick)),
             },
-            Deed::Resume => match self.state_at(place) {
-                State::Waiting(pause) => self.begin(place, tick, pause.failures),
-                _ => Ok(self.leave(place, tick)),
-            },
-            Deed::Replace => match self.state_at(place) {
-                State::Up(running) => self.replace(place, tick, running),
-                _ => Ok(self.leave(place, tick)),
-            },
-            Deed::Lose(kill) => match self.state_at(place) {
-                State::Up(running) => self.lose(place, tick, kill, running),
-                _ => Ok(self.leave(place, tick)),
-            },
-            Deed::Halt => match self.state_at(place) {
-                State::Up(running) => self.end(place, tick, true, running, State::Down),
-                _ => Ok(self.leave(place, tick)),
-            },
-            Deed::Forget => match self.state_at(place) {
-                State::Waiting(pause) => Ok(self.forget(place, tick, pause)),
-                _ => Ok(self.leave(place, tick)),
-            },
-            Deed::Hear => match self.state_at(place) {
-                State::Up(running) => Ok(self.hear(place, tick, running)),
-                _ => Ok(self.leave(place, tick)),
-            },
-            Deed::Ping => match self.state_at(place) {
-                State::Up(running) => self.ping(place, tick, running),
+            State::Down | State::GaveUp => match plan.deed {
+                Deed::Begin => self.begin(place, tick, 0),
                 _ => Ok(self.leave(place, tick)),
             },
         }
     }
 
+    // Does it to a service whose instance runs.
+    fn follow_up(
+        &mut self,
+        place: usize,
+        tick: u64,
+        deed: Deed,
+        running: Running,
+    ) -> Result<Actions, NoRoom>
+        requires within { place < length self.old.states }
+        requires tick { tick ≤ 2 ^ 62 }
+        requires room { lack_for self.old deed ≡ None }
+        requires up { state_at self.old place ≡ State.Up running }
+        requires failures { running.failures ≤ 1000 }
+        ensures done { IfOk result (λ actions. IsDone self.old tick (plan deed place) actions self.new) }
+        ensures room { OnErr result (has_actions deed ≡ true) }
+        ensures unchanged { OnErr result (self.new ≡ self.old) }
+    {
+        match deed {
+            Deed::Replace => self.replace(place, tick, running),
+            Deed::Lose(kill) => self.lose(place, tick, kill, running),
+            Deed::Halt => self.end(place, tick, true, running, State::Down),
+            Deed::Hear => Ok(self.hear(place, tick, running)),
+            Deed::Ping => self.ping(place, tick, running),
+            _ => Ok(self.leave(place, tick)),
+        }
+    }
+
     // Starts the service in the slot that is given next.
-    fn begin(&mut self, place: usize, tick: u64, failures: u32) -> Result<Actions, RsFault>
+    fn begin(&mut self, place: usize, tick: u64, failures: u32) -> Result<Actions, NoRoom>
         requires within { place < length self.old.states }
         requires tick { tick ≤ 2 ^ 62 }
         requires next { self.old.next ≤ 2097151 }
@@ -83,15 +87,12 @@ impl Rs {
         requires rest { is_up (state_at self.old place) ≡ false }
         ensures done { IfOk result (λ actions. actions ≡ start_actions (service_at self.old place).label (new_endpoint self.old)) }
         ensures after { OnOk result (self.new ≡ after_start self.old place tick failures) }
-        ensures err { IfErr result (λ fault. fault ≡ RsFault.NoRoom) }
         ensures unchanged { OnErr result (self.new ≡ self.old) }
     {
         let label = self.service_at(place).label;
         let endpoint = endpoint_at(self.next, self.next_key());
         let mut actions = Actions::new(self.alloc);
-        let Ok(()) = add_start(&mut actions, label, endpoint) else {
-            return Err(RsFault::NoRoom);
-        };
+        add_start(&mut actions, label, endpoint)?;
         self.slots.give();
         self.states[place] = State::Up(Running {
             endpoint,
@@ -112,21 +113,18 @@ impl Rs {
         kill: bool,
         running: Running,
         after: State,
-    ) -> Result<Actions, RsFault>
+    ) -> Result<Actions, NoRoom>
         requires within { place < length self.old.states }
         requires tick { tick ≤ 2 ^ 62 }
         requires up { state_at self.old place ≡ State.Up running }
         requires rest { IsAtRest after }
         ensures done { IfOk result (λ actions. actions ≡ stop_actions kill (service_at self.old place).label running.endpoint) }
         ensures after { OnOk result (self.new ≡ after_stop self.old place tick running after) }
-        ensures err { IfErr result (λ fault. fault ≡ RsFault.NoRoom) }
         ensures unchanged { OnErr result (self.new ≡ self.old) }
     {
         let label = self.service_at(place).label;
         let mut actions = Actions::new(self.alloc);
-        let Ok(()) = add_stop(&mut actions, kill, label, running.endpoint) else {
-            return Err(RsFault::NoRoom);
-        };
+        add_stop(&mut actions, kill, label, running.endpoint)?;
         self.slots.free(running.endpoint.slot() as usize - 16);
         self.states[place] = after;
         self.tick = tick;
@@ -134,25 +132,20 @@ impl Rs {
     }
 
     // Stops the instance of the service, and starts one in its slot: that which a stop freed is given next.
-    fn replace(&mut self, place: usize, tick: u64, running: Running) -> Result<Actions, RsFault>
+    fn replace(&mut self, place: usize, tick: u64, running: Running) -> Result<Actions, NoRoom>
         requires within { place < length self.old.states }
         requires tick { tick ≤ 2 ^ 62 }
         requires next { self.old.next ≤ 2097151 }
         requires up { state_at self.old place ≡ State.Up running }
         ensures done { IfOk result (λ actions. actions ≡ replacing self.old place running) }
         ensures after { OnOk result (self.new ≡ after_replacement self.old place tick running) }
-        ensures err { IfErr result (λ fault. fault ≡ RsFault.NoRoom) }
         ensures unchanged { OnErr result (self.new ≡ self.old) }
     {
         let label = self.service_at(place).label;
         let endpoint = endpoint_at(self.next, running.endpoint.slot() as usize - 16);
         let mut actions = Actions::new(self.alloc);
-        let Ok(()) = add_stop(&mut actions, true, label, running.endpoint) else {
-            return Err(RsFault::NoRoom);
-        };
-        let Ok(()) = add_start(&mut actions, label, endpoint) else {
-            return Err(RsFault::NoRoom);
-        };
+        add_stop(&mut actions, true, label, running.endpoint)?;
+        add_start(&mut actions, label, endpoint)?;
         self.states[place] = State::Up(Running {
             endpoint,
             beat: tick,
@@ -171,14 +164,13 @@ impl Rs {
         tick: u64,
         kill: bool,
         running: Running,
-    ) -> Result<Actions, RsFault>
+    ) -> Result<Actions, NoRoom>
         requires within { place < length self.old.states }
         requires tick { tick ≤ 2 ^ 62 }
         requires up { state_at self.old place ≡ State.Up running }
         requires failures { running.failures ≤ 1000 }
         ensures done { IfOk result (λ actions. actions ≡ stop_actions kill (service_at self.old place).label running.endpoint) }
         ensures after { OnOk result (self.new ≡ after_stop self.old place tick running (failing self.old place tick running)) }
-        ensures err { IfErr result (λ fault. fault ≡ RsFault.NoRoom) }
         ensures unchanged { OnErr result (self.new ≡ self.old) }
     {
         let after = failed(self.service_at(place).limit, tick, running.failures + 1);
@@ -215,19 +207,16 @@ impl Rs {
     }
 
     // Asks the instance of the service whether it lives.
-    fn ping(&mut self, place: usize, tick: u64, running: Running) -> Result<Actions, RsFault>
+    fn ping(&mut self, place: usize, tick: u64, running: Running) -> Result<Actions, NoRoom>
         requires within { place < length self.old.states }
         requires tick { tick ≤ 2 ^ 62 }
         requires up { state_at self.old place ≡ State.Up running }
         ensures done { IfOk result (λ actions. actions ≡ Action.Ping running.endpoint ∷ []) }
         ensures after { OnOk result (self.new ≡ after_note self.old place tick (State.Up (record running { ping = tick }))) }
-        ensures err { IfErr result (λ fault. fault ≡ RsFault.NoRoom) }
         ensures unchanged { OnErr result (self.new ≡ self.old) }
     {
         let mut actions = Actions::new(self.alloc);
-        let Ok(()) = actions.push(Action::Ping(running.endpoint)) else {
-            return Err(RsFault::NoRoom);
-        };
+        actions.push(Action::Ping(running.endpoint))?;
         let beat = running.beat;
         self.keep(place, tick, running, beat, tick);
         Ok(actions)
