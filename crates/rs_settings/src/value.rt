@@ -26,12 +26,10 @@ pub(crate) fn field<'a>(table: &'a Table, name: &str) -> Option<&'a Value>
 fn is_service_field(key: &str) -> bool
     ensures { result ≡ is_service_field key.now }
 {
-    key == "label"
-        || key == "class"
-        || key == "unit"
-        || key == "period"
-        || key == "limit"
-        || key == "publishes"
+    matches!(
+        key,
+        "label" | "class" | "unit" | "period" | "limit" | "publishes"
+    )
 }
 
 fn is_top_field(key: &str) -> bool
@@ -184,16 +182,12 @@ pub(crate) fn text_of(value: &Value) -> &str
 fn class_of(word: &str) -> Option<Class>
     ensures { result ≡ class_named word.now }
 {
-    if word == "block" {
-        Some(Class::Block)
-    } else if word == "character" {
-        Some(Class::Character)
-    } else if word == "network" {
-        Some(Class::Network)
-    } else if word == "server" {
-        Some(Class::Server)
-    } else {
-        None
+    match word {
+        "block" => Some(Class::Block),
+        "character" => Some(Class::Character),
+        "network" => Some(Class::Network),
+        "server" => Some(Class::Server),
+        _ => None,
     }
 }
 
