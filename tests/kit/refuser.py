@@ -12,7 +12,8 @@ CALLS = ("growth", "read", "write")
 MOVES = re.compile(
     "alloc|memalign|mmap|mremap|brk$|strn?dup|getline|getdelim|read|recv|scanf|getc|gets|write|send|printf|put[sc]|splice|syscall"
 )
-HARMLESS = re.compile(r"^pthread_|^v?sn?printf$|^readlink$")
+# By `syscall` a thread that waits sleeps, and is woken.
+HARMLESS = re.compile(r"^pthread_|^v?sn?printf$|^readlink$|^syscall$")
 # Who may be refused a growth with no answer changed: `clap`, where it looks for a similar word; `regex`, where it reads a
 # pattern, also where its reader is compiled into `tree_of`, which asks for nothing itself; `toml`, where it reads a number; a
 # world, where it packs a message, which stays as it is; and a holder's table of guesses, which stays as large as it is.

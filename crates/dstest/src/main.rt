@@ -60,10 +60,21 @@ fn answer_section<R: Runtime + AllocGlobal + Threads + Wait + Sync>(
 ) -> Result<(), Failure> {
     let (name, lines) = section.split_once('\n').unwrap_or((section, ""));
     match name {
-        "store" => test_store::answer(rt, lines),
-        "rows" => test_rows::answer(rt),
         "desk" => test_desk::answer(rt, lines),
         "threads" => test_threads::answer(rt, lines),
+        _ => answer_alone(rt, name, lines),
+    }
+}
+
+// Answers a section that makes no threads.
+fn answer_alone(
+    rt: &(impl Runtime + AllocGlobal),
+    name: &str,
+    lines: &str,
+) -> Result<(), Failure> {
+    match name {
+        "store" => test_store::answer(rt, lines),
+        "rows" => test_rows::answer(rt),
         "system" => test_system::answer_systems(rt, lines),
         "rs" => test_system::answer_rs(rt, lines),
         _ => Err(Failure::BadLine),
