@@ -1,5 +1,5 @@
 -- Lists that a loop goes through, and look-ups in longer ones.
-use Rattle.std.proofs.Common.{◌≡◌, ◌≢◌, ℕ, ◌+◌, ◌<◌, Bool, true, false, cond, List, [], ◌∷◌, ◌++◌, get_or, length, drop, take, map, Option, Some, None, zero, suc, refl, sym, ap, ◌∙◌, subst, arith}
+use Rattle.std.proofs.Common.{◌≡◌, ◌≢◌, ℕ, ◌+◌, Bool, true, false, cond, List, [], ◌∷◌, ◌++◌, length, drop, take, map, Option, Some, None, zero, suc, refl, sym, ap, ◌∙◌, subst, arith}
 use Rattle.std.specs.List.{slice_get, filter_map, cons_option, find, retain_mut, last_or}
 use Rattle.std.specs.List.Retain.{RetainsInTurn}
 use Rattle.std.specs.Map.{lookup}
