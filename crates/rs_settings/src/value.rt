@@ -1,7 +1,6 @@
 //! Single values of a document, judged in place: nothing here takes memory.
 
 ghost use Rattle.std.specs.Prelude.{◌≡◌, ◌≢◌, ◌≤◌, All, IsTrue, Some, None, map, option_map, if◌then◌else◌, IfSome};
-ghost use Rattle.std.specs.Option.{option_and_then};
 ghost use Rattle.toml.specs.Data.{get_member, as_array};
 ghost use Rattle.toml.specs.View.{view, table_view, items_view, array_view};
 ghost use Rattle.ds_names.specs.Name.{IsName, rs_name};
