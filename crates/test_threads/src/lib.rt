@@ -40,13 +40,22 @@ pub fn answer<R: Runtime + AllocGlobal + Threads + Wait + Sync>(
     lines: &str,
 ) -> Result<(), Failure> {
     for line in lines.lines() {
-        match read_line(line).ok_or(Failure::BadLine)? {
-            Line::Follow(sizes) => follow(rt, sizes)?,
-            Line::Gates => run_at_gates(rt, rt.alloc())?,
-            Line::Rows => play_rows(rt, rt.alloc())?,
-        }
+        answer_line(rt, line)?;
     }
     Ok(())
+}
+
+// Does what a line asks for.
+fn answer_line<R: Runtime + AllocGlobal + Threads + Wait + Sync>(
+    rt: &R,
+    line: &str,
+) -> Result<(), Failure> {
+    match read_line(line) {
+        Some(Line::Follow(sizes)) => follow(rt, sizes),
+        Some(Line::Gates) => run_at_gates(rt, rt.alloc()),
+        Some(Line::Rows) => play_rows(rt, rt.alloc()),
+        None => Err(Failure::BadLine),
+    }
 }
 
 // Has threads change and follow a store, and says how the maps compare.

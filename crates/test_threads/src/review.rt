@@ -37,15 +37,20 @@ pub(crate) fn watch_and_compare<R: Threads + Wait + Sync>(
     alloc: Global,
     sizes: Sizes,
 ) -> Option<Review> {
+    let threads = sizes.writers.checked_add(sizes.followers)?;
+    let store = new_store(alloc)?;
     let watch = Watch {
         sizes,
         begun: AtomicU32::new(0),
     };
-    let threads = sizes.writers.checked_add(sizes.followers)?;
-    let crew = run_crew(rt, alloc, new_store(alloc)?, threads, watch)?;
-    let equal = compare_each(alloc, &crew)?;
-    let all = are_all_refreshed(&crew, sizes.followers);
-    Some(Review { equal, all })
+    let crew = run_crew(rt, alloc, store, threads, watch)?;
+    match compare_each(alloc, &crew) {
+        Some(equal) => Some(Review {
+            equal,
+            all: are_all_refreshed(&crew, sizes.followers),
+        }),
+        None => None,
+    }
 }
 
 // A store that holds nothing. It stands on the heap, since each turn takes it out of the desk's slot and puts it back.

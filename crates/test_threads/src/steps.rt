@@ -144,7 +144,8 @@ pub(crate) fn tell_label(rt: &impl Print, follower: &Follower, name: &[u8]) -> R
     tell(rt, &[("generation", u128::from(generation))])
 }
 
-/// Gives what the one store has to the other, and prints what came of it. From where the next exchange asks: from none behind a fault.
+/// Gives what the one store has to the other, and prints what came of it. `from` is then from where the next exchange asks, none
+/// behind a fault.
 pub(crate) fn exchange<R: Print + Wait>(
     rt: &R,
     a: &Desk<Box<Store>>,

@@ -9,7 +9,7 @@ ghost use Rattle.ds_refresh.specs.KeepsUp.{KeepsUpWith};
 use crate::asked::{command_of, query};
 use crate::line::Sizes;
 use crate::mark::mark_of_map;
-use desk::{Desk, Pass};
+use desk::{Answer, Desk, Pass};
 use ds_machine::{Refusal, Reply};
 use ds_pass::LiveFault;
 use ds_refresh::{Follower, Fresh, refresh};
@@ -60,24 +60,26 @@ fn change<R: Wait>(
 {
     for turn in 0..calls {
         let answer = worker.call(rt, desk, command_of(writer, turn)?)?;
-        let kept = match answer.reply {
-            Reply::Refused(Refusal::NoRoom) => Kept::NoRoom,
-            _ => Kept::Reply { mark: 0, owed: 0 },
-        };
-        worker
-            .said
-            .push(Said {
-                seen: writer,
-                turn,
-                place: answer.place,
-                kept,
-            })
-            .ok()?;
+        worker.said.push(said_of(writer, turn, answer)).ok()?;
     }
     Some(())
 }
 
-// A follower's refreshes. In each sixteenth turn the follower is lost, and begins again.
+// What is kept of an answer to a writer.
+fn said_of(writer: u64, turn: u32, answer: Answer<Reply>) -> Said {
+    let kept = match answer.reply {
+        Reply::Refused(Refusal::NoRoom) => Kept::NoRoom,
+        _ => Kept::Reply { mark: 0, owed: 0 },
+    };
+    Said {
+        seen: writer,
+        turn,
+        place: answer.place,
+        kept,
+    }
+}
+
+// A new follower's refreshes.
 fn follow<R: Wait>(
     rt: &R,
     alloc: Global,
@@ -90,8 +92,24 @@ fn follow<R: Wait>(
     ensures { desk_of worker.new.pass ≡ desk_of worker.old.pass }
 {
     let mut follower = Follower::new(alloc, number, query(alloc, b".*")?).ok()?;
+    follow_often(rt, alloc, desk, worker, &mut follower, calls)
+}
+
+// In each sixteenth turn the follower is lost, and begins again.
+fn follow_often<R: Wait>(
+    rt: &R,
+    alloc: Global,
+    desk: &Desk<Box<Store>>,
+    worker: &mut Worker<Pass<Box<Store>>>,
+    follower: &mut Follower,
+    calls: u32,
+) -> Option<()>
+    requires of_desk { desk_of worker.old.pass ≡ identity desk.now }
+    requires keeps { KeepsUpWith (pass_record worker.old.pass) follower.old }
+    ensures { desk_of worker.new.pass ≡ desk_of worker.old.pass }
+{
     for turn in 0..calls {
-        follow_once(rt, alloc, desk, worker, number, &mut follower)?;
+        follow_once(rt, alloc, desk, worker, follower)?;
         if turn % 16 == 15 {
             follower.lose();
         }
@@ -105,7 +123,6 @@ fn follow_once<R: Wait>(
     alloc: Global,
     desk: &Desk<Box<Store>>,
     worker: &mut Worker<Pass<Box<Store>>>,
-    number: u32,
     follower: &mut Follower,
 ) -> Option<()>
     requires of_desk { desk_of worker.old.pass ≡ identity desk.now }
@@ -115,7 +132,7 @@ fn follow_once<R: Wait>(
 {
     match refresh(rt, alloc, desk, &mut worker.pass, follower, 65536) {
         Ok(Fresh::UpTo(place)) => {
-            let view = view_of(alloc, follower, number, place)?;
+            let view = view_of(alloc, follower, place)?;
             worker.said.push(view).ok()
         }
         Ok(Fresh::More) | Err(LiveFault::NoRoom) => Some(()),
@@ -125,11 +142,11 @@ fn follow_once<R: Wait>(
 }
 
 // What is kept of a map that was brought up to a place. `None` where memory is wanting.
-fn view_of(alloc: Global, follower: &Follower, number: u32, place: u64) -> Option<Said> {
+fn view_of(alloc: Global, follower: &Follower, place: u64) -> Option<Said> {
     let entries = follower.map().entries(alloc).ok()?;
     let mark = mark_of_map(alloc, &entries)?;
     Some(Said {
-        seen: u64::from(number),
+        seen: u64::from(follower.sub()),
         turn: REFRESHED,
         place,
         kept: Kept::Reply { mark, owed: 0 },
