@@ -67,11 +67,7 @@ fn answer_section<R: Runtime + AllocGlobal + Threads + Wait + Sync>(
 }
 
 // Answers a section that makes no threads.
-fn answer_alone(
-    rt: &(impl Runtime + AllocGlobal),
-    name: &str,
-    lines: &str,
-) -> Result<(), Failure> {
+fn answer_alone(rt: &(impl Runtime + AllocGlobal), name: &str, lines: &str) -> Result<(), Failure> {
     match name {
         "store" => test_store::answer(rt, lines),
         "rows" => test_rows::answer(rt),
