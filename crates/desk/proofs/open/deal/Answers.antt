@@ -1,7 +1,17 @@
 use Rattle.std.proofs.Common.{◌-◌, ap, arith, ◌∙◌}
 use Rattle.desk_rule.specs.Passes.{fresh}
-use Rattle.desk.proofs.OpenLemmas.{cut_off, dealt_more, is_new_pass, left_others, one_back}
+use Rattle.desk.proofs.OpenLemmas.{cut_off, dealt_more, dealt_none, is_new_pass, left_at_first, left_others, one_back}
 use Rattle.desk.proofs.open.deal.Goals as goal
+
+pub loop-left-init : goal.loop-left-init
+loop-left-init g c = let seat = c.requires.seat in let room = c.requires.room in (
+  room.0,
+  c.requires.at,
+  ap (λ m. m.1) seat,
+  left_at_first _ _ _ _ (ap (λ m. m.0) seat),
+  room.2,
+  dealt_none _ _ _ _ _ room.1,
+)
 
 pub split_pass-one-requires-clause-fresh : goal.split_pass-one-requires-clause-fresh
 split_pass-one-requires-clause-fresh g c = let i = c.loop-left.invariant in (c.loop-left.left - 1 - 1, i.3.passes ∙ ap fresh (one_back c.loop-left.left c.loop-left-test.true))
