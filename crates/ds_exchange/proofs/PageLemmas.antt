@@ -1,5 +1,5 @@
 -- How a store is asked, and what it tells is given: by one question, or page by page.
-use Rattle.std.proofs.Common.{◌≡◌, ℕ, ◌+◌, ◌^◌, ◌<◌, true, false, List, [], ◌∷◌, ◌++◌, length, nat_le, Option, Some, None, refl, ap, sym, ◌∙◌, subst, inl, inr, arith, append-nil, length-append}
+use Rattle.std.proofs.Common.{◌≡◌, ℕ, ◌+◌, ◌^◌, ◌<◌, ◌≤◌, true, false, List, [], ◌∷◌, ◌++◌, length, nat_le, Option, Some, None, refl, ap, sym, ◌∙◌, subst, inl, inr, arith, append-nil, length-append}
 use Rattle.std.specs.Option.{unwrap_or}
 use Rattle.std.proofs.lemmas.List.Concat.{flat_map-append}
 use Rattle.history.specs.declared.entry.Entry.{Entry}
@@ -14,8 +14,8 @@ use Rattle.ds_machine.specs.declared.command.Command.{Command}
 use Rattle.ds_machine.specs.declared.reply.Reply.{Reply}
 use Rattle.ds_machine.specs.declared.reply.Reply.TheVariants.{Journaled, Paged}
 use Rattle.ds_pass.specs.Called.{AsksOnce, IsAtMostOne, Made}
-use Rattle.ds_pass.specs.Record.{PassRecord}
-use Rattle.ds_pass.proofs.RecordLemmas.{made_more, made_none}
+use Rattle.ds_pass.specs.Record.{PassRecord, place_behind}
+use Rattle.ds_pass.proofs.RecordLemmas.{made_above, made_more, made_none}
 use Rattle.ds_exchange.specs.Asking.{AsksOpenPages, GoesByPages, TellsPage, TellsSince}
 use Rattle.ds_exchange.specs.Exchange.{Exchanges, ExchangesOnly}
 use Rattle.ds_exchange.specs.Faults.{FoundNoRoom, LacksRoom, LeavesSome}
@@ -140,7 +140,14 @@ module _ (p q r s next : PassRecord) (after : Option Key) (first : Option Cursor
       leaves = subst (λ (l : List Item). LeavesSome r new l) (sym page_told) (leaves_behind r s new (all_told k.own) page.items taken k.gives o);
     })
 
+    -- as many pages as a desk has places for are told fewer items than 2^127
+    pub told_few : place_behind next ≤ 2 ^ 62 → length page.items < 2 ^ 64 → done + length page.items < 2 ^ 127
+    told_few at few = omega (arith, k.bound, at, few, made_above p next (k.own ++ t.call ∷ []) made_page, length-append k.own (t.call ∷ []))
+
     module _ (n : ℕ) (g : GivesAll s new page.items n) where
+      pub taken_few : place_behind next ≤ 2 ^ 62 → length page.items < 2 ^ 64 → taken + n < 2 ^ 127
+      taken_few at few = omega (arith, told_few at few, k.done_is, k.gives.within, g.within)
+
       gives_page : GivesAll r new (all_told (k.own ++ t.call ∷ [])) (taken + n)
       gives_page = subst (λ (l : List Item). GivesAll r new l (taken + n)) (sym page_told) (gives_both r s new (all_told k.own) page.items taken n k.gives g)
 

@@ -3,7 +3,6 @@ use Rattle.std.proofs.Common.{◌≡◌, ◌≢◌, ℕ, zero, suc, ◌+◌, ◌
 use Rattle.std.specs.List.{filter_map, cons_option}
 use Rattle.std.proofs.lemmas.List.Sums.{fold-append}
 use Rattle.ds_held.specs.Limits.{larger}
-use Rattle.ds_pattern.specs.declared.query.Query.{Query}
 use Rattle.rs_settings.specs.declared.class.Class.{Class}
 use Rattle.rs_settings.specs.declared.service.Service.{Service}
 use Rattle.rs_settings.specs.Settings.{SettingsRecord}
@@ -29,7 +28,7 @@ use Rattle.ds_services.specs.System.{System}
 use Rattle.ds_services.specs.Start.{labels_query, unit_with, file_driver_of, net_driver_of, file_unit, net_unit, assigned_all}
 use Rattle.ds_system.specs.Stands.{SystemRecord}
 use Rattle.ds_system.specs.Since.{IsJustNew}
-use Rattle.ds_system.specs.Begin.{MakesTwoMaps, HasBothMaps, BeginsOver, IsFirstGeneration, IsBeginFault, begin_fault_of}
+use Rattle.ds_system.specs.Begin.{MakesMap, MakesTwoMaps, HasBothMaps, BeginsOver, IsFirstGeneration, IsBeginFault, begin_fault_of}
 
 pub replicate_more : {X : Type 0} (n : ℕ) (x : X) → replicate (n + 1) x ≡ replicate n x ++ x ∷ []
 replicate_more n x = ap (λ (k : ℕ). replicate k x) (let e : n + 1 ≡ suc n = omega arith in e) ∙ by n
@@ -92,24 +91,21 @@ pub net_is : (s : Service) (unit : ℕ) (class : Class) (d : Option Driver) → 
 net_is s unit class d u k f = ap (λ (o : Option ℕ). unit_with o (net_driver_of s.class s.label)) u ∙ (ap (λ (c : Class). unit_with (Some unit) (net_driver_of c s.label)) k ∙ ap (unit_with (Some unit)) f)
 
 -- ---- the maps
-pub two_made : (a b c : WorldRecord) (q r : Query) (j k : ℕ) → q ≡ labels_query → r ≡ labels_query → EventLeads (NewMap q) (MapMade j) a b → EventLeads (NewMap r) (MapMade k) b c → MakesTwoMaps a c
-two_made a b c q r j k e f one two w st none =
+two_made : (a b c : WorldRecord) → MakesMap a b → MakesMap b c → MakesTwoMaps a c
+two_made a b c (j, one) (k, two) w st none =
     let x = one w st in
     let y = two x.0 x.2 in
     let first : j ≡ 0 = number j (length w.maps) x.1.1.outcome_is ∙ ap length none in
-    let maps : x.0.maps ≡ record { query = q; held = [] } ∷ [] = ap (λ (z : World). z.maps) x.1.1.world_is ∙ ap (λ (l : List MapState). l ++ record { query = q; held = [] } ∷ []) none in
-    let second : k ≡ 1 = number k (length x.0.maps) y.1.1.outcome_is ∙ ap length maps in (
-      y.0,
-      (
-        x.0,
-        subst (λ (n : ℕ). Happens w (NewMap labels_query) (MapMade n) x.0) first (subst (λ (z : Query). Happens w (NewMap z) (MapMade j) x.0) e x.1),
-        (y.0, subst (λ (n : ℕ). Happens x.0 (NewMap labels_query) (MapMade n) y.0) second (subst (λ (z : Query). Happens x.0 (NewMap z) (MapMade k) y.0) f y.1), refl),
-      ),
-      y.2,
-    )
+    let maps : x.0.maps ≡ record { query = labels_query; held = [] } ∷ [] = ap (λ (z : World). z.maps) x.1.1.world_is ∙ ap (λ (l : List MapState). l ++ record { query = labels_query; held = [] } ∷ []) none in
+    let second : k ≡ 1 = number k (length x.0.maps) y.1.1.outcome_is ∙ ap length maps in
+    (y.0, (x.0, subst (λ (n : ℕ). Happens w (NewMap labels_query) (MapMade n) x.0) first x.1, (y.0, subst (λ (n : ℕ). Happens x.0 (NewMap labels_query) (MapMade n) y.0) second y.1, refl)), y.2)
   where
     number : (m n : ℕ) → MapMade m ≡ MapMade n → m ≡ n
     number m n e = cc
+
+pub second_made : {E : Type 0} (result : Result (Unit {0}) E) (a b c : WorldRecord) → MakesMap a b → OnOk result (MakesMap b c) → OnOk result (MakesTwoMaps a c)
+second_made (Ok x) a b c one two = two_made a b c one two
+second_made (Err x) a b c one two = tt
 
 -- ---- all of it
 pub with_both : (a b : Seed) (old new : WorldRecord) → WorldStands old (new_world a b larger) → MakesTwoMaps old new → HasBothMaps a b new

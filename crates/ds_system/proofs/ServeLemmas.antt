@@ -1,5 +1,5 @@
 -- What RS's actions lead to.
-use Rattle.std.proofs.Common.{◌≡◌, ℕ, zero, suc, ◌+◌, ◌≤◌, true, false, List, [], ◌∷◌, ◌++◌, length, take, min, Option, Some, None, refl, ap, sym, ◌∙◌, subst, inl, inr, arith}
+use Rattle.std.proofs.Common.{◌≡◌, ◌≢◌, ℕ, zero, suc, ◌+◌, ◌≤◌, true, false, List, [], ◌∷◌, ◌++◌, length, take, min, Option, Some, None, refl, ap, sym, ◌∙◌, subst, inl, inr, arith}
 use Rattle.std.specs.List.{slice_get, filter_map, cons_option, AllByRecursion}
 use Rattle.std.proofs.lemmas.List.{append-nil, length_push, length-take, take_more}
 use Rattle.std.proofs.lemmas.List.Elements.{filter_map-append, Contains-append_cases}
@@ -124,9 +124,29 @@ stands_fault rs event tick faults.OldEndpoint e = e
 stands_fault rs event tick faults.GenerationsSpent e = e
 stands_fault rs event tick faults.NoSlot e = e
 
+-- where nothing stood against the event, RS refuses it for want of memory alone
+pub late_fault : (rs : RsRecord) (event : services.Event) (tick : ℕ) (fault : RsFault) → (fault ≢ faults.NoRoom → refusal rs event tick ≡ Some fault) → refusal rs event tick ≡ None → IsServiceFault (refusal rs event tick) fault
+late_fault rs event tick faults.NoRoom h none = none
+late_fault rs event tick faults.TickBack h none = h (λ e. cc)
+late_fault rs event tick faults.Worn h none = h (λ e. cc)
+late_fault rs event tick faults.UnknownLabel h none = h (λ e. cc)
+late_fault rs event tick faults.BadCause h none = h (λ e. cc)
+late_fault rs event tick faults.AlreadyUp h none = h (λ e. cc)
+late_fault rs event tick faults.NotUp h none = h (λ e. cc)
+late_fault rs event tick faults.OldEndpoint h none = h (λ e. cc)
+late_fault rs event tick faults.GenerationsSpent h none = h (λ e. cc)
+late_fault rs event tick faults.NoSlot h none = h (λ e. cc)
+
 module _ (value : SystemRecord) (event : services.Event) (tick : ℕ) (side : Side) where
   pub rs_refused : (fault : RsFault) → IsServiceFault (refusal value.rs event tick) fault → SystemEventLeads (events.Service event tick side) (Refused (refusals.Service fault)) value value
   rs_refused fault e s st = (s, no_steps, record { refused = subst (λ (z : RsRecord). IsServiceFault (refusal z event tick) fault) (sym st.rs) e; steps_are = refl; system_is = refl }, st)
+
+  -- and so where RS and what was made stayed as they were
+  pub rs_kept : (fault : RsFault) (rs : RsRecord) (made : List ChangeRecord) → rs ≡ value.rs → made ≡ value.made → IsServiceFault (refusal value.rs event tick) fault
+      → SystemEventLeads (events.Service event tick side) (Refused (refusals.Service fault)) value (record value { rs = rs; made = made })
+  rs_kept fault rs made same kept e =
+      subst (λ (r : RsRecord). SystemEventLeads (events.Service event tick side) (Refused (refusals.Service fault)) value (record value { rs = r; made = made })) (sym same)
+      (subst (λ (l : List ChangeRecord). SystemEventLeads (events.Service event tick side) (Refused (refusals.Service fault)) value (record value { made = l })) (sym kept) (rs_refused fault e))
 
   pub acted : (next : RsRecord) (after : WorldRecord) (acts : List Action) (replies : List Reply) → RsStep value.rs event tick acts next → AllAsked side (commands acts) replies value.world after
       → SystemEventLeads (events.Service event tick side) (Acted acts replies) value (record value { rs = next; world = after; made = value.made ++ offers acts })

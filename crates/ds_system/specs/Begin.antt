@@ -13,14 +13,21 @@ use Rattle.ds_held.specs.Limits.{larger}
 use Rattle.ds_replica.specs.declared.seed.Seed.{Seed}
 use Rattle.ds_replica.specs.World.{World, new_world}
 use Rattle.ds_replica.specs.Happens.{HappenAll}
+use Rattle.ds_replica.specs.declared.event.Event.TheVariants.{NewMap}
+use Rattle.ds_replica.specs.declared.outcome.Outcome.TheVariants.{MapMade}
 use Rattle.ds_world.specs.World.{WorldRecord, WorldStands}
+use Rattle.ds_world.specs.Run.{EventLeads}
 use Rattle.ds_world.specs.declared.fault.SeedFault.{SeedFault}
 use Rattle.ds_world.specs.declared.fault.SeedFault.TheVariants as seeds
 use Rattle.ds_world.specs.Seeds.{AreSeeds, IsSeedFault}
-use Rattle.ds_services.specs.Start.{two_maps, file_unit, net_unit, assigned_all}
+use Rattle.ds_services.specs.Start.{labels_query, two_maps, file_unit, net_unit, assigned_all}
 use Rattle.ds_system.specs.declared.fault.BeginFault.{BeginFault}
 use Rattle.ds_system.specs.declared.fault.BeginFault.TheVariants.{OutOfRange, BadRing, BadFirst, OldIncarnation, NoRoom}
 use Rattle.ds_system.specs.Stands.{SystemRecord}
+
+-- a map of all labels is made in the world that the old value stands for, which is one that the new value stands for
+abbrev pub MakesMap : WorldRecord → WorldRecord → Type 0
+MakesMap old new = (map : ℕ) × EventLeads (NewMap labels_query) (MapMade map) old new
 
 -- from each world without maps that the old value stands for, both maps are made in one that the new value stands for
 abbrev pub MakesTwoMaps : WorldRecord → WorldRecord → Type 0

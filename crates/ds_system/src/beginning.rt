@@ -7,7 +7,7 @@ ghost use Rattle.rs_core.specs.Numbering.{numberer};
 ghost use Rattle.driver_tables.specs.declared.fault.TableFault.TheVariants.{NoRoom as room};
 ghost use Rattle.driver_tables.specs.Stands.{TableStands};
 ghost use Rattle.ds_services.specs.Start.{labels_query, file_unit, net_unit, assigned_all};
-ghost use Rattle.ds_system.specs.Begin.{AddsUnit, MakesTwoMaps};
+ghost use Rattle.ds_system.specs.Begin.{AddsUnit, MakesMap, MakesTwoMaps};
 
 use driver_tables::{FileClass, FileTable, NetTable, TableFault};
 use ds_names::{Generation, Kinds, NoRoom};
@@ -54,21 +54,23 @@ fn labels(alloc: Global) -> Result<Query, NoRoom>
     })
 }
 
-// Makes both servers' maps, the file server's first, in a world without maps. Nothing stands against either but want of memory.
-fn make_maps(alloc: Global, world: &mut World) -> Result<(), NoRoom>
-    ensures { OnOk result (MakesTwoMaps world.old world.new) }
+// Makes a map of all labels. Nothing stands against it but want of memory.
+fn make_map(alloc: Global, world: &mut World) -> Result<(), NoRoom>
+    ensures { OnOk result (MakesMap world.old world.new) }
 {
-    let Outcome::MapMade { .. } = world.happen(Event::NewMap {
-        query: labels(alloc)?,
-    }) else {
-        return Err(NoRoom);
-    };
-    let Outcome::MapMade { .. } = world.happen(Event::NewMap {
-        query: labels(alloc)?,
-    }) else {
+    let query = labels(alloc)?;
+    let Outcome::MapMade { .. } = world.happen(Event::NewMap { query }) else {
         return Err(NoRoom);
     };
     Ok(())
+}
+
+// Makes both servers' maps, the file server's first, in a world without maps.
+fn make_maps(alloc: Global, world: &mut World) -> Result<(), NoRoom>
+    ensures { OnOk result (MakesTwoMaps world.old world.new) }
+{
+    make_map(alloc, world)?;
+    make_map(alloc, world)
 }
 
 // The world with both maps.

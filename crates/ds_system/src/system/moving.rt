@@ -1,7 +1,6 @@
 //! What both servers do: they follow their maps, take requests and replies.
 
 ghost use Rattle.std.specs.Prelude.{◌≡◌};
-ghost use Rattle.ds_services.specs.declared.event.Table.TheVariants.{File, Net};
 ghost use Rattle.ds_services.specs.declared.event.SystemEvent.TheVariants as events;
 ghost use Rattle.ds_system.specs.Stands.{SystemEventLeads};
 
@@ -28,26 +27,17 @@ impl System {
     pub(super) fn submit(&mut self, table: Table, id: u64, unit: u8) -> SystemOutcome
         ensures { SystemEventLeads (events.Submit table id unit) result self.old self.new }
     {
+        let mut rounds = Vec::new(self.alloc);
         match table {
-            Table::File => self.file_submitted(id, unit),
-            Table::Net => self.net_submitted(id, unit),
+            Table::File => {
+                let answer = submits(&mut self.file, &self.world, FILE_MAP, id, unit, &mut rounds);
+                moved(Rounds::of(rounds), answer)
+            }
+            Table::Net => {
+                let answer = submits(&mut self.net, &self.world, NET_MAP, id, unit, &mut rounds);
+                moved(Rounds::of(rounds), answer)
+            }
         }
-    }
-
-    fn file_submitted(&mut self, id: u64, unit: u8) -> SystemOutcome
-        ensures { SystemEventLeads (events.Submit File id unit) result self.old self.new }
-    {
-        let mut rounds = Vec::new(self.alloc);
-        let answer = submits(&mut self.file, &self.world, FILE_MAP, id, unit, &mut rounds);
-        moved(Rounds::of(rounds), answer)
-    }
-
-    fn net_submitted(&mut self, id: u64, unit: u8) -> SystemOutcome
-        ensures { SystemEventLeads (events.Submit Net id unit) result self.old self.new }
-    {
-        let mut rounds = Vec::new(self.alloc);
-        let answer = submits(&mut self.net, &self.world, NET_MAP, id, unit, &mut rounds);
-        moved(Rounds::of(rounds), answer)
     }
 
     // A driver replies to a request.
@@ -55,22 +45,14 @@ impl System {
         ensures { SystemEventLeads (events.Answered table endpoint id) result self.old self.new }
     {
         match table {
-            Table::File => self.file_answered(endpoint, id),
-            Table::Net => self.net_answered(endpoint, id),
+            Table::File => {
+                let answer = replies(&mut self.file, endpoint, id);
+                moved(Rounds::new(self.alloc), answer)
+            }
+            Table::Net => {
+                let answer = replies(&mut self.net, endpoint, id);
+                moved(Rounds::new(self.alloc), answer)
+            }
         }
-    }
-
-    fn file_answered(&mut self, endpoint: Endpoint, id: u64) -> SystemOutcome
-        ensures { SystemEventLeads (events.Answered File endpoint id) result self.old self.new }
-    {
-        let answer = replies(&mut self.file, endpoint, id);
-        moved(Rounds::new(self.alloc), answer)
-    }
-
-    fn net_answered(&mut self, endpoint: Endpoint, id: u64) -> SystemOutcome
-        ensures { SystemEventLeads (events.Answered Net endpoint id) result self.old self.new }
-    {
-        let answer = replies(&mut self.net, endpoint, id);
-        moved(Rounds::new(self.alloc), answer)
     }
 }

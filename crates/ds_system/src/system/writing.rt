@@ -1,6 +1,6 @@
 //! What services put and take back.
 
-ghost use Rattle.std.specs.Prelude.{slice_index_or, true, false, ◌≡◌, ◌<◌, ◌≤◌, length, Ok, Err, IfOk, IfErr};
+ghost use Rattle.std.specs.Prelude.{slice_index_or, true, false, ◌≡◌, ◌<◌, ◌≤◌, length, vec_len, vec_capacity, Ok, Err, IfOk, IfErr, OnOk};
 ghost use Rattle.ds_names.specs.Kind.{is_label};
 ghost use Rattle.ds_entry.specs.Change.{change_of, is_of_kind, IsBody, IsChange};
 ghost use Rattle.rs_settings.specs.Shared.{has_name};
@@ -12,12 +12,13 @@ ghost use Rattle.ds_system.specs.Effects.{instance_at, judged_by, write_event};
 
 use crate::system::System;
 use ds_entry::{Body, Change};
-use ds_names::{Generation, Key, Kind, Name, Version};
+use ds_names::{Generation, Key, Kind, Name, NoRoom, Version};
 use ds_replica::Side;
 use ds_serve::asking;
 use ds_services::{SystemFault, SystemOutcome};
 use rs_core::{Numberer, Running, State};
 use rs_settings::{Names, Service};
+use std::alloc::Global;
 
 /// The instance that draws a number, and the numbers that are left to it.
 #[derive(Drop)]
@@ -73,6 +74,16 @@ fn entry(key: &Key, owner: Name, version: Version, content: Body) -> Change
     let _epoch = version.epoch.number();
     let _kind = content.is_of_kind(key.kind);
     Change::from_parts(*key, owner, version, content)
+}
+
+// A copy of what a change says, and room for one more among the changes that were made.
+fn copy_with_room(alloc: Global, content: &Body, made: &mut Vec<Change>) -> Result<Body, NoRoom>
+    ensures copy { IfOk result (λ kept. kept ≡ content.now) }
+    ensures room { OnOk result (vec_len made.new < vec_capacity made.new) }
+    ensures items { made.new.items ≡ made.old.items }
+{
+    made.reserve(1)?;
+    content.copy(alloc)
 }
 
 impl System {
@@ -143,10 +154,7 @@ impl System {
             Ok(draw) => draw,
             Err(fault) => return SystemOutcome::Refused(fault),
         };
-        let Ok(()) = self.made.reserve(1) else {
-            return SystemOutcome::Refused(SystemFault::NoRoom);
-        };
-        let Ok(kept) = content.copy(self.alloc) else {
+        let Ok(kept) = copy_with_room(self.alloc, &content, &mut self.made) else {
             return SystemOutcome::Refused(SystemFault::NoRoom);
         };
         let Ok(version) = draw.numbers.next() else {

@@ -1,10 +1,22 @@
-use Rattle.std.proofs.Common.{◌≡◌, ◌+◌, ◌<◌, Bool, false, List, length, get_or, set, get_or-set_same, ap, sym, ◌∙◌, arith}
+use Rattle.std.proofs.Common.{◌≡◌, ◌+◌, ◌<◌, Bool, false, List, length, get_or, set, get_or-set_same, ap, sym, ◌∙◌, subst, arith}
 use Rattle.std.specs.Prelude.{slice_index}
 use Rattle.std.specs.Int.{bit_at}
-use Rattle.std.specs.Mem.Slots.{slots_counts, slots_filled, slots_items, slots_len}
+use Rattle.std.specs.Mem.Slots.{IsFull, slots_counts, slots_filled, slots_items, slots_len}
 use Rattle.desk_rule.specs.Notices.{taken_by}
 use Rattle.desk_rule.proofs.TableLemmas.{closed_machine, final_machine, final_notices, some_is}
 use Rattle.desk_rule.proofs.table.close_table.Goals as goal
+
+pub close_with-closed-requires : goal.close_with-closed-requires
+close_with-closed-requires g c = c.requires.at.0
+
+pub take-slot-requires : goal.take-slot-requires
+take-slot-requires g c =
+    let some : 0 < slots_len c.close_with-closed.result.slots = omega (arith, c.close_with-closed.ensures.counts.1 ∙ c.requires.at.2) in
+    (some, c.close_with-closed.ensures.values.1 0 (omega arith) some)
+
+pub pending_words-pending-requires : goal.pending_words-pending-requires
+pending_words-pending-requires g c =
+    subst (λ w. IsFull w × (slots_len w ≡ 17)) (sym c.take-slot.ensures.others.3) (c.close_with-closed.ensures.values.0, c.close_with-closed.ensures.counts.0 ∙ c.requires.at.1)
 
 pub machine_of-requires : goal.machine_of-requires
 machine_of-requires g c = let e = final_machine _ _ _ _ _ _ _ _ _ _ _ c.close_with-closed.ensures.values.2 c.requires.resting c.requires.all c.take-slot.ensures.value (λ t small. c.pending_words-pending.ensures t small ∙ ap (λ w. slice_index (slots_items w) (t + 1)) c.take-slot.ensures.others.3) in some_is _ _ e.1

@@ -6,7 +6,7 @@ use Rattle.ds_convergence.specs.Paged.{last_key}
 use Rattle.ds_pass.specs.Record.{PassRecord, pass_record}
 use Rattle.ds_exchange.specs.Asking.{GoesByPages}
 use Rattle.ds_exchange.specs.Exchange.{Exchanges}
-use Rattle.ds_exchange.proofs.PageLemmas.{page_fails, page_lacks, page_leaves, page_only, pages_end, pages_more, pages_none}
+use Rattle.ds_exchange.proofs.PageLemmas.{page_fails, page_lacks, page_leaves, page_only, pages_end, pages_more, pages_none, taken_few, told_few}
 use Rattle.ds_exchange.proofs.exchange.exchange_pages.Goals as goal
 
 pub loop-init : goal.loop-init
@@ -75,4 +75,25 @@ loop-preserved g c =
       subst (λ (k : Option Key). GoesByPages p q r s k (Some c.unwrap_or-from.result) (l.done + c.len-count.result) (l.taken + given)) (sym c.go_behind.ensures)
           (subst (λ (n : ℕ). GoesByPages p q r s (last_key l.after page.items) (Some c.unwrap_or-from.result) (l.done + n) (l.taken + given)) (sym c.len-count.ensures)
           (subst (λ (x : Cursor). GoesByPages p q r s (last_key l.after page.items) (Some x) (l.done + length page.items) (l.taken + given)) (sym c.unwrap_or-from.ensures) more)),
+    )
+
+pub overflow_add-done : goal.overflow_add-done
+overflow_add-done g c =
+    let l = c.loop in
+    let few : length c.in_ok-items.field-0.items < 2 ^ 64 = omega (arith, c.len-count.ensures, c.len-count.type_inv) in
+    omega (
+      arith,
+      c.len-count.ensures,
+      told_few (pass_record c.args.pass_a.now) (pass_record l.pass_a) (pass_record c.args.pass_b.now) (pass_record l.pass_b) (pass_record c.ask_page.new.pass) l.after l.first l.done l.taken l.invariant.4
+          (pass_record c.give.new.pass) c.in_ok-items.field-0 c.in_ok-items.ensures.told c.in_ok-items.ensures.place few,
+    )
+
+pub overflow_add-taken : goal.overflow_add-taken
+overflow_add-taken g c =
+    let l = c.loop in
+    let few : length c.in_ok-items.field-0.items < 2 ^ 64 = omega (arith, c.len-count.ensures, c.len-count.type_inv) in
+    omega (
+      arith,
+      taken_few (pass_record c.args.pass_a.now) (pass_record l.pass_a) (pass_record c.args.pass_b.now) (pass_record l.pass_b) (pass_record c.ask_page.new.pass) l.after l.first l.done l.taken l.invariant.4
+          (pass_record c.give.new.pass) c.in_ok-items.field-0 c.in_ok-items.ensures.told c.in_ok-given.given c.in_ok-given.ensures.given c.in_ok-items.ensures.place few,
     )

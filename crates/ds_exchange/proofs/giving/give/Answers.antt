@@ -1,4 +1,4 @@
-use Rattle.std.proofs.Common.{[], ◌++◌, refl, ◌∙◌, arith, ap, length, length-drop, List}
+use Rattle.std.proofs.Common.{[], ◌++◌, refl, ◌∙◌, arith, ap, length, length-append, length-drop, length-take, List}
 use Rattle.std.proofs.lemmas.Result.{err_from_is_err_and}
 use Rattle.ds_entry.specs.declared.item.Item.{Item}
 use Rattle.ds_pass.specs.Record.{pass_record}
@@ -70,3 +70,13 @@ pub returns-clause-given : goal.returns-clause-given
 returns-clause-given g c =
     let l = c.loop-rest in
     gives_rest (pass_record c.args.pass.now) (pass_record l.pass) (pass_record c.give_part-2.new.pass) c.args.items l.invariant.1.0 l.rest l.taken l.invariant.1.1 l.invariant.1.2 c.in_ok-count-2.count c.in_ok-count-2.ensures.given
+
+pub overflow_add-taken : goal.overflow_add-taken
+overflow_add-taken g c =
+    let l = c.loop-rest in
+    omega (arith, c.len-most.ensures, c.len-most.type_inv, l.invariant.1.1.within, c.in_ok-count.ensures.given.within, length-append l.invariant.1.0 l.rest, ap length l.invariant.1.2, ap length c.in_ok-part.ensures.part, length-take 256 l.rest)
+
+pub overflow_add-result : goal.overflow_add-result
+overflow_add-result g c =
+    let l = c.loop-rest in
+    omega (arith, c.len-most.ensures, c.len-most.type_inv, l.invariant.1.1.within, c.in_ok-count-2.ensures.given.within, length-append l.invariant.1.0 l.rest, ap length l.invariant.1.2)

@@ -11,6 +11,9 @@ use Rattle.ds_feed.proofs.FeedLemmas.{prefix_next, given_more, nothing_wanted, n
 use Rattle.ds_feed.proofs.journal.Journal.since_under.Goals as goal
 use Rattle.ds_feed.proofs.journal.Journal.since_under.Goals.{then-branch, else-branch, else-loop-left-test, then-loop-left-test+in_default}
 
+pub overflow_add-result : goal.overflow_add-result
+overflow_add-result g c = omega (arith, ap (λ (j : Kept). length j.items) c.self.view_is, c.loop-left.invariant.within, c.loop-left.invariant.forward, c.in_ok-start.ensures.room, c.in_ok-start.ensures.within)
+
 pub loop-left-preserved : goal.loop-left-preserved
 loop-left-preserved g c =
     let test = passes (g.S.KeyScope.keeps c.args.scope.now) in

@@ -1,6 +1,7 @@
-use Rattle.std.proofs.Common.{◌≡◌, List, ◌++◌, Some, sym, ap, subst, ◌∙◌}
+use Rattle.std.proofs.Common.{◌≡◌, List, ◌++◌, Some, None, refl, sym, ap, subst, ◌∙◌}
 use Rattle.ds_entry.specs.Change.{ChangeRecord}
 use Rattle.ds_machine.specs.declared.reply.Reply.{Reply}
+use Rattle.rs_core.specs.declared.fault.RsFault.TheVariants as faults
 use Rattle.rs_core.specs.Judging.{refusal}
 use Rattle.rs_core.specs.Run.{offers}
 use Rattle.rs_core.proofs.SaysLemmas.{steps_say}
@@ -8,7 +9,7 @@ use Rattle.ds_services.specs.declared.event.SystemEvent.TheVariants as events
 use Rattle.ds_services.specs.declared.outcome.SystemOutcome.TheVariants.{Acted, Refused}
 use Rattle.ds_services.specs.declared.outcome.SystemFault.TheVariants as refusals
 use Rattle.ds_system.specs.Stands.{SystemRecord, system_of, SystemEventLeads}
-use Rattle.ds_system.proofs.ServeLemmas.{stands_fault, rs_refused, acted}
+use Rattle.ds_system.proofs.ServeLemmas.{stands_fault, late_fault, rs_refused, rs_kept, acted}
 use Rattle.ds_system.proofs.system.System.serve.Goals as goal
 
 pub pass_on-requires-clause-in_place : goal.pass_on-requires-clause-in_place
@@ -20,6 +21,28 @@ returns-in-Some c =
     let e : refusal i.rs c.args.event c.args.tick ≡ Some c.in-Some.fault = sym c.refusal.ensures ∙ c.in-Some.is in
     subst (λ (v : SystemRecord). SystemEventLeads (events.Service c.args.event c.args.tick c.args.side) (Refused (refusals.Service c.in-Some.fault)) v v) c.self.view_is
     (rs_refused (system_of i.rs i.numberers.items i.world i.file i.net i.made.items) c.args.event c.args.tick c.args.side c.in-Some.fault (stands_fault i.rs c.args.event c.args.tick c.in-Some.fault e))
+
+pub returns-in_default-reserve : goal.returns-in_default-reserve
+returns-in_default-reserve c =
+    let i = c.self.inside in
+    let none : refusal i.rs c.args.event c.args.tick ≡ None = sym c.refusal.ensures ∙ c.in_default.is in
+    subst (λ (v : SystemRecord). SystemEventLeads (events.Service c.args.event c.args.tick c.args.side) (Refused (refusals.Service faults.NoRoom)) v (system_of i.rs i.numberers.items i.world i.file i.net c.reserve.new.self.items)) c.self.view_is
+    (rs_kept (system_of i.rs i.numberers.items i.world i.file i.net i.made.items) c.args.event c.args.tick c.args.side faults.NoRoom i.rs c.reserve.new.self.items refl c.reserve.ensures.items none)
+
+pub returns-in_default-with_capacity : goal.returns-in_default-with_capacity
+returns-in_default-with_capacity c =
+    let i = c.self.inside in
+    let none : refusal i.rs c.args.event c.args.tick ≡ None = sym c.refusal.ensures ∙ c.in_default.is in
+    subst (λ (v : SystemRecord). SystemEventLeads (events.Service c.args.event c.args.tick c.args.side) (Refused (refusals.Service faults.NoRoom)) v (system_of i.rs i.numberers.items i.world i.file i.net c.reserve.new.self.items)) c.self.view_is
+    (rs_kept (system_of i.rs i.numberers.items i.world i.file i.net i.made.items) c.args.event c.args.tick c.args.side faults.NoRoom i.rs c.reserve.new.self.items refl c.reserve.ensures.items none)
+
+pub returns-in-Err : goal.returns-in-Err
+returns-in-Err c =
+    let i = c.self.inside in
+    let none : refusal i.rs c.args.event c.args.tick ≡ None = sym c.refusal.ensures ∙ c.in_default.is in
+    let fault = late_fault i.rs c.args.event c.args.tick c.in-Err.fault c.in-Err.ensures.refused none in
+    subst (λ (v : SystemRecord). SystemEventLeads (events.Service c.args.event c.args.tick c.args.side) (Refused (refusals.Service c.in-Err.fault)) v (system_of c.event.new.self i.numberers.items i.world i.file i.net c.reserve.new.self.items)) c.self.view_is
+    (rs_kept (system_of i.rs i.numberers.items i.world i.file i.net i.made.items) c.args.event c.args.tick c.args.side c.in-Err.fault c.event.new.self c.reserve.new.self.items c.in-Err.ensures.unchanged c.reserve.ensures.items fault)
 
 pub returns-in-Ok-event : goal.returns-in-Ok-event
 returns-in-Ok-event c =
