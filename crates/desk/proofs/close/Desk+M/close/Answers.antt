@@ -4,6 +4,18 @@ use Rattle.desk.specs.Pass.{desk_of}
 use Rattle.desk.proofs.CloseLemmas.{account_of, all_agree, all_gathered, all_last, all_noticed, all_seen, left_of_passes, length_gathered}
 use Rattle.desk.proofs.close.Desk+M.close.Goals as goal
 
+pub gather-requires-clause-at : goal.gather-requires-clause-at
+gather-requires-clause-at g c =
+    let items = sym c.passes.view_is ∙ (c.pop.ensures.items ∙ ap (λ o. c.pop.new.self.items ++ option_to_list o) c.unwrap-last.ensures) in
+    let last = all_last (λ p. desk_of p ≡ c.args.self.table.shared.table_id) c.pop.new.self.items c.args.passes c.unwrap-last.result items c.requires in
+    (last.1, c.args.self.words, c.args.self.slots)
+
+pub gather-requires-clause-others : goal.gather-requires-clause-others
+gather-requires-clause-others g c =
+    let items = sym c.passes.view_is ∙ (c.pop.ensures.items ∙ ap (λ o. c.pop.new.self.items ++ option_to_list o) c.unwrap-last.ensures) in
+    let last = all_last (λ p. desk_of p ≡ c.args.self.table.shared.table_id) c.pop.new.self.items c.args.passes c.unwrap-last.result items c.requires in
+    last.0
+
 pub gather-requires-clause-counted : goal.gather-requires-clause-counted
 gather-requires-clause-counted g c = (c.unwrap-last.result.raises_counted, c.unwrap-last.result.takes_counted)
 
