@@ -129,14 +129,8 @@ where
     M::Reply: Drop,
     ensures { IfSome result (λ passes. passes ≡ one ∷ two ∷ []) }
 {
-    let mut passes = Passes::<M>::new(alloc);
-    if passes.push(one).is_err() {
-        return None;
-    }
-    if passes.push(two).is_err() {
-        return None;
-    }
-    Some(passes)
+    let passes = vec![in alloc; one, two].ok()?;
+    Some(Passes::<M>::of(passes))
 }
 
 // Closes the desk with these passes, and prints what is left, with the row of a subscription; or why it stays open.

@@ -15,8 +15,10 @@ where
     M::Command: Drop,
     M::Reply: Drop,
 {
-    for (passes, place) in NO_DESK {
-        let (fault, position) = refusal_of::<M>(alloc, passes, place).ok_or(Failure::NoRoom)?;
+    for (passes, place) in &NO_DESK {
+        let Some((fault, position)) = refusal_of::<M>(alloc, *passes, *place) else {
+            return Err(Failure::NoRoom);
+        };
         println!(rt; "no desk: {fault}; the store is at {position}")?;
     }
     Ok(())

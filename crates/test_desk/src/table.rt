@@ -32,8 +32,7 @@ where
     let Ok((desk, mut passes)) = Desk::<M>::open(alloc, machine, 2, place) else {
         return None;
     };
-    let (Some(two), Some(one)) = (passes.pop(), passes.pop()) else {
-        return None;
-    };
+    let two = passes.pop().unwrap();
+    let one = passes.pop().unwrap();
     Some(Table { desk, one, two })
 }

@@ -63,7 +63,9 @@ fn follow<R: Runtime + AllocGlobal + Threads + Wait + Sync>(
     rt: &R,
     sizes: Sizes,
 ) -> Result<(), Failure> {
-    let review = watch_and_compare(rt, rt.alloc(), sizes).ok_or(Failure::NoRoom)?;
+    let Some(review) = watch_and_compare(rt, rt.alloc(), sizes) else {
+        return Err(Failure::NoRoom);
+    };
     let verdict = review.verdict();
     println!(rt; "{verdict}")?;
     Ok(())

@@ -4,9 +4,8 @@ ghost use Rattle.test_threads.specs.World.{IsWorld};
 
 use crate::closing::{close_world, tell_end};
 use crate::rows::{ROWS, Row, Step};
-use crate::steps::{bring_up, call, exchange, start_many, take, tell_label};
-use crate::tell::tell;
-use crate::world::{Side, World};
+use crate::steps::{bring_up, call, exchange, look, start_many, take, tell_label};
+use crate::world::World;
 use std::alloc::Global;
 use std::sync::Wait;
 use test_words::Failure;
@@ -62,27 +61,24 @@ fn take_step<R: Print + Wait>(
         follower,
         from,
     } = world;
-    let Side {
-        desk,
-        caller,
-        reader,
-    } = first;
-    let there = &second.desk;
-    let other = &mut second.caller;
     match step {
-        Step::Ask(asked) => call(rt, alloc, desk, caller, asked),
-        Step::AskSecond(asked) => call(rt, alloc, there, other, asked),
-        Step::StartMany(low, high) => start_many(rt, alloc, desk, caller, low, high),
-        Step::Look => tell(rt, &[("front", u128::from(desk.front(caller)))]),
-        Step::Refresh(limit) => bring_up(rt, alloc, desk, reader, follower, limit),
-        Step::Take => take(rt, desk, reader, follower),
+        Step::Ask(asked) => call(rt, alloc, &first.desk, &mut first.caller, asked),
+        Step::AskSecond(asked) => call(rt, alloc, &second.desk, &mut second.caller, asked),
+        Step::StartMany(low, high) => {
+            start_many(rt, alloc, &first.desk, &mut first.caller, low, high)
+        }
+        Step::Look => look(rt, &first.desk, &mut first.caller),
+        Step::Refresh(limit) => {
+            bring_up(rt, alloc, &first.desk, &mut first.reader, follower, limit)
+        }
+        Step::Take => take(rt, &first.desk, &mut first.reader, follower),
         Step::TellLabel(name) => tell_label(rt, follower, name),
         Step::Lose => {
             follower.lose();
             Ok(())
         }
-        Step::Give => exchange(rt, desk, caller, there, other, from),
-        Step::GiveBack => exchange(rt, there, other, desk, caller, &mut None),
+        Step::Give => exchange(rt, first, second, from),
+        Step::GiveBack => exchange(rt, second, first, &mut None),
         Step::Forget => {
             *from = None;
             Ok(())

@@ -5,9 +5,11 @@ ghost use Rattle.desk.specs.Desk.{identity};
 ghost use Rattle.desk.specs.Pass.{desk_of};
 ghost use Rattle.ds_pass.specs.Record.{pass_record};
 ghost use Rattle.ds_refresh.specs.KeepsUp.{KeepsUpWith};
+ghost use Rattle.test_threads.specs.World.{IsSide};
 
 use crate::asked::Asked;
 use crate::tell::{tell, tell_fault};
+use crate::world::Side;
 use desk::{Desk, Pass};
 use ds_exchange::{Exchanged, exchange_once};
 use ds_feed::Cursor;
@@ -144,22 +146,31 @@ pub(crate) fn tell_label(rt: &impl Print, follower: &Follower, name: &[u8]) -> R
     tell(rt, &[("generation", u128::from(generation))])
 }
 
+/// Prints how far the pass sees the desk's history go.
+pub(crate) fn look<R: Print>(
+    rt: &R,
+    desk: &Desk<Box<Store>>,
+    pass: &mut Pass<Box<Store>>,
+) -> Result<(), Failure>
+    requires { desk_of pass.old ≡ identity desk.now }
+    ensures { desk_of pass.new ≡ identity desk.now }
+{
+    tell(rt, &[("front", u128::from(desk.front(pass)))])
+}
+
 /// Gives what the one store has to the other, and prints what came of it. `from` is then from where the next exchange asks, none
 /// behind a fault.
 pub(crate) fn exchange<R: Print + Wait>(
     rt: &R,
-    a: &Desk<Box<Store>>,
-    pass_a: &mut Pass<Box<Store>>,
-    b: &Desk<Box<Store>>,
-    pass_b: &mut Pass<Box<Store>>,
+    a: &mut Side,
+    b: &mut Side,
     from: &mut Option<Cursor>,
 ) -> Result<(), Failure>
-    requires of_a { desk_of pass_a.old ≡ identity a.now }
-    requires of_b { desk_of pass_b.old ≡ identity b.now }
-    ensures of_a { desk_of pass_a.new ≡ identity a.now }
-    ensures of_b { desk_of pass_b.new ≡ identity b.now }
+    requires { IsSide a.old × IsSide b.old }
+    ensures sides { IsSide a.new × IsSide b.new }
+    ensures readers { (a.new.reader ≡ a.old.reader) × (b.new.reader ≡ b.old.reader) }
 {
-    match exchange_once(rt, a, pass_a, b, pass_b, *from) {
+    match exchange_once(rt, &a.desk, &mut a.caller, &b.desk, &mut b.caller, *from) {
         Ok(exchanged) => {
             *from = Some(exchanged.cursor);
             tell_exchanged(rt, exchanged)

@@ -91,7 +91,9 @@ fn follow<R: Wait>(
     requires { desk_of worker.old.pass ≡ identity desk.now }
     ensures { desk_of worker.new.pass ≡ desk_of worker.old.pass }
 {
-    let mut follower = Follower::new(alloc, number, query(alloc, b".*")?).ok()?;
+    let Ok(mut follower) = Follower::new(alloc, number, query(alloc, b".*")?) else {
+        return None;
+    };
     follow_often(rt, alloc, desk, worker, &mut follower, calls)
 }
 

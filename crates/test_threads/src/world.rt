@@ -34,9 +34,9 @@ impl World {
     pub(crate) fn new(alloc: Global, row: &Row) -> Option<World>
         ensures { IfSome result IsWorld }
     {
-        let follower = Follower::new(alloc, row.sub, query(alloc, row.pattern)?).ok()?;
-        let first = open(alloc, 1, row.ring)?;
-        let second = open(alloc, 2, 256)?;
+        let follower = Follower::new(alloc, row.sub, query(alloc, row.pattern)?).ok();
+        let sides = open(alloc, 1, row.ring).zip(open(alloc, 2, 256));
+        let ((first, second), follower) = sides.zip(follower)?;
         Some(World {
             first,
             second,
