@@ -19,6 +19,25 @@ collect-room-requires-clause-task g c = let a = identity c.args.desks.now.first 
     let is = came.still a b was in
     other_of b c.if-is_none.worker.index c.if-is_none.worker.pass c.if-is_none.worker.task is.task
 
+pub collect-room-requires-clause-others : goal.collect-room-requires-clause-others
+collect-room-requires-clause-others g c = c.loop-job.invariant.others
+
+pub collect-room-requires-clause-room : goal.collect-room-requires-clause-room
+collect-room-requires-clause-room g c = let i = c.loop-job.invariant in
+    let came : ComesBack c.in-Some.job.worker c.if-is_none.worker = elim c.if-is_none.branch [
+      | then-is_none w ↦ subst (λ v. ComesBack c.in-Some.job.worker v) (sym w.worker-is) w.finish.ensures.back
+      | else-is_none w ↦ subst (λ v. ComesBack c.in-Some.job.worker v) (sym w.worker-is) (is_back c.in-Some.job.worker)
+    ] in
+    let less = longer_sum (λ j. others_in j.worker.task) c.pop.new.self.items c.loop-job.jobs.items c.in-Some.job c.in-Some.ensures.items in
+    let same = came.same_others in let all = i.all_others in let room = i.others_room in
+    omega (arith, all, less, same, room)
+
+pub push_reserved-requires : goal.push_reserved-requires
+push_reserved-requires g c = let i = c.loop-job.invariant in
+    let fewer = length-last c.pop.new.self.items c.loop-job.jobs.items c.in-Some.job c.in-Some.ensures.items in
+    let all = i.all in let room = i.room in
+    omega (arith, all, fewer, room, c.loop-job.back.passes.ok.0)
+
 pub loop-job-preserved : goal.loop-job-preserved
 loop-job-preserved g c = let i = c.loop-job.invariant in let a = identity c.args.desks.now.first in let b = identity c.args.desks.now.second in
     let both = popped (λ j. IsOf a b j.worker) c.pop.new.self.items c.loop-job.jobs.items c.in-Some.job c.in-Some.ensures.items i.left in

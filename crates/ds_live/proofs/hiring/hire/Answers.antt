@@ -56,6 +56,12 @@ loop-pass-preserved g c = let i = c.loop-pass.invariant in let a = identity c.ar
       others_room = i.others_room;
     }
 
+pub push_reserved-requires-in-Some-pop-2 : goal.push_reserved-requires-in-Some-pop-2
+push_reserved-requires-in-Some-pop-2 g c = let i = c.loop-pass.invariant in
+    let fewer = length-last c.pop-in-loop-pass.new.self.items c.loop-pass.back.passes.items c.in-Some-pop-2.pass c.in-Some-pop-2.ensures.items in
+    let all = i.all in let room = i.room in
+    omega (arith, all, fewer, room, c.loop-pass.jobs.ok.0)
+
 pub loop-pass-smaller : goal.loop-pass-smaller
 loop-pass-smaller g c =
     let fewer = length-last c.pop-in-loop-pass.new.self.items c.loop-pass.back.passes.items c.in-Some-pop-2.pass c.in-Some-pop-2.ensures.items in
