@@ -1,6 +1,6 @@
 //! What is said of a line that can't be read: which part was expected.
 
-use crate::nearest::nearest;
+use crate::nearest::{IfNear, nearest};
 use crate::plain::Plain;
 use crate::stray::stray_at;
 use crate::wanted::{part, wanted};
@@ -143,12 +143,13 @@ fn explain_space(rt: &(impl Runtime + AllocGlobal), bad: &BadLine<'_>) {
 // The part that belongs behind a space that is missing: the one that can't be read where the line ends in that space.
 fn part_behind(alloc: Global, bad: &BadLine<'_>) -> Option<Expected> {
     let front = bad.text.get(..bad.place)?;
-    if front.len() > LONGEST_LINE {
+    let count = front.len();
+    if count > LONGEST_LINE {
         return None;
     }
     let mut block = [b'\n'; LONGEST_LINE + 2];
-    block[..front.len()].copy_from_slice(front);
-    block[front.len()] = b' ';
+    block[..count].copy_from_slice(front);
+    block[count] = b' ';
     let (line, _) = split_line(&block)?;
     expected_of(&read_line(alloc, line))
 }
@@ -203,12 +204,6 @@ fn explain_first(rt: &impl Runtime, number: u64, command: &str) {
 // A word that is no command, and the nearest one that is.
 fn explain_unknown(rt: &impl Runtime, number: u64, word: &[u8], near: Option<&str>, help: &str) {
     let shown = Plain(&word[..word.len().min(FROM)]);
-    let _ = match near {
-        Some(near) => {
-            eprintln!(rt;
-                "line {number}, byte 0: `{shown}` is no command, the nearest is `{near}`: see {help}"
-            )
-        }
-        None => eprintln!(rt; "line {number}, byte 0: `{shown}` is no command: see {help}"),
-    };
+    let near = IfNear(near);
+    let _ = eprintln!(rt; "line {number}, byte 0: `{shown}` is no command{near}: see {help}");
 }

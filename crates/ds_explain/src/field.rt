@@ -93,12 +93,10 @@ fn has_label(fields: &Table) -> bool {
 
 // Whether the class is one of the four.
 fn has_class(fields: &Table) -> bool {
-    match text_in(fields, "class") {
-        Some(class) => {
-            class == "block" || class == "character" || class == "network" || class == "server"
-        }
-        None => false,
-    }
+    matches!(
+        text_in(fields, "class"),
+        Some("block" | "character" | "network" | "server")
+    )
 }
 
 // Whether a field is a number from `low` to `high`, or isn't there.

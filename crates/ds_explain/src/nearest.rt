@@ -1,5 +1,7 @@
 //! The nearest word that is known, for one that isn't.
 
+use std::fmt;
+
 /// The one of these words that a word is nearest to, where half of it is the same.
 pub(crate) fn nearest(word: &[u8], known: &[&'static str]) -> Option<&'static str> {
     let mut best = None;
@@ -12,6 +14,19 @@ pub(crate) fn nearest(word: &[u8], known: &[&'static str]) -> Option<&'static st
         }
     }
     best.filter(|it| fewest <= it.len() / 2)
+}
+
+/// What is said of the nearest word, behind the one that isn't known.
+#[derive(Clone, Copy)]
+pub(crate) struct IfNear<'a>(pub(crate) Option<&'a str>);
+
+impl fmt::Display for IfNear<'_> {
+    fn fmt<W: fmt::Write>(&self, f: &mut fmt::Formatter<W>) -> fmt::Result {
+        match self.0 {
+            Some(near) => write!(f, ", the nearest is `{near}`"),
+            None => Ok(()),
+        }
+    }
 }
 
 // How many bytes of the longer text stand between what both begin with and what both end with, letters of either case

@@ -19,7 +19,8 @@ pub(crate) fn field_line(text: &[u8], service: Option<usize>, field: &[u8]) -> O
         None => 0,
     };
     for place in begin..text.len() {
-        if gives(text, place, field) {
+        let (before, rest) = text.split_at(place);
+        if gives(before, rest, field) {
             return Some(line_at(text, place));
         }
     }
@@ -46,21 +47,15 @@ fn service_place(text: &[u8], index: usize) -> Option<usize> {
     None
 }
 
-// Whether a field stands at a place, and behind it an equals sign, or the end of a header.
-fn gives(text: &[u8], place: usize, field: &[u8]) -> bool {
-    let Some(rest) = text.get(place..) else {
-        return false;
-    };
-    if place > 0 && text.get(place - 1).is_some_and(|byte| is_name_byte(*byte)) {
+// Whether a field begins where this stands behind that, and behind it an equals sign, or the end of a header.
+fn gives(before: &[u8], rest: &[u8], field: &[u8]) -> bool {
+    if before.last().is_some_and(|byte| is_name_byte(*byte)) {
         return false;
     }
-    if !rest.starts_with(field) {
-        return false;
-    }
-    match rest.get(field.len()..) {
+    match rest.strip_prefix(field) {
         Some(behind) => matches!(
             behind.trim_ascii_start().first().copied(),
-            Some(b'=') | Some(b']')
+            Some(b'=' | b']')
         ),
         None => false,
     }

@@ -1,7 +1,7 @@
 //! What is said of a settings text that has a fault: which field, of which service, in which line.
 
 use crate::field::{field_of, fields_known};
-use crate::nearest::nearest;
+use crate::nearest::{IfNear, nearest};
 use crate::place::{field_line, line_at, service_line};
 use crate::plain::Plain;
 use ds_names::NoRoom;
@@ -80,10 +80,8 @@ fn line_of(text: &[u8], field: &str, fault: SettingsFault) -> Option<usize> {
 // Says what is wrong with a field, and which one is the nearest that there is.
 fn say(rt: &impl Runtime, place: Place, field: &str, wrong: &str, near: Option<&str>) {
     let shown = Plain(field.as_bytes());
-    let _ = match near {
-        Some(near) => eprintln!(rt; "{place}: `{shown}` {wrong}, the nearest is `{near}`"),
-        None => eprintln!(rt; "{place}: `{shown}` {wrong}"),
-    };
+    let near = IfNear(near);
+    let _ = eprintln!(rt; "{place}: `{shown}` {wrong}{near}");
 }
 
 // The fields of a service of a document.

@@ -51,12 +51,8 @@ impl fmt::Display for StoodThere<'_> {
             (Wanted::Header, _) => Ok(()),
             (_, Stands::Nothing) => f.write_str(", and the trace ends"),
             (_, Stands::Long) => f.write_str(", not a line above 4096 bytes"),
-            (Wanted::Reply, Stands::Line(line)) => {
-                let line = Plain(without_mark(without_newline(line)));
-                write!(f, ", not \"{line}\"")
-            }
-            (_, Stands::Line(line)) => {
-                let line = Plain(without_newline(line));
+            (wanted, Stands::Line(line)) => {
+                let line = Plain(told_of(wanted, without_newline(line)));
                 write!(f, ", not \"{line}\"")
             }
         }
@@ -71,11 +67,11 @@ fn without_newline(line: &[u8]) -> &[u8] {
     }
 }
 
-// The line of a reply without its mark, if it has one.
-fn without_mark(line: &[u8]) -> &[u8] {
-    match line.strip_prefix(b"< ") {
-        Some(reply) => reply,
-        None => line,
+// What is told of a line: where a reply is wanted, what stands behind its mark, if it has one.
+fn told_of(wanted: Wanted, line: &[u8]) -> &[u8] {
+    match (wanted, line.strip_prefix(b"< ")) {
+        (Wanted::Reply, Some(reply)) => reply,
+        _ => line,
     }
 }
 

@@ -71,10 +71,10 @@ pub(crate) fn hire<'e, R: Wait, G: Gate>(
     let Some(mut pass) = back.passes.pop() else {
         unreachable!()
     };
+    publish_labels(rt, &desks.first, &mut pass, sizes.publishers)?;
     let Some(other) = back.others.pop() else {
         unreachable!()
     };
-    publish_labels(rt, &desks.first, &mut pass, sizes.publishers)?;
     jobs.push_reserved(Turns {
         rt,
         alloc,

@@ -85,34 +85,21 @@ pub fn replay_reporting<R: Source, W: Sink, B: Report>(
     let Ok(mut lines) = Lines::new(alloc) else {
         return Err(ReplayFault::NoRoom);
     };
-    replay_lines(alloc, &mut lines, reader, writer, report, bad_lines)
+    let Ok(mut session) = Session::open(alloc, RING) else {
+        return Err(ReplayFault::NoRoom);
+    };
+    replay_over(
+        alloc,
+        &mut session,
+        &mut lines,
+        reader,
+        writer,
+        report,
+        bad_lines,
+    )
 }
 
-// The same over lines of which nothing was read.
-fn replay_lines<R: Source, W: Sink, B: Report>(
-    alloc: Global,
-    lines: &mut Lines,
-    reader: &mut R,
-    writer: &mut W,
-    report: &mut B,
-    policy: BadLines,
-) -> Result<Replayed, ReplayFault>
-    requires { lines.old ≡ no_lines }
-    ensures answered { IfOk result (λ done. (input output : List ℕ)
-        × Consumes (R.remaining reader.old) (R.remaining reader.new) input × IsAtEnd (R.remaining reader.new)
-        × Appends (W.contents writer.old) (W.contents writer.new) output
-        × IsReplayed policy input done.lines done.bad output) }
-    ensures stopped { IfErr result (λ fault. (input output : List ℕ)
-        × Consumes (R.remaining reader.old) (R.remaining reader.new) input
-        × Appends (W.contents writer.old) (W.contents writer.new) output
-        × StopsWith policy fault (R.remaining reader.new) input output) }
-    ensures cause { IfErr result (λ fault. HasCause R.Source W.Sink fault reader.old reader.new writer.new) }
-{
-    let mut session = Session::open(alloc, RING)?;
-    replay_over(alloc, &mut session, lines, reader, writer, report, policy)
-}
-
-// The same over a session that was just opened.
+// The same over a session that was just opened, and lines of which nothing was read.
 fn replay_over<R: Source, W: Sink, B: Report>(
     alloc: Global,
     session: &mut Session,

@@ -83,8 +83,10 @@ impl Walk {
             return Ok(None);
         };
         let asked = self.asked(reader, head)?;
-        let passed = self.judge(reader, pass, asked)?;
-        Ok(Some(passed))
+        match self.judge(reader, pass, asked) {
+            Ok(passed) => Ok(Some(passed)),
+            Err(fault) => Err(fault),
+        }
     }
 
     // Reads the first line of an entry, if there is one.
@@ -94,8 +96,10 @@ impl Walk {
         ensures fails { IfErr result (λ fault. FailsFrom self.old (R.remaining reader.old) fault) }
     {
         self.in_items = false;
-        if !next_line(&mut self.lines, reader, Place::Form)? {
-            return Ok(None);
+        match next_line(&mut self.lines, reader, Place::Form) {
+            Ok(true) => {}
+            Ok(false) => return Ok(None),
+            Err(fault) => return Err(fault),
         }
         match read_head(self.alloc, self.lines.line(), self.header.format) {
             Ok(read) => {
@@ -140,8 +144,8 @@ impl Walk {
         wanted_line(&mut self.lines, reader, Place::Form)?;
         match read_plus(self.alloc, self.lines.line(), self.header.format) {
             Ok(item) => {
-                self.asked.extend_from_slice(self.lines.line())?;
                 push(items, item)?;
+                self.asked.extend_from_slice(self.lines.line())?;
                 Ok(())
             }
             Err(fault) => Err(WalkFault::of_line(fault, self.lines.count())),

@@ -1,16 +1,14 @@
 //! What a script asks of RS and of the driver tables.
 
-ghost use Rattle.std.specs.Prelude.{◌≡◌, slice_get, OnOk, OnErr};
+ghost use Rattle.std.specs.Prelude.{◌≡◌, OnOk, OnErr};
 ghost use Rattle.ds_answers.specs.Services.{AnswersSettings};
-ghost use Rattle.ds_answers.specs.Tables.{map_items, AnswersAssign, AnswersFollow, AnswersReply, AnswersSubmit};
-ghost use Rattle.ds_answers.specs.Waiting.{AppendsLed};
+ghost use Rattle.ds_answers.specs.Tables.{AnswersAssign, AnswersFollow, AnswersReply, AnswersSubmit};
 ghost use Rattle.ds_script.specs.Answer.{AppendsByServers, AppendsByServices, AppendsSettings, items_of_map};
 
 use crate::session::Session;
-use ds_answers::{Servers, answer_event};
+use ds_answers::answer_event;
 use ds_names::{Endpoint, Name, NoRoom};
 use ds_words::{Device, Server, SettingsText};
-use ds_world::World;
 use rs_core::Event;
 use std::alloc::Global;
 
@@ -74,7 +72,8 @@ impl Session {
             output.old.items output.new.items self.old self.new) }
         ensures unanswered { OnErr result (output.new.items ≡ output.old.items) }
     {
-        follow(alloc, &mut self.servers, &self.world, map, output)
+        self.servers
+            .follow(alloc, self.world.map(map as usize), output)
     }
 
     /// Has a table follow a map and take a request, and puts the answer behind those that wait.
@@ -91,14 +90,12 @@ impl Session {
             output.old.items output.new.items self.old self.new) }
         ensures unanswered { OnErr result (output.new.items ≡ output.old.items) }
     {
-        submit(
+        self.servers.submit(
             alloc,
-            &mut self.servers,
-            &self.world,
             server,
             id,
             unit,
-            map,
+            self.world.map(map as usize),
             output,
         )
     }
@@ -117,37 +114,4 @@ impl Session {
     {
         self.servers.reply(server, endpoint, id, output)
     }
-}
-
-// Has both tables follow the world's map of a number.
-fn follow(
-    alloc: Global,
-    servers: &mut Servers,
-    world: &World,
-    map: u64,
-    output: &mut Vec<u8>,
-) -> Result<(), NoRoom>
-    ensures answered { OnOk result (AppendsLed (AnswersFollow (map_items (slice_get world.now.maps map)))
-        output.old.items output.new.items servers.old servers.new) }
-    ensures unanswered { OnErr result (output.new.items ≡ output.old.items) }
-{
-    servers.follow(alloc, world.map(map as usize), output)
-}
-
-// Has a table follow it, and take a request.
-fn submit(
-    alloc: Global,
-    servers: &mut Servers,
-    world: &World,
-    server: Server,
-    id: u64,
-    unit: u8,
-    map: u64,
-    output: &mut Vec<u8>,
-) -> Result<(), NoRoom>
-    ensures answered { OnOk result (AppendsLed (AnswersSubmit server id unit (map_items (slice_get world.now.maps map)))
-        output.old.items output.new.items servers.old servers.new) }
-    ensures unanswered { OnErr result (output.new.items ≡ output.old.items) }
-{
-    servers.submit(alloc, server, id, unit, world.map(map as usize), output)
 }

@@ -1,6 +1,6 @@
 //! What a walk does at a reply.
 
-ghost use Rattle.std.specs.Prelude.{◌≡◌, ◌≢◌, ◌<◌, length, None, IfOk, IfErr, OnOk};
+ghost use Rattle.std.specs.Prelude.{◌≡◌, ◌≢◌, ◌<◌, length, None, IfOk, IfErr};
 ghost use Rattle.trace_words.specs.declared.asked.Asked.TheVariants as askeds;
 ghost use Rattle.trace_words.specs.Noroom.{noroom_line, stopped_line};
 ghost use Rattle.trace_walk.specs.Steps.{GoesBehind, FailsBehind, GoesPastReply, FailsAtReply, HasRefused, PassesLine, PassesSweep, PassesMerge, FailsAtMerge, PassesPlain, FailsAtPlain, PassesFor, FailsFor, SaysReply, FailsToSay, swept_line};
@@ -34,9 +34,13 @@ impl Walk {
         ensures goes { IfOk result (GoesBehind self.old (R.remaining reader.old) pass asked self.new (R.remaining reader.new)) }
         ensures fails { IfErr result (FailsBehind self.old (R.remaining reader.old) pass asked) }
     {
-        wanted_line(&mut self.lines, reader, Place::Reply)?;
-        self.first = self.lines.count();
-        self.answered(reader, pass, asked)
+        match wanted_line(&mut self.lines, reader, Place::Reply) {
+            Ok(()) => {
+                self.first = self.lines.count();
+                self.answered(reader, pass, asked)
+            }
+            Err(fault) => Err(fault),
+        }
     }
 
     // Judges the reply whose first line the walk is at. One for want of memory may stand there, and then nothing changed.
@@ -52,7 +56,10 @@ impl Walk {
         if is_noroom(self.lines.line()) {
             return self.judge_noroom(&asked);
         }
-        self.judge_asked(reader, pass, asked)
+        match asked {
+            Asked::Line(command) => self.judge_line(reader, pass, command),
+            Asked::Merge(items) => self.judge_merge(reader, items),
+        }
     }
 
     // Goes past the reply for want of memory, at which the walk is.
@@ -63,23 +70,6 @@ impl Walk {
         self.reply.clear();
         append_noroom(&mut self.reply)?;
         Ok(refused(self.alloc, asked, self.header.format))
-    }
-
-    // Judges any other reply.
-    fn judge_asked<R: Source>(
-        &mut self,
-        reader: &mut R,
-        pass: u64,
-        asked: Asked,
-    ) -> Result<Passed, WalkFault>
-        requires { self.old.lines.line ≢ noroom_line }
-        ensures goes { IfOk result (GoesPastReply self.old (R.remaining reader.old) pass asked self.new (R.remaining reader.new)) }
-        ensures fails { IfErr result (FailsAtReply self.old (R.remaining reader.old) pass asked) }
-    {
-        match asked {
-            Asked::Line(command) => self.judge_line(reader, pass, command),
-            Asked::Merge(items) => self.judge_merge(reader, items),
-        }
     }
 
     // Judges the reply to a command that stands on one line.
@@ -143,8 +133,7 @@ impl Walk {
     {
         let number = self.lines.count();
         let reply = stopped(self.alloc, &mut self.store, items, done, number)?;
-        self.says(reader, Wording::AsMerge, &reply)?;
-        Ok(Passed::AsItStands)
+        self.says(reader, Wording::AsMerge, &reply, Passed::AsItStands)
     }
 
     // A sweep of format 1.
@@ -166,8 +155,7 @@ impl Walk {
             self.header.limits,
             swept,
         )?;
-        self.says(reader, Wording::AsMerge, &reply)?;
-        Ok(Passed::Swept(merges))
+        self.says(reader, Wording::AsMerge, &reply, Passed::Swept(merges))
     }
 
     // Asks the store, whose reply has to stand there.
@@ -184,23 +172,26 @@ impl Walk {
         if wants_room(&reply) {
             return Err(WalkFault::NoRoom);
         }
-        self.says(reader, wording, &reply)?;
-        Ok(Passed::AsItStands)
+        self.says(reader, wording, &reply, Passed::AsItStands)
     }
 
-    // The reply stands there, at whose first line the walk is.
+    // The reply stands there, at whose first line the walk is. Gives what the entry is in format 2.
     fn says<R: Source>(
         &mut self,
         reader: &mut R,
         wording: Wording,
         reply: &Reply,
-    ) -> Result<(), WalkFault>
-        ensures goes { OnOk result (SaysReply wording reply.now self.old (R.remaining reader.old) self.new (R.remaining reader.new)) }
+        passed: Passed,
+    ) -> Result<Passed, WalkFault>
+        ensures goes { IfOk result (λ p. (p ≡ passed) × SaysReply wording reply.now self.old (R.remaining reader.old) self.new (R.remaining reader.new)) }
         ensures fails { IfErr result (FailsToSay wording reply.now self.old (R.remaining reader.old)) }
     {
         self.reply.clear();
         append_reply(&mut self.reply, wording, reply, self.header.limits)?;
-        expect(&mut self.lines, reader, self.reply.as_slice())
+        match expect(&mut self.lines, reader, self.reply.as_slice()) {
+            Ok(()) => Ok(passed),
+            Err(fault) => Err(fault),
+        }
     }
 }
 

@@ -1,9 +1,10 @@
-use Rattle.std.proofs.Common.{All, ◌≡◌, length, vec_capacity, ap, sym, subst, arith}
+use Rattle.std.proofs.Common.{All, ◌≡◌, [], length, sum_by, vec_capacity, ap, sym, subst, arith}
+use Rattle.std.proofs.lemmas.List.Elements.{All-nil, All-same}
 use Rattle.desk.specs.Desk.{identity}
 use Rattle.desk.specs.Pass.{desk_of}
 use Rattle.ds_workers.specs.Workers.{ComesBack, IsOf, others_in}
 use Rattle.ds_workers.proofs.WorkerLemmas.{is_back}
-use Rattle.ds_live.proofs.JobLemmas.{length-last, longer_sum, other_of, popped, pushed}
+use Rattle.ds_live.proofs.JobLemmas.{length-last, longer_sum, no_length, other_of, popped, pushed}
 use Rattle.ds_live.proofs.dismissing.dismiss.Goals as goal
 use Rattle.ds_live.proofs.dismissing.dismiss.Goals.{then-is_none, else-is_none}
 
@@ -17,6 +18,25 @@ collect-room-requires-clause-task g c = let a = identity c.args.desks.now.first 
     ] in
     let is = came.still a b was in
     other_of b c.if-is_none.worker.index c.if-is_none.worker.pass c.if-is_none.worker.task is.task
+
+pub collect-room-requires-clause-others : goal.collect-room-requires-clause-others
+collect-room-requires-clause-others g c = c.loop-job.invariant.others
+
+pub collect-room-requires-clause-room : goal.collect-room-requires-clause-room
+collect-room-requires-clause-room g c = let i = c.loop-job.invariant in
+    let came : ComesBack c.in-Some.job.worker c.if-is_none.worker = elim c.if-is_none.branch [
+      | then-is_none w ↦ subst (λ v. ComesBack c.in-Some.job.worker v) (sym w.worker-is) w.finish.ensures.back
+      | else-is_none w ↦ subst (λ v. ComesBack c.in-Some.job.worker v) (sym w.worker-is) (is_back c.in-Some.job.worker)
+    ] in
+    let less = longer_sum (λ j. others_in j.worker.task) c.pop.new.self.items c.loop-job.jobs.items c.in-Some.job c.in-Some.ensures.items in
+    let same = came.same_others in let all = i.all_others in let room = i.others_room in
+    omega (arith, all, less, same, room)
+
+pub push_reserved-requires : goal.push_reserved-requires
+push_reserved-requires g c = let i = c.loop-job.invariant in
+    let fewer = length-last c.pop.new.self.items c.loop-job.jobs.items c.in-Some.job c.in-Some.ensures.items in
+    let all = i.all in let room = i.room in
+    omega (arith, all, fewer, room, c.loop-job.back.passes.ok.0)
 
 pub loop-job-preserved : goal.loop-job-preserved
 loop-job-preserved g c = let i = c.loop-job.invariant in let a = identity c.args.desks.now.first in let b = identity c.args.desks.now.second in
@@ -43,3 +63,38 @@ loop-job-preserved g c = let i = c.loop-job.invariant in let a = identity c.args
       room = omega (arith, room, kept, ap (λ v. vec_capacity v) passes);
       others_room = omega (arith, others_room, kept_others);
     }
+
+-- no pass is back yet
+pub loop-job-init : goal.loop-job-init
+loop-job-init g c = let a = identity c.args.desks.now.first in let b = identity c.args.desks.now.second in
+    let none = c.requires.taken.0 in let none_of = c.requires.taken.1 in
+    record {
+      home = All-same (λ p. desk_of p ≡ a) c.args.back.now.passes.items [] none (All-nil (λ p. desk_of p ≡ a));
+      others = All-same (λ p. desk_of p ≡ b) c.args.back.now.others.items [] none_of (All-nil (λ p. desk_of p ≡ b));
+      left = c.requires.of_desks;
+      all = omega (arith, ap length none);
+      all_others = omega (arith, ap length none_of);
+      room = c.requires.room;
+      others_room = c.requires.others_room;
+    }
+
+pub loop-job-smaller : goal.loop-job-smaller
+loop-job-smaller g c =
+    let fewer = length-last c.pop.new.self.items c.loop-job.jobs.items c.in-Some.job c.in-Some.ensures.items in
+    omega (arith, fewer)
+
+-- all are back, once no job is left
+pub returns-clause-passes : goal.returns-clause-passes
+returns-clause-passes g c = c.loop-job.invariant.home
+
+pub returns-clause-others : goal.returns-clause-others
+returns-clause-others g c = c.loop-job.invariant.others
+
+pub returns-clause-all : goal.returns-clause-all
+returns-clause-all g c = let all = c.loop-job.invariant.all in omega (arith, all, c.in_default.ensures.cases.0)
+
+pub returns-clause-all_others : goal.returns-clause-all_others
+returns-clause-all_others g c =
+    let all = c.loop-job.invariant.all_others in
+    let none = no_length c.loop-job.jobs.items (omega (arith, c.in_default.ensures.cases.0, c.loop-job.jobs.ok.0)) in
+    omega (arith, all, ap (sum_by (λ j. others_in j.worker.task)) none)

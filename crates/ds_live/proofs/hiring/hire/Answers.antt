@@ -55,3 +55,45 @@ loop-pass-preserved g c = let i = c.loop-pass.invariant in let a = identity c.ar
       passes_room = omega (arith, passes_room, left);
       others_room = i.others_room;
     }
+
+pub push_reserved-requires-in-Some-pop-2 : goal.push_reserved-requires-in-Some-pop-2
+push_reserved-requires-in-Some-pop-2 g c = let i = c.loop-pass.invariant in
+    let fewer = length-last c.pop-in-loop-pass.new.self.items c.loop-pass.back.passes.items c.in-Some-pop-2.pass c.in-Some-pop-2.ensures.items in
+    let all = i.all in let room = i.room in
+    omega (arith, all, fewer, room, c.loop-pass.jobs.ok.0)
+
+pub loop-pass-smaller : goal.loop-pass-smaller
+loop-pass-smaller g c =
+    let fewer = length-last c.pop-in-loop-pass.new.self.items c.loop-pass.back.passes.items c.in-Some-pop-2.pass c.in-Some-pop-2.ensures.items in
+    omega (arith, fewer)
+
+-- the jobs of all, once no pass is left
+pub returns-clause-can_run : goal.returns-clause-can_run
+returns-clause-can_run g c = c.loop-pass.invariant.can_run
+
+pub returns-clause-of_desks : goal.returns-clause-of_desks
+returns-clause-of_desks g c = c.loop-pass.invariant.hired
+
+pub returns-clause-one : goal.returns-clause-one
+returns-clause-one g c = c.loop-pass.invariant.one
+
+pub returns-clause-all : goal.returns-clause-all
+returns-clause-all g c = let all = c.loop-pass.invariant.all in omega (arith, all, c.in_default-pop-3.ensures.cases.0)
+
+pub returns-clause-taken : goal.returns-clause-taken
+returns-clause-taken g c = (no_length c.pop-in-loop-pass.new.self.items (omega (arith, c.in_default-pop-3.ensures.cases.1, c.pop-in-loop-pass.new.self.ok.0)), c.loop-pass.invariant.others)
+
+pub returns-clause-room : goal.returns-clause-room
+returns-clause-room g c = let room = c.loop-pass.invariant.passes_room in (omega (arith, room, c.pop-in-loop-pass.ensures.capacity), c.loop-pass.invariant.others_room)
+
+-- the lists of passes keep their room where no job can be made
+pub returns-in_default-clause-room : goal.returns-in_default-clause-room
+returns-in_default-clause-room g c = let passes = c.args.back.now.passes.ok in let others = c.args.back.now.others.ok in let one = c.requires.count.1 in
+    (omega (arith, passes.0, passes.1), omega (arith, others.0, others.1, one))
+
+pub returns-in_err-publish_labels-clause-room : goal.returns-in_err-publish_labels-clause-room
+returns-in_err-publish_labels-clause-room g c = let passes = c.args.back.now.passes.ok in let others = c.args.back.now.others.ok in let one = c.requires.count.1 in
+    (omega (arith, passes.0, passes.1, c.pop.ensures.capacity), omega (arith, others.0, others.1, one))
+
+pub returns-in_err-task-clause-room : goal.returns-in_err-task-clause-room
+returns-in_err-task-clause-room g c = let room = c.loop-pass.invariant.passes_room in (omega (arith, room, c.pop-in-loop-pass.ensures.capacity), c.loop-pass.invariant.others_room)

@@ -30,3 +30,18 @@ close_both-requires-clause-others g c =
     let same = same_sum (λ j k. ComesBack j.worker k.worker) (λ j. others_in j.worker.task) (λ v w back. back.same_others)
     c.in_ok-jobs.jobs.items c.work_all-jobs.result.0.items c.work_all-jobs.ensures.back in
     (c.dismiss-fault.ensures.others, omega (arith, same, c.in_ok-jobs.ensures.one, c.dismiss-fault.ensures.all_others, c.in_ok-second.ensures.count.0, c.in_ok-second.ensures.count.1))
+
+pub hire-requires-clause-passes : goal.hire-requires-clause-passes
+hire-requires-clause-passes g c = c.in_ok-first.ensures.home
+
+pub hire-requires-clause-others : goal.hire-requires-clause-others
+hire-requires-clause-others g c = c.in_ok-second.ensures.home
+
+pub hire-requires-clause-count : goal.hire-requires-clause-count
+hire-requires-clause-count g c = (omega (arith, c.in_ok-first.ensures.count.1, c.workers.ensures), c.in_ok-second.ensures.count.1)
+
+pub dismiss-fault-requires-clause-taken : goal.dismiss-fault-requires-clause-taken
+dismiss-fault-requires-clause-taken g c = c.in_ok-jobs.ensures.taken
+
+pub returns-clause-account : goal.returns-clause-account
+returns-clause-account g c = c.close_both.ensures.account

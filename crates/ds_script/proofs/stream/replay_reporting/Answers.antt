@@ -8,3 +8,9 @@ returns-in_default-clause-stopped g c =
     let from = g.R.Source.remaining c.args.reader.now in
     let had = g.W.Sink.contents c.args.writer.now in
     ([], [], Consumes-nil from, Appends-nil had, (0, 0, [], nothing_answered c.args.bad_lines, tt))
+
+pub returns-in_default-open-clause-stopped : goal.returns-in_default-open-clause-stopped
+returns-in_default-open-clause-stopped g c =
+    let from = g.R.Source.remaining c.args.reader.now in
+    let had = g.W.Sink.contents c.args.writer.now in
+    ([], [], Consumes-nil from, Appends-nil had, (0, 0, [], nothing_answered c.args.bad_lines, tt))

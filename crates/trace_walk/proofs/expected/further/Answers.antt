@@ -1,4 +1,4 @@
-use Rattle.std.proofs.Common.{◌++◌, ◌∷◌, [], List, ℕ, sym, ◌∙◌}
+use Rattle.std.proofs.Common.{◌++◌, ◌∷◌, [], List, ℕ, length, length-append, sym, ap, arith, ◌∙◌}
 use Rattle.trace_words.specs.Text.{marked}
 use Rattle.trace_walk.proofs.FaultLemmas.{carried, split_on, one_more, all_said, further_short, further_there}
 use Rattle.trace_walk.proofs.expected.further.Goals as goal
@@ -36,3 +36,9 @@ loop-line-preserved g c bytes base whole given is at =
 pub returns-clause-goes : goal.returns-clause-goes
 returns-clause-goes g c bytes base whole given is all at =
     all_said bytes base whole c.loop-line.rest.now c.loop-line.lines (g.R.Source.remaining c.loop-line.reader) (c.loop-line.invariant bytes base whole given is at) all c.in_default.ensures
+
+pub loop-line-smaller : goal.loop-line-smaller
+loop-line-smaller g c =
+    let line = c.in-Some.line.now in
+    let ends = c.in-Some.ensures.0 in
+    omega (arith, ap length c.in-Some.ensures.1, length-append line c.in-Some.more.now, ap length ends.parts, length-append ends.front (10 ∷ []))

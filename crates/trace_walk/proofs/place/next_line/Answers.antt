@@ -1,5 +1,8 @@
-use Rattle.std.proofs.Common.{◌+◌, arith, sym, subst}
+use Rattle.std.proofs.Common.{◌+◌, List, ℕ, arith, sym, subst}
 use Rattle.trace_walk.specs.declared.fault.WalkFault.{WalkFault}
+use Rattle.trace_walk.specs.declared.fault.WalkFault.TheVariants.{ReadFault, NoRoom}
+use Rattle.trace_walk.specs.declared.place.Place.{Place}
+use Rattle.trace_walk.specs.declared.place.Place.TheVariants.{Form, Reply}
 use Rattle.trace_walk.specs.Walking.{IsLongFault}
 use Rattle.trace_walk.proofs.WalkingLemmas.{line_comes, none_comes, long_comes, long_fault}
 use Rattle.trace_walk.proofs.place.next_line.Goals as goal
@@ -17,3 +20,14 @@ returns-in-Long-clause-long g c bytes front at =
     let number = c.count-number.result + 1 in
     subst (λ (f : WalkFault). IsLongFault c.args.place bytes front f) (sym c.fault.ensures)
     (long_fault c.args.place bytes front number (long_comes bytes front c.args.lines.now (g.R.Source.remaining c.args.reader.now) l.0 number at l.1 l.2 l.3 (omega (arith, c.count-number.ensures.value))))
+
+-- what no line is read for is no verdict, whatever has to stand there
+unread : (place : Place) (bytes front : List ℕ) → IsLongFault place bytes front ReadFault × IsLongFault place bytes front NoRoom
+unread Form bytes front = (tt, tt)
+unread Reply bytes front = (tt, tt)
+
+pub returns-in-ReadFault-clause-long : goal.returns-in-ReadFault-clause-long
+returns-in-ReadFault-clause-long g c bytes front at = (unread c.args.place bytes front).0
+
+pub returns-in-NoRoom-clause-long : goal.returns-in-NoRoom-clause-long
+returns-in-NoRoom-clause-long g c bytes front at = (unread c.args.place bytes front).1

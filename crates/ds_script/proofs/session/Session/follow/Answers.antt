@@ -1,6 +1,8 @@
-use Rattle.std.proofs.Common.{subst}
+use Rattle.std.proofs.Common.{Option, OnOk, subst}
+use Rattle.ds_submap.specs.Map.{SubMapRecord}
 use Rattle.store_words.proofs.ResultLemmas.{on_ok}
-use Rattle.ds_answers.specs.Tables.{AnswersFollow}
+use Rattle.ds_answers.specs.Tables.{map_items, AnswersFollow}
+use Rattle.ds_answers.specs.Waiting.{AppendsLed}
 use Rattle.ds_script.specs.Session.{SessionContent}
 use Rattle.ds_script.specs.Answer.{AppendsByServers, items_of_map}
 use Rattle.ds_script.proofs.ServerLemmas.{session_of, led}
@@ -12,5 +14,5 @@ returns-clause-answered c =
     let before = c.args.output.now.items in
     let after = c.follow.new.output.items in
     on_ok c.follow.result
-    (λ a. subst (λ (old : SessionContent). AppendsByServers (AnswersFollow (items_of_map old c.args.map)) before after old (session_of s.world s.side c.follow.new.servers)) c.self.view_is (led s.world s.side s.servers c.follow.new.servers before after (AnswersFollow (items_of_map (session_of s.world s.side s.servers) c.args.map)) a))
-    c.follow.ensures.answered
+    (λ a. subst (λ (old : SessionContent). AppendsByServers (AnswersFollow (items_of_map old c.args.map)) before after old (session_of s.world s.side c.follow.new.self)) c.self.view_is (led s.world s.side s.servers c.follow.new.self before after (AnswersFollow (items_of_map (session_of s.world s.side s.servers) c.args.map)) a))
+    (subst (λ (o : Option SubMapRecord). OnOk c.follow.result (AppendsLed (AnswersFollow (map_items o)) before after s.servers c.follow.new.self)) c.map.ensures.is c.follow.ensures.answered)

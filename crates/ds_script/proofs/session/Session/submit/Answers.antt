@@ -1,6 +1,8 @@
-use Rattle.std.proofs.Common.{subst}
+use Rattle.std.proofs.Common.{Option, OnOk, subst}
+use Rattle.ds_submap.specs.Map.{SubMapRecord}
 use Rattle.store_words.proofs.ResultLemmas.{on_ok}
-use Rattle.ds_answers.specs.Tables.{AnswersSubmit}
+use Rattle.ds_answers.specs.Tables.{map_items, AnswersSubmit}
+use Rattle.ds_answers.specs.Waiting.{AppendsLed}
 use Rattle.ds_script.specs.Session.{SessionContent}
 use Rattle.ds_script.specs.Answer.{AppendsByServers, items_of_map}
 use Rattle.ds_script.proofs.ServerLemmas.{session_of, led}
@@ -12,5 +14,5 @@ returns-clause-answered c =
     let before = c.args.output.now.items in
     let after = c.submit.new.output.items in
     on_ok c.submit.result
-    (λ a. subst (λ (old : SessionContent). AppendsByServers (AnswersSubmit c.args.server c.args.id c.args.unit (items_of_map old c.args.map)) before after old (session_of s.world s.side c.submit.new.servers)) c.self.view_is (led s.world s.side s.servers c.submit.new.servers before after (AnswersSubmit c.args.server c.args.id c.args.unit (items_of_map (session_of s.world s.side s.servers) c.args.map)) a))
-    c.submit.ensures.answered
+    (λ a. subst (λ (old : SessionContent). AppendsByServers (AnswersSubmit c.args.server c.args.id c.args.unit (items_of_map old c.args.map)) before after old (session_of s.world s.side c.submit.new.self)) c.self.view_is (led s.world s.side s.servers c.submit.new.self before after (AnswersSubmit c.args.server c.args.id c.args.unit (items_of_map (session_of s.world s.side s.servers) c.args.map)) a))
+    (subst (λ (o : Option SubMapRecord). OnOk c.submit.result (AppendsLed (AnswersSubmit c.args.server c.args.id c.args.unit (map_items o)) before after s.servers c.submit.new.self)) c.map.ensures.is c.submit.ensures.answered)

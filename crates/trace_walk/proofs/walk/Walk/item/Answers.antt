@@ -16,8 +16,8 @@ returns-in_err-wanted_line-clause-fails g c =
     c.in_err-wanted_line.ensures.fails b.front b.bytes (b.front ++ (pass_text pass (merge_text most) ++ flat_map plus_text c.args.items.now)) x.at
     (plus_place_short b old.lines old.lines old.store old.header from from pass most c.args.items.now old.asked.items x less))
 
-pub returns-in_ok-push-in-Ok-clause-goes : goal.returns-in_ok-push-in-Ok-clause-goes
-returns-in_ok-push-in-Ok-clause-goes g c = (
+pub returns-in_ok-extend_from_slice-in-Ok-clause-goes : goal.returns-in_ok-extend_from_slice-in-Ok-clause-goes
+returns-in_ok-extend_from_slice-in-Ok-clause-goes g c = (
   refl,
   λ b pass most less x.
       let old = c.args.self.now in
