@@ -1,6 +1,6 @@
 -- Whether a line begins with a text, byte by byte.
 use Rattle.std.specs.Prelude.{◌↔◌, IsTrue}
-use Rattle.std.proofs.Common.{◌≡◌, ◌≢◌, ℕ, ◌<◌, false, List, ◌++◌, length, get_or, ap, sym, ◌∙◌}
+use Rattle.std.proofs.Common.{◌≡◌, ◌≢◌, ℕ, ◌<◌, false, List, ◌++◌, length, get_or, ap, ◌∙◌}
 use lib.ListN.{get_or-append}
 
 -- not where another byte stands at one place
