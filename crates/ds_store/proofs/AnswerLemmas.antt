@@ -1,10 +1,10 @@
 -- What commands are answered, in the words of a store's content.
-use Rattle.std.proofs.Common.{◌≡◌, ◌≢◌, ℕ, Bool, List, [], ◌∷◌, map, length, Option, Some, None, Err, ap, ap₂, sym, ◌∙◌, subst, inl, inr}
+use Rattle.std.proofs.Common.{◌≡◌, ◌≢◌, ℕ, Bool, List, [], ◌∷◌, map, length, Option, Some, None, Err, ap, ap₂, sym, ◌∙◌, subst, inl, inr, ◌⊎◌}
 use Rattle.std.specs.Option.{option_map_or}
 use Rattle.ds_names.specs.declared.key.Key.{Key}
 use Rattle.ds_names.specs.declared.kind.Kind.{Kind}
 use Rattle.ds_names.specs.Endpoint.{EndpointRecord}
-use Rattle.ds_entry.specs.Change.{ChangeRecord, kind_of, IsInPlace, IsOfKind, IsChange}
+use Rattle.ds_entry.specs.Change.{ChangeRecord, kind_of, IsInPlace, IsBodyInPlace, IsOfKind, IsChange}
 use Rattle.ds_entry.specs.declared.body.Body.{Body}
 use Rattle.ds_entry.specs.declared.body.Body.TheVariants.{Put}
 use Rattle.ds_entry.specs.declared.body.Value.{Value}
@@ -28,7 +28,7 @@ use Rattle.ds_machine.specs.declared.reply.Reply.{Reply}
 use Rattle.ds_machine.specs.declared.reply.Reply.TheVariants as replies
 use Rattle.ds_machine.proofs.PartLemmas.{key_found}
 use Rattle.ds_machine.specs.Says.{IsAskedReply}
-use Rattle.ds_judge.specs.Last.{IsKindInPlace, IsLast, MayLackRoom}
+use Rattle.ds_judge.specs.Last.{IsKindInPlace, IsLast, MayLackAsked, MayLackRoom}
 use Rattle.ds_judge.specs.Passed.{passed_as}
 use Rattle.ds_judge.proofs.LastLemmas.{last}
 use Rattle.ds_content.specs.Content.{ContentRecord}
@@ -71,6 +71,10 @@ asked_taken v s a body c bits stands e made owes =
       reply_is = ap (λ n. replies.Changed n) (owes ∙ ap (λ (x : ChangeRecord). owed s (Changed x ∷ [])) change) ∙ sym (ap (λ o. (result o).0) e);
       state_is = ap (λ (x : ChangeRecord). takes_effect s (Changed x ∷ [])) change ∙ sym (ap (λ o. (result o).1) e);
     })
+
+-- memory may be wanting for a change that would take effect, where its key isn't held or its copy takes memory
+pub asked_lacks : (v : ContentRecord) (s : State) (a : AskedChange) (body : Body) → ContentStands v s → cause_against s a body ≡ None → (held_at v.held a.key ≡ None) ⊎ (¬ IsBodyInPlace body) → MayLackAsked s a body
+asked_lacks v s a body stands e takes = (e, elim takes [ inl none ↦ inl (sym (ap (λ (hs : List Item). held_at hs a.key) stands.held) ∙ none) | inr copies ↦ inr copies ])
 
 -- ---- a sweep
 pub sweep_refused : (s : State) (caller : EndpointRecord) (f : Floor) (cause : Cause) → sweep_cause s caller f ≡ Some cause → IsOutcome (sweeping s caller f) (sweep_answer cause) s

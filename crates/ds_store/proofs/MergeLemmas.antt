@@ -6,7 +6,9 @@ use Rattle.std.proofs.lemmas.List.Folds.{list_any-append}
 use Rattle.std.proofs.lemmas.Option.{slice_get_within, slice_get_read, get_or_from_slice_get, slice_get_cases}
 use Rattle.std.specs.Prelude.{slice_get}
 use Rattle.std.specs.Option.{option_map_or}
+use Rattle.ds_entry.specs.Change.{ChangeRecord, IsBodyInPlace}
 use Rattle.ds_entry.specs.declared.item.Item.{Item}
+use Rattle.ds_entry.specs.declared.item.Item.TheVariants.{Change as Changed}
 use Rattle.ds_join.specs.Count.{counted, none_counted, CanCountOne}
 use Rattle.ds_join.specs.declared.count.Count.{Count}
 use Rattle.ds_join.specs.declared.merge.Merge.{Merge}
@@ -14,6 +16,7 @@ use Rattle.ds_join.specs.declared.merge.Merge.TheVariants.{Taken, Known, Stale}
 use Rattle.ds_watch.specs.Mask.{mask, either, padded}
 use Rattle.ds_watch.proofs.PaddedLemmas.{padded_number}
 use Rattle.ds_machine.specs.Subscription.{Subscription, is_owed}
+use Rattle.ds_machine.specs.Parts.{held_at}
 use Rattle.ds_machine.specs.State.{State, owed}
 use Rattle.ds_machine.specs.Order.{first_refusal}
 use Rattle.ds_machine.specs.Calling.{against_merge}
@@ -62,6 +65,23 @@ item_done k c Known t n r is =
 item_done k c Stale t n r is =
     subst (λ (x : Course). Reached x (counted n (Some Stale)) × (x.state ≡ t)) (sym (judged k c (Some (causes.Refused refusals.Stale)) r.stop is.0))
     (record { stop = r.stop; count = ap (λ m. counted m (Some Stale)) r.count }, sym is.1)
+
+-- an item against which a cause stands is passed over, or stops the merge, and is owed to nobody
+pub passed_merges : (s : State) (i : Item) (cause : Cause) → cause_of s i ≡ Some cause → MergesItem s i (passed_as cause) s
+passed_merges s i causes.Known e = (e, refl)
+passed_merges s i (causes.Refused r) e = by_refusal r e
+  where
+    by_refusal : (r : Refusal) → cause_of s i ≡ Some (causes.Refused r) → MergesItem s i (passed_as (causes.Refused r)) s
+    by_refusal refusals.Stale e = (e, refl)
+    by_refusal _ e = (refl, inr (record { stands = e; refuses = refl }))
+
+pub passed_owed : (cause : Cause) (total more : List Bool) → total ≡ owed_after (passed_as cause) total more
+passed_owed causes.Known total more = refl
+passed_owed (causes.Refused r) total more = by_refusal r
+  where
+    by_refusal : (r : Refusal) → total ≡ owed_after (passed_as (causes.Refused r)) total more
+    by_refusal refusals.Stale = refl
+    by_refusal _ = refl
 
 pub course_more : (s : State) (items : List Item) (i : ℕ) (d : Item) → i < length items → course s (take (i + 1) items) ≡ item_merged (course s (take i items)) (get_or items i d)
 course_more s items i d l = fold_more item_merged (begun s) items i d l
@@ -266,3 +286,7 @@ stopped_last s items i item refusals.Full o at lacks = tt
 stopped_last s items i item refusals.Worn o at lacks = tt
 stopped_last s items i item refusals.BadRing o at lacks = tt
 stopped_last s items i item refusals.BadFirst o at lacks = tt
+
+-- memory may be wanting for a change that would take effect, where its key isn't held or its copy takes memory
+pub change_lacks : (v : ContentRecord) (s : State) (c : ChangeRecord) → ContentStands v s → cause_of s (Changed c) ≡ None → (held_at v.held c.key ≡ None) ⊎ (¬ IsBodyInPlace c.body) → MayLackItem s (Changed c)
+change_lacks v s c stands e takes = (e, elim takes [ inl none ↦ inl (sym (ap (λ (hs : List Item). held_at hs c.key) stands.held) ∙ none) | inr copies ↦ inr copies ])

@@ -1,12 +1,13 @@
 -- Devices: one is missing where it has to stand, or it is read.
 use Rattle.std.proofs.Common.{◌≡◌, ◌≢◌, ℕ, suc, ◌<◌, List, ◌∷◌, length, refl, arith}
+use Rattle.driver_tables.specs.declared.file_table.FileClass.{FileClass}
 use Rattle.driver_tables.specs.declared.file_table.FileClass.TheVariants.{Block}
 use Rattle.ds_line.specs.Spelling.{space}
 use Rattle.ds_line.specs.FaultPlace.{Stand}
 use Rattle.ds_line.specs.Piece.{Piece, Found, StopsIn}
 use Rattle.ds_line.specs.declared.part_fault.PartFault.{PartFault}
 use Rattle.ds_line.specs.declared.part_fault.PartFault.TheVariants.{NoRoom}
-use Rattle.ds_line.proofs.PieceLemmas.{behind, One, Goes, Views, first_stops, then_stops, view_stops}
+use Rattle.ds_line.proofs.PieceLemmas.{behind, One, Goes, Views, first_stops, then_stops, view_stops, both_found, view_found}
 use Rattle.ds_words.specs.Service.{device_parts, IsDevice}
 use Rattle.ds_words.specs.ServicePieces.{a_class, a_device, a_server, a_unit}
 use Rattle.ds_words.specs.declared.service.Device.{Device}
@@ -88,6 +89,17 @@ pub device_port_stops : (stop : PartFault) (bytes r : List ℕ) → Found a_serv
 device_port_stops stop bytes r found s = behind_server Net stop bytes r found s
 
 -- ---- one is read
+
+pub device_file_found : (major : ℕ) (class : FileClass) (bytes r t rest : List ℕ) → Found a_server File bytes r → Found a_unit major r t → Found a_class class t rest → Found a_device (devices.File major class) bytes rest
+unfolding device_of
+device_file_found major class bytes r t rest server number f =
+    view_found served a_device device_view (File, (major, class)) bytes rest
+    (both_found a_server device_rest File (major, class) bytes r rest server (both_found a_unit (λ _. a_class) major class r t rest number f))
+
+pub device_net_found : (port : ℕ) (bytes r rest : List ℕ) → Found a_server Net bytes r → Found a_unit port r rest → Found a_device (devices.Net port) bytes rest
+unfolding device_of
+device_net_found port bytes r rest server number =
+    view_found served a_device device_view (Net, port) bytes rest (both_found a_server device_rest Net port bytes r rest server number)
 
 rest_one : (server : Server) → One (device_rest server)
 rest_one File = one_behind a_unit (λ _. a_class) unit_one (λ _. class_one)

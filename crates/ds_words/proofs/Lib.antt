@@ -21,3 +21,5 @@ pub mod LaterLemmas
 pub mod FrontLemmas
 pub mod LawLemmas
 pub mod ProperLemmas
+pub mod FirstBytesLemmas
+pub mod AskingLemmas

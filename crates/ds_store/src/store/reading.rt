@@ -9,28 +9,35 @@ ghost use Rattle.ds_judge.specs.Last.{IsLast};
 ghost use Rattle.ds_judge.specs.Refused.{IsJournalRefusal};
 ghost use Rattle.ds_judge.specs.Scopes.{scope_of};
 ghost use Rattle.ds_content.specs.Stands.{ContentStands};
-ghost use Rattle.ds_store.specs.Reading.{page_in};
+ghost use Rattle.ds_store.specs.Reading.{page_in, snapshot_in};
 
 use crate::store::Store;
-use ds_feed::{AllKeys, Cursor, Page, Since, SinceFault};
+use ds_feed::{AllKeys, Cursor, Page, Since, Snapshot};
 use ds_judge::{ScopeFilter, refusal_of_journal, scope_of_page, scope_of_since};
 use ds_machine::{Command, Refusal, Reply, Scope};
 use ds_names::{Key, NoRoom};
 
 impl Store {
-    // What took effect under a scope that was read: OldCursor, Ahead or Behind, and NoRoom where none of them stands.
+    // The refusal of a cursor where there is no room to ask the scope: OldCursor, Ahead or Behind, and NoRoom where none of them
+    // stands.
+    fn refusal_without_room(&self, cursor: Cursor) -> Refusal
+        ensures { (s : State) → ContentStands self.now s → IsJournalRefusal s.feed cursor result }
+    {
+        match self.content.since(&mut AllKeys, cursor, 0) {
+            Ok(_) => Refusal::NoRoom,
+            Err(fault) => refusal_of_journal(fault),
+        }
+    }
+
+    // What took effect under a scope that was read, likewise.
     fn give_since(&self, filter: &ScopeFilter, cursor: Cursor, max: u32) -> Result<Since, Refusal>
         ensures given { (s : State) → ContentStands self.now s → IfOk result (IsGiven s.feed (is_kept (scope_of filter.now)) cursor max) }
         ensures refused { (s : State) → ContentStands self.now s → IfErr result (IsJournalRefusal s.feed cursor) }
     {
-        let given = match filter.asker(self.alloc) {
-            Ok(mut asker) => self.content.since(&mut asker, cursor, max),
-            Err(NoRoom) => match self.content.since(&mut AllKeys, cursor, 0) {
-                Ok(_) => Err(SinceFault::NoRoom),
-                Err(fault) => Err(fault),
-            },
+        let Ok(mut asker) = filter.asker(self.alloc) else {
+            return Err(self.refusal_without_room(cursor));
         };
-        match given {
+        match self.content.since(&mut asker, cursor, max) {
             Ok(since) => Ok(since),
             Err(fault) => Err(refusal_of_journal(fault)),
         }
@@ -51,6 +58,16 @@ impl Store {
         }
     }
 
+    // All that is held under a scope that was read.
+    fn give_snapshot(&self, filter: &ScopeFilter) -> Result<Snapshot, NoRoom>
+        ensures { (s : State) → ContentStands self.now s → IfOk result (λ snapshot. snapshot ≡ snapshot_in s (scope_of filter.now)) }
+    {
+        match filter.asker(self.alloc) {
+            Ok(mut asker) => self.content.snapshot(&mut asker),
+            Err(NoRoom) => Err(NoRoom),
+        }
+    }
+
     // All that is held under the scope.
     pub(super) fn snapshot(&self, scope: &Scope) -> Reply
         ensures answer { (s : State) → ContentStands self.now s → Answers s (snapping s scope.now) result s }
@@ -60,10 +77,7 @@ impl Store {
             Ok(filter) => filter,
             Err(refusal) => return Reply::Refused(refusal),
         };
-        let Ok(mut asker) = filter.asker(self.alloc) else {
-            return Reply::Refused(Refusal::NoRoom);
-        };
-        match self.content.snapshot(&mut asker) {
+        match self.give_snapshot(&filter) {
             Ok(snapshot) => Reply::Snapped(snapshot),
             Err(NoRoom) => Reply::Refused(Refusal::NoRoom),
         }

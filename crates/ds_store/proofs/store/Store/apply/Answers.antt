@@ -1,7 +1,7 @@
 use Rattle.std.proofs.Common.{sym, ap, inl, subst, ◌∙◌}
 use Rattle.ds_entry.specs.declared.body.Body.TheVariants.{Gone}
 use Rattle.ds_machine.specs.declared.command.Command.{Command}
-use Rattle.ds_machine.specs.declared.command.Command.TheVariants.{Publish, Delete, Sweep, Retrieve, NameOf, Subscribe, Check, Since, Snapshot, Page, Merge}
+use Rattle.ds_machine.specs.declared.command.Command.TheVariants.{Delete, Sweep, Retrieve, NameOf, Subscribe, Check, Since, Snapshot, Page, Merge}
 use Rattle.ds_machine.specs.Asking.{AskedChange}
 use Rattle.ds_machine.specs.Machine.{Answers, Step, asking, outcome}
 use Rattle.ds_machine.specs.Says.{IsReplyTo}
