@@ -28,7 +28,7 @@ use Rattle.ds_services.specs.System.{System}
 use Rattle.ds_services.specs.Start.{labels_query, unit_with, file_driver_of, net_driver_of, file_unit, net_unit, assigned_all}
 use Rattle.ds_system.specs.Stands.{SystemRecord}
 use Rattle.ds_system.specs.Since.{IsJustNew}
-use Rattle.ds_system.specs.Begin.{MakesMap, MakesTwoMaps, HasBothMaps, BeginsOver, IsFirstGeneration, IsBeginFault, begin_fault_of}
+use Rattle.ds_system.specs.Begin.{MakesLabelMap, MakesTwoMaps, HasBothMaps, BeginsOver, IsFirstGeneration, IsBeginFault, begin_fault_of}
 
 pub replicate_more : {X : Type 0} (n : ℕ) (x : X) → replicate (n + 1) x ≡ replicate n x ++ x ∷ []
 replicate_more n x = ap (λ (k : ℕ). replicate k x) (let e : n + 1 ≡ suc n = omega arith in e) ∙ by n
@@ -91,7 +91,7 @@ pub net_is : (s : Service) (unit : ℕ) (class : Class) (d : Option Driver) → 
 net_is s unit class d u k f = ap (λ (o : Option ℕ). unit_with o (net_driver_of s.class s.label)) u ∙ (ap (λ (c : Class). unit_with (Some unit) (net_driver_of c s.label)) k ∙ ap (unit_with (Some unit)) f)
 
 -- ---- the maps
-two_made : (a b c : WorldRecord) → MakesMap a b → MakesMap b c → MakesTwoMaps a c
+two_made : (a b c : WorldRecord) → MakesLabelMap a b → MakesLabelMap b c → MakesTwoMaps a c
 two_made a b c (j, one) (k, two) w st none =
     let x = one w st in
     let y = two x.0 x.2 in
@@ -103,7 +103,7 @@ two_made a b c (j, one) (k, two) w st none =
     number : (m n : ℕ) → MapMade m ≡ MapMade n → m ≡ n
     number m n e = cc
 
-pub second_made : {E : Type 0} (result : Result (Unit {0}) E) (a b c : WorldRecord) → MakesMap a b → OnOk result (MakesMap b c) → OnOk result (MakesTwoMaps a c)
+pub second_made : {E : Type 0} (result : Result (Unit {0}) E) (a b c : WorldRecord) → MakesLabelMap a b → OnOk result (MakesLabelMap b c) → OnOk result (MakesTwoMaps a c)
 second_made (Ok x) a b c one two = two_made a b c one two
 second_made (Err x) a b c one two = tt
 

@@ -26,8 +26,8 @@ use Rattle.ds_system.specs.declared.fault.BeginFault.TheVariants.{OutOfRange, Ba
 use Rattle.ds_system.specs.Stands.{SystemRecord}
 
 -- a map of all labels is made in the world that the old value stands for, which is one that the new value stands for
-abbrev pub MakesMap : WorldRecord → WorldRecord → Type 0
-MakesMap old new = (map : ℕ) × EventLeads (NewMap labels_query) (MapMade map) old new
+abbrev pub MakesLabelMap : WorldRecord → WorldRecord → Type 0
+MakesLabelMap old new = (map : ℕ) × EventLeads (NewMap labels_query) (MapMade map) old new
 
 -- from each world without maps that the old value stands for, both maps are made in one that the new value stands for
 abbrev pub MakesTwoMaps : WorldRecord → WorldRecord → Type 0

@@ -7,7 +7,7 @@ ghost use Rattle.rs_core.specs.Numbering.{numberer};
 ghost use Rattle.driver_tables.specs.declared.fault.TableFault.TheVariants.{NoRoom as room};
 ghost use Rattle.driver_tables.specs.Stands.{TableStands};
 ghost use Rattle.ds_services.specs.Start.{labels_query, file_unit, net_unit, assigned_all};
-ghost use Rattle.ds_system.specs.Begin.{AddsUnit, MakesMap, MakesTwoMaps};
+ghost use Rattle.ds_system.specs.Begin.{AddsUnit, MakesLabelMap, MakesTwoMaps};
 
 use driver_tables::{FileClass, FileTable, NetTable, TableFault};
 use ds_names::{Generation, Kinds, NoRoom};
@@ -56,7 +56,7 @@ fn labels(alloc: Global) -> Result<Query, NoRoom>
 
 // Makes a map of all labels. Nothing stands against it but want of memory.
 fn make_map(alloc: Global, world: &mut World) -> Result<(), NoRoom>
-    ensures { OnOk result (MakesMap world.old world.new) }
+    ensures { OnOk result (MakesLabelMap world.old world.new) }
 {
     let query = labels(alloc)?;
     let Outcome::MapMade { .. } = world.happen(Event::NewMap { query }) else {

@@ -183,7 +183,8 @@ impl Walk {
         reply: &Reply,
         passed: Passed,
     ) -> Result<Passed, WalkFault>
-        ensures goes { IfOk result (λ p. (p ≡ passed) × SaysReply wording reply.now self.old (R.remaining reader.old) self.new (R.remaining reader.new)) }
+        ensures goes { IfOk result (λ p. (p ≡ passed)
+            × SaysReply wording reply.now self.old (R.remaining reader.old) self.new (R.remaining reader.new)) }
         ensures fails { IfErr result (FailsToSay wording reply.now self.old (R.remaining reader.old)) }
     {
         self.reply.clear();
