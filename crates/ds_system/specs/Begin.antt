@@ -25,7 +25,7 @@ use Rattle.ds_system.specs.declared.fault.BeginFault.{BeginFault}
 use Rattle.ds_system.specs.declared.fault.BeginFault.TheVariants.{OutOfRange, BadRing, BadFirst, OldIncarnation, NoRoom}
 use Rattle.ds_system.specs.Stands.{SystemRecord}
 
--- a map of all labels is made in the world that the old value stands for, which is one that the new value stands for
+-- making a map of all labels leads from each world that the old value stands for to one that the new value stands for
 abbrev pub MakesLabelMap : WorldRecord → WorldRecord → Type 0
 MakesLabelMap old new = (map : ℕ) × EventLeads (NewMap labels_query) (MapMade map) old new
 
