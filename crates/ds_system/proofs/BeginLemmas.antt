@@ -20,7 +20,6 @@ use Rattle.ds_replica.specs.declared.outcome.Outcome.TheVariants.{MapMade}
 use Rattle.ds_replica.specs.World.{MapState, World, new_world}
 use Rattle.ds_replica.specs.Happens.{Happens}
 use Rattle.ds_world.specs.World.{WorldRecord, WorldStands}
-use Rattle.ds_world.specs.Run.{EventLeads}
 use Rattle.ds_world.specs.declared.fault.SeedFault.{SeedFault}
 use Rattle.ds_world.specs.declared.fault.SeedFault.TheVariants as seeds
 use Rattle.ds_world.specs.Seeds.{IsSeedFault}
