@@ -1,7 +1,7 @@
 use Rattle.std.proofs.Common.{◌≡◌, [], ◌∷◌, None, Some, ◌⊎◌, ap, sym, ◌∙◌, subst, refl, inl, inr}
 use Rattle.ds_entry.specs.Change.{ChangeRecord, IsBodyInPlace}
 use Rattle.ds_entry.specs.declared.item.Item.TheVariants.{Change as Changed}
-use Rattle.ds_machine.specs.State.{State, takes_effect, owed}
+use Rattle.ds_machine.specs.State.{takes_effect, owed}
 use Rattle.ds_machine.specs.Asking.{against_asked, change_asked, name_of, asked_in}
 use Rattle.ds_machine.specs.Standing.{standing_of}
 use Rattle.ds_machine.specs.State as states
